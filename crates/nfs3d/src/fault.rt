@@ -1,0 +1,43 @@
+//! Why the program ends without having done all of its job.
+ghost use Rattle.std.specs.Prelude.{◌≡◌};
+ghost use Rattle.nfs3d.specs.Status.{status_of};
+
+use std::alloc::{AllocError, AllocFailed};
+use thiserror::Error;
+
+/// A fault, which prints as the line that goes to standard error.
+#[derive(Debug, Drop, Error)]
+pub enum ReplayFault {
+    /// A line of the script is none that there is.
+    #[error("script line {0}: BadLine")]
+    BadLine(u64),
+    /// A word of a line is not hexadecimal.
+    #[error("script line {0}: BadHex")]
+    BadHex(u64),
+    /// An argument is no text.
+    #[error("error: an argument is no text")]
+    NoText,
+    /// A file can't be read.
+    #[error("nfs3d: cannot read {0}")]
+    CannotRead(String),
+    /// The output can't be written.
+    #[error("nfs3d: write fault")]
+    Write,
+    /// There is no memory.
+    #[error("nfs3d: out of memory")]
+    Memory(#[from(alloc)] AllocError),
+}
+
+impl ReplayFault {
+    /// The program's exit status: 1 where the script is at fault, 2 where the words are, 3 where the
+    /// machine is.
+    pub fn status(&self) -> u8
+        ensures { result ≡ status_of self.now }
+    {
+        match self {
+            ReplayFault::BadLine(_) | ReplayFault::BadHex(_) => 1,
+            ReplayFault::NoText => 2,
+            ReplayFault::CannotRead(_) | ReplayFault::Write | ReplayFault::Memory(_) => 3,
+        }
+    }
+}

@@ -1,0 +1,43 @@
+//! `nfs3d`: an NFS version 3 server with its MOUNT service, in memory.
+#![tactic(auto)]
+
+mod captured;
+mod commands;
+mod fault;
+mod hexadecimal;
+mod printing;
+mod replay;
+mod script;
+#[cfg(test)]
+mod tests;
+
+use crate::fault::ReplayFault;
+use std::alloc::AllocError;
+use std::process::ExitCode;
+use std::rt::Env;
+use std::{env, io};
+
+fn main(rt: HostRuntime) -> ExitCode {
+    let done = match arguments(&rt) {
+        Ok(words) => commands::run(&rt, rt.alloc(), words.as_slice()),
+        Err(fault) => Err(fault),
+    };
+    match done {
+        Ok(code) => code,
+        Err(fault) => {
+            let _ = eprintln!(rt; "{fault}");
+            ExitCode::from(fault.status())
+        }
+    }
+}
+
+// The words that the program was started with.
+fn arguments<R: Env + AllocGlobal>(rt: &R) -> Result<Vec<String>, ReplayFault> {
+    match env::args(rt) {
+        Ok(args) => Ok(args.collect::<Vec<String>>(rt.alloc())?),
+        Err(error) if error.kind() == io::ErrorKind::OutOfMemory => {
+            Err(ReplayFault::Memory(AllocError))
+        }
+        Err(_) => Err(ReplayFault::NoText),
+    }
+}

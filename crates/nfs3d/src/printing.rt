@@ -1,0 +1,90 @@
+//! The lines that the program prints.
+ghost use Rattle.std.specs.Prelude.{[], ◌∷◌, ◌++◌, OnOk};
+ghost use Rattle.hex.specs.Hex.{encode_lower};
+ghost use Rattle.nfs_xdr.specs.Known.{Grows};
+ghost use Rattle.nfs_server.specs.Events.{Answer};
+
+use crate::fault::ReplayFault;
+use crate::hexadecimal::push_digits;
+use nfs_server::event::{Outcome, Sink};
+use nfs_xdr::device::{ByteOut, write_all};
+use std::alloc::Global;
+
+/// Makes each line in one place, and prints it by one write.
+#[derive(Drop)]
+pub struct Printer {
+    alloc: Global,
+    line: Vec<u8>,
+}
+
+impl Printer {
+    /// A printer that has printed nothing.
+    pub(crate) fn new(alloc: Global) -> Printer {
+        Printer {
+            alloc,
+            line: Vec::new(alloc),
+        }
+    }
+
+    /// Prints a text.
+    pub(crate) fn text<W: ByteOut>(&mut self, out: &mut W, text: &str) -> Result<(), ReplayFault>
+        ensures { OnOk result (Grows (W.contents out.old) (text.now ++ 10 ∷ []) (W.contents out.new)) }
+    {
+        self.line.clear();
+        self.line.extend_from_slice(text.as_bytes())?;
+        self.end(out)
+    }
+
+    /// Prints a text, and then bytes as hexadecimal digits.
+    pub(crate) fn bytes<W: ByteOut>(
+        &mut self,
+        out: &mut W,
+        text: &str,
+        bytes: &[u8],
+    ) -> Result<(), ReplayFault>
+        ensures { OnOk result (Grows (W.contents out.old) (text.now ++ encode_lower bytes.now ++ 10 ∷ []) (W.contents out.new)) }
+    {
+        self.line.clear();
+        self.line.extend_from_slice(text.as_bytes())?;
+        push_digits(self.alloc, &mut self.line, bytes)?;
+        self.end(out)
+    }
+
+    // Prints the line that was made.
+    fn end<W: ByteOut>(&mut self, out: &mut W) -> Result<(), ReplayFault>
+        ensures { OnOk result (Grows (W.contents out.old) (self.old.line.items ++ 10 ∷ []) (W.contents out.new)) }
+    {
+        self.line.push(b'\n')?;
+        match write_all(out, self.line.as_slice()) {
+            Ok(()) => Ok(()),
+            Err(_) => Err(ReplayFault::Write),
+        }
+    }
+}
+
+/// Prints the replies of a run, and ends it at a fault.
+pub struct Replies<'a, W: ByteOut> {
+    /// Where they are printed.
+    pub out: &'a mut W,
+    /// What prints them.
+    pub printer: &'a mut Printer,
+    /// The fault that ended the run.
+    pub fault: Option<ReplayFault>,
+}
+
+impl<W: ByteOut> Sink for Replies<'_, W> {
+    ghost takes = { λ old answer said new. Unit {0} };
+
+    fn take(&mut self, outcome: Outcome<'_>) -> bool {
+        let Some(reply) = outcome.reply else {
+            return true;
+        };
+        match self.printer.bytes(self.out, "reply ", reply) {
+            Ok(()) => true,
+            Err(fault) => {
+                self.fault = Some(fault);
+                false
+            }
+        }
+    }
+}

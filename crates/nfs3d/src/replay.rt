@@ -1,0 +1,228 @@
+//! A script, run against a server of its own.
+ghost use Rattle.std.specs.Prelude.{◌≤◌};
+
+use crate::captured::{Captured, split_record};
+use crate::fault::ReplayFault;
+use crate::hexadecimal::{HexFault, push_bytes};
+use crate::printing::{Printer, Replies};
+use crate::script::{Order, Words, order_of};
+use nfs_server::event::{Addr, Event, Moment};
+use nfs_server::loaded::tree_e;
+use nfs_server::server::Server;
+use nfs_server::sessions::{SessionFault, Sessions};
+use nfs_xdr::device::ByteOut;
+use std::alloc::{AllocError, AllocFailed, Global};
+use std::mem;
+
+/// Runs the script's lines in order, and prints what each brings.
+///
+/// What stands before a faulty line is run and printed. `BadLine` for a line that is none, and
+/// `BadHex` for a word that is not hexadecimal, each with the line's number; `Write` where the
+/// output fails, `Memory` where there is no memory.
+pub fn replay<W: ByteOut>(
+    alloc: Global,
+    _tree: &[u8],
+    script: &[u8],
+    cache: usize,
+    out: &mut W,
+) -> Result<(), ReplayFault>
+    requires some { 1 ≤ cache }
+    requires few { cache ≤ 1024 }
+{
+    let server = Server::new(alloc, tree_e(alloc)?, cache)?;
+    let mut player = Player {
+        alloc,
+        sessions: Sessions::new(alloc, server)?,
+        printer: Printer::new(alloc),
+        calls: Vec::new(alloc),
+    };
+    for (index, line) in script.split(|b| *b == b'\n').enumerate() {
+        if let Err(fault) = player.line(line, out) {
+            player.run_calls(out)?;
+            return Err(fault.at(index as u64));
+        }
+    }
+    player.run_calls(out)
+}
+
+// What is wrong with a line, or the fault of what it asks for.
+#[derive(Drop)]
+enum LineFault {
+    BadLine,
+    BadHex,
+    Other(ReplayFault),
+}
+
+impl LineFault {
+    // The fault with the number of its line, of which so many stand before it.
+    fn at(self, before: u64) -> ReplayFault {
+        let number = before.saturating_add(1);
+        match self {
+            LineFault::BadLine => ReplayFault::BadLine(number),
+            LineFault::BadHex => ReplayFault::BadHex(number),
+            LineFault::Other(fault) => fault,
+        }
+    }
+}
+
+impl From<ReplayFault> for LineFault {
+    fn from(fault: ReplayFault) -> LineFault {
+        LineFault::Other(fault)
+    }
+}
+
+impl From<AllocError> for LineFault {
+    fn from(error: AllocError) -> LineFault {
+        LineFault::Other(ReplayFault::Memory(error))
+    }
+}
+
+impl<T: Drop> From<AllocFailed<T>> for LineFault {
+    fn from(_error: AllocFailed<T>) -> LineFault {
+        LineFault::Other(ReplayFault::Memory(AllocError))
+    }
+}
+
+impl From<HexFault> for LineFault {
+    fn from(fault: HexFault) -> LineFault {
+        match fault {
+            HexFault::BadHex => LineFault::BadHex,
+            HexFault::Memory => LineFault::Other(ReplayFault::Memory(AllocError)),
+        }
+    }
+}
+
+// A record of a `call`, which waits for those that follow it.
+#[derive(Drop)]
+struct Call {
+    addr: Addr,
+    moment: Moment,
+    bytes: Vec<u8>,
+}
+
+#[derive(Drop)]
+struct Player {
+    alloc: Global,
+    sessions: Sessions,
+    printer: Printer,
+    calls: Vec<Call>,
+}
+
+impl Player {
+    // What a line asks for. A call waits for those that follow it; anything else comes after the
+    // calls that wait.
+    fn line<W: ByteOut>(&mut self, line: &[u8], out: &mut W) -> Result<(), LineFault> {
+        let Some(order) = order_of(line) else {
+            return Err(LineFault::BadLine);
+        };
+        match order {
+            Order::Nothing => Ok(()),
+            Order::Call { addr, moment, hex } => {
+                let bytes = bytes_of(self.alloc, hex)?;
+                self.calls.push(Call {
+                    addr,
+                    moment,
+                    bytes,
+                })?;
+                Ok(())
+            }
+            Order::Feed { conn, moment, hex } => {
+                let bytes = bytes_of(self.alloc, hex)?;
+                self.run_calls(out)?;
+                self.feed(conn, moment, bytes.as_slice(), out)?;
+                Ok(())
+            }
+            Order::Attach { conn, addr } => {
+                self.run_calls(out)?;
+                if !self.sessions.may_attach(conn) {
+                    return Err(LineFault::BadLine);
+                }
+                let attached = self.sessions.attach(conn, addr);
+                self.fault(conn, attached, out)?;
+                Ok(())
+            }
+            Order::Detach { conn } => {
+                self.run_calls(out)?;
+                let detached = self.sessions.detach(conn);
+                self.fault(conn, detached, out)?;
+                Ok(())
+            }
+        }
+    }
+
+    // Runs the calls that wait, and prints their replies.
+    fn run_calls<W: ByteOut>(&mut self, out: &mut W) -> Result<(), ReplayFault> {
+        let calls = mem::replace(&mut self.calls, Vec::new(self.alloc));
+        let mut events = Vec::with_capacity(self.alloc, calls.len())?;
+        for call in &calls {
+            events.push(Event {
+                addr: call.addr,
+                moment: call.moment,
+                bytes: call.bytes.as_slice(),
+            })?;
+        }
+        let mut replies = Replies {
+            out,
+            printer: &mut self.printer,
+            fault: None,
+        };
+        self.sessions.run(events.as_slice(), &mut replies);
+        let Replies {
+            out: _,
+            printer: _,
+            fault,
+        } = replies;
+        match fault {
+            Some(fault) => Err(fault),
+            None => Ok(()),
+        }
+    }
+
+    // Feeds a connection, and prints the replies, and then the fault if there is one.
+    fn feed<W: ByteOut>(
+        &mut self,
+        conn: u32,
+        moment: Moment,
+        piece: &[u8],
+        out: &mut W,
+    ) -> Result<(), ReplayFault> {
+        let mut replies = Captured::new(self.alloc);
+        let fed = self.sessions.feed(conn, moment, piece, &mut replies);
+        if replies.has_failed() {
+            return Err(ReplayFault::Memory(AllocError));
+        }
+        let text = format!(in self.alloc; "reply {conn} ")?;
+        let mut rest = replies.bytes();
+        while !rest.is_empty() {
+            let (record, others) = split_record(rest);
+            self.printer.bytes(out, text.as_str(), record)?;
+            rest = others;
+        }
+        self.fault(conn, fed.map(|_| ()), out)
+    }
+
+    // Prints the fault of a connection, if there is one.
+    fn fault<W: ByteOut>(
+        &mut self,
+        conn: u32,
+        done: Result<(), SessionFault>,
+        out: &mut W,
+    ) -> Result<(), ReplayFault> {
+        match done {
+            Ok(()) => Ok(()),
+            Err(fault) => {
+                let text = format!(in self.alloc; "fault {conn} {fault}")?;
+                self.printer.text(out, text.as_str())
+            }
+        }
+    }
+}
+
+// The bytes of hexadecimal words, from left to right.
+fn bytes_of(alloc: Global, words: Words<'_>) -> Result<Vec<u8>, HexFault> {
+    let mut bytes = Vec::new(alloc);
+    for word in words {
+        push_bytes(alloc, &mut bytes, word)?;
+    }
+    Ok(bytes)
+}

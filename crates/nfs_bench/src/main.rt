@@ -1,0 +1,30 @@
+//! Measures the way of a call. Run with no words it does a small fixed amount of the same work,
+//! and prints what came of it; with the name of a measure it prints nanoseconds.
+#![tactic(auto)]
+
+mod framing;
+mod null_call;
+
+use std::process::ExitCode;
+use std::rt::{Clock, Env};
+use std::{env, io};
+
+fn main(rt: HostRuntime) -> ExitCode {
+    match run(&rt) {
+        Ok(()) => ExitCode::SUCCESS,
+        Err(_) => ExitCode::FAILURE,
+    }
+}
+
+fn run<R: Env + Clock + Print + AllocGlobal>(rt: &R) -> io::Result<()> {
+    let words: Vec<String> = env::args(rt)?.skip(1).collect(rt.alloc())?;
+    match words.first() {
+        None => {
+            framing::fixed(rt)?;
+            null_call::fixed(rt)
+        }
+        Some(word) if word.as_str() == "framing" => framing::measure(rt),
+        Some(word) if word.as_str() == "null" => null_call::measure(rt),
+        Some(_) => println!(rt; "no such measure"),
+    }
+}

@@ -1,0 +1,6 @@
+pub mod Records
+pub mod Progress
+pub mod Stages
+pub mod Kept
+pub mod Calls
+pub mod Replies

@@ -1,0 +1,240 @@
+//! Records from the pieces of a stream.
+ghost use Rattle.std.specs.Prelude.{◌≡◌, ◌≢◌, ℕ, ◌+◌, ◌<◌, ◌≤◌, ◌↔◌, ◌⊎◌, [], ◌++◌, true, nat_lt, length, take, IfOk, IfErr, IsTrue, IsErr, IsErrOf};
+ghost use Rattle.nfs_rpc.specs.Progress.{Progress, Unfinished, Moves, BringsTooLong};
+ghost use Rattle.nfs_rpc.specs.Stages.{stage_of};
+
+use crate::record::read_header;
+use std::alloc::Global;
+use std::marker::Model;
+use thiserror::Error;
+
+/// Why no more of a stream is read.
+#[derive(Clone, Copy, Debug, PartialEq, Eq, Error)]
+pub enum FrameFault {
+    /// A header brings a record's length above the limit.
+    #[error("a record is longer than the limit")]
+    TooLong,
+    /// There is no memory for a record.
+    #[error("out of memory")]
+    Memory,
+    /// One of the other two was answered before.
+    #[error("the stream has failed")]
+    Failed,
+}
+
+/// How much of a piece was taken, and whether a record is whole now.
+#[derive(Clone, Copy, Debug, PartialEq, Eq)]
+pub struct Fed {
+    /// The number of bytes taken.
+    pub used: usize,
+    /// Whether a record is whole.
+    pub ready: bool,
+}
+
+/// Where in a record a framer is.
+#[derive(Clone, Copy, Debug, PartialEq, Eq)]
+pub enum Stage {
+    /// In a fragment's header, of which so many bytes have come.
+    Header { bytes: [u8; 4], have: usize },
+    /// In a fragment's content, of which so many bytes are left.
+    Body { last: bool, left: usize },
+    /// At the end of a whole record.
+    Ready,
+    /// At a fault.
+    Failed,
+}
+
+impl Stage {
+    /// Before the header of a fragment.
+    pub const START: Stage = Stage::Header {
+        bytes: [0; 4],
+        have: 0,
+    };
+}
+
+/// Takes the pieces of a stream, and gives its records (RFC 5531, section 11), each of at most
+/// `limit` bytes.
+#[derive(Drop)]
+pub struct Framer {
+    limit: usize,
+    stage: Stage,
+    content: Vec<u8>,
+}
+
+impl Model for Framer {
+    ghost use Rattle.nfs_rpc.specs.Progress.{Progress};
+
+    ghost Value = { Progress };
+
+    ghost use Rattle.nfs_rpc.specs.Kept.{Keeps};
+
+    ghost view = { λ a. record { limit = a.limit; stage = a.stage; content = a.content.items } };
+
+    ghost invariant = { Keeps };
+}
+
+impl Framer {
+    /// At the beginning of a stream whose records have at most `limit` bytes.
+    pub fn new(alloc: Global, limit: usize) -> Framer
+        ensures limit { result.limit ≡ limit }
+        ensures start { result.stage ≡ Stage.START }
+        ensures begins { Unfinished [] result }
+    {
+        Framer {
+            limit,
+            stage: Stage::START,
+            content: Vec::new(alloc),
+        }
+    }
+
+    /// Takes the next bytes of the stream, up to the end of the record or of the piece. While a
+    /// record is whole it takes none.
+    ///
+    /// `TooLong` comes as soon as a header is whole that brings the record's length above the
+    /// limit, `Memory` where there is no memory for a fragment; after either, and only then,
+    /// `Failed`.
+    pub fn feed(&mut self, piece: &[u8]) -> Result<Fed, FrameFault>
+        ensures limit { self.new.limit ≡ self.old.limit }
+        // What is taken stands at the front of the piece, and is all of it unless a record is whole.
+        ensures used { IfOk result (λ fed. fed.used ≤ length piece.now) }
+        ensures all { IfOk result (λ fed. IsTrue fed.ready ⊎ (fed.used ≡ length piece.now)) }
+        ensures ready { IfOk result (λ fed. IsTrue fed.ready ↔ (self.new.stage ≡ Stage.Ready)) }
+        ensures some { self.old.stage ≢ Stage.Ready → IfOk result (λ fed. IsTrue fed.ready → 0 < fed.used) }
+        // Whatever stood before, the bytes since the last whole record are now those and what was taken.
+        ensures moves { IfOk result (λ fed. Moves self.old (take fed.used piece.now) self.new) }
+        ensures held { self.old.stage ≡ Stage.Ready → (result ≡ Ok (record { used = 0; ready = true })) × (self.new ≡ self.old) }
+        // Each fault, and what stays.
+        ensures too_long { IsErrOf result FrameFault.TooLong → BringsTooLong self.old piece.now }
+        ensures failed { IsErrOf result FrameFault.Failed ↔ (self.old.stage ≡ Stage.Failed) }
+        ensures ends { IsErr result ↔ (self.new.stage ≡ Stage.Failed) }
+    {
+        match self.stage {
+            Stage::Failed => return Err(FrameFault::Failed),
+            Stage::Ready => {
+                return Ok(Fed {
+                    used: 0,
+                    ready: true,
+                });
+            }
+            Stage::Header { .. } | Stage::Body { .. } => {}
+        }
+        let mut used = 0;
+        while used < piece.len() {
+            match self.stage {
+                Stage::Header { bytes, have } => {
+                    match self.take_header(bytes, have, &piece[used..]) {
+                        Ok(n) => used += n,
+                        Err(fault) => return Err(fault),
+                    }
+                }
+                Stage::Body { last, left } => used += self.take_body(last, left, &piece[used..]),
+                Stage::Ready => return Ok(Fed { used, ready: true }),
+                Stage::Failed => unreachable!(),
+            }
+        }
+        Ok(Fed {
+            used,
+            ready: self.stage == Stage::Ready,
+        })
+    }
+
+    // As much of a header as is there, of which so many bytes have come. A whole one is judged.
+    fn take_header(
+        &mut self,
+        bytes: [u8; 4],
+        have: usize,
+        piece: &[u8],
+    ) -> Result<usize, FrameFault>
+        requires stage { self.old.stage ≡ Stage.Header bytes have }
+        requires have { have < 4 }
+        requires some { 0 < length piece.now }
+        ensures limit { self.new.limit ≡ self.old.limit }
+        ensures used { IfOk result (λ n. (0 < n) × (n ≤ length piece.now)) }
+        ensures moves { IfOk result (λ n. Moves self.old (take n piece.now) self.new) }
+        ensures alive { IsErr result ↔ (self.new.stage ≡ Stage.Failed) }
+        ensures too_long { IsErrOf result FrameFault.TooLong → BringsTooLong self.old piece.now }
+        ensures fault { IfErr result (λ e. e ≢ FrameFault.Failed) }
+    {
+        let (bytes, n) = fill_header(bytes, have, piece);
+        if have + n < 4 {
+            self.stage = Stage::Header {
+                bytes,
+                have: have + n,
+            };
+            return Ok(n);
+        }
+        let (last, left) = read_header(bytes);
+        if left > self.limit - self.content.len() {
+            self.stage = Stage::Failed;
+            return Err(FrameFault::TooLong);
+        }
+        if self.content.reserve(left).is_err() {
+            self.stage = Stage::Failed;
+            return Err(FrameFault::Memory);
+        }
+        self.stage = stage_before(last, left);
+        Ok(n)
+    }
+
+    // As much of a fragment's content as is there, of which so many bytes are left.
+    fn take_body(&mut self, last: bool, left: usize, piece: &[u8]) -> usize
+        requires stage { self.old.stage ≡ Stage.Body last left }
+        requires some { 0 < length piece.now }
+        ensures limit { self.new.limit ≡ self.old.limit }
+        ensures used { (0 < result) × (result ≤ length piece.now) }
+        ensures moves { Moves self.old (take result piece.now) self.new }
+        ensures alive { self.new.stage ≢ Stage.Failed }
+    {
+        let n = left.min(piece.len());
+        self.content.extend_from_slice(&piece[..n]).unwrap();
+        self.stage = stage_before(last, left - n);
+        n
+    }
+
+    /// The whole record, lent.
+    pub fn whole(&self) -> &[u8]
+        requires { self.now.stage ≡ Stage.Ready }
+        ensures { result.now ≡ self.now.content }
+    {
+        self.content.as_slice()
+    }
+
+    /// Goes on to the next record, and keeps the room that was made.
+    pub fn next(&mut self)
+        requires { self.old.stage ≡ Stage.Ready }
+        ensures limit { self.new.limit ≡ self.old.limit }
+        ensures begins { Unfinished [] self.new }
+        ensures start { self.new.stage ≡ Stage.START }
+    {
+        self.content.clear();
+        self.stage = Stage::START;
+    }
+}
+
+// What comes next where so many bytes of a fragment are left.
+fn stage_before(last: bool, left: usize) -> Stage
+    ensures stage { result ≡ stage_of (nat_lt 0 left) last left }
+    ensures alive { result ≢ Stage.Failed }
+{
+    if left > 0 {
+        Stage::Body { last, left }
+    } else if last {
+        Stage::Ready
+    } else {
+        Stage::START
+    }
+}
+
+// The header, of which so many bytes had come, with the first bytes of the piece, and how many
+// these are.
+fn fill_header(mut bytes: [u8; 4], have: usize, piece: &[u8]) -> ([u8; 4], usize)
+    requires { have < 4 }
+    ensures used { result.1 ≤ length piece.now }
+    ensures some { 0 < length piece.now → 0 < result.1 }
+    ensures within { have + result.1 ≤ 4 }
+    ensures filled { take (have + result.1) result.0 ≡ take have bytes ++ take result.1 piece.now }
+{
+    let n = (4 - have).min(piece.len());
+    bytes[have..have + n].copy_from_slice(&piece[..n]);
+    (bytes, n)
+}

@@ -1,0 +1,22 @@
+-- Which pasts fit a server. The server stores none: a past is the caller's.
+use Rattle.std.specs.Prelude.{List, ◌∷◌}
+use Rattle.nfs_server.specs.Events.{Event, Answer, Choice, Done}
+use Rattle.nfs_server.specs.Steps.{Setup, State, IsRun}
+
+-- what a server holds
+pub record Held : Type 0 where
+  pub setup : Setup
+  pub state : State
+
+-- an opening state, and the events since with their choices and answers, the newest first
+pub record Past : Type 0 where
+  pub opening : State
+  pub done : List Done
+
+-- the past with one more event
+abbrev pub after : Past → Event → Choice → Answer → Past
+after past event choice answer = record { opening = past.opening; done = record { event = event; choice = choice; answer = answer } ∷ past.done }
+
+-- the past is a run that ends in what the server holds
+pub record Fits (past : Past) (s : Held) : Type 0 where
+  pub run : IsRun s.setup past.opening past.done s.state

@@ -1,0 +1,10 @@
+pub mod Events
+pub mod Seen
+pub mod ReplyRoom
+pub mod RpcRules
+pub mod Steps
+pub mod Fits
+pub mod Keeping
+pub mod Runs
+pub mod Forward
+pub mod Connections

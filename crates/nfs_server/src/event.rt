@@ -1,0 +1,54 @@
+//! What comes to a server, and what it answers.
+ghost use Rattle.std.specs.Prelude.{Bool};
+ghost use Rattle.nfs_server.specs.Events.{Answer};
+ghost use Rattle.nfs_server.specs.Seen.{answer_of};
+
+/// An IPv4 address, the first of its four bytes the most significant.
+#[derive(Clone, Copy, Debug, PartialEq, Eq)]
+pub struct Addr(pub u32);
+
+/// A time: seconds and nanoseconds since 1970, any two numbers (RFC 1813, section 2.5, nfstime3).
+#[derive(Clone, Copy, Debug, PartialEq, Eq)]
+pub struct Moment {
+    /// Whole seconds.
+    pub seconds: u32,
+    /// Nanoseconds beyond these.
+    pub nanos: u32,
+}
+
+/// A whole record that comes from an address at a moment.
+#[derive(Clone, Copy)]
+pub struct Event<'a> {
+    /// Who sends it.
+    pub addr: Addr,
+    /// When it comes.
+    pub moment: Moment,
+    /// Its bytes, without record marks.
+    pub bytes: &'a [u8],
+}
+
+/// Whether a record has a reply.
+#[derive(Clone, Copy, Debug, PartialEq, Eq)]
+pub enum Handled {
+    /// The reply stands in the buffer.
+    Answered,
+    /// The record is no call, or its head can't be read.
+    NoReply,
+}
+
+/// What one event brought.
+#[derive(Clone, Copy)]
+pub struct Outcome<'a> {
+    /// The reply, without its record mark.
+    pub reply: Option<&'a [u8]>,
+}
+
+/// What takes the outcomes of a run.
+pub trait Sink {
+    /// That a take of this answer, to which so much was said, leads from one state to another.
+    ghost takes: { Self → Answer → Bool → Self → Type 0 };
+
+    /// Takes an outcome. `false` ends the run.
+    fn take(&mut self, outcome: Outcome<'_>) -> bool
+        ensures { takes self.old (answer_of outcome.entry) result self.new };
+}

@@ -1,0 +1,10 @@
+//! Calls from record bytes to reply bytes: the steps of a server, its runs, and its connections.
+#![tactic(auto)]
+
+pub mod event;
+pub mod laws;
+pub mod loaded;
+pub mod reply_buf;
+pub mod rpc_rules;
+pub mod server;
+pub mod sessions;

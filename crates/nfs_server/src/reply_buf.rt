@@ -1,0 +1,114 @@
+//! The room in which replies are written.
+ghost use Rattle.std.specs.Prelude.{◌≡◌, ℕ, ◌+◌, ◌-◌, ◌^◌, ◌<◌, ◌≤◌, [], ◌++◌, true, length, drop, IfOk};
+ghost use Rattle.nfs_xdr.specs.Written.{Written, Appends};
+ghost use Rattle.nfs_rpc.specs.Records.{header};
+ghost use Rattle.nfs_rpc.specs.Replies.{accepted_text};
+ghost use Rattle.nfs_rpc.specs.declared.reply.Accept.TheVariants.{Success};
+ghost use Rattle.nfs_server.specs.RpcRules.{rpc_reply};
+
+use crate::rpc_rules::RpcRule;
+use nfs_rpc::record::seal_record;
+use nfs_rpc::reply::{Accept, Refused, write_accepted, write_refused};
+use nfs_xdr::output::Output;
+use std::alloc::{AllocError, Global};
+use std::marker::Model;
+
+/// Room for one reply and the record mark in front of it, made once, so that no reply takes
+/// memory and a sealed reply goes out by one write. Contracts see the reply.
+#[derive(Drop)]
+pub struct ReplyBuf {
+    out: Output,
+}
+
+/// How many bytes of room there are, for the mark and the reply.
+pub const ROOM: usize = 294_912;
+
+const MARK_BYTES: usize = 4;
+
+impl Model for ReplyBuf {
+    ghost use Rattle.std.specs.Prelude.{ℕ, List, drop};
+
+    ghost Value = { List ℕ };
+
+    ghost use Rattle.nfs_server.specs.ReplyRoom.{HasRoom};
+
+    ghost view = { λ a. drop 4 a.out.bytes };
+
+    ghost invariant = { HasRoom };
+}
+
+impl ReplyBuf {
+    /// Room, with no reply in it. Refused where there is no memory.
+    pub fn new(alloc: Global) -> Result<ReplyBuf, AllocError>
+        ensures { IfOk result (λ reply. reply ≡ []) }
+    {
+        let mut out = Output::new(alloc, ROOM)?;
+        begin(&mut out);
+        Ok(ReplyBuf { out })
+    }
+
+    /// The reply, empty where there is none.
+    pub fn bytes(&self) -> &[u8]
+        ensures { result.now ≡ self.now }
+    {
+        &self.out.bytes()[MARK_BYTES..]
+    }
+
+    /// The reply as one record, with its mark in front.
+    pub fn sealed(&self) -> &[u8]
+        ensures { result.now ≡ header true (length self.now) ++ self.now }
+    {
+        self.out.bytes()
+    }
+
+    /// No reply.
+    pub fn clear(&mut self)
+        ensures { self.new ≡ [] }
+    {
+        begin(&mut self.out);
+    }
+
+    /// The reply to a call that fails a rule of RPC.
+    pub(crate) fn refuse(&mut self, rule: RpcRule, xid: u32)
+        ensures { self.new ≡ rpc_reply rule xid }
+    {
+        begin(&mut self.out);
+        match rule {
+            RpcRule::Version => write_refused(&mut self.out, xid, Refused::RpcMismatch),
+            RpcRule::Program => write_accepted(&mut self.out, xid, Accept::ProgUnavail),
+            RpcRule::ProgramVersion => write_accepted(&mut self.out, xid, Accept::ProgMismatch),
+            RpcRule::Procedure => write_accepted(&mut self.out, xid, Accept::ProcUnavail),
+        }
+        seal(&mut self.out);
+    }
+
+    /// The reply to a call that succeeds without a result.
+    pub(crate) fn succeed(&mut self, xid: u32)
+        ensures { self.new ≡ accepted_text xid Success }
+    {
+        begin(&mut self.out);
+        write_accepted(&mut self.out, xid, Accept::Success);
+        seal(&mut self.out);
+    }
+}
+
+// Nothing but a mark, whose length is 0.
+fn begin(out: &mut Output)
+    requires { length out.old.bytes + out.old.room ≡ ROOM }
+    ensures bytes { out.new.bytes ≡ header true 0 }
+    ensures room { length out.new.bytes + out.new.room ≡ ROOM }
+{
+    out.clear();
+    out.numbers(&[u32::from_be_bytes(seal_record(0))]);
+}
+
+// The mark gets the length of what follows it.
+fn seal(out: &mut Output)
+    requires mark { 4 ≤ length out.old.bytes }
+    requires below { length out.old.bytes < 2 ^ 31 }
+    ensures bytes { out.new.bytes ≡ header true (length out.old.bytes - 4) ++ drop 4 out.old.bytes }
+    ensures room { out.new.room ≡ out.old.room }
+{
+    let len = out.bytes().len() - MARK_BYTES;
+    out.overwrite(0, &seal_record(len as u32));
+}

@@ -1,0 +1,105 @@
+//! A server, which takes one whole record at a time.
+ghost use Rattle.std.specs.Prelude.{◌≡◌, ℕ, ◌≤◌, List, [], length, IfOk, Bool};
+ghost use Rattle.nfs_server.specs.Events.{Choice, Done};
+ghost use Rattle.nfs_server.specs.Seen.{event_of, answer_of, answered};
+ghost use Rattle.nfs_server.specs.Steps.{Step};
+ghost use Rattle.nfs_server.specs.Fits.{Held, Past, Fits, after};
+ghost use Rattle.nfs_server.specs.Keeping.{Answers};
+ghost use Rattle.nfs_server.specs.Runs.{events_of, RunsThrough};
+
+use crate::event::{Event, Handled, Outcome, Sink};
+use crate::loaded::Loaded;
+use crate::reply_buf::ReplyBuf;
+use crate::rpc_rules::rpc_failure;
+use nfs_rpc::call::read_call;
+use std::alloc::{AllocError, Global};
+use std::marker::Model;
+
+/// An NFS version 3 server with its MOUNT service.
+#[derive(Drop)]
+pub struct Server {
+    cache: usize,
+}
+
+impl Model for Server {
+    ghost use Rattle.nfs_server.specs.Fits.{Held};
+
+    ghost Value = { Held };
+
+    ghost view = { λ s. record { setup = record { places = s.cache }; state = record {} } };
+}
+
+impl Server {
+    /// A server that has seen no event, with so many places for replies to repeated calls.
+    /// Refused where there is no memory; the description is then dropped.
+    pub fn new(_alloc: Global, loaded: Loaded, cache: usize) -> Result<Server, AllocError>
+        requires some { 1 ≤ cache }
+        requires few { cache ≤ 1024 }
+        ensures setup { IfOk result (λ server. server.setup ≡ record { places = cache }) }
+        ensures fits { IfOk result (λ server. Fits (record { opening = server.state; done = [] }) server) }
+    {
+        let _ = loaded;
+        Ok(Server { cache })
+    }
+
+    /// Takes one whole record. For every past that fits before, the answer is a step after it,
+    /// and the past with this event fits after.
+    pub fn handle(&mut self, event: Event<'_>, reply: &mut ReplyBuf) -> Handled
+        ensures setup { self.new.setup ≡ self.old.setup }
+        ensures step { (past : Past) → Fits past self.old → (choice : Choice)
+            × Step self.old.setup past.done self.old.state (event_of event.entry) choice (answered result reply.new) self.new.state
+            × Fits (after past (event_of event.entry) choice (answered result reply.new)) self.new }
+    {
+        self.answer(event, reply)
+    }
+
+    // The same, said without a past.
+    fn answer(&mut self, event: Event<'_>, reply: &mut ReplyBuf) -> Handled
+        ensures { Answers self.old (event_of event.entry) (answered result reply.new) self.new }
+    {
+        let Ok(head) = read_call(event.bytes) else {
+            reply.clear();
+            return Handled::NoReply;
+        };
+        match rpc_failure(&head) {
+            Some(rule) => reply.refuse(rule, head.xid),
+            None => reply.succeed(head.xid),
+        }
+        Handled::Answered
+    }
+
+    /// Takes events one after another, and hands each outcome to the sink, until a take answers
+    /// `false`. Answers how many events were done.
+    pub fn run<S: Sink>(
+        &mut self,
+        events: &[Event<'_>],
+        reply: &mut ReplyBuf,
+        sink: &mut S,
+    ) -> usize
+        ensures bound { result ≤ length events.now }
+        ensures run { (past : Past) → Fits past self.old → RunsThrough S.takes past (events_of events.now) result sink.old sink.new self.new }
+        ensures setup { self.new.setup ≡ self.old.setup }
+    {
+        let mut done = 0;
+        for event in events {
+            let handled = self.handle(*event, reply);
+            done += 1;
+            if !sink.take(outcome_of(handled, reply)) {
+                break;
+            }
+        }
+        done
+    }
+}
+
+// What is handed to a sink.
+fn outcome_of(handled: Handled, reply: &ReplyBuf) -> Outcome<'_>
+    ensures { answer_of result ≡ answered handled reply.now }
+{
+    match handled {
+        Handled::Answered => Outcome {
+            reply: Some(reply.bytes()),
+        },
+        Handled::NoReply => Outcome { reply: None },
+    }
+}

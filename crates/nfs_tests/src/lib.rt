@@ -1,0 +1,16 @@
+//! Tests of the libraries by values from outside: the standards' formats, worked calls and their
+//! replies, devices that fail, and want of memory.
+#![tactic(auto)]
+
+#[cfg(test)]
+mod framing;
+#[cfg(test)]
+mod items;
+#[cfg(test)]
+mod memory;
+#[cfg(test)]
+mod records;
+#[cfg(test)]
+mod sessions;
+#[cfg(test)]
+mod support;

@@ -1,0 +1,200 @@
+-- Reading an item finds its spelling.
+use Rattle.std.proofs.Common.{◌≡◌, ℕ, ◌+◌, ◌-◌, ◌*◌, ◌^◌, ◌<◌, ◌≤◌, Bool, true, false, ltb, eqb, List, [], ◌∷◌, ◌++◌, length, take, drop, if◌then◌else◌, Ok, Err, refl, sym, ap, subst, ◌∙◌, append_assoc, append-nil, take-add, length-drop, arith}
+use Rattle.std.specs.Int.{Width, w32, w64, byte_len, from_be_bytes, to_be_bytes}
+use Rattle.std.proofs.lemmas.Bool.{ltb-false, ltb-true, le-ltb, eqb-true}
+use Rattle.std.proofs.lemmas.List.{take_at, drop_at, take-append-drop, take_rest, length-append, length-take}
+use Rattle.std.proofs.lemmas.Nat.{be_bytes_4, be_bytes_8, from_be_bytes-to_be_bytes_4, from_be_bytes-to_be_bytes_8}
+use Rattle.nfs_xdr.specs.declared.fault.XdrFault.TheVariants.{Short, TooLong, BadBool}
+use Rattle.nfs_xdr.specs.Spelling.{padding, number_of, fixed_text, opaque_text, numbers_text, IsNumber, IsBoolean, IsFixed, IsOpaque, Begins}
+use Rattle.nfs_xdr.specs.Reading.{AreBytes, Finds, number_at, boolean_of, boolean_at, fixed_at, opaque_at}
+use Rattle.nfs_xdr.proofs.Finding.{AreBytes-take, guard_ok, finds_as, Then, finds_then, IsDone, finds_done, IsNothing, finds_fault, IsEither, finds_either}
+
+-- what is used of a width
+record IsWide (w : Width) : Type 0 where
+  len : (n : ℕ) → length (to_be_bytes w n) ≡ byte_len w
+  back : (bytes : List ℕ) → length bytes ≡ byte_len w → AreBytes bytes → to_be_bytes w (from_be_bytes w bytes) ≡ bytes
+  again : (n : ℕ) → n < 256 ^ byte_len w → from_be_bytes w (to_be_bytes w n) ≡ n
+  below : (bytes : List ℕ) → AreBytes bytes → from_be_bytes w bytes < 256 ^ byte_len w
+
+wide32 : IsWide w32
+wide32 = record {
+  len = λ n. refl;
+  back = λ bytes len fits. be_bytes_4 bytes _ len fits refl;
+  again = λ n lt. from_be_bytes-to_be_bytes_4 n lt;
+  below = λ bytes fits. omega (arith, fits 0, fits 1, fits 2, fits 3);
+}
+
+wide64 : IsWide w64
+wide64 = record {
+  len = λ n. refl;
+  back = λ bytes len fits. be_bytes_8 bytes _ len fits refl;
+  again = λ n lt. from_be_bytes-to_be_bytes_8 n lt;
+  below = λ bytes fits. omega (arith, fits 0, fits 1, fits 2, fits 3, fits 4, fits 5, fits 6, fits 7);
+}
+
+finds_number : (w : Width) → IsWide w → Finds (IsNumber w) (number_at w)
+finds_number w wide = record {
+  found = λ bytes n rest are e.
+      let g = guard_ok (ltb (length bytes) (byte_len w)) Short (from_be_bytes w (take (byte_len w) bytes), drop (byte_len w) bytes) (n, rest) e in
+      let long : byte_len w ≤ length bytes = ltb-false _ _ g.0 in
+      let n-is : from_be_bytes w (take (byte_len w) bytes) ≡ n = ap (λ (p : ℕ × List ℕ). p.0) g.1 in
+      let rest-is : drop (byte_len w) bytes ≡ rest = ap (λ (p : ℕ × List ℕ). p.1) g.1 in
+      record {
+        text = take (byte_len w) bytes;
+        spelled = record {
+          fits = subst (λ k. k < 256 ^ byte_len w) n-is (wide.below (take (byte_len w) bytes) (AreBytes-take (byte_len w) bytes are));
+          text_is = sym (wide.back (take (byte_len w) bytes) (omega (arith, length-take (byte_len w) bytes)) (AreBytes-take (byte_len w) bytes are)) ∙ ap (to_be_bytes w) n-is;
+        };
+        bytes_are = sym (take-append-drop (byte_len w) bytes) ∙ ap (λ t. take (byte_len w) bytes ++ t) rest-is;
+      };
+  again = λ n text rest s.
+      let len = wide.len n in
+      let long : ltb (length (to_be_bytes w n ++ rest)) (byte_len w) ≡ false = le-ltb _ _ (omega (arith, length-append (to_be_bytes w n) rest)) in
+      subst (λ t. number_at w (t ++ rest) ≡ Ok (n, rest)) (sym s.text_is) (rw (long, take_at (to_be_bytes w n) rest (byte_len w) len, drop_at (to_be_bytes w n) rest (byte_len w) len, wide.again n s.fits) refl);
+}
+
+pub finds_u32 : Finds (IsNumber w32) (number_at w32)
+finds_u32 = finds_number w32 wide32
+
+pub finds_u64 : Finds (IsNumber w64) (number_at w64)
+finds_u64 = finds_number w64 wide64
+
+cut_in_three : (n p : ℕ) (bytes : List ℕ) → n + p ≤ length bytes → (length (take n bytes) ≡ n) × (length (take p (drop n bytes)) ≡ p) × (bytes ≡ (take n bytes ++ take p (drop n bytes)) ++ drop (n + p) bytes)
+cut_in_three n p bytes h = (
+  omega (arith, length-take n bytes),
+  omega (arith, length-take p (drop n bytes), length-drop n bytes),
+  sym (take-append-drop (n + p) bytes) ∙ ap (λ l. l ++ drop (n + p) bytes) (take-add n p bytes),
+)
+
+joined_of_three : (n p : ℕ) (item pad rest : List ℕ) → length item ≡ n → length pad ≡ p → (ltb (length ((item ++ pad) ++ rest)) (n + p) ≡ false) × (take n ((item ++ pad) ++ rest) ≡ item) × (drop (n + p) ((item ++ pad) ++ rest) ≡ rest)
+joined_of_three n p item pad rest a b =
+    let both : length (item ++ pad) ≡ n + p = length-append item pad ∙ omega arith in (
+      le-ltb _ _ (omega (arith, length-append (item ++ pad) rest)),
+      ap (take n) (append_assoc item pad rest) ∙ take_at item (pad ++ rest) n a,
+      drop_at (item ++ pad) rest (n + p) both,
+    )
+
+-- n bytes and p bytes of padding
+pub finds_fixed : (n : ℕ) → Finds (IsFixed n) (fixed_at n)
+finds_fixed n = record {
+  found = λ bytes item rest are e.
+      let g = guard_ok (ltb (length bytes) (n + padding n)) Short (take n bytes, drop (n + padding n) bytes) (item, rest) e in
+      let three = cut_in_three n (padding n) bytes (ltb-false _ _ g.0) in
+      let item-is : take n bytes ≡ item = ap (λ (p : List ℕ × List ℕ). p.0) g.1 in
+      let rest-is : drop (n + padding n) bytes ≡ rest = ap (λ (p : List ℕ × List ℕ). p.1) g.1 in
+      record {
+        text = take n bytes ++ take (padding n) (drop n bytes);
+        spelled = record { len_is = subst (λ t. length t ≡ n) item-is three.0; pad = take (padding n) (drop n bytes); pad_len = three.1; text_is = ap (λ t. t ++ take (padding n) (drop n bytes)) item-is };
+        bytes_are = subst (λ t. bytes ≡ (take n bytes ++ take (padding n) (drop n bytes)) ++ t) rest-is three.2;
+      };
+  again = λ item text rest s.
+      let three = joined_of_three n (padding n) item s.pad rest s.len_is s.pad_len in
+      subst (λ t. fixed_at n (t ++ rest) ≡ Ok (item, rest)) (sym s.text_is) (rw (three.0, three.1, three.2) refl);
+}
+
+-- a length that is above the bound has no spelling
+pub finds_counted : (max n : ℕ) → Finds (IsEither (ltb max n) IsNothing (IsFixed n)) (λ bytes. if ltb max n then Err TooLong else fixed_at n bytes)
+finds_counted max n = finds_either (ltb max n) IsNothing (IsFixed n) (λ bytes. Err TooLong) (fixed_at n) (finds_fault TooLong) (finds_fixed n)
+
+of_counted : (max n : ℕ) (b : Bool) (item head body text : List ℕ) → ltb max n ≡ b → IsNumber w32 n head → IsEither b IsNothing (IsFixed n) item body → text ≡ head ++ body → IsOpaque max item text
+of_counted max n true item head body text over number none e = absurd none
+of_counted max n false item head body text within number fixed e =
+    let len : n ≡ length item = sym fixed.len_is in
+    record {
+      bound = omega (arith, ltb-false max n within);
+      spelled = record { front = head; first = subst (λ k. IsNumber w32 k head) len number; back = body; second = subst (λ k. IsFixed k item body) len fixed; text_is = e };
+    }
+
+to_counted : (max : ℕ) (b : Bool) (item body : List ℕ) → ltb max (length item) ≡ b → length item ≤ max → IsFixed (length item) item body → IsEither b IsNothing (IsFixed (length item)) item body
+to_counted max true item body over bound fixed = omega (arith, ltb-true max (length item) over)
+to_counted max false item body within bound fixed = fixed
+
+pub finds_opaque : (max : ℕ) → Finds (IsOpaque max) (opaque_at max)
+finds_opaque max =
+    finds_as (Then (IsNumber w32) (λ n. IsEither (ltb max n) IsNothing (IsFixed n))) (IsOpaque max) (opaque_at max)
+    (λ item text s. of_counted max s.first (ltb max s.first) item s.front s.back text refl s.front_is s.back_is s.text_is)
+    (λ item text s. record {
+      first = length item;
+      front = s.spelled.front;
+      front_is = s.spelled.first;
+      back = s.spelled.back;
+      back_is = to_counted max (ltb max (length item)) item s.spelled.back refl s.bound s.spelled.second;
+      text_is = s.spelled.text_is;
+    })
+    (finds_then (IsNumber w32) (λ n. IsEither (ltb max n) IsNothing (IsFixed n)) (number_at w32) (λ n bytes. if ltb max n then Err TooLong else fixed_at n bytes) finds_u32 (finds_counted max))
+
+-- a number that is a boolean
+abbrev BooleanOf : ℕ → Bool → List ℕ → Type 0
+BooleanOf n = IsEither (eqb n 0) (IsDone false) (IsEither (eqb n 1) (IsDone true) IsNothing)
+
+finds_boolean_of : (n : ℕ) → Finds (BooleanOf n) (boolean_of n)
+finds_boolean_of n =
+    finds_either (eqb n 0) (IsDone false) (IsEither (eqb n 1) (IsDone true) IsNothing) (λ rest. Ok (false, rest)) (λ rest. if eqb n 1 then Ok (true, rest) else Err BadBool) (finds_done false)
+    (finds_either (eqb n 1) (IsDone true) IsNothing (λ rest. Ok (true, rest)) (λ rest. Err BadBool) (finds_done true) (finds_fault BadBool))
+
+of_done : (n : ℕ) (v value : Bool) (head back text : List ℕ) → n ≡ number_of v → IsNumber w32 n head → IsDone v value back → text ≡ head ++ back → IsBoolean value text
+of_done n v value head back text n-is number d e =
+    let whole : text ≡ head = e ∙ ap (λ t. head ++ t) d.text_is ∙ append-nil head in
+    subst (λ t. IsBoolean value t) (sym whole) (subst (λ b. IsBoolean b head) d.value_is (subst (λ k. IsNumber w32 k head) n-is number))
+
+of_boolean : (n : ℕ) (zero one : Bool) (value : Bool) (head back text : List ℕ) → eqb n 0 ≡ zero → eqb n 1 ≡ one → IsNumber w32 n head → IsEither zero (IsDone false) (IsEither one (IsDone true) IsNothing) value back → text ≡ head ++ back → IsBoolean value text
+of_boolean n true one value head back text is any number d e = of_done n false value head back text (eqb-true n 0 is) number d e
+of_boolean n false true value head back text not is number d e = of_done n true value head back text (eqb-true n 1 is) number d e
+of_boolean n false false value head back text not none number d e = absurd d
+
+to_boolean : (value : Bool) (text : List ℕ) → IsBoolean value text → Then (IsNumber w32) BooleanOf value text
+to_boolean false text s = record { first = 0; front = text; front_is = s; back = []; back_is = record { value_is = refl; text_is = refl }; text_is = sym (append-nil text) }
+to_boolean true text s = record { first = 1; front = text; front_is = s; back = []; back_is = record { value_is = refl; text_is = refl }; text_is = sym (append-nil text) }
+
+pub finds_boolean : Finds IsBoolean boolean_at
+finds_boolean =
+    finds_as (Then (IsNumber w32) BooleanOf) IsBoolean boolean_at
+    (λ value text s. of_boolean s.first (eqb s.first 0) (eqb s.first 1) value s.front s.back text refl refl s.front_is s.back_is s.text_is)
+    to_boolean
+    (finds_then (IsNumber w32) BooleanOf (number_at w32) boolean_of finds_u32 finds_boolean_of)
+
+-- what a reader of opaque data of a fixed length cuts off is spelled there
+pub fixed_found : (n : ℕ) (bytes : List ℕ) → n ≤ length bytes → padding n ≤ length bytes - n → Begins (IsFixed n) (take n bytes) bytes (take (length bytes - (n + padding n)) (drop (n + padding n) bytes))
+fixed_found n bytes item pad =
+    let three = cut_in_three n (padding n) bytes (omega arith) in
+    record {
+      text = take n bytes ++ take (padding n) (drop n bytes);
+      spelled = record { len_is = three.0; pad = take (padding n) (drop n bytes); pad_len = three.1; text_is = refl };
+      bytes_are = subst (λ t. bytes ≡ (take n bytes ++ take (padding n) (drop n bytes)) ++ t) (sym (take_rest bytes (n + padding n))) three.2;
+    }
+
+-- a length within the bound, and then so many bytes, are opaque data
+pub opaque_found : (max n : ℕ) (bytes middle item rest : List ℕ) → Begins (IsNumber w32) n bytes middle → n ≤ max → Begins (IsFixed n) item middle rest → Begins (IsOpaque max) item bytes rest
+opaque_found max n bytes middle item rest number bound fixed =
+    let len : n ≡ length item = sym fixed.spelled.len_is in
+    record {
+      text = number.text ++ fixed.text;
+      spelled = record {
+        bound = omega arith;
+        spelled = record {
+          front = number.text;
+          first = subst (λ k. IsNumber w32 k number.text) len number.spelled;
+          back = fixed.text;
+          second = subst (λ k. IsFixed k item fixed.text) len fixed.spelled;
+          text_is = refl;
+        };
+      };
+      bytes_are = number.bytes_are ∙ ap (λ t. number.text ++ t) fixed.bytes_are ∙ sym (append_assoc number.text fixed.text rest);
+    }
+
+padding_len : (n : ℕ) (zeros : List ℕ) → n < 4 → length zeros ≡ 3 → length (take n zeros) ≡ n
+padding_len n zeros below three = omega (arith, length-take n zeros)
+
+-- the padding that is written
+pub fixed_written : (item : List ℕ) → IsFixed (length item) item (fixed_text item)
+fixed_written item = record { len_is = refl; pad = take (padding (length item)) (0 ∷ 0 ∷ 0 ∷ []); pad_len = padding_len (padding (length item)) (0 ∷ 0 ∷ 0 ∷ []) (omega arith) refl; text_is = refl }
+
+pub opaque_written : (max : ℕ) (item : List ℕ) → length item < 2 ^ 32 → length item ≤ max → IsOpaque max item (opaque_text item)
+opaque_written max item counted bound = record {
+  bound = bound;
+  spelled = record { front = to_be_bytes w32 (length item); first = record { fits = counted; text_is = refl }; back = fixed_text item; second = fixed_written item; text_is = refl };
+}
+
+pub length-numbers_text : (ns : List ℕ) → length (numbers_text ns) ≡ 4 * length ns
+length-numbers_text [] = refl
+length-numbers_text (n ∷ ns) = length-append (to_be_bytes w32 n) (numbers_text ns) ∙ omega (arith, length-numbers_text ns)

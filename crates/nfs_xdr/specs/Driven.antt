@@ -1,0 +1,14 @@
+-- Devices over another one.
+use Rattle.std.specs.Prelude.{ℕ, Bool}
+
+-- a device over this one, and whether it has failed
+pub record Driven (D : Type 0) : Type 0 where
+  pub inner : D
+  pub failed : Bool
+
+-- a device over this one that passes on at most step bytes a call, and so many more calls
+pub record Stuttering (D : Type 0) : Type 0 where
+  pub inner : D
+  pub step : ℕ
+  pub left : ℕ
+  pub failed : Bool

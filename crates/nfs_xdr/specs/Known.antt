@@ -1,0 +1,18 @@
+-- What reads and writes do to the bytes that a device holds or has left, where these are known.
+use Rattle.std.specs.Prelude.{◌≡◌, ℕ, ◌≤◌, List, [], ◌++◌, length, take, Option, Some}
+
+-- where the bytes before are known, those after are these and then the new ones
+abbrev pub Grows : Option (List ℕ) → List ℕ → Option (List ℕ) → Type 0
+Grows old bytes new = (before : List ℕ) → old ≡ Some before → new ≡ Some (before ++ bytes)
+
+-- the same, with some first bytes of the new ones alone
+abbrev pub GrowsByPart : Option (List ℕ) → List ℕ → Option (List ℕ) → Type 0
+GrowsByPart old bytes new = (n : ℕ) × (n ≤ length bytes) × Grows old (take n bytes) new
+
+-- where the bytes that are left are known, they were these and then those that are left now
+abbrev pub Shrinks : Option (List ℕ) → List ℕ → Option (List ℕ) → Type 0
+Shrinks old bytes new = (before : List ℕ) → old ≡ Some before → (after : List ℕ) × (new ≡ Some after) × (before ≡ bytes ++ after)
+
+-- where the bytes that are left are known, there are none
+abbrev pub IsAtEnd : Option (List ℕ) → Type 0
+IsAtEnd left = (bytes : List ℕ) → left ≡ Some bytes → bytes ≡ []

@@ -1,0 +1,56 @@
+-- Reading from left to right: the value and the bytes after it, or the first fault that is met.
+use Rattle.std.specs.Prelude.{◌≡◌, ℕ, ◌+◌, ◌<◌, Bool, true, false, List, ◌++◌, length, take, drop, Result, Ok, Err, if◌then◌else◌, nat_lt, nat_eq, slice_index}
+use Rattle.std.specs.Int.{Width, w32, byte_len, from_be_bytes}
+use Rattle.nfs_xdr.specs.declared.fault.XdrFault.{XdrFault}
+use Rattle.nfs_xdr.specs.declared.fault.XdrFault.TheVariants.{Short, TooLong, BadBool}
+use Rattle.nfs_xdr.specs.Spelling.{padding, Begins, BeginsNone}
+
+-- a value and the bytes after it, or a fault
+abbrev pub Read : Type 0 → Type 0
+Read A = Result (A × List ℕ) XdrFault
+
+-- one after the other, where the first has no fault
+infixl 10 ◌>>=◌
+abbrev pub ◌>>=◌ : {A B E : Type 0} → Result A E → (A → Result B E) → Result B E
+(Ok x) >>= f = f x
+(Err e) >>= f = Err e
+
+abbrev pub number_at : Width → List ℕ → Read ℕ
+number_at w bytes = if nat_lt (length bytes) (byte_len w) then Err Short else Ok (from_be_bytes w (take (byte_len w) bytes), drop (byte_len w) bytes)
+
+abbrev pub boolean_of : ℕ → List ℕ → Read Bool
+boolean_of n rest = if nat_eq n 0 then Ok (false, rest) else (if nat_eq n 1 then Ok (true, rest) else Err BadBool)
+
+abbrev pub boolean_at : List ℕ → Read Bool
+boolean_at bytes = do
+  n ← number_at w32 bytes
+  boolean_of n.0 n.1
+
+-- n bytes and their padding
+abbrev pub fixed_at : ℕ → List ℕ → Read (List ℕ)
+fixed_at n bytes = if nat_lt (length bytes) (n + padding n) then Err Short else Ok (take n bytes, drop (n + padding n) bytes)
+
+-- a length, which is judged before the bytes are looked for
+abbrev pub opaque_at : ℕ → List ℕ → Read (List ℕ)
+opaque_at max bytes = do
+  n ← number_at w32 bytes
+  if nat_lt max n.0 then Err TooLong else fixed_at n.0 n.1
+
+-- What a reader answered, seen by view, is what reading gives. A fault leaves the bytes as they were.
+abbrev pub Gives : {X A : Type 0} → (X → A) → List ℕ → List ℕ → Result X XdrFault → Read A → Type 0
+Gives view old new (Ok x) read = read ≡ Ok (view x, new)
+Gives view old new (Err e) read = (read ≡ Err e) × (new ≡ old)
+
+-- A reader answered a value that is spelled at the front, with the bytes after it; or no value is spelled there, and the bytes are as they were.
+abbrev pub Reads : {X A : Type 0} → (X → A) → (A → List ℕ → Type 0) → List ℕ → List ℕ → Result X XdrFault → Type 0
+Reads view Spells old new (Ok x) = Begins Spells (view x) old new
+Reads view Spells old new (Err e) = BeginsNone Spells old × (new ≡ old)
+
+-- a list of numbers that are bytes
+abbrev pub AreBytes : List ℕ → Type 0
+AreBytes bytes = (i : ℕ) → slice_index bytes i < 256
+
+-- Reading finds what is spelled, all of it, and nothing else.
+pub record Finds {A E : Type 0} (Spells : A → List ℕ → Type 0) (read : List ℕ → Result (A × List ℕ) E) : Type 0 where
+  pub found : (bytes : List ℕ) (value : A) (rest : List ℕ) → AreBytes bytes → read bytes ≡ Ok (value, rest) → Begins Spells value bytes rest
+  pub again : (value : A) (text rest : List ℕ) → Spells value text → read (text ++ rest) ≡ Ok (value, rest)

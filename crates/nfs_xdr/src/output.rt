@@ -1,0 +1,146 @@
+//! A list of bytes to which XDR items are written, in room that was made once.
+ghost use Rattle.std.specs.Prelude.{◌≡◌, ℕ, ◌+◌, ◌*◌, ◌^◌, ◌<◌, ◌≤◌, [], ◌++◌, length, take, drop, IfOk};
+ghost use Rattle.std.specs.Int.{w32, w64, to_be_bytes};
+ghost use Rattle.nfs_xdr.specs.Spelling.{number_of, fixed_text, opaque_text, numbers_text};
+ghost use Rattle.nfs_xdr.specs.Written.{Written, Appends};
+
+use std::alloc::{AllocError, Global};
+use std::marker::Model;
+
+/// What was written, and the room that is left. Nothing is written where the room doesn't
+/// suffice: that it does is the caller's to show.
+#[derive(Drop)]
+pub struct Output {
+    bytes: Vec<u8>,
+    room: usize,
+}
+
+impl Model for Output {
+    ghost use Rattle.std.specs.Prelude.{◌+◌, ◌≤◌, vec_len, vec_capacity};
+    ghost use Rattle.nfs_xdr.specs.Written.{Written};
+
+    ghost Value = { Written };
+
+    ghost view = { λ a. record { bytes = a.bytes.items; room = a.room } };
+
+    ghost invariant = { λ a. vec_len a.bytes + a.room ≤ vec_capacity a.bytes };
+}
+
+impl Output {
+    /// An output with room for this many bytes, which is never made larger. Refused where there
+    /// is no memory.
+    pub fn new(alloc: Global, room: usize) -> Result<Output, AllocError>
+        ensures { IfOk result (λ out. (out.bytes ≡ []) × (out.room ≡ room)) }
+    {
+        let bytes = Vec::with_capacity(alloc, room)?;
+        Ok(Output { bytes, room })
+    }
+
+    /// How many more bytes there is room for.
+    pub fn room(&self) -> usize
+        ensures { result ≡ self.now.room }
+    {
+        self.room
+    }
+
+    /// What was written.
+    pub fn bytes(&self) -> &[u8]
+        ensures { result.now ≡ self.now.bytes }
+    {
+        self.bytes.as_slice()
+    }
+
+    /// Writes an unsigned integer (RFC 4506, section 4.2).
+    pub fn u32(&mut self, n: u32)
+        requires { 4 ≤ self.old.room }
+        ensures { Appends (to_be_bytes w32 n) self.old self.new }
+    {
+        self.raw(&n.to_be_bytes());
+    }
+
+    /// Writes an unsigned hyper integer (RFC 4506, section 4.5).
+    pub fn u64(&mut self, n: u64)
+        requires { 8 ≤ self.old.room }
+        ensures { Appends (to_be_bytes w64 n) self.old self.new }
+    {
+        self.raw(&n.to_be_bytes());
+    }
+
+    /// Writes a boolean (RFC 4506, section 4.4).
+    pub fn boolean(&mut self, b: bool)
+        requires { 4 ≤ self.old.room }
+        ensures { Appends (to_be_bytes w32 (number_of b)) self.old self.new }
+    {
+        self.u32(u32::from(b));
+    }
+
+    /// Writes unsigned integers one after another, as a fixed-length array of them (RFC 4506,
+    /// section 4.12).
+    pub fn numbers(&mut self, ns: &[u32])
+        requires { 4 * length ns.now ≤ self.old.room }
+        ensures { Appends (numbers_text ns.now) self.old self.new }
+    {
+        for n in ns {
+            self.u32(*n);
+        }
+    }
+
+    /// Writes opaque data of a fixed length (RFC 4506, section 4.9), padded with zeros.
+    pub fn fixed(&mut self, item: &[u8])
+        requires { length (fixed_text item.now) ≤ self.old.room }
+        ensures { Appends (fixed_text item.now) self.old self.new }
+    {
+        self.raw(item);
+        let zeros = [0u8; 3];
+        let padding = (4 - item.len() % 4) % 4;
+        self.raw(&zeros[..padding]);
+    }
+
+    /// Writes opaque data (RFC 4506, section 4.10): its length, its bytes, and zeros as padding.
+    pub fn opaque(&mut self, item: &[u8])
+        requires counted { length item.now < 2 ^ 32 }
+        requires room { length (opaque_text item.now) ≤ self.old.room }
+        ensures { Appends (opaque_text item.now) self.old self.new }
+    {
+        self.u32(item.len() as u32);
+        self.fixed(item);
+    }
+
+    /// Puts these bytes over as many that were written, from `at` on: for what is known only
+    /// later, as the length in front of what was written.
+    pub fn overwrite(&mut self, at: usize, bytes: &[u8])
+        requires { at + length bytes.now ≤ length self.old.bytes }
+        ensures bytes { self.new.bytes ≡ take at self.old.bytes ++ bytes.now ++ drop (at + length bytes.now) self.old.bytes }
+        ensures room { self.new.room ≡ self.old.room }
+    {
+        let place = &mut self.bytes[at..at + bytes.len()];
+        place.copy_from_slice(bytes);
+    }
+
+    /// Keeps the first `len` bytes, and gives back the room of the others.
+    pub fn cut(&mut self, len: usize)
+        requires { len ≤ length self.old.bytes }
+        ensures bytes { self.new.bytes ≡ take len self.old.bytes }
+        ensures room { self.new.room + len ≡ self.old.room + length self.old.bytes }
+    {
+        self.room += self.bytes.len() - len;
+        self.bytes.truncate(len);
+    }
+
+    /// Takes out all that was written, and gives back its room.
+    pub fn clear(&mut self)
+        ensures bytes { self.new.bytes ≡ [] }
+        ensures room { self.new.room ≡ self.old.room + length self.old.bytes }
+    {
+        self.cut(0);
+    }
+
+    // These bytes as they are.
+    fn raw(&mut self, bytes: &[u8])
+        requires { length bytes.now ≤ self.old.room }
+        ensures { Appends bytes.now self.old self.new }
+    {
+        self.room -= bytes.len();
+        self.bytes.extend_from_slice(bytes).unwrap();
+    }
+}
