@@ -2,7 +2,8 @@
 ghost use Rattle.std.specs.Prelude.{length};
 ghost use Rattle.std.specs.Iterator.{at_most};
 
-use nfs_server::event::{Addr, Moment};
+use nfs_attrs::moment::Moment;
+use nfs_server::event::Addr;
 
 /// What a line asks for.
 #[derive(Clone, Copy)]

@@ -1,6 +1,7 @@
 //! NULL calls through the server.
 
-use nfs_server::event::{Addr, Event, Handled, Moment};
+use nfs_attrs::moment::Moment;
+use nfs_server::event::{Addr, Event, Handled};
 use nfs_server::loaded::tree_e;
 use nfs_server::reply_buf::ReplyBuf;
 use nfs_server::server::Server;

@@ -1,7 +1,7 @@
 -- Events, answers, and what a server may choose.
 use Rattle.std.specs.Prelude.{ℕ, List, Option, None, Some}
 use Rattle.nfs_server.specs.declared.event.Addr.{Addr}
-use Rattle.nfs_server.specs.declared.event.Moment.{Moment}
+use Rattle.nfs_attrs.specs.declared.moment.Moment.{Moment}
 
 -- a record from an address at a moment
 pub record Event : Type 0 where

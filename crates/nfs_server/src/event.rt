@@ -3,18 +3,11 @@ ghost use Rattle.std.specs.Prelude.{Bool};
 ghost use Rattle.nfs_server.specs.Events.{Answer};
 ghost use Rattle.nfs_server.specs.Seen.{answer_of};
 
+use nfs_attrs::moment::Moment;
+
 /// An IPv4 address, the first of its four bytes the most significant.
 #[derive(Clone, Copy, Debug, PartialEq, Eq)]
 pub struct Addr(pub u32);
-
-/// A time: seconds and nanoseconds since 1970, any two numbers (RFC 1813, section 2.5, nfstime3).
-#[derive(Clone, Copy, Debug, PartialEq, Eq)]
-pub struct Moment {
-    /// Whole seconds.
-    pub seconds: u32,
-    /// Nanoseconds beyond these.
-    pub nanos: u32,
-}
 
 /// A whole record that comes from an address at a moment.
 #[derive(Clone, Copy)]

@@ -1,5 +1,6 @@
 //! What the tests share.
-use nfs_server::event::{Addr, Event, Moment, Outcome, Sink};
+use nfs_attrs::moment::Moment;
+use nfs_server::event::{Addr, Event, Outcome, Sink};
 use nfs_server::sessions::Sessions;
 use std::alloc::Global;
 use std::process::Abort;

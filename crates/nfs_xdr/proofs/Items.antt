@@ -1,13 +1,13 @@
 -- Reading an item finds its spelling.
-use Rattle.std.proofs.Common.{◌≡◌, ℕ, ◌+◌, ◌-◌, ◌*◌, ◌^◌, ◌<◌, ◌≤◌, Bool, true, false, ltb, eqb, List, [], ◌∷◌, ◌++◌, length, take, drop, if◌then◌else◌, Ok, Err, refl, sym, ap, subst, ◌∙◌, append_assoc, append-nil, take-add, length-drop, arith}
+use Rattle.std.proofs.Common.{◌≡◌, ℕ, ◌+◌, ◌-◌, ◌*◌, ◌^◌, ◌<◌, ◌≤◌, Bool, true, false, ltb, eqb, List, [], ◌∷◌, ◌++◌, length, take, drop, Option, Some, None, if◌then◌else◌, Ok, Err, refl, sym, ap, subst, ◌∙◌, append_assoc, append-nil, take-add, length-drop, arith}
 use Rattle.std.specs.Int.{Width, w32, w64, byte_len, from_be_bytes, to_be_bytes}
 use Rattle.std.proofs.lemmas.Bool.{ltb-false, ltb-true, le-ltb, eqb-true}
 use Rattle.std.proofs.lemmas.List.{take_at, drop_at, take-append-drop, take_rest, length-append, length-take}
 use Rattle.std.proofs.lemmas.Nat.{be_bytes_4, be_bytes_8, from_be_bytes-to_be_bytes_4, from_be_bytes-to_be_bytes_8}
 use Rattle.nfs_xdr.specs.declared.fault.XdrFault.TheVariants.{Short, TooLong, BadBool}
-use Rattle.nfs_xdr.specs.Spelling.{padding, number_of, fixed_text, opaque_text, numbers_text, IsNumber, IsBoolean, IsFixed, IsOpaque, Begins}
-use Rattle.nfs_xdr.specs.Reading.{AreBytes, Finds, number_at, boolean_of, boolean_at, fixed_at, opaque_at}
-use Rattle.nfs_xdr.proofs.Finding.{AreBytes-take, guard_ok, finds_as, Then, finds_then, IsDone, finds_done, IsNothing, finds_fault, IsEither, finds_either}
+use Rattle.nfs_xdr.specs.Spelling.{padding, number_of, fixed_text, opaque_text, numbers_text, IsNumber, IsBoolean, IsEnum, IsOptional, IsFixed, IsOpaque, Begins}
+use Rattle.nfs_xdr.specs.Reading.{Read, AreBytes, Finds, number_at, boolean_of, boolean_at, numbered, known, enum_at, present_at, optional_at, fixed_at, opaque_at}
+use Rattle.nfs_xdr.proofs.Finding.{AreBytes-take, guard_ok, finds_as, Then, finds_then, IsDone, finds_done, IsNothing, finds_fault, IsEither, finds_either, finds_image}
 
 -- what is used of a width
 record IsWide (w : Width) : Type 0 where
@@ -152,6 +152,69 @@ finds_boolean =
     (λ value text s. of_boolean s.first (eqb s.first 0) (eqb s.first 1) value s.front s.back text refl refl s.front_is s.back_is s.text_is)
     to_boolean
     (finds_then (IsNumber w32) BooleanOf (number_at w32) boolean_of finds_u32 finds_boolean_of)
+
+-- ---- enumerations
+
+-- a value that was found, and no bytes
+abbrev IsKnown : {A : Type 0} → Option A → A → List ℕ → Type 0
+IsKnown o value text = (o ≡ Some value) × (text ≡ [])
+
+some_is : {A : Type 0} (v w : A) → Some v ≡ Some w → v ≡ w
+some_is v w e = cc
+
+not_none : {A : Type 0} (v : A) → None ≡ Some v → ⊥
+not_none v e = absurd cc
+
+finds_known : {A : Type 0} (o : Option A) → Finds (IsKnown o) (known o)
+finds_known None = record { found = λ bytes value rest are e. absurd cc; again = λ value text rest s. absurd (not_none value s.0) }
+finds_known (Some v) =
+    finds_as (IsDone v) (IsKnown (Some v)) (known (Some v)) (λ value text s. (ap Some s.value_is, s.text_is)) (λ value text s. record { value_is = some_is v value s.0; text_is = s.1 }) (finds_done v)
+
+numbered_here : {A : Type 0} (number : A → ℕ) (n : ℕ) (v value : A) (b : Bool) (o : Option A) → eqb n (number v) ≡ b → (if b then Some v else o) ≡ Some value → (o ≡ Some value → n ≡ number value) → n ≡ number value
+numbered_here number n v value true o is e later = eqb-true n (number v) is ∙ ap number (some_is v value e)
+numbered_here number n v value false o is e later = later e
+
+numbered_is : {A : Type 0} (number : A → ℕ) (values : List A) (n : ℕ) (value : A) → numbered number values n ≡ Some value → n ≡ number value
+numbered_is number [] n value e = absurd (not_none value e)
+numbered_is number (v ∷ values) n value e = numbered_here number n v value (eqb n (number v)) (numbered number values n) refl e (numbered_is number values n value)
+
+of_enum : {A : Type 0} (number : A → ℕ) (n : ℕ) (value : A) (front back text : List ℕ) → n ≡ number value → IsNumber w32 n front → back ≡ [] → text ≡ front ++ back → IsEnum number value text
+of_enum number n value front back text is spelled none e =
+    let whole : text ≡ front = e ∙ ap (λ t. front ++ t) none ∙ append-nil front in
+    subst (λ t. IsNumber w32 (number value) t) (sym whole) (subst (λ k. IsNumber w32 k front) is spelled)
+
+-- where each value is found by its number
+pub finds_enum : {A : Type 0} (number : A → ℕ) (values : List A) → ((value : A) → numbered number values (number value) ≡ Some value) → Finds (IsEnum number) (enum_at number values)
+finds_enum number values all =
+    finds_as (Then (IsNumber w32) (λ n. IsKnown (numbered number values n))) (IsEnum number) (enum_at number values)
+    (λ value text s. of_enum number s.first value s.front s.back text (numbered_is number values s.first value s.back_is.0) s.front_is s.back_is.1 s.text_is)
+    (λ value text s. record { first = number value; front = text; front_is = s; back = []; back_is = (all value, refl); text_is = sym (append-nil text) })
+    (finds_then (IsNumber w32) (λ n. IsKnown (numbered number values n)) (number_at w32) (λ n bytes. known (numbered number values n) bytes) finds_u32 (λ n. finds_known (numbered number values n)))
+
+-- ---- a value or none
+
+abbrev IsPresent : {A : Type 0} → (A → List ℕ → Type 0) → Option A → List ℕ → Type 0
+IsPresent {A} S o text = (a : A) × (Some a ≡ o) × S a text
+
+of_optional : {A : Type 0} (S : A → List ℕ → Type 0) (b : Bool) (o : Option A) (front back text : List ℕ) → IsBoolean b front → IsEither b (IsPresent S) (IsDone None) o back → text ≡ front ++ back → IsOptional S o text
+of_optional S true o front back text there s e = subst (λ x. IsOptional S x text) s.1 (record { front = front; first = there; back = back; second = s.2; text_is = e })
+of_optional S false o front back text there s e =
+    let whole : text ≡ front = e ∙ ap (λ t. front ++ t) s.text_is ∙ append-nil front in
+    subst (λ x. IsOptional S x text) s.value_is (subst (λ t. IsBoolean false t) (sym whole) there)
+
+to_optional : {A : Type 0} (S : A → List ℕ → Type 0) (o : Option A) (text : List ℕ) → IsOptional S o text → Then IsBoolean (λ b. IsEither b (IsPresent S) (IsDone None)) o text
+to_optional S None text s = record { first = false; front = text; front_is = s; back = []; back_is = record { value_is = refl; text_is = refl }; text_is = sym (append-nil text) }
+to_optional S (Some value) text s = record { first = true; front = s.front; front_is = s.first; back = s.back; back_is = (value, refl, s.second); text_is = s.text_is }
+
+pub finds_optional : {A : Type 0} (S : A → List ℕ → Type 0) (read : List ℕ → Read A) → Finds S read → Finds (IsOptional S) (optional_at read)
+finds_optional S read finds =
+    finds_as (Then IsBoolean (λ b. IsEither b (IsPresent S) (IsDone None))) (IsOptional S) (optional_at read)
+    (λ o text s. of_optional S s.first o s.front s.back text s.front_is s.back_is s.text_is)
+    (to_optional S)
+    (finds_then IsBoolean (λ b. IsEither b (IsPresent S) (IsDone None)) boolean_at (λ b bytes. if b then present_at read bytes else Ok (None, bytes)) finds_boolean
+    (λ b. finds_either b (IsPresent S) (IsDone None) (present_at read) (λ bytes. Ok (None, bytes)) (finds_image S Some read finds) (finds_done None)))
+
+-- ---- opaque data
 
 -- what a reader of opaque data of a fixed length cuts off is spelled there
 pub fixed_found : (n : ℕ) (bytes : List ℕ) → n ≤ length bytes → padding n ≤ length bytes - n → Begins (IsFixed n) (take n bytes) bytes (take (length bytes - (n + padding n)) (drop (n + padding n) bytes))

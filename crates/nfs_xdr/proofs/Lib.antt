@@ -1,3 +1,4 @@
 pub mod Finding
 pub mod Items
 pub mod Knowing
+pub mod Writing

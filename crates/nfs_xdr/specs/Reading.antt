@@ -1,8 +1,8 @@
 -- Reading from left to right: the value and the bytes after it, or the first fault that is met.
-use Rattle.std.specs.Prelude.{◌≡◌, ℕ, ◌+◌, ◌<◌, Bool, true, false, List, ◌++◌, length, take, drop, Result, Ok, Err, if◌then◌else◌, nat_lt, nat_eq, slice_index}
+use Rattle.std.specs.Prelude.{◌≡◌, ℕ, ◌+◌, ◌<◌, Bool, true, false, List, [], ◌∷◌, ◌++◌, length, take, drop, Option, Some, None, Result, Ok, Err, if◌then◌else◌, nat_lt, nat_eq, slice_index}
 use Rattle.std.specs.Int.{Width, w32, byte_len, from_be_bytes}
 use Rattle.nfs_xdr.specs.declared.fault.XdrFault.{XdrFault}
-use Rattle.nfs_xdr.specs.declared.fault.XdrFault.TheVariants.{Short, TooLong, BadBool}
+use Rattle.nfs_xdr.specs.declared.fault.XdrFault.TheVariants.{Short, TooLong, BadBool, BadEnum}
 use Rattle.nfs_xdr.specs.Spelling.{padding, Begins, BeginsNone}
 
 -- a value and the bytes after it, or a fault
@@ -25,6 +25,32 @@ abbrev pub boolean_at : List ℕ → Read Bool
 boolean_at bytes = do
   n ← number_at w32 bytes
   boolean_of n.0 n.1
+
+-- which of some values has this number
+abbrev pub numbered : {A : Type 0} → (A → ℕ) → List A → ℕ → Option A
+numbered number [] n = None
+numbered number (value ∷ values) n = if nat_eq n (number value) then Some value else numbered number values n
+
+abbrev pub known : {A : Type 0} → Option A → List ℕ → Read A
+known None rest = Err BadEnum
+known (Some value) rest = Ok (value, rest)
+
+-- an enumeration of these values
+abbrev pub enum_at : {A : Type 0} → (A → ℕ) → List A → List ℕ → Read A
+enum_at number values bytes = do
+  n ← number_at w32 bytes
+  known (numbered number values n.0) n.1
+
+-- a value where there is one
+abbrev pub present_at : {A : Type 0} → (List ℕ → Read A) → List ℕ → Read (Option A)
+present_at read bytes = do
+  value ← read bytes
+  Ok (Some value.0, value.1)
+
+abbrev pub optional_at : {A : Type 0} → (List ℕ → Read A) → List ℕ → Read (Option A)
+optional_at read bytes = do
+  there ← boolean_at bytes
+  if there.0 then present_at read there.1 else Ok (None, there.1)
 
 -- n bytes and their padding
 abbrev pub fixed_at : ℕ → List ℕ → Read (List ℕ)

@@ -1,5 +1,5 @@
 -- Which bytes spell which value of an XDR item (RFC 4506).
-use Rattle.std.specs.Prelude.{◌≡◌, ℕ, ◌-◌, ◌%◌, ◌^◌, ◌<◌, ◌≤◌, Bool, List, [], ◌∷◌, ◌++◌, length, take, if◌then◌else◌}
+use Rattle.std.specs.Prelude.{◌≡◌, ℕ, ◌-◌, ◌%◌, ◌^◌, ◌<◌, ◌≤◌, Bool, true, false, List, [], ◌∷◌, ◌++◌, Option, Some, None, length, take, if◌then◌else◌}
 use Rattle.std.specs.List.{flat_map}
 use Rattle.std.specs.Int.{Width, w32, byte_len, to_be_bytes}
 
@@ -14,6 +14,10 @@ number_of b = if b then 1 else 0
 
 abbrev pub IsBoolean : Bool → List ℕ → Type 0
 IsBoolean b text = IsNumber w32 (number_of b) text
+
+-- an enumeration: the number of one of its values (section 4.3)
+abbrev pub IsEnum : {A : Type 0} → (A → ℕ) → A → List ℕ → Type 0
+IsEnum number value text = IsNumber w32 (number value) text
 
 -- how many bytes of padding follow n bytes, up to a multiple of four (section 3)
 abbrev pub padding : ℕ → ℕ
@@ -39,6 +43,11 @@ infixr 5 ◌⨾◌
 abbrev pub ◌⨾◌ : (List ℕ → Type 0) → (List ℕ → Type 0) → List ℕ → Type 0
 (First ⨾ Second) text = IsFollowed First Second text
 
+-- a value, or none: a boolean says which (section 4.19)
+abbrev pub IsOptional : {A : Type 0} → (A → List ℕ → Type 0) → Option A → List ℕ → Type 0
+IsOptional Spells None text = IsBoolean false text
+IsOptional Spells (Some value) text = (IsBoolean true ⨾ Spells value) text
+
 -- opaque data of at most max bytes: its length, its bytes, and any padding (section 4.10)
 pub record IsOpaque (max : ℕ) (item text : List ℕ) : Type 0 where
   pub bound : length item ≤ max
@@ -54,6 +63,11 @@ opaque_text item = to_be_bytes w32 (length item) ++ fixed_text item
 -- unsigned integers, one after another
 abbrev pub numbers_text : List ℕ → List ℕ
 numbers_text ns = flat_map (to_be_bytes w32) ns
+
+-- a value behind the boolean that says that it is there, or the boolean that says that none is
+abbrev pub optional_text : {A : Type 0} → (A → List ℕ) → Option A → List ℕ
+optional_text text None = to_be_bytes w32 0
+optional_text text (Some value) = to_be_bytes w32 1 ++ text value
 
 -- at the front of the bytes stands a spelling of the value, and this rest follows it
 pub record Begins {A : Type 0} (Spells : A → List ℕ → Type 0) (value : A) (bytes rest : List ℕ) : Type 0 where

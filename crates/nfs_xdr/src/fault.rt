@@ -14,4 +14,7 @@ pub enum XdrFault {
     /// A boolean is neither 0 nor 1.
     #[error("a boolean is neither 0 nor 1")]
     BadBool,
+    /// An enumeration, or what chooses an arm of a union, is none of its numbers.
+    #[error("a number is none of its enumeration")]
+    BadEnum,
 }

@@ -34,9 +34,10 @@ impl<'a> Input<'a> {
 
     /// What is still to be read.
     pub fn rest(&self) -> &'a [u8]
-        ensures { result.now ≡ self.now }
+        ensures all { result.now ≡ self.now }
+        ensures bytes { AreBytes result.now }
     {
-        self.bytes
+        lent(self.bytes)
     }
 
     /// An unsigned integer (RFC 4506, section 4.2). `Short` where fewer than 4 bytes are left.
@@ -118,4 +119,12 @@ impl<'a> Input<'a> {
             }
         }
     }
+}
+
+// The same bytes. That each is below 256 is known of what is handed over.
+fn lent(bytes: &[u8]) -> &[u8]
+    ensures all { result.now ≡ bytes.now }
+    ensures bytes { AreBytes result.now }
+{
+    bytes
 }

@@ -1,7 +1,7 @@
 //! A list of bytes to which XDR items are written, in room that was made once.
 ghost use Rattle.std.specs.Prelude.{◌≡◌, ℕ, ◌+◌, ◌*◌, ◌^◌, ◌<◌, ◌≤◌, [], ◌++◌, length, take, drop, IfOk};
 ghost use Rattle.std.specs.Int.{w32, w64, to_be_bytes};
-ghost use Rattle.nfs_xdr.specs.Spelling.{number_of, fixed_text, opaque_text, numbers_text};
+ghost use Rattle.nfs_xdr.specs.Spelling.{IsNumber, number_of, fixed_text, opaque_text, numbers_text};
 ghost use Rattle.nfs_xdr.specs.Written.{Written, Appends};
 
 use std::alloc::{AllocError, Global};
@@ -53,7 +53,8 @@ impl Output {
     /// Writes an unsigned integer (RFC 4506, section 4.2).
     pub fn u32(&mut self, n: u32)
         requires { 4 ≤ self.old.room }
-        ensures { Appends (to_be_bytes w32 n) self.old self.new }
+        ensures text { Appends (to_be_bytes w32 n) self.old self.new }
+        ensures spelled { IsNumber w32 n (to_be_bytes w32 n) }
     {
         self.raw(&n.to_be_bytes());
     }
@@ -61,7 +62,8 @@ impl Output {
     /// Writes an unsigned hyper integer (RFC 4506, section 4.5).
     pub fn u64(&mut self, n: u64)
         requires { 8 ≤ self.old.room }
-        ensures { Appends (to_be_bytes w64 n) self.old self.new }
+        ensures text { Appends (to_be_bytes w64 n) self.old self.new }
+        ensures spelled { IsNumber w64 n (to_be_bytes w64 n) }
     {
         self.raw(&n.to_be_bytes());
     }

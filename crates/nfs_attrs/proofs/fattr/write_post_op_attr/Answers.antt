@@ -1,0 +1,5 @@
+use Rattle.nfs_xdr.proofs.Writing.{appends_then}
+use Rattle.nfs_attrs.proofs.fattr.write_post_op_attr.Goals as goal
+
+pub returns-in-Some-clause-text : goal.returns-in-Some-clause-text
+returns-in-Some-clause-text c = rw c.in-Some.is (appends_then _ _ _ _ _ c.u32-in-Some.ensures.text c.write_fattr.ensures.text)

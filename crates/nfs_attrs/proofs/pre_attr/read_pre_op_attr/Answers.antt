@@ -1,0 +1,16 @@
+use Rattle.std.proofs.Common.{rules, sym, ◌∙◌, Option}
+use Rattle.nfs_xdr.specs.Reading.{Gives}
+use Rattle.nfs_attrs.specs.declared.pre_attr.PreAttr.{PreAttr}
+use Rattle.nfs_attrs.specs.Spelling.{IsPreOpAttr}
+use Rattle.nfs_attrs.specs.Reading.{pre_op_attr_at}
+use Rattle.nfs_attrs.proofs.Finds.{found_there, none_there, finds_pre_op_attr}
+use Rattle.nfs_attrs.proofs.pre_attr.read_pre_op_attr.Goals as goal
+
+pub returns-in_err-attributes-clause-reads : goal.returns-in_err-attributes-clause-reads
+returns-in_err-attributes-clause-reads c =
+    let gives : Gives (λ (x : Option PreAttr). x) c.args.input.now c.args.input.now c.from_residual.result (pre_op_attr_at c.args.input.now) = search rules in
+    none_there IsPreOpAttr pre_op_attr_at c.args.input.now c.from_residual.result finds_pre_op_attr c.from_residual.ensures.0 gives
+
+pub returns-clause-reads : goal.returns-clause-reads
+returns-clause-reads c =
+    found_there IsPreOpAttr pre_op_attr_at c.rest.result.now c.args.input.now c.in_ok-attributes.attributes c.in_ok-attributes.rest finds_pre_op_attr c.rest.ensures.bytes c.rest.ensures.all (sym c.pre_op_attr_of.ensures ∙ c.in_ok-attributes.was)
