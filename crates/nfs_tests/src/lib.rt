@@ -7,6 +7,8 @@ mod attributes;
 #[cfg(test)]
 mod framing;
 #[cfg(test)]
+mod handles;
+#[cfg(test)]
 mod items;
 #[cfg(test)]
 mod memory;

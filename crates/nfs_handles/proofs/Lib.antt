@@ -1,0 +1,5 @@
+pub mod Numbers
+pub mod Untagged
+pub mod Lookups
+pub mod Handles
+pub mod Runs

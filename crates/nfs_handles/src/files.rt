@@ -1,0 +1,163 @@
+//! Numbered files: a map from numbers to values.
+ghost use Rattle.std.specs.Prelude.{◌≡◌, ℕ, ◌^◌, ◌<◌, ◌≤◌, ◌≢◌, Some, IsSome, option_copied};
+ghost use Rattle.std.specs.Borrow.{sem};
+ghost use Rattle.std.specs.Option.{option_copied_mut};
+ghost use Rattle.nfs_handles.specs.Numbered.{Numbered, at, value_at, unused, IsNumbered};
+ghost use Rattle.nfs_handles.specs.Handles.{handle_at, live_with, reading};
+ghost use Rattle.nfs_handles.specs.Changes.{Puts, Takes, LendsValue};
+
+use crate::fault::PutFault;
+use crate::number::Number;
+use crate::reading::Reading;
+use std::alloc::Global;
+use std::collections::BTreeMap;
+use std::marker::Model;
+
+// The first bytes of each handle.
+const MAGIC: [u8; 4] = *b"NFS3";
+
+/// Files that each have a number of their own, beside the number of the next and the key of the
+/// server whose files they are. No number is given twice.
+#[derive(Drop)]
+pub struct Files<T> {
+    values: BTreeMap<u64, T>,
+    next: u64,
+    key: [u8; 8],
+}
+
+impl<T> Model for Files<T> {
+    ghost use Rattle.nfs_handles.specs.Numbered.{Numbered, IsNumbered};
+    ghost use Rattle.nfs_handles.specs.Untagged.{untagged};
+
+    ghost Value = { Numbered T };
+
+    ghost view = { λ f. untagged f.values.entries f.next f.key };
+
+    ghost invariant = { λ f. IsNumbered (untagged f.values.entries f.next f.key) };
+}
+
+impl<T: Drop> Files<T> {
+    /// No files; the first will have the number `first`.
+    pub fn new(alloc: Global, key: [u8; 8], first: u64) -> Files<T>
+        requires { 1 ≤ first }
+        ensures { result ≡ unused first key }
+    {
+        Files {
+            values: BTreeMap::new(alloc),
+            next: first,
+            key,
+        }
+    }
+
+    /// What always holds of the files, for proofs: their numbers rise, and each was given.
+    pub fn law(&self)
+        ensures { IsNumbered self.now }
+    {
+        let _ = &self.next;
+    }
+
+    /// The number that the next new file gets, unless it is the last, 2^64 - 1.
+    pub fn next(&self) -> u64
+        ensures { result ≡ self.now.next }
+    {
+        self.next
+    }
+
+    /// The key of the server whose files these are.
+    pub fn key(&self) -> [u8; 8]
+        ensures { result ≡ self.now.key }
+    {
+        self.key
+    }
+
+    /// Adds a file, and answers its number. `Spent` exactly where the next number is 2^64 - 1,
+    /// `Memory` where there is no memory; both hand the value back and change nothing.
+    pub fn put(&mut self, value: T) -> Result<Number, PutFault<T>>
+        ensures { Puts self.old value result self.new }
+    {
+        if self.next == u64::MAX {
+            return Err(PutFault::Spent(value));
+        }
+        let number = self.next;
+        match self.values.insert(number, value) {
+            Ok(_) => {
+                self.next += 1;
+                Ok(Number(number))
+            }
+            Err(failed) => {
+                let (_, value) = failed.value;
+                Err(PutFault::Memory(value))
+            }
+        }
+    }
+
+    /// What the bytes of a handle say.
+    pub fn read(&self, handle: &[u8]) -> Reading
+        ensures { result ≡ reading self.now handle.now }
+    {
+        if handle.len() != 24 || handle[..4] != MAGIC[..] {
+            return Reading::Bad;
+        }
+        if handle[4..12] != self.key[..] {
+            return Reading::Stale;
+        }
+        let t = &handle[12..16];
+        let n = &handle[16..];
+        let tag = u32::from_be_bytes([t[0], t[1], t[2], t[3]]);
+        let number = u64::from_be_bytes([n[0], n[1], n[2], n[3], n[4], n[5], n[6], n[7]]);
+        if number == 0 || self.next <= number {
+            return Reading::Bad;
+        }
+        self.living(tag, number)
+    }
+
+    // What a handle of a number that was given says.
+    fn living(&self, tag: u32, number: u64) -> Reading
+        ensures { result ≡ live_with tag number (at self.now number) }
+    {
+        if !self.values.contains_key(&number) {
+            return Reading::Stale;
+        }
+        if tag == 0 {
+            Reading::Live(Number(number))
+        } else {
+            Reading::Stale
+        }
+    }
+
+    /// The handle of a file that lives. It never names another.
+    pub fn handle(&self, number: Number) -> [u8; 24]
+        requires { IsSome (at self.now number.0) }
+        ensures { handle_at self.now number.0 ≡ Some result }
+    {
+        let [m0, m1, m2, m3] = MAGIC;
+        let [k0, k1, k2, k3, k4, k5, k6, k7] = self.key;
+        let [n0, n1, n2, n3, n4, n5, n6, n7] = number.0.to_be_bytes();
+        [
+            m0, m1, m2, m3, k0, k1, k2, k3, k4, k5, k6, k7, 0, 0, 0, 0, n0, n1, n2, n3, n4, n5, n6,
+            n7,
+        ]
+    }
+
+    /// The file of a number, if it lives.
+    pub fn get(&self, number: Number) -> Option<&T>
+        ensures { option_copied result ≡ value_at self.now number.0 }
+    {
+        self.values.get(&number.0)
+    }
+
+    /// The file of a number, if it lives, to be changed; it keeps its number and its handle.
+    pub fn get_mut(&mut self, number: Number) -> Option<&mut T>
+        ensures* writes_back { sem 𝓛 (LendsValue T.row self.entry number.0 result) }
+        ensures value { option_copied_mut result ≡ value_at self.old number.0 }
+    {
+        self.values.get_mut(&number.0)
+    }
+
+    /// Takes the file of a number away, if it lives. From then on its handle is stale.
+    pub fn take(&mut self, number: Number) -> Option<T>
+        ensures { Takes self.old number.0 result self.new }
+    {
+        self.values.remove(&number.0)
+    }
+}

@@ -1,0 +1,8 @@
+//! Numbered files, and the handles that name them (RFC 1813, section 2.5).
+#![tactic(auto)]
+
+pub mod fault;
+pub mod files;
+pub mod laws;
+pub mod number;
+pub mod reading;
