@@ -4,6 +4,7 @@
 
 mod framing;
 mod null_call;
+mod tree;
 
 use std::process::ExitCode;
 use std::rt::{Clock, Env};
@@ -21,10 +22,16 @@ fn run<R: Env + Clock + Print + AllocGlobal>(rt: &R) -> io::Result<()> {
     match words.first() {
         None => {
             framing::fixed(rt)?;
-            null_call::fixed(rt)
+            null_call::fixed(rt)?;
+            tree::fixed(rt)
         }
         Some(word) if word.as_str() == "framing" => framing::measure(rt),
         Some(word) if word.as_str() == "null" => null_call::measure(rt),
+        Some(word) if word.as_str() == "tree-1000" => tree::measure(rt, 1),
+        Some(word) if word.as_str() == "tree-100000" => tree::measure(rt, 100),
+        Some(word) if word.as_str() == "write" => tree::measure_write(rt),
+        Some(word) if word.as_str() == "hold-0" => tree::hold(rt, 0),
+        Some(word) if word.as_str() == "hold-100000" => tree::hold(rt, 100),
         Some(_) => println!(rt; "no such measure"),
     }
 }

@@ -4,6 +4,7 @@ use Rattle.nfs_rpc.specs.Calls.{Call, head_at}
 use Rattle.nfs_rpc.specs.Replies.{accepted_text}
 use Rattle.nfs_rpc.specs.declared.call.RpcFault.{RpcFault}
 use Rattle.nfs_rpc.specs.declared.reply.Accept.TheVariants.{Success}
+use Rattle.nfs_inodes.specs.Tree.{Tree}
 use Rattle.nfs_server.specs.declared.rpc_rules.RpcRule.{RpcRule}
 use Rattle.nfs_server.specs.Events.{Event, Answer, Choice, Done, silence, replied}
 use Rattle.nfs_server.specs.RpcRules.{rpc_failure_of, rpc_reply}
@@ -12,8 +13,9 @@ use Rattle.nfs_server.specs.RpcRules.{rpc_failure_of, rpc_reply}
 pub record Setup : Type 0 where
   pub places : ℕ
 
--- what events may change: nothing yet
+-- what events may change
 pub record State : Type 0 where
+  pub tree : Tree
 
 -- A call that fails a rule of RPC has its reply, and nothing changes. Else it has its effect: NULL has none.
 abbrev pub Judged : Option RpcRule → State → Call → Answer → State → Type 0

@@ -1,12 +1,96 @@
 //! What a server serves.
+ghost use Rattle.std.specs.Prelude.{IfOk};
+ghost use Rattle.nfs_inodes.specs.Law.{Law};
 
+use nfs_attrs::moment::Moment;
+use nfs_handles::number::Number;
+use nfs_inodes::new_file::NewFile;
+use nfs_inodes::tree::Tree;
 use std::alloc::{AllocError, Global};
 
-/// What a description holds. No volume is served yet.
+/// What a description holds.
 #[derive(Drop)]
-pub struct Loaded {}
+pub struct Loaded {
+    /// The tree of files.
+    pub tree: Tree,
+}
 
-/// The built-in description.
-pub fn tree_e(_alloc: Global) -> Result<Loaded, AllocError> {
-    Ok(Loaded {})
+// The time of everything that is loaded.
+const START: Moment = Moment {
+    seconds: 0,
+    nanos: 0,
+};
+
+/// The built-in description, that of `examples/e.tree`: two volumes with eight files. Refused
+/// without memory.
+pub fn tree_e(alloc: Global) -> Result<Loaded, AllocError>
+    ensures { IfOk result (λ loaded. Law loaded.tree) }
+{
+    let key = [1, 2, 3, 4, 5, 6, 7, 8];
+    let mut tree = Tree::new(alloc, key);
+    let a = volume(&mut tree, b"/a", 20_000_000, 12, &given(0o755, 0, 0))?;
+    let published = directory(&mut tree, a, b"pub", &given(0o777, 1, 1))?;
+    file(&mut tree, published, b"x", &given(0o711, 1, 1), b"hello")?;
+    file(&mut tree, published, b"n", &given(0o710, 1, 1), b"hello")?;
+    file(&mut tree, a, b"g", &given(0o640, 1, 0), b"ok")?;
+    directory(&mut tree, a, b"own", &given(0o007, 5, 5))?;
+    file(&mut tree, a, b"zero", &given(0o000, 5, 5), b"")?;
+    volume(&mut tree, b"/b", 1_000, 4, &given(0o777, 0, 0))?;
+    tree.law();
+    Ok(Loaded { tree })
+}
+
+fn given(mode: u32, uid: u32, gid: u32) -> NewFile {
+    NewFile {
+        mode,
+        uid,
+        gid,
+        atime: START,
+        mtime: START,
+    }
+}
+
+// What the tree may not do is answered as want of memory; for the built-in description there is
+// no such case.
+fn volume(
+    tree: &mut Tree,
+    path: &[u8],
+    max_bytes: u64,
+    max_files: u64,
+    given: &NewFile,
+) -> Result<Number, AllocError> {
+    if !tree.may_add_volume(path, max_files) {
+        return Err(AllocError);
+    }
+    tree.add_volume(path, max_bytes, max_files, given, START)
+}
+
+fn directory(
+    tree: &mut Tree,
+    dir: Number,
+    name: &[u8],
+    given: &NewFile,
+) -> Result<Number, AllocError> {
+    if !tree.may_make_dir(dir, name) {
+        return Err(AllocError);
+    }
+    tree.make_dir(dir, name, given, START)
+}
+
+fn file(
+    tree: &mut Tree,
+    dir: Number,
+    name: &[u8],
+    given: &NewFile,
+    bytes: &[u8],
+) -> Result<Number, AllocError> {
+    if !tree.may_make(dir, name, 0) {
+        return Err(AllocError);
+    }
+    let number = tree.make_file(dir, name, 0, given, None, START)?;
+    if !tree.may_write(number, 0, bytes.len()) {
+        return Err(AllocError);
+    }
+    tree.write_at(number, 0, bytes, START)?;
+    Ok(number)
 }

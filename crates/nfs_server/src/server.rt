@@ -11,6 +11,7 @@ use crate::event::{Event, Handled, Outcome, Sink};
 use crate::loaded::Loaded;
 use crate::reply_buf::ReplyBuf;
 use crate::rpc_rules::rpc_failure;
+use nfs_inodes::tree::Tree;
 use nfs_rpc::call::read_call;
 use std::alloc::{AllocError, Global};
 use std::marker::Model;
@@ -18,6 +19,7 @@ use std::marker::Model;
 /// An NFS version 3 server with its MOUNT service.
 #[derive(Drop)]
 pub struct Server {
+    tree: Tree,
     cache: usize,
 }
 
@@ -26,7 +28,7 @@ impl Model for Server {
 
     ghost Value = { Held };
 
-    ghost view = { λ s. record { setup = record { places = s.cache }; state = record {} } };
+    ghost view = { λ s. record { setup = record { places = s.cache }; state = record { tree = s.tree } } };
 }
 
 impl Server {
@@ -36,10 +38,20 @@ impl Server {
         requires some { 1 ≤ cache }
         requires few { cache ≤ 1024 }
         ensures setup { IfOk result (λ server. server.setup ≡ record { places = cache }) }
+        ensures tree { IfOk result (λ server. server.state.tree ≡ loaded.tree) }
         ensures fits { IfOk result (λ server. Fits (record { opening = server.state; done = [] }) server) }
     {
-        let _ = loaded;
-        Ok(Server { cache })
+        Ok(Server {
+            tree: loaded.tree,
+            cache,
+        })
+    }
+
+    /// The tree that is served.
+    pub fn tree(&self) -> &Tree
+        ensures { result.now ≡ self.now.state.tree }
+    {
+        &self.tree
     }
 
     /// Takes one whole record. For every past that fits before, the answer is a step after it,

@@ -18,3 +18,7 @@ mod records;
 mod sessions;
 #[cfg(test)]
 mod support;
+#[cfg(test)]
+mod tree;
+#[cfg(test)]
+mod tree_memory;

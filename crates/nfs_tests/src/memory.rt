@@ -8,6 +8,7 @@ use nfs_server::server::Server;
 use nfs_server::sessions::{SessionFault, Sessions};
 use nfs_xdr::device::Device;
 use nfs_xdr::output::Output;
+use std::alloc::{AllocError, Global};
 use std::test::Fail;
 
 /// More rounds than there are blocks of ballast.
@@ -91,16 +92,20 @@ fn a_connection_without_memory_ends(rt: HostRuntime) -> Result<(), Fail> {
     Ok(())
 }
 
+/// All that a server needs.
+fn sessions(alloc: Global) -> Result<Sessions, AllocError> {
+    let server = Server::new(alloc, tree_e(alloc)?, 128)?;
+    Sessions::new(alloc, server)
+}
+
 #[test]
 fn sessions_are_refused_until_there_is_memory(rt: HostRuntime) -> Result<(), Fail> {
     let alloc = rt.alloc();
     let mut ballast = Ballast::new(alloc)?;
     let mut refused = 0u32;
     for _ in 0..ROUNDS {
-        if let Ok(server) = Server::new(alloc, tree_e(alloc)?, 128) {
-            if Sessions::new(alloc, server).is_ok() {
-                break;
-            }
+        if sessions(alloc).is_ok() {
+            break;
         }
         refused = refused.saturating_add(1);
         assert!(rt; ballast.lighten());

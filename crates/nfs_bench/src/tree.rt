@@ -1,0 +1,150 @@
+//! The tree: what is read of small and of large ones, and bytes that are written.
+
+use nfs_attrs::moment::Moment;
+use nfs_handles::number::Number;
+use nfs_inodes::new_file::NewFile;
+use nfs_inodes::tree::Tree;
+use std::alloc::{AllocError, Global};
+use std::io;
+use std::rt::Clock;
+use std::time::Instant;
+
+const ROUNDS: u32 = 1_000_000;
+
+const START: Moment = Moment {
+    seconds: 0,
+    nanos: 0,
+};
+
+const GIVEN: NewFile = NewFile {
+    mode: 0o755,
+    uid: 0,
+    gid: 0,
+    atime: START,
+    mtime: START,
+};
+
+// The files of one directory.
+const FILES: u32 = 1_000;
+
+/// Makes a small tree, and prints how many files it has and what is read of them.
+pub(crate) fn fixed<R: Print + AllocGlobal>(rt: &R) -> io::Result<()> {
+    let mut tree = grown(rt.alloc(), 1)?;
+    let links = attributes(&tree, 3);
+    let found = look_up(&tree, 3);
+    write(&mut tree, &[7; 1000], 3);
+    let length = tree.bytes_at(Number(3), 0).len();
+    println!(rt;
+        "made {} files, {links} links, found {found}, wrote {length} bytes",
+        tree.next_number().saturating_sub(1)
+    )
+}
+
+/// Prints the nanoseconds of a look-up, in a directory of a thousand files, and of a file's
+/// attributes, in tenths, the least of five runs, in a tree of so many thousand files.
+pub(crate) fn measure<R: Clock + Print + AllocGlobal>(rt: &R, thousands: u32) -> io::Result<()> {
+    let tree = grown(rt.alloc(), thousands)?;
+    let mut links = u128::MAX;
+    let mut names = u128::MAX;
+    for _ in 0..5u8 {
+        let start = Instant::now(rt)?;
+        let _ = attributes(&tree, ROUNDS);
+        links = links.min(start.elapsed(rt)?.as_nanos() / u128::from(ROUNDS / 10));
+        let start = Instant::now(rt)?;
+        let _ = look_up(&tree, ROUNDS / 100);
+        names = names.min(start.elapsed(rt)?.as_nanos() / u128::from(ROUNDS / 1000));
+    }
+    println!(rt; "attributes {}.{}", links / 10, links % 10)?;
+    println!(rt; "lookup {}.{}", names / 10, names % 10)
+}
+
+/// Prints the nanoseconds of writing 64 KiB over a file's bytes, in tenths, the least of five
+/// runs.
+pub(crate) fn measure_write<R: Clock + Print + AllocGlobal>(rt: &R) -> io::Result<()> {
+    let mut tree = grown(rt.alloc(), 1)?;
+    let mut bytes = Vec::new(rt.alloc());
+    bytes.resize(65_536, 7)?;
+    let mut least = u128::MAX;
+    for _ in 0..5u8 {
+        let start = Instant::now(rt)?;
+        write(&mut tree, bytes.as_slice(), ROUNDS / 10);
+        least = least.min(start.elapsed(rt)?.as_nanos() / u128::from(ROUNDS / 100));
+    }
+    println!(rt; "write {}.{}", least / 10, least % 10)
+}
+
+/// Holds a tree of so many thousand empty files, and prints how many files it has.
+pub(crate) fn hold<R: Print + AllocGlobal>(rt: &R, thousands: u32) -> io::Result<()> {
+    let tree = grown(rt.alloc(), thousands)?;
+    println!(rt; "held {}", tree.next_number().saturating_sub(1))
+}
+
+// A volume with so many directories of a thousand empty files each.
+fn grown(alloc: Global, thousands: u32) -> Result<Tree, AllocError> {
+    let mut tree = Tree::new(alloc, [0; 8]);
+    if tree.may_add_volume(b"/", 1_000_000) {
+        tree.add_volume(b"/", 1_000_000, 1_000_000, &GIVEN, START)?;
+    }
+    for place in 0..thousands {
+        fill(&mut tree, place)?;
+    }
+    Ok(tree)
+}
+
+// One directory of a thousand files.
+fn fill(tree: &mut Tree, place: u32) -> Result<(), AllocError> {
+    let name = letters(place);
+    if !tree.may_make_dir(Number(1), &name) {
+        return Ok(());
+    }
+    let dir = tree.make_dir(Number(1), &name, &GIVEN, START)?;
+    for file in 0..FILES {
+        let name = letters(file);
+        if tree.may_make(dir, &name, 0) {
+            tree.make_file(dir, &name, 0, &GIVEN, None, START)?;
+        }
+    }
+    Ok(())
+}
+
+// A name of four letters for a number below 65,536.
+fn letters(number: u32) -> [u8; 4] {
+    let letter = |shift: u32| b'a' + (number >> shift & 15) as u8;
+    [letter(12), letter(8), letter(4), letter(0)]
+}
+
+// So many times the attributes of files one after another: the sum of their links.
+fn attributes(tree: &Tree, rounds: u32) -> u64 {
+    let mut links = 0u64;
+    let mut number = 1u64;
+    for _ in 0..rounds {
+        match tree.attributes(Number(number)) {
+            Some(attributes) => {
+                links = links.saturating_add(u64::from(attributes.nlink));
+                number = number.saturating_add(1);
+            }
+            None => number = 1,
+        }
+    }
+    links
+}
+
+// So many names looked up in the first directory of files: how many were found.
+fn look_up(tree: &Tree, rounds: u32) -> u64 {
+    let mut found = 0u64;
+    for round in 0..rounds {
+        if tree.lookup(Number(2), &letters(round % FILES)).is_some() {
+            found = found.saturating_add(1);
+        }
+    }
+    found
+}
+
+// So many times these bytes over those of the first file.
+fn write(tree: &mut Tree, bytes: &[u8], rounds: u32) {
+    for _ in 0..rounds {
+        if tree.may_write(Number(3), 0, bytes.len()) {
+            let _ = tree.write_at(Number(3), 0, bytes, START);
+        }
+    }
+}

@@ -1,0 +1,16 @@
+pub mod Lists
+pub mod Maps
+pub mod Alike
+pub mod Gains
+pub mod Births
+pub mod Bytes
+pub mod Operations
+pub mod Keeping
+pub mod KeepingMore
+pub mod Shelves
+pub mod Views
+pub mod Makings
+pub mod Tests
+pub mod Readers
+pub mod Example
+pub mod Climbs

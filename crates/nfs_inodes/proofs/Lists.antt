@@ -1,0 +1,56 @@
+-- Cases of tests, options and lists with one value more.
+use Rattle.std.proofs.Common.{inl, inr, ◌≡◌, ◌≢◌, ◌⊎◌, ℕ, suc, zero, Bool, true, false, cond, List, [], ◌∷◌, ◌++◌, length, Option, Some, None, refl, ap, arith}
+use Rattle.std.proofs.lemmas.Bool.{cases_eq}
+use Rattle.std.specs.Prelude.{Contains, slice_get}
+
+pub by_test : {P : Type 0} (b : Bool) → (b ≡ true → P) → (b ≡ false → P) → P
+by_test true p q = p refl
+by_test false p q = q refl
+
+pub if_true : {A : Type 0} {b : Bool} (x y : A) → b ≡ true → cond b x y ≡ x
+if_true x y e = ap (λ b. cond b x y) e
+
+pub if_false : {A : Type 0} {b : Bool} (x y : A) → b ≡ false → cond b x y ≡ y
+if_false x y e = ap (λ b. cond b x y) e
+
+-- numbers are the same or not
+pub by_number : {P : Type 0} (m n : ℕ) → (m ≡ n → P) → (m ≢ n → P) → P
+by_number m n p q = elim (cases_eq m n) [
+  | inl k ↦ p k
+  | inr k ↦ q k
+]
+
+pub same_some : {X : Type 0} {x y : X} → Some x ≡ Some y → x ≡ y
+same_some e = cc
+
+pub not_both : {X : Type 0} {o : Option X} {x : X} → o ≡ None → o ≡ Some x → ⊥
+not_both e f = cc
+
+-- where no value was, none is
+pub none_from : {X : Type 0} (o : Option X) → ((x : X) → o ≡ Some x → ⊥) → o ≡ None
+none_from None h = refl
+none_from (Some x) h = absurd (h x refl)
+
+pub not_in_empty : {X : Type 0} (xs : List X) (x : X) → xs ≡ [] → Contains xs x → ⊥
+not_in_empty [] x e c = absurd (let l = c.1 in omega (arith, l))
+not_in_empty (y ∷ ys) x e c = cc
+
+-- ---- a list with one value more
+
+pub get_push_old : {X : Type 0} (xs : List X) (y x : X) (i : ℕ) → slice_get xs i ≡ Some x → slice_get (xs ++ y ∷ []) i ≡ Some x
+get_push_old [] y x i e = cc
+get_push_old (z ∷ xs) y x zero e = e
+get_push_old (z ∷ xs) y x (suc i) e = get_push_old xs y x i e
+
+pub get_push_new : {X : Type 0} (xs : List X) (y : X) → slice_get (xs ++ y ∷ []) (length xs) ≡ Some y
+get_push_new [] y = refl
+get_push_new (z ∷ xs) y = get_push_new xs y
+
+pub get_push : {X : Type 0} (xs : List X) (y x : X) (i : ℕ) → slice_get (xs ++ y ∷ []) i ≡ Some x → (slice_get xs i ≡ Some x) ⊎ ((i ≡ length xs) × (y ≡ x))
+get_push [] y x zero e = inr (refl, cc)
+get_push [] y x (suc i) e = inl e
+get_push (z ∷ xs) y x zero e = inl e
+get_push (z ∷ xs) y x (suc i) e = elim (get_push xs y x i e) [
+  | inl was ↦ inl was
+  | inr is ↦ inr (ap suc is.0, is.1)
+]

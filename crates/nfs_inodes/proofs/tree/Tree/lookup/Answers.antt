@@ -1,0 +1,15 @@
+use Rattle.std.proofs.Common.{bytes_eq, option_map, List, [], ap, ◌∙◌, refl}
+use Rattle.std.specs.List.{find}
+use Rattle.nfs_inodes.specs.Tree.{File, Entry}
+use Rattle.nfs_inodes.specs.Listing.{kind_of}
+use Rattle.nfs_inodes.specs.Reading.{listing}
+use Rattle.nfs_inodes.proofs.Readers.{seen, unseen}
+use Rattle.nfs_inodes.proofs.tree.Tree.lookup.Goals as goal
+
+pub returns-in-Some : goal.returns-in-Some
+returns-in-Some c = c.under_name.ensures ∙ ap (λ (l : List Entry). option_map (λ (e : Entry). e.number) (find (λ (e : Entry). bytes_eq e.name c.args.name.now) l))
+    (seen c.self.inside.files c.self.inside.volumes.items c.args.self.now c.self.view_is [] (λ (f : File). listing c.args.dir.0 f.kind) c.args.dir.0 c.in-Some.inode.now (listing c.args.dir.0 (kind_of c.in-Some.inode.now.node)) c.in-Some.ensures (λ tag. refl))
+
+pub returns-in-None : goal.returns-in-None
+returns-in-None c = ap (λ (l : List Entry). option_map (λ (e : Entry). e.number) (find (λ (e : Entry). bytes_eq e.name c.args.name.now) l))
+    (unseen c.self.inside.files c.self.inside.volumes.items c.args.self.now c.self.view_is [] (λ (f : File). listing c.args.dir.0 f.kind) c.args.dir.0 c.in-None.ensures)

@@ -1,0 +1,11 @@
+use Rattle.std.proofs.Common.{length, sym, ap, subst, ◌∙◌}
+use Rattle.nfs_inodes.specs.Tree.{Regular}
+use Rattle.nfs_inodes.specs.Adding.{MayAdd}
+use Rattle.nfs_inodes.proofs.Bytes.{length_zeros}
+use Rattle.nfs_inodes.proofs.Makings.{may_add, fresh_file, impossible}
+use Rattle.nfs_inodes.proofs.tree.Tree.make_file.Goals as goal
+
+pub make-requires : goal.make-requires
+make-requires c = subst (λ name. MayAdd c.args.self.now c.args.dir.0 name c.new-inode.result) (sym c.in_ok-name.ensures)
+    (may_add c.args.self.now c.args.dir.0 c.args.size c.args.name.now (Regular c.in_ok-content.content.items) c.args.given.now c.args.verifier c.args.now c.new-inode.result c.place.result c.requires c.place.ensures c.new-inode.ensures.file c.new-inode.ensures.nlink
+    (fresh_file c.args.dir.0 c.args.size c.in_ok-content.content.items (ap length c.in_ok-content.ensures ∙ length_zeros c.args.size)) impossible)

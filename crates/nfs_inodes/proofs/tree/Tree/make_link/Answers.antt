@@ -1,0 +1,10 @@
+use Rattle.std.proofs.Common.{◌≤◌, None, List, ℕ, length, sym, subst}
+use Rattle.nfs_inodes.specs.Tree.{Link}
+use Rattle.nfs_inodes.specs.Adding.{MayAdd}
+use Rattle.nfs_inodes.proofs.Makings.{may_add, fresh_link, impossible}
+use Rattle.nfs_inodes.proofs.tree.Tree.make_link.Goals as goal
+
+pub make-requires : goal.make-requires
+make-requires c = subst (λ name. MayAdd c.args.self.now c.args.dir.0 name c.new-inode.result) (sym c.in_ok-name.ensures)
+    (may_add c.args.self.now c.args.dir.0 0 c.args.name.now (Link c.in_ok-path.path.items) c.args.given.now None c.args.now c.new-inode.result c.place.result c.requires.make c.place.ensures c.new-inode.ensures.file c.new-inode.ensures.nlink
+    (fresh_link c.args.dir.0 c.in_ok-path.path.items (subst (λ (p : List ℕ). length p ≤ 1024) (sym c.in_ok-path.ensures) c.requires.long)) impossible)

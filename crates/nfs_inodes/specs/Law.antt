@@ -1,0 +1,90 @@
+-- The law of the tree, where file x may as yet be named by no entry; 0 is no file.
+use Rattle.std.specs.Prelude.{suc, zero, ◌≡◌, ◌≢◌, ℕ, ◌≤◌, ◌<◌, true, false, List, [], ◌∷◌, length, Some, None, All, AllPairs, Contains, slice_get, filter}
+use Rattle.nfs_inodes.specs.Tree.{Tree, File, Entry, Volume, at, on_some, is_directory, entries_in, parent_in, next_cookie_in, bytes_in, path_in, names_of, nlink, bytes_of, files_of}
+
+-- 1 to 255 bytes, none 0 or `/`, neither `.` nor `..`
+pub record IsName (name : List ℕ) : Type 0 where
+  pub some : 1 ≤ length name
+  pub few : length name ≤ 255
+  pub bytes : All (λ byte. (byte ≢ 0) × (byte ≢ 47)) name
+  pub no_dot : name ≢ 46 ∷ []
+  pub no_dot_dot : name ≢ 46 ∷ 46 ∷ []
+
+-- what is true of one file alone
+pub record IsSound (f : File) : Type 0 where
+  pub mode : f.mode < 4096
+  pub bytes : length (bytes_in f.kind) ≤ 16777216
+  pub path : length (path_in f.kind) ≤ 1024
+  pub names : All (λ e. IsName e.name) (entries_in f.kind)
+  pub cookies : All (λ e. (3 ≤ e.cookie) × (e.cookie < next_cookie_in f.kind)) (entries_in f.kind)
+  pub next_cookie : is_directory f.kind ≡ true → 3 ≤ next_cookie_in f.kind
+  pub apart : AllPairs (λ e g. (e.name ≢ g.name) × (e.cookie < g.cookie)) (entries_in f.kind)
+
+-- numbers rise, all above the low one and below the next one
+abbrev pub AreRising : {X : Type 0} → ℕ → List (ℕ × X) → ℕ → Type 0
+AreRising low [] next = low < next
+AreRising low (e ∷ es) next = (low < e.0) × AreRising e.0 es next
+
+-- the parent of a directory
+abbrev pub parent_of : List (ℕ × File) → ℕ → ℕ
+parent_of files n = on_some (at n files) 0 (λ f. parent_in f.kind)
+
+-- where so many steps to the parent lead
+abbrev pub climb : ℕ → List (ℕ × File) → ℕ → ℕ
+climb zero files n = n
+climb (suc steps) files n = climb steps files (parent_of files n)
+
+-- the directories among the files
+abbrev pub directories : List (ℕ × File) → List (ℕ × File)
+directories files = filter (λ e. is_directory e.1.kind) files
+
+-- a number is the root of a volume
+abbrev pub IsRoot : List Volume → ℕ → Type 0
+IsRoot volumes n = (place : ℕ) × (v : Volume) × (slice_get volumes place ≡ Some v) × (v.root ≡ n)
+
+-- a file lives under a number
+abbrev pub Lives : Tree → ℕ → File → Type 0
+Lives t n f = at n t.files ≡ Some f
+
+abbrev pub LivesAsDirectory : Tree → ℕ → File → Type 0
+LivesAsDirectory t n f = (at n t.files ≡ Some f) × (is_directory f.kind ≡ true)
+
+-- at most 64 volumes, with different paths of at most 255 bytes
+pub record AreVolumes (volumes : List Volume) : Type 0 where
+  pub few : length volumes ≤ 64
+  pub paths : All (λ v. length v.path ≤ 255) volumes
+  pub apart : AllPairs (λ v w. v.path ≢ w.path) volumes
+
+pub record LawBut (x : ℕ) (t : Tree) : Type 0 where
+  pub rising : AreRising 0 t.files t.next
+  pub sound : (n : ℕ) (f : File) → Lives t n f → IsSound f
+  pub placed : (n : ℕ) (f : File) → Lives t n f → (v : Volume) × (slice_get t.volumes f.volume ≡ Some v)
+  -- every entry names a file of the same volume, and what isn't there isn't named
+  pub entries : (d : ℕ) (f : File) (e : Entry) → Lives t d f → Contains (entries_in f.kind) e → (g : File) × Lives t e.number g × (g.volume ≡ f.volume)
+  pub absent : (n : ℕ) → at n t.files ≡ None → names_of n t.files ≡ 0
+  -- a root is a directory of its volume, its own parent, and no entry names it
+  pub roots : (place : ℕ) (v : Volume) → slice_get t.volumes place ≡ Some v → (f : File) × LivesAsDirectory t v.root f × (parent_in f.kind ≡ v.root) × (f.volume ≡ place) × (names_of v.root t.files ≡ 0)
+  -- every other directory is named by one entry, which stands in its parent
+  pub once : (n : ℕ) (f : File) → n ≢ x → LivesAsDirectory t n f → (IsRoot t.volumes n → ⊥) → names_of n t.files ≡ 1
+  pub parents : (d : ℕ) (f : File) (e : Entry) (g : File) → Lives t d f → Contains (entries_in f.kind) e → LivesAsDirectory t e.number g → parent_in g.kind ≡ d
+  pub stands : (n : ℕ) (f : File) → n ≢ x → LivesAsDirectory t n f → (IsRoot t.volumes n → ⊥) → (p : File) × Lives t (parent_in f.kind) p × (e : Entry) × Contains (entries_in p.kind) e × (e.number ≡ n)
+  -- a parent is a directory of the same volume, and steps to the parent lead to the root
+  pub homes : (n : ℕ) (f : File) → LivesAsDirectory t n f → (p : File) × LivesAsDirectory t (parent_in f.kind) p × (p.volume ≡ f.volume)
+  pub reached : (n : ℕ) (f : File) → LivesAsDirectory t n f → (steps : ℕ) × (v : Volume) × (slice_get t.volumes f.volume ≡ Some v) × (climb steps t.files n ≡ v.root)
+  -- every other file has a name
+  pub named : (n : ℕ) (f : File) → n ≢ x → Lives t n f → is_directory f.kind ≡ false → 1 ≤ names_of n t.files
+  pub links : (n : ℕ) (f : File) → Lives t n f → nlink t.files n f ≤ 1000
+  pub volumes : AreVolumes t.volumes
+  pub bytes : (place : ℕ) (v : Volume) → slice_get t.volumes place ≡ Some v → bytes_of place t.files ≤ v.max_bytes
+  pub count : (place : ℕ) (v : Volume) → slice_get t.volumes place ≡ Some v → files_of place t.files ≤ v.max_files
+
+abbrev pub Law : Tree → Type 0
+Law t = LawBut 0 t
+
+-- steps to the parent lead to the root of the file's volume, at most as many as there are directories
+pub record IsReached (t : Tree) (n : ℕ) (f : File) : Type 0 where
+  pub volume : Volume
+  pub at_volume : slice_get t.volumes f.volume ≡ Some volume
+  pub steps : ℕ
+  pub few : steps ≤ length (directories t.files)
+  pub root : climb steps t.files n ≡ volume.root

@@ -1,0 +1,11 @@
+pub mod Tree
+pub mod Reading
+pub mod Shown
+pub mod Law
+pub mod Changes
+pub mod May
+pub mod Kept
+pub mod Listing
+pub mod Inodes
+pub mod Adding
+pub mod Example

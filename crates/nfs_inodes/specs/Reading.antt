@@ -1,0 +1,124 @@
+-- What is read of the tree.
+use Rattle.std.specs.Prelude.{◌≡◌, ℕ, ◌+◌, Bool, List, [], ◌∷◌, ◌++◌, length, nat_lt, bytes_eq, Option, Some, None, option_map, slice_get, map, if◌then◌else◌}
+use Rattle.std.specs.List.{find}
+use Rattle.nfs_attrs.specs.declared.fattr.Fattr.{Fattr}
+use Rattle.nfs_attrs.specs.declared.file_type.FileType.{FileType}
+use Rattle.nfs_attrs.specs.declared.file_type.FileType.TheVariants as file_type
+use Rattle.nfs_handles.specs.Numbered.{Numbered}
+use Rattle.nfs_inodes.specs.declared.volumes.Totals.{Totals}
+use Rattle.nfs_inodes.specs.Tree.{Tree, File, Kind, Entry, Volume, Regular, Directory, Link, at, on_some, bytes_in, nlink, bytes_of, files_of}
+
+-- ---- directories
+
+-- the names `.` and `..`
+abbrev pub dot : List ℕ
+dot = 46 ∷ []
+
+abbrev pub dot_dot : List ℕ
+dot_dot = 46 ∷ 46 ∷ []
+
+-- what directory d lists: itself, its parent, and its entries (RFC 1813, section 3.3.16)
+abbrev pub listing : ℕ → Kind → List Entry
+listing d (Regular bytes) = []
+listing d (Directory parent next_cookie entries) = record { cookie = 1; name = dot; number = d } ∷ record { cookie = 2; name = dot_dot; number = parent } ∷ entries
+listing d (Link path) = []
+
+abbrev pub listed : Tree → ℕ → List Entry
+listed t d = on_some (at d t.files) [] (λ f. listing d f.kind)
+
+-- the number under a name in directory d
+abbrev pub found : Tree → ℕ → List ℕ → Option ℕ
+found t d name = option_map (λ (e : Entry). e.number) (find (λ e. bytes_eq e.name name) (listed t d))
+
+-- what directory d lists first after a cookie
+abbrev pub entry_after : Tree → ℕ → ℕ → Option Entry
+entry_after t d cookie = find (λ e. nat_lt cookie e.cookie) (listed t d)
+
+abbrev pub cookie_of_next : Kind → Option ℕ
+cookie_of_next (Regular bytes) = None
+cookie_of_next (Directory parent next_cookie entries) = Some next_cookie
+cookie_of_next (Link path) = None
+
+-- the cookie that the next entry of a directory takes
+abbrev pub next_cookie_at : Tree → ℕ → Option ℕ
+next_cookie_at t d = on_some (at d t.files) None (λ f. cookie_of_next f.kind)
+
+-- ---- attributes
+
+abbrev pub type_of : Kind → FileType
+type_of (Regular bytes) = file_type.Regular
+type_of (Directory parent next_cookie entries) = file_type.Directory
+type_of (Link path) = file_type.SymbolicLink
+
+-- the bytes of a regular file, the bytes of a link's path, and 4096 for a directory
+abbrev pub size_of : Kind → ℕ
+size_of (Regular bytes) = length bytes
+size_of (Directory parent next_cookie entries) = 4096
+size_of (Link path) = length path
+
+-- the attributes of file n (RFC 1813, section 2.6, fattr3)
+abbrev pub attributes_of : ℕ → File → ℕ → Fattr
+attributes_of n f links = record {
+  file_type = type_of f.kind;
+  mode = f.mode;
+  nlink = links;
+  uid = f.uid;
+  gid = f.gid;
+  size = size_of f.kind;
+  used = size_of f.kind;
+  rdev = record { specdata1 = 0; specdata2 = 0 };
+  fsid = f.volume + 1;
+  fileid = n;
+  atime = f.atime;
+  mtime = f.mtime;
+  ctime = f.ctime;
+}
+
+abbrev pub attributes_at : Tree → ℕ → Option Fattr
+attributes_at t n = option_map (λ f. attributes_of n f (nlink t.files n f)) (at n t.files)
+
+-- ---- content
+
+-- the bytes of a regular file; of another none
+abbrev pub bytes_at : Tree → ℕ → List ℕ
+bytes_at t n = on_some (at n t.files) [] (λ f. bytes_in f.kind)
+
+-- the first of some bytes, some of them where there are any
+pub record IsRun (run bytes : List ℕ) : Type 0 where
+  pub rest : List ℕ
+  pub bytes_are : bytes ≡ run ++ rest
+  pub some : run ≡ [] → bytes ≡ []
+
+abbrev pub path_of : Kind → Option (List ℕ)
+path_of (Regular bytes) = None
+path_of (Directory parent next_cookie entries) = None
+path_of (Link path) = Some path
+
+-- the path of a link
+abbrev pub path_at : Tree → ℕ → Option (List ℕ)
+path_at t n = on_some (at n t.files) None (λ f. path_of f.kind)
+
+-- that of the exclusive CREATE that made the file
+abbrev pub verifier_at : Tree → ℕ → Option (List ℕ)
+verifier_at t n = on_some (at n t.files) None (λ f. f.verifier)
+
+-- ---- volumes
+
+-- the first place whose value passes
+abbrev pub place_where : {X : Type 0} → (X → Bool) → List X → Option ℕ
+place_where p [] = None
+place_where p (x ∷ xs) = if p x then Some 0 else option_map (λ n. n + 1) (place_where p xs)
+
+-- the place of the volume of a path
+abbrev pub place_named : Tree → List ℕ → Option ℕ
+place_named t path = place_where (λ (v : Volume). bytes_eq v.path path) t.volumes
+
+-- how many bytes and files the volume at a place has
+abbrev pub totals_at : Tree → ℕ → Option Totals
+totals_at t place = option_map (λ (v : Volume). record { bytes = bytes_of place t.files; files = files_of place t.files }) (slice_get t.volumes place)
+
+-- ---- handles
+
+-- the files with their tags
+abbrev pub numbered : Tree → Numbered File
+numbered t = record { files = map (λ e. (e.0, record { tag = e.1.tag; value = e.1 })) t.files; next = t.next; key = t.key }

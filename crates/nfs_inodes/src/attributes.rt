@@ -1,0 +1,72 @@
+//! The attributes of files.
+ghost use Rattle.std.specs.Prelude.{◌≡◌, ℕ, ◌<◌};
+ghost use Rattle.nfs_inodes.specs.Listing.{file_of, kind_of};
+ghost use Rattle.nfs_inodes.specs.Reading.{attributes_at};
+ghost use Rattle.nfs_inodes.specs.Reading as spec;
+
+use crate::inode::{Inode, Node};
+use crate::tree::Tree;
+use nfs_attrs::fattr::{Fattr, SpecData};
+use nfs_attrs::file_type::FileType;
+use nfs_handles::number::Number;
+
+// What a directory is said to have, in bytes.
+const DIRECTORY_SIZE: u64 = 4096;
+
+impl Tree {
+    /// The attributes of a file (RFC 1813, section 2.6, fattr3), found without a walk. `None`
+    /// where none lives under the number.
+    pub fn attributes(&self, number: Number) -> Option<Fattr>
+        ensures { result ≡ attributes_at self.now number.0 }
+    {
+        match self.files.get(number) {
+            Some(inode) => Some(attributes_of(inode, number)),
+            None => None,
+        }
+    }
+}
+
+fn attributes_of(inode: &Inode, number: Number) -> Fattr
+    requires { inode.now.volume < 64 }
+    ensures { result ≡ spec.attributes_of number.0 (file_of 0 inode.now) inode.now.nlink }
+{
+    let size = size_of(&inode.node);
+    Fattr {
+        file_type: type_of(&inode.node),
+        mode: inode.mode,
+        nlink: inode.nlink,
+        uid: inode.uid,
+        gid: inode.gid,
+        size,
+        used: size,
+        rdev: SpecData {
+            specdata1: 0,
+            specdata2: 0,
+        },
+        fsid: inode.volume as u64 + 1,
+        fileid: number.0,
+        atime: inode.atime,
+        mtime: inode.mtime,
+        ctime: inode.ctime,
+    }
+}
+
+fn type_of(node: &Node) -> FileType
+    ensures { result ≡ spec.type_of (kind_of node.now) }
+{
+    match node {
+        Node::Regular(_) => FileType::Regular,
+        Node::Directory { .. } => FileType::Directory,
+        Node::Link(_) => FileType::SymbolicLink,
+    }
+}
+
+fn size_of(node: &Node) -> u64
+    ensures { result ≡ spec.size_of (kind_of node.now) }
+{
+    match node {
+        Node::Regular(content) => content.len() as u64,
+        Node::Directory { .. } => DIRECTORY_SIZE,
+        Node::Link(path) => path.len() as u64,
+    }
+}

@@ -1,0 +1,69 @@
+//! What files contain, as it is read.
+ghost use Rattle.std.specs.Prelude.{◌≡◌, ℕ, drop, option_map};
+ghost use Rattle.nfs_inodes.specs.Tree.{bytes_in};
+ghost use Rattle.nfs_inodes.specs.Listing.{kind_of};
+ghost use Rattle.nfs_inodes.specs.Reading.{IsRun, bytes_at, path_at, verifier_at};
+ghost use Rattle.nfs_inodes.specs.Reading as spec;
+
+use crate::inode::Node;
+use crate::tree::Tree;
+use nfs_handles::number::Number;
+
+impl Tree {
+    /// The bytes of a regular file from an offset on: a first run of them, which has one where
+    /// there is one. None where no regular file lives under the number.
+    pub fn bytes_at(&self, number: Number, offset: usize) -> &[u8]
+        ensures { IsRun result.now (drop offset (bytes_at self.now number.0)) }
+    {
+        match self.files.get(number) {
+            Some(inode) => run_from(&inode.node, offset),
+            None => &[],
+        }
+    }
+
+    /// The path of a symbolic link (RFC 1813, section 3.3.5). `None` where no link lives under
+    /// the number.
+    pub fn link_path(&self, number: Number) -> Option<&[u8]>
+        ensures { option_map (λ path. path.now) result ≡ path_at self.now number.0 }
+    {
+        match self.files.get(number) {
+            Some(inode) => path_of(&inode.node),
+            None => None,
+        }
+    }
+
+    /// The verifier of the exclusive CREATE that made a file (RFC 1813, section 3.3.8). `None`
+    /// where it was made otherwise or none lives under the number.
+    pub fn verifier(&self, number: Number) -> Option<[u8; 8]>
+        ensures { result ≡ verifier_at self.now number.0 }
+    {
+        match self.files.get(number) {
+            Some(inode) => inode.verifier,
+            None => None,
+        }
+    }
+}
+
+fn run_from(node: &Node, offset: usize) -> &[u8]
+    ensures { result.now ≡ drop offset (bytes_in (kind_of node.now)) }
+{
+    match node {
+        Node::Regular(content) => {
+            if offset <= content.len() {
+                &content[offset..]
+            } else {
+                &[]
+            }
+        }
+        _ => &[],
+    }
+}
+
+fn path_of(node: &Node) -> Option<&[u8]>
+    ensures { option_map (λ path. path.now) result ≡ spec.path_of (kind_of node.now) }
+{
+    match node {
+        Node::Link(path) => Some(path.as_slice()),
+        _ => None,
+    }
+}

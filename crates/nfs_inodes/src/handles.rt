@@ -1,0 +1,43 @@
+//! Handles of the files of a tree.
+ghost use Rattle.std.specs.Prelude.{◌≡◌, ℕ};
+ghost use Rattle.nfs_handles.specs.Handles.{handle_at, reading};
+ghost use Rattle.nfs_inodes.specs.Reading.{numbered};
+
+use crate::tree::Tree;
+use nfs_handles::number::Number;
+use nfs_handles::reading::Reading;
+
+impl Tree {
+    /// The handle of a file (RFC 1813, section 2.5, nfs_fh3). `None` where none lives under the
+    /// number.
+    pub fn handle_of(&self, number: u64) -> Option<[u8; 24]>
+        ensures { result ≡ handle_at (numbered self.now) number }
+    {
+        let number = Number(number);
+        match self.files.get(number) {
+            Some(_) => Some(self.files.handle(number)),
+            None => None,
+        }
+    }
+
+    /// What the bytes of a handle say.
+    pub fn read_handle(&self, handle: &[u8]) -> Reading
+        ensures { result ≡ reading (numbered self.now) handle.now }
+    {
+        self.files.read(handle)
+    }
+
+    /// The number that the next new file takes.
+    pub fn next_number(&self) -> u64
+        ensures { result ≡ self.now.next }
+    {
+        self.files.next()
+    }
+
+    /// The key of the server, which is in every handle.
+    pub fn key(&self) -> [u8; 8]
+        ensures { result ≡ self.now.key }
+    {
+        self.files.key()
+    }
+}

@@ -1,0 +1,100 @@
+//! Volumes as they are read.
+ghost use Rattle.std.specs.Prelude.{◌≡◌, ℕ, bytes_eq, length, slice_get, option_copied, option_map, map};
+ghost use Rattle.nfs_inodes.specs.Tree.{Volume};
+ghost use Rattle.nfs_inodes.specs.Listing.{volume_of};
+ghost use Rattle.nfs_inodes.specs.Reading.{place_where, place_named, totals_at};
+ghost use Rattle.nfs_inodes.specs.Shown.{volume_seen};
+
+use crate::tree::Tree;
+use crate::volume::Share;
+use nfs_handles::number::Number;
+
+/// A volume: a tree of directories with limits of its own.
+#[derive(Clone, Copy, Debug, PartialEq, Eq)]
+pub struct VolumeView<'a> {
+    /// The path that it is exported under.
+    pub path: &'a [u8],
+    /// How many bytes its regular files may have in all.
+    pub max_bytes: u64,
+    /// How many files it may have.
+    pub max_files: u64,
+    /// Its root directory.
+    pub root: Number,
+}
+
+/// What the files of a volume have in all.
+#[derive(Clone, Copy, Debug, PartialEq, Eq)]
+pub struct Totals {
+    /// The bytes of its regular files.
+    pub bytes: u64,
+    /// How many files it has, its root too.
+    pub files: u64,
+}
+
+impl Tree {
+    /// How many volumes there are.
+    pub fn volumes(&self) -> usize
+        ensures { result ≡ length self.now.volumes }
+    {
+        self.volumes.len()
+    }
+
+    /// The volume at a place, from 0. `None` where there is none.
+    pub fn volume(&self, place: usize) -> Option<VolumeView<'_>>
+        ensures { option_map volume_seen result ≡ slice_get self.now.volumes place }
+    {
+        match share_at(self.volumes.as_slice(), place) {
+            Some(share) => Some(view_of(share)),
+            None => None,
+        }
+    }
+
+    /// The place of the volume of this path. `None` where there is none.
+    pub fn volume_named(&self, path: &[u8]) -> Option<usize>
+        ensures { result ≡ place_named self.now path.now }
+    {
+        place_of(self.volumes.as_slice(), path)
+    }
+
+    /// What the files of the volume at a place have in all, found without a walk. `None` where
+    /// there is none.
+    pub fn totals(&self, place: usize) -> Option<Totals>
+        ensures { result ≡ totals_at self.now place }
+    {
+        match share_at(self.volumes.as_slice(), place) {
+            Some(share) => Some(Totals {
+                bytes: share.bytes,
+                files: share.files,
+            }),
+            None => None,
+        }
+    }
+}
+
+fn share_at(volumes: &[Share], place: usize) -> Option<&Share>
+    ensures { option_copied result ≡ slice_get volumes.now place }
+{
+    volumes.get(place)
+}
+
+fn view_of(share: &Share) -> VolumeView<'_>
+    ensures { volume_seen result ≡ volume_of share.now }
+{
+    VolumeView {
+        path: share.path.as_slice(),
+        max_bytes: share.max_bytes,
+        max_files: share.max_files,
+        root: Number(share.root),
+    }
+}
+
+fn place_of(volumes: &[Share], path: &[u8]) -> Option<usize>
+    ensures { result ≡ place_where (λ (v : Volume). bytes_eq v.path path.now) (map volume_of volumes.now) }
+{
+    for place in 0..volumes.len() {
+        if volumes[place].path.as_slice() == path {
+            return Some(place);
+        }
+    }
+    None
+}
