@@ -1,4 +1,4 @@
--- File handles (RFC 1813, section 2.5, nfs_fh3): which bytes name a file, and what bytes read as.
+-- File handles (RFC 1813, section 2.6, nfs_fh3): which bytes name a file, and what bytes read as.
 use Rattle.std.specs.Prelude.{ℕ, Bool, not, ◌&&◌, ◌||◌, List, [], ◌∷◌, ◌++◌, length, take, drop, Option, Some, None, option_map, if◌then◌else◌, nat_eq, nat_le, bytes_eq}
 use Rattle.std.specs.Int.{w32, w64, to_be_bytes, from_be_bytes}
 use Rattle.nfs_handles.specs.Numbered.{Filed, Numbered, at}

@@ -8,7 +8,7 @@ use nfs_handles::number::Number;
 use nfs_handles::reading::Reading;
 
 impl Tree {
-    /// The handle of a file (RFC 1813, section 2.5, nfs_fh3). `None` where none lives under the
+    /// The handle of a file (RFC 1813, section 2.6, nfs_fh3). `None` where none lives under the
     /// number.
     pub fn handle_of(&self, number: u64) -> Option<[u8; 24]>
         ensures { result ≡ handle_at (numbered self.now) number }

@@ -1,7 +1,7 @@
 //! What is given of a new file.
 use nfs_attrs::moment::Moment;
 
-/// The attributes that a new file begins with (RFC 1813, section 2.5, sattr3); of the mode the
+/// The attributes that a new file begins with (RFC 1813, section 2.6, sattr3); of the mode the
 /// low 12 bits.
 #[derive(Clone, Copy, Debug, PartialEq, Eq)]
 pub struct NewFile {
