@@ -1,5 +1,5 @@
 //! The bytes of a regular file.
-ghost use Rattle.std.specs.Prelude.{◌≡◌, ℕ, ◌+◌, ◌<◌, ◌≤◌, ◌++◌, OnOk, OnErr, IfOk, length, take, drop};
+ghost use Rattle.std.specs.Prelude.{◌≡◌, ◌+◌, ◌<◌, ◌≤◌, ◌++◌, OnOk, OnErr, IfOk, length, take, drop};
 ghost use Rattle.nfs_inodes.specs.Changes.{put_bytes, zeros};
 
 use std::alloc::{AllocError, Global};

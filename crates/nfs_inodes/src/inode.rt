@@ -1,5 +1,5 @@
 //! A file as it is kept, and what is done to it alone.
-ghost use Rattle.std.specs.Prelude.{◌≡◌, ℕ, ◌+◌, ◌<◌, ◌≤◌, ◌++◌, ◌^◌, ◌*◌, OnOk, OnErr, length, IsTrue, replicate, if◌then◌else◌};
+ghost use Rattle.std.specs.Prelude.{◌≡◌, ◌+◌, ◌<◌, ◌≤◌, ◌^◌, ◌*◌, OnOk, OnErr, length, IsTrue, if◌then◌else◌};
 ghost use Rattle.nfs_inodes.specs.Tree.{is_directory, is_regular, next_cookie_in, bytes_in, one_when};
 ghost use Rattle.nfs_inodes.specs.Changes.{entered, overwritten, new_file};
 ghost use Rattle.nfs_inodes.specs.Listing.{file_of, kind_of, HasRoom};

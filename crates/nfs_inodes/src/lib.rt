@@ -2,17 +2,17 @@
 #![tactic(auto)]
 
 pub mod attributes;
-pub mod content;
+mod content;
 pub mod content_reader;
-pub mod entry;
+mod entry;
 pub mod examples;
 pub mod handles;
-pub mod inode;
-pub mod inodes;
+mod inode;
+mod inodes;
 pub mod laws;
 pub mod lookup;
 pub mod may;
 pub mod new_file;
 pub mod tree;
-pub mod volume;
+mod volume;
 pub mod volumes;

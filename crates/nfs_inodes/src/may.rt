@@ -1,5 +1,5 @@
 //! What may be done: tests for the conditions of the tree's operations.
-ghost use Rattle.std.specs.Prelude.{◌≡◌, ◌≢◌, ℕ, ◌+◌, ◌<◌, ◌≤◌, true, false, Some, IsTrue, IsFalse, length, slice_get};
+ghost use Rattle.std.specs.Prelude.{◌≡◌, ◌≢◌, ℕ, ◌+◌, ◌<◌, ◌≤◌, true, false, Some, IsTrue, IsFalse, slice_get};
 ghost use Rattle.nfs_inodes.specs.declared.entry.Listed.{Listed};
 ghost use Rattle.nfs_inodes.specs.Law.{IsName, Lives};
 ghost use Rattle.nfs_inodes.specs.Adding.{TakesName, HasRoomIn, HasSpaceIn};

@@ -1,10 +1,10 @@
 //! The tree of files.
-ghost use Rattle.std.specs.Prelude.{◌≡◌, ℕ, ◌+◌, ◌<◌, ◌≤◌, ◌^◌, Option, Some, None, OnOk, OnErr, IfOk, IfErr, IfSome, IfNone, IsSome, option_map, length, slice_get, IsTrue, [], ◌∷◌, ◌++◌, vec_len, vec_capacity, map, if◌then◌else◌};
-ghost use Rattle.nfs_inodes.specs.Tree.{is_directory, nlink, Regular, Directory, Link};
+ghost use Rattle.std.specs.Prelude.{◌≡◌, ◌+◌, ◌<◌, Option, Some, None, OnOk, OnErr, IfOk, length, [], ◌∷◌, ◌++◌, vec_len, vec_capacity, map};
+ghost use Rattle.nfs_inodes.specs.Tree.{Regular, Directory, Link};
 ghost use Rattle.nfs_inodes.specs.Law.{Law};
 ghost use Rattle.nfs_inodes.specs.Changes.{Makes, file_made, directory_made, link_made, linked, written, volume_added, made, new_file, zeros, volume_of};
-ghost use Rattle.nfs_inodes.specs.May.{MayMake, MayMakeDirectory, MayMakeLink, MayLink, MayWrite, MayFound, IsNew};
-ghost use Rattle.nfs_inodes.specs.Listing.{file_of, kind_of, counted_of};
+ghost use Rattle.nfs_inodes.specs.May.{MayMake, MayMakeDirectory, MayMakeLink, MayLink, MayWrite, MayFound};
+ghost use Rattle.nfs_inodes.specs.Listing.{file_of, counted_of};
 ghost use Rattle.nfs_inodes.specs.Adding.{MayAdd, retagged, HasRoomFor};
 ghost use Rattle.nfs_inodes.specs.Kept.{with_totals};
 
