@@ -2,4 +2,6 @@ pub mod Fragments
 pub mod Streams
 pub mod Steps
 pub mod Calls
+pub mod AuthSys
+pub mod Gids
 pub mod Replies

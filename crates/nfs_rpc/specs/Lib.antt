@@ -3,4 +3,5 @@ pub mod Progress
 pub mod Stages
 pub mod Kept
 pub mod Calls
+pub mod AuthSys
 pub mod Replies

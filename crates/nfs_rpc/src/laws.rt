@@ -4,6 +4,7 @@ ghost use Rattle.nfs_xdr.specs.Reading.{Finds};
 ghost use Rattle.nfs_rpc.specs.Records.{IsRecord, StreamsAreReadOnce, RecordsGrow, RecordsClose};
 ghost use Rattle.nfs_rpc.specs.Progress.{UnfinishedTells};
 ghost use Rattle.nfs_rpc.specs.Calls.{IsCallHead, head_at};
+ghost use Rattle.nfs_rpc.specs.AuthSys.{IsAuthSys, cred_at};
 ghost use Rattle.nfs_rpc.specs.Replies.{IsReply};
 
 /// A stream is read as records in one way: no record begins another, and where its bytes are
@@ -32,6 +33,13 @@ pub fn pieces_make_no_difference()
 pub fn heads_are_found()
     ensures found { Finds IsCallHead head_at }
     ensures once { SpellsOnce IsCallHead }
+{}
+
+/// A credential of AUTH_SYS is found where it is spelled, all of it and nothing else; so none begins
+/// another.
+pub fn credentials_are_found()
+    ensures found { Finds IsAuthSys cred_at }
+    ensures once { SpellsOnce IsAuthSys }
 {}
 
 /// No head of a reply begins another.

@@ -5,6 +5,8 @@
 #[cfg(test)]
 mod attributes;
 #[cfg(test)]
+mod credentials;
+#[cfg(test)]
 mod framing;
 #[cfg(test)]
 mod handles;

@@ -1,12 +1,12 @@
 -- Reading an item finds its spelling.
-use Rattle.std.proofs.Common.{◌≡◌, ℕ, ◌+◌, ◌-◌, ◌*◌, ◌^◌, ◌<◌, ◌≤◌, Bool, true, false, ltb, eqb, List, [], ◌∷◌, ◌++◌, length, take, drop, Option, Some, None, if◌then◌else◌, Ok, Err, refl, sym, ap, subst, ◌∙◌, append_assoc, append-nil, take-add, length-drop, arith}
+use Rattle.std.proofs.Common.{◌≡◌, ℕ, suc, zero, ◌+◌, ◌-◌, ◌*◌, ◌^◌, ◌<◌, ◌≤◌, Bool, true, false, ltb, eqb, List, [], ◌∷◌, ◌++◌, length, take, drop, Option, Some, None, if◌then◌else◌, Ok, Err, refl, sym, ap, subst, ◌∙◌, append_assoc, append-nil, take-add, length-drop, arith}
 use Rattle.std.specs.Int.{Width, w32, w64, byte_len, from_be_bytes, to_be_bytes}
 use Rattle.std.proofs.lemmas.Bool.{ltb-false, ltb-true, le-ltb, eqb-true}
 use Rattle.std.proofs.lemmas.List.{take_at, drop_at, take-append-drop, take_rest, length-append, length-take}
 use Rattle.std.proofs.lemmas.Nat.{be_bytes_4, be_bytes_8, from_be_bytes-to_be_bytes_4, from_be_bytes-to_be_bytes_8}
 use Rattle.nfs_xdr.specs.declared.fault.XdrFault.TheVariants.{Short, TooLong, BadBool}
-use Rattle.nfs_xdr.specs.Spelling.{padding, number_of, fixed_text, opaque_text, numbers_text, IsNumber, IsBoolean, IsEnum, IsOptional, IsFixed, IsOpaque, Begins}
-use Rattle.nfs_xdr.specs.Reading.{Read, AreBytes, Finds, number_at, boolean_of, boolean_at, numbered, known, enum_at, present_at, optional_at, fixed_at, opaque_at}
+use Rattle.nfs_xdr.specs.Spelling.{padding, number_of, fixed_text, opaque_text, numbers_text, IsNumber, IsBoolean, IsEnum, IsOptional, IsFixed, IsOpaque, AreItems, IsArray, Begins}
+use Rattle.nfs_xdr.specs.Reading.{Read, ◌>>=◌, AreBytes, Finds, number_at, boolean_of, boolean_at, numbered, known, enum_at, present_at, optional_at, fixed_at, opaque_at, items_at, array_at}
 use Rattle.nfs_xdr.proofs.Finding.{AreBytes-take, guard_ok, finds_as, Then, finds_then, IsDone, finds_done, IsNothing, finds_fault, IsEither, finds_either, finds_image}
 
 -- what is used of a width
@@ -213,6 +213,68 @@ finds_optional S read finds =
     (to_optional S)
     (finds_then IsBoolean (λ b. IsEither b (IsPresent S) (IsDone None)) boolean_at (λ b bytes. if b then present_at read bytes else Ok (None, bytes)) finds_boolean
     (λ b. finds_either b (IsPresent S) (IsDone None) (present_at read) (λ bytes. Ok (None, bytes)) (finds_image S Some read finds) (finds_done None)))
+
+-- ---- arrays
+
+-- so many items
+abbrev AreCounted : {A : Type 0} → (A → List ℕ → Type 0) → ℕ → List A → List ℕ → Type 0
+AreCounted S n items text = (length items ≡ n) × AreItems S items text
+
+-- the first item is this, and the others are spelled by the text
+abbrev IsLed : {A : Type 0} → (A → List ℕ → Type 0) → ℕ → A → List A → List ℕ → Type 0
+IsLed {A} S n first items text = (others : List A) × ((first ∷ others) ≡ items) × AreCounted S n others text
+
+of_led : {A : Type 0} (S : A → List ℕ → Type 0) (n : ℕ) (first : A) (items : List A) (front back text : List ℕ) → S first front → IsLed S n first items back → text ≡ front ++ back → AreCounted S (suc n) items text
+of_led S n first items front back text s led e =
+    subst (λ xs. AreCounted S (suc n) xs text) led.1 (ap suc led.2.0, record { front = front; first = s; back = back; second = led.2.1; text_is = e })
+
+to_led : {A : Type 0} (S : A → List ℕ → Type 0) (n : ℕ) (items : List A) (text : List ℕ) → AreCounted S (suc n) items text → Then S (IsLed S n) items text
+to_led S n [] text s = absurd cc
+to_led S n (item ∷ items) text s = record { first = item; front = s.1.front; front_is = s.1.first; back = s.1.back; back_is = (items, refl, (omega (arith, s.0), s.1.second)); text_is = s.1.text_is }
+
+none_spelled : {A : Type 0} (S : A → List ℕ → Type 0) (items : List A) (text : List ℕ) → AreCounted S 0 items text → IsDone [] items text
+none_spelled S [] text s = record { value_is = refl; text_is = s.1 }
+none_spelled S (item ∷ items) text s = absurd cc
+
+pub finds_items : {A : Type 0} (S : A → List ℕ → Type 0) (read : List ℕ → Read A) → Finds S read → (n : ℕ) → Finds (AreCounted S n) (items_at read n)
+finds_items S read finds zero =
+    finds_as (IsDone []) (AreCounted S 0) (items_at read 0)
+    (λ items text s. subst (λ xs. AreCounted S 0 xs text) s.value_is (refl, s.text_is))
+    (none_spelled S)
+    (finds_done [])
+finds_items S read finds (suc n) =
+    finds_as (Then S (IsLed S n)) (AreCounted S (suc n)) (items_at read (suc n))
+    (λ items text s. of_led S n s.first items s.front s.back text s.front_is s.back_is s.text_is)
+    (to_led S n)
+    (finds_then S (IsLed S n) read (λ first bytes. items_at read n bytes >>= λ p. Ok (first ∷ p.0, p.1)) finds
+    (λ first. finds_image (AreCounted S n) (λ others. first ∷ others) (items_at read n) (finds_items S read finds n)))
+
+of_array : {A : Type 0} (S : A → List ℕ → Type 0) (max n : ℕ) (b : Bool) (items : List A) (front back text : List ℕ) → ltb max n ≡ b → IsNumber w32 n front → IsEither b IsNothing (AreCounted S n) items back → text ≡ front ++ back → IsArray S max items text
+of_array S max n true items front back text over number none e = absurd none
+of_array S max n false items front back text within number s e = record {
+  bound = omega (arith, ltb-false max n within, s.0);
+  spelled = record { front = front; first = subst (λ k. IsNumber w32 k front) (sym s.0) number; back = back; second = s.1; text_is = e };
+}
+
+to_array : {A : Type 0} (S : A → List ℕ → Type 0) (max : ℕ) (b : Bool) (items : List A) (back : List ℕ) → ltb max (length items) ≡ b → length items ≤ max → AreItems S items back → IsEither b IsNothing (AreCounted S (length items)) items back
+to_array S max true items back over bound s = omega (arith, ltb-true max (length items) over)
+to_array S max false items back within bound s = (refl, s)
+
+-- where each item is found
+pub finds_array : {A : Type 0} (S : A → List ℕ → Type 0) (read : List ℕ → Read A) (max : ℕ) → Finds S read → Finds (IsArray S max) (array_at read max)
+finds_array S read max finds =
+    finds_as (Then (IsNumber w32) (λ n. IsEither (ltb max n) IsNothing (AreCounted S n))) (IsArray S max) (array_at read max)
+    (λ items text s. of_array S max s.first (ltb max s.first) items s.front s.back text refl s.front_is s.back_is s.text_is)
+    (λ items text s. record {
+      first = length items;
+      front = s.spelled.front;
+      front_is = s.spelled.first;
+      back = s.spelled.back;
+      back_is = to_array S max (ltb max (length items)) items s.spelled.back refl s.bound s.spelled.second;
+      text_is = s.spelled.text_is;
+    })
+    (finds_then (IsNumber w32) (λ n. IsEither (ltb max n) IsNothing (AreCounted S n)) (number_at w32) (λ n bytes. if ltb max n then Err TooLong else items_at read n bytes) finds_u32
+    (λ n. finds_either (ltb max n) IsNothing (AreCounted S n) (λ bytes. Err TooLong) (items_at read n) (finds_fault TooLong) (finds_items S read finds n)))
 
 -- ---- opaque data
 

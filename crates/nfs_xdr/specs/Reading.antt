@@ -1,5 +1,5 @@
 -- Reading from left to right: the value and the bytes after it, or the first fault that is met.
-use Rattle.std.specs.Prelude.{◌≡◌, ℕ, ◌+◌, ◌<◌, Bool, true, false, List, [], ◌∷◌, ◌++◌, length, take, drop, Option, Some, None, Result, Ok, Err, if◌then◌else◌, nat_lt, nat_eq, slice_index}
+use Rattle.std.specs.Prelude.{suc, zero, ◌≡◌, ℕ, ◌+◌, ◌<◌, Bool, true, false, List, [], ◌∷◌, ◌++◌, length, take, drop, Option, Some, None, Result, Ok, Err, if◌then◌else◌, nat_lt, nat_eq, slice_index}
 use Rattle.std.specs.Int.{Width, w32, byte_len, from_be_bytes}
 use Rattle.nfs_xdr.specs.declared.fault.XdrFault.{XdrFault}
 use Rattle.nfs_xdr.specs.declared.fault.XdrFault.TheVariants.{Short, TooLong, BadBool, BadEnum}
@@ -61,6 +61,20 @@ abbrev pub opaque_at : ℕ → List ℕ → Read (List ℕ)
 opaque_at max bytes = do
   n ← number_at w32 bytes
   if nat_lt max n.0 then Err TooLong else fixed_at n.0 n.1
+
+-- so many items, one after another
+abbrev pub items_at : {A : Type 0} → (List ℕ → Read A) → ℕ → List ℕ → Read (List A)
+items_at read zero bytes = Ok ([], bytes)
+items_at read (suc n) bytes = do
+  item ← read bytes
+  items ← items_at read n item.1
+  Ok (item.0 ∷ items.0, items.1)
+
+-- how many items there are, which is judged before they are looked for
+abbrev pub array_at : {A : Type 0} → (List ℕ → Read A) → ℕ → List ℕ → Read (List A)
+array_at read max bytes = do
+  n ← number_at w32 bytes
+  if nat_lt max n.0 then Err TooLong else items_at read n.0 n.1
 
 -- What a reader answered, seen by view, is what reading gives. A fault leaves the bytes as they were.
 abbrev pub Gives : {X A : Type 0} → (X → A) → List ℕ → List ℕ → Result X XdrFault → Read A → Type 0

@@ -53,6 +53,16 @@ pub record IsOpaque (max : ℕ) (item text : List ℕ) : Type 0 where
   pub bound : length item ≤ max
   pub spelled : (IsNumber w32 (length item) ⨾ IsFixed (length item) item) text
 
+-- items of one kind, one after another
+abbrev pub AreItems : {A : Type 0} → (A → List ℕ → Type 0) → List A → List ℕ → Type 0
+AreItems Spells [] text = text ≡ []
+AreItems Spells (item ∷ items) text = (Spells item ⨾ AreItems Spells items) text
+
+-- an array of at most max items: how many, and then each of them (section 4.13)
+pub record IsArray {A : Type 0} (Spells : A → List ℕ → Type 0) (max : ℕ) (items : List A) (text : List ℕ) : Type 0 where
+  pub bound : length items ≤ max
+  pub spelled : (IsNumber w32 (length items) ⨾ AreItems Spells items) text
+
 -- the texts that are written: the padding is zeros
 abbrev pub fixed_text : List ℕ → List ℕ
 fixed_text item = item ++ take (padding (length item)) (0 ∷ 0 ∷ 0 ∷ [])
