@@ -18,11 +18,11 @@ fn said(alloc: Global, words: &str) -> Result<Option<Cred>, Fail> {
     Ok(cred_of(body.as_slice()))
 }
 
-// A body with a name of so many bytes and their padding.
-fn named(alloc: Global, len: u32) -> Result<Vec<u8>, Fail> {
+// A body with a name of so many bytes, with their padding so many.
+fn named(alloc: Global, len: u32, padded: u32) -> Result<Vec<u8>, Fail> {
     let mut body = bytes(alloc, "0000002a")?;
     body.extend_from_slice(&len.to_be_bytes())?;
-    for _ in 0..len.next_multiple_of(4) {
+    for _ in 0..padded {
         body.push(b'x')?;
     }
     let ids = bytes(alloc, "00000001 00000002 00000000")?;
@@ -67,15 +67,23 @@ fn refuses_what_ends_too_early(rt: HostRuntime) -> Result<(), Fail> {
     let body = bytes(rt.alloc(), BODY)?;
     assert_eq!(rt; body.len(), 32);
     for len in 0..32usize {
-        assert!(rt; cred_of(&body.as_slice()[..len]).is_none(), "of {len} bytes");
+        assert!(rt;
+            cred_of(&body.as_slice()[..len]).is_none(),
+            "of {len} bytes"
+        );
     }
     Ok(())
 }
 
 #[test]
 fn takes_names_of_at_most_255_bytes(rt: HostRuntime) -> Result<(), Fail> {
-    for (len, taken) in [(0u32, true), (255, true), (256, false), (257, false)] {
-        let body = named(rt.alloc(), len)?;
+    for (len, padded, taken) in [
+        (0, 0, true),
+        (255, 256, true),
+        (256, 256, false),
+        (257, 260, false),
+    ] {
+        let body = named(rt.alloc(), len, padded)?;
         let cred = cred_of(body.as_slice());
         assert_eq!(rt; cred.is_some(), taken, "of {len} bytes");
         if let Some(cred) = cred {
@@ -94,7 +102,10 @@ fn takes_at_most_16_groups(rt: HostRuntime) -> Result<(), Fail> {
     };
     assert_eq!(rt;
         cred.gids.as_slice(),
-        [7u32, 8, 9, 10, 11, 12, 13, 14, 15, 16, 17, 18, 19, 20, 21, 22].as_slice()
+        [
+            7u32, 8, 9, 10, 11, 12, 13, 14, 15, 16, 17, 18, 19, 20, 21, 22
+        ]
+        .as_slice()
     );
     let body = grouped(rt.alloc(), 17)?;
     assert!(rt; cred_of(body.as_slice()).is_none());
