@@ -68,7 +68,7 @@ fn command<'a>(alloc: Global) -> Result<Command<'a>, AllocError> {
     let script = Arg::new(alloc, "script")
         .value_name("SCRIPT")
         .required(true)
-        .help("The script to run");
+        .help("The script to run (its lines are told in docs/PROTOCOL.md)");
     let cache = Arg::new(alloc, "cache")
         .long("cache")
         .value_name("C")

@@ -14,6 +14,9 @@ pub enum ReplayFault {
     /// A word of a line is not hexadecimal.
     #[error("script line {0}: BadHex")]
     BadHex(u64),
+    /// A word of a line names a file that there isn't.
+    #[error("script line {0}: NoHandle")]
+    NoHandle(u64),
     /// An argument is no text.
     #[error("error: an argument is no text")]
     NoText,
@@ -35,7 +38,7 @@ impl ReplayFault {
         ensures { result ≡ status_of self.now }
     {
         match self {
-            ReplayFault::BadLine(_) | ReplayFault::BadHex(_) => 1,
+            ReplayFault::BadLine(_) | ReplayFault::BadHex(_) | ReplayFault::NoHandle(_) => 1,
             ReplayFault::NoText => 2,
             ReplayFault::CannotRead(_) | ReplayFault::Write | ReplayFault::Memory(_) => 3,
         }

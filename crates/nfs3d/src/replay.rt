@@ -5,8 +5,9 @@ use crate::captured::{Captured, split_record};
 use crate::fault::ReplayFault;
 use crate::hexadecimal::{HexFault, push_bytes};
 use crate::printing::{Printer, Replies};
-use crate::script::{Order, Words, order_of};
+use crate::script::{Order, Words, number, order_of};
 use nfs_attrs::moment::Moment;
+use nfs_inodes::tree::Tree;
 use nfs_server::event::{Addr, Event};
 use nfs_server::loaded::tree_e;
 use nfs_server::server::Server;
@@ -17,9 +18,10 @@ use std::mem;
 
 /// Runs the script's lines in order, and prints what each brings.
 ///
-/// What stands before a faulty line is run and printed. `BadLine` for a line that is none, and
-/// `BadHex` for a word that is not hexadecimal, each with the line's number; `Write` where the
-/// output fails, `Memory` where there is no memory.
+/// What stands before a faulty line is run and printed. `BadLine` for a line that is none, else
+/// for its first faulty word `BadHex` where that says no bytes, and `NoHandle` where it names no
+/// file that lives, each with the line's number; `Write` where the output fails, `Memory` where
+/// there is no memory.
 pub fn replay<W: ByteOut>(
     alloc: Global,
     _tree: &[u8],
@@ -51,6 +53,7 @@ pub fn replay<W: ByteOut>(
 enum LineFault {
     BadLine,
     BadHex,
+    NoHandle,
     Other(ReplayFault),
 }
 
@@ -61,6 +64,7 @@ impl LineFault {
         match self {
             LineFault::BadLine => ReplayFault::BadLine(number),
             LineFault::BadHex => ReplayFault::BadHex(number),
+            LineFault::NoHandle => ReplayFault::NoHandle(number),
             LineFault::Other(fault) => fault,
         }
     }
@@ -111,15 +115,22 @@ struct Player {
 
 impl Player {
     // What a line asks for. A call waits for those that follow it; anything else comes after the
-    // calls that wait.
+    // calls that wait, as does a call that names files, whose handles are those of the tree then.
     fn line<W: ByteOut>(&mut self, line: &[u8], out: &mut W) -> Result<(), LineFault> {
         let Some(order) = order_of(line) else {
             return Err(LineFault::BadLine);
         };
         match order {
             Order::Nothing => Ok(()),
-            Order::Call { addr, moment, hex } => {
-                let bytes = bytes_of(self.alloc, hex)?;
+            Order::Call {
+                addr,
+                moment,
+                bytes,
+            } => {
+                if bytes.may_name_files() {
+                    self.run_calls(out)?;
+                }
+                let bytes = bytes_of(self.alloc, self.sessions.server().tree(), bytes)?;
                 self.calls.push(Call {
                     addr,
                     moment,
@@ -127,9 +138,13 @@ impl Player {
                 })?;
                 Ok(())
             }
-            Order::Feed { conn, moment, hex } => {
-                let bytes = bytes_of(self.alloc, hex)?;
+            Order::Feed {
+                conn,
+                moment,
+                bytes,
+            } => {
                 self.run_calls(out)?;
+                let bytes = bytes_of(self.alloc, self.sessions.server().tree(), bytes)?;
                 self.feed(conn, moment, bytes.as_slice(), out)?;
                 Ok(())
             }
@@ -219,11 +234,25 @@ impl Player {
     }
 }
 
-// The bytes of hexadecimal words, from left to right.
-fn bytes_of(alloc: Global, words: Words<'_>) -> Result<Vec<u8>, HexFault> {
+// The bytes that words say, from left to right: hexadecimal digits, or the handle of a file.
+fn bytes_of(alloc: Global, tree: &Tree, words: Words<'_>) -> Result<Vec<u8>, LineFault> {
     let mut bytes = Vec::new(alloc);
     for word in words {
-        push_bytes(alloc, &mut bytes, word)?;
+        match word.strip_prefix(b"@") {
+            Some(digits) => bytes.extend_from_slice(&handle_of(tree, digits)?)?,
+            None => push_bytes(alloc, &mut bytes, word)?,
+        }
     }
     Ok(bytes)
+}
+
+// The handle of the file of this number.
+fn handle_of(tree: &Tree, digits: &[u8]) -> Result<[u8; 24], LineFault> {
+    let Some(file) = number(digits) else {
+        return Err(LineFault::BadHex);
+    };
+    match tree.handle_of(file) {
+        Some(handle) => Ok(handle),
+        None => Err(LineFault::NoHandle),
+    }
 }

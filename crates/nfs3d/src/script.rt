@@ -19,7 +19,7 @@ pub enum Order<'a> {
     Feed {
         conn: u32,
         moment: Moment,
-        hex: Words<'a>,
+        bytes: Words<'a>,
     },
     /// The end of a connection.
     Detach {
@@ -29,7 +29,7 @@ pub enum Order<'a> {
     Call {
         addr: Addr,
         moment: Moment,
-        hex: Words<'a>,
+        bytes: Words<'a>,
     },
 }
 
@@ -49,6 +49,11 @@ impl<'a> Words<'a> {
     pub(crate) fn is_empty(&self) -> bool {
         self.rest.iter().all(|b| *b == b' ')
     }
+
+    /// Whether a word may name a file, which it does by an `@`.
+    pub(crate) fn may_name_files(&self) -> bool {
+        self.rest.contains(&b'@')
+    }
 }
 
 impl<'a> Iterator for Words<'a> {
@@ -66,7 +71,7 @@ impl<'a> Iterator for Words<'a> {
     }
 }
 
-/// What a line asks for, if it is one that there is. Its hexadecimal words, at least one, are not
+/// What a line asks for, if it is one that there is. The words of its bytes, at least one, are not
 /// looked at.
 pub(crate) fn order_of(line: &[u8]) -> Option<Order<'_>> {
     if line.first() == Some(&b'#') {
@@ -94,7 +99,7 @@ pub(crate) fn order_of(line: &[u8]) -> Option<Order<'_>> {
                 Order::Feed {
                     conn,
                     moment,
-                    hex: words,
+                    bytes: words,
                 },
             )
         }
@@ -106,7 +111,7 @@ pub(crate) fn order_of(line: &[u8]) -> Option<Order<'_>> {
                 Order::Call {
                     addr,
                     moment,
-                    hex: words,
+                    bytes: words,
                 },
             )
         }
@@ -126,15 +131,20 @@ fn goes_on<'a>(words: Words<'_>, order: Order<'a>) -> Option<Order<'a>> {
 
 // Decimal digits, to the largest `u32`.
 fn decimal(word: &[u8]) -> Option<u32> {
+    u32::try_from(number(word)?).ok()
+}
+
+/// Decimal digits, to the largest `u64`.
+pub(crate) fn number(word: &[u8]) -> Option<u64> {
     if word.is_empty() {
         return None;
     }
-    let mut n = 0u32;
+    let mut n = 0u64;
     for digit in word {
         if !digit.is_ascii_digit() {
             return None;
         }
-        n = n.checked_mul(10)?.checked_add(u32::from(*digit - b'0'))?;
+        n = n.checked_mul(10)?.checked_add(u64::from(*digit - b'0'))?;
     }
     Some(n)
 }

@@ -21,7 +21,7 @@ fn printed(alloc: Global, script: &str) -> Result<(String, String), Fail> {
 }
 
 // Each script, what it prints, and the fault that ends it.
-const SCRIPTS: [(&str, &str, &str); 17] = [
+const SCRIPTS: [(&str, &str, &str); 16] = [
     ("", "", ""),
     ("\n# a comment\t\n  \n", "", ""),
     (
@@ -50,7 +50,6 @@ const SCRIPTS: [(&str, &str, &str); 17] = [
         "script line 2: BadHex",
     ),
     ("feed 9 100 zz", "", "script line 1: BadHex"),
-    ("feed 9 100 @1", "", "script line 1: BadHex"),
     ("feed 9 100", "", "script line 1: BadLine"),
     ("feed 9 +1 00", "", "script line 1: BadLine"),
     ("\n\ncall 10.0.0 100 00", "", "script line 3: BadLine"),
@@ -65,9 +64,74 @@ const SCRIPTS: [(&str, &str, &str); 17] = [
     ("detach 1\r\n # x", "", "script line 1: BadLine"),
 ];
 
+// The same with handles of files, of which the built-in tree has the numbers 1 to 8.
+const NAMING: [(&str, &str, &str); 20] = [
+    (
+        "call 10.0.0.1 100 0000002a 00000000 00000002 000186a3 00000003 00000000 00000000 00000000 00000000 00000000 @1\ncall 10.0.0.1 100 0000002b 00000000 00000002 000186a3 00000003 00000000 00000000 00000000 00000000 00000000 @0008 00\ncall 10.0.0.1 100 0000002a 00000000 00000002 000186a3 00000003 00000000 00000000 00000000 00000000 00000000",
+        "reply 0000002a0000000100000000000000000000000000000000\nreply 0000002b0000000100000000000000000000000000000000\nreply 0000002a0000000100000000000000000000000000000000\n",
+        "",
+    ),
+    // A handle has 24 bytes: the next record begins after them.
+    (
+        "attach 1 10.0.0.1\nfeed 1 100 80000040 0000002a 00000000 00000002 000186a3 00000003 00000000 00000000 00000000 00000000 00000000 @1 80000028 0000002a 00000000 00000002 000186a3 00000003 00000000 00000000 00000000 00000000 00000000",
+        "reply 1 800000180000002a0000000100000000000000000000000000000000\nreply 1 800000180000002a0000000100000000000000000000000000000000\n",
+        "",
+    ),
+    // Its last four, here after a record of 20 bytes, are a fragment's length, 3.
+    (
+        "attach 1 10.0.0.1\nfeed 1 100 80000014 @3 000000 80000025 2a 00000000 00000002 000186a3 00000003 00000000 00000000 00000000 00000000 00000000",
+        "reply 1 800000180000002a0000000100000000000000000000000000000000\n",
+        "",
+    ),
+    // Its first four, as a header, are too long a fragment.
+    ("attach 1 10.0.0.1\nfeed 1 100 @1", "fault 1 TooLong\n", ""),
+    ("feed 9 100 @1", "fault 9 UnknownConnection\n", ""),
+    (
+        "call 10.0.0.1 100 0000002a 00000000 00000002 000186a3 00000003 00000000 00000000 00000000 00000000 00000000\n\ncall 10.0.0.1 100 0000002b 00000000 00000002 000186a3 00000003 00000000 00000000 00000000 00000000 00000000 @9\ncall 10.0.0.1 100 0000002a 00000000 00000002 000186a3 00000003 00000000 00000000 00000000 00000000 00000000\n",
+        "reply 0000002a0000000100000000000000000000000000000000\n",
+        "script line 3: NoHandle",
+    ),
+    (
+        "call 10.0.0.1 100 0000002a 00000000 00000002 000186a3 00000003 00000000 00000000 00000000 00000000 00000000\nfeed 9 100 @x\n",
+        "reply 0000002a0000000100000000000000000000000000000000\n",
+        "script line 2: BadHex",
+    ),
+    ("feed 9 100 @0", "", "script line 1: NoHandle"),
+    (
+        "feed 9 100 @18446744073709551615",
+        "",
+        "script line 1: NoHandle",
+    ),
+    (
+        "feed 9 100 @18446744073709551616",
+        "",
+        "script line 1: BadHex",
+    ),
+    ("feed 9 100 @", "", "script line 1: BadHex"),
+    ("feed 9 100 @ 1", "", "script line 1: BadHex"),
+    ("feed 9 100 @+1", "", "script line 1: BadHex"),
+    ("feed 9 100 @1@", "", "script line 1: BadHex"),
+    ("feed 9 100 00@1", "", "script line 1: BadHex"),
+    ("feed 9 100 0 @1 0", "", "script line 1: BadHex"),
+    ("feed 9 100 @9 zz", "", "script line 1: NoHandle"),
+    ("feed 9 100 zz @9", "", "script line 1: BadHex"),
+    ("feed 9 @1 @9", "", "script line 1: BadLine"),
+    ("call 10.0.0 100 @9", "", "script line 1: BadLine"),
+];
+
 #[test]
 fn scripts_print_what_they_bring(rt: HostRuntime) -> Result<(), Fail> {
     for (script, lines, fault) in SCRIPTS {
+        let (found, text) = printed(rt.alloc(), script)?;
+        assert_eq!(rt; found.as_str(), lines, "of {script}");
+        assert_eq!(rt; text.as_str(), fault, "of {script}");
+    }
+    Ok(())
+}
+
+#[test]
+fn scripts_name_files_by_number(rt: HostRuntime) -> Result<(), Fail> {
+    for (script, lines, fault) in NAMING {
         let (found, text) = printed(rt.alloc(), script)?;
         assert_eq!(rt; found.as_str(), lines, "of {script}");
         assert_eq!(rt; text.as_str(), fault, "of {script}");
@@ -114,7 +178,7 @@ fn an_output_that_fails_ends_the_script(rt: HostRuntime) -> Result<(), Fail> {
 fn each_growth_may_be_refused(rt: HostRuntime) -> Result<(), Fail> {
     let alloc = rt.alloc();
     let script = format!(in alloc;
-        "attach 1 10.0.0.1\nfeed 1 1 80000028 {NULL}\ncall 10.0.0.1 1 {NULL}\ndetach 2\n"
+        "attach 1 10.0.0.1\nfeed 1 1 80000028 {NULL}\ncall 10.0.0.1 1 {NULL} @1\ndetach 2\n"
     )?;
     let lines =
         "reply 1 800000180000002a0000000100000000000000000000000000000000\nreply 0000002a0000000100000000000000000000000000000000\nfault 2 UnknownConnection\n";
