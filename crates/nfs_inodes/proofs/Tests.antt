@@ -1,153 +1,257 @@
--- What the tests of conditions tell.
-use Rattle.std.proofs.Common.{◌≡◌, ◌≢◌, ℕ, zero, suc, ◌+◌, ◌-◌, ◌<◌, ◌≤◌, Bool, true, false, List, [], ◌∷◌, map, length, get_or, Vec, Global, Option, Some, None, option_map, refl, sym, ap, subst, ◌∙◌, arith}
-use Rattle.std.specs.Prelude.{bytes_eq, if◌then◌else◌, slice_get, All, IsTrue, IsFalse, not, is_some}
-use Rattle.std.proofs.lemmas.Option.{get_or_from_slice_get, slice_get-map}
-use Rattle.nfs_handles.specs.Numbered.{Numbered, at, value_at}
+-- What the tests of conditions tell: each is true just where its condition holds.
+use Rattle.std.proofs.Common.{◌≡◌, ◌≢◌, ℕ, ◌+◌, ◌-◌, ◌<◌, ◌≤◌, Bool, true, false, true≢false, List, [], ◌∷◌, map, length, Vec, Global, Option, Some, None, option_map, refl, sym, ap, subst, ◌∙◌, arith}
+use Rattle.std.specs.Prelude.{◌&&◌, bytes_eq, cond, slice_get, All, not, is_some, is_none}
+use Rattle.std.specs.Bool.{Decides}
+use Rattle.std.specs.List.{find}
+use Rattle.std.proofs.lemmas.Bool.Decides.{Decides-at, Decides-like, Decides-not, Decides-by_and}
+use Rattle.std.proofs.lemmas.Slice.Eq.{bytes_eq-Decides}
+use Rattle.std.proofs.lemmas.Option.{slice_get-map}
+use Rattle.nfs_handles.specs.Numbered.{Numbered, value_at}
 use Rattle.nfs_inodes.specs.declared.entry.Listed.{Listed}
 use Rattle.nfs_inodes.specs.declared.inode.Inode.{Inode}
 use Rattle.nfs_inodes.specs.declared.inode.Node.TheVariants as node
 use Rattle.nfs_inodes.specs.declared.volume.Share.{Share}
-use Rattle.nfs_inodes.specs.Tree.{Tree, File, Kind, Directory, Entry, Volume, on_some, entries_in, bytes_in, next_cookie_in, is_directory, is_regular, nlink, names_of, bytes_of, files_of}
+use Rattle.nfs_inodes.specs.Tree.{Tree, File, Kind, Directory, Entry, Volume, entries_in, bytes_in, next_cookie_in, is_directory, is_regular, nlink, names_of, bytes_of, files_of}
 use Rattle.nfs_inodes.specs.Law.{IsName, Lives}
-use Rattle.nfs_inodes.specs.Changes as changes
-use Rattle.nfs_inodes.specs.May.{MayEnter, MayMake, MayLink, MayWrite}
+use Rattle.nfs_inodes.specs.May.{MayEnter, MayMake, MayMakeDirectory, MayLink, MayWrite}
 use Rattle.nfs_inodes.specs.Kept.{Counted, Keeps, tree_in}
 use Rattle.nfs_inodes.specs.Listing.{file_of, kind_of, entry_of, kept_of, counted_of, volume_of}
-use Rattle.nfs_inodes.specs.Adding.{TakesName, HasSpaceIn, HasRoomIn}
-use Rattle.nfs_inodes.proofs.Lists.{by_test, same_some, not_both, if_true, if_false}
-use Rattle.std.specs.Cmp.Lexicographic.{other_text}
+use Rattle.nfs_inodes.specs.Adding.{TakesName, TakesFile, MayGainLink, HasSpaceIn, HasRoomIn}
 use Rattle.nfs_inodes.specs.Reading.{place_where}
-use Rattle.nfs_inodes.proofs.Views.{filed, lives_there, none_there, share_counted}
+use Rattle.nfs_inodes.proofs.Lists.{same_some, not_both, if_false}
+use Rattle.nfs_inodes.proofs.Views.{filed, lives_there, none_there, share_at, share_counted}
 use Rattle.nfs_inodes.proofs.Shelves.{held, at_held}
 
--- a name that isn't there in the entries as they are kept isn't there
-pub fresh_in : (xs : List Listed) (name : List ℕ) → ((k : ℕ) (x : Listed) → slice_get xs k ≡ Some x → x.name.items ≢ name) → All (λ (e : Entry). e.name ≢ name) (map entry_of xs)
-fresh_in [] name free k d l = absurd (omega (arith, l))
-fresh_in (x ∷ xs) name free zero d l = free 0 x refl
-fresh_in (x ∷ xs) name free (suc k) d l = fresh_in xs name (λ j y e. free (suc j) y e) k d (omega (arith, l))
+-- `false`, where it can't hold
+pub never : {P : Type 0} → (P → ⊥) → Decides false P
+never refuted = (λ e. absurd (true≢false (sym e)), λ p. absurd (refuted p))
 
--- an entry that was looked at has another name
-pub other_name : (xs : List Listed) (name : List ℕ) (i k : ℕ) (here x : Listed) → here ≡ get_or xs i here → here.name.items ≢ name → k ≡ i → slice_get xs k ≡ Some x → x.name.items ≢ name
-other_name xs name i k here x is other at e s =
-    let same : here ≡ x = is ∙ ap (λ n. get_or xs n here) (sym at) ∙ get_or_from_slice_get xs k x here e in
-    other (ap (λ (l : Listed). l.name.items) same ∙ s)
+-- ---- searches that find nothing
 
-pub takes_name : (i : Inode) (parent next_cookie : ℕ) (entries : Vec Listed Global) (name : List ℕ) → i.node ≡ node.Directory parent next_cookie entries → next_cookie < 18446744073709551615 → IsName name → ((k : ℕ) (x : Listed) → slice_get entries.items k ≡ Some x → x.name.items ≢ name) → TakesName i name
-takes_name i parent next_cookie entries name is below is_name free =
-    let kind : kind_of i.node ≡ Directory parent next_cookie (map entry_of entries.items) = ap kind_of is in
-    record {
+-- f tells that p passes nowhere
+unfound : {X : Type 0} (p : X → Bool) (P : X → Type 0) (f : List X → Bool) → ((x : X) → Decides (p x) (P x)) → f [] ≡ true → ((x : X) (xs : List X) → f (x ∷ xs) ≡ (not (p x) && f xs)) → (xs : List X) → Decides (f xs) (All (λ x. P x → ⊥) xs)
+unfound p P f each none more = Decides-by_and (λ x. not (p x)) (λ x. P x → ⊥) f (λ x. Decides-not (p x) (each x)) none more
+
+-- no entry has a name
+unlisted : (name : List ℕ) (es : List Entry) → Decides (is_none (find (λ e. bytes_eq e.name name) es)) (All (λ (e : Entry). e.name ≢ name) es)
+unlisted name = unfound (λ (e : Entry). bytes_eq e.name name) (λ e. e.name ≡ name) (λ es. is_none (find (λ e. bytes_eq e.name name) es)) (λ e. bytes_eq-Decides e.name name) refl
+    (λ e es. first (bytes_eq e.name name) e (find (λ e. bytes_eq e.name name) es))
+  where
+    first : (b : Bool) (e : Entry) (o : Option Entry) → is_none (cond b (Some e) o) ≡ (not b && is_none o)
+    first true e o = refl
+    first false e o = refl
+
+-- no volume has a path
+pub unnamed : (path : List ℕ) (vs : List Volume) → Decides (is_none (place_where (λ (v : Volume). bytes_eq v.path path) vs)) (All (λ (v : Volume). v.path ≢ path) vs)
+unnamed path = unfound (λ (v : Volume). bytes_eq v.path path) (λ v. v.path ≡ path) (λ vs. is_none (place_where (λ (v : Volume). bytes_eq v.path path) vs)) (λ v. bytes_eq-Decides v.path path) refl
+    (λ v vs. first (bytes_eq v.path path) (place_where (λ (v : Volume). bytes_eq v.path path) vs))
+  where
+    first : (b : Bool) (o : Option ℕ) → is_none (cond b (Some 0) (option_map (λ n. n + 1) o)) ≡ (not b && is_none o)
+    first true o = refl
+    first false None = refl
+    first false (Some n) = refl
+
+pub none_told : {X : Type 0} (o : Option X) (b : Bool) → is_some o ≡ not b → b ≡ is_none o
+none_told None true e = refl
+none_told None false e = cc
+none_told (Some x) true e = cc
+none_told (Some x) false e = refl
+
+none_alike : {X Y Z : Type 0} (f : X → Z) (g : Y → Z) (o : Option X) (p : Option Y) → option_map f o ≡ option_map g p → is_none o ≡ is_none p
+none_alike f g None None e = refl
+none_alike f g None (Some y) e = absurd (not_both refl e)
+none_alike f g (Some x) None e = absurd (not_both refl (sym e))
+none_alike f g (Some x) (Some y) e = refl
+
+-- ---- entries
+
+-- the kept directory takes the name where no entry has it
+pub takes_name : {X : Type 0} (g : X → ℕ) (i : Inode) (parent next_cookie : ℕ) (entries : Vec Listed Global) (es : List Listed) (name : List ℕ) (o : Option X) (b : Bool) → i.node ≡ node.Directory parent next_cookie entries → es ≡ entries.items → next_cookie < 18446744073709551615 → IsName name →
+    option_map g o ≡ option_map (λ e. e.number) (find (λ e. bytes_eq e.name name) (map entry_of es)) → is_some o ≡ not b → Decides b (TakesName i name)
+takes_name g i parent next_cookie entries es name o b is same below is_name search none =
+    let kind : kind_of i.node ≡ Directory parent next_cookie (map entry_of es) = ap kind_of is ∙ ap (λ es. Directory parent next_cookie (map entry_of es)) (sym same) in
+    Decides-at b (is_none (find (λ e. bytes_eq e.name name) (map entry_of es))) (none_told o b none ∙ none_alike g (λ e. e.number) o (find (λ e. bytes_eq e.name name) (map entry_of es)) search)
+    (Decides-like (is_none (find (λ e. bytes_eq e.name name) (map entry_of es)))
+    (λ all. record {
       directory = ap is_directory kind;
       cookie = subst (λ (k : Kind). next_cookie_in k < 18446744073709551615) (sym kind) below;
       is_name = is_name;
-      fresh = subst (λ (k : Kind). All (λ (e : Entry). e.name ≢ name) (entries_in k)) (sym kind) (fresh_in entries.items name free);
-    }
+      fresh = subst (λ (k : Kind). All (λ (e : Entry). e.name ≢ name) (entries_in k)) (sym kind) all;
+    })
+    (λ takes. subst (λ (k : Kind). All (λ (e : Entry). e.name ≢ name) (entries_in k)) kind takes.fresh)
+    (unlisted name (map entry_of es)))
 
-pub enters : (a : Numbered Inode) (shares : List Share) (t : Tree) (d : ℕ) (i : Inode) (name : List ℕ) → tree_in (kept_of a shares) ≡ t → Some i ≡ value_at a d → TakesName i name → MayEnter t d name
-enters a shares t d i name view e takes =
-    let f = filed a d i e in
-    let is : file_of f.0.tag f.0.value ≡ file_of f.0.tag i = ap (file_of f.0.tag) f.2 in
-    record {
-      dir = file_of f.0.tag i;
-      at_dir = (lives_there a shares t view d f.0 f.1 ∙ ap Some is, takes.directory);
-      cookie = takes.cookie;
-      is_name = takes.is_name;
-      fresh = takes.fresh;
-    }
+-- there is no cookie for one entry more
+pub no_cookie : (i : Inode) (parent next_cookie : ℕ) (entries : Vec Listed Global) (name : List ℕ) → i.node ≡ node.Directory parent next_cookie entries → 18446744073709551615 ≤ next_cookie → TakesName i name → ⊥
+no_cookie i parent next_cookie entries name is high takes =
+    let low : next_cookie < 18446744073709551615 = subst (λ (k : Kind). next_cookie_in k < 18446744073709551615) (ap kind_of is) takes.cookie in omega (arith, low, high)
 
-pub false_of : (b : Bool) → IsTrue (not b) → IsFalse b
-false_of true u = cc
-false_of false u = refl
+-- ---- what is kept, and the tree
 
-pub under : (xs ys : List Listed) (name : List ℕ) → xs ≡ ys → ((k : ℕ) (x : Listed) → slice_get xs k ≡ Some x → x.name.items ≢ name) → (k : ℕ) (x : Listed) → slice_get ys k ≡ Some x → x.name.items ≢ name
-under xs ys name e free = subst (λ (zs : List Listed). (k : ℕ) (x : Listed) → slice_get zs k ≡ Some x → x.name.items ≢ name) e free
+module _ (a : Numbered Inode) (shares : List Share) (t : Tree) (view : tree_in (kept_of a shares) ≡ t) where
+  -- a kept file in the tree
+  shown_there : (n : ℕ) (i : Inode) → Some i ≡ value_at a n → (tag : ℕ) × Lives t n (file_of tag i)
+  shown_there n i e = let k = filed a n i e in (k.0.tag, lives_there a shares t view n k.0 k.1 ∙ ap (λ i. Some (file_of k.0.tag i)) k.2)
 
--- ---- volumes
+  -- and what is there under its number is like it
+  like_there : (n : ℕ) (i : Inode) → Some i ≡ value_at a n → (f : File) → Lives t n f → (i.volume ≡ f.volume) × (kind_of i.node ≡ f.kind)
+  like_there n i e f at_n = let s = shown_there n i e in let same : file_of s.0 i ≡ f = same_some (sym s.1 ∙ at_n) in
+      (ap (λ (f : File). f.volume) same, ap (λ (f : File). f.kind) same)
 
-pub volume_there : (a : Numbered Inode) (shares : List Share) (t : Tree) (place : ℕ) (s : Share) → tree_in (kept_of a shares) ≡ t → slice_get shares place ≡ Some s → slice_get t.volumes place ≡ Some (volume_of s)
-volume_there a shares t place s view e = ap (λ (t : Tree). slice_get t.volumes place) (sym view) ∙ slice_get-map (λ (c : Counted). c.volume) (map counted_of shares) place ∙ ap (option_map (λ (c : Counted). c.volume)) (share_counted shares place s e)
+  pub none_lives : (n : ℕ) → None ≡ value_at a n → (f : File) → Lives t n f → ⊥
+  none_lives n e f at_n = not_both (none_there a shares t view n e) at_n
 
-pub space_in : (a : Numbered Inode) (shares : List Share) (t : Tree) (place size : ℕ) (s : Share) → tree_in (kept_of a shares) ≡ t → Keeps (kept_of a shares) → slice_get shares place ≡ Some s → s.bytes ≤ s.max_bytes → size ≤ s.max_bytes - s.bytes → HasSpaceIn t place size
-space_in a shares t place size s view keeps e low room =
-    let told = keeps.totals place (counted_of s) (share_counted shares place s e) in
-    let has = told.bytes in
-    let sums : bytes_of place (tree_in (kept_of a shares)).files ≡ bytes_of place t.files = ap (λ (t : Tree). bytes_of place t.files) view in
-    record { volume = volume_of s; at_volume = volume_there a shares t place s view e; bytes = omega (arith, has, sums, low, room) }
+  enters : (d : ℕ) (i : Inode) (name : List ℕ) → Some i ≡ value_at a d → TakesName i name → MayEnter t d name
+  enters d i name e takes = let s = shown_there d i e in record {
+    dir = file_of s.0 i;
+    at_dir = (s.1, takes.directory);
+    cookie = takes.cookie;
+    is_name = takes.is_name;
+    fresh = takes.fresh;
+  }
 
-pub room_in : (a : Numbered Inode) (shares : List Share) (t : Tree) (place size : ℕ) (s : Share) → tree_in (kept_of a shares) ≡ t → Keeps (kept_of a shares) → slice_get shares place ≡ Some s → s.files < s.max_files → HasSpaceIn t place size → HasRoomIn t place size
-room_in a shares t place size s view keeps e few space =
-    let told = keeps.totals place (counted_of s) (share_counted shares place s e) in
-    let has = told.files in
-    let sums : files_of place (tree_in (kept_of a shares)).files ≡ files_of place t.files = ap (λ (t : Tree). files_of place t.files) view in
-    let limit : s.max_files ≡ space.volume.max_files = ap (λ (v : Volume). v.max_files) (same_some (sym (volume_there a shares t place s view e) ∙ space.at_volume)) in
-    record { space = space; files = omega (arith, has, sums, few, limit) }
+  entered : (d : ℕ) (i : Inode) (name : List ℕ) → Some i ≡ value_at a d → MayEnter t d name → TakesName i name
+  entered d i name e enter = let kind = sym (like_there d i e enter.dir enter.at_dir.0).1 in record {
+    directory = subst (λ k. is_directory k ≡ true) kind enter.at_dir.1;
+    cookie = subst (λ k. next_cookie_in k < 18446744073709551615) kind enter.cookie;
+    is_name = enter.is_name;
+    fresh = subst (λ k. All (λ (e : Entry). e.name ≢ name) (entries_in k)) kind enter.fresh;
+  }
 
--- ---- files
+  makes : (d size : ℕ) (i : Inode) (name : List ℕ) → Some i ≡ value_at a d → TakesFile t i name size → MayMake t d name size
+  makes d size i name e takes =
+      let enter = enters d i name e takes.entry in
+      let room : HasRoomIn t enter.dir.volume size = subst (λ p. HasRoomIn t p size) (like_there d i e enter.dir enter.at_dir.0).0 takes.room in
+      record { enter = enter; number = takes.number; volume = room.space.volume; at_volume = room.space.at_volume; files = room.files; bytes = room.space.bytes; large = takes.large }
 
-pub links_of : (a : Numbered Inode) (shares : List Share) (t : Tree) (n : ℕ) (i : Inode) → tree_in (kept_of a shares) ≡ t → Keeps (kept_of a shares) → Some i ≡ value_at a n → (f : File) → Lives t n f → i.nlink ≡ nlink t.files n f
-links_of a shares t n i view keeps e f at_n =
-    let k = filed a n i e in
-    let kept = keeps.links n (held k.0) (at_held a n k.0 k.1) in
-    ap (λ (i : Inode). i.nlink) (sym k.2) ∙ kept ∙ ap (λ (t : Tree). nlink t.files n (file_of k.0.tag k.0.value)) view ∙ ap (nlink t.files n) (same_some (sym (lives_there a shares t view n k.0 k.1) ∙ at_n))
+  made : (d size : ℕ) (i : Inode) (name : List ℕ) → Some i ≡ value_at a d → MayMake t d name size → TakesFile t i name size
+  made d size i name e may = record {
+    entry = entered d i name e may.enter;
+    number = may.number;
+    room = subst (λ p. HasRoomIn t p size) (sym (like_there d i e may.enter.dir may.enter.at_dir.0).0) (record { space = record { volume = may.volume; at_volume = may.at_volume; bytes = may.bytes }; files = may.files });
+    large = may.large;
+  }
 
-pub no_links : (a : Numbered Inode) (shares : List Share) (t : Tree) (n : ℕ) → tree_in (kept_of a shares) ≡ t → None ≡ value_at a n → (f : File) → Lives t n f → 0 ≡ nlink t.files n f
-no_links a shares t n view e f at_n = absurd (not_both (none_there a shares t view n e) at_n)
+  -- ---- tests of a new file
 
--- a kept file in the tree
-pub shown_there : (a : Numbered Inode) (shares : List Share) (t : Tree) (n : ℕ) (i : Inode) → tree_in (kept_of a shares) ≡ t → Some i ≡ value_at a n → (tag : ℕ) × Lives t n (file_of tag i)
-shown_there a shares t n i view e = let k = filed a n i e in (k.0.tag, lives_there a shares t view n k.0 k.1 ∙ ap (λ i. Some (file_of k.0.tag i)) k.2)
+  pub may_make_there : (d size : ℕ) (i : Inode) (name : List ℕ) (b : Bool) → Some i ≡ value_at a d → Decides b (TakesFile t i name size) → Decides b (MayMake t d name size)
+  may_make_there d size i name b e takes = Decides-like b (makes d size i name e) (made d size i name e) takes
 
-pub makes : (t : Tree) (d size : ℕ) (name : List ℕ) → MayEnter t d name → t.next < 18446744073709551615 → size ≤ 16777216 → HasRoomIn t (changes.volume_of t d) size → MayMake t d name size
-makes t d size name enter next large room =
-    let place : changes.volume_of t d ≡ enter.dir.volume = ap (λ o. on_some o 0 (λ (f : File). f.volume)) enter.at_dir.0 in
-    let here : HasRoomIn t enter.dir.volume size = subst (λ p. HasRoomIn t p size) place room in
-    record { enter = enter; number = next; volume = here.space.volume; at_volume = here.space.at_volume; files = here.files; bytes = here.space.bytes; large = large }
+  pub may_make_none : (d size : ℕ) (name : List ℕ) → None ≡ value_at a d → MayMake t d name size → ⊥
+  may_make_none d size name e may = none_lives d e may.enter.dir may.enter.at_dir.0
 
-pub links_to : (a : Numbered Inode) (shares : List Share) (t : Tree) (n d : ℕ) (name : List ℕ) (i : Inode) → tree_in (kept_of a shares) ≡ t → Keeps (kept_of a shares) → Some i ≡ value_at a n → MayEnter t d name → is_directory (kind_of i.node) ≡ false → i.volume ≡ changes.volume_of t d → i.nlink < 1000 → MayLink t n d name
-links_to a shares t n d name i view keeps e enter not_directory place few =
-    let there = shown_there a shares t n i view e in
-    let links = links_of a shares t n i view keeps e (file_of there.0 i) there.1 in
-    let names : nlink t.files n (file_of there.0 i) ≡ names_of n t.files = if_false _ _ not_directory in
-    record {
-      enter = enter;
-      file = file_of there.0 i;
-      at_file = there.1;
-      not_directory = not_directory;
-      volume = place ∙ ap (λ o. on_some o 0 (λ (f : File). f.volume)) enter.at_dir.0;
-      links = omega (arith, few, links, names);
-    }
+  module _ (keeps : Keeps (kept_of a shares)) where
+    links_there : (n : ℕ) (i : Inode) → Some i ≡ value_at a n → (f : File) → Lives t n f → i.nlink ≡ nlink t.files n f
+    links_there n i e f at_n =
+        let k = filed a n i e in
+        let kept = keeps.links n (held k.0) (at_held a n k.0 k.1) in
+        ap (λ (i : Inode). i.nlink) (sym k.2) ∙ kept ∙ ap (λ (t : Tree). nlink t.files n (file_of k.0.tag k.0.value)) view ∙ ap (nlink t.files n) (same_some (sym (lives_there a shares t view n k.0 k.1) ∙ at_n))
 
-pub writes_to : (a : Numbered Inode) (shares : List Share) (t : Tree) (n offset count grown : ℕ) (i : Inode) → tree_in (kept_of a shares) ≡ t → Some i ≡ value_at a n → is_regular (kind_of i.node) ≡ true → offset + count ≤ 16777216 → grown ≡ offset + count - length (bytes_in (kind_of i.node)) → HasSpaceIn t i.volume grown → MayWrite t n offset count
-writes_to a shares t n offset count grown i view e regular large is space =
-    let there = shown_there a shares t n i view e in
-    record {
-      file = file_of there.0 i;
-      at_file = there.1;
-      regular = regular;
-      large = large;
-      volume = space.volume;
-      at_volume = space.at_volume;
-      room = let room = space.bytes in omega (arith, room, is);
-    }
+    pub may_make_dir_there : (d : ℕ) (i : Inode) (name : List ℕ) (b : Bool) → Some i ≡ value_at a d → i.nlink < 1000 → Decides b (TakesFile t i name 0) → Decides b (MayMakeDirectory t d name)
+    may_make_dir_there d i name b e few takes = Decides-like b
+        (λ takes. let make = makes d 0 i name e takes in record { make = make; links = subst (λ n. n < 1000) (links_there d i e make.enter.dir make.enter.at_dir.0) few })
+        (λ (may : MayMakeDirectory t d name). made d 0 i name e may.make)
+        takes
 
-pub nothing : {X : Type 0} (o : Option X) (b : Bool) → is_some o ≡ not b → IsTrue b → o ≡ None
-nothing None b e u = refl
-nothing (Some x) true e u = cc
-nothing (Some x) false e u = cc
+    pub many_links : (d : ℕ) (i : Inode) (name : List ℕ) → Some i ≡ value_at a d → 1000 ≤ i.nlink → MayMakeDirectory t d name → ⊥
+    many_links d i name e many may = let few = may.links in let same = links_there d i e may.make.enter.dir may.make.enter.at_dir.0 in omega (arith, few, many, same)
 
--- where no place has a path, no volume has it
-pub unnamed : (vs : List Volume) (path : List ℕ) → place_where (λ (v : Volume). bytes_eq v.path path) vs ≡ None → All (λ (v : Volume). v.path ≢ path) vs
-unnamed [] path e = λ k d l. absurd (omega (arith, l))
-unnamed (v ∷ vs) path e = by_test (bytes_eq v.path path)
-    (λ y. absurd (some_not (option_map (λ n. n + 1) (place_where (λ (v : Volume). bytes_eq v.path path) vs)) y e))
-    (λ n. both n (unnamed vs path (none_before (place_where (λ (v : Volume). bytes_eq v.path path) vs) (sym (if_false _ _ n) ∙ e))))
-  where
-    some_not : (o : Option ℕ) → bytes_eq v.path path ≡ true → (if bytes_eq v.path path then Some 0 else o) ≡ None → ⊥
-    some_not o y e = not_both e (if_true (Some 0) o y)
+    -- ---- tests of a link
 
-    none_before : (o : Option ℕ) → option_map (λ n. n + 1) o ≡ None → o ≡ None
-    none_before None e = refl
-    none_before (Some m) e = absurd (not_both e refl)
+    pub gains_link : (n place : ℕ) (i : Inode) (b : Bool) → Some i ≡ value_at a n → Decides b ((is_directory (kind_of i.node) ≡ false) × (i.volume ≡ place) × (i.nlink < 1000)) → Decides b (MayGainLink t n place)
+    gains_link n place i b e takes = Decides-like b
+        (λ takes. let s = shown_there n i e in
+        let links = links_there n i e (file_of s.0 i) s.1 in
+        let names : nlink t.files n (file_of s.0 i) ≡ names_of n t.files = if_false _ _ takes.0 in
+        let few = takes.2 in
+        record { file = file_of s.0 i; at_file = s.1; not_directory = takes.0; volume = takes.1; links = omega (arith, few, links, names) })
+        (λ (may : MayGainLink t n place). let like = like_there n i e may.file may.at_file in
+        let links = links_there n i e may.file may.at_file in
+        let names : nlink t.files n may.file ≡ names_of n t.files = if_false _ _ may.not_directory in
+        let few = may.links in
+        (ap is_directory like.1 ∙ may.not_directory, like.0 ∙ may.volume, omega (arith, few, links, names)))
+        takes
 
-    both : bytes_eq v.path path ≡ false → All (λ (v : Volume). v.path ≢ path) vs → (k : ℕ) (d : Volume) → k < length (v ∷ vs) → (get_or (v ∷ vs) k d).path ≢ path
-    both n rest zero d l = other_text v.path path (sym n)
-    both n rest (suc k) d l = rest k d (omega (arith, l))
+    -- ---- volumes
+
+    volume_there : (place : ℕ) (s : Share) → slice_get shares place ≡ Some s → slice_get t.volumes place ≡ Some (volume_of s)
+    volume_there place s e = ap (λ (t : Tree). slice_get t.volumes place) (sym view) ∙ slice_get-map (λ (c : Counted). c.volume) (map counted_of shares) place ∙ ap (option_map (λ (c : Counted). c.volume)) (share_counted shares place s e)
+
+    its_limits : (place : ℕ) (s : Share) (v : Volume) → slice_get shares place ≡ Some s → slice_get t.volumes place ≡ Some v → volume_of s ≡ v
+    its_limits place s v e there = same_some (sym (volume_there place s e) ∙ there)
+
+    bytes_there : (place : ℕ) (s : Share) → slice_get shares place ≡ Some s → s.bytes ≡ bytes_of place t.files
+    bytes_there place s e = (keeps.totals place (counted_of s) (share_counted shares place s e)).bytes ∙ ap (λ (t : Tree). bytes_of place t.files) view
+
+    files_there : (place : ℕ) (s : Share) → slice_get shares place ≡ Some s → s.files ≡ files_of place t.files
+    files_there place s e = (keeps.totals place (counted_of s) (share_counted shares place s e)).files ∙ ap (λ (t : Tree). files_of place t.files) view
+
+    pub space_there : (place size : ℕ) (s : Share) (b : Bool) → slice_get shares place ≡ Some s → Decides b (s.bytes + size ≤ s.max_bytes) → Decides b (HasSpaceIn t place size)
+    space_there place size s b e fits = Decides-like b
+        (λ fits. let has = bytes_there place s e in record { volume = volume_of s; at_volume = volume_there place s e; bytes = omega (arith, has, fits) })
+        (λ (space : HasSpaceIn t place size). let has = bytes_there place s e in let fits = space.bytes in
+        let limit : s.max_bytes ≡ space.volume.max_bytes = ap (λ (v : Volume). v.max_bytes) (its_limits place s space.volume e space.at_volume) in
+        omega (arith, has, fits, limit))
+        fits
+
+    pub room_there : (place size : ℕ) (s : Share) (b : Bool) → slice_get shares place ≡ Some s → s.files < s.max_files → Decides b (s.bytes + size ≤ s.max_bytes) → Decides b (HasRoomIn t place size)
+    room_there place size s b e few fits = Decides-like b
+        (λ space. let limit : s.max_files ≡ space.volume.max_files = ap (λ (v : Volume). v.max_files) (its_limits place s space.volume e space.at_volume) in
+        let has = files_there place s e in record { space = space; files = omega (arith, has, few, limit) })
+        (λ (room : HasRoomIn t place size). room.space)
+        (space_there place size s b e fits)
+
+    pub full : (place size : ℕ) (s : Share) → slice_get shares place ≡ Some s → s.max_files ≤ s.files → HasRoomIn t place size → ⊥
+    full place size s e many room =
+        let limit : s.max_files ≡ room.space.volume.max_files = ap (λ (v : Volume). v.max_files) (its_limits place s room.space.volume e room.space.at_volume) in
+        let has = files_there place s e in let few = room.files in omega (arith, has, many, few, limit)
+
+  pub no_space : (place size : ℕ) → slice_get shares place ≡ None → HasSpaceIn t place size → ⊥
+  no_space place size e space = let s = share_at shares place space.volume (subst (λ (t : Tree). slice_get t.volumes place ≡ Some space.volume) (sym view) space.at_volume) in not_both e s.1
+
+  -- ---- tests of an entry for a file that is there
+
+  pub may_link_there : (n d : ℕ) (i : Inode) (name : List ℕ) (b : Bool) → Some i ≡ value_at a d → MayGainLink t n i.volume → Decides b (TakesName i name) → Decides b (MayLink t n d name)
+  may_link_there n d i name b e gains takes = Decides-like b
+      (λ takes. let enter = enters d i name e takes in record {
+        enter = enter;
+        file = gains.file;
+        at_file = gains.at_file;
+        not_directory = gains.not_directory;
+        volume = gains.volume ∙ (like_there d i e enter.dir enter.at_dir.0).0;
+        links = gains.links;
+      })
+      (λ (may : MayLink t n d name). entered d i name e may.enter)
+      takes
+
+  pub gains_by : (n d : ℕ) (i : Inode) (name : List ℕ) → Some i ≡ value_at a d → MayLink t n d name → MayGainLink t n i.volume
+  gains_by n d i name e may = record {
+    file = may.file;
+    at_file = may.at_file;
+    not_directory = may.not_directory;
+    volume = may.volume ∙ sym (like_there d i e may.enter.dir may.enter.at_dir.0).0;
+    links = may.links;
+  }
+
+  -- ---- tests of bytes
+
+  pub writes_there : (n offset count grown : ℕ) (i : Inode) (b : Bool) → Some i ≡ value_at a n → is_regular (kind_of i.node) ≡ true → offset + count ≤ 16777216 → grown ≡ offset + count - length (bytes_in (kind_of i.node)) → Decides b (HasSpaceIn t i.volume grown) → Decides b (MayWrite t n offset count)
+  writes_there n offset count grown i b e regular large is space = Decides-like b
+      (λ (space : HasSpaceIn t i.volume grown). let s = shown_there n i e in record {
+        file = file_of s.0 i;
+        at_file = s.1;
+        regular = regular;
+        large = large;
+        volume = space.volume;
+        at_volume = space.at_volume;
+        room = let room = space.bytes in omega (arith, room, is);
+      })
+      (λ (may : MayWrite t n offset count). let like = like_there n i e may.file may.at_file in
+      let room = may.room in
+      let long : length (bytes_in (kind_of i.node)) ≡ length (bytes_in may.file.kind) = ap (λ k. length (bytes_in k)) like.1 in
+      let total : bytes_of i.volume t.files ≡ bytes_of may.file.volume t.files = ap (λ p. bytes_of p t.files) like.0 in
+      record { volume = may.volume; at_volume = ap (slice_get t.volumes) like.0 ∙ may.at_volume; bytes = omega (arith, room, is, long, total) })
+      space
+
+  pub written_to : (n offset count : ℕ) (i : Inode) → Some i ≡ value_at a n → MayWrite t n offset count → (is_regular (kind_of i.node) ≡ true) × (offset + count ≤ 16777216)
+  written_to n offset count i e may = (ap is_regular (like_there n i e may.file may.at_file).1 ∙ may.regular, may.large)

@@ -1,11 +1,11 @@
 -- What the tree's own steps need.
-use Rattle.std.specs.Prelude.{◌≡◌, ℕ, ◌≢◌, ◌+◌, ◌-◌, ◌<◌, ◌≤◌, ◌^◌, All, true, List, Some, slice_get, length, if◌then◌else◌}
+use Rattle.std.specs.Prelude.{◌≡◌, ℕ, ◌≢◌, ◌+◌, ◌-◌, ◌<◌, ◌≤◌, ◌^◌, All, true, false, List, Some, slice_get, length, if◌then◌else◌}
 use Rattle.nfs_inodes.specs.declared.inode.Inode.{Inode}
 use Rattle.nfs_inodes.specs.declared.volume.Share.{Share}
-use Rattle.nfs_inodes.specs.Tree.{Tree, File, is_directory, entries_in, next_cookie_in, nlink, bytes_in, Volume, bytes_of, files_of}
+use Rattle.nfs_inodes.specs.Tree.{Tree, File, is_directory, entries_in, next_cookie_in, names_of, nlink, bytes_in, Volume, bytes_of, files_of}
 use Rattle.nfs_inodes.specs.May.{MayMake, IsNew}
 use Rattle.nfs_inodes.specs.Listing.{file_of, kind_of}
-use Rattle.nfs_inodes.specs.Law.{IsName}
+use Rattle.nfs_inodes.specs.Law.{IsName, Lives}
 
 -- the file with this tag
 abbrev pub retagged : File → ℕ → File
@@ -42,3 +42,18 @@ pub record HasSpaceIn (t : Tree) (place size : ℕ) : Type 0 where
 pub record HasRoomIn (t : Tree) (place size : ℕ) : Type 0 where
   pub space : HasSpaceIn t place size
   pub files : files_of place t.files < space.volume.max_files
+
+-- a new file of so many bytes may have an entry of this name in a kept file, a directory
+pub record TakesFile (t : Tree) (inode : Inode) (name : List ℕ) (size : ℕ) : Type 0 where
+  pub entry : TakesName inode name
+  pub number : t.next < 2 ^ 64 - 1
+  pub room : HasRoomIn t inode.volume size
+  pub large : size ≤ 16777216
+
+-- file n is no directory, is in the volume at a place, and may have a link more
+pub record MayGainLink (t : Tree) (n place : ℕ) : Type 0 where
+  pub file : File
+  pub at_file : Lives t n file
+  pub not_directory : is_directory file.kind ≡ false
+  pub volume : file.volume ≡ place
+  pub links : names_of n t.files < 1000

@@ -87,7 +87,7 @@ fn under_name(node: &Node, dir: Number, name: &[u8]) -> Option<Number>
     }
 }
 
-fn named(entries: &[Listed], name: &[u8]) -> Option<Number>
+pub(crate) fn named(entries: &[Listed], name: &[u8]) -> Option<Number>
     ensures { option_map (λ n. n.0) result ≡ option_map (λ e. e.number) (find (λ e. bytes_eq e.name name.now) (map entry_of entries.now)) }
 {
     for entry in entries {

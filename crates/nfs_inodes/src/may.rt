@@ -1,15 +1,16 @@
 //! What may be done: tests for the conditions of the tree's operations.
-ghost use Rattle.std.specs.Prelude.{◌≡◌, ◌≢◌, ℕ, ◌+◌, ◌<◌, ◌≤◌, true, false, Some, IsTrue, IsFalse, slice_get};
-ghost use Rattle.nfs_inodes.specs.declared.entry.Listed.{Listed};
-ghost use Rattle.nfs_inodes.specs.Law.{IsName, Lives};
-ghost use Rattle.nfs_inodes.specs.Adding.{TakesName, HasRoomIn, HasSpaceIn};
-ghost use Rattle.nfs_inodes.specs.Tree.{File, nlink, is_directory, is_regular};
+ghost use Rattle.std.specs.Prelude.{◌≡◌, ◌≢◌, ◌↔◌, ◌+◌, ◌<◌, ◌≤◌, true, false, IsTrue, IsFalse, All};
+ghost use Rattle.nfs_inodes.specs.Law.{IsName};
+ghost use Rattle.nfs_inodes.specs.Adding.{TakesName, TakesFile, MayGainLink, HasRoomIn, HasSpaceIn};
+ghost use Rattle.nfs_inodes.specs.Tree.{is_directory, is_regular};
 ghost use Rattle.nfs_inodes.specs.Listing.{kind_of};
-ghost use Rattle.nfs_inodes.specs.May.{MayEnter, MayMake, MayMakeDirectory, MayMakeLink, MayLink, MayWrite, MayFound};
+ghost use Rattle.nfs_inodes.specs.May.{MayMake, MayMakeDirectory, MayMakeLink, MayLink, MayWrite, MayFound};
 
-use crate::entry::Listed;
 use crate::inode::{Inode, Node};
+use crate::lookup::named;
 use crate::tree::Tree;
+use crate::volume::Share;
+use crate::volumes::share_at;
 use nfs_handles::number::Number;
 
 /// The most bytes that a regular file has.
@@ -28,7 +29,7 @@ pub const MAX_LINKS: u32 = 1_000;
 impl Tree {
     /// Whether a volume of this path and for so many files may be added.
     pub fn may_add_volume(&self, path: &[u8], max_files: u64) -> bool
-        ensures { IsTrue result → MayFound self.now path.now max_files }
+        ensures { IsTrue result ↔ MayFound self.now path.now max_files }
     {
         if self.volumes() >= MAX_VOLUMES || path.len() > MAX_VOLUME_PATH_BYTES {
             return false;
@@ -41,53 +42,57 @@ impl Tree {
 
     /// Whether a regular file of so many bytes may be made under this name in directory `dir`.
     pub fn may_make(&self, dir: Number, name: &[u8], size: usize) -> bool
-        ensures { IsTrue result → MayMake self.now dir.0 name.now size }
+        ensures { IsTrue result ↔ MayMake self.now dir.0 name.now size }
     {
-        if !self.may_enter(dir, name) {
-            return false;
+        match self.files.get(dir) {
+            Some(inode) => self.takes_file(inode, name, size),
+            None => false,
         }
-        if self.files.next() >= u64::MAX || size > MAX_FILE_BYTES {
-            return false;
-        }
-        self.has_room(self.place(dir), size as u64)
     }
 
     /// Whether a directory may be made under this name in directory `dir`.
     pub fn may_make_dir(&self, dir: Number, name: &[u8]) -> bool
-        ensures { IsTrue result → MayMakeDirectory self.now dir.0 name.now }
+        ensures { IsTrue result ↔ MayMakeDirectory self.now dir.0 name.now }
     {
-        if !self.may_make(dir, name, 0) {
-            return false;
+        match self.files.get(dir) {
+            Some(inode) => {
+                if inode.nlink >= MAX_LINKS {
+                    return false;
+                }
+                self.takes_file(inode, name, 0)
+            }
+            None => false,
         }
-        self.links(dir) < MAX_LINKS
     }
 
     /// Whether a link with this path may be made under this name in directory `dir`.
     pub fn may_make_link(&self, dir: Number, name: &[u8], path: &[u8]) -> bool
-        ensures { IsTrue result → MayMakeLink self.now dir.0 name.now path.now }
+        ensures { IsTrue result ↔ MayMakeLink self.now dir.0 name.now path.now }
     {
-        if !self.may_make(dir, name, 0) {
+        if path.len() > MAX_PATH_BYTES {
             return false;
         }
-        path.len() <= MAX_PATH_BYTES
+        self.may_make(dir, name, 0)
     }
 
     /// Whether directory `dir` may have an entry of this name for the file `number`.
     pub fn may_link(&self, number: Number, dir: Number, name: &[u8]) -> bool
-        ensures { IsTrue result → MayLink self.now number.0 dir.0 name.now }
+        ensures { IsTrue result ↔ MayLink self.now number.0 dir.0 name.now }
     {
-        if !self.may_enter(dir, name) {
-            return false;
-        }
-        match self.files.get(number) {
-            Some(inode) => takes_link(inode, self.place(dir)),
+        match self.files.get(dir) {
+            Some(inode) => {
+                if !self.may_gain_link(number, inode.volume) {
+                    return false;
+                }
+                takes_entry(inode, name)
+            }
             None => false,
         }
     }
 
     /// Whether so many bytes may be put at an offset of the file `number`.
     pub fn may_write(&self, number: Number, offset: usize, count: usize) -> bool
-        ensures { IsTrue result → MayWrite self.now number.0 offset count }
+        ensures { IsTrue result ↔ MayWrite self.now number.0 offset count }
     {
         match self.files.get(number) {
             Some(inode) => {
@@ -101,57 +106,72 @@ impl Tree {
         }
     }
 
+    // Whether a kept file is a directory that takes a new file of so many bytes under this name.
+    fn takes_file(&self, inode: &Inode, name: &[u8], size: usize) -> bool
+        ensures { IsTrue result ↔ TakesFile self.now inode.now name.now size }
+    {
+        if self.files.next() >= u64::MAX || size > MAX_FILE_BYTES {
+            return false;
+        }
+        if !self.has_room(inode.volume, size as u64) {
+            return false;
+        }
+        takes_entry(inode, name)
+    }
+
+    // Whether the file `number` may have one link more, from the volume at a place.
+    fn may_gain_link(&self, number: Number, place: usize) -> bool
+        ensures { IsTrue result ↔ MayGainLink self.now number.0 place }
+    {
+        match self.files.get(number) {
+            Some(inode) => takes_link(inode, place),
+            None => false,
+        }
+    }
+
     // Whether the volume at a place may have one file more, with so many bytes.
     fn has_room(&self, place: usize, size: u64) -> bool
-        ensures { IsTrue result → HasRoomIn self.now place size }
+        ensures { IsTrue result ↔ HasRoomIn self.now place size }
     {
-        match self.volumes.get(place) {
-            Some(share) => share.files < share.max_files && self.has_space(place, size),
+        match share_at(self.volumes.as_slice(), place) {
+            Some(share) => {
+                if share.files >= share.max_files {
+                    return false;
+                }
+                takes_size(share, size)
+            }
             None => false,
         }
     }
 
     // Whether the volume at a place may have so many bytes more.
     fn has_space(&self, place: usize, size: u64) -> bool
-        ensures { IsTrue result → HasSpaceIn self.now place size }
+        ensures { IsTrue result ↔ HasSpaceIn self.now place size }
     {
-        match self.volumes.get(place) {
-            Some(share) => share.bytes <= share.max_bytes && size <= share.max_bytes - share.bytes,
-            None => false,
-        }
-    }
-
-    // The links of a file; 0 where there is none.
-    fn links(&self, number: Number) -> u32
-        ensures { (f : File) → Lives self.now number.0 f → result ≡ nlink self.now.files number.0 f }
-    {
-        match self.files.get(number) {
-            Some(inode) => inode.nlink,
-            None => 0,
-        }
-    }
-
-    // Whether directory `dir` takes an entry of this name.
-    fn may_enter(&self, dir: Number, name: &[u8]) -> bool
-        ensures { IsTrue result → MayEnter self.now dir.0 name.now }
-    {
-        match self.files.get(dir) {
-            Some(inode) => takes_entry(inode, name),
+        match share_at(self.volumes.as_slice(), place) {
+            Some(share) => takes_size(share, size),
             None => false,
         }
     }
 }
 
+// Whether so many bytes more are within a volume's limit.
+fn takes_size(share: &Share, size: u64) -> bool
+    ensures { IsTrue result ↔ (share.now.bytes + size ≤ share.now.max_bytes) }
+{
+    share.bytes <= share.max_bytes && size <= share.max_bytes - share.bytes
+}
+
 // Whether a kept file is no directory, of the volume at a place, and may have a link more.
 fn takes_link(inode: &Inode, place: usize) -> bool
-    ensures { IsTrue result → (is_directory (kind_of inode.now.node) ≡ false) × (inode.now.volume ≡ place) × (inode.now.nlink < 1000) }
+    ensures { IsTrue result ↔ ((is_directory (kind_of inode.now.node) ≡ false) × (inode.now.volume ≡ place) × (inode.now.nlink < 1000)) }
 {
     !inode.is_directory() && inode.volume == place && inode.nlink < MAX_LINKS
 }
 
 // Whether a kept file is regular, and so many bytes at an offset are within the limit.
 fn takes_bytes(inode: &Inode, offset: usize, count: usize) -> bool
-    ensures { IsTrue result → (is_regular (kind_of inode.now.node) ≡ true) × (offset + count ≤ 16777216) }
+    ensures { IsTrue result ↔ ((is_regular (kind_of inode.now.node) ≡ true) × (offset + count ≤ 16777216)) }
 {
     if offset > MAX_FILE_BYTES || count > MAX_FILE_BYTES - offset {
         return false;
@@ -164,7 +184,7 @@ fn takes_bytes(inode: &Inode, offset: usize, count: usize) -> bool
 
 // Whether a kept file is a directory that takes an entry of this name.
 fn takes_entry(inode: &Inode, name: &[u8]) -> bool
-    ensures { IsTrue result → TakesName inode.now name.now }
+    ensures { IsTrue result ↔ TakesName inode.now name.now }
 {
     match &inode.node {
         Node::Directory {
@@ -178,7 +198,7 @@ fn takes_entry(inode: &Inode, name: &[u8]) -> bool
             if !is_name(name) {
                 return false;
             }
-            !has_name(entries.as_slice(), name)
+            named(entries.as_slice(), name).is_none()
         }
         _ => false,
     }
@@ -186,33 +206,23 @@ fn takes_entry(inode: &Inode, name: &[u8]) -> bool
 
 /// Whether these bytes may name an entry: 1 to 255 of them, none 0 or `/`, neither `.` nor `..`.
 pub fn is_name(name: &[u8]) -> bool
-    ensures { IsTrue result → IsName name.now }
+    ensures { IsTrue result ↔ IsName name.now }
 {
-    !name.is_empty()
-        && name.len() <= MAX_NAME_BYTES
-        && !has_separator(name)
-        && name != b".".as_slice()
-        && name != b"..".as_slice()
+    if name.is_empty() || name.len() > MAX_NAME_BYTES {
+        return false;
+    }
+    if name == b".".as_slice() || name == b"..".as_slice() {
+        return false;
+    }
+    !has_separator(name)
 }
 
 // Whether there is a byte 0 or `/`.
 fn has_separator(name: &[u8]) -> bool
-    ensures { IsFalse result → (k byte : ℕ) → slice_get name.now k ≡ Some byte → (byte ≢ 0) × (byte ≢ 47) }
+    ensures { IsFalse result ↔ All (λ byte. (byte ≢ 0) × (byte ≢ 47)) name.now }
 {
     for byte in name {
         if *byte == 0 || *byte == b'/' {
-            return true;
-        }
-    }
-    false
-}
-
-// Whether one of the entries has this name.
-fn has_name(entries: &[Listed], name: &[u8]) -> bool
-    ensures { IsFalse result → (k : ℕ) (x : Listed) → slice_get entries.now k ≡ Some x → x.name.items ≢ name.now }
-{
-    for entry in entries {
-        if entry.name.as_slice() == name {
             return true;
         }
     }

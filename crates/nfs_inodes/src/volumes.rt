@@ -71,7 +71,7 @@ impl Tree {
     }
 }
 
-fn share_at(volumes: &[Share], place: usize) -> Option<&Share>
+pub(crate) fn share_at(volumes: &[Share], place: usize) -> Option<&Share>
     ensures { option_copied result ≡ slice_get volumes.now place }
 {
     volumes.get(place)

@@ -1,11 +1,13 @@
-use Rattle.std.proofs.Common.{◌≡◌, List, length, Some, refl, subst}
+use Rattle.std.proofs.Common.{ap, sym, ◌∙◌}
 use Rattle.std.specs.Prelude.{slice_get}
-use Rattle.std.proofs.lemmas.Option.{slice_get_read}
-use Rattle.nfs_inodes.specs.declared.volume.Share.{Share}
-use Rattle.nfs_inodes.proofs.Tests.{room_in}
+use Rattle.nfs_inodes.proofs.Tests.{never, room_there, full, no_space}
 use Rattle.nfs_inodes.proofs.tree.Tree.has_room.Goals as goal
 
 pub returns-then-share : goal.returns-then-share
-returns-then-share c = λ u. room_in c.self.inside.files c.self.inside.volumes.items c.args.self.now c.args.place c.args.size c.in-Some.share.now c.self.view_is c.self.invariant
-    (subst (λ (xs : List Share). slice_get xs c.args.place ≡ Some c.in-Some.share.now) c.deref.ensures.value (slice_get_read c.deref.result.now (length c.deref.result.now) c.args.place c.in-Some.share.now refl c.in-Some.ensures.lookup.3.0 c.in-Some.ensures.lookup.1))
-    c.if-share.true (c.has_space.ensures u)
+returns-then-share c = never (full c.self.inside.files c.self.inside.volumes.items c.args.self.now c.self.view_is c.self.invariant c.args.place c.args.size c.in-Some.share.now (ap (λ vs. slice_get vs c.args.place) (sym c.as_slice.ensures.value) ∙ sym c.in-Some.ensures) c.if-share.true)
+
+pub returns-else-share : goal.returns-else-share
+returns-else-share c = room_there c.self.inside.files c.self.inside.volumes.items c.args.self.now c.self.view_is c.self.invariant c.args.place c.args.size c.in-Some.share.now c.takes_size.result (ap (λ vs. slice_get vs c.args.place) (sym c.as_slice.ensures.value) ∙ sym c.in-Some.ensures) c.if-share.false c.takes_size.ensures
+
+pub returns-in-None : goal.returns-in-None
+returns-in-None c = never (λ room. no_space c.self.inside.files c.self.inside.volumes.items c.args.self.now c.self.view_is c.args.place c.args.size (ap (λ vs. slice_get vs c.args.place) (sym c.as_slice.ensures.value) ∙ sym c.in-None.ensures) room.space)

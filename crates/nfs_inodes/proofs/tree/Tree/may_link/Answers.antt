@@ -1,6 +1,14 @@
-use Rattle.std.proofs.Common.{◌∙◌}
-use Rattle.nfs_inodes.proofs.Tests.{links_to}
+use Rattle.std.proofs.lemmas.Bool.Decides.{not_from_Decides}
+use Rattle.nfs_inodes.proofs.Tests.{never, may_link_there, gains_by, none_lives}
 use Rattle.nfs_inodes.proofs.tree.Tree.may_link.Goals as goal
 
-pub returns-in-Some : goal.returns-in-Some
-returns-in-Some c = λ u. let t = c.takes_link.ensures u in links_to c.self.inside.files c.self.inside.volumes.items c.args.self.now c.args.number.0 c.args.dir.0 c.args.name.now c.in-Some.inode.now c.self.view_is c.self.invariant c.in-Some.ensures (c.may_enter.ensures c.if-not-may_enter.false) t.0 (t.1 ∙ c.place.ensures) t.2
+pub returns-then-not-may_gain_link : goal.returns-then-not-may_gain_link
+returns-then-not-may_gain_link c = never (λ may. not_from_Decides c.may_gain_link.result c.may_gain_link.ensures c.if-not-may_gain_link.true
+    (gains_by c.self.inside.files c.self.inside.volumes.items c.args.self.now c.self.view_is c.args.number.0 c.args.dir.0 c.in-Some.inode.now c.args.name.now c.in-Some.ensures may))
+
+pub returns-else-not-may_gain_link : goal.returns-else-not-may_gain_link
+returns-else-not-may_gain_link c = may_link_there c.self.inside.files c.self.inside.volumes.items c.args.self.now c.self.view_is c.args.number.0 c.args.dir.0 c.in-Some.inode.now c.args.name.now c.takes_entry.result c.in-Some.ensures
+    (c.may_gain_link.ensures.0 c.if-not-may_gain_link.false) c.takes_entry.ensures
+
+pub returns-in-None : goal.returns-in-None
+returns-in-None c = never (λ may. none_lives c.self.inside.files c.self.inside.volumes.items c.args.self.now c.self.view_is c.args.dir.0 c.in-None.ensures may.enter.dir may.enter.at_dir.0)

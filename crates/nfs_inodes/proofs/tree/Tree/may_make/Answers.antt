@@ -1,10 +1,8 @@
-use Rattle.std.proofs.Common.{◌<◌, ap, subst, ◌∙◌}
-use Rattle.nfs_inodes.specs.Tree.{Tree}
-use Rattle.nfs_inodes.specs.Adding.{HasRoomIn}
-use Rattle.nfs_inodes.proofs.Tests.{makes}
+use Rattle.nfs_inodes.proofs.Tests.{never, may_make_there, may_make_none}
 use Rattle.nfs_inodes.proofs.tree.Tree.may_make.Goals as goal
 
-pub returns : goal.returns
-returns c = λ u. makes c.args.self.now c.args.dir.0 c.args.size c.args.name.now (c.may_enter.ensures c.if-not-may_enter.false)
-    (subst (λ n. n < 18446744073709551615) (c.next.ensures ∙ ap (λ (t : Tree). t.next) c.self.view_is) c.if-next-ge18446744073709551615.false) c.if-size-gt-MAX_FILE_BYTES.false
-    (subst (λ p. HasRoomIn c.args.self.now p c.args.size) c.place.ensures (c.has_room.ensures u))
+pub returns-in-Some : goal.returns-in-Some
+returns-in-Some c = may_make_there c.self.inside.files c.self.inside.volumes.items c.args.self.now c.self.view_is c.args.dir.0 c.args.size c.in-Some.inode.now c.args.name.now c.takes_file.result c.in-Some.ensures c.takes_file.ensures
+
+pub returns-in-None : goal.returns-in-None
+returns-in-None c = never (may_make_none c.self.inside.files c.self.inside.volumes.items c.args.self.now c.self.view_is c.args.dir.0 c.args.size c.args.name.now c.in-None.ensures)
