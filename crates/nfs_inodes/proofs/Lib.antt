@@ -14,3 +14,4 @@ pub mod Tests
 pub mod Readers
 pub mod Example
 pub mod Climbs
+pub mod Lawful

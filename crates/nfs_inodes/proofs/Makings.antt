@@ -1,19 +1,19 @@
 -- A new file, in what is kept.
-use Rattle.std.proofs.Common.{◌≡◌, ◌≢◌, ℕ, ◌+◌, ◌-◌, ◌<◌, ◌≤◌, Bool, true, false, List, [], ◌∷◌, ◌++◌, map, length, Option, Some, None, refl, sym, ap, subst, ◌∙◌, arith}
+use Rattle.std.proofs.Common.{◌≡◌, ℕ, ◌+◌, ◌-◌, ◌<◌, Bool, true, false, List, [], ◌∷◌, ◌++◌, map, length, Option, Some, None, refl, sym, ap, subst, ◌∙◌, arith}
 use Rattle.std.proofs.Common.{Fits, w64}
 use Rattle.std.specs.Bool.{◌==◌}
 use Rattle.nfs_inodes.specs.declared.entry.Listed.{Listed}
-use Rattle.std.specs.Prelude.{slice_get, ◌%◌, All, AllPairs, if◌then◌else◌}
+use Rattle.std.specs.Prelude.{slice_get, if◌then◌else◌}
 use Rattle.nfs_attrs.specs.declared.moment.Moment.{Moment}
 use Rattle.nfs_handles.specs.Numbered.{Numbered}
 use Rattle.nfs_inodes.specs.declared.inode.Inode.{Inode}
 use Rattle.nfs_inodes.specs.declared.volume.Share.{Share}
-use Rattle.nfs_inodes.specs.Tree.{Tree, File, Kind, Regular, Directory, Link, Entry, Volume, on_some, is_directory, is_regular, entries_in, path_in, parent_in, bytes_in, next_cookie_in, nlink, bytes_of, files_of}
-use Rattle.nfs_inodes.specs.Law.{IsName, IsSound}
+use Rattle.nfs_inodes.specs.Tree.{Tree, File, Kind, Directory, Volume, on_some, is_directory, is_regular, bytes_in, next_cookie_in, nlink, bytes_of, files_of}
+use Rattle.nfs_inodes.specs.Law.{IsSound}
 use Rattle.nfs_inodes.specs.Changes.{made, Makes, entered, new_file, linked, written, overwritten, changed, volume_added, founded}
 use Rattle.nfs_inodes.specs.Changes as changes
 use Rattle.nfs_inodes.specs.declared.new_file.NewFile.{NewFile}
-use Rattle.nfs_inodes.specs.May.{MayEnter, MayMake, MayLink, MayWrite, MayFound}
+use Rattle.nfs_inodes.specs.May.{MayEnter, MayMake, MayLink, MayWrite, MayFound, IsNew}
 use Rattle.nfs_inodes.specs.Kept.{Held, Counted, Kept, Keeps, tree_in, with_totals}
 use Rattle.nfs_inodes.specs.Listing.{file_of, entry_of, held_of, helds, counted_of, kept_of}
 use Rattle.nfs_inodes.specs.Inodes.{TakesEntry, AddsFile, TakesLink, LinksFile, TakesBytes, WritesFile}
@@ -27,6 +27,7 @@ use Rattle.nfs_inodes.proofs.Shelves.{held, at_held}
 use Rattle.nfs_inodes.proofs.Keeping.{KeepsNew, kept_made, view_made, keeps_made}
 use Rattle.nfs_inodes.proofs.KeepingMore.{kept_linked, KeepsLink, view_linked, keeps_linked, kept_written, KeepsBytes, view_written, keeps_written, kept_founded, view_founded, keeps_founded}
 use Rattle.nfs_inodes.proofs.Operations.{apart_kinds}
+use Rattle.nfs_inodes.proofs.Lawful.{IsFresh, new_here, may_be_founded, impossible}
 use Rattle.nfs_inodes.proofs.Births.{MayBeFounded}
 use Rattle.nfs_inodes.proofs.Views.{lives, kept_at, share_at, share_counted}
 
@@ -131,64 +132,22 @@ module _ (a : Numbered Inode) (shares : List Share) (d : ℕ) (name : List ℕ) 
       new_is = ap tree_in kept_is ∙ view_made (kept_of a shares) d size name now dir_held dir_now new_held inode.volume keeps.law has;
     }
 
--- ---- what a new file is like
-
-pub record IsFresh (d size : ℕ) (k : Kind) : Type 0 where
-  pub empty : entries_in k ≡ []
-  pub bytes : length (bytes_in k) ≡ size
-  pub path : length (path_in k) ≤ 1024
-  pub parent : is_directory k ≡ true → parent_in k ≡ d
-  pub next_cookie : is_directory k ≡ true → 3 ≤ next_cookie_in k
-
-fresh_sound : (f : File) (d size : ℕ) → IsFresh d size f.kind → f.mode < 4096 → size ≤ 16777216 → IsSound f
-fresh_sound f d size fresh mode large = let long = fresh.bytes in record {
-  mode = mode;
-  bytes = omega (arith, long, large);
-  path = fresh.path;
-  names = subst (λ es. All (λ (e : Entry). IsName e.name) es) (sym fresh.empty) (λ k x l. absurd (omega (arith, l)));
-  cookies = subst (λ es. All (λ (e : Entry). (3 ≤ e.cookie) × (e.cookie < next_cookie_in f.kind)) es) (sym fresh.empty) (λ k x l. absurd (omega (arith, l)));
-  next_cookie = fresh.next_cookie;
-  apart = subst (λ es. AllPairs (λ (e g : Entry). (e.name ≢ g.name) × (e.cookie < g.cookie)) es) (sym fresh.empty) (λ i j x l m. absurd (omega (arith, m)));
-}
+-- ---- a file to be added
 
 pub may_add : (t : Tree) (d size : ℕ) (name : List ℕ) (k : Kind) (given : NewFile) (verifier : Option (List ℕ)) (now : Moment) (inode : Inode) (place : ℕ) (may : MayMake t d name size) → place ≡ changes.volume_of t d → file_of 0 inode ≡ new_file place k given verifier 0 now → inode.nlink ≡ (if is_directory k then 2 else 1) → IsFresh d size k → (is_directory k ≡ true → nlink t.files d may.enter.dir < 1000) → MayAdd t d name inode
 may_add t d size name k given verifier now inode place may is_place is links fresh few =
     let f : File = file_of 0 inode in
     let kind : f.kind ≡ k = ap (λ (f : File). f.kind) is in
     let long : size ≡ length (bytes_in f.kind) = sym (ap (λ k. length (bytes_in k)) kind ∙ fresh.bytes) in
-    let mode : f.mode ≡ given.mode % 4096 = ap (λ (f : File). f.mode) is in
+    let new : IsNew d size may.enter.dir f = new_here t d size name k given f may kind (ap (λ (f : File). f.volume) is ∙ is_place) (ap (λ (f : File). f.mode) is) fresh in
     let sized : (m : MayMake t d name (length (bytes_in f.kind))) × (m.enter.dir ≡ may.enter.dir) = subst (λ n. (m : MayMake t d name n) × (m.enter.dir ≡ may.enter.dir)) long (may, refl) in
     let directory : is_directory f.kind ≡ is_directory k = ap is_directory kind in
     record {
       may = sized.0;
-      is_new = record {
-        sound = fresh_sound f d size (subst (IsFresh d size) (sym kind) fresh) (subst (λ m. m < 4096) (sym mode) (low_bits given.mode)) may.large;
-        volume = ap (λ (f : File). f.volume) is ∙ is_place ∙ ap (λ o. on_some o 0 (λ (k : File). k.volume)) may.enter.at_dir.0 ∙ ap (λ (f : File). f.volume) (sym sized.1);
-        empty = ap entries_in kind ∙ fresh.empty;
-        bytes = refl;
-        parent = λ y. ap parent_in kind ∙ fresh.parent (sym directory ∙ y);
-      };
+      is_new = subst (λ g. IsNew d (length (bytes_in f.kind)) g f) (sym sized.1) (subst (λ n. IsNew d n may.enter.dir f) long new);
       links = λ y. subst (λ (g : File). nlink t.files d g < 1000) (sym sized.1) (few (sym directory ∙ y));
       nlink = links ∙ ap (λ (b : Bool). if b then 2 else 1) (sym directory);
     }
-  where
-    low_bits : (m : ℕ) → m % 4096 < 4096
-    low_bits m = omega arith
-
-pub fresh_file : (d size : ℕ) (bytes : List ℕ) → length bytes ≡ size → IsFresh d size (Regular bytes)
-fresh_file d size bytes e = record { empty = refl; bytes = e; path = omega arith; parent = λ y. cc; next_cookie = λ y. cc }
-
-pub fresh_directory : (d : ℕ) → IsFresh d 0 (Directory d 3 [])
-fresh_directory d = record { empty = refl; bytes = refl; path = omega arith; parent = λ y. refl; next_cookie = λ y. omega arith }
-
-pub fresh_link : (d : ℕ) (path : List ℕ) → length path ≤ 1024 → IsFresh d 0 (Link path)
-fresh_link d path h = record { empty = refl; bytes = refl; path = h; parent = λ y. cc; next_cookie = λ y. cc }
-
-pub impossible : {P : Type 0} → false ≡ true → P
-impossible e = absurd (no e)
-  where
-    no : false ≡ true → ⊥
-    no e = cc
 
 -- ---- a link
 
@@ -326,8 +285,11 @@ module _ (a : Numbered Inode) (shares : List Share) (path : List ℕ) (max_bytes
     abbrev root_held : Held
     root_held = held_of adds.tag inode
 
-    root_is : root_held.file ≡ new_file (length shares) (Directory a.next 3 []) given None adds.tag now
-    root_is = ap (λ (f : File). retagged f adds.tag) is
+    places : length (tree_in (kept_of a shares)).volumes ≡ length shares
+    places = length-map (map counted_of shares) (λ (c : Counted). c.volume) ∙ length-map shares counted_of
+
+    root_is : root_held.file ≡ new_file (length (tree_in (kept_of a shares)).volumes) (Directory a.next 3 []) given None adds.tag now
+    root_is = ap (λ (f : File). retagged f adds.tag) is ∙ ap (λ n. new_file n (Directory a.next 3 []) given None adds.tag now) (sym places)
 
     founded_kept : kept_of b (shares ++ share ∷ []) ≡ kept_founded (kept_of a shares) the_volume root_held
     founded_kept = kept_parts (kept_founded (kept_of a shares) the_volume root_held) (kept_of b (shares ++ share ∷ []))
@@ -336,26 +298,8 @@ module _ (a : Numbered Inode) (shares : List Share) (path : List ℕ) (max_bytes
         (ap (λ (k : Numbered Inode). k.key) adds.new_is)
         (map-append counted_of shares (share ∷ []) ∙ ap (λ c. map counted_of shares ++ c ∷ []) counted)
 
-    places : length (tree_in (kept_of a shares)).volumes ≡ length shares
-    places = length-map (map counted_of shares) (λ (c : Counted). c.volume) ∙ length-map shares counted_of
-
     may_be : MayBeFounded (tree_in (kept_of a shares)) the_volume root_held.file
-    may_be =
-        let k = ap (λ (f : File). f.kind) root_is in
-        let low : given.mode % 4096 < 4096 = omega arith in
-        record {
-          few = may.few;
-          path = may.short;
-          fresh = may.fresh;
-          root = refl;
-          files = may.files;
-          sound = subst IsSound (sym root_is) (fresh_sound (new_file (length shares) (Directory a.next 3 []) given None adds.tag now) a.next 0 (fresh_directory a.next) low (omega arith));
-          is_dir = ap is_directory k;
-          parent = ap parent_in k;
-          empty = ap entries_in k;
-          no_bytes = ap bytes_in k;
-          volume = ap (λ (f : File). f.volume) root_is ∙ sym places;
-        }
+    may_be = may_be_founded (tree_in (kept_of a shares)) path max_bytes max_files adds.tag given now root_held.file may root_is
 
     pub keeps_volume : Keeps (kept_of b (shares ++ share ∷ []))
     keeps_volume = subst Keeps (sym founded_kept) (keeps_founded (kept_of a shares) the_volume root_held keeps may_be two wide wide_files)
@@ -365,5 +309,5 @@ module _ (a : Numbered Inode) (shares : List Share) (path : List ℕ) (max_bytes
       tag = adds.tag;
       fits = adds.fits;
       new_is = ap tree_in founded_kept ∙ view_founded (kept_of a shares) the_volume root_held
-          ∙ ap (founded (tree_in (kept_of a shares)) the_volume) (root_is ∙ ap (λ n. new_file n (Directory a.next 3 []) given None adds.tag now) (sym places));
+          ∙ ap (founded (tree_in (kept_of a shares)) the_volume) root_is;
     }

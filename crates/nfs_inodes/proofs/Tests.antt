@@ -81,11 +81,6 @@ takes_name g i parent next_cookie entries es name o b is same below is_name sear
     (λ takes. subst (λ (k : Kind). All (λ (e : Entry). e.name ≢ name) (entries_in k)) kind takes.fresh)
     (unlisted name (map entry_of es)))
 
--- there is no cookie for one entry more
-pub no_cookie : (i : Inode) (parent next_cookie : ℕ) (entries : Vec Listed Global) (name : List ℕ) → i.node ≡ node.Directory parent next_cookie entries → 18446744073709551615 ≤ next_cookie → TakesName i name → ⊥
-no_cookie i parent next_cookie entries name is high takes =
-    let low : next_cookie < 18446744073709551615 = subst (λ (k : Kind). next_cookie_in k < 18446744073709551615) (ap kind_of is) takes.cookie in omega (arith, low, high)
-
 -- ---- what is kept, and the tree
 
 module _ (a : Numbered Inode) (shares : List Share) (t : Tree) (view : tree_in (kept_of a shares) ≡ t) where
