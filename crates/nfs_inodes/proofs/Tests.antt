@@ -148,8 +148,8 @@ module _ (a : Numbered Inode) (shares : List Share) (t : Tree) (view : tree_in (
         (λ (may : MayMakeDirectory t d name). made d 0 i name e may.make)
         takes
 
-    pub many_links : (d : ℕ) (i : Inode) (name : List ℕ) → Some i ≡ value_at a d → 1000 ≤ i.nlink → MayMakeDirectory t d name → ⊥
-    many_links d i name e many may = let few = may.links in let same = links_there d i e may.make.enter.dir may.make.enter.at_dir.0 in omega (arith, few, many, same)
+    pub few_links : (d : ℕ) (i : Inode) (name : List ℕ) → Some i ≡ value_at a d → MayMakeDirectory t d name → i.nlink < 1000
+    few_links d i name e may = let few = may.links in let same = links_there d i e may.make.enter.dir may.make.enter.at_dir.0 in omega (arith, few, same)
 
     -- ---- tests of a link
 

@@ -56,7 +56,7 @@ impl Tree {
     {
         match self.files.get(dir) {
             Some(inode) => {
-                if inode.nlink >= MAX_LINKS {
+                if !has_link_left(inode) {
                     return false;
                 }
                 self.takes_file(inode, name, 0)
@@ -166,7 +166,14 @@ fn takes_size(share: &Share, size: u64) -> bool
 fn takes_link(inode: &Inode, place: usize) -> bool
     ensures { IsTrue result ↔ ((is_directory (kind_of inode.now.node) ≡ false) × (inode.now.volume ≡ place) × (inode.now.nlink < 1000)) }
 {
-    !inode.is_directory() && inode.volume == place && inode.nlink < MAX_LINKS
+    !inode.is_directory() && inode.volume == place && has_link_left(inode)
+}
+
+// Whether a kept file may have a link more.
+fn has_link_left(inode: &Inode) -> bool
+    ensures { IsTrue result ↔ (inode.now.nlink < 1000) }
+{
+    inode.nlink < MAX_LINKS
 }
 
 // Whether a kept file is regular, and so many bytes at an offset are within the limit.
