@@ -1,5 +1,6 @@
 //! What may be done: tests for the conditions of the tree's operations.
 ghost use Rattle.std.specs.Prelude.{◌≡◌, ◌≢◌, ◌↔◌, ◌+◌, ◌<◌, ◌≤◌, true, false, IsTrue, IsFalse, All};
+ghost use Rattle.std.specs.Bool.{MatchBool};
 ghost use Rattle.nfs_inodes.specs.Law.{IsName};
 ghost use Rattle.nfs_inodes.specs.Adding.{TakesName, TakesFile, MayGainLink, HasRoomIn, HasSpaceIn};
 ghost use Rattle.nfs_inodes.specs.Tree.{is_directory, is_regular};
@@ -52,7 +53,7 @@ impl Tree {
 
     /// Whether a directory may be made under this name in directory `dir`.
     pub fn may_make_dir(&self, dir: Number, name: &[u8]) -> bool
-        ensures { IsTrue result ↔ MayMakeDirectory self.now dir.0 name.now }
+        ensures { MatchBool result (MayMakeDirectory self.now dir.0 name.now) (¬ (MayMakeDirectory self.now dir.0 name.now)) }
     {
         match self.files.get(dir) {
             Some(inode) => {
