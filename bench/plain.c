@@ -1,6 +1,7 @@
 /* The baselines of the measures: the same work, written plainly.
  *
  * copy: 64 KiB in pieces of 8 KiB, copied one after another into one buffer.
+ * copy-4096: 4 KiB, copied in one piece.
  * null: a NULL call, from its record to its reply: the head is read word by word with its bounds
  *       tested, the rules of RPC are tested, and the reply is written with its record mark.
  */
@@ -9,7 +10,7 @@
 #include <string.h>
 #include <time.h>
 
-enum { RECORD = 65536, PIECE = 8192, COPIES = 20000, CALLS = 5000000, RUNS = 5 };
+enum { RECORD = 65536, PIECE = 8192, PAGE = 4096, COPIES = 20000, CALLS = 5000000, RUNS = 5 };
 
 static uint64_t now(void) {
     struct timespec t;
@@ -74,7 +75,7 @@ static size_t answer(const unsigned char *record, size_t len, unsigned char *rep
     return 28;
 }
 
-static void measure_copy(void) {
+static void measure_copy(const char *name, size_t len, size_t piece, int copies) {
     static unsigned char from[RECORD], into[RECORD];
     uint64_t least = UINT64_MAX;
     volatile unsigned char seen;
@@ -82,16 +83,16 @@ static void measure_copy(void) {
         from[i] = i % 251;
     for (int run = 0; run < RUNS; run++) {
         uint64_t start = now();
-        for (int copy = 0; copy < COPIES; copy++) {
-            for (size_t at = 0; at < RECORD; at += PIECE)
-                memcpy(into + at, from + at, PIECE);
-            seen = into[copy % RECORD];
+        for (int copy = 0; copy < copies; copy++) {
+            for (size_t at = 0; at < len; at += piece)
+                memcpy(into + at, from + at, piece);
+            seen = into[copy % len];
         }
-        uint64_t time = (now() - start) / COPIES;
+        uint64_t time = (now() - start) * 10 / copies;
         least = time < least ? time : least;
     }
     (void)seen;
-    printf("copy %llu\n", (unsigned long long)least);
+    printf("%s %llu.%llu\n", name, (unsigned long long)(least / 10), (unsigned long long)(least % 10));
 }
 
 static void measure_null(void) {
@@ -112,7 +113,8 @@ static void measure_null(void) {
 }
 
 int main(void) {
-    measure_copy();
+    measure_copy("copy", RECORD, PIECE, COPIES);
+    measure_copy("copy-4096", PAGE, PAGE, 16 * COPIES);
     measure_null();
     return 0;
 }

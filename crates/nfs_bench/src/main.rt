@@ -4,6 +4,7 @@
 
 mod framing;
 mod null_call;
+mod procedures;
 mod tree;
 
 use std::process::ExitCode;
@@ -23,10 +24,15 @@ fn run<R: Env + Clock + Print + AllocGlobal>(rt: &R) -> io::Result<()> {
         None => {
             framing::fixed(rt)?;
             null_call::fixed(rt)?;
+            procedures::fixed(rt)?;
             tree::fixed(rt)
         }
         Some(word) if word.as_str() == "framing" => framing::measure(rt),
         Some(word) if word.as_str() == "null" => null_call::measure(rt),
+        Some(word) if word.as_str() == "getattr" => procedures::measure_getattr(rt),
+        Some(word) if word.as_str() == "lookup-x" => procedures::measure_lookup(rt),
+        Some(word) if word.as_str() == "read-4096" => procedures::measure_read(rt, 4_096),
+        Some(word) if word.as_str() == "read-65536" => procedures::measure_read(rt, 65_536),
         Some(word) if word.as_str() == "tree-1000" => tree::measure(rt, 1),
         Some(word) if word.as_str() == "tree-100000" => tree::measure(rt, 100),
         Some(word) if word.as_str() == "write" => tree::measure_write(rt),

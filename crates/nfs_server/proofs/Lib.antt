@@ -1,3 +1,7 @@
 pub mod Keep
+pub mod Naming
+pub mod Pieces
+pub mod Verdicts
 pub mod Going
 pub mod Forward
+pub mod Arguments

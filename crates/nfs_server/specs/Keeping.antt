@@ -10,4 +10,4 @@ abbrev pub choice_of : Held → Event → Answer → Choice
 choice_of old event answer = record {}
 
 abbrev pub Answers : Held → Event → Answer → Held → Type 0
-Answers old event answer new = (new.setup ≡ old.setup) × Called (head_at event.bytes) old.state answer new.state
+Answers old event answer new = (new.setup ≡ old.setup) × Called (head_at event.bytes) old.setup old.state event.addr answer new.state

@@ -1,7 +1,16 @@
 pub mod Events
+pub mod Exports
+pub mod Built
+pub mod Ids
+pub mod Rights
+pub mod Args
+pub mod Rules
+pub mod Results
+pub mod Judging
 pub mod Seen
 pub mod ReplyRoom
 pub mod RpcRules
+pub mod Admitting
 pub mod Steps
 pub mod Fits
 pub mod Keeping

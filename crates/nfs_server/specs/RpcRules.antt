@@ -1,11 +1,14 @@
 -- The rules of RPC (RFC 5531, section 9), and the reply of each where it is the first that fails.
-use Rattle.std.specs.Prelude.{ℕ, Bool, not, ◌||◌, List, [], ◌∷◌, Option, nat_eq, nat_lt, find}
+use Rattle.std.specs.Prelude.{ℕ, Bool, not, ◌||◌, ◌&&◌, List, [], ◌∷◌, Option, is_none, nat_eq, find}
+use Rattle.std.specs.List.{list_any}
+use Rattle.nfs_rpc.specs.AuthSys.{caller}
 use Rattle.nfs_rpc.specs.Calls.{Call}
 use Rattle.nfs_rpc.specs.Replies.{accepted_text, refused_text}
-use Rattle.nfs_rpc.specs.declared.reply.Accept.TheVariants.{ProgUnavail, ProgMismatch, ProcUnavail}
-use Rattle.nfs_rpc.specs.declared.reply.Refused.TheVariants.{RpcMismatch}
+use Rattle.nfs_rpc.specs.declared.reply.Accept.TheVariants.{ProgUnavail, ProgMismatch, ProcUnavail, GarbageArgs}
+use Rattle.nfs_rpc.specs.declared.reply.Refused.TheVariants.{RpcMismatch, BadCred, RejectedCred, TooWeak}
 use Rattle.nfs_server.specs.declared.rpc_rules.RpcRule.{RpcRule}
-use Rattle.nfs_server.specs.declared.rpc_rules.RpcRule.TheVariants.{Version, Program, ProgramVersion, Procedure}
+use Rattle.nfs_server.specs.declared.rpc_rules.RpcRule.TheVariants.{Version, Program, ProgramVersion, Procedure, Flavor, Credential, WeakCredential, Arguments}
+use Rattle.nfs_server.specs.Args.{args_in}
 
 abbrev pub NFS : ℕ
 NFS = 100003
@@ -13,21 +16,39 @@ NFS = 100003
 abbrev pub MOUNT : ℕ
 MOUNT = 100005
 
--- whether the call fails the rule
-abbrev pub fails_rpc : Call → RpcRule → Bool
-fails_rpc call Version = not (nat_eq call.rpcvers 2)
-fails_rpc call Program = not (nat_eq call.prog NFS || nat_eq call.prog MOUNT)
-fails_rpc call ProgramVersion = not (nat_eq call.vers 3)
--- NULL alone is there
-fails_rpc call Procedure = nat_lt 0 call.proc
+-- the flavors of credentials
+abbrev pub AUTH_NONE : ℕ
+AUTH_NONE = 0
+
+abbrev pub AUTH_SYS : ℕ
+AUTH_SYS = 1
+
+-- NULL, and of NFS GETATTR, LOOKUP and READ
+abbrev pub has_procedure : ℕ → ℕ → Bool
+has_procedure prog proc = nat_eq proc 0 || nat_eq prog NFS && list_any (nat_eq proc) (1 ∷ 3 ∷ 6 ∷ [])
+
+-- of NULL neither credential nor arguments are looked at
+abbrev pub is_null : Call → Bool
+is_null call = nat_eq call.proc 0
+
+-- whether a call, with what stands behind its head, fails the rule
+abbrev pub fails_rpc : Call → List ℕ → RpcRule → Bool
+fails_rpc call bytes Version = not (nat_eq call.rpcvers 2)
+fails_rpc call bytes Program = not (nat_eq call.prog NFS || nat_eq call.prog MOUNT)
+fails_rpc call bytes ProgramVersion = not (nat_eq call.vers 3)
+fails_rpc call bytes Procedure = not (has_procedure call.prog call.proc)
+fails_rpc call bytes Flavor = not (is_null call) && not (nat_eq call.cred.flavor AUTH_NONE || nat_eq call.cred.flavor AUTH_SYS)
+fails_rpc call bytes Credential = not (is_null call) && (nat_eq call.cred.flavor AUTH_SYS && is_none (caller call.cred.body))
+fails_rpc call bytes WeakCredential = not (is_null call) && (nat_eq call.prog NFS && nat_eq call.cred.flavor AUTH_NONE)
+fails_rpc call bytes Arguments = not (is_null call) && is_none (args_in call.proc bytes)
 
 -- the rules, in order
 abbrev pub rpc_rules : List RpcRule
-rpc_rules = Version ∷ Program ∷ ProgramVersion ∷ Procedure ∷ []
+rpc_rules = Version ∷ Program ∷ ProgramVersion ∷ Procedure ∷ Flavor ∷ Credential ∷ WeakCredential ∷ Arguments ∷ []
 
 -- the first that fails
-abbrev pub rpc_failure_of : Call → Option RpcRule
-rpc_failure_of call = find (fails_rpc call) rpc_rules
+abbrev pub rpc_failure_of : Call → List ℕ → Option RpcRule
+rpc_failure_of call bytes = find (fails_rpc call bytes) rpc_rules
 
 -- the reply to a call that fails it
 abbrev pub rpc_reply : RpcRule → ℕ → List ℕ
@@ -35,3 +56,7 @@ rpc_reply Version xid = refused_text xid RpcMismatch
 rpc_reply Program xid = accepted_text xid ProgUnavail
 rpc_reply ProgramVersion xid = accepted_text xid ProgMismatch
 rpc_reply Procedure xid = accepted_text xid ProcUnavail
+rpc_reply Flavor xid = refused_text xid RejectedCred
+rpc_reply Credential xid = refused_text xid BadCred
+rpc_reply WeakCredential xid = refused_text xid TooWeak
+rpc_reply Arguments xid = accepted_text xid GarbageArgs

@@ -1,8 +1,26 @@
 //! Laws over the definitions alone.
+ghost use Rattle.std.specs.Prelude.{ℕ};
+ghost use Rattle.nfs_xdr.specs.Spelling.{SpellsOnce};
+ghost use Rattle.nfs_xdr.specs.Reading.{Finds};
+ghost use Rattle.nfs_server.specs.Args.{IsArgsOf, args_at};
 ghost use Rattle.nfs_server.specs.Forward.{RunsForward};
+ghost use Rattle.nfs_server.specs.Results.{ResultsTell};
 
 /// A past has its newest event first. Read from its first event on, a run is one step after
 /// another from the opening state, each after the events before it.
 pub fn runs_go_forward()
     ensures { RunsForward }
+{}
+
+/// The result of a call of NFS begins with the status of the first rule that it fails, and with 0
+/// where it fails none.
+pub fn results_tell_the_verdict()
+    ensures { ResultsTell }
+{}
+
+/// The arguments of a procedure are found where they are spelled, all of them and nothing else; so
+/// none begin others of the same procedure.
+pub fn arguments_are_found()
+    ensures found { (proc : ℕ) → Finds (IsArgsOf proc) (args_at proc) }
+    ensures once { (proc : ℕ) → SpellsOnce (IsArgsOf proc) }
 {}

@@ -1,7 +1,10 @@
 //! What a server serves.
-ghost use Rattle.std.specs.Prelude.{IfOk};
+ghost use Rattle.std.specs.Prelude.{◌≡◌, IfOk};
 ghost use Rattle.nfs_inodes.specs.Law.{Law};
+ghost use Rattle.nfs_server.specs.Built.{exports_e};
 
+use crate::event::Addr;
+use crate::exports::{Export, Options, Pattern, Squash, Table};
 use nfs_attrs::moment::Moment;
 use nfs_handles::number::Number;
 use nfs_inodes::new_file::NewFile;
@@ -13,6 +16,8 @@ use std::alloc::{AllocError, Global};
 pub struct Loaded {
     /// The tree of files.
     pub tree: Tree,
+    /// What is exported to whom.
+    pub table: Table,
 }
 
 // The time of everything that is loaded.
@@ -24,7 +29,8 @@ const START: Moment = Moment {
 /// The built-in description, that of `examples/e.tree`: two volumes with eight files. Refused
 /// without memory.
 pub fn tree_e(alloc: Global) -> Result<Loaded, AllocError>
-    ensures { IfOk result (λ loaded. Law loaded.tree) }
+    ensures tree { IfOk result (λ loaded. Law loaded.tree) }
+    ensures table { IfOk result (λ loaded. loaded.table ≡ exports_e) }
 {
     let key = [1, 2, 3, 4, 5, 6, 7, 8];
     let mut tree = Tree::new(alloc, key);
@@ -37,7 +43,51 @@ pub fn tree_e(alloc: Global) -> Result<Loaded, AllocError>
     file(&mut tree, a, b"zero", &given(0o000, 5, 5), b"")?;
     volume(&mut tree, b"/b", 1_000, 4, &given(0o777, 0, 0))?;
     tree.law();
-    Ok(Loaded { tree })
+    let table = exports_of_e(alloc)?;
+    Ok(Loaded { tree, table })
+}
+
+// What the built-in description exports: its volumes have the places 0 and 1.
+fn exports_of_e(alloc: Global) -> Result<Table, AllocError>
+    ensures { IfOk result (λ table. table ≡ exports_e) }
+{
+    let mut table = Table::new(alloc);
+    let writable = Options {
+        read_only: false,
+        ..Options::default_options()
+    };
+    table.add(export(0, 0x0a00_0000, 24, writable))?;
+    let trusted = Options {
+        squash: Squash::No,
+        ..Options::default_options()
+    };
+    table.add(export(0, 0x0a00_0100, 24, trusted))?;
+    let anonymous = Options {
+        squash: Squash::All,
+        anonuid: 7,
+        anongid: 7,
+        ..writable
+    };
+    table.add(export(0, 0x0a00_0209, 32, anonymous))?;
+    let own = Options {
+        squash: Squash::No,
+        ..writable
+    };
+    table.add(export(1, 0x0a00_0000, 24, own))?;
+    Ok(table)
+}
+
+fn export(volume: usize, address: u32, bits: u32, options: Options) -> Export
+    ensures { result ≡ record { volume = volume; pattern = record { address = record { 0 = address }; bits = bits }; options = options } }
+{
+    Export {
+        volume,
+        pattern: Pattern {
+            address: Addr(address),
+            bits,
+        },
+        options,
+    }
 }
 
 fn given(mode: u32, uid: u32, gid: u32) -> NewFile {

@@ -4,9 +4,18 @@ ghost use Rattle.nfs_xdr.specs.Written.{Written, Appends};
 ghost use Rattle.nfs_rpc.specs.Records.{header};
 ghost use Rattle.nfs_rpc.specs.Replies.{accepted_text};
 ghost use Rattle.nfs_rpc.specs.declared.reply.Accept.TheVariants.{Success};
+ghost use Rattle.nfs_rpc.specs.AuthSys.{credential_of};
 ghost use Rattle.nfs_server.specs.RpcRules.{rpc_reply};
+ghost use Rattle.nfs_server.specs.Args.{args_of};
+ghost use Rattle.nfs_server.specs.Results.{result_text};
 
+use crate::args::NfsArgs;
+use crate::event::Addr;
+use crate::exports::Table;
+use crate::procedures::perform;
 use crate::rpc_rules::RpcRule;
+use nfs_inodes::tree::Tree;
+use nfs_rpc::auth_sys::Cred;
 use nfs_rpc::record::seal_record;
 use nfs_rpc::reply::{Accept, Refused, write_accepted, write_refused};
 use nfs_xdr::output::Output;
@@ -78,6 +87,10 @@ impl ReplyBuf {
             RpcRule::Program => write_accepted(&mut self.out, xid, Accept::ProgUnavail),
             RpcRule::ProgramVersion => write_accepted(&mut self.out, xid, Accept::ProgMismatch),
             RpcRule::Procedure => write_accepted(&mut self.out, xid, Accept::ProcUnavail),
+            RpcRule::Flavor => write_refused(&mut self.out, xid, Refused::RejectedCred),
+            RpcRule::Credential => write_refused(&mut self.out, xid, Refused::BadCred),
+            RpcRule::WeakCredential => write_refused(&mut self.out, xid, Refused::TooWeak),
+            RpcRule::Arguments => write_accepted(&mut self.out, xid, Accept::GarbageArgs),
         }
         seal(&mut self.out);
     }
@@ -88,6 +101,24 @@ impl ReplyBuf {
     {
         begin(&mut self.out);
         write_accepted(&mut self.out, xid, Accept::Success);
+        seal(&mut self.out);
+    }
+
+    /// The reply to a call of NFS: its result.
+    pub(crate) fn perform(
+        &mut self,
+        xid: u32,
+        tree: &Tree,
+        table: &Table,
+        addr: Addr,
+        cred: &Cred,
+        args: &NfsArgs<'_>,
+    )
+        ensures { self.new ≡ accepted_text xid Success ++ result_text tree.now table.now (record { addr = addr; cred = credential_of cred.now; args = args_of args.now }) }
+    {
+        begin(&mut self.out);
+        write_accepted(&mut self.out, xid, Accept::Success);
+        perform(tree, table, addr, cred, args, &mut self.out);
         seal(&mut self.out);
     }
 }

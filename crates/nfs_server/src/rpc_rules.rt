@@ -1,8 +1,13 @@
-//! The rules of RPC, which come before those of a procedure.
+//! The rules of RPC, which come before those of a procedure (RFC 5531, section 9).
 ghost use Rattle.std.specs.Prelude.{◌≡◌};
+ghost use Rattle.std.specs.List.{list_any};
 ghost use Rattle.nfs_rpc.specs.Calls.{call_of};
-ghost use Rattle.nfs_server.specs.RpcRules.{rpc_failure_of};
+ghost use Rattle.nfs_server.specs.RpcRules.{has_procedure};
+ghost use Rattle.nfs_server.specs.RpcRules as spec;
+ghost use Rattle.nfs_server.specs.Admitting.{Admits};
 
+use crate::args::{GETATTR, LOOKUP, NULL, NfsArgs, READ, read_nfs};
+use nfs_rpc::auth_sys::{Cred, read_auth_sys};
 use nfs_rpc::call::CallHead;
 
 /// A rule of RPC, in the order in which they are looked at.
@@ -16,6 +21,27 @@ pub enum RpcRule {
     ProgramVersion,
     /// The program has this procedure.
     Procedure,
+    /// The credential is of AUTH_NONE or AUTH_SYS.
+    Flavor,
+    /// A credential of AUTH_SYS can be read.
+    Credential,
+    /// A call of NFS has a credential of AUTH_SYS.
+    WeakCredential,
+    /// The arguments can be read.
+    Arguments,
+}
+
+/// A call that keeps the rules of RPC.
+pub enum Admitted<'a> {
+    /// Procedure 0 of a program, which does nothing.
+    Null,
+    /// Another procedure of NFS.
+    Nfs {
+        /// Who calls.
+        cred: Cred,
+        /// What for.
+        args: NfsArgs<'a>,
+    },
 }
 
 /// The version of RPC.
@@ -30,21 +56,54 @@ pub const MOUNT_PROGRAM: u32 = 100_005;
 /// The version of both programs.
 pub const PROGRAM_VERSION: u32 = 3;
 
-/// The first rule of RPC that the call fails.
-pub fn rpc_failure(head: &CallHead<'_>) -> Option<RpcRule>
-    ensures { result ≡ rpc_failure_of (call_of head.now) }
+/// The flavor of a credential that says nothing (RFC 5531, section 8.2).
+pub const AUTH_NONE: u32 = 0;
+
+/// The flavor of a credential with ids of a user and its groups (RFC 5531, section 8.2).
+pub const AUTH_SYS: u32 = 1;
+
+/// What a call asks for, or the first rule of RPC that it fails. Of a NULL call neither the
+/// credential nor the arguments are looked at.
+pub fn admit<'a>(head: &CallHead<'a>) -> Result<Admitted<'a>, RpcRule>
+    ensures { Admits (call_of head.now) head.now.args result }
 {
     if head.rpcvers != RPC_VERSION {
-        return Some(RpcRule::Version);
+        return Err(RpcRule::Version);
     }
     if head.prog != NFS_PROGRAM && head.prog != MOUNT_PROGRAM {
-        return Some(RpcRule::Program);
+        return Err(RpcRule::Program);
     }
     if head.vers != PROGRAM_VERSION {
-        return Some(RpcRule::ProgramVersion);
+        return Err(RpcRule::ProgramVersion);
     }
-    if head.proc != 0 {
-        return Some(RpcRule::Procedure);
+    if !has_procedure(head.prog, head.proc) {
+        return Err(RpcRule::Procedure);
     }
-    None
+    if head.proc == NULL {
+        return Ok(Admitted::Null);
+    }
+    if head.flavor != AUTH_NONE && head.flavor != AUTH_SYS {
+        return Err(RpcRule::Flavor);
+    }
+    if head.flavor == AUTH_NONE {
+        return Err(RpcRule::WeakCredential);
+    }
+    let Ok(cred) = read_auth_sys(head.body) else {
+        return Err(RpcRule::Credential);
+    };
+    let Ok(args) = read_nfs(head.proc, head.args.rest()) else {
+        return Err(RpcRule::Arguments);
+    };
+    Ok(Admitted::Nfs { cred, args })
+}
+
+// Whether a program has a procedure. Of MOUNT there is NULL alone.
+fn has_procedure(prog: u32, proc: u32) -> bool
+    ensures { result ≡ spec.has_procedure prog proc }
+{
+    match proc {
+        NULL => true,
+        GETATTR | LOOKUP | READ => prog == NFS_PROGRAM,
+        _ => false,
+    }
 }

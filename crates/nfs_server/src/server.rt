@@ -8,9 +8,10 @@ ghost use Rattle.nfs_server.specs.Keeping.{Answers};
 ghost use Rattle.nfs_server.specs.Runs.{events_of, RunsThrough};
 
 use crate::event::{Event, Handled, Outcome, Sink};
+use crate::exports::Table;
 use crate::loaded::Loaded;
 use crate::reply_buf::ReplyBuf;
-use crate::rpc_rules::rpc_failure;
+use crate::rpc_rules::{Admitted, admit};
 use nfs_inodes::tree::Tree;
 use nfs_rpc::call::read_call;
 use std::alloc::{AllocError, Global};
@@ -20,6 +21,7 @@ use std::marker::Model;
 #[derive(Drop)]
 pub struct Server {
     tree: Tree,
+    table: Table,
     cache: usize,
 }
 
@@ -28,7 +30,7 @@ impl Model for Server {
 
     ghost Value = { Held };
 
-    ghost view = { λ s. record { setup = record { places = s.cache }; state = record { tree = s.tree } } };
+    ghost view = { λ s. record { setup = record { places = s.cache; exports = s.table }; state = record { tree = s.tree } } };
 }
 
 impl Server {
@@ -37,12 +39,13 @@ impl Server {
     pub fn new(_alloc: Global, loaded: Loaded, cache: usize) -> Result<Server, AllocError>
         requires some { 1 ≤ cache }
         requires few { cache ≤ 1024 }
-        ensures setup { IfOk result (λ server. server.setup ≡ record { places = cache }) }
+        ensures setup { IfOk result (λ server. server.setup ≡ record { places = cache; exports = loaded.table }) }
         ensures tree { IfOk result (λ server. server.state.tree ≡ loaded.tree) }
         ensures fits { IfOk result (λ server. Fits (record { opening = server.state; done = [] }) server) }
     {
         Ok(Server {
             tree: loaded.tree,
+            table: loaded.table,
             cache,
         })
     }
@@ -73,9 +76,12 @@ impl Server {
             reply.clear();
             return Handled::NoReply;
         };
-        match rpc_failure(&head) {
-            Some(rule) => reply.refuse(rule, head.xid),
-            None => reply.succeed(head.xid),
+        match admit(&head) {
+            Err(rule) => reply.refuse(rule, head.xid),
+            Ok(Admitted::Null) => reply.succeed(head.xid),
+            Ok(Admitted::Nfs { cred, args }) => {
+                reply.perform(head.xid, &self.tree, &self.table, event.addr, &cred, &args)
+            }
         }
         Handled::Answered
     }

@@ -3,6 +3,8 @@
 #![tactic(auto)]
 
 #[cfg(test)]
+mod asking;
+#[cfg(test)]
 mod attributes;
 #[cfg(test)]
 mod credentials;
@@ -15,9 +17,15 @@ mod items;
 #[cfg(test)]
 mod memory;
 #[cfg(test)]
+mod procedures;
+#[cfg(test)]
 mod records;
 #[cfg(test)]
+mod refusals;
+#[cfg(test)]
 mod sessions;
+#[cfg(test)]
+mod squashing;
 #[cfg(test)]
 mod support;
 #[cfg(test)]

@@ -1,10 +1,10 @@
 //! Calls and replies, by the server.
 use crate::support::{Kept, bytes, digits, event};
-use nfs_rpc::call::{RpcFault, read_call};
+use nfs_rpc::call::{CallHead, RpcFault, read_call};
 use nfs_server::event::Handled;
 use nfs_server::loaded::tree_e;
 use nfs_server::reply_buf::ReplyBuf;
-use nfs_server::rpc_rules::{RpcRule, rpc_failure};
+use nfs_server::rpc_rules::{Admitted, RpcRule, admit};
 use nfs_server::server::Server;
 use std::test::Fail;
 
@@ -102,6 +102,15 @@ fn runs_events_until_a_take_says_no(rt: HostRuntime) -> Result<(), Fail> {
     Ok(())
 }
 
+// The first rule of RPC that a call fails.
+fn failure(head: &CallHead<'_>) -> Option<RpcRule> {
+    match admit(head) {
+        Ok(Admitted::Null) => None,
+        Ok(Admitted::Nfs { cred: _, args: _ }) => None,
+        Err(rule) => Some(rule),
+    }
+}
+
 #[test]
 fn tells_calls_from_other_messages(rt: HostRuntime) -> Result<(), Fail> {
     let alloc = rt.alloc();
@@ -119,7 +128,7 @@ fn tells_calls_from_other_messages(rt: HostRuntime) -> Result<(), Fail> {
     assert_eq!(rt; (head.proc, head.flavor), (7, 1));
     assert_eq!(rt; head.body, [0x61, 0, 0].as_slice());
     assert_eq!(rt; head.args.rest(), b"c".as_slice());
-    assert_eq!(rt; rpc_failure(&head), Some(RpcRule::Procedure));
+    assert_eq!(rt; failure(&head), Some(RpcRule::Procedure));
     for n in 0..call.len() {
         let want = if n == 48 {
             None

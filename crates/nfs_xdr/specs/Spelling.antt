@@ -64,8 +64,11 @@ pub record IsArray {A : Type 0} (Spells : A → List ℕ → Type 0) (max : ℕ)
   pub spelled : (IsNumber w32 (length items) ⨾ AreItems Spells items) text
 
 -- the texts that are written: the padding is zeros
+abbrev pub pad_text : ℕ → List ℕ
+pad_text n = take (padding n) (0 ∷ 0 ∷ 0 ∷ [])
+
 abbrev pub fixed_text : List ℕ → List ℕ
-fixed_text item = item ++ take (padding (length item)) (0 ∷ 0 ∷ 0 ∷ [])
+fixed_text item = item ++ pad_text (length item)
 
 abbrev pub opaque_text : List ℕ → List ℕ
 opaque_text item = to_be_bytes w32 (length item) ++ fixed_text item

@@ -1,7 +1,7 @@
 //! A list of bytes to which XDR items are written, in room that was made once.
 ghost use Rattle.std.specs.Prelude.{◌≡◌, ℕ, ◌+◌, ◌*◌, ◌^◌, ◌<◌, ◌≤◌, [], ◌++◌, length, take, drop, IfOk};
 ghost use Rattle.std.specs.Int.{w32, w64, to_be_bytes};
-ghost use Rattle.nfs_xdr.specs.Spelling.{IsNumber, number_of, fixed_text, opaque_text, numbers_text};
+ghost use Rattle.nfs_xdr.specs.Spelling.{IsNumber, number_of, fixed_text, opaque_text, numbers_text, padding, pad_text};
 ghost use Rattle.nfs_xdr.specs.Written.{Written, Appends};
 
 use std::alloc::{AllocError, Global};
@@ -92,9 +92,25 @@ impl Output {
         requires { length (fixed_text item.now) ≤ self.old.room }
         ensures { Appends (fixed_text item.now) self.old self.new }
     {
-        self.raw(item);
+        self.part(item);
+        self.pad(item.len());
+    }
+
+    /// Writes bytes as they are: a part of opaque data whose parts lie in different places.
+    pub fn part(&mut self, bytes: &[u8])
+        requires { length bytes.now ≤ self.old.room }
+        ensures { Appends bytes.now self.old self.new }
+    {
+        self.raw(bytes);
+    }
+
+    /// Writes the zeros that follow opaque data of `len` bytes (RFC 4506, section 3).
+    pub fn pad(&mut self, len: usize)
+        requires { padding len ≤ self.old.room }
+        ensures { Appends (pad_text len) self.old self.new }
+    {
         let zeros = [0u8; 3];
-        let padding = (4 - item.len() % 4) % 4;
+        let padding = (4 - len % 4) % 4;
         self.raw(&zeros[..padding]);
     }
 

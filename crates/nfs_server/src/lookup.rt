@@ -1,0 +1,72 @@
+//! LOOKUP: the file under a name (RFC 1813, section 3.3.3).
+ghost use Rattle.std.specs.Prelude.{◌≡◌, ◌≤◌, ◌++◌, ◌||◌, not, length, nat_eq};
+ghost use Rattle.std.specs.List.{list_any};
+ghost use Rattle.nfs_xdr.specs.Written.{Appends};
+ghost use Rattle.nfs_server.specs.Rules.{is_separator};
+ghost use Rattle.nfs_server.specs.Results.{status_text, lookup_text};
+ghost use Rattle.nfs_server.specs.Judging.{subject_of, Looks};
+
+use crate::rights::{Right, may};
+use crate::rule::Rule;
+use crate::subject::Subject;
+use nfs_attrs::fattr::write_post_op_attr;
+use nfs_attrs::file_type::FileType;
+use nfs_handles::number::Number;
+use nfs_xdr::output::Output;
+
+/// The most bytes of a name.
+const MAX_NAME_BYTES: usize = 255;
+
+/// The file under a name in the directory, or the first rule that fails.
+pub(crate) fn look_up(subject: &Subject<'_>, name: &[u8]) -> Result<Number, Rule>
+    ensures { Looks (subject_of subject.now) name.now result }
+{
+    match subject.file.file_type {
+        FileType::Directory => {}
+        _ => return Err(Rule::NotDirectory),
+    }
+    if !may(&subject.ids, &subject.file, Right::Execute) {
+        return Err(Rule::Search);
+    }
+    if name.len() > MAX_NAME_BYTES {
+        return Err(Rule::NameLong);
+    }
+    if !has_form(name) {
+        return Err(Rule::NameForm);
+    }
+    match subject.tree.lookup(subject.number(), name) {
+        Some(number) => Ok(number),
+        None => Err(Rule::NoEntry),
+    }
+}
+
+/// Writes the result of a LOOKUP that found a file.
+pub(crate) fn write_found(out: &mut Output, subject: &Subject<'_>, number: Number)
+    requires { 208 ≤ out.old.room }
+    ensures { Appends (status_text 0 ++ lookup_text (subject_of subject.now) number.0) out.old out.new }
+{
+    out.u32(0);
+    if let Some(handle) = subject.tree.handle_of(number.0) {
+        out.opaque(&handle);
+    }
+    write_post_op_attr(out, subject.tree.attributes(number));
+    write_post_op_attr(out, Some(subject.file));
+}
+
+// Whether a name has a byte, and none that is 0 or `/`.
+fn has_form(name: &[u8]) -> bool
+    ensures { result ≡ not (nat_eq (length name.now) 0 || list_any is_separator name.now) }
+{
+    !name.is_empty() && !has_separator(name)
+}
+
+fn has_separator(name: &[u8]) -> bool
+    ensures { result ≡ list_any is_separator name.now }
+{
+    for byte in name {
+        if *byte == 0 || *byte == b'/' {
+            return true;
+        }
+    }
+    false
+}
