@@ -50,6 +50,7 @@ pub fn read_file_type(input: &mut Input<'_>) -> Result<FileType, XdrFault>
 }
 
 /// Writes a kind of file.
+#[inline(always)]
 pub fn write_file_type(out: &mut Output, kind: FileType)
     requires { 4 ≤ out.old.room }
     ensures text { Appends (file_type_text kind) out.old out.new }

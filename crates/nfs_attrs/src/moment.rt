@@ -38,6 +38,7 @@ fn moment_of(bytes: &[u8]) -> Result<(Moment, Input<'_>), XdrFault>
 }
 
 /// Writes a time.
+#[inline(always)]
 pub fn write_moment(out: &mut Output, moment: Moment)
     requires { 8 ≤ out.old.room }
     ensures text { Appends (moment_text moment) out.old out.new }

@@ -37,6 +37,7 @@ pub enum Refused {
 }
 
 /// Writes the head of the reply to an accepted call.
+#[inline(always)]
 pub fn write_accepted(out: &mut Output, xid: u32, accept: Accept)
     requires { length (accepted_text xid accept) ≤ out.old.room }
     ensures { Appends (accepted_text xid accept) out.old out.new }

@@ -1,19 +1,23 @@
--- What is known of a call that keeps the rules of RPC.
+-- What is known of a call that keeps rules of RPC.
 use Rattle.std.specs.Prelude.{◌≡◌, ℕ, List, Some, None, Result, Ok, Err, true, false}
+use Rattle.std.specs.List.{find}
 use Rattle.nfs_rpc.specs.AuthSys.{credential_of, caller}
 use Rattle.nfs_rpc.specs.Calls.{Call}
+use Rattle.nfs_rpc.specs.declared.auth_sys.Cred.{Cred}
+use Rattle.nfs_server.specs.declared.args.NfsArgs.{NfsArgs}
 use Rattle.nfs_server.specs.declared.rpc_rules.Admitted.{Admitted}
 use Rattle.nfs_server.specs.declared.rpc_rules.Admitted.TheVariants.{Null, Nfs}
 use Rattle.nfs_server.specs.declared.rpc_rules.RpcRule.{RpcRule}
 use Rattle.nfs_server.specs.Args.{args_of, args_in}
-use Rattle.nfs_server.specs.RpcRules.{rpc_failure_of, is_null}
+use Rattle.nfs_server.specs.RpcRules.{fails_rpc, head_rules, caller_rules, is_nfs, is_null}
 
--- a NULL call; or a call whose credential and arguments are these
-abbrev pub Asks : Call → List ℕ → Admitted → Type 0
-Asks call bytes Null = is_null call ≡ true
-Asks call bytes (Nfs cred args) = (is_null call ≡ false) × (caller call.cred.body ≡ Some (credential_of cred)) × (args_in call.proc bytes ≡ Some (args_of args))
-
--- the first rule of RPC that the call fails, and else what it asks for
+-- the first rule of the head that the call fails, and else whether it is NULL
 abbrev pub Admits : Call → List ℕ → Result Admitted RpcRule → Type 0
-Admits call bytes (Ok admitted) = (rpc_failure_of call bytes ≡ None) × Asks call bytes admitted
-Admits call bytes (Err rule) = rpc_failure_of call bytes ≡ Some rule
+Admits call bytes (Ok Null) = (find (fails_rpc call bytes) head_rules ≡ None) × (is_null call ≡ true)
+Admits call bytes (Ok Nfs) = (find (fails_rpc call bytes) head_rules ≡ None) × (is_nfs call ≡ true) × (is_null call ≡ false)
+Admits call bytes (Err rule) = find (fails_rpc call bytes) head_rules ≡ Some rule
+
+-- the first rule after the head's, and else who calls and what for
+abbrev pub Identifies : Call → List ℕ → Result (Cred × NfsArgs) RpcRule → Type 0
+Identifies call bytes (Ok x) = (find (fails_rpc call bytes) caller_rules ≡ None) × (caller call.cred.body ≡ Some (credential_of x.0)) × (args_in call.proc bytes ≡ Some (args_of x.1))
+Identifies call bytes (Err rule) = find (fails_rpc call bytes) caller_rules ≡ Some rule

@@ -1,5 +1,10 @@
 -- The built-in description, that of `examples/e.tree`.
-use Rattle.std.specs.Prelude.{ℕ, ◌+◌, ◌*◌, true, false, List, [], ◌∷◌}
+use Rattle.std.specs.Prelude.{ℕ, ◌+◌, ◌*◌, true, false, List, [], ◌∷◌, map, None}
+use Rattle.nfs_inodes.specs.declared.new_file.NewFile.{NewFile}
+use Rattle.nfs_inodes.specs.Tree.{Tree, File}
+use Rattle.nfs_inodes.specs.Changes.{file_made, written}
+use Rattle.nfs_inodes.specs.Adding.{retagged}
+use Rattle.nfs_inodes.specs.Example.{start}
 use Rattle.nfs_server.specs.declared.event.Addr.{Addr}
 use Rattle.nfs_server.specs.declared.exports.Options.{Options}
 use Rattle.nfs_server.specs.declared.exports.Export.{Export}
@@ -20,3 +25,11 @@ exports_e =
     ∷ export 0 (address 10 0 2 9) 32 (record { read_only = false; squash = All; anonuid = 7; anongid = 7 })
     ∷ export 1 (address 10 0 0 0) 24 (record { read_only = false; squash = No; anonuid = 65534; anongid = 65534 })
     ∷ []
+
+-- a regular file with these bytes, all at the time that everything loaded has
+abbrev pub file_built : Tree → ℕ → List ℕ → NewFile → List ℕ → ℕ → Tree
+file_built t dir name given bytes tag = written (file_made t dir name 0 given None tag start) t.next 0 bytes start
+
+-- the same tree with the tag 0 in each file: tags are chosen freely
+abbrev pub untagged : Tree → Tree
+untagged t = record t { files = map (λ (p : ℕ × File). (p.0, retagged p.1 0)) t.files }

@@ -1,5 +1,5 @@
 -- The rules of RPC (RFC 5531, section 9), and the reply of each where it is the first that fails.
-use Rattle.std.specs.Prelude.{ℕ, Bool, not, ◌||◌, ◌&&◌, List, [], ◌∷◌, Option, is_none, nat_eq, find}
+use Rattle.std.specs.Prelude.{ℕ, Bool, not, ◌||◌, ◌&&◌, List, [], ◌∷◌, ◌++◌, Option, is_none, nat_eq, find}
 use Rattle.std.specs.List.{list_any}
 use Rattle.nfs_rpc.specs.AuthSys.{caller}
 use Rattle.nfs_rpc.specs.Calls.{Call}
@@ -27,6 +27,9 @@ AUTH_SYS = 1
 abbrev pub has_procedure : ℕ → ℕ → Bool
 has_procedure prog proc = nat_eq proc 0 || nat_eq prog NFS && list_any (nat_eq proc) (1 ∷ 3 ∷ 6 ∷ [])
 
+abbrev pub is_nfs : Call → Bool
+is_nfs call = nat_eq call.prog NFS
+
 -- of NULL neither credential nor arguments are looked at
 abbrev pub is_null : Call → Bool
 is_null call = nat_eq call.proc 0
@@ -39,12 +42,18 @@ fails_rpc call bytes ProgramVersion = not (nat_eq call.vers 3)
 fails_rpc call bytes Procedure = not (has_procedure call.prog call.proc)
 fails_rpc call bytes Flavor = not (is_null call) && not (nat_eq call.cred.flavor AUTH_NONE || nat_eq call.cred.flavor AUTH_SYS)
 fails_rpc call bytes Credential = not (is_null call) && (nat_eq call.cred.flavor AUTH_SYS && is_none (caller call.cred.body))
-fails_rpc call bytes WeakCredential = not (is_null call) && (nat_eq call.prog NFS && nat_eq call.cred.flavor AUTH_NONE)
+fails_rpc call bytes WeakCredential = not (is_null call) && (is_nfs call && nat_eq call.cred.flavor AUTH_NONE)
 fails_rpc call bytes Arguments = not (is_null call) && is_none (args_in call.proc bytes)
 
--- the rules, in order
+-- the rules, in order: those of the head alone, and those of who calls and what for
+abbrev pub head_rules : List RpcRule
+head_rules = Version ∷ Program ∷ ProgramVersion ∷ Procedure ∷ []
+
+abbrev pub caller_rules : List RpcRule
+caller_rules = Flavor ∷ Credential ∷ WeakCredential ∷ Arguments ∷ []
+
 abbrev pub rpc_rules : List RpcRule
-rpc_rules = Version ∷ Program ∷ ProgramVersion ∷ Procedure ∷ Flavor ∷ Credential ∷ WeakCredential ∷ Arguments ∷ []
+rpc_rules = head_rules ++ caller_rules
 
 -- the first that fails
 abbrev pub rpc_failure_of : Call → List ℕ → Option RpcRule

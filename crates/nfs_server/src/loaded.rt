@@ -1,7 +1,10 @@
 //! What a server serves.
-ghost use Rattle.std.specs.Prelude.{◌≡◌, IfOk};
+ghost use Rattle.std.specs.Prelude.{◌≡◌, IfOk, OnOk};
 ghost use Rattle.nfs_inodes.specs.Law.{Law};
-ghost use Rattle.nfs_server.specs.Built.{exports_e};
+ghost use Rattle.nfs_inodes.specs.Changes.{Makes, volume_added, directory_made};
+ghost use Rattle.nfs_inodes.specs.Example.{start};
+ghost use Rattle.nfs_inodes.specs.Example as example;
+ghost use Rattle.nfs_server.specs.Built.{exports_e, untagged, file_built};
 
 use crate::event::Addr;
 use crate::exports::{Export, Options, Pattern, Squash, Table};
@@ -29,7 +32,8 @@ const START: Moment = Moment {
 /// The built-in description, that of `examples/e.tree`: two volumes with eight files. Refused
 /// without memory.
 pub fn tree_e(alloc: Global) -> Result<Loaded, AllocError>
-    ensures tree { IfOk result (λ loaded. Law loaded.tree) }
+    ensures law { IfOk result (λ loaded. Law loaded.tree) }
+    ensures tree { IfOk result (λ loaded. untagged loaded.tree ≡ example.tree_e) }
     ensures table { IfOk result (λ loaded. loaded.table ≡ exports_e) }
 {
     let key = [1, 2, 3, 4, 5, 6, 7, 8];
@@ -90,7 +94,9 @@ fn export(volume: usize, address: u32, bits: u32, options: Options) -> Export
     }
 }
 
-fn given(mode: u32, uid: u32, gid: u32) -> NewFile {
+fn given(mode: u32, uid: u32, gid: u32) -> NewFile
+    ensures { result ≡ record { mode = mode; uid = uid; gid = gid; atime = start; mtime = start } }
+{
     NewFile {
         mode,
         uid,
@@ -108,7 +114,10 @@ fn volume(
     max_bytes: u64,
     max_files: u64,
     given: &NewFile,
-) -> Result<Number, AllocError> {
+) -> Result<Number, AllocError>
+    ensures made { OnOk result (Makes (λ tag. volume_added tree.old path.now max_bytes max_files given.now tag start) tree.new) }
+    ensures number { IfOk result (λ n. n.0 ≡ tree.old.next) }
+{
     if !tree.may_add_volume(path, max_files) {
         return Err(AllocError);
     }
@@ -120,7 +129,10 @@ fn directory(
     dir: Number,
     name: &[u8],
     given: &NewFile,
-) -> Result<Number, AllocError> {
+) -> Result<Number, AllocError>
+    ensures made { OnOk result (Makes (λ tag. directory_made tree.old dir.0 name.now given.now tag start) tree.new) }
+    ensures number { IfOk result (λ n. n.0 ≡ tree.old.next) }
+{
     if !tree.may_make_dir(dir, name) {
         return Err(AllocError);
     }
@@ -133,7 +145,10 @@ fn file(
     name: &[u8],
     given: &NewFile,
     bytes: &[u8],
-) -> Result<Number, AllocError> {
+) -> Result<Number, AllocError>
+    ensures made { OnOk result (Makes (file_built tree.old dir.0 name.now given.now bytes.now) tree.new) }
+    ensures number { IfOk result (λ n. n.0 ≡ tree.old.next) }
+{
     if !tree.may_make(dir, name, 0) {
         return Err(AllocError);
     }

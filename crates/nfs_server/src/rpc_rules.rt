@@ -1,10 +1,9 @@
 //! The rules of RPC, which come before those of a procedure (RFC 5531, section 9).
-ghost use Rattle.std.specs.Prelude.{◌≡◌};
-ghost use Rattle.std.specs.List.{list_any};
+ghost use Rattle.std.specs.Prelude.{◌≡◌, true, false};
 ghost use Rattle.nfs_rpc.specs.Calls.{call_of};
-ghost use Rattle.nfs_server.specs.RpcRules.{has_procedure};
+ghost use Rattle.nfs_server.specs.RpcRules.{is_nfs, is_null};
 ghost use Rattle.nfs_server.specs.RpcRules as spec;
-ghost use Rattle.nfs_server.specs.Admitting.{Admits};
+ghost use Rattle.nfs_server.specs.Admitting.{Admits, Identifies};
 
 use crate::args::{GETATTR, LOOKUP, NULL, NfsArgs, READ, read_nfs};
 use nfs_rpc::auth_sys::{Cred, read_auth_sys};
@@ -31,17 +30,13 @@ pub enum RpcRule {
     Arguments,
 }
 
-/// A call that keeps the rules of RPC.
-pub enum Admitted<'a> {
+/// What a call is for that keeps the first four rules of RPC.
+#[derive(Clone, Copy, Debug, PartialEq, Eq)]
+pub enum Admitted {
     /// Procedure 0 of a program, which does nothing.
     Null,
     /// Another procedure of NFS.
-    Nfs {
-        /// Who calls.
-        cred: Cred,
-        /// What for.
-        args: NfsArgs<'a>,
-    },
+    Nfs,
 }
 
 /// The version of RPC.
@@ -62,9 +57,9 @@ pub const AUTH_NONE: u32 = 0;
 /// The flavor of a credential with ids of a user and its groups (RFC 5531, section 8.2).
 pub const AUTH_SYS: u32 = 1;
 
-/// What a call asks for, or the first rule of RPC that it fails. Of a NULL call neither the
-/// credential nor the arguments are looked at.
-pub fn admit<'a>(head: &CallHead<'a>) -> Result<Admitted<'a>, RpcRule>
+/// What a call is for, or the first of the rules version, program, program-version and procedure
+/// that it fails.
+pub fn admit(head: &CallHead<'_>) -> Result<Admitted, RpcRule>
     ensures { Admits (call_of head.now) head.now.args result }
 {
     if head.rpcvers != RPC_VERSION {
@@ -80,8 +75,19 @@ pub fn admit<'a>(head: &CallHead<'a>) -> Result<Admitted<'a>, RpcRule>
         return Err(RpcRule::Procedure);
     }
     if head.proc == NULL {
-        return Ok(Admitted::Null);
+        Ok(Admitted::Null)
+    } else {
+        Ok(Admitted::Nfs)
     }
+}
+
+/// Who calls a procedure of NFS other than NULL, and what for, or the first of the rules flavor,
+/// credential, weak-credential and arguments that the call fails.
+pub fn identify<'a>(head: &CallHead<'a>) -> Result<(Cred, NfsArgs<'a>), RpcRule>
+    requires nfs { is_nfs (call_of head.now) ≡ true }
+    requires null { is_null (call_of head.now) ≡ false }
+    ensures { Identifies (call_of head.now) head.now.args result }
+{
     if head.flavor != AUTH_NONE && head.flavor != AUTH_SYS {
         return Err(RpcRule::Flavor);
     }
@@ -94,7 +100,7 @@ pub fn admit<'a>(head: &CallHead<'a>) -> Result<Admitted<'a>, RpcRule>
     let Ok(args) = read_nfs(head.proc, head.args.rest()) else {
         return Err(RpcRule::Arguments);
     };
-    Ok(Admitted::Nfs { cred, args })
+    Ok((cred, args))
 }
 
 // Whether a program has a procedure. Of MOUNT there is NULL alone.

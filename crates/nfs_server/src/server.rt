@@ -1,19 +1,22 @@
 //! A server, which takes one whole record at a time.
-ghost use Rattle.std.specs.Prelude.{◌≡◌, ℕ, ◌≤◌, List, [], length, IfOk, Bool};
-ghost use Rattle.nfs_server.specs.Events.{Choice, Done};
+ghost use Rattle.std.specs.Prelude.{◌≡◌, ℕ, ◌≤◌, List, [], true, false, length, IfOk, Bool};
+ghost use Rattle.std.specs.List.{find};
+ghost use Rattle.nfs_rpc.specs.Calls.{call_of};
+ghost use Rattle.nfs_server.specs.Events.{Choice, Done, replied};
+ghost use Rattle.nfs_server.specs.RpcRules.{fails_rpc, caller_rules, is_nfs, is_null};
 ghost use Rattle.nfs_server.specs.Seen.{event_of, answer_of, answered};
-ghost use Rattle.nfs_server.specs.Steps.{Step};
+ghost use Rattle.nfs_server.specs.Steps.{Step, Judged, request_of};
 ghost use Rattle.nfs_server.specs.Fits.{Held, Past, Fits, after};
 ghost use Rattle.nfs_server.specs.Keeping.{Answers};
 ghost use Rattle.nfs_server.specs.Runs.{events_of, RunsThrough};
 
-use crate::event::{Event, Handled, Outcome, Sink};
+use crate::event::{Addr, Event, Handled, Outcome, Sink};
 use crate::exports::Table;
 use crate::loaded::Loaded;
 use crate::reply_buf::ReplyBuf;
-use crate::rpc_rules::{Admitted, admit};
+use crate::rpc_rules::{Admitted, admit, identify};
 use nfs_inodes::tree::Tree;
-use nfs_rpc::call::read_call;
+use nfs_rpc::call::{CallHead, read_call};
 use std::alloc::{AllocError, Global};
 use std::marker::Model;
 
@@ -79,11 +82,25 @@ impl Server {
         match admit(&head) {
             Err(rule) => reply.refuse(rule, head.xid),
             Ok(Admitted::Null) => reply.succeed(head.xid),
-            Ok(Admitted::Nfs { cred, args }) => {
-                reply.perform(head.xid, &self.tree, &self.table, event.addr, &cred, &args)
-            }
+            Ok(Admitted::Nfs) => self.answer_nfs(&head, event.addr, reply),
         }
         Handled::Answered
+    }
+
+    // The reply to a call of NFS other than NULL.
+    #[inline(never)]
+    fn answer_nfs(&self, head: &CallHead<'_>, addr: Addr, reply: &mut ReplyBuf)
+        requires nfs { is_nfs (call_of head.now) ≡ true }
+        requires null { is_null (call_of head.now) ≡ false }
+        ensures { Judged (find (fails_rpc (call_of head.now) head.now.args) caller_rules) self.now.setup self.now.state (request_of addr (call_of head.now) head.now.args) head.now.xid (replied reply.new) self.now.state }
+    {
+        let xid = head.xid;
+        match identify(head) {
+            Err(rule) => reply.refuse(rule, xid),
+            Ok((cred, args)) => {
+                reply.perform(xid, &self.tree, &self.table, addr, &cred, &args);
+            }
+        }
     }
 
     /// Takes events one after another, and hands each outcome to the sink, until a take answers

@@ -4,7 +4,7 @@ use nfs_rpc::call::{CallHead, RpcFault, read_call};
 use nfs_server::event::Handled;
 use nfs_server::loaded::tree_e;
 use nfs_server::reply_buf::ReplyBuf;
-use nfs_server::rpc_rules::{Admitted, RpcRule, admit};
+use nfs_server::rpc_rules::{RpcRule, admit};
 use nfs_server::server::Server;
 use std::test::Fail;
 
@@ -102,13 +102,9 @@ fn runs_events_until_a_take_says_no(rt: HostRuntime) -> Result<(), Fail> {
     Ok(())
 }
 
-// The first rule of RPC that a call fails.
+// The first rule of RPC that a call's head fails.
 fn failure(head: &CallHead<'_>) -> Option<RpcRule> {
-    match admit(head) {
-        Ok(Admitted::Null) => None,
-        Ok(Admitted::Nfs { cred: _, args: _ }) => None,
-        Err(rule) => Some(rule),
-    }
+    admit(head).err()
 }
 
 #[test]

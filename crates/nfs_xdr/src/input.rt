@@ -41,6 +41,7 @@ impl<'a> Input<'a> {
     }
 
     /// An unsigned integer (RFC 4506, section 4.2). `Short` where fewer than 4 bytes are left.
+    #[inline(always)]
     pub fn u32(&mut self) -> Result<u32, XdrFault>
         ensures exact { Gives (λ n. n) self.old self.new result (number_at w32 self.old) }
         ensures reads { Reads (λ n. n) (IsNumber w32) self.old self.new result }
@@ -54,6 +55,7 @@ impl<'a> Input<'a> {
     }
 
     /// An unsigned hyper integer (RFC 4506, section 4.5). `Short` where fewer than 8 bytes are left.
+    #[inline(always)]
     pub fn u64(&mut self) -> Result<u64, XdrFault>
         ensures exact { Gives (λ n. n) self.old self.new result (number_at w64 self.old) }
         ensures reads { Reads (λ n. n) (IsNumber w64) self.old self.new result }
@@ -85,6 +87,7 @@ impl<'a> Input<'a> {
 
     /// Opaque data of `len` bytes (RFC 4506, section 4.9), lent, with its padding taken as well.
     /// `Short` where they or the padding are not all there.
+    #[inline(always)]
     pub fn fixed(&mut self, len: usize) -> Result<&'a [u8], XdrFault>
         ensures exact { Gives (λ b. b.now) self.old self.new result (fixed_at len self.old) }
         ensures reads { Reads (λ b. b.now) (IsFixed len) self.old self.new result }
@@ -101,6 +104,7 @@ impl<'a> Input<'a> {
     /// Opaque data of at most `max` bytes (RFC 4506, section 4.10), lent, with its padding taken
     /// as well. `TooLong` where its length is above `max`, whatever follows; `Short` where the
     /// length, the bytes or the padding are not all there.
+    #[inline(always)]
     pub fn opaque(&mut self, max: u32) -> Result<&'a [u8], XdrFault>
         ensures exact { Gives (λ b. b.now) self.old self.new result (opaque_at max self.old) }
         ensures reads { Reads (λ b. b.now) (IsOpaque max) self.old self.new result }

@@ -51,6 +51,7 @@ impl Output {
     }
 
     /// Writes an unsigned integer (RFC 4506, section 4.2).
+    #[inline(always)]
     pub fn u32(&mut self, n: u32)
         requires { 4 ≤ self.old.room }
         ensures text { Appends (to_be_bytes w32 n) self.old self.new }
@@ -60,6 +61,7 @@ impl Output {
     }
 
     /// Writes an unsigned hyper integer (RFC 4506, section 4.5).
+    #[inline(always)]
     pub fn u64(&mut self, n: u64)
         requires { 8 ≤ self.old.room }
         ensures text { Appends (to_be_bytes w64 n) self.old self.new }
@@ -78,6 +80,7 @@ impl Output {
 
     /// Writes unsigned integers one after another, as a fixed-length array of them (RFC 4506,
     /// section 4.12).
+    #[inline(always)]
     pub fn numbers(&mut self, ns: &[u32])
         requires { 4 * length ns.now ≤ self.old.room }
         ensures { Appends (numbers_text ns.now) self.old self.new }
@@ -154,6 +157,7 @@ impl Output {
     }
 
     // These bytes as they are.
+    #[inline(always)]
     fn raw(&mut self, bytes: &[u8])
         requires { length bytes.now ≤ self.old.room }
         ensures { Appends bytes.now self.old self.new }
