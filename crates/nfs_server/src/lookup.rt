@@ -12,10 +12,8 @@ use crate::subject::Subject;
 use nfs_attrs::fattr::write_post_op_attr;
 use nfs_attrs::file_type::FileType;
 use nfs_handles::number::Number;
+use nfs_inodes::may::MAX_NAME_BYTES;
 use nfs_xdr::output::Output;
-
-/// The most bytes of a name.
-const MAX_NAME_BYTES: usize = 255;
 
 /// The file under a name in the directory, or the first rule that fails.
 pub(crate) fn look_up(subject: &Subject<'_>, name: &[u8]) -> Result<Number, Rule>

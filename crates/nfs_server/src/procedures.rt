@@ -33,7 +33,7 @@ pub fn perform(
     args: &NfsArgs<'_>,
     out: &mut Output,
 )
-    requires { 65640 ≤ out.old.room }
+    requires { MAX_RESULT_BYTES ≤ out.old.room }
     ensures { Appends (result_text tree.now table.now (record { addr = addr; cred = credential_of cred.now; args = args_of args.now })) out.old out.new }
 {
     match Subject::of(tree, table, addr, cred, handle_of(args)) {
@@ -45,7 +45,7 @@ pub fn perform(
 // The rules after the handle's, and the result.
 fn judge(subject: &Subject<'_>, args: &NfsArgs<'_>, out: &mut Output)
     requires current { AreCurrent (subject_of subject.now) }
-    requires room { 65640 ≤ out.old.room }
+    requires room { MAX_RESULT_BYTES ≤ out.old.room }
     ensures { Appends (result_of (find (violates (subject_of subject.now) (args_of args.now)) (rules_of (args_of args.now))) (Some (subject_of subject.now)) (args_of args.now)) out.old out.new }
 {
     match *args {

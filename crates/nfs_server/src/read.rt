@@ -7,6 +7,7 @@ ghost use Rattle.nfs_server.specs.Results.{status_text, read_text, read_bytes};
 ghost use Rattle.nfs_server.specs.Judging.{subject_of, AreCurrent};
 ghost use Rattle.nfs_server.specs.Judging as spec;
 
+use crate::procedures::MAX_RESULT_BYTES;
 use crate::rights::{Right, may, owns};
 use crate::rule::Rule;
 use crate::subject::Subject;
@@ -43,7 +44,7 @@ pub(crate) fn read_failure(subject: &Subject<'_>) -> Option<Rule>
 pub(crate) fn write_data(out: &mut Output, subject: &Subject<'_>, offset: u64, count: u32)
     requires current { AreCurrent (subject_of subject.now) }
     requires regular { is_regular subject.now.file.file_type ≡ true }
-    requires room { 65640 ≤ out.old.room }
+    requires room { MAX_RESULT_BYTES ≤ out.old.room }
     ensures { Appends (status_text 0 ++ read_text subject.now.file offset (read_bytes (subject_of subject.now) offset count)) out.old out.new }
 {
     let left = subject.file.size.saturating_sub(offset);
