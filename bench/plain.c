@@ -3,7 +3,8 @@
  * copy: 64 KiB in pieces of 8 KiB, copied one after another into one buffer.
  * copy-4096: 4 KiB, copied in one piece.
  * null: a NULL call, from its record to its reply: the head is read word by word with its bounds
- *       tested, the rules of RPC are tested, and the reply is written with its record mark.
+ *       tested, the rules of RPC are tested, and the reply is written with its record mark. It is
+ *       kept out of line, or the compiler would know the record's length and drop the tests.
  */
 #include <stdint.h>
 #include <stdio.h>
@@ -51,7 +52,7 @@ static int skip(struct input *in) {
     return 1;
 }
 
-static size_t answer(const unsigned char *record, size_t len, unsigned char *reply) {
+__attribute__((noinline)) static size_t answer(const unsigned char *record, size_t len, unsigned char *reply) {
     struct input in = {record, len};
     uint32_t xid, kind, rpcvers, prog, vers, proc, flavor, stat = 0;
     if (!get(&in, &xid) || !get(&in, &kind) || kind != 0 || !get(&in, &rpcvers) || !get(&in, &prog) || !get(&in, &vers) ||

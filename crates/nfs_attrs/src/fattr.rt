@@ -5,11 +5,11 @@ ghost use Rattle.nfs_xdr.specs.Written.{Appends};
 ghost use Rattle.nfs_attrs.specs.Spelling.{IsFattr, IsPostOpAttr, fattr_text, post_op_attr_text};
 ghost use Rattle.nfs_attrs.specs.Reading.{fattr_at, post_op_attr_at};
 
-use crate::file_type::{FileType, read_file_type, write_file_type};
-use crate::moment::{Moment, read_moment, write_moment};
+use crate::file_type::{FileType, number_of, read_file_type};
+use crate::moment::{Moment, read_moment};
 use nfs_xdr::fault::XdrFault;
 use nfs_xdr::input::Input;
-use nfs_xdr::output::Output;
+use nfs_xdr::output::{Output, halves};
 
 /// The two numbers of a device, whose meaning the kind of file gives: for a block or character
 /// device its major and minor number (RFC 1813, section 2.6, specdata3).
@@ -108,20 +108,33 @@ pub fn write_fattr(out: &mut Output, attributes: &Fattr)
     ensures text { Appends (fattr_text attributes.now) out.old out.new }
     ensures spelled { IsFattr attributes.now (fattr_text attributes.now) }
 {
-    write_file_type(out, attributes.file_type);
-    out.u32(attributes.mode);
-    out.u32(attributes.nlink);
-    out.u32(attributes.uid);
-    out.u32(attributes.gid);
-    out.u64(attributes.size);
-    out.u64(attributes.used);
-    out.u32(attributes.rdev.specdata1);
-    out.u32(attributes.rdev.specdata2);
-    out.u64(attributes.fsid);
-    out.u64(attributes.fileid);
-    write_moment(out, attributes.atime);
-    write_moment(out, attributes.mtime);
-    write_moment(out, attributes.ctime);
+    let (size_high, size_low) = halves(attributes.size);
+    let (used_high, used_low) = halves(attributes.used);
+    let (fsid_high, fsid_low) = halves(attributes.fsid);
+    let (fileid_high, fileid_low) = halves(attributes.fileid);
+    out.numbers([
+        number_of(attributes.file_type),
+        attributes.mode,
+        attributes.nlink,
+        attributes.uid,
+        attributes.gid,
+        size_high,
+        size_low,
+        used_high,
+        used_low,
+        attributes.rdev.specdata1,
+        attributes.rdev.specdata2,
+        fsid_high,
+        fsid_low,
+        fileid_high,
+        fileid_low,
+        attributes.atime.seconds,
+        attributes.atime.nanos,
+        attributes.mtime.seconds,
+        attributes.mtime.nanos,
+        attributes.ctime.seconds,
+        attributes.ctime.nanos,
+    ]);
 }
 
 /// How many bytes the attributes of a file have.

@@ -2,7 +2,7 @@
 ghost use Rattle.std.specs.Prelude.{◌≡◌, ◌≤◌, length};
 ghost use Rattle.nfs_xdr.specs.Reading.{Gives, Reads};
 ghost use Rattle.nfs_xdr.specs.Written.{Appends};
-ghost use Rattle.nfs_attrs.specs.Spelling.{IsFileType, file_type_text};
+ghost use Rattle.nfs_attrs.specs.Spelling.{IsFileType, file_type_text, type_number};
 ghost use Rattle.nfs_attrs.specs.Reading.{file_type_at};
 
 use nfs_xdr::fault::XdrFault;
@@ -56,7 +56,15 @@ pub fn write_file_type(out: &mut Output, kind: FileType)
     ensures text { Appends (file_type_text kind) out.old out.new }
     ensures spelled { IsFileType kind (file_type_text kind) }
 {
-    out.u32(match kind {
+    out.u32(number_of(kind));
+}
+
+/// The number of a kind of file.
+#[inline(always)]
+pub(crate) fn number_of(kind: FileType) -> u32
+    ensures { result ≡ type_number kind }
+{
+    match kind {
         FileType::Regular => 1,
         FileType::Directory => 2,
         FileType::BlockDevice => 3,
@@ -64,5 +72,5 @@ pub fn write_file_type(out: &mut Output, kind: FileType)
         FileType::SymbolicLink => 5,
         FileType::Socket => 6,
         FileType::Fifo => 7,
-    });
+    }
 }

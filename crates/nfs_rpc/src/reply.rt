@@ -43,12 +43,12 @@ pub fn write_accepted(out: &mut Output, xid: u32, accept: Accept)
     ensures { Appends (accepted_text xid accept) out.old out.new }
 {
     match accept {
-        Accept::Success => out.numbers(&[xid, 1, 0, 0, 0, 0]),
-        Accept::ProgUnavail => out.numbers(&[xid, 1, 0, 0, 0, 1]),
-        Accept::ProgMismatch => out.numbers(&[xid, 1, 0, 0, 0, 2, 3, 3]),
-        Accept::ProcUnavail => out.numbers(&[xid, 1, 0, 0, 0, 3]),
-        Accept::GarbageArgs => out.numbers(&[xid, 1, 0, 0, 0, 4]),
-        Accept::SystemErr => out.numbers(&[xid, 1, 0, 0, 0, 5]),
+        Accept::Success => out.numbers([xid, 1, 0, 0, 0, 0]),
+        Accept::ProgUnavail => out.numbers([xid, 1, 0, 0, 0, 1]),
+        Accept::ProgMismatch => out.numbers([xid, 1, 0, 0, 0, 2, 3, 3]),
+        Accept::ProcUnavail => out.numbers([xid, 1, 0, 0, 0, 3]),
+        Accept::GarbageArgs => out.numbers([xid, 1, 0, 0, 0, 4]),
+        Accept::SystemErr => out.numbers([xid, 1, 0, 0, 0, 5]),
     }
 }
 
@@ -58,9 +58,9 @@ pub fn write_refused(out: &mut Output, xid: u32, refused: Refused)
     ensures { Appends (refused_text xid refused) out.old out.new }
 {
     match refused {
-        Refused::RpcMismatch => out.numbers(&[xid, 1, 1, 0, 2, 2]),
-        Refused::BadCred => out.numbers(&[xid, 1, 1, 1, 1]),
-        Refused::RejectedCred => out.numbers(&[xid, 1, 1, 1, 2]),
-        Refused::TooWeak => out.numbers(&[xid, 1, 1, 1, 5]),
+        Refused::RpcMismatch => out.numbers([xid, 1, 1, 0, 2, 2]),
+        Refused::BadCred => out.numbers([xid, 1, 1, 1, 1]),
+        Refused::RejectedCred => out.numbers([xid, 1, 1, 1, 2]),
+        Refused::TooWeak => out.numbers([xid, 1, 1, 1, 5]),
     }
 }

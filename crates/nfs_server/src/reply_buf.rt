@@ -1,5 +1,5 @@
 //! The room in which replies are written.
-ghost use Rattle.std.specs.Prelude.{◌≡◌, ℕ, ◌+◌, ◌-◌, ◌^◌, ◌<◌, ◌≤◌, [], ◌++◌, true, length, drop, IfOk};
+ghost use Rattle.std.specs.Prelude.{◌≡◌, ℕ, ◌+◌, ◌-◌, ◌^◌, ◌<◌, ◌≤◌, [], ◌++◌, true, length, take, drop, IfOk};
 ghost use Rattle.nfs_xdr.specs.Written.{Written, Appends};
 ghost use Rattle.nfs_rpc.specs.Records.{header};
 ghost use Rattle.nfs_rpc.specs.Replies.{accepted_text};
@@ -52,7 +52,7 @@ impl ReplyBuf {
         ensures { IfOk result (λ reply. reply ≡ []) }
     {
         let mut out = Output::new(alloc, ROOM)?;
-        begin(&mut out);
+        out.part(&seal_record(0));
         Ok(ReplyBuf { out })
     }
 
@@ -75,6 +75,7 @@ impl ReplyBuf {
         ensures { self.new ≡ [] }
     {
         begin(&mut self.out);
+        seal(&mut self.out);
     }
 
     /// The reply to a call that fails a rule of RPC.
@@ -123,14 +124,13 @@ impl ReplyBuf {
     }
 }
 
-// Nothing but a mark, whose length is 0.
+// Nothing but the mark.
 fn begin(out: &mut Output)
-    requires { length out.old.bytes + out.old.room ≡ ROOM }
-    ensures bytes { out.new.bytes ≡ header true 0 }
-    ensures room { length out.new.bytes + out.new.room ≡ ROOM }
+    requires { 4 ≤ length out.old.bytes }
+    ensures bytes { out.new.bytes ≡ take 4 out.old.bytes }
+    ensures room { length out.new.bytes + out.new.room ≡ length out.old.bytes + out.old.room }
 {
-    out.clear();
-    out.numbers(&[u32::from_be_bytes(seal_record(0))]);
+    out.cut(MARK_BYTES);
 }
 
 // The mark gets the length of what follows it.

@@ -1,8 +1,9 @@
 -- Reading an item finds its spelling.
-use Rattle.std.proofs.Common.{◌≡◌, ℕ, suc, zero, ◌+◌, ◌-◌, ◌*◌, ◌^◌, ◌<◌, ◌≤◌, Bool, true, false, ltb, eqb, List, [], ◌∷◌, ◌++◌, length, take, drop, Option, Some, None, if◌then◌else◌, Ok, Err, refl, sym, ap, subst, ◌∙◌, append_assoc, append-nil, take-add, length-drop, arith}
+use Rattle.std.proofs.Common.{◌≡◌, ℕ, suc, zero, ◌+◌, ◌-◌, ◌*◌, ◌^◌, ◌%◌, ◌/◌, ◌<◌, ◌≤◌, Bool, true, false, ltb, eqb, List, [], ◌∷◌, ◌++◌, length, take, drop, Option, Some, None, if◌then◌else◌, Ok, Err, refl, sym, ap, subst, ◌∙◌, append_assoc, append-nil, take-add, length-drop, arith, flat_map, get_or, set, ◌⊎◌, inl, inr}
 use Rattle.std.specs.Int.{Width, w32, w64, byte_len, from_be_bytes, to_be_bytes}
-use Rattle.std.proofs.lemmas.Bool.{ltb-false, ltb-true, le-ltb, eqb-true}
-use Rattle.std.proofs.lemmas.List.{take_at, drop_at, take-append-drop, take_rest, length-append, length-take}
+use Rattle.std.proofs.lemmas.Bool.{cases_lt, ltb-false, ltb-true, le-ltb, eqb-true}
+use Rattle.std.proofs.lemmas.Grind.{flat_map-append}
+use Rattle.std.proofs.lemmas.List.{take_at, drop_at, take-append-drop, take_more, take_more_set, take_rest, length-append, length-take}
 use Rattle.std.proofs.lemmas.Nat.{be_bytes_4, be_bytes_8, from_be_bytes-to_be_bytes_4, from_be_bytes-to_be_bytes_8}
 use Rattle.nfs_xdr.specs.declared.fault.XdrFault.TheVariants.{Short, TooLong, BadBool}
 use Rattle.nfs_xdr.specs.Spelling.{padding, number_of, fixed_text, opaque_text, numbers_text, IsNumber, IsBoolean, IsEnum, IsOptional, IsFixed, IsOpaque, AreItems, IsArray, Begins}
@@ -323,3 +324,40 @@ opaque_written max item counted bound = record {
 pub length-numbers_text : (ns : List ℕ) → length (numbers_text ns) ≡ 4 * length ns
 length-numbers_text [] = refl
 length-numbers_text (n ∷ ns) = length-append (to_be_bytes w32 n) (numbers_text ns) ∙ omega (arith, length-numbers_text ns)
+
+-- what a loop has after one number more
+pub numbers_more : (ns : List ℕ) (words : List (List ℕ)) (i : ℕ) (word : List ℕ) → i < length ns → i < length words
+    → word ≡ to_be_bytes w32 (get_or ns i 0)
+    → flat_map (λ w. w) (take i words) ≡ numbers_text (take i ns)
+    → flat_map (λ w. w) (take (i + 1) (set words i word)) ≡ numbers_text (take (i + 1) ns)
+numbers_more ns words i word in_numbers in_words word_is before =
+    ap (flat_map (λ w. w)) (take_more_set words i word in_words)
+    ∙ flat_map-append (λ w. w) (take i words) (word ∷ [])
+    ∙ ap (λ t. t ++ (word ++ [])) before
+    ∙ ap (λ t. numbers_text (take i ns) ++ (t ++ [])) word_is
+    ∙ sym (ap numbers_text (take_more ns i 0 in_numbers) ∙ flat_map-append (to_be_bytes w32) (take i ns) (get_or ns i 0 ∷ []))
+
+cons_same : (m n : ℕ) (ms ns : List ℕ) → m ≡ n → ms ≡ ns → m ∷ ms ≡ n ∷ ns
+cons_same m n ms ns head tail = ap (λ k. k ∷ ms) head ∙ ap (λ t. n ∷ t) tail
+
+-- the bytes of a hyper integer are those of its two halves
+pub halves_text : (n : ℕ) → numbers_text (n / 4294967296 ∷ n % 4294967296 ∷ []) ≡ to_be_bytes w64 n
+halves_text n =
+    cons_same _ _ _ _ (omega arith)
+    (cons_same _ _ _ _ (omega arith)
+    (cons_same _ _ _ _ (omega arith)
+    (cons_same _ _ _ _ (omega arith)
+    (cons_same _ _ _ _ (omega arith)
+    (cons_same _ _ _ _ (omega arith)
+    (cons_same _ _ _ _ (omega arith)
+    (cons_same _ _ _ _ (omega arith) refl)))))))
+
+pub spelled_more : (ns : List ℕ) (i : ℕ)
+    → ((j : ℕ) → j < i → IsNumber w32 (get_or ns j 0) (to_be_bytes w32 (get_or ns j 0)))
+    → IsNumber w32 (get_or ns i 0) (to_be_bytes w32 (get_or ns i 0))
+    → (j : ℕ) → j < i + 1 → IsNumber w32 (get_or ns j 0) (to_be_bytes w32 (get_or ns j 0))
+spelled_more ns i before last j below = spelled_by (cases_lt j i)
+  where
+    spelled_by : (j < i) ⊎ (i ≤ j) → IsNumber w32 (get_or ns j 0) (to_be_bytes w32 (get_or ns j 0))
+    spelled_by (inl less) = before j less
+    spelled_by (inr more) = subst (λ k. IsNumber w32 (get_or ns k 0) (to_be_bytes w32 (get_or ns k 0))) (omega (arith, below, more)) last

@@ -1,5 +1,5 @@
 //! A list of bytes to which XDR items are written, in room that was made once.
-ghost use Rattle.std.specs.Prelude.{◌≡◌, ℕ, ◌+◌, ◌*◌, ◌^◌, ◌<◌, ◌≤◌, [], ◌++◌, length, take, drop, IfOk};
+ghost use Rattle.std.specs.Prelude.{◌≡◌, ℕ, ◌+◌, ◌*◌, ◌^◌, ◌<◌, ◌≤◌, [], ◌∷◌, ◌++◌, length, take, drop, slice_index_or, IfOk};
 ghost use Rattle.std.specs.Int.{w32, w64, to_be_bytes};
 ghost use Rattle.nfs_xdr.specs.Spelling.{IsNumber, number_of, fixed_text, opaque_text, numbers_text, padding, pad_text};
 ghost use Rattle.nfs_xdr.specs.Written.{Written, Appends};
@@ -79,15 +79,18 @@ impl Output {
     }
 
     /// Writes unsigned integers one after another, as a fixed-length array of them (RFC 4506,
-    /// section 4.12).
+    /// section 4.12), in one piece.
     #[inline(always)]
-    pub fn numbers(&mut self, ns: &[u32])
-        requires { 4 * length ns.now ≤ self.old.room }
-        ensures { Appends (numbers_text ns.now) self.old self.new }
+    pub fn numbers<const N: usize>(&mut self, ns: [u32; N])
+        requires { 4 * N ≤ self.old.room }
+        ensures text { Appends (numbers_text ns.entry) self.old self.new }
+        ensures spelled { (i : ℕ) → i < N → IsNumber w32 (slice_index_or ns.entry i 0) (to_be_bytes w32 (slice_index_or ns.entry i 0)) }
     {
-        for n in ns {
-            self.u32(*n);
+        let mut words = [[0u8; 4]; N];
+        for i in 0..N {
+            words[i] = bytes_of(ns[i]);
         }
+        self.raw(words.as_flattened());
     }
 
     /// Writes opaque data of a fixed length (RFC 4506, section 4.9), padded with zeros.
@@ -165,4 +168,22 @@ impl Output {
         self.room -= bytes.len();
         self.bytes.extend_from_slice(bytes).unwrap();
     }
+}
+
+/// The two unsigned integers by which an unsigned hyper integer is spelled (RFC 4506, section 4.5),
+/// for `numbers` to write it among others.
+#[inline(always)]
+pub fn halves(n: u64) -> (u32, u32)
+    ensures text { numbers_text (result.0 ∷ result.1 ∷ []) ≡ to_be_bytes w64 n }
+    ensures spelled { IsNumber w64 n (to_be_bytes w64 n) }
+{
+    ((n >> 32) as u32, (n % (1 << 32)) as u32)
+}
+
+#[inline(always)]
+fn bytes_of(n: u32) -> [u8; 4]
+    ensures text { result ≡ to_be_bytes w32 n }
+    ensures spelled { IsNumber w32 n (to_be_bytes w32 n) }
+{
+    n.to_be_bytes()
 }

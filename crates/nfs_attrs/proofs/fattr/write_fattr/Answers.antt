@@ -1,23 +1,20 @@
-use Rattle.nfs_xdr.proofs.Writing.{appends_then}
-use Rattle.nfs_attrs.proofs.Writes.{fattr_written}
+use Rattle.std.proofs.Common.{arith, subst}
+use Rattle.std.specs.Int.{w32, to_be_bytes}
+use Rattle.nfs_xdr.specs.Spelling.{IsNumber}
+use Rattle.nfs_xdr.specs.Written.{Appends}
+use Rattle.nfs_xdr.proofs.Writing.{followed}
+use Rattle.nfs_attrs.proofs.Writes.{fattr_written, fattr_numbers}
 use Rattle.nfs_attrs.proofs.fattr.write_fattr.Goals as goal
 
 pub returns-clause-text : goal.returns-clause-text
 returns-clause-text c =
-    appends_then _ _ _ _ _ c.write_file_type.ensures.text
-    (appends_then _ _ _ _ _ c.u32.ensures.text
-    (appends_then _ _ _ _ _ c.u32-2.ensures.text
-    (appends_then _ _ _ _ _ c.u32-3.ensures.text
-    (appends_then _ _ _ _ _ c.u32-4.ensures.text
-    (appends_then _ _ _ _ _ c.u64.ensures.text
-    (appends_then _ _ _ _ _ c.u64-2.ensures.text
-    (appends_then _ _ _ _ _ (appends_then _ _ _ _ _ c.u32-5.ensures.text c.u32-6.ensures.text)
-    (appends_then _ _ _ _ _ c.u64-3.ensures.text
-    (appends_then _ _ _ _ _ c.u64-4.ensures.text
-    (appends_then _ _ _ _ _ c.write_moment.ensures.text
-    (appends_then _ _ _ _ _ c.write_moment-2.ensures.text c.write_moment-3.ensures.text)))))))))))
+    subst (λ t. Appends t c.args.out.now c.numbers.new.self)
+    (fattr_numbers c.args.attributes.now _ _ _ _ _ _ _ _ _ c.number_of.ensures c.halves-size_high.ensures.text c.halves-used_high.ensures.text c.halves-fsid_high.ensures.text c.halves-fileid_high.ensures.text)
+    c.numbers.ensures.text
 
 pub returns-clause-spelled : goal.returns-clause-spelled
 returns-clause-spelled c =
-    fattr_written c.args.attributes.now c.write_file_type.ensures.spelled c.u32.ensures.spelled c.u32-2.ensures.spelled c.u32-3.ensures.spelled c.u32-4.ensures.spelled c.u64.ensures.spelled c.u64-2.ensures.spelled c.u32-5.ensures.spelled c.u32-6.ensures.spelled c.u64-3.ensures.spelled c.u64-4.ensures.spelled
-    c.write_moment.ensures.spelled c.write_moment-2.ensures.spelled c.write_moment-3.ensures.spelled
+    let word = c.numbers.ensures.spelled in
+    fattr_written c.args.attributes.now (subst (λ n. IsNumber w32 n (to_be_bytes w32 n)) c.number_of.ensures (word 0 (omega arith)))
+    (word 1 (omega arith)) (word 2 (omega arith)) (word 3 (omega arith)) (word 4 (omega arith)) c.halves-size_high.ensures.spelled c.halves-used_high.ensures.spelled (word 9 (omega arith)) (word 10 (omega arith)) c.halves-fsid_high.ensures.spelled c.halves-fileid_high.ensures.spelled
+    (followed _ _ _ _ (word 15 (omega arith)) (word 16 (omega arith))) (followed _ _ _ _ (word 17 (omega arith)) (word 18 (omega arith))) (followed _ _ _ _ (word 19 (omega arith)) (word 20 (omega arith)))

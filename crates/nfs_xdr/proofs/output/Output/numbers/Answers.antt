@@ -1,8 +1,7 @@
-use Rattle.std.proofs.Common.{take, arith}
-use Rattle.std.proofs.lemmas.List.{length-take}
-use Rattle.nfs_xdr.proofs.Items.{length-numbers_text}
+use Rattle.std.proofs.Common.{rules, refl}
+use Rattle.std.proofs.lemmas.List.{length-set}
+use Rattle.nfs_xdr.proofs.Items.{numbers_more, spelled_more}
 use Rattle.nfs_xdr.proofs.output.Output.numbers.Goals as goal
 
-pub u32-requires : goal.u32-requires
-u32-requires c =
-    omega (arith, c.loop-n.invariant.room, length-numbers_text (take c.loop-n.n-index c.args.ns.now), length-take c.loop-n.n-index c.args.ns.now)
+pub loop-i-preserved : goal.loop-i-preserved
+loop-i-preserved g c = (refl, search (rules, length-set), numbers_more c.args.ns c.loop-i.words c.loop-i.i c.bytes_of.result (search rules) (search rules) c.bytes_of.ensures.text c.loop-i.invariant.2, spelled_more c.args.ns c.loop-i.i c.loop-i.invariant.3 c.bytes_of.ensures.spelled)

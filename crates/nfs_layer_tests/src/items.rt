@@ -3,7 +3,7 @@ use crate::support::{bytes, digits};
 use nfs_xdr::device::{ByteIn, ByteOut, Device, DeviceFault, write_all};
 use nfs_xdr::fault::XdrFault;
 use nfs_xdr::input::Input;
-use nfs_xdr::output::Output;
+use nfs_xdr::output::{Output, halves};
 use nfs_xdr::stutter::Stutter;
 use std::test::Fail;
 
@@ -58,13 +58,14 @@ fn writes_what_the_standard_spells(rt: HostRuntime) -> Result<(), Fail> {
     assert_eq!(rt; digits(rt.alloc(), out.bytes())?.as_str(), "0000002a0909");
     assert_eq!(rt; out.room(), 58);
     out.clear();
-    out.numbers(&[1, 2]);
+    let (high, low) = halves(0x0102_0304_0506_0708);
+    out.numbers([1, high, low]);
     out.boolean(false);
     assert_eq!(rt;
         digits(rt.alloc(), out.bytes())?.as_str(),
-        "000000010000000200000000"
+        "00000001010203040506070800000000"
     );
-    assert_eq!(rt; out.room(), 52);
+    assert_eq!(rt; out.room(), 48);
     Ok(())
 }
 
