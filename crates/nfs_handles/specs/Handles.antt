@@ -5,6 +5,8 @@ use Rattle.nfs_handles.specs.Numbered.{Filed, Numbered, at}
 use Rattle.nfs_handles.specs.declared.number.Number.{Number}
 use Rattle.nfs_handles.specs.declared.reading.Reading.{Reading}
 use Rattle.nfs_handles.specs.declared.reading.Reading.TheVariants.{Live, Stale, Bad}
+use Rattle.nfs_handles.specs.declared.reading.NoFile.{NoFile}
+use Rattle.nfs_handles.specs.declared.reading.NoFile.TheVariants as without
 
 -- the bytes `NFS3`
 abbrev pub magic : List ℕ
@@ -48,3 +50,8 @@ reading t bytes =
     else (if not (bytes_eq (key_in bytes) t.key) then Stale
     else (if nat_eq (number_in bytes) 0 || nat_le t.next (number_in bytes) then Bad
     else live_with (tag_in bytes) (number_in bytes) (at t (number_in bytes))))
+
+-- what a handle reads as that names no file
+abbrev pub reading_without : NoFile → Reading
+reading_without without.Stale = Stale
+reading_without without.Bad = Bad

@@ -1,14 +1,16 @@
 //! Numbered files: a map from numbers to values.
-ghost use Rattle.std.specs.Prelude.{◌≡◌, ℕ, ◌^◌, ◌<◌, ◌≤◌, ◌≢◌, Some, IsSome, option_copied};
+ghost use Rattle.std.specs.Prelude.{◌≡◌, ℕ, ◌^◌, ◌<◌, ◌≤◌, ◌≢◌, Some, IsSome, IfSome, IfNone, IfOk, IfErr, option_copied};
 ghost use Rattle.std.specs.Borrow.{sem};
 ghost use Rattle.std.specs.Option.{option_copied_mut};
 ghost use Rattle.nfs_handles.specs.Numbered.{Numbered, at, value_at, unused, IsNumbered};
-ghost use Rattle.nfs_handles.specs.Handles.{handle_at, live_with, reading};
+ghost use Rattle.nfs_handles.specs.Handles.{handle_at, live_with, reading, reading_without};
+ghost use Rattle.nfs_handles.specs.Handles.{number as number_of};
+ghost use Rattle.nfs_handles.specs.declared.reading.Reading.TheVariants.{Live, Stale};
 ghost use Rattle.nfs_handles.specs.Changes.{Puts, Takes, LendsValue};
 
 use crate::fault::PutFault;
 use crate::number::Number;
-use crate::reading::Reading;
+use crate::reading::{NoFile, Reading};
 use std::alloc::Global;
 use std::collections::BTreeMap;
 use std::marker::Model;
@@ -95,34 +97,48 @@ impl<T: Drop> Files<T> {
     pub fn read(&self, handle: &[u8]) -> Reading
         ensures { result ≡ reading self.now handle.now }
     {
+        match self.find(handle) {
+            Ok((number, _)) => Reading::Live(number),
+            Err(NoFile::Stale) => Reading::Stale,
+            Err(NoFile::Bad) => Reading::Bad,
+        }
+    }
+
+    /// The file that a handle names, with its number. `Stale` and `Bad` as a handle reads.
+    #[inline(always)]
+    pub fn find(&self, handle: &[u8]) -> Result<(Number, &T), NoFile>
+        ensures found { IfOk result (λ file. (reading self.now handle.now ≡ Live file.0) × (value_at self.now file.0.0 ≡ Some file.1.now)) }
+        ensures none { IfErr result (λ why. reading self.now handle.now ≡ reading_without why) }
+    {
         if handle.len() != 24 || handle[..4] != MAGIC[..] {
-            return Reading::Bad;
+            return Err(NoFile::Bad);
         }
         if handle[4..12] != self.key[..] {
-            return Reading::Stale;
+            return Err(NoFile::Stale);
         }
         let t = &handle[12..16];
         let n = &handle[16..];
         let tag = u32::from_be_bytes([t[0], t[1], t[2], t[3]]);
         let number = u64::from_be_bytes([n[0], n[1], n[2], n[3], n[4], n[5], n[6], n[7]]);
         if number == 0 || self.next <= number {
-            return Reading::Bad;
+            return Err(NoFile::Bad);
         }
-        self.living(tag, number)
+        match self.living(tag, number) {
+            Some(value) => Ok((Number(number), value)),
+            None => Err(NoFile::Stale),
+        }
     }
 
-    // What a handle of a number that was given says.
-    fn living(&self, tag: u32, number: u64) -> Reading
-        ensures { result ≡ live_with tag number (at self.now number) }
+    // The file that lives under a number that was given, where it has this tag.
+    #[inline(always)]
+    fn living(&self, tag: u32, number: u64) -> Option<&T>
+        ensures found { IfSome result (λ value. (live_with tag number (at self.now number) ≡ Live (number_of number)) × (value_at self.now number ≡ Some value.now)) }
+        ensures none { IfNone result (live_with tag number (at self.now number) ≡ Stale) }
     {
-        if !self.values.contains_key(&number) {
-            return Reading::Stale;
-        }
-        if tag == 0 {
-            Reading::Live(Number(number))
-        } else {
-            Reading::Stale
-        }
+        let Some(value) = self.values.get(&number) else {
+            return None;
+        };
+        if tag == 0 { Some(value) } else { None }
     }
 
     /// The handle of a file that lives. It never names another.

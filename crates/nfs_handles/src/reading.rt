@@ -11,3 +11,13 @@ pub enum Reading {
     /// No handle, or one that was never given: `NFS3ERR_BADHANDLE`.
     Bad,
 }
+
+/// Why a handle names no file.
+#[derive(Clone, Copy, Debug, PartialEq, Eq)]
+pub enum NoFile {
+    /// It is of a file that lived once, or of another server: `NFS3ERR_STALE` (RFC 1813, section
+    /// 2.6).
+    Stale,
+    /// It is no handle, or one that was never given: `NFS3ERR_BADHANDLE`.
+    Bad,
+}

@@ -3,9 +3,11 @@ use Rattle.std.proofs.Common.{◌≡◌, ℕ, zero, suc, ◌<◌, List, [], ◌�
 use Rattle.std.specs.Prelude.{slice_get, not, if◌then◌else◌, ◌||◌, nat_eq, nat_le, bytes_eq}
 use Rattle.std.proofs.lemmas.Option.{slice_get-map, slice_get_within}
 use Rattle.nfs_handles.specs.Numbered.{Numbered, Filed, at, value_at}
-use Rattle.nfs_handles.specs.Handles.{handle_text, handle_at, reading, live_with, is_shaped, key_in, tag_in, number_in}
+use Rattle.nfs_handles.specs.Handles.{handle_text, handle_at, reading, live_with, is_shaped, key_in, tag_in, number_in, number}
+use Rattle.nfs_handles.specs.declared.number.Number.{Number}
+use Rattle.nfs_attrs.specs.declared.fattr.Fattr.{Fattr}
 use Rattle.nfs_handles.specs.declared.reading.Reading.{Reading}
-use Rattle.nfs_handles.specs.declared.reading.Reading.TheVariants.{Stale, Bad}
+use Rattle.nfs_handles.specs.declared.reading.Reading.TheVariants.{Live, Stale, Bad}
 use Rattle.nfs_inodes.specs.declared.inode.Inode.{Inode}
 use Rattle.nfs_inodes.specs.declared.volume.Share.{Share}
 use Rattle.nfs_inodes.specs.declared.volumes.Totals.{Totals}
@@ -121,6 +123,15 @@ reading_kept a shares bytes = ap (λ (r : Reading).
 
 pub reading_there : (a : Numbered Inode) (shares : List Share) (t : Tree) → tree_in (kept_of a shares) ≡ t → (bytes : List ℕ) → reading a bytes ≡ reading (numbered t) bytes
 reading_there a shares t view bytes = reading_kept a shares bytes ∙ ap (λ (t : Tree). reading (numbered t) bytes) view
+
+-- the file that a handle reads as, with what is kept of it
+pub found_there : (a : Numbered Inode) (shares : List Share) (t : Tree) → tree_in (kept_of a shares) ≡ t → Keeps (kept_of a shares) → (bytes : List ℕ) (n : Number) (i : Inode) (file : Fattr)
+    → reading a bytes ≡ Live n → value_at a n.0 ≡ Some i → file ≡ attributes_of n.0 (file_of 0 i) i.nlink
+    → (reading (numbered t) bytes ≡ Live (number file.fileid)) × (attributes_at t file.fileid ≡ Some file)
+found_there a shares t view keeps bytes n i file reads at_number e = let same : file.fileid ≡ n.0 = ap (λ (f : Fattr). f.fileid) e in (
+  sym (reading_there a shares t view bytes) ∙ reads ∙ ap (λ m. Live (number m)) (sym same),
+  ap (attributes_at t) same ∙ sym (attributes_there a shares t view keeps n.0 i (sym at_number)) ∙ ap Some (sym e),
+)
 
 handle_kept : (a : Numbered Inode) (shares : List Share) (n : ℕ) → handle_at a n ≡ handle_at (numbered (tree_in (kept_of a shares))) n
 handle_kept a shares n = same (at a n) ∙ sym (ap (option_map (λ (f : Filed File). handle_text a.key f.tag n)) (numbered_at a shares n))

@@ -26,7 +26,7 @@ impl Tree {
     }
 }
 
-fn attributes_of(inode: &Inode, number: Number) -> Fattr
+pub(crate) fn attributes_of(inode: &Inode, number: Number) -> Fattr
     requires { inode.now.volume < 64 }
     ensures { result ≡ spec.attributes_of number.0 (file_of 0 inode.now) inode.now.nlink }
 {

@@ -1,11 +1,15 @@
 //! Handles of the files of a tree.
-ghost use Rattle.std.specs.Prelude.{◌≡◌, ℕ};
-ghost use Rattle.nfs_handles.specs.Handles.{handle_at, reading};
-ghost use Rattle.nfs_inodes.specs.Reading.{numbered};
+ghost use Rattle.std.specs.Prelude.{◌≡◌, ℕ, Some, IfOk, IfErr};
+ghost use Rattle.nfs_handles.specs.Handles.{handle_at, reading, reading_without};
+ghost use Rattle.nfs_handles.specs.Handles.{number as number_of};
+ghost use Rattle.nfs_handles.specs.declared.reading.Reading.TheVariants.{Live};
+ghost use Rattle.nfs_inodes.specs.Reading.{numbered, attributes_at};
 
+use crate::attributes::attributes_of;
 use crate::tree::Tree;
+use nfs_attrs::fattr::Fattr;
 use nfs_handles::number::Number;
-use nfs_handles::reading::Reading;
+use nfs_handles::reading::{NoFile, Reading};
 
 impl Tree {
     /// The handle of a file (RFC 1813, section 2.6, nfs_fh3). `None` where none lives under the
@@ -25,6 +29,18 @@ impl Tree {
         ensures { result ≡ reading (numbered self.now) handle.now }
     {
         self.files.read(handle)
+    }
+
+    /// The attributes of the file that a handle names, by one search. `Stale` and `Bad` as the
+    /// handle reads.
+    pub fn find(&self, handle: &[u8]) -> Result<Fattr, NoFile>
+        ensures found { IfOk result (λ file. (reading (numbered self.now) handle.now ≡ Live (number_of file.fileid)) × (attributes_at self.now file.fileid ≡ Some file)) }
+        ensures none { IfErr result (λ why. reading (numbered self.now) handle.now ≡ reading_without why) }
+    {
+        match self.files.find(handle) {
+            Ok((number, inode)) => Ok(attributes_of(inode, number)),
+            Err(why) => Err(why),
+        }
     }
 
     /// The number that the next new file takes.

@@ -7,7 +7,7 @@ use ballast::Ballast;
 use nfs_handles::fault::PutFault;
 use nfs_handles::files::Files;
 use nfs_handles::number::Number;
-use nfs_handles::reading::Reading;
+use nfs_handles::reading::{NoFile, Reading};
 use std::alloc::Global;
 use std::test::Fail;
 
@@ -93,8 +93,11 @@ fn a_handle_is_spelled_and_read(rt: HostRuntime) -> Result<(), Fail> {
         "4e4653330102030405060708000000000000000000000102"
     );
     assert_eq!(rt; files.read(&handle), Reading::Live(Number(0x0102)));
+    assert_eq!(rt; files.find(&handle), Ok((Number(0x0102), &10)));
+    assert_eq!(rt; files.find(&handle[1..]), Err(NoFile::Bad));
     assert_eq!(rt; files.take(Number(0x0102)), Some(10));
     assert_eq!(rt; files.read(&handle), Reading::Stale);
+    assert_eq!(rt; files.find(&handle), Err(NoFile::Stale));
     assert_eq!(rt; files.put(20), Ok(Number(0x0103)));
     assert_eq!(rt; files.read(&handle), Reading::Stale);
     Ok(())

@@ -4,7 +4,7 @@ use nfs_attrs::fattr::{Fattr, SpecData};
 use nfs_attrs::file_type::FileType;
 use nfs_attrs::moment::Moment;
 use nfs_handles::number::Number;
-use nfs_handles::reading::Reading;
+use nfs_handles::reading::{NoFile, Reading};
 use nfs_inodes::new_file::NewFile;
 use nfs_inodes::tree::Tree;
 use nfs_inodes::volumes::Totals;
@@ -123,6 +123,10 @@ fn add_volume(tree: &mut Tree, path: &[u8], max_files: u64) -> Option<u64> {
 
 fn read(tree: &Tree, handle: &[u8]) -> Reading {
     tree.read_handle(handle)
+}
+
+fn named(tree: &Tree, handle: &[u8]) -> Result<Fattr, NoFile> {
+    tree.find(handle)
 }
 
 /// What a file of the first volume is, with mode, links, owner, group and size, and these times.
@@ -270,6 +274,12 @@ fn handles_name_the_files(rt: HostRuntime) -> Result<(), Fail> {
     let other_tag = bytes(alloc, "4e465333 0102030405060708 00000001 0000000000000003")?;
     assert_eq!(rt; read(&tree, other_tag.as_slice()), Reading::Stale);
     assert_eq!(rt; read(&tree, b"NFS3"), Reading::Bad);
+    assert_eq!(rt;
+        named(&tree, handle.as_slice()).ok(),
+        regular(3, (0o711, 1, 1, 1, 5))
+    );
+    assert_eq!(rt; named(&tree, other_tag.as_slice()), Err(NoFile::Stale));
+    assert_eq!(rt; named(&tree, not_given.as_slice()), Err(NoFile::Bad));
     assert_eq!(rt;
         handle_digits(alloc, &tree, 3)?.as_str(),
         "4e4653330102030405060708000000000000000000000003"

@@ -60,6 +60,7 @@ fn cred_of(body: &[u8]) -> Result<(Cred, Input<'_>), XdrFault>
 }
 
 // The groups behind their number.
+#[inline(always)]
 fn read_gids(input: &mut Input<'_>) -> Result<ArrayVec<u32, 16>, XdrFault>
     ensures { Tells (λ gids. gids.items) input.new result (array_at (number_at w32) 16 input.old) }
 {
@@ -71,6 +72,7 @@ fn read_gids(input: &mut Input<'_>) -> Result<ArrayVec<u32, 16>, XdrFault>
 }
 
 // So many groups.
+#[inline(always)]
 fn take_gids(input: &mut Input<'_>, count: u32) -> Result<ArrayVec<u32, 16>, XdrFault>
     requires { count ≤ 16 }
     ensures { Tells (λ gids. gids.items) input.new result (items_at (number_at w32) count input.old) }

@@ -1,5 +1,4 @@
 pub mod Keep
-pub mod Naming
 pub mod Pieces
 pub mod Verdicts
 pub mod Going

@@ -9,7 +9,7 @@ use crate::ids::{Ids, squash};
 use crate::rule::Rule;
 use nfs_attrs::fattr::Fattr;
 use nfs_handles::number::Number;
-use nfs_handles::reading::Reading;
+use nfs_handles::reading::NoFile;
 use nfs_inodes::tree::Tree;
 use nfs_rpc::auth_sys::Cred;
 
@@ -37,12 +37,11 @@ impl<'a> Subject<'a> {
     ) -> Result<Subject<'a>, Rule>
         ensures { Names tree.entry.now table.now addr (credential_of cred.now) handle.now result }
     {
-        let number = match tree.read_handle(handle) {
-            Reading::Live(number) => number,
-            Reading::Stale => return Err(Rule::StaleHandle),
-            Reading::Bad => return Err(Rule::BadHandle),
+        let file = match tree.find(handle) {
+            Ok(file) => file,
+            Err(NoFile::Stale) => return Err(Rule::StaleHandle),
+            Err(NoFile::Bad) => return Err(Rule::BadHandle),
         };
-        let file = tree.attributes(number).unwrap();
         let Some(options) = table.grant(place_of(&file), addr) else {
             return Err(Rule::Export);
         };
