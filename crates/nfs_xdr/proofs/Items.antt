@@ -1,5 +1,5 @@
 -- Reading an item finds its spelling.
-use Rattle.std.proofs.Common.{◌≡◌, ℕ, suc, zero, ◌+◌, ◌-◌, ◌*◌, ◌^◌, ◌%◌, ◌/◌, ◌<◌, ◌≤◌, Bool, true, false, ltb, eqb, List, [], ◌∷◌, ◌++◌, length, take, drop, Option, Some, None, if◌then◌else◌, Ok, Err, refl, sym, ap, subst, ◌∙◌, append_assoc, append-nil, take-add, length-drop, arith, flat_map, get_or, set, ◌⊎◌, inl, inr}
+use Rattle.std.proofs.Common.{◌≡◌, ℕ, suc, zero, ◌+◌, ◌-◌, ◌^◌, ◌%◌, ◌/◌, ◌<◌, ◌≤◌, Bool, true, false, ltb, eqb, List, [], ◌∷◌, ◌++◌, length, take, drop, Option, Some, None, if◌then◌else◌, Ok, Err, refl, sym, ap, subst, ◌∙◌, append_assoc, append-nil, take-add, length-drop, arith, flat_map, get_or, set, ◌⊎◌, inl, inr}
 use Rattle.std.specs.Int.{Width, w32, w64, byte_len, from_be_bytes, to_be_bytes}
 use Rattle.std.proofs.lemmas.Bool.{cases_lt, ltb-false, ltb-true, le-ltb, eqb-true}
 use Rattle.std.proofs.lemmas.Grind.{flat_map-append}
@@ -320,10 +320,6 @@ opaque_written max item counted bound = record {
   bound = bound;
   spelled = record { front = to_be_bytes w32 (length item); first = record { fits = counted; text_is = refl }; back = fixed_text item; second = fixed_written item; text_is = refl };
 }
-
-pub length-numbers_text : (ns : List ℕ) → length (numbers_text ns) ≡ 4 * length ns
-length-numbers_text [] = refl
-length-numbers_text (n ∷ ns) = length-append (to_be_bytes w32 n) (numbers_text ns) ∙ omega (arith, length-numbers_text ns)
 
 -- what a loop has after one number more
 pub numbers_more : (ns : List ℕ) (words : List (List ℕ)) (i : ℕ) (word : List ℕ) → i < length ns → i < length words
