@@ -6,39 +6,11 @@
  *       tested, the rules of RPC are tested, and the reply is written with its record mark. It is
  *       kept out of line, or the compiler would know the record's length and drop the tests.
  */
-#include <stdint.h>
+#include "items.h"
 #include <stdio.h>
 #include <string.h>
-#include <time.h>
 
 enum { RECORD = 65536, PIECE = 8192, PAGE = 4096, COPIES = 20000, CALLS = 5000000, RUNS = 5 };
-
-static uint64_t now(void) {
-    struct timespec t;
-    clock_gettime(CLOCK_MONOTONIC, &t);
-    return (uint64_t)t.tv_sec * 1000000000u + (uint64_t)t.tv_nsec;
-}
-
-static void put(unsigned char *at, uint32_t n) {
-    at[0] = n >> 24;
-    at[1] = n >> 16;
-    at[2] = n >> 8;
-    at[3] = n;
-}
-
-struct input {
-    const unsigned char *at;
-    size_t left;
-};
-
-static int get(struct input *in, uint32_t *n) {
-    if (in->left < 4)
-        return 0;
-    *n = (uint32_t)in->at[0] << 24 | (uint32_t)in->at[1] << 16 | (uint32_t)in->at[2] << 8 | in->at[3];
-    in->at += 4;
-    in->left -= 4;
-    return 1;
-}
 
 static int skip(struct input *in) {
     uint32_t n;

@@ -44,3 +44,37 @@ impl ReplayFault {
         }
     }
 }
+
+/// Why a run ends, whatever the script says: the machine is at fault.
+#[derive(Debug, Drop)]
+pub enum RunFault {
+    /// The output can't be written.
+    Write,
+    /// There is no memory.
+    Memory,
+}
+
+impl From<AllocError> for RunFault {
+    fn from(_error: AllocError) -> RunFault {
+        RunFault::Memory
+    }
+}
+
+impl<T: Drop> From<AllocFailed<T>> for RunFault {
+    fn from(_error: AllocFailed<T>) -> RunFault {
+        RunFault::Memory
+    }
+}
+
+impl From<RunFault> for ReplayFault {
+    ghost use Rattle.nfs3d.specs.Status.{IsOfReplay};
+
+    ghost from_gives = { λ _ fault. IsOfReplay fault };
+
+    fn from(fault: RunFault) -> ReplayFault {
+        match fault {
+            RunFault::Write => ReplayFault::Write,
+            RunFault::Memory => ReplayFault::Memory(AllocError),
+        }
+    }
+}

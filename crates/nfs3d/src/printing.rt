@@ -4,7 +4,7 @@ ghost use Rattle.hex.specs.Hex.{encode_lower};
 ghost use Rattle.nfs_xdr.specs.Known.{Grows};
 ghost use Rattle.nfs_server.specs.Events.{Answer};
 
-use crate::fault::ReplayFault;
+use crate::fault::RunFault;
 use crate::hexadecimal::push_digits;
 use nfs_server::event::{Outcome, Sink};
 use nfs_xdr::device::{ByteOut, write_all};
@@ -27,7 +27,7 @@ impl Printer {
     }
 
     /// Prints a text.
-    pub(crate) fn text<W: ByteOut>(&mut self, out: &mut W, text: &str) -> Result<(), ReplayFault>
+    pub(crate) fn text<W: ByteOut>(&mut self, out: &mut W, text: &str) -> Result<(), RunFault>
         ensures { OnOk result (Grows (W.contents out.old) (text.now ++ 10 ∷ []) (W.contents out.new)) }
     {
         self.line.clear();
@@ -41,7 +41,7 @@ impl Printer {
         out: &mut W,
         text: &str,
         bytes: &[u8],
-    ) -> Result<(), ReplayFault>
+    ) -> Result<(), RunFault>
         ensures { OnOk result (Grows (W.contents out.old) (text.now ++ encode_lower bytes.now ++ 10 ∷ []) (W.contents out.new)) }
     {
         self.line.clear();
@@ -51,13 +51,13 @@ impl Printer {
     }
 
     // Prints the line that was made.
-    fn end<W: ByteOut>(&mut self, out: &mut W) -> Result<(), ReplayFault>
+    fn end<W: ByteOut>(&mut self, out: &mut W) -> Result<(), RunFault>
         ensures { OnOk result (Grows (W.contents out.old) (self.old.line.items ++ 10 ∷ []) (W.contents out.new)) }
     {
         self.line.push(b'\n')?;
         match write_all(out, self.line.as_slice()) {
             Ok(()) => Ok(()),
-            Err(_) => Err(ReplayFault::Write),
+            Err(_) => Err(RunFault::Write),
         }
     }
 }
@@ -67,9 +67,9 @@ pub struct Replies<'a, W: ByteOut> {
     /// Where they are printed.
     pub out: &'a mut W,
     /// What prints them.
-    pub printer: &'a mut Printer,
+    pub printer: Printer,
     /// The fault that ended the run.
-    pub fault: Option<ReplayFault>,
+    pub fault: Option<RunFault>,
 }
 
 impl<W: ByteOut> Sink for Replies<'_, W> {

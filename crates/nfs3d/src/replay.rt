@@ -1,8 +1,9 @@
 //! A script, run against a server of its own.
-ghost use Rattle.std.specs.Prelude.{◌≤◌};
+ghost use Rattle.std.specs.Prelude.{◌≤◌, IfErr};
+ghost use Rattle.nfs3d.specs.Status.{IsOfReplay};
 
 use crate::captured::{Captured, split_record};
-use crate::fault::ReplayFault;
+use crate::fault::{ReplayFault, RunFault};
 use crate::hexadecimal::{HexFault, push_bytes};
 use crate::printing::{Printer, Replies};
 use crate::script::{Order, Words, number, order_of};
@@ -31,21 +32,16 @@ pub fn replay<W: ByteOut>(
 ) -> Result<(), ReplayFault>
     requires some { 1 ≤ cache }
     requires few { cache ≤ 1024 }
+    ensures { IfErr result IsOfReplay }
 {
-    let server = Server::new(alloc, tree_e(alloc)?, cache)?;
-    let mut player = Player {
-        alloc,
-        sessions: Sessions::new(alloc, server)?,
-        printer: Printer::new(alloc),
-        calls: Vec::new(alloc),
-    };
+    let mut player = Player::new(alloc, cache)?;
     for (index, line) in script.split(|b| *b == b'\n').enumerate() {
         if let Err(fault) = player.line(line, out) {
             player.run_calls(out)?;
             return Err(fault.at(index as u64));
         }
     }
-    player.run_calls(out)
+    Ok(player.run_calls(out)?)
 }
 
 // What is wrong with a line, or the fault of what it asks for.
@@ -54,37 +50,39 @@ enum LineFault {
     BadLine,
     BadHex,
     NoHandle,
-    Other(ReplayFault),
+    Run(RunFault),
 }
 
 impl LineFault {
     // The fault with the number of its line, of which so many stand before it.
-    fn at(self, before: u64) -> ReplayFault {
+    fn at(self, before: u64) -> ReplayFault
+        ensures { IsOfReplay result }
+    {
         let number = before.saturating_add(1);
         match self {
             LineFault::BadLine => ReplayFault::BadLine(number),
             LineFault::BadHex => ReplayFault::BadHex(number),
             LineFault::NoHandle => ReplayFault::NoHandle(number),
-            LineFault::Other(fault) => fault,
+            LineFault::Run(fault) => fault.into(),
         }
     }
 }
 
-impl From<ReplayFault> for LineFault {
-    fn from(fault: ReplayFault) -> LineFault {
-        LineFault::Other(fault)
+impl From<RunFault> for LineFault {
+    fn from(fault: RunFault) -> LineFault {
+        LineFault::Run(fault)
     }
 }
 
 impl From<AllocError> for LineFault {
-    fn from(error: AllocError) -> LineFault {
-        LineFault::Other(ReplayFault::Memory(error))
+    fn from(_error: AllocError) -> LineFault {
+        LineFault::Run(RunFault::Memory)
     }
 }
 
 impl<T: Drop> From<AllocFailed<T>> for LineFault {
     fn from(_error: AllocFailed<T>) -> LineFault {
-        LineFault::Other(ReplayFault::Memory(AllocError))
+        LineFault::Run(RunFault::Memory)
     }
 }
 
@@ -92,7 +90,7 @@ impl From<HexFault> for LineFault {
     fn from(fault: HexFault) -> LineFault {
         match fault {
             HexFault::BadHex => LineFault::BadHex,
-            HexFault::Memory => LineFault::Other(ReplayFault::Memory(AllocError)),
+            HexFault::Memory => LineFault::Run(RunFault::Memory),
         }
     }
 }
@@ -114,6 +112,20 @@ struct Player {
 }
 
 impl Player {
+    // A player that has run no line, with a server of the built-in description.
+    fn new(alloc: Global, cache: usize) -> Result<Player, RunFault>
+        requires some { 1 ≤ cache }
+        requires few { cache ≤ 1024 }
+    {
+        let server = Server::new(alloc, tree_e(alloc)?, cache)?;
+        Ok(Player {
+            alloc,
+            sessions: Sessions::new(alloc, server)?,
+            printer: Printer::new(alloc),
+            calls: Vec::new(alloc),
+        })
+    }
+
     // What a line asks for. A call waits for those that follow it; anything else comes after the
     // calls that wait, as does a call that names files, whose handles are those of the tree then.
     fn line<W: ByteOut>(&mut self, line: &[u8], out: &mut W) -> Result<(), LineFault> {
@@ -167,7 +179,7 @@ impl Player {
     }
 
     // Runs the calls that wait, and prints their replies.
-    fn run_calls<W: ByteOut>(&mut self, out: &mut W) -> Result<(), ReplayFault> {
+    fn run_calls<W: ByteOut>(&mut self, out: &mut W) -> Result<(), RunFault> {
         let calls = mem::replace(&mut self.calls, Vec::new(self.alloc));
         let mut events = Vec::with_capacity(self.alloc, calls.len())?;
         for call in &calls {
@@ -179,15 +191,16 @@ impl Player {
         }
         let mut replies = Replies {
             out,
-            printer: &mut self.printer,
+            printer: mem::replace(&mut self.printer, Printer::new(self.alloc)),
             fault: None,
         };
         self.sessions.run(events.as_slice(), &mut replies);
         let Replies {
             out: _,
-            printer: _,
+            printer,
             fault,
         } = replies;
+        self.printer = printer;
         match fault {
             Some(fault) => Err(fault),
             None => Ok(()),
@@ -201,11 +214,11 @@ impl Player {
         moment: Moment,
         piece: &[u8],
         out: &mut W,
-    ) -> Result<(), ReplayFault> {
+    ) -> Result<(), RunFault> {
         let mut replies = Captured::new(self.alloc);
         let fed = self.sessions.feed(conn, moment, piece, &mut replies);
         if replies.has_failed() {
-            return Err(ReplayFault::Memory(AllocError));
+            return Err(RunFault::Memory);
         }
         let text = format!(in self.alloc; "reply {conn} ")?;
         let mut rest = replies.bytes();
@@ -223,7 +236,7 @@ impl Player {
         conn: u32,
         done: Result<(), SessionFault>,
         out: &mut W,
-    ) -> Result<(), ReplayFault> {
+    ) -> Result<(), RunFault> {
         match done {
             Ok(()) => Ok(()),
             Err(fault) => {

@@ -1,5 +1,5 @@
 //! The attributes of a file.
-ghost use Rattle.std.specs.Prelude.{◌≡◌, ◌≤◌, length};
+ghost use Rattle.std.specs.Prelude.{◌≡◌, ◌≤◌, length, option_copied};
 ghost use Rattle.nfs_xdr.specs.Reading.{Gives, Reads};
 ghost use Rattle.nfs_xdr.specs.Written.{Appends};
 ghost use Rattle.nfs_attrs.specs.Spelling.{IsFattr, IsPostOpAttr, fattr_text, post_op_attr_text};
@@ -168,16 +168,16 @@ fn post_op_attr_of(bytes: &[u8]) -> Result<(Option<Fattr>, Input<'_>), XdrFault>
 }
 
 /// Writes the attributes of a file, or that there are none (RFC 1813, section 2.6, post_op_attr).
-pub fn write_post_op_attr(out: &mut Output, attributes: Option<Fattr>)
-    requires { length (post_op_attr_text attributes) ≤ out.old.room }
-    ensures text { Appends (post_op_attr_text attributes) out.old out.new }
-    ensures spelled { IsPostOpAttr attributes (post_op_attr_text attributes) }
+pub fn write_post_op_attr(out: &mut Output, attributes: Option<&Fattr>)
+    requires { length (post_op_attr_text (option_copied attributes)) ≤ out.old.room }
+    ensures text { Appends (post_op_attr_text (option_copied attributes.entry)) out.old out.new }
+    ensures spelled { IsPostOpAttr (option_copied attributes.entry) (post_op_attr_text (option_copied attributes.entry)) }
 {
     match attributes {
         None => out.u32(0),
         Some(attributes) => {
             out.u32(1);
-            write_fattr(out, &attributes);
+            write_fattr(out, attributes);
         }
     }
 }

@@ -49,7 +49,7 @@ pub fn write_wcc(out: &mut Output, wcc: &Wcc)
     ensures spelled { IsWcc wcc.now (wcc_text wcc.now) }
 {
     write_pre_op_attr(out, wcc.before);
-    write_post_op_attr(out, wcc.after);
+    write_post_op_attr(out, wcc.after.as_ref());
 }
 
 /// How many bytes the attributes before and after an operation have: from 8 to 116.

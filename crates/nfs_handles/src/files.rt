@@ -1,9 +1,9 @@
 //! Numbered files: a map from numbers to values.
-ghost use Rattle.std.specs.Prelude.{◌≡◌, ℕ, ◌^◌, ◌<◌, ◌≤◌, ◌≢◌, Some, IsSome, IfSome, IfNone, IfOk, IfErr, option_copied};
+ghost use Rattle.std.specs.Prelude.{◌≡◌, ℕ, ◌^◌, ◌<◌, ◌≤◌, ◌≢◌, Some, IsSome, IfSome, IfNone, IfOk, IfErr, true, length, bytes_eq, option_copied};
 ghost use Rattle.std.specs.Borrow.{sem};
 ghost use Rattle.std.specs.Option.{option_copied_mut};
 ghost use Rattle.nfs_handles.specs.Numbered.{Numbered, at, value_at, unused, IsNumbered};
-ghost use Rattle.nfs_handles.specs.Handles.{handle_at, live_with, reading, reading_without};
+ghost use Rattle.nfs_handles.specs.Handles.{handle_at, is_shaped, key_in, live_with, reading, reading_without};
 ghost use Rattle.nfs_handles.specs.Handles.{number as number_of};
 ghost use Rattle.nfs_handles.specs.declared.reading.Reading.TheVariants.{Live, Stale};
 ghost use Rattle.nfs_handles.specs.Changes.{Puts, Takes, LendsValue};
@@ -110,10 +110,10 @@ impl<T: Drop> Files<T> {
         ensures found { IfOk result (λ file. (reading self.now handle.now ≡ Live file.0) × (value_at self.now file.0.0 ≡ Some file.1.now)) }
         ensures none { IfErr result (λ why. reading self.now handle.now ≡ reading_without why) }
     {
-        if handle.len() != 24 || handle[..4] != MAGIC[..] {
+        if !is_shaped(handle) {
             return Err(NoFile::Bad);
         }
-        if handle[4..12] != self.key[..] {
+        if !self.has_key_of(handle) {
             return Err(NoFile::Stale);
         }
         let t = &handle[12..16];
@@ -127,6 +127,16 @@ impl<T: Drop> Files<T> {
             Some(value) => Ok((Number(number), value)),
             None => Err(NoFile::Stale),
         }
+    }
+
+    // Whether a handle has the key of these files.
+    #[inline(always)]
+    fn has_key_of(&self, handle: &[u8]) -> bool
+        requires { length handle.now ≡ 24 }
+        ensures { result ≡ bytes_eq (key_in handle.now) self.now.key }
+    {
+        let k = &handle[4..12];
+        [k[0], k[1], k[2], k[3], k[4], k[5], k[6], k[7]] == self.key
     }
 
     // The file that lives under a number that was given, where it has this tag.
@@ -176,4 +186,17 @@ impl<T: Drop> Files<T> {
     {
         self.values.remove(&number.0)
     }
+}
+
+// Whether bytes have the length of a handle and begin as one.
+#[inline(always)]
+fn is_shaped(handle: &[u8]) -> bool
+    ensures shape { result ≡ is_shaped handle.now }
+    ensures length { result ≡ true → length handle.now ≡ 24 }
+{
+    if handle.len() != 24 {
+        return false;
+    }
+    let m = &handle[..4];
+    [m[0], m[1], m[2], m[3]] == MAGIC
 }

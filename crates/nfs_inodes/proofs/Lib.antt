@@ -11,6 +11,7 @@ pub mod Shelves
 pub mod Views
 pub mod Makings
 pub mod Tests
+pub mod Found
 pub mod Readers
 pub mod Example
 pub mod Climbs

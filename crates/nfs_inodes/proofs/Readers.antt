@@ -11,14 +11,17 @@ use Rattle.nfs_handles.specs.declared.reading.Reading.TheVariants.{Live, Stale, 
 use Rattle.nfs_inodes.specs.declared.inode.Inode.{Inode}
 use Rattle.nfs_inodes.specs.declared.volume.Share.{Share}
 use Rattle.nfs_inodes.specs.declared.volumes.Totals.{Totals}
-use Rattle.nfs_inodes.specs.Tree.{Tree, File, Volume, on_some, nlink, bytes_of, files_of}
+use Rattle.nfs_inodes.specs.Tree.{Tree, File, Kind, Volume, on_some, nlink, bytes_in, bytes_of, files_of}
 use Rattle.nfs_inodes.specs.Tree as tree
 use Rattle.nfs_inodes.specs.Kept.{Held, Counted, Keeps, tree_in, files_in}
-use Rattle.nfs_inodes.specs.Listing.{file_of, helds, counted_of, volume_of, kept_of}
-use Rattle.nfs_inodes.specs.Reading.{attributes_of, attributes_at, totals_at, numbered, IsRun}
+use Rattle.nfs_inodes.specs.Listing.{file_of, kind_of, helds, counted_of, volume_of, kept_of}
+use Rattle.nfs_inodes.specs.Reading.{attributes_of, attributes_at, kind_at, listing, listed, bytes_at, totals_at, numbered, IsRun}
+use Rattle.nfs_inodes.specs.Shown.{kind_seen, bytes_seen, IsSeen}
+use Rattle.nfs_inodes.specs.declared.view.FileView.{FileView}
 use Rattle.nfs_inodes.proofs.Maps.{at_shows}
 use Rattle.nfs_inodes.proofs.Shelves.{held, at_held}
-use Rattle.nfs_inodes.proofs.Views.{filed, lives_there, none_there, share_counted}
+use Rattle.nfs_inodes.proofs.Lists.{same_some, not_both}
+use Rattle.nfs_inodes.proofs.Views.{filed, lives_there, none_there, kept_at, share_counted}
 
 -- ---- files
 
@@ -52,6 +55,34 @@ attributes_there a shares t view keeps n i e = let f = filed a n i e in
 
 pub attributes_none : (a : Numbered Inode) (shares : List Share) (t : Tree) → tree_in (kept_of a shares) ≡ t → (n : ℕ) → None ≡ value_at a n → None ≡ attributes_at t n
 attributes_none a shares t view n e = sym (ap (option_map (λ (f : File). attributes_of n f (nlink t.files n f))) (none_there a shares t view n e))
+
+-- ---- files that are seen
+
+pub seen_there : (a : Numbered Inode) (shares : List Share) (t : Tree) → tree_in (kept_of a shares) ≡ t → Keeps (kept_of a shares) → (n : ℕ) (i : Inode) (v : FileView)
+    → Some i ≡ value_at a n → v.attributes ≡ attributes_of n (file_of 0 i) i.nlink → kind_seen v ≡ kind_of i.node → IsSeen t v
+seen_there a shares t view keeps n i v at_number e k = let same : v.attributes.fileid ≡ n = ap (λ (f : Fattr). f.fileid) e in (
+  ap (attributes_at t) same ∙ sym (attributes_there a shares t view keeps n i at_number) ∙ ap Some (sym e),
+  ap (kind_at t) same ∙ sym (seen a shares t view None (λ (f : File). Some f.kind) n i (Some (kind_of i.node)) at_number (λ tag. refl)) ∙ ap Some (sym k),
+)
+
+-- what is told of a file by its kind alone
+of_kind : {X : Type 0} (y : X) (g : Kind → X) (o : Option File) (k : Kind) → on_some o None (λ (f : File). Some f.kind) ≡ Some k → g k ≡ on_some o y (λ (f : File). g f.kind)
+of_kind y g None k e = absurd (not_both refl e)
+of_kind y g (Some f) k e = ap g (sym (same_some e))
+
+pub listed_seen : (t : Tree) (v : FileView) → IsSeen t v → listing v.attributes.fileid (kind_seen v) ≡ listed t v.attributes.fileid
+listed_seen t v s = of_kind [] (listing v.attributes.fileid) (tree.at v.attributes.fileid t.files) (kind_seen v) s.1
+
+pub seen_bytes : (t : Tree) (v : FileView) → IsSeen t v → bytes_seen v ≡ bytes_at t v.attributes.fileid
+seen_bytes t v s = of_kind [] bytes_in (tree.at v.attributes.fileid t.files) (kind_seen v) s.1
+
+-- a file that is seen is kept
+pub seen_kept : (a : Numbered Inode) (shares : List Share) (t : Tree) → tree_in (kept_of a shares) ≡ t → (v : FileView) → IsSeen t v → (f : Filed Inode) × (at a v.attributes.fileid ≡ Some f)
+seen_kept a shares t view v s = of (tree.at v.attributes.fileid t.files) refl s.1
+  where
+    of : (o : Option File) → tree.at v.attributes.fileid t.files ≡ o → on_some o None (λ (f : File). Some f.kind) ≡ Some (kind_seen v) → (f : Filed Inode) × (at a v.attributes.fileid ≡ Some f)
+    of None e k = absurd (not_both refl k)
+    of (Some g) e k = let kept = kept_at a shares t view v.attributes.fileid g e in (kept.0, kept.1)
 
 -- ---- content
 
@@ -125,12 +156,12 @@ pub reading_there : (a : Numbered Inode) (shares : List Share) (t : Tree) → tr
 reading_there a shares t view bytes = reading_kept a shares bytes ∙ ap (λ (t : Tree). reading (numbered t) bytes) view
 
 -- the file that a handle reads as, with what is kept of it
-pub found_there : (a : Numbered Inode) (shares : List Share) (t : Tree) → tree_in (kept_of a shares) ≡ t → Keeps (kept_of a shares) → (bytes : List ℕ) (n : Number) (i : Inode) (file : Fattr)
-    → reading a bytes ≡ Live n → value_at a n.0 ≡ Some i → file ≡ attributes_of n.0 (file_of 0 i) i.nlink
-    → (reading (numbered t) bytes ≡ Live (number file.fileid)) × (attributes_at t file.fileid ≡ Some file)
-found_there a shares t view keeps bytes n i file reads at_number e = let same : file.fileid ≡ n.0 = ap (λ (f : Fattr). f.fileid) e in (
-  sym (reading_there a shares t view bytes) ∙ reads ∙ ap (λ m. Live (number m)) (sym same),
-  ap (attributes_at t) same ∙ sym (attributes_there a shares t view keeps n.0 i (sym at_number)) ∙ ap Some (sym e),
+pub found_there : (a : Numbered Inode) (shares : List Share) (t : Tree) → tree_in (kept_of a shares) ≡ t → Keeps (kept_of a shares) → (bytes : List ℕ) (n : Number) (i : Inode) (v : FileView)
+    → reading a bytes ≡ Live n → value_at a n.0 ≡ Some i → v.attributes ≡ attributes_of n.0 (file_of 0 i) i.nlink → kind_seen v ≡ kind_of i.node
+    → (reading (numbered t) bytes ≡ Live (number v.attributes.fileid)) × IsSeen t v
+found_there a shares t view keeps bytes n i v reads at_number e k = (
+  sym (reading_there a shares t view bytes) ∙ reads ∙ ap (λ m. Live (number m)) (sym (ap (λ (f : Fattr). f.fileid) e)),
+  seen_there a shares t view keeps n.0 i v (sym at_number) e k,
 )
 
 handle_kept : (a : Numbered Inode) (shares : List Share) (n : ℕ) → handle_at a n ≡ handle_at (numbered (tree_in (kept_of a shares))) n

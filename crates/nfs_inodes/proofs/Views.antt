@@ -17,7 +17,7 @@ use Rattle.nfs_inodes.proofs.Shelves.{held, at_held}
 use Rattle.nfs_inodes.proofs.Keeping.{shown}
 
 -- a look-up shows nothing where there is nothing, and what it shows is of something
-mapped : {X Y : Type 0} (f : X → Y) (o : Option X) (y : Y) → option_map f o ≡ Some y → (x : X) × (o ≡ Some x) × (f x ≡ y)
+pub mapped : {X Y : Type 0} (f : X → Y) (o : Option X) (y : Y) → option_map f o ≡ Some y → (x : X) × (o ≡ Some x) × (f x ≡ y)
 mapped f None y e = absurd (not_both refl e)
 mapped f (Some x) y e = (x, refl, same_some e)
 

@@ -77,6 +77,10 @@ attributes_of n f links = record {
 abbrev pub attributes_at : Tree → ℕ → Option Fattr
 attributes_at t n = option_map (λ f. attributes_of n f (nlink t.files n f)) (at n t.files)
 
+-- what file n is
+abbrev pub kind_at : Tree → ℕ → Option Kind
+kind_at t n = on_some (at n t.files) None (λ f. Some f.kind)
+
 -- ---- content
 
 -- the bytes of a regular file; of another none

@@ -26,6 +26,7 @@ impl Tree {
     }
 }
 
+#[inline(always)]
 pub(crate) fn attributes_of(inode: &Inode, number: Number) -> Fattr
     requires { inode.now.volume < 64 }
     ensures { result ≡ spec.attributes_of number.0 (file_of 0 inode.now) inode.now.nlink }

@@ -44,7 +44,7 @@ impl Tree {
     }
 }
 
-fn run_from(node: &Node, offset: usize) -> &[u8]
+pub(crate) fn run_from(node: &Node, offset: usize) -> &[u8]
     ensures { result.now ≡ drop offset (bytes_in (kind_of node.now)) }
 {
     match node {

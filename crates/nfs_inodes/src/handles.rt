@@ -1,13 +1,13 @@
 //! Handles of the files of a tree.
-ghost use Rattle.std.specs.Prelude.{◌≡◌, ℕ, Some, IfOk, IfErr};
+ghost use Rattle.std.specs.Prelude.{◌≡◌, ℕ, IfOk, IfErr};
 ghost use Rattle.nfs_handles.specs.Handles.{handle_at, reading, reading_without};
 ghost use Rattle.nfs_handles.specs.Handles.{number as number_of};
 ghost use Rattle.nfs_handles.specs.declared.reading.Reading.TheVariants.{Live};
-ghost use Rattle.nfs_inodes.specs.Reading.{numbered, attributes_at};
+ghost use Rattle.nfs_inodes.specs.Reading.{numbered};
+ghost use Rattle.nfs_inodes.specs.Shown.{IsSeen};
 
-use crate::attributes::attributes_of;
 use crate::tree::Tree;
-use nfs_attrs::fattr::Fattr;
+use crate::view::FileView;
 use nfs_handles::number::Number;
 use nfs_handles::reading::{NoFile, Reading};
 
@@ -31,14 +31,14 @@ impl Tree {
         self.files.read(handle)
     }
 
-    /// The attributes of the file that a handle names, by one search. `Stale` and `Bad` as the
-    /// handle reads.
-    pub fn find(&self, handle: &[u8]) -> Result<Fattr, NoFile>
-        ensures found { IfOk result (λ file. (reading (numbered self.now) handle.now ≡ Live (number_of file.fileid)) × (attributes_at self.now file.fileid ≡ Some file)) }
+    /// The file that a handle names, by one search. `Stale` and `Bad` as the handle reads.
+    #[inline(always)]
+    pub fn find(&self, handle: &[u8]) -> Result<FileView<'_>, NoFile>
+        ensures found { IfOk result (λ file. (reading (numbered self.now) handle.now ≡ Live (number_of file.attributes.fileid)) × IsSeen self.now file) }
         ensures none { IfErr result (λ why. reading (numbered self.now) handle.now ≡ reading_without why) }
     {
         match self.files.find(handle) {
-            Ok((number, inode)) => Ok(attributes_of(inode, number)),
+            Ok((number, inode)) => Ok(FileView::new(inode, number)),
             Err(why) => Err(why),
         }
     }

@@ -14,5 +14,6 @@ pub mod lookup;
 pub mod may;
 pub mod new_file;
 pub mod tree;
+pub mod view;
 mod volume;
 pub mod volumes;

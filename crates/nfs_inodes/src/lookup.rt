@@ -66,7 +66,7 @@ fn cookie_of_next(node: &Node) -> Option<u64>
     }
 }
 
-fn under_name(node: &Node, dir: Number, name: &[u8]) -> Option<Number>
+pub(crate) fn under_name(node: &Node, dir: Number, name: &[u8]) -> Option<Number>
     ensures { option_map (λ n. n.0) result ≡ option_map (λ e. e.number) (find (λ e. bytes_eq e.name name.now) (listing dir.0 (kind_of node.now))) }
 {
     match node {

@@ -332,7 +332,7 @@ fn attributes_before_are_there_or_not(rt: HostRuntime) -> Result<(), Fail> {
 fn attributes_after_are_there_or_not(rt: HostRuntime) -> Result<(), Fail> {
     let mut out = Output::new(rt.alloc(), 92)?;
     write_post_op_attr(&mut out, None);
-    write_post_op_attr(&mut out, Some(ROOT));
+    write_post_op_attr(&mut out, Some(&ROOT));
     assert_eq!(rt; size_post_op_attr(None) + size_post_op_attr(Some(ROOT)), 92);
     let mut input = Input::new(out.bytes());
     assert_eq!(rt; read_post_op_attr(&mut input), Ok(None));

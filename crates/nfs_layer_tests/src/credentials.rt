@@ -50,6 +50,33 @@ fn reads_who_calls(rt: HostRuntime) -> Result<(), Fail> {
     Ok(())
 }
 
+// What stands after a body was read into a credential that had another user and groups of its own.
+fn read_again(alloc: Global, words: &str) -> Result<Option<Cred>, Fail> {
+    let first = bytes(
+        alloc,
+        "00000000 00000000 00000007 00000008 00000001 00000009",
+    )?;
+    let body = bytes(alloc, words)?;
+    let mut cred = Cred::unread();
+    if cred.read(first.as_slice()).is_err() || cred.read(body.as_slice()).is_err() {
+        return Ok(None);
+    }
+    Ok(Some(cred))
+}
+
+#[test]
+fn reads_into_a_credential_that_stands(rt: HostRuntime) -> Result<(), Fail> {
+    let Some(cred) = read_again(rt.alloc(), BODY)? else {
+        panic!(rt; "the body can't be read");
+    };
+    assert_eq!(rt; (cred.uid, cred.gid), (1000, 100));
+    assert_eq!(rt; cred.gids.as_slice(), [4u32, 24].as_slice());
+    assert!(rt; read_again(rt.alloc(), "0000002a 00000003 6c6162")?.is_none());
+    let unread = Cred::unread();
+    assert_eq!(rt; (unread.uid, unread.gid, unread.gids.len()), (0, 0, 0));
+    Ok(())
+}
+
 #[test]
 fn looks_at_no_stamp_padding_or_rest(rt: HostRuntime) -> Result<(), Fail> {
     let other =

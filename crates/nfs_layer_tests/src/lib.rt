@@ -18,3 +18,5 @@ mod support;
 mod tree;
 #[cfg(test)]
 mod tree_memory;
+#[cfg(test)]
+mod views;

@@ -126,7 +126,7 @@ fn read(tree: &Tree, handle: &[u8]) -> Reading {
 }
 
 fn named(tree: &Tree, handle: &[u8]) -> Result<Fattr, NoFile> {
-    tree.find(handle)
+    tree.find(handle).map(|file| file.attributes)
 }
 
 /// What a file of the first volume is, with mode, links, owner, group and size, and these times.

@@ -59,12 +59,12 @@ abbrev pub told : Result Cred BadCred → Option Credential
 told (Ok c) = Some (credential_of c)
 told (Err e) = None
 
--- What was answered is what reading gives.
-abbrev pub GivesCred : Result (Cred × List ℕ) XdrFault → Read Credential → Type 0
-GivesCred (Ok x) read = read ≡ Ok (credential_of x.0, x.1)
-GivesCred (Err e) read = read ≡ Err e
+-- the same where it was read into this one
+abbrev pub heard : Result Unit BadCred → Cred → Option Credential
+heard (Ok x) c = Some (credential_of c)
+heard (Err e) c = None
 
--- The same of items that were taken from the front, where a fault may have taken some.
+-- What was answered is what reading gives, where a fault may have taken some of the items.
 abbrev pub Tells : {X A : Type 0} → (X → A) → List ℕ → Result X XdrFault → Read A → Type 0
 Tells view new (Ok x) read = read ≡ Ok (view x, new)
 Tells view new (Err e) read = read ≡ Err e

@@ -1,9 +1,9 @@
 //! The credential of AUTH_SYS (RFC 5531, section 8.2 and appendix A).
-ghost use Rattle.std.specs.Prelude.{◌≡◌, ℕ, List, ◌≤◌, IfOk, IsErr};
+ghost use Rattle.std.specs.Prelude.{◌≡◌, ℕ, List, [], ◌≤◌, IfOk, OnOk, IsErr};
 ghost use Rattle.std.specs.Int.{w32};
 ghost use Rattle.nfs_xdr.specs.Spelling.{Begins, BeginsNone};
 ghost use Rattle.nfs_xdr.specs.Reading.{number_at, items_at, array_at};
-ghost use Rattle.nfs_rpc.specs.AuthSys.{IsAuthSys, cred_at, caller, credential_of, told, GivesCred, Tells};
+ghost use Rattle.nfs_rpc.specs.AuthSys.{IsAuthSys, cred_at, caller, credential_of, told, heard, Tells};
 
 use arrayvec::ArrayVec;
 use nfs_xdr::fault::XdrFault;
@@ -41,48 +41,83 @@ pub fn read_auth_sys(body: &[u8]) -> Result<Cred, BadCred>
     ensures read { IfOk result (λ cred. (rest : List ℕ) × Begins IsAuthSys (credential_of cred) body.now rest) }
     ensures bad { IsErr result → BeginsNone IsAuthSys body.now }
 {
-    match cred_of(body) {
-        Ok((cred, _)) => Ok(cred),
-        Err(_) => Err(BadCred),
+    let mut cred = Cred::unread();
+    match cred.read(body) {
+        Ok(()) => Ok(cred),
+        Err(fault) => Err(fault),
     }
 }
 
-fn cred_of(body: &[u8]) -> Result<(Cred, Input<'_>), XdrFault>
-    ensures { GivesCred result (cred_at body.now) }
-{
-    let mut input = Input::new(body);
-    let _stamp = input.u32()?;
-    let _machine = input.opaque(MAX_NAME_BYTES)?;
-    let uid = input.u32()?;
-    let gid = input.u32()?;
-    let gids = read_gids(&mut input)?;
-    Ok((Cred { uid, gid, gids }, input))
+impl Cred {
+    /// What stands where none was read: user 0, its group 0, and no more groups.
+    #[inline(always)]
+    pub fn unread() -> Cred
+        ensures { credential_of result ≡ record { uid = 0; gid = 0; gids = [] } }
+    {
+        Cred {
+            uid: 0,
+            gid: 0,
+            gids: ArrayVec::new(),
+        }
+    }
+
+    /// Reads the body of a credential as `read_auth_sys` does, into this one, so that none is moved.
+    /// After `BadCred` this one may be any.
+    #[inline(always)]
+    pub fn read(&mut self, body: &[u8]) -> Result<(), BadCred>
+        ensures exact { heard result self.new ≡ caller body.now }
+        ensures read { OnOk result ((rest : List ℕ) × Begins IsAuthSys (credential_of self.new) body.now rest) }
+        ensures bad { IsErr result → BeginsNone IsAuthSys body.now }
+    {
+        let mut input = Input::new(body);
+        match self.take(&mut input) {
+            Ok(()) => Ok(()),
+            Err(_) => Err(BadCred),
+        }
+    }
+
+    #[inline(always)]
+    fn take(&mut self, input: &mut Input<'_>) -> Result<(), XdrFault>
+        ensures { Tells (λ _. credential_of self.new) input.new result (cred_at input.old) }
+    {
+        let _stamp = input.u32()?;
+        let _machine = input.opaque(MAX_NAME_BYTES)?;
+        self.uid = input.u32()?;
+        self.gid = input.u32()?;
+        self.gids.clear();
+        read_gids(input, &mut self.gids)
+    }
 }
 
 // The groups behind their number.
 #[inline(always)]
-fn read_gids(input: &mut Input<'_>) -> Result<ArrayVec<u32, 16>, XdrFault>
-    ensures { Tells (λ gids. gids.items) input.new result (array_at (number_at w32) 16 input.old) }
+fn read_gids(input: &mut Input<'_>, gids: &mut ArrayVec<u32, 16>) -> Result<(), XdrFault>
+    requires { gids.old.items ≡ [] }
+    ensures { Tells (λ _. gids.new.items) input.new result (array_at (number_at w32) 16 input.old) }
 {
     let count = input.u32()?;
     if count > MAX_GIDS {
         return Err(XdrFault::TooLong);
     }
-    take_gids(input, count)
+    take_gids(input, count, gids)
 }
 
 // So many groups.
 #[inline(always)]
-fn take_gids(input: &mut Input<'_>, count: u32) -> Result<ArrayVec<u32, 16>, XdrFault>
-    requires { count ≤ 16 }
-    ensures { Tells (λ gids. gids.items) input.new result (items_at (number_at w32) count input.old) }
+fn take_gids(
+    input: &mut Input<'_>,
+    count: u32,
+    gids: &mut ArrayVec<u32, 16>,
+) -> Result<(), XdrFault>
+    requires few { count ≤ 16 }
+    requires none { gids.old.items ≡ [] }
+    ensures { Tells (λ _. gids.new.items) input.new result (items_at (number_at w32) count input.old) }
 {
-    let mut gids = ArrayVec::new();
     for _ in 0..count {
         match input.u32() {
             Ok(gid) => gids.push(gid),
             Err(fault) => return Err(fault),
         }
     }
-    Ok(gids)
+    Ok(())
 }

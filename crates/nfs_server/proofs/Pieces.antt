@@ -6,15 +6,16 @@ use Rattle.std.proofs.Math.Seq.{take-add, drop-drop, take-length}
 use Rattle.std.proofs.lemmas.List.{take-append-le, take_all, length-take-le}
 use Rattle.std.proofs.lemmas.Bool.{le-leb, leb-true, leb-false}
 use Rattle.std.proofs.Math.Dec.{leb}
-use Rattle.nfs_xdr.specs.Spelling.{number_of, pad_text}
+use Rattle.nfs_xdr.specs.Spelling.{number_of, opaque_text, pad_text}
 use Rattle.nfs_xdr.specs.Written.{Written, Appends}
 use Rattle.nfs_xdr.proofs.Writing.{appends_then}
 use Rattle.nfs_attrs.specs.declared.fattr.Fattr.{Fattr}
 use Rattle.nfs_attrs.specs.Spelling.{post_op_attr_text}
+use Rattle.nfs_handles.specs.Handles.{handle_at}
 use Rattle.nfs_inodes.specs.Tree.{Tree, File, Kind, Regular, Directory, Link, at, on_some, bytes_in, nlink}
-use Rattle.nfs_inodes.specs.Reading.{IsRun, attributes_of, attributes_at, bytes_at, type_of, size_of}
-use Rattle.nfs_server.specs.Rules.{is_regular}
-use Rattle.nfs_server.specs.Results.{status_text, read_text}
+use Rattle.nfs_inodes.specs.Reading.{IsRun, attributes_of, attributes_at, bytes_at, numbered, type_of, size_of}
+use Rattle.nfs_server.specs.Rules.{Subject, is_regular}
+use Rattle.nfs_server.specs.Results.{status_text, lookup_text, read_text}
 
 by_test : {P : Type 0} (b : Bool) → (b ≡ true → P) → (b ≡ false → P) → P
 by_test true p q = p refl
@@ -73,6 +74,15 @@ read_written f offset count left len all a b c d e g h i size is least status at
     let end : nat_le left len ≡ nat_le f.size (offset + length (take len (drop offset all))) = ap (λ n. nat_le n len) is ∙ same_end f.size offset len ∙ ap (λ n. nat_le f.size (offset + n)) long in
     subst (λ bytes. Appends (status_text 0 ++ read_text f offset bytes) a i) whole
     (parts_written f offset len (nat_le left len) (take len (drop offset all)) a b c d e g h i long end status attributes counted reached lenth content pad)
+
+-- ---- the result of LOOKUP
+
+pub found_written : (s : Subject) (n : ℕ) (handle : List ℕ) (f : Fattr) (a b c d e : Written) → handle_at (numbered s.tree) n ≡ Some handle → attributes_at s.tree n ≡ Some f
+    → Appends (status_text 0) a b → Appends (opaque_text handle) b c → Appends (post_op_attr_text (Some f)) c d → Appends (post_op_attr_text (Some s.file)) d e → Appends (status_text 0 ++ lookup_text s n) a e
+found_written s n handle f a b c d e named shown status item found dir =
+    let item' : Appends (on_some (handle_at (numbered s.tree) n) [] opaque_text) b c = subst (λ o. Appends (on_some o [] opaque_text) b c) (sym named) item in
+    let found' : Appends (post_op_attr_text (attributes_at s.tree n)) c d = subst (λ o. Appends (post_op_attr_text o) c d) (sym shown) found in
+    appends_then _ _ a b e status (appends_then _ _ b d e (appends_then _ _ b c d item' found') dir)
 
 -- ---- the size of a regular file
 

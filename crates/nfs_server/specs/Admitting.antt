@@ -4,11 +4,9 @@ use Rattle.std.specs.List.{find}
 use Rattle.nfs_rpc.specs.AuthSys.{credential_of, caller}
 use Rattle.nfs_rpc.specs.Calls.{Call}
 use Rattle.nfs_rpc.specs.declared.auth_sys.Cred.{Cred}
-use Rattle.nfs_server.specs.declared.args.NfsArgs.{NfsArgs}
 use Rattle.nfs_server.specs.declared.rpc_rules.Admitted.{Admitted}
 use Rattle.nfs_server.specs.declared.rpc_rules.Admitted.TheVariants.{Null, Nfs}
 use Rattle.nfs_server.specs.declared.rpc_rules.RpcRule.{RpcRule}
-use Rattle.nfs_server.specs.Args.{args_of, args_in}
 use Rattle.nfs_server.specs.RpcRules.{fails_rpc, head_rules, caller_rules, is_nfs, is_null}
 
 -- the first rule of the head that the call fails, and else whether it is NULL
@@ -17,7 +15,7 @@ Admits call bytes (Ok Null) = (find (fails_rpc call bytes) head_rules ≡ None) 
 Admits call bytes (Ok Nfs) = (find (fails_rpc call bytes) head_rules ≡ None) × (is_nfs call ≡ true) × (is_null call ≡ false)
 Admits call bytes (Err rule) = find (fails_rpc call bytes) head_rules ≡ Some rule
 
--- the first rule after the head's, and else who calls and what for
-abbrev pub Identifies : Call → List ℕ → Result (Cred × NfsArgs) RpcRule → Type 0
-Identifies call bytes (Ok x) = (find (fails_rpc call bytes) caller_rules ≡ None) × (caller call.cred.body ≡ Some (credential_of x.0)) × (args_in call.proc bytes ≡ Some (args_of x.1))
-Identifies call bytes (Err rule) = find (fails_rpc call bytes) caller_rules ≡ Some rule
+-- the first rule of the caller that the call fails, and else who calls
+abbrev pub Identifies : Call → List ℕ → Cred → Result Unit RpcRule → Type 0
+Identifies call bytes cred (Ok x) = (find (fails_rpc call bytes) caller_rules ≡ None) × (caller call.cred.body ≡ Some (credential_of cred))
+Identifies call bytes cred (Err rule) = find (fails_rpc call bytes) caller_rules ≡ Some rule

@@ -45,15 +45,15 @@ fails_rpc call bytes Credential = not (is_null call) && (nat_eq call.cred.flavor
 fails_rpc call bytes WeakCredential = not (is_null call) && (is_nfs call && nat_eq call.cred.flavor AUTH_NONE)
 fails_rpc call bytes Arguments = not (is_null call) && is_none (args_in call.proc bytes)
 
--- the rules, in order: those of the head alone, and those of who calls and what for
+-- the rules, in order: those of the head alone, those of who calls, and that of what for
 abbrev pub head_rules : List RpcRule
 head_rules = Version ∷ Program ∷ ProgramVersion ∷ Procedure ∷ []
 
 abbrev pub caller_rules : List RpcRule
-caller_rules = Flavor ∷ Credential ∷ WeakCredential ∷ Arguments ∷ []
+caller_rules = Flavor ∷ Credential ∷ WeakCredential ∷ []
 
 abbrev pub rpc_rules : List RpcRule
-rpc_rules = head_rules ++ caller_rules
+rpc_rules = head_rules ++ caller_rules ++ Arguments ∷ []
 
 -- the first that fails
 abbrev pub rpc_failure_of : Call → List ℕ → Option RpcRule

@@ -4,26 +4,30 @@ ghost use Rattle.std.specs.List.{list_any};
 ghost use Rattle.nfs_xdr.specs.Written.{Appends};
 ghost use Rattle.nfs_server.specs.Rules.{is_separator};
 ghost use Rattle.nfs_server.specs.Results.{status_text, lookup_text};
-ghost use Rattle.nfs_server.specs.Judging.{subject_of, Looks};
+ghost use Rattle.nfs_inodes.specs.Shown.{IsSeen};
+ghost use Rattle.nfs_server.specs.Judging.{subject_of, IsCurrent, Looks};
 
 use crate::rights::{Right, may};
 use crate::rule::Rule;
 use crate::subject::Subject;
 use nfs_attrs::fattr::write_post_op_attr;
 use nfs_attrs::file_type::FileType;
-use nfs_handles::number::Number;
 use nfs_inodes::may::MAX_NAME_BYTES;
+use nfs_inodes::view::FileView;
 use nfs_xdr::output::Output;
 
 /// The file under a name in the directory, or the first rule that fails.
-pub(crate) fn look_up(subject: &Subject<'_>, name: &[u8]) -> Result<Number, Rule>
+#[inline(always)]
+pub(crate) fn look_up<'a>(subject: &Subject<'a>, name: &[u8]) -> Result<FileView<'a>, Rule>
+    requires { IsCurrent subject.now }
     ensures { Looks (subject_of subject.now) name.now result }
 {
-    match subject.file.file_type {
+    let dir = &subject.file;
+    match dir.attributes.file_type {
         FileType::Directory => {}
         _ => return Err(Rule::NotDirectory),
     }
-    if !may(&subject.ids, &subject.file, Right::Execute) {
+    if !may(&subject.ids(), &dir.attributes, Right::Execute) {
         return Err(Rule::Search);
     }
     if name.len() > MAX_NAME_BYTES {
@@ -32,23 +36,22 @@ pub(crate) fn look_up(subject: &Subject<'_>, name: &[u8]) -> Result<Number, Rule
     if !has_form(name) {
         return Err(Rule::NameForm);
     }
-    match subject.tree.lookup(subject.number(), name) {
-        Some(number) => Ok(number),
+    match subject.tree.find_in(dir, name) {
+        Some(file) => Ok(file),
         None => Err(Rule::NoEntry),
     }
 }
 
 /// Writes the result of a LOOKUP that found a file.
-pub(crate) fn write_found(out: &mut Output, subject: &Subject<'_>, number: Number)
-    requires { 208 ≤ out.old.room }
-    ensures { Appends (status_text 0 ++ lookup_text (subject_of subject.now) number.0) out.old out.new }
+pub(crate) fn write_found(out: &mut Output, subject: &Subject<'_>, file: &FileView<'_>)
+    requires seen { IsSeen subject.now.tree.now file.now }
+    requires room { 208 ≤ out.old.room }
+    ensures { Appends (status_text 0 ++ lookup_text (subject_of subject.now) file.now.attributes.fileid) out.old out.new }
 {
     out.u32(0);
-    if let Some(handle) = subject.tree.handle_of(number.0) {
-        out.opaque(&handle);
-    }
-    write_post_op_attr(out, subject.tree.attributes(number));
-    write_post_op_attr(out, Some(subject.file));
+    out.opaque(&subject.tree.handle(file));
+    write_post_op_attr(out, Some(&file.attributes));
+    write_post_op_attr(out, Some(&subject.file.attributes));
 }
 
 // Whether a name has a byte, and none that is 0 or `/`.

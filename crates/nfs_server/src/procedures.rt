@@ -1,5 +1,5 @@
 //! The procedures of NFS: a call is judged, and its result written.
-ghost use Rattle.std.specs.Prelude.{◌≡◌, ◌≤◌, ◌++◌, Some};
+ghost use Rattle.std.specs.Prelude.{◌≡◌, ◌≤◌, ◌++◌, Some, option_copied};
 ghost use Rattle.std.specs.List.{find};
 ghost use Rattle.nfs_xdr.specs.Written.{Appends};
 ghost use Rattle.nfs_rpc.specs.AuthSys.{credential_of};
@@ -7,7 +7,7 @@ ghost use Rattle.nfs_attrs.specs.Spelling.{fattr_text};
 ghost use Rattle.nfs_server.specs.Args.{args_of, handle_in};
 ghost use Rattle.nfs_server.specs.Rules.{violates, rules_of, status_of};
 ghost use Rattle.nfs_server.specs.Results.{status_text, denied_text, result_of, result_text};
-ghost use Rattle.nfs_server.specs.Judging.{subject_of, AreCurrent};
+ghost use Rattle.nfs_server.specs.Judging.{subject_of, IsCurrent};
 
 use crate::args::NfsArgs;
 use crate::event::Addr;
@@ -44,19 +44,20 @@ pub fn perform(
 
 // The rules after the handle's, and the result.
 fn judge(subject: &Subject<'_>, args: &NfsArgs<'_>, out: &mut Output)
-    requires current { AreCurrent (subject_of subject.now) }
+    requires current { IsCurrent subject.now }
     requires room { MAX_RESULT_BYTES ≤ out.old.room }
     ensures { Appends (result_of (find (violates (subject_of subject.now) (args_of args.now)) (rules_of (args_of args.now))) (Some (subject_of subject.now)) (args_of args.now)) out.old out.new }
 {
+    let file = &subject.file.attributes;
     match *args {
-        NfsArgs::GetAttr { .. } => write_attributes(out, &subject.file),
+        NfsArgs::GetAttr { .. } => write_attributes(out, file),
         NfsArgs::Lookup { name, .. } => match look_up(subject, name) {
-            Ok(number) => write_found(out, subject, number),
-            Err(rule) => write_denied(out, rule, Some(subject.file), args),
+            Ok(found) => write_found(out, subject, &found),
+            Err(rule) => write_denied(out, rule, Some(file), args),
         },
         NfsArgs::Read { offset, count, .. } => match read_failure(subject) {
             None => write_data(out, subject, offset, count),
-            Some(rule) => write_denied(out, rule, Some(subject.file), args),
+            Some(rule) => write_denied(out, rule, Some(file), args),
         },
     }
 }
@@ -82,9 +83,9 @@ fn write_attributes(out: &mut Output, file: &Fattr)
 }
 
 // The result of a call that fails a rule, with the attributes that are shown all the same.
-fn write_denied(out: &mut Output, rule: Rule, shown: Option<Fattr>, args: &NfsArgs<'_>)
+fn write_denied(out: &mut Output, rule: Rule, shown: Option<&Fattr>, args: &NfsArgs<'_>)
     requires { 92 ≤ out.old.room }
-    ensures { Appends (status_text (status_of rule) ++ denied_text shown (args_of args.now)) out.old out.new }
+    ensures { Appends (status_text (status_of rule) ++ denied_text (option_copied shown.entry) (args_of args.now)) out.old out.new }
 {
     out.u32(rule.status());
     match args {

@@ -1,10 +1,10 @@
 //! READ: bytes of a file (RFC 1813, section 3.3.6).
 ghost use Rattle.std.specs.Prelude.{◌≡◌, ◌+◌, ◌^◌, ◌<◌, ◌≤◌, ◌++◌, true, length, take, drop};
 ghost use Rattle.nfs_xdr.specs.Written.{Appends};
-ghost use Rattle.nfs_inodes.specs.Reading.{bytes_at};
+ghost use Rattle.nfs_inodes.specs.Shown.{bytes_seen};
 ghost use Rattle.nfs_server.specs.Rules.{is_regular};
 ghost use Rattle.nfs_server.specs.Results.{status_text, read_text, read_bytes};
-ghost use Rattle.nfs_server.specs.Judging.{subject_of, AreCurrent};
+ghost use Rattle.nfs_server.specs.Judging.{subject_of, IsCurrent};
 ghost use Rattle.nfs_server.specs.Judging as spec;
 
 use crate::procedures::MAX_RESULT_BYTES;
@@ -13,8 +13,7 @@ use crate::rule::Rule;
 use crate::subject::Subject;
 use nfs_attrs::fattr::write_post_op_attr;
 use nfs_attrs::file_type::FileType;
-use nfs_handles::number::Number;
-use nfs_inodes::tree::Tree;
+use nfs_inodes::view::FileView;
 use nfs_xdr::output::Output;
 
 /// The most bytes that one READ answers.
@@ -24,17 +23,19 @@ const MAX_READ_BYTES: u32 = 65_536;
 pub(crate) fn read_failure(subject: &Subject<'_>) -> Option<Rule>
     ensures { result ≡ spec.read_failure (subject_of subject.now) }
 {
-    match subject.file.file_type {
+    let file = &subject.file.attributes;
+    match file.file_type {
         FileType::Regular => {}
         _ => return Some(Rule::NotRegular),
     }
-    if owns(&subject.ids, &subject.file) {
+    let ids = subject.ids();
+    if owns(&ids, file) {
         return None;
     }
-    if may(&subject.ids, &subject.file, Right::Read) {
+    if may(&ids, file, Right::Read) {
         return None;
     }
-    if may(&subject.ids, &subject.file, Right::Execute) {
+    if may(&ids, file, Right::Execute) {
         return None;
     }
     Some(Rule::ReadRight)
@@ -42,38 +43,33 @@ pub(crate) fn read_failure(subject: &Subject<'_>) -> Option<Rule>
 
 /// Writes the result of a READ that is granted.
 pub(crate) fn write_data(out: &mut Output, subject: &Subject<'_>, offset: u64, count: u32)
-    requires current { AreCurrent (subject_of subject.now) }
-    requires regular { is_regular subject.now.file.file_type ≡ true }
+    requires current { IsCurrent subject.now }
+    requires regular { is_regular subject.now.file.attributes.file_type ≡ true }
     requires room { MAX_RESULT_BYTES ≤ out.old.room }
-    ensures { Appends (status_text 0 ++ read_text subject.now.file offset (read_bytes (subject_of subject.now) offset count)) out.old out.new }
+    ensures { Appends (status_text 0 ++ read_text subject.now.file.attributes offset (read_bytes (subject_of subject.now) offset count)) out.old out.new }
 {
-    let left = subject.file.size.saturating_sub(offset);
+    let file = &subject.file;
+    let left = file.attributes.size.saturating_sub(offset);
     let len = left.min(u64::from(count.min(MAX_READ_BYTES)));
     out.u32(0);
-    write_post_op_attr(out, Some(subject.file));
+    write_post_op_attr(out, Some(&file.attributes));
     out.u32(len as u32);
     out.boolean(left <= len);
     out.u32(len as u32);
-    write_bytes(
-        out,
-        subject.tree,
-        subject.number(),
-        offset as usize,
-        len as usize,
-    );
+    write_bytes(out, file, offset as usize, len as usize);
     out.pad(len as usize);
 }
 
 // So many bytes of a file, from an offset on, copied once.
-fn write_bytes(out: &mut Output, tree: &Tree, number: Number, offset: usize, len: usize)
+fn write_bytes(out: &mut Output, file: &FileView<'_>, offset: usize, len: usize)
     requires fits { offset + len < 2 ^ 64 }
-    requires there { len ≤ length (drop offset (bytes_at tree.now number.0)) }
+    requires there { len ≤ length (drop offset (bytes_seen file.now)) }
     requires room { len ≤ out.old.room }
-    ensures { Appends (take len (drop offset (bytes_at tree.now number.0))) out.old out.new }
+    ensures { Appends (take len (drop offset (bytes_seen file.now))) out.old out.new }
 {
     let mut done = 0;
     while done < len {
-        let run = tree.bytes_at(number, offset + done);
+        let run = file.bytes_at(offset + done);
         let some = run.len().min(len - done);
         out.part(&run[..some]);
         done += some;

@@ -5,8 +5,8 @@ ghost use Rattle.nfs_server.specs.RpcRules.{is_nfs, is_null};
 ghost use Rattle.nfs_server.specs.RpcRules as spec;
 ghost use Rattle.nfs_server.specs.Admitting.{Admits, Identifies};
 
-use crate::args::{GETATTR, LOOKUP, NULL, NfsArgs, READ, read_nfs};
-use nfs_rpc::auth_sys::{Cred, read_auth_sys};
+use crate::args::{GETATTR, LOOKUP, NULL, READ};
+use nfs_rpc::auth_sys::Cred;
 use nfs_rpc::call::CallHead;
 
 /// A rule of RPC, in the order in which they are looked at.
@@ -81,12 +81,13 @@ pub fn admit(head: &CallHead<'_>) -> Result<Admitted, RpcRule>
     }
 }
 
-/// Who calls a procedure of NFS other than NULL, and what for, or the first of the rules flavor,
-/// credential, weak-credential and arguments that the call fails.
-pub fn identify<'a>(head: &CallHead<'a>) -> Result<(Cred, NfsArgs<'a>), RpcRule>
+/// Reads who calls a procedure of NFS other than NULL, or answers the first of the rules flavor,
+/// credential and weak-credential that the call fails; what is read then may be any.
+#[inline(always)]
+pub fn identify(head: &CallHead<'_>, cred: &mut Cred) -> Result<(), RpcRule>
     requires nfs { is_nfs (call_of head.now) ≡ true }
     requires null { is_null (call_of head.now) ≡ false }
-    ensures { Identifies (call_of head.now) head.now.args result }
+    ensures { Identifies (call_of head.now) head.now.args cred.new result }
 {
     if head.flavor != AUTH_NONE && head.flavor != AUTH_SYS {
         return Err(RpcRule::Flavor);
@@ -94,13 +95,10 @@ pub fn identify<'a>(head: &CallHead<'a>) -> Result<(Cred, NfsArgs<'a>), RpcRule>
     if head.flavor == AUTH_NONE {
         return Err(RpcRule::WeakCredential);
     }
-    let Ok(cred) = read_auth_sys(head.body) else {
-        return Err(RpcRule::Credential);
-    };
-    let Ok(args) = read_nfs(head.proc, head.args.rest()) else {
-        return Err(RpcRule::Arguments);
-    };
-    Ok((cred, args))
+    match cred.read(head.body) {
+        Ok(()) => Ok(()),
+        Err(_) => Err(RpcRule::Credential),
+    }
 }
 
 // Whether a program has a procedure. Of MOUNT there is NULL alone.

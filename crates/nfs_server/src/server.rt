@@ -1,8 +1,9 @@
 //! A server, which takes one whole record at a time.
-ghost use Rattle.std.specs.Prelude.{◌≡◌, ℕ, ◌≤◌, List, [], true, false, length, IfOk, Bool};
+ghost use Rattle.std.specs.Prelude.{◌≡◌, ℕ, ◌≤◌, List, [], ◌∷◌, ◌++◌, true, false, length, IfOk, Bool};
 ghost use Rattle.std.specs.List.{find};
 ghost use Rattle.nfs_rpc.specs.Calls.{call_of};
 ghost use Rattle.nfs_server.specs.Events.{Choice, Done, replied};
+ghost use Rattle.nfs_server.specs.declared.rpc_rules.RpcRule.TheVariants.{Arguments};
 ghost use Rattle.nfs_server.specs.RpcRules.{fails_rpc, caller_rules, is_nfs, is_null};
 ghost use Rattle.nfs_server.specs.Seen.{event_of, answer_of, answered};
 ghost use Rattle.nfs_server.specs.Steps.{Step, Judged, request_of};
@@ -10,12 +11,14 @@ ghost use Rattle.nfs_server.specs.Fits.{Held, Past, Fits, after};
 ghost use Rattle.nfs_server.specs.Keeping.{Answers};
 ghost use Rattle.nfs_server.specs.Runs.{events_of, RunsThrough};
 
+use crate::args::read_nfs;
 use crate::event::{Addr, Event, Handled, Outcome, Sink};
 use crate::exports::Table;
 use crate::loaded::Loaded;
 use crate::reply_buf::ReplyBuf;
-use crate::rpc_rules::{Admitted, admit, identify};
+use crate::rpc_rules::{Admitted, RpcRule, admit, identify};
 use nfs_inodes::tree::Tree;
+use nfs_rpc::auth_sys::Cred;
 use nfs_rpc::call::{CallHead, read_call};
 use std::alloc::{AllocError, Global};
 use std::marker::Model;
@@ -92,14 +95,16 @@ impl Server {
     fn answer_nfs(&self, head: &CallHead<'_>, addr: Addr, reply: &mut ReplyBuf)
         requires nfs { is_nfs (call_of head.now) ≡ true }
         requires null { is_null (call_of head.now) ≡ false }
-        ensures { Judged (find (fails_rpc (call_of head.now) head.now.args) caller_rules) self.now.setup self.now.state (request_of addr (call_of head.now) head.now.args) head.now.xid (replied reply.new) self.now.state }
+        ensures { Judged (find (fails_rpc (call_of head.now) head.now.args) (caller_rules ++ Arguments ∷ [])) self.now.setup self.now.state (request_of addr (call_of head.now) head.now.args) head.now.xid (replied reply.new) self.now.state }
     {
         let xid = head.xid;
-        match identify(head) {
+        let mut cred = Cred::unread();
+        match identify(head, &mut cred) {
             Err(rule) => reply.refuse(rule, xid),
-            Ok((cred, args)) => {
-                reply.perform(xid, &self.tree, &self.table, addr, &cred, &args);
-            }
+            Ok(()) => match read_nfs(head.proc, head.args.rest()) {
+                Err(_) => reply.refuse(RpcRule::Arguments, xid),
+                Ok(args) => reply.perform(xid, &self.tree, &self.table, addr, &cred, &args),
+            },
         }
     }
 

@@ -1,12 +1,12 @@
 use Rattle.std.proofs.Common.{◌-◌, ◌≤◌, take, drop}
 use Rattle.nfs_xdr.specs.Written.{Appends}
-use Rattle.nfs_inodes.specs.Reading.{bytes_at}
+use Rattle.nfs_inodes.specs.Shown.{bytes_seen}
 use Rattle.nfs_server.proofs.read.write_bytes.Given as goal
 
 abbrev pub invariant-loop-done : goal.invariant-loop-done
 invariant-loop-done l = record {
   within : l.done ≤ l.len;
-  wrote : Appends (take l.done (drop l.offset (bytes_at l.tree l.number.0))) l.fn.out l.out;
+  wrote : Appends (take l.done (drop l.offset (bytes_seen l.file))) l.fn.out l.out;
 }
 
 abbrev pub decreases-loop-done : goal.decreases-loop-done

@@ -1,6 +1,7 @@
 use Rattle.std.proofs.Common.{take, drop, min, ap, subst, ◌∙◌}
 use Rattle.nfs_xdr.specs.Written.{Appends}
 use Rattle.nfs_inodes.specs.Reading.{bytes_at}
+use Rattle.nfs_inodes.proofs.Readers.{seen_bytes}
 use Rattle.nfs_server.proofs.Pieces.{read_written, size_is}
 use Rattle.nfs_server.proofs.read.write_data.Goals as goal
 
@@ -8,10 +9,10 @@ pub returns : goal.returns
 returns c =
     let tree = c.args.subject.now.tree.now in
     let file = c.args.subject.now.file in
-    read_written file c.args.offset c.args.count c.saturating_sub-left.result c.min-len.result (bytes_at tree file.fileid) _ _ _ _ _ _ _ _
-    (size_is tree file.fileid file c.requires.current c.requires.regular)
+    read_written file.attributes c.args.offset c.args.count c.saturating_sub-left.result c.min-len.result (bytes_at tree file.attributes.fileid) _ _ _ _ _ _ _ _
+    (size_is tree file.attributes.fileid file.attributes c.requires.current.0 c.requires.regular)
     c.saturating_sub-left.ensures
     (c.min-len.ensures ∙ ap (min c.saturating_sub-left.result) (c.from.ensures ∙ c.min.ensures))
     c.u32.ensures.text c.write_post_op_attr.ensures.text c.u32-2.ensures.text c.boolean.ensures c.u32-3.ensures.text
-    (subst (λ n. Appends (take c.min-len.result (drop c.args.offset (bytes_at tree n))) c.u32-3.new.self c.write_bytes.new.out) c.number.ensures c.write_bytes.ensures)
+    (subst (λ bytes. Appends (take c.min-len.result (drop c.args.offset bytes)) c.u32-3.new.self c.write_bytes.new.out) (seen_bytes tree file c.requires.current) c.write_bytes.ensures)
     c.pad.ensures

@@ -1,0 +1,321 @@
+/* The baselines of GETATTR and LOOKUP: the same calls over the same files, written plainly.
+ *
+ * A call is read word by word with its bounds tested, as in plain.c; its credential is read and
+ * squashed, its handle compared and looked up in a sorted array, the address looked up among the
+ * patterns of the exports, rights and names are tested, and the reply is written with its mark.
+ */
+#include "items.h"
+#include <stdio.h>
+#include <string.h>
+
+enum { CALLS = 5000000, RUNS = 5, MAX_GIDS = 16, HANDLE = 24, OWNER = 9 };
+
+/* ---- items of XDR */
+
+struct bytes {
+    const unsigned char *at;
+    uint32_t len;
+};
+
+static int opaque(struct input *in, uint32_t max, struct bytes *b) {
+    uint32_t n;
+    if (!get(in, &n) || n > max)
+        return 0;
+    size_t all = ((size_t)n + 3) & ~(size_t)3;
+    if (in->left < all)
+        return 0;
+    b->at = in->at;
+    b->len = n;
+    in->at += all;
+    in->left -= all;
+    return 1;
+}
+
+static unsigned char *put64(unsigned char *at, uint64_t n) {
+    return put(put(at, (uint32_t)(n >> 32)), (uint32_t)n);
+}
+
+static uint64_t hyper(const unsigned char *at) {
+    uint64_t n = 0;
+    for (int i = 0; i < 8; i++)
+        n = n << 8 | at[i];
+    return n;
+}
+
+/* ---- files, exports and callers */
+
+struct moment {
+    uint32_t seconds, nanos;
+};
+
+struct entry {
+    const char *name;
+    size_t len;
+    uint64_t number;
+};
+
+struct file {
+    uint64_t number;
+    uint32_t type, mode, nlink, uid, gid;
+    uint64_t size;
+    uint32_t volume;
+    struct moment atime, mtime, ctime;
+    uint64_t parent;
+    const struct entry *entries;
+    size_t count;
+};
+
+enum squash { NOBODY, ROOT, ALL };
+
+struct export {
+    uint32_t volume, address, bits;
+    enum squash squash;
+    uint32_t anonuid, anongid;
+};
+
+struct ids {
+    uint32_t uid, gid, count, gids[MAX_GIDS];
+};
+
+struct server {
+    unsigned char key[8];
+    uint64_t next;
+    const struct file *files;
+    size_t count;
+    const struct export *exports;
+    size_t patterns;
+};
+
+static const struct file *find(const struct server *s, uint64_t number) {
+    size_t low = 0, high = s->count;
+    while (low < high) {
+        size_t middle = (low + high) / 2;
+        if (s->files[middle].number == number)
+            return &s->files[middle];
+        if (s->files[middle].number < number)
+            low = middle + 1;
+        else
+            high = middle;
+    }
+    return NULL;
+}
+
+static uint32_t named(const struct server *s, struct bytes handle, const struct file **file) {
+    if (handle.len != HANDLE || memcmp(handle.at, "NFS3", 4) != 0)
+        return 10001;
+    if (memcmp(handle.at + 4, s->key, 8) != 0)
+        return 70;
+    uint64_t number = hyper(handle.at + 16);
+    if (number == 0 || number >= s->next)
+        return 10001;
+    *file = find(s, number);
+    return *file && (uint32_t)hyper(handle.at + 8) == 0 ? 0 : 70;
+}
+
+static const struct export *grant(const struct server *s, uint32_t volume, uint32_t address) {
+    for (size_t i = 0; i < s->patterns; i++) {
+        const struct export *e = &s->exports[i];
+        uint32_t others = 32 - e->bits;
+        if (e->volume == volume && (uint64_t)address >> others == (uint64_t)e->address >> others)
+            return e;
+    }
+    return NULL;
+}
+
+static int read_ids(struct bytes body, struct ids *ids) {
+    struct input in = {body.at, body.len};
+    struct bytes machine;
+    uint32_t stamp;
+    if (!get(&in, &stamp) || !opaque(&in, 255, &machine) || !get(&in, &ids->uid) || !get(&in, &ids->gid) ||
+        !get(&in, &ids->count) || ids->count > MAX_GIDS)
+        return 0;
+    for (uint32_t i = 0; i < ids->count; i++)
+        if (!get(&in, &ids->gids[i]))
+            return 0;
+    return 1;
+}
+
+static void squash(const struct export *e, struct ids *ids) {
+    if (e->squash == NOBODY)
+        return;
+    if (e->squash == ALL) {
+        *ids = (struct ids){e->anonuid, e->anongid, 0, {0}};
+        return;
+    }
+    if (ids->uid == 0)
+        ids->uid = e->anonuid;
+    if (ids->gid == 0)
+        ids->gid = e->anongid;
+    for (uint32_t i = 0; i < ids->count; i++)
+        if (ids->gids[i] == 0)
+            ids->gids[i] = e->anongid;
+}
+
+static int may_search(const struct ids *ids, const struct file *file) {
+    if (ids->uid == 0)
+        return 1;
+    if (ids->uid == file->uid)
+        return file->mode >> 6 & 1;
+    int member = ids->gid == file->gid;
+    for (uint32_t i = 0; i < ids->count; i++)
+        member |= ids->gids[i] == file->gid;
+    return member ? file->mode >> 3 & 1 : file->mode & 1;
+}
+
+/* ---- results */
+
+static unsigned char *attributes(unsigned char *at, const struct file *file) {
+    at = put(at, file->type);
+    at = put(at, file->mode);
+    at = put(at, file->nlink);
+    at = put(at, file->uid);
+    at = put(at, file->gid);
+    at = put64(at, file->size);
+    at = put64(at, file->size);
+    at = put64(at, 0);
+    at = put64(at, file->volume + 1);
+    at = put64(at, file->number);
+    at = put(at, file->atime.seconds);
+    at = put(at, file->atime.nanos);
+    at = put(at, file->mtime.seconds);
+    at = put(at, file->mtime.nanos);
+    at = put(at, file->ctime.seconds);
+    return put(at, file->ctime.nanos);
+}
+
+static unsigned char *shown(unsigned char *at, const struct file *file) {
+    return file ? attributes(put(at, 1), file) : put(at, 0);
+}
+
+static uint32_t look_up(const struct server *s, const struct ids *ids, const struct file *dir, struct bytes name, const struct file **found) {
+    uint64_t number = 0;
+    if (dir->type != 2)
+        return 20;
+    if (!may_search(ids, dir))
+        return 13;
+    if (name.len > 255)
+        return 63;
+    if (name.len == 0)
+        return 13;
+    for (uint32_t i = 0; i < name.len; i++)
+        if (name.at[i] == 0 || name.at[i] == '/')
+            return 13;
+    if (name.len == 1 && name.at[0] == '.')
+        number = dir->number;
+    else if (name.len == 2 && memcmp(name.at, "..", 2) == 0)
+        number = dir->parent;
+    for (size_t i = 0; number == 0 && i < dir->count; i++)
+        if (dir->entries[i].len == name.len && memcmp(dir->entries[i].name, name.at, name.len) == 0)
+            number = dir->entries[i].number;
+    *found = number ? find(s, number) : NULL;
+    return *found ? 0 : 2;
+}
+
+static unsigned char *write_found(const struct server *s, unsigned char *at, const struct file *found) {
+    at = put(at, HANDLE);
+    memcpy(at, "NFS3", 4);
+    memcpy(at + 4, s->key, 8);
+    at = put64(put(at + 12, 0), found->number);
+    return shown(at, found);
+}
+
+static unsigned char *perform(const struct server *s, uint32_t address, uint32_t proc, struct ids *ids, struct bytes handle, struct bytes name, unsigned char *at) {
+    const struct file *file = NULL, *found = NULL;
+    const struct export *e = NULL;
+    uint32_t status = named(s, handle, &file);
+    if (status == 0 && !(e = grant(s, file->volume, address)))
+        status = 13;
+    if (status != 0)
+        file = NULL;
+    if (proc == 1) {
+        at = put(at, status);
+        return file ? attributes(at, file) : at;
+    }
+    if (file) {
+        squash(e, ids);
+        status = look_up(s, ids, file, name, &found);
+    }
+    at = put(at, status);
+    if (status == 0)
+        at = write_found(s, at, found);
+    return shown(at, file);
+}
+
+__attribute__((noinline, noclone)) static size_t answer(const struct server *s, uint32_t address, const unsigned char *record, size_t len, unsigned char *reply) {
+    struct input in = {record, len};
+    uint32_t xid, kind, rpcvers, prog, vers, proc, flavor, other, stat = 0;
+    struct bytes body, verifier, handle = {NULL, 0}, name = {NULL, 0};
+    struct ids ids;
+    ids.uid = ids.gid = ids.count = 0;
+    if (!get(&in, &xid) || !get(&in, &kind) || kind != 0 || !get(&in, &rpcvers) || !get(&in, &prog) || !get(&in, &vers) ||
+        !get(&in, &proc) || !get(&in, &flavor) || !opaque(&in, 400, &body) || !get(&in, &other) || !opaque(&in, 400, &verifier))
+        return 0;
+    if (rpcvers != 2)
+        return 0;
+    if (prog != 100003)
+        stat = 1;
+    else if (vers != 3)
+        stat = 2;
+    else if (proc != 1 && proc != 3)
+        stat = 3;
+    else if (flavor != 1 || !read_ids(body, &ids))
+        return 0;
+    else if (!opaque(&in, 64, &handle) || (proc == 3 && !opaque(&in, UINT32_MAX, &name)))
+        stat = 4;
+    unsigned char *at = put(put(put64(put(put(reply + 4, xid), 1), 0), 0), stat);
+    if (stat == 0)
+        at = perform(s, address, proc, &ids, handle, name, at);
+    put(reply, 0x80000000u | (uint32_t)(at - reply - 4));
+    return at - reply - 4;
+}
+
+/* ---- the built-in files, and what is measured */
+
+static const struct entry in_a[] = {{"pub", 3, 2}, {"g", 1, 5}, {"own", 3, 6}, {"zero", 4, 7}};
+static const struct entry in_pub[] = {{"x", 1, 3}, {"n", 1, 4}, {"large", 5, 9}};
+static const struct file files[] = {
+    {1, 2, 0755, 4, 0, 0, 4096, 0, {0}, {0}, {0}, 1, in_a, 4},
+    {2, 2, 0777, 2, 1, 1, 4096, 0, {0}, {0}, {0}, 1, in_pub, 3},
+    {3, 1, 0711, 1, 1, 1, 5, 0, {0}, {0}, {0}, 0, NULL, 0},
+    {4, 1, 0710, 1, 1, 1, 5, 0, {0}, {0}, {0}, 0, NULL, 0},
+    {5, 1, 0640, 1, 1, 0, 2, 0, {0}, {0}, {0}, 0, NULL, 0},
+    {6, 2, 0007, 2, 5, 5, 4096, 0, {0}, {0}, {0}, 1, NULL, 0},
+    {7, 1, 0, 1, 5, 5, 0, 0, {0}, {0}, {0}, 0, NULL, 0},
+    {8, 2, 0777, 2, 0, 0, 4096, 1, {0}, {0}, {0}, 8, NULL, 0},
+    {9, 1, 0644, 1, OWNER, OWNER, 65536, 0, {0}, {0}, {0}, 0, NULL, 0},
+};
+static const struct export exports[] = {
+    {0, 0x0a000000, 24, ROOT, 65534, 65534},
+    {0, 0x0a000100, 24, NOBODY, 65534, 65534},
+    {0, 0x0a000209, 32, ALL, 7, 7},
+    {1, 0x0a000000, 24, NOBODY, 65534, 65534},
+};
+
+static void measure(const char *what, const struct server *s, unsigned char *record, size_t len) {
+    static unsigned char reply[294912];
+    uint64_t least = UINT64_MAX;
+    volatile size_t bytes = 0;
+    for (int run = 0; run < RUNS; run++) {
+        uint64_t start = now();
+        for (uint32_t xid = 0; xid < CALLS; xid++) {
+            put(record, xid);
+            bytes += answer(s, 0x0a000001, record, len, reply);
+        }
+        uint64_t time = (now() - start) / (CALLS / 10);
+        least = time < least ? time : least;
+    }
+    printf("%s %llu.%llu\n", what, (unsigned long long)(least / 10), (unsigned long long)(least % 10));
+}
+
+int main(void) {
+    const struct server s = {{1, 2, 3, 4, 5, 6, 7, 8}, 10, files, sizeof files / sizeof *files, exports, sizeof exports / sizeof *exports};
+    unsigned char call[96] = {
+        0, 0, 0, 42, 0, 0, 0, 0, 0, 0, 0, 2, 0, 1, 0x86, 0xa3, 0, 0, 0, 3, 0, 0, 0, 1,
+        0, 0, 0, 1, 0, 0, 0, 20, 0, 0, 0, 0, 0, 0, 0, 0, 0, 0, 0, OWNER, 0, 0, 0, OWNER, 0, 0, 0, 0, 0, 0, 0, 0, 0, 0, 0, 0,
+        0, 0, 0, HANDLE, 'N', 'F', 'S', '3', 1, 2, 3, 4, 5, 6, 7, 8, 0, 0, 0, 0, 0, 0, 0, 0, 0, 0, 0, 9, 0, 0, 0, 1, 'x'};
+    measure("getattr", &s, call, 88);
+    call[23] = 3;
+    call[87] = 2;
+    measure("lookup", &s, call, 96);
+    return 0;
+}

@@ -1,0 +1,95 @@
+//! A file that lives, with what is read of it.
+ghost use Rattle.std.specs.Prelude.{◌≡◌, ◌<◌, drop, option_map, Some, None, IfSome, IfNone};
+ghost use Rattle.nfs_handles.specs.Handles.{handle_at};
+ghost use Rattle.nfs_inodes.specs.Tree.{Tree};
+ghost use Rattle.nfs_inodes.specs.Listing.{file_of, kind_of};
+ghost use Rattle.nfs_inodes.specs.Reading.{IsRun, attributes_of, attributes_at, bytes_at, found, numbered};
+ghost use Rattle.nfs_inodes.specs.Shown.{kind_seen, bytes_seen, IsSeen};
+
+use crate::attributes::attributes_of;
+use crate::content_reader::run_from;
+use crate::inode::{Inode, Node};
+use crate::lookup::under_name;
+use crate::tree::Tree;
+use nfs_attrs::fattr::Fattr;
+use nfs_handles::number::Number;
+
+/// A file that lives: its attributes, and what is read of it without a search.
+#[derive(Clone, Copy)]
+pub struct FileView<'a> {
+    /// Its attributes (RFC 1813, section 2.6, fattr3).
+    pub attributes: Fattr,
+    pub(crate) node: &'a Node,
+}
+
+impl<'a> FileView<'a> {
+    // The file that is kept under a number.
+    #[inline(always)]
+    pub(crate) fn new(inode: &'a Inode, number: Number) -> FileView<'a>
+        requires { inode.now.volume < 64 }
+        ensures attributes { result.attributes ≡ attributes_of number.0 (file_of 0 inode.now) inode.now.nlink }
+        ensures kind { kind_seen result ≡ kind_of inode.now.node }
+    {
+        FileView {
+            attributes: attributes_of(inode, number),
+            node: &inode.node,
+        }
+    }
+
+    /// Its number.
+    pub fn number(&self) -> Number
+        ensures { result.0 ≡ self.now.attributes.fileid }
+    {
+        Number(self.attributes.fileid)
+    }
+
+    /// The bytes of this regular file from an offset on: a first run of them, which has one where
+    /// there is one. None where this is no regular file.
+    pub fn bytes_at(&self, offset: usize) -> &'a [u8]
+        ensures { IsRun result.now (drop offset (bytes_seen self.now)) }
+    {
+        run_from(self.node, offset)
+    }
+}
+
+impl Tree {
+    /// The file of a number. `None` where none lives under it.
+    #[inline(always)]
+    pub fn view(&self, number: Number) -> Option<FileView<'_>>
+        ensures some { IfSome result (λ file. IsSeen self.now file) }
+        ensures number { IfSome result (λ file. file.attributes.fileid ≡ number.0) }
+        ensures none { IfNone result (attributes_at self.now number.0 ≡ None) }
+    {
+        match self.files.get(number) {
+            Some(inode) => Some(FileView::new(inode, number)),
+            None => None,
+        }
+    }
+
+    /// The file under a name in a directory; `.` is the directory itself and `..` its parent (RFC
+    /// 1813, section 3.3.3). `None` where there is no such name or this is no directory.
+    #[inline(always)]
+    pub fn find_in(&self, dir: &FileView<'_>, name: &[u8]) -> Option<FileView<'_>>
+        requires { IsSeen self.now dir.now }
+        ensures some { IfSome result (λ file. IsSeen self.now file) }
+        ensures found { IfSome result (λ file. found self.now dir.now.attributes.fileid name.now ≡ Some file.attributes.fileid) }
+        ensures none { IfNone result (found self.now dir.now.attributes.fileid name.now ≡ None) }
+    {
+        self.law();
+        match under_name(dir.node, dir.number(), name) {
+            Some(number) => match self.view(number) {
+                Some(file) => Some(file),
+                None => unreachable!(),
+            },
+            None => None,
+        }
+    }
+
+    /// The handle of a file that lives (RFC 1813, section 2.3.3, nfs_fh3), without a search.
+    pub fn handle(&self, file: &FileView<'_>) -> [u8; 24]
+        requires { IsSeen self.now file.now }
+        ensures { handle_at (numbered self.now) file.now.attributes.fileid ≡ Some result }
+    {
+        self.files.handle(file.number())
+    }
+}
