@@ -1,6 +1,6 @@
 -- Verdicts, from the rules of the handle and those that come after them.
 use Rattle.std.specs.Prelude.{Result, Ok, Err}
-use Rattle.std.proofs.Common.{◌≡◌, ℕ, Bool, true, false, cond, ◌||◌, List, ◌++◌, take, Option, Some, None, refl, sym, ap, subst, ◌∙◌}
+use Rattle.std.proofs.Common.{◌≡◌, ℕ, Bool, true, false, cond, ◌||◌, List, [], ◌++◌, take, Option, Some, None, refl, sym, ap, subst, ◌∙◌}
 use Rattle.std.specs.List.{find}
 use Rattle.nfs_xdr.specs.Written.{Written, Appends}
 use Rattle.nfs_inodes.specs.Tree.{Tree, on_some}
@@ -9,7 +9,7 @@ use Rattle.nfs_server.specs.declared.rule.Rule.{Rule}
 use Rattle.nfs_server.specs.declared.rule.Rule.TheVariants.{BadHandle, StaleHandle, Export}
 use Rattle.nfs_server.specs.Args.{Args, GetAttr, Lookup, ReadFile, handle_in}
 use Rattle.nfs_server.specs.Rules.{Request, Subject, subject, violates, violates_handle, handle_rules, rules_of, verdict, status_of}
-use Rattle.nfs_server.specs.Results.{status_text, denied_text, read_text, read_bytes, result_of, result_text, status_in, ResultsTell}
+use Rattle.nfs_server.specs.Results.{status_text, denied_text, result_of, result_text, status_in, ResultsTell}
 use Rattle.nfs_server.specs.declared.subject.Subject as kept
 use Rattle.nfs_server.specs.Judging.{read_failure, subject_of, Names}
 
@@ -57,11 +57,15 @@ result_denied t exports r rule a b failed is written =
     subst (λ o. Appends (result_of (verdict t exports r) o r.args) a b) (sym is)
     (subst (λ v. Appends (result_of v None r.args) a b) (sym (verdict_denied t exports r rule failed is)) written)
 
-pub read_granted : (s : Subject) (args : Args) (file : List ℕ) (offset count : ℕ) (a b : Written) → args ≡ ReadFile file offset count → read_failure s ≡ None
-    → Appends (status_text 0 ++ read_text s.file offset (read_bytes s offset count)) a b → Appends (result_of (find (violates s args) (rules_of args)) (Some s) args) a b
-read_granted s args file offset count a b is none written =
+any_handle : (v : Option Rule) (s : Subject) (file : List ℕ) (offset count : ℕ) → result_of v (Some s) (ReadFile [] offset count) ≡ result_of v (Some s) (ReadFile file offset count)
+any_handle (Some rule) s file offset count = refl
+any_handle None s file offset count = refl
+
+pub read_judged : (s : Subject) (args : Args) (file : List ℕ) (offset count : ℕ) (a b : Written) → args ≡ ReadFile file offset count
+    → Appends (result_of (read_failure s) (Some s) (ReadFile [] offset count)) a b → Appends (result_of (find (violates s args) (rules_of args)) (Some s) args) a b
+read_judged s args file offset count a b is written =
     subst (λ args. Appends (result_of (find (violates s args) (rules_of args)) (Some s) args) a b) (sym is)
-    (subst (λ v. Appends (result_of v (Some s) (ReadFile file offset count)) a b) (sym none) written)
+    (subst (λ text. Appends text a b) (any_handle (read_failure s) s file offset count) written)
 
 -- the same, of what was found for the handle
 pub named_judged : (t : Tree) (exports : List exported.Export) (r : Request) (handle : List ℕ) (found : Result kept.Subject Rule) (s : kept.Subject) (a b : Written) → handle ≡ handle_in r.args → found ≡ Ok s → Names t exports r.addr r.cred handle found

@@ -1,12 +1,14 @@
 //! LOOKUP: the file under a name (RFC 1813, section 3.3.3).
-ghost use Rattle.std.specs.Prelude.{◌≡◌, ◌≤◌, ◌++◌, ◌||◌, not, length, nat_eq};
+ghost use Rattle.std.specs.Prelude.{◌≡◌, ◌≤◌, [], ◌++◌, Some, ◌||◌, not, length, nat_eq};
 ghost use Rattle.std.specs.List.{list_any};
 ghost use Rattle.nfs_xdr.specs.Written.{Appends};
 ghost use Rattle.nfs_server.specs.Rules.{is_separator};
-ghost use Rattle.nfs_server.specs.Results.{status_text, lookup_text};
+ghost use Rattle.nfs_server.specs.Results.{status_text, lookup_text, result_of};
+ghost use Rattle.nfs_server.specs.Args.{Lookup};
 ghost use Rattle.nfs_inodes.specs.Shown.{IsSeen};
-ghost use Rattle.nfs_server.specs.Judging.{subject_of, IsCurrent, Looks};
+ghost use Rattle.nfs_server.specs.Judging.{subject_of, IsCurrent, Looks, lookup_failure};
 
+use crate::procedures::write_denied;
 use crate::rights::{Right, may};
 use crate::rule::Rule;
 use crate::subject::Subject;
@@ -16,9 +18,22 @@ use nfs_inodes::may::MAX_NAME_BYTES;
 use nfs_inodes::view::FileView;
 use nfs_xdr::output::Output;
 
-/// The file under a name in the directory, or the first rule that fails.
+/// LOOKUP where the rules of the handle are kept: its other rules, and its result.
+#[inline(never)]
+pub(crate) fn lookup(out: &mut Output, subject: &Subject<'_>, name: &[u8])
+    requires current { IsCurrent subject.now }
+    requires room { 208 ≤ out.old.room }
+    ensures { Appends (result_of (lookup_failure (subject_of subject.now) name.now) (Some (subject_of subject.now)) (Lookup [] name.now)) out.old out.new }
+{
+    match look_up(subject, name) {
+        Ok(found) => write_found(out, subject, &found),
+        Err(rule) => write_denied(out, rule, Some(&subject.file.attributes)),
+    }
+}
+
+// The file under a name in the directory, or the first rule that fails.
 #[inline(always)]
-pub(crate) fn look_up<'a>(subject: &Subject<'a>, name: &[u8]) -> Result<FileView<'a>, Rule>
+fn look_up<'a>(subject: &Subject<'a>, name: &[u8]) -> Result<FileView<'a>, Rule>
     requires { IsCurrent subject.now }
     ensures { Looks (subject_of subject.now) name.now result }
 {
@@ -42,8 +57,8 @@ pub(crate) fn look_up<'a>(subject: &Subject<'a>, name: &[u8]) -> Result<FileView
     }
 }
 
-/// Writes the result of a LOOKUP that found a file.
-pub(crate) fn write_found(out: &mut Output, subject: &Subject<'_>, file: &FileView<'_>)
+// The result of a LOOKUP that found a file.
+fn write_found(out: &mut Output, subject: &Subject<'_>, file: &FileView<'_>)
     requires seen { IsSeen subject.now.tree.now file.now }
     requires room { 208 ≤ out.old.room }
     ensures { Appends (status_text 0 ++ lookup_text (subject_of subject.now) file.now.attributes.fileid) out.old out.new }

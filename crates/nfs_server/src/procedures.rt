@@ -1,9 +1,9 @@
 //! The procedures of NFS: a call is judged, and its result written.
-ghost use Rattle.std.specs.Prelude.{◌≡◌, ◌≤◌, ◌++◌, Some, option_copied};
+ghost use Rattle.std.specs.Prelude.{◌≡◌, ◌≤◌, ◌++◌, Some, None, option_copied};
 ghost use Rattle.std.specs.List.{find};
 ghost use Rattle.nfs_xdr.specs.Written.{Appends};
 ghost use Rattle.nfs_rpc.specs.AuthSys.{credential_of};
-ghost use Rattle.nfs_attrs.specs.Spelling.{fattr_text};
+ghost use Rattle.nfs_attrs.specs.Spelling.{fattr_text, post_op_attr_text};
 ghost use Rattle.nfs_server.specs.Args.{args_of, handle_in};
 ghost use Rattle.nfs_server.specs.Rules.{violates, rules_of, status_of};
 ghost use Rattle.nfs_server.specs.Results.{status_text, denied_text, result_of, result_text};
@@ -12,8 +12,8 @@ ghost use Rattle.nfs_server.specs.Judging.{subject_of, IsCurrent};
 use crate::args::NfsArgs;
 use crate::event::Addr;
 use crate::exports::Table;
-use crate::lookup::{look_up, write_found};
-use crate::read::{read_failure, write_data};
+use crate::lookup::lookup;
+use crate::read::read;
 use crate::rule::Rule;
 use crate::subject::Subject;
 use nfs_attrs::fattr::{Fattr, write_fattr, write_post_op_attr};
@@ -38,7 +38,7 @@ pub fn perform(
 {
     match Subject::of(tree, table, addr, cred, handle_of(args)) {
         Ok(subject) => judge(&subject, args, out),
-        Err(rule) => write_denied(out, rule, None, args),
+        Err(rule) => write_handle_failure(out, rule, args),
     }
 }
 
@@ -48,17 +48,10 @@ fn judge(subject: &Subject<'_>, args: &NfsArgs<'_>, out: &mut Output)
     requires room { MAX_RESULT_BYTES ≤ out.old.room }
     ensures { Appends (result_of (find (violates (subject_of subject.now) (args_of args.now)) (rules_of (args_of args.now))) (Some (subject_of subject.now)) (args_of args.now)) out.old out.new }
 {
-    let file = &subject.file.attributes;
     match *args {
-        NfsArgs::GetAttr { .. } => write_attributes(out, file),
-        NfsArgs::Lookup { name, .. } => match look_up(subject, name) {
-            Ok(found) => write_found(out, subject, &found),
-            Err(rule) => write_denied(out, rule, Some(file), args),
-        },
-        NfsArgs::Read { offset, count, .. } => match read_failure(subject) {
-            None => write_data(out, subject, offset, count),
-            Some(rule) => write_denied(out, rule, Some(file), args),
-        },
+        NfsArgs::GetAttr { .. } => write_attributes(out, &subject.file.attributes),
+        NfsArgs::Lookup { name, .. } => lookup(out, subject, name),
+        NfsArgs::Read { offset, count, .. } => read(out, subject, offset, count),
     }
 }
 
@@ -82,14 +75,22 @@ fn write_attributes(out: &mut Output, file: &Fattr)
     write_fattr(out, file);
 }
 
-// The result of a call that fails a rule, with the attributes that are shown all the same.
-fn write_denied(out: &mut Output, rule: Rule, shown: Option<&Fattr>, args: &NfsArgs<'_>)
+// The result of a call that fails a rule of the handle.
+fn write_handle_failure(out: &mut Output, rule: Rule, args: &NfsArgs<'_>)
     requires { 92 ≤ out.old.room }
-    ensures { Appends (status_text (status_of rule) ++ denied_text (option_copied shown.entry) (args_of args.now)) out.old out.new }
+    ensures { Appends (status_text (status_of rule) ++ denied_text None (args_of args.now)) out.old out.new }
+{
+    match args {
+        NfsArgs::GetAttr { .. } => out.u32(rule.status()),
+        NfsArgs::Lookup { .. } | NfsArgs::Read { .. } => write_denied(out, rule, None),
+    }
+}
+
+/// Writes the result of a call that fails a rule, with the attributes that are shown all the same.
+pub(crate) fn write_denied(out: &mut Output, rule: Rule, shown: Option<&Fattr>)
+    requires { 92 ≤ out.old.room }
+    ensures { Appends (status_text (status_of rule) ++ post_op_attr_text (option_copied shown.entry)) out.old out.new }
 {
     out.u32(rule.status());
-    match args {
-        NfsArgs::GetAttr { .. } => {}
-        NfsArgs::Lookup { .. } | NfsArgs::Read { .. } => write_post_op_attr(out, shown),
-    }
+    write_post_op_attr(out, shown);
 }

@@ -1,13 +1,14 @@
 //! READ: bytes of a file (RFC 1813, section 3.3.6).
-ghost use Rattle.std.specs.Prelude.{◌≡◌, ◌+◌, ◌^◌, ◌<◌, ◌≤◌, ◌++◌, true, length, take, drop};
+ghost use Rattle.std.specs.Prelude.{◌≡◌, ◌+◌, ◌^◌, ◌<◌, ◌≤◌, [], ◌++◌, Some, true, length, take, drop};
 ghost use Rattle.nfs_xdr.specs.Written.{Appends};
 ghost use Rattle.nfs_inodes.specs.Shown.{bytes_seen};
 ghost use Rattle.nfs_server.specs.Rules.{is_regular};
-ghost use Rattle.nfs_server.specs.Results.{status_text, read_text, read_bytes};
+ghost use Rattle.nfs_server.specs.Results.{status_text, read_text, read_bytes, result_of};
+ghost use Rattle.nfs_server.specs.Args.{ReadFile};
 ghost use Rattle.nfs_server.specs.Judging.{subject_of, IsCurrent};
 ghost use Rattle.nfs_server.specs.Judging as spec;
 
-use crate::procedures::MAX_RESULT_BYTES;
+use crate::procedures::{MAX_RESULT_BYTES, write_denied};
 use crate::rights::{Right, may, owns};
 use crate::rule::Rule;
 use crate::subject::Subject;
@@ -19,8 +20,21 @@ use nfs_xdr::output::Output;
 /// The most bytes that one READ answers.
 const MAX_READ_BYTES: u32 = 65_536;
 
-/// The first rule of READ that fails, after the handle's.
-pub(crate) fn read_failure(subject: &Subject<'_>) -> Option<Rule>
+/// READ where the rules of the handle are kept: its other rules, and its result.
+#[inline(never)]
+pub(crate) fn read(out: &mut Output, subject: &Subject<'_>, offset: u64, count: u32)
+    requires current { IsCurrent subject.now }
+    requires room { MAX_RESULT_BYTES ≤ out.old.room }
+    ensures { Appends (result_of (spec.read_failure (subject_of subject.now)) (Some (subject_of subject.now)) (ReadFile [] offset count)) out.old out.new }
+{
+    match read_failure(subject) {
+        None => write_data(out, subject, offset, count),
+        Some(rule) => write_denied(out, rule, Some(&subject.file.attributes)),
+    }
+}
+
+// The first rule of READ that fails, after the handle's.
+fn read_failure(subject: &Subject<'_>) -> Option<Rule>
     ensures { result ≡ spec.read_failure (subject_of subject.now) }
 {
     let file = &subject.file.attributes;
@@ -41,8 +55,8 @@ pub(crate) fn read_failure(subject: &Subject<'_>) -> Option<Rule>
     Some(Rule::ReadRight)
 }
 
-/// Writes the result of a READ that is granted.
-pub(crate) fn write_data(out: &mut Output, subject: &Subject<'_>, offset: u64, count: u32)
+// The result of a READ that is granted.
+fn write_data(out: &mut Output, subject: &Subject<'_>, offset: u64, count: u32)
     requires current { IsCurrent subject.now }
     requires regular { is_regular subject.now.file.attributes.file_type ≡ true }
     requires room { MAX_RESULT_BYTES ≤ out.old.room }

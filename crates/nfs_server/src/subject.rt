@@ -56,7 +56,6 @@ impl<'a> Subject<'a> {
     }
 
     /// The ids that the options leave to the caller.
-    #[inline(never)]
     pub fn ids(&self) -> Ids
         ensures { ids_of result ≡ (subject_of self.now).ids }
     {

@@ -12,4 +12,4 @@ returns-in-Ok c =
 pub returns-in-Err : goal.returns-in-Err
 returns-in-Err c =
     let r : Request = record { addr = c.args.addr; cred = credential_of c.args.cred.now; args = args_of c.args.args.now } in
-    named_denied c.args.tree.now c.args.table.now r c.handle_of.result.now c.of.result c.in-Err.rule _ _ c.handle_of.ensures c.in-Err.is c.of.ensures c.write_denied.ensures
+    named_denied c.args.tree.now c.args.table.now r c.handle_of.result.now c.of.result c.in-Err.rule _ _ c.handle_of.ensures c.in-Err.is c.of.ensures c.write_handle_failure.ensures
