@@ -4,7 +4,8 @@
  * copy-4096: 4 KiB, copied in one piece.
  * null: a NULL call, from its record to its reply: the head is read word by word with its bounds
  *       tested, the rules of RPC are tested, and the reply is written with its record mark. It is
- *       kept out of line, or the compiler would know the record's length and drop the tests.
+ *       kept out of line; a compiler that makes a copy of it for this record's length may drop
+ *       tests of bounds all the same, and is then the harder baseline.
  */
 #include "items.h"
 #include <stdio.h>

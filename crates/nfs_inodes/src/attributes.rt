@@ -19,8 +19,8 @@ impl Tree {
     pub fn attributes(&self, number: Number) -> Option<Fattr>
         ensures { result ≡ attributes_at self.now number.0 }
     {
-        match self.files.get(number) {
-            Some(inode) => Some(attributes_of(inode, number)),
+        match self.view(number) {
+            Some(file) => Some(file.attributes),
             None => None,
         }
     }
