@@ -5,7 +5,8 @@ use Rattle.std.proofs.lemmas.List.{length-append, take_all, take_rest, take-appe
 use Rattle.nfs_rpc.specs.declared.framer.Stage.{Stage}
 use Rattle.nfs_rpc.specs.declared.framer.Stage.TheVariants.{Header, Body}
 use Rattle.nfs_rpc.specs.Records.{header, fragment, IsPart, unended, joined, IsRecord, ReachesTooLong, Follows}
-use Rattle.nfs_rpc.specs.Progress.{Progress, Leads, Unfinished, Moves, BringsTooLong}
+use Rattle.nfs_rpc.specs.Progress.{Progress, Leads, Unfinished, Moves, BringsTooLong, AsksForRoom}
+use Rattle.nfs_rpc.specs.Records.{ReachesWithin}
 use Rattle.nfs_rpc.specs.Stages.{stage_of}
 use Rattle.nfs_rpc.specs.Kept.{KeepsStage}
 use Rattle.nfs_rpc.proofs.Fragments.{joined-append, unended-append, are_parts-append}
@@ -77,6 +78,22 @@ header_above limit have n left last bytes filled content text piece whole is mar
       bytes_are = ap (λ t. text ++ t) (sym (take-append-drop n piece)) ∙ sym (append_assoc text (take n piece) (drop n piece)) ∙ ap (λ t. t ++ drop n piece) f.text_is ∙ append_assoc (unended f.parts) (header last left) (drop n piece);
     }
 
+pub header_within : (limit have n left : ℕ) (last : Bool) (bytes filled content text piece : List ℕ) → 4 ≤ have + n → take (have + n) filled ≡ take have bytes ++ take n piece → filled ≡ header last left → left < 2 ^ 31 → 0 < left → length content + left ≤ limit → Leads limit (Header bytes have) content text → ReachesWithin limit (text ++ piece)
+header_within limit have n left last bytes filled content text piece whole is mark below some inside u =
+    let f = whole_header limit have n left last bytes filled content text (take n piece) whole is mark u in
+    let len : length content ≡ length (joined f.parts) = ap length (f.content_is ∙ append-nil (joined f.parts)) in
+    record {
+      parts = f.parts;
+      are_parts = f.are_parts;
+      last = last;
+      n = left;
+      below = below;
+      some = some;
+      within = omega arith;
+      after = drop n piece;
+      bytes_are = ap (λ t. text ++ t) (sym (take-append-drop n piece)) ∙ sym (append_assoc text (take n piece) (drop n piece)) ∙ ap (λ t. t ++ drop n piece) f.text_is ∙ append_assoc (unended f.parts) (header last left) (drop n piece);
+    }
+
 -- ---- a fragment's content
 
 more_content : (text content got taken tail : List ℕ) (f : Follows text content (tail ++ got) got) → Follows (text ++ taken) (content ++ taken) (tail ++ (got ++ taken)) (got ++ taken)
@@ -127,6 +144,10 @@ pub header_brings : (old : Progress) (have n left : ℕ) (last : Bool) (bytes fi
 header_brings old have n left last bytes filled piece stage whole fill mark below over text u =
     header_above old.limit have n left last bytes filled old.content text piece whole fill mark below over (unfinished_at old (Header bytes have) text stage u)
 
+pub header_asks : (old : Progress) (have n left : ℕ) (last : Bool) (bytes filled piece : List ℕ) → old.stage ≡ Header bytes have → 4 ≤ have + n → take (have + n) filled ≡ take have bytes ++ take n piece → filled ≡ header last left → left < 2 ^ 31 → 0 < left → length old.content + left ≤ old.limit → AsksForRoom old piece
+header_asks old have n left last bytes filled piece stage whole fill mark below some inside text u =
+    header_within old.limit have n left last bytes filled old.content text piece whole fill mark below some inside (unfinished_at old (Header bytes have) text stage u)
+
 -- ---- one step and another
 
 pub moves_on : (a b d : Progress) (xs ys : List ℕ) → Moves a xs b → Moves b ys d → Moves a (xs ++ ys) d
@@ -136,13 +157,6 @@ pub moves_within : (a b d : Progress) (xs : List ℕ) (i n : ℕ) → Moves a (t
 moves_within a b d xs i n first second =
     let rest : Moves b (take n (drop i xs)) d = subst (λ t. Moves b (take n t) d) (take_rest xs i) second in
     subst (λ t. Moves a t d) (sym (take-add i n xs)) (moves_on a b d (take i xs) (take n (drop i xs)) first rest)
-
-pub too_long_within : (a b : Progress) (xs : List ℕ) (i : ℕ) → a.limit ≡ b.limit → Moves a (take i xs) b → BringsTooLong b (take (length xs - i) (drop i xs)) → BringsTooLong a xs
-too_long_within a b xs i limits first second text u =
-    let rest : BringsTooLong b (drop i xs) = subst (λ t. BringsTooLong b t) (take_rest xs i) second in
-    let reached = rest (text ++ take i xs) (first text u) in
-    subst (λ k. ReachesTooLong k (text ++ xs)) (sym limits)
-    (subst (λ t. ReachesTooLong b.limit t) (append_assoc text (take i xs) (drop i xs) ∙ ap (λ t. text ++ t) (take-append-drop i xs)) reached)
 
 pub keeps_header : (limit len capacity have : ℕ) (stage : Stage) (bytes : List ℕ) → stage ≡ Header bytes have → KeepsStage limit len capacity stage → len ≤ limit
 keeps_header limit len capacity have stage bytes e k =

@@ -6,7 +6,7 @@ use Rattle.nfs_xdr.specs.Spelling.{Begins, BeginsNone, SpellsOnce}
 use Rattle.nfs_rpc.specs.declared.framer.Stage.{Stage}
 use Rattle.nfs_rpc.specs.declared.framer.Stage.TheVariants.{Header, Body, Ready, Failed}
 use Rattle.nfs_rpc.specs.Records.{header, fragment, IsPart, unended, joined, IsRecord, AreRecords, Follows, StreamsAreReadOnce, RecordsGrow, RecordsClose}
-use Rattle.nfs_rpc.specs.Progress.{Leads, IsWithin, StageTells, UnfinishedTells}
+use Rattle.nfs_rpc.specs.Progress.{Progress, Leads, Unfinished, Moves, HasRead, ReadersKeep, IsWithin, StageTells, UnfinishedTells}
 use Rattle.nfs_rpc.proofs.Fragments.{header_once, fragment_once, GoesOn, LeftFirst, RightFirst, go_on, joined-append}
 
 -- a fragment that is the last of its record, and one that isn't, don't stand at one place
@@ -153,3 +153,14 @@ records_grow bytes (content ∷ records) rest more r =
 pub records_close : RecordsClose
 records_close bytes [] content rest r is = ([], record { text = rest; spelled = is; bytes_are = sym r ∙ sym (append-nil rest) }, refl)
 records_close bytes (first ∷ records) content rest r is = (r.0, r.1, records_close r.0 records content rest r.2 is)
+
+feeds_keep : (bytes taken : List ℕ) (records : List (List ℕ)) (old new : Progress) → HasRead bytes records old → Moves old taken new → HasRead (bytes ++ taken) records new
+feeds_keep bytes taken records old new h m = record { rest = h.rest ++ taken; whole = records_grow bytes records h.rest taken h.whole; unfinished = m h.rest h.unfinished }
+
+nexts_keep : (bytes : List ℕ) (records : List (List ℕ)) (old new : Progress) → HasRead bytes records old → old.stage ≡ Ready → Unfinished [] new → HasRead bytes (records ++ old.content ∷ []) new
+nexts_keep bytes records old new h e u =
+    let lead : Leads old.limit Ready old.content h.rest = subst (λ s. Leads old.limit s old.content h.rest) e h.unfinished in
+    record { rest = []; whole = records_close bytes records old.content h.rest h.whole lead.1; unfinished = u }
+
+pub readers_keep : ReadersKeep
+readers_keep = record { feeds = feeds_keep; nexts = nexts_keep }

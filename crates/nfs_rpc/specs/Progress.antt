@@ -1,9 +1,9 @@
 -- How far a reader of records is, and which bytes since the last whole record lead there.
-use Rattle.std.specs.Prelude.{ℕ, ◌+◌, ◌^◌, ◌<◌, ◌≤◌, List, [], ◌++◌, length, take}
+use Rattle.std.specs.Prelude.{◌≡◌, ℕ, ◌+◌, ◌^◌, ◌<◌, ◌≤◌, List, [], ◌∷◌, ◌++◌, length, take}
 use Rattle.nfs_rpc.specs.declared.framer.Stage.{Stage}
 use Rattle.nfs_rpc.specs.declared.framer.Stage.TheVariants.{Header, Body, Ready, Failed}
 use Rattle.nfs_xdr.specs.Spelling.{BeginsNone}
-use Rattle.nfs_rpc.specs.Records.{header, IsRecord, ReachesTooLong, Follows}
+use Rattle.nfs_rpc.specs.Records.{header, IsRecord, AreRecords, ReachesTooLong, ReachesWithin, Follows}
 
 -- a reader of records of at most limit bytes: its stage, and what it has of the record's content
 pub record Progress : Type 0 where
@@ -33,6 +33,21 @@ Moves old bytes new = (text : List ℕ) → Unfinished text old → Unfinished (
 -- whatever stood before, with these bytes a record becomes too long
 abbrev pub BringsTooLong : Progress → List ℕ → Type 0
 BringsTooLong old bytes = (text : List ℕ) → Unfinished text old → ReachesTooLong old.limit (text ++ bytes)
+
+-- whatever stood before, with these bytes a header is reached that the limit admits
+abbrev pub AsksForRoom : Progress → List ℕ → Type 0
+AsksForRoom old bytes = (text : List ℕ) → Unfinished text old → ReachesWithin old.limit (text ++ bytes)
+
+-- a reader that was given these bytes since the stream began has given these records
+pub record HasRead (bytes : List ℕ) (records : List (List ℕ)) (p : Progress) : Type 0 where
+  pub rest : List ℕ
+  pub whole : AreRecords bytes records rest
+  pub unfinished : Unfinished rest p
+
+-- each call of a reader keeps this: more bytes, the next record, and what it says while no record is whole
+pub record ReadersKeep : Type 0 where
+  pub feeds : (bytes taken : List ℕ) (records : List (List ℕ)) (old new : Progress) → HasRead bytes records old → Moves old taken new → HasRead (bytes ++ taken) records new
+  pub nexts : (bytes : List ℕ) (records : List (List ℕ)) (old new : Progress) → HasRead bytes records old → old.stage ≡ Ready → Unfinished [] new → HasRead bytes (records ++ old.content ∷ []) new
 
 -- no header that brings a record above the limit was reached
 abbrev pub IsWithin : ℕ → List ℕ → Type 0

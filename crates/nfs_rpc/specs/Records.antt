@@ -1,5 +1,5 @@
 -- The records of a stream of bytes (RFC 5531, section 11).
-use Rattle.std.specs.Prelude.{◌≡◌, ℕ, ◌+◌, ◌^◌, ◌<◌, Bool, true, false, List, [], ◌∷◌, ◌++◌, length, if◌then◌else◌}
+use Rattle.std.specs.Prelude.{◌≡◌, ℕ, ◌+◌, ◌^◌, ◌<◌, ◌≤◌, Bool, true, false, List, [], ◌∷◌, ◌++◌, length, if◌then◌else◌}
 use Rattle.std.specs.List.{flat_map, AllByRecursion}
 use Rattle.std.specs.Int.{w32, to_be_bytes}
 use Rattle.nfs_xdr.specs.Spelling.{Begins, BeginsNone}
@@ -53,6 +53,18 @@ pub record ReachesTooLong (limit : ℕ) (bytes : List ℕ) : Type 0 where
   pub n : ℕ
   pub below : n < 2 ^ 31
   pub too_long : limit < length (joined parts) + n
+  pub after : List ℕ
+  pub bytes_are : bytes ≡ unended parts ++ (header last n ++ after)
+
+-- the same, and a header that the limit admits
+pub record ReachesWithin (limit : ℕ) (bytes : List ℕ) : Type 0 where
+  pub parts : List (List ℕ)
+  pub are_parts : AllByRecursion IsPart parts
+  pub last : Bool
+  pub n : ℕ
+  pub below : n < 2 ^ 31
+  pub some : 0 < n
+  pub within : length (joined parts) + n ≤ limit
   pub after : List ℕ
   pub bytes_are : bytes ≡ unended parts ++ (header last n ++ after)
 

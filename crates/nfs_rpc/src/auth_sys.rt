@@ -68,11 +68,17 @@ impl Cred {
         ensures exact { heard result self.new ≡ caller body.now }
         ensures read { OnOk result ((rest : List ℕ) × Begins IsAuthSys (credential_of self.new) body.now rest) }
         ensures bad { IsErr result → BeginsNone IsAuthSys body.now }
+        ensures nobody { IsErr result → credential_of self.new ≡ record { uid = 4294967295; gid = 4294967295; gids = [] } }
     {
         let mut input = Input::new(body);
         match self.take(&mut input) {
             Ok(()) => Ok(()),
-            Err(_) => Err(BadCred),
+            Err(_) => {
+                self.uid = u32::MAX;
+                self.gid = u32::MAX;
+                self.gids.clear();
+                Err(BadCred)
+            }
         }
     }
 

@@ -1,6 +1,6 @@
 //! Records from the pieces of a stream.
 ghost use Rattle.std.specs.Prelude.{◌≡◌, ◌≢◌, ℕ, ◌+◌, ◌<◌, ◌≤◌, ◌↔◌, ◌⊎◌, [], ◌++◌, true, nat_lt, length, take, IfOk, IfErr, IsTrue, IsErr, IsErrOf};
-ghost use Rattle.nfs_rpc.specs.Progress.{Progress, Unfinished, Moves, BringsTooLong};
+ghost use Rattle.nfs_rpc.specs.Progress.{Progress, Unfinished, Moves, BringsTooLong, AsksForRoom};
 ghost use Rattle.nfs_rpc.specs.Stages.{stage_of};
 
 use crate::record::read_header;
@@ -105,6 +105,7 @@ impl Framer {
         ensures held { self.old.stage ≡ Stage.Ready → (result ≡ Ok (record { used = 0; ready = true })) × (self.new ≡ self.old) }
         // Each fault, and what stays.
         ensures too_long { IsErrOf result FrameFault.TooLong → BringsTooLong self.old piece.now }
+        ensures memory { IsErrOf result FrameFault.Memory → AsksForRoom self.old piece.now }
         ensures failed { IsErrOf result FrameFault.Failed ↔ (self.old.stage ≡ Stage.Failed) }
         ensures ends { IsErr result ↔ (self.new.stage ≡ Stage.Failed) }
     {
@@ -153,6 +154,7 @@ impl Framer {
         ensures moves { IfOk result (λ n. Moves self.old (take n piece.now) self.new) }
         ensures alive { IsErr result ↔ (self.new.stage ≡ Stage.Failed) }
         ensures too_long { IsErrOf result FrameFault.TooLong → BringsTooLong self.old piece.now }
+        ensures memory { IsErrOf result FrameFault.Memory → AsksForRoom self.old piece.now }
         ensures fault { IfErr result (λ e. e ≢ FrameFault.Failed) }
     {
         let (bytes, n) = fill_header(bytes, have, piece);

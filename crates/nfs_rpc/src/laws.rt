@@ -2,7 +2,7 @@
 ghost use Rattle.nfs_xdr.specs.Spelling.{SpellsOnce};
 ghost use Rattle.nfs_xdr.specs.Reading.{Finds};
 ghost use Rattle.nfs_rpc.specs.Records.{IsRecord, StreamsAreReadOnce, RecordsGrow, RecordsClose};
-ghost use Rattle.nfs_rpc.specs.Progress.{UnfinishedTells};
+ghost use Rattle.nfs_rpc.specs.Progress.{UnfinishedTells, ReadersKeep};
 ghost use Rattle.nfs_rpc.specs.Calls.{IsCallHead, head_at};
 ghost use Rattle.nfs_rpc.specs.AuthSys.{IsAuthSys, cred_at};
 ghost use Rattle.nfs_rpc.specs.Replies.{IsReply};
@@ -26,6 +26,7 @@ pub fn unfinished_bytes_are_told()
 pub fn pieces_make_no_difference()
     ensures grow { RecordsGrow }
     ensures close { RecordsClose }
+    ensures readers { ReadersKeep }
 {}
 
 /// A call's head is found where it is spelled, all of it and nothing else; so no head begins

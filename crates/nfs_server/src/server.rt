@@ -70,13 +70,15 @@ impl Server {
         ensures step { (past : Past) → Fits past self.old → (choice : Choice)
             × Step self.old.setup past.done self.old.state (event_of event.entry) choice (answered result reply.new) self.new.state
             × Fits (after past (event_of event.entry) choice (answered result reply.new)) self.new }
+        ensures silent { result ≡ Handled.NoReply → reply.new ≡ [] }
     {
         self.answer(event, reply)
     }
 
     // The same, said without a past.
     fn answer(&mut self, event: Event<'_>, reply: &mut ReplyBuf) -> Handled
-        ensures { Answers self.old (event_of event.entry) (answered result reply.new) self.new }
+        ensures answers { Answers self.old (event_of event.entry) (answered result reply.new) self.new }
+        ensures silent { result ≡ Handled.NoReply → reply.new ≡ [] }
     {
         let Ok(head) = read_call(event.bytes) else {
             reply.clear();

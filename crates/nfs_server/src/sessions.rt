@@ -123,7 +123,7 @@ impl Sessions {
         requires { may_join conn self.old.joined ≡ true }
         ensures taken { IsErrOf result SessionFault.ConnectionTaken ↔ IsSome self.old.joined }
         ensures server { self.new.server ≡ self.old.server }
-        ensures joined { OnOk result (IfSome self.new.joined (λ j. (j.number ≡ conn) × (j.addr ≡ addr) × (j.ended ≡ false) × Unfinished [] j.progress)) }
+        ensures joined { OnOk result (IfSome self.new.joined (λ j. (j.number ≡ conn) × (j.addr ≡ addr) × (j.ended ≡ false) × (j.progress.limit ≡ 131072) × Unfinished [] j.progress)) }
         ensures some { OnOk result (IsSome self.new.joined) }
         ensures err { OnErr result (self.new ≡ self.old) }
     {
@@ -185,6 +185,8 @@ impl Sessions {
         ensures ended { IsErrOf result SessionFault.Ended ↔ (has_ended conn self.old.joined ≡ true) }
         ensures stays { is_joined conn self.old.joined ≡ false ⊎ has_ended conn self.old.joined ≡ true → (self.new ≡ self.old) × (replies.new ≡ replies.old) }
         ensures ok { OnOk result (IfSome self.new.joined (λ j. (j.number ≡ conn) × (j.ended ≡ false))) }
+        ensures some { IsSome self.old.joined → IsSome self.new.joined }
+        ensures same { IfSome self.old.joined (λ old. IfSome self.new.joined (λ new. (new.addr ≡ old.addr) × (new.progress.limit ≡ old.progress.limit))) }
         ensures fault { OnErr result ((self.new ≡ self.old) ⊎ (has_ended conn self.new.joined ≡ true)) }
         ensures setup { self.new.server.setup ≡ self.old.server.setup }
     {
@@ -217,6 +219,8 @@ fn feed_one<W: ByteOut>(
     ensures ended { IsErrOf result SessionFault.Ended ↔ (connection.old.ended ≡ true) }
     ensures stays { connection.old.ended ≡ true → (server.new ≡ server.old) × (connection.new ≡ connection.old) × (replies.new ≡ replies.old) }
     ensures number { connection.new.number ≡ connection.old.number }
+    ensures addr { connection.new.addr ≡ connection.old.addr }
+    ensures limit { connection.new.framer.limit ≡ connection.old.framer.limit }
     ensures ok { OnOk result ((connection.new.ended ≡ false) × IsBetween connection.new.framer) }
     ensures fault { OnErr result (connection.new.ended ≡ true) }
     ensures kind { IfErr result (λ e. e ≢ SessionFault.UnknownConnection) }
@@ -254,6 +258,7 @@ fn take_piece<W: ByteOut>(
     requires { IsBetween framer.old }
     ensures setup { server.new.setup ≡ server.old.setup }
     ensures between { OnOk result (IsBetween framer.new) }
+    ensures limit { framer.new.limit ≡ framer.old.limit }
     ensures fault { IfErr result (λ e. (e ≢ SessionFault.UnknownConnection) × (e ≢ SessionFault.Ended)) }
 {
     let mut rest = piece;

@@ -1,5 +1,5 @@
 //! Devices that take or give bytes, and may fail: sockets, files, memory, and fakes for tests.
-ghost use Rattle.std.specs.Prelude.{◌≡◌, ℕ, ◌<◌, ◌≤◌, List, [], Option, Bool, true, false, length, take, IfOk, OnOk, OnErr};
+ghost use Rattle.std.specs.Prelude.{◌≡◌, ℕ, ◌<◌, ◌≤◌, List, [], Option, Bool, true, false, length, take, IfOk, OnOk, OnErr, IsErr};
 ghost use Rattle.nfs_xdr.specs.Known.{Grows, GrowsByPart, Shrinks, IsAtEnd};
 
 use std::io::{Read, Write};
@@ -50,6 +50,7 @@ pub fn write_all<W: ByteOut>(out: &mut W, bytes: &[u8]) -> Result<(), DeviceFaul
     ensures ok { OnOk result (Grows (W.contents out.old) bytes.now (W.contents out.new)) }
     ensures part { OnErr result (GrowsByPart (W.contents out.old) bytes.now (W.contents out.new)) }
     ensures fault { OnErr result (W.failed out.new ≡ true) }
+    ensures alive { OnOk result (W.failed out.new ≡ W.failed out.old) }
 {
     let mut at = 0;
     while at < bytes.len() {
@@ -121,7 +122,14 @@ impl<D: Write> ByteOut for Device<D> {
 
     ghost failed = { λ d. d.failed };
 
-    fn write(&mut self, bytes: &[u8]) -> Result<usize, DeviceFault> {
+    fn write(&mut self, bytes: &[u8]) -> Result<usize, DeviceFault>
+        ensures count { IfOk result (λ n. n ≤ length bytes.now) }
+        ensures some { 0 < length bytes.now → IfOk result (λ n. 0 < n) }
+        ensures taken { IfOk result (λ n. Grows (D.contents self.old.inner) (take n bytes.now) (D.contents self.new.inner)) }
+        ensures alive { OnOk result ((self.old.failed ≡ false) × (self.new.failed ≡ false)) }
+        ensures fault { OnErr result ((self.new.failed ≡ true) × Grows (D.contents self.old.inner) [] (D.contents self.new.inner)) }
+        ensures again { self.old.failed ≡ true → IsErr result × (self.new ≡ self.old) }
+    {
         if self.ended {
             return Err(DeviceFault);
         }

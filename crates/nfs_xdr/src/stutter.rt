@@ -1,5 +1,6 @@
 //! A device for tests that passes on little at a time, and fails when it is told to.
-ghost use Rattle.std.specs.Prelude.{◌≡◌, ◌-◌, ◌<◌, true, false, IsTrue};
+ghost use Rattle.std.specs.Prelude.{◌≡◌, ◌+◌, ◌-◌, ◌<◌, ◌≤◌, ◌⊎◌, [], length, take, true, false, IsTrue, IfOk, OnOk, OnErr};
+ghost use Rattle.nfs_xdr.specs.Known.{Grows, Shrinks, IsAtEnd};
 
 use crate::device::{ByteIn, ByteOut, DeviceFault};
 use std::marker::Model;
@@ -56,8 +57,8 @@ impl<D> Stutter<D> {
     // Whether this call is to be passed on.
     fn goes_on(&mut self) -> bool
         ensures same { (self.new.inner ≡ self.old.inner) × (self.new.step ≡ self.old.step) }
-        ensures goes { IsTrue result → (self.old.failed ≡ false) × (self.new.failed ≡ false) }
-        ensures stops { result ≡ false → self.new.failed ≡ true }
+        ensures goes { IsTrue result → (self.old.failed ≡ false) × (self.new.failed ≡ false) × (self.old.left ≡ self.new.left + 1) }
+        ensures stops { result ≡ false → (self.new.failed ≡ true) × ((self.old.failed ≡ true) ⊎ (self.old.left ≡ 0)) }
     {
         if self.ended || self.left == 0 {
             self.ended = true;
@@ -73,7 +74,17 @@ impl<D: ByteOut> ByteOut for Stutter<D> {
 
     ghost failed = { λ s. s.failed };
 
-    fn write(&mut self, bytes: &[u8]) -> Result<usize, DeviceFault> {
+    fn write(&mut self, bytes: &[u8]) -> Result<usize, DeviceFault>
+        ensures count { IfOk result (λ n. n ≤ length bytes.now) }
+        ensures some { 0 < length bytes.now → IfOk result (λ n. 0 < n) }
+        ensures taken { IfOk result (λ n. Grows (D.contents self.old.inner) (take n bytes.now) (D.contents self.new.inner)) }
+        ensures alive { OnOk result ((self.old.failed ≡ false) × (self.new.failed ≡ false)) }
+        ensures fault { OnErr result ((self.new.failed ≡ true) × Grows (D.contents self.old.inner) [] (D.contents self.new.inner)) }
+        ensures step { IfOk result (λ n. n ≤ self.old.step) }
+        ensures turn { OnOk result (self.old.left ≡ self.new.left + 1) }
+        ensures same { self.new.step ≡ self.old.step }
+        ensures due { OnErr result ((self.old.failed ≡ true) ⊎ ((self.old.left ≡ 0) ⊎ (D.failed self.new.inner ≡ true))) }
+    {
         if !self.goes_on() {
             return Err(DeviceFault);
         }
@@ -92,7 +103,17 @@ impl<D: ByteIn> ByteIn for Stutter<D> {
 
     ghost failed = { λ s. s.failed };
 
-    fn read(&mut self, buffer: &mut [u8]) -> Result<usize, DeviceFault> {
+    fn read(&mut self, buffer: &mut [u8]) -> Result<usize, DeviceFault>
+        ensures count { IfOk result (λ n. n ≤ length buffer.new) }
+        ensures given { IfOk result (λ n. Shrinks (D.remaining self.old.inner) (take n buffer.new) (D.remaining self.new.inner)) }
+        ensures end { IfOk result (λ n. n ≡ 0 → 0 < length buffer.new → IsAtEnd (D.remaining self.new.inner)) }
+        ensures alive { OnOk result ((self.old.failed ≡ false) × (self.new.failed ≡ false)) }
+        ensures fault { OnErr result ((self.new.failed ≡ true) × Shrinks (D.remaining self.old.inner) [] (D.remaining self.new.inner)) }
+        ensures step { IfOk result (λ n. n ≤ self.old.step) }
+        ensures turn { OnOk result (self.old.left ≡ self.new.left + 1) }
+        ensures same { self.new.step ≡ self.old.step }
+        ensures due { OnErr result ((self.old.failed ≡ true) ⊎ ((self.old.left ≡ 0) ⊎ (D.failed self.new.inner ≡ true))) }
+    {
         if !self.goes_on() {
             return Err(DeviceFault);
         }

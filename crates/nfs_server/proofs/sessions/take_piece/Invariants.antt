@@ -7,6 +7,7 @@ invariant-loop-fed g l = record {
   between : IsBetween l.framer;
   counted : l.records + length l.rest ≤ length l.piece;
   setup : l.server.setup ≡ l.fn.server.setup;
+  limit : l.framer.limit ≡ l.fn.framer.limit;
 }
 
 abbrev pub decreases-loop-fed : goal.decreases-loop-fed
