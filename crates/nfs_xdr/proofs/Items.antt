@@ -357,3 +357,20 @@ spelled_more ns i before last j below = spelled_by (cases_lt j i)
     spelled_by : (j < i) ⊎ (i ≤ j) → IsNumber w32 (get_or ns j 0) (to_be_bytes w32 (get_or ns j 0))
     spelled_by (inl less) = before j less
     spelled_by (inr more) = subst (λ k. IsNumber w32 (get_or ns k 0) (to_be_bytes w32 (get_or ns k 0))) (omega (arith, below, more)) last
+
+-- numbers that are each spelled are items one after another
+pub are_numbers : (ns : List ℕ)
+    → ((j : ℕ) → j < length ns → IsNumber w32 (get_or ns j 0) (to_be_bytes w32 (get_or ns j 0)))
+    → AreItems (IsNumber w32) ns (numbers_text ns)
+are_numbers [] each = refl
+are_numbers (n ∷ ns) each = record {
+  front = to_be_bytes w32 n;
+  first = each 0 (omega arith);
+  back = numbers_text ns;
+  second = are_numbers ns (λ j below. each (suc j) (omega (arith, below)));
+  text_is = refl;
+}
+
+pub boolean_written : (b : Bool) → IsBoolean b (to_be_bytes w32 (number_of b))
+boolean_written true = record { fits = omega arith; text_is = refl }
+boolean_written false = record { fits = omega arith; text_is = refl }

@@ -103,7 +103,14 @@ impl<D: Read> ByteIn for Device<D> {
 
     ghost failed = { λ d. d.failed };
 
-    fn read(&mut self, buffer: &mut [u8]) -> Result<usize, DeviceFault> {
+    fn read(&mut self, buffer: &mut [u8]) -> Result<usize, DeviceFault>
+        ensures count { IfOk result (λ n. n ≤ length buffer.new) }
+        ensures given { IfOk result (λ n. Shrinks (D.remaining self.old.inner) (take n buffer.new) (D.remaining self.new.inner)) }
+        ensures end { IfOk result (λ n. n ≡ 0 → 0 < length buffer.new → IsAtEnd (D.remaining self.new.inner)) }
+        ensures alive { OnOk result ((self.old.failed ≡ false) × (self.new.failed ≡ false)) }
+        ensures fault { OnErr result ((self.new.failed ≡ true) × Shrinks (D.remaining self.old.inner) [] (D.remaining self.new.inner)) }
+        ensures again { self.old.failed ≡ true → IsErr result × (self.new ≡ self.old) }
+    {
         if self.ended {
             return Err(DeviceFault);
         }

@@ -1,5 +1,5 @@
 //! Laws over the definitions alone.
-ghost use Rattle.std.specs.Prelude.{ℕ, List, ◌^◌, ◌<◌, ◌≤◌, length};
+ghost use Rattle.std.specs.Prelude.{ℕ, Bool, List, ◌^◌, ◌<◌, ◌≤◌, length};
 ghost use Rattle.std.specs.Int.{w32, w64, to_be_bytes};
 ghost use Rattle.nfs_xdr.specs.Spelling.{IsNumber, IsBoolean, IsFixed, IsOpaque, IsArray, SpellsOnce, number_of, fixed_text, opaque_text};
 ghost use Rattle.nfs_xdr.specs.Reading.{Finds, number_at, boolean_at, fixed_at, opaque_at, array_at};
@@ -28,6 +28,7 @@ pub fn items_are_found()
 
 /// What is written is a spelling, with zeros as its padding.
 pub fn items_are_written()
+    ensures boolean { (b : Bool) → IsBoolean b (to_be_bytes w32 (number_of b)) }
     ensures fixed { (item : List ℕ) → IsFixed (length item) item (fixed_text item) }
     ensures opaque { (max : ℕ) (item : List ℕ) → length item < 2 ^ 32 → length item ≤ max → IsOpaque max item (opaque_text item) }
 {}

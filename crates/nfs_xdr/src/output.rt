@@ -1,7 +1,7 @@
 //! A list of bytes to which XDR items are written, in room that was made once.
-ghost use Rattle.std.specs.Prelude.{◌≡◌, ℕ, ◌+◌, ◌*◌, ◌^◌, ◌<◌, ◌≤◌, [], ◌∷◌, ◌++◌, length, take, drop, slice_index_or, IfOk};
+ghost use Rattle.std.specs.Prelude.{◌≡◌, ◌+◌, ◌*◌, ◌^◌, ◌<◌, ◌≤◌, [], ◌∷◌, ◌++◌, length, take, drop, IfOk};
 ghost use Rattle.std.specs.Int.{w32, w64, to_be_bytes};
-ghost use Rattle.nfs_xdr.specs.Spelling.{IsNumber, number_of, fixed_text, opaque_text, numbers_text, padding, pad_text};
+ghost use Rattle.nfs_xdr.specs.Spelling.{IsNumber, IsBoolean, AreItems, number_of, fixed_text, opaque_text, numbers_text, padding, pad_text};
 ghost use Rattle.nfs_xdr.specs.Written.{Written, Appends};
 
 use std::alloc::{AllocError, Global};
@@ -57,7 +57,7 @@ impl Output {
         ensures text { Appends (to_be_bytes w32 n) self.old self.new }
         ensures spelled { IsNumber w32 n (to_be_bytes w32 n) }
     {
-        self.raw(&n.to_be_bytes());
+        self.part(&n.to_be_bytes());
     }
 
     /// Writes an unsigned hyper integer (RFC 4506, section 4.5).
@@ -67,13 +67,14 @@ impl Output {
         ensures text { Appends (to_be_bytes w64 n) self.old self.new }
         ensures spelled { IsNumber w64 n (to_be_bytes w64 n) }
     {
-        self.raw(&n.to_be_bytes());
+        self.part(&n.to_be_bytes());
     }
 
     /// Writes a boolean (RFC 4506, section 4.4).
     pub fn boolean(&mut self, b: bool)
         requires { 4 ≤ self.old.room }
-        ensures { Appends (to_be_bytes w32 (number_of b)) self.old self.new }
+        ensures text { Appends (to_be_bytes w32 (number_of b)) self.old self.new }
+        ensures spelled { IsBoolean b (to_be_bytes w32 (number_of b)) }
     {
         self.u32(u32::from(b));
     }
@@ -84,13 +85,13 @@ impl Output {
     pub fn numbers<const N: usize>(&mut self, ns: [u32; N])
         requires { 4 * N ≤ self.old.room }
         ensures text { Appends (numbers_text ns.entry) self.old self.new }
-        ensures spelled { (i : ℕ) → i < N → IsNumber w32 (slice_index_or ns.entry i 0) (to_be_bytes w32 (slice_index_or ns.entry i 0)) }
+        ensures spelled { AreItems (IsNumber w32) ns.entry (numbers_text ns.entry) }
     {
         let mut words = [[0u8; 4]; N];
         for i in 0..N {
             words[i] = bytes_of(ns[i]);
         }
-        self.raw(words.as_flattened());
+        self.part(words.as_flattened());
     }
 
     /// Writes opaque data of a fixed length (RFC 4506, section 4.9), padded with zeros.
@@ -102,12 +103,14 @@ impl Output {
         self.pad(item.len());
     }
 
-    /// Writes bytes as they are: a part of opaque data whose parts lie in different places.
+    /// Writes bytes as they are: a part of an item whose parts lie in different places.
+    #[inline(always)]
     pub fn part(&mut self, bytes: &[u8])
         requires { length bytes.now ≤ self.old.room }
         ensures { Appends bytes.now self.old self.new }
     {
-        self.raw(bytes);
+        self.room -= bytes.len();
+        self.bytes.extend_from_slice(bytes).unwrap();
     }
 
     /// Writes the zeros that follow opaque data of `len` bytes (RFC 4506, section 3).
@@ -117,7 +120,7 @@ impl Output {
     {
         let zeros = [0u8; 3];
         let padding = (4 - len % 4) % 4;
-        self.raw(&zeros[..padding]);
+        self.part(&zeros[..padding]);
     }
 
     /// Writes opaque data (RFC 4506, section 4.10): its length, its bytes, and zeros as padding.
@@ -157,16 +160,6 @@ impl Output {
         ensures room { self.new.room ≡ self.old.room + length self.old.bytes }
     {
         self.cut(0);
-    }
-
-    // These bytes as they are.
-    #[inline(always)]
-    fn raw(&mut self, bytes: &[u8])
-        requires { length bytes.now ≤ self.old.room }
-        ensures { Appends bytes.now self.old self.new }
-    {
-        self.room -= bytes.len();
-        self.bytes.extend_from_slice(bytes).unwrap();
     }
 }
 
