@@ -57,7 +57,7 @@ fn read_again(alloc: Global, words: &str) -> Result<Option<Cred>, Fail> {
         "00000000 00000000 00000007 00000008 00000001 00000009",
     )?;
     let body = bytes(alloc, words)?;
-    let mut cred = Cred::unread();
+    let mut cred = Cred::nobody();
     if cred.read(first.as_slice()).is_err() || cred.read(body.as_slice()).is_err() {
         return Ok(None);
     }
@@ -72,7 +72,7 @@ fn reads_into_a_credential_that_stands(rt: HostRuntime) -> Result<(), Fail> {
     assert_eq!(rt; (cred.uid, cred.gid), (1000, 100));
     assert_eq!(rt; cred.gids.as_slice(), [4u32, 24].as_slice());
     assert!(rt; read_again(rt.alloc(), "0000002a 00000003 6c6162")?.is_none());
-    let unread = Cred::unread();
+    let unread = Cred::nobody();
     assert_eq!(rt; (unread.uid, unread.gid, unread.gids.len()), (0, 0, 0));
     Ok(())
 }

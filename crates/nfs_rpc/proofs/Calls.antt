@@ -1,4 +1,4 @@
--- Reading the head of a call finds its spelling, and another message is told apart.
+-- Reading the head of a call finds its spelling, and another message is answered_credential apart.
 use Rattle.std.proofs.Common.{◌≡◌, ◌≢◌, ◌↔◌, ℕ, Bool, true, false, eqb, List, [], ◌++◌, Result, Ok, Err, refl, sym, ap, subst, ◌∙◌, append_assoc, append-nil, if◌then◌else◌}
 use Rattle.std.specs.Prelude.{IfOk, IsErrOf}
 use Rattle.std.specs.Int.{w32}

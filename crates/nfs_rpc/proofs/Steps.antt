@@ -1,6 +1,6 @@
 -- How a reader of records goes on by some bytes.
-use Rattle.std.proofs.Common.{◌≡◌, ℕ, ◌+◌, ◌-◌, ◌^◌, ◌<◌, ◌≤◌, Bool, true, false, List, [], ◌∷◌, ◌++◌, length, take, drop, nat_lt, refl, sym, ap, subst, ◌∙◌, append_assoc, append-nil, take-add, length-drop, arith}
-use Rattle.std.proofs.lemmas.Bool.{ltb-false, ltb-true}
+use Rattle.std.proofs.Common.{Result, Ok, Err, OnErr, IsErr, ◌≡◌, ℕ, ◌+◌, ◌-◌, ◌^◌, ◌<◌, ◌≤◌, Bool, true, false, List, [], ◌∷◌, ◌++◌, length, take, drop, nat_lt, refl, sym, ap, subst, ◌∙◌, append_assoc, append-nil, take-add, length-drop, arith}
+use Rattle.std.proofs.lemmas.Bool.{ltb-false, ltb-true, false≢true}
 use Rattle.std.proofs.lemmas.List.{length-append, take_all, take_rest, take-append-drop}
 use Rattle.nfs_rpc.specs.declared.framer.Stage.{Stage}
 use Rattle.nfs_rpc.specs.declared.framer.Stage.TheVariants.{Header, Body}
@@ -77,6 +77,11 @@ header_above limit have n left last bytes filled content text piece whole is mar
       after = drop n piece;
       bytes_are = ap (λ t. text ++ t) (sym (take-append-drop n piece)) ∙ sym (append_assoc text (take n piece) (drop n piece)) ∙ ap (λ t. t ++ drop n piece) f.text_is ∙ append_assoc (unended f.parts) (header last left) (drop n piece);
     }
+
+-- room is refused only where there was less
+pub refused_above : {A E : Type 0} {P : Type 0} (r : Result A E) → OnErr r P → IsErr r → P
+refused_above (Ok x) full is = absurd (false≢true is)
+refused_above (Err e) full is = full
 
 pub header_within : (limit have n left : ℕ) (last : Bool) (bytes filled content text piece : List ℕ) → 4 ≤ have + n → take (have + n) filled ≡ take have bytes ++ take n piece → filled ≡ header last left → left < 2 ^ 31 → 0 < left → length content + left ≤ limit → Leads limit (Header bytes have) content text → ReachesWithin limit (text ++ piece)
 header_within limit have n left last bytes filled content text piece whole is mark below some inside u =

@@ -1,5 +1,5 @@
 -- The credential of AUTH_SYS (RFC 5531, section 8.2 and appendix A).
-use Rattle.std.specs.Prelude.{◌≡◌, ℕ, List, Result, Ok, Err, Option, Some, None}
+use Rattle.std.specs.Prelude.{◌≡◌, ℕ, List, [], Result, Ok, Err, Option, Some, None}
 use Rattle.std.specs.Int.{w32}
 use Rattle.nfs_xdr.specs.Spelling.{IsNumber, IsOpaque, IsArray, ◌⨾◌}
 use Rattle.nfs_xdr.specs.Reading.{Read, ◌>>=◌, number_at, opaque_at, array_at}
@@ -12,6 +12,10 @@ pub record Credential : Type 0 where
   pub uid : ℕ
   pub gid : ℕ
   pub gids : List ℕ
+
+-- the credential of nobody, by which nothing is granted
+abbrev pub NOBODY : Credential
+NOBODY = record { uid = 4294967295; gid = 4294967295; gids = [] }
 
 -- from where: a number of the client's choice, and the machine's name
 pub record Sender : Type 0 where
@@ -55,16 +59,16 @@ caller body = value_of (cred_at body)
 abbrev pub credential_of : Cred → Credential
 credential_of c = record { uid = c.uid; gid = c.gid; gids = c.gids.items }
 
-abbrev pub told : Result Cred BadCred → Option Credential
-told (Ok c) = Some (credential_of c)
-told (Err e) = None
+abbrev pub answered_credential : Result Cred BadCred → Option Credential
+answered_credential (Ok c) = Some (credential_of c)
+answered_credential (Err e) = None
 
--- the same where it was read into this one
-abbrev pub heard : Result Unit BadCred → Cred → Option Credential
-heard (Ok x) c = Some (credential_of c)
-heard (Err e) c = None
+-- the same where it was read into this one, which a fault leaves as nobody's
+abbrev pub credential_left : Result Unit BadCred → Cred → Option Credential
+credential_left (Ok x) c = Some (credential_of c)
+credential_left (Err e) c = None
 
 -- What was answered is what reading gives, where a fault may have taken some of the items.
-abbrev pub Tells : {X A : Type 0} → (X → A) → List ℕ → Result X XdrFault → Read A → Type 0
-Tells view new (Ok x) read = read ≡ Ok (view x, new)
-Tells view new (Err e) read = read ≡ Err e
+abbrev pub GivesOrFails : {X A : Type 0} → (X → A) → List ℕ → Result X XdrFault → Read A → Type 0
+GivesOrFails view new (Ok x) read = read ≡ Ok (view x, new)
+GivesOrFails view new (Err e) read = read ≡ Err e

@@ -3,7 +3,7 @@ ghost use Rattle.std.specs.Prelude.{◌≡◌, ℕ, List, [], ◌≤◌, IfOk, O
 ghost use Rattle.std.specs.Int.{w32};
 ghost use Rattle.nfs_xdr.specs.Spelling.{Begins, BeginsNone};
 ghost use Rattle.nfs_xdr.specs.Reading.{number_at, items_at, array_at};
-ghost use Rattle.nfs_rpc.specs.AuthSys.{IsAuthSys, cred_at, caller, credential_of, told, heard, Tells};
+ghost use Rattle.nfs_rpc.specs.AuthSys.{IsAuthSys, NOBODY, cred_at, caller, credential_of, answered_credential, credential_left, GivesOrFails};
 
 use arrayvec::ArrayVec;
 use nfs_xdr::fault::XdrFault;
@@ -32,16 +32,19 @@ const MAX_NAME_BYTES: u32 = 255;
 /// The most groups beside the user's own.
 const MAX_GIDS: u32 = 16;
 
+/// The user and the group of nobody.
+const NOBODY_ID: u32 = u32::MAX;
+
 /// Reads the body of a credential of AUTH_SYS. The stamp and the machine's name have to be there,
 /// and are not judged; what follows the groups is not looked at.
 ///
 /// `BadCred` where no such body stands at the front.
 pub fn read_auth_sys(body: &[u8]) -> Result<Cred, BadCred>
-    ensures exact { told result ≡ caller body.now }
+    ensures exact { answered_credential result ≡ caller body.now }
     ensures read { IfOk result (λ cred. (rest : List ℕ) × Begins IsAuthSys (credential_of cred) body.now rest) }
     ensures bad { IsErr result → BeginsNone IsAuthSys body.now }
 {
-    let mut cred = Cred::unread();
+    let mut cred = Cred::nobody();
     match cred.read(body) {
         Ok(()) => Ok(cred),
         Err(fault) => Err(fault),
@@ -49,34 +52,41 @@ pub fn read_auth_sys(body: &[u8]) -> Result<Cred, BadCred>
 }
 
 impl Cred {
-    /// What stands where none was read: user 0, its group 0, and no more groups.
+    /// Whom a call has where no credential was read: nobody, so that nothing is granted by it.
     #[inline(always)]
-    pub fn unread() -> Cred
-        ensures { credential_of result ≡ record { uid = 0; gid = 0; gids = [] } }
+    pub fn nobody() -> Cred
+        ensures { credential_of result ≡ NOBODY }
     {
         Cred {
-            uid: 0,
-            gid: 0,
+            uid: NOBODY_ID,
+            gid: NOBODY_ID,
             gids: ArrayVec::new(),
         }
     }
 
+    // No call is granted by what a refused body left behind.
+    fn forget(&mut self)
+        ensures { credential_of self.new ≡ NOBODY }
+    {
+        self.uid = NOBODY_ID;
+        self.gid = NOBODY_ID;
+        self.gids.clear();
+    }
+
     /// Reads the body of a credential as `read_auth_sys` does, into this one, so that none is moved.
-    /// After `BadCred` this one may be any.
+    /// After `BadCred` this one is nobody's.
     #[inline(always)]
     pub fn read(&mut self, body: &[u8]) -> Result<(), BadCred>
-        ensures exact { heard result self.new ≡ caller body.now }
+        ensures exact { credential_left result self.new ≡ caller body.now }
         ensures read { OnOk result ((rest : List ℕ) × Begins IsAuthSys (credential_of self.new) body.now rest) }
         ensures bad { IsErr result → BeginsNone IsAuthSys body.now }
-        ensures nobody { IsErr result → credential_of self.new ≡ record { uid = 4294967295; gid = 4294967295; gids = [] } }
+        ensures nobody { IsErr result → credential_of self.new ≡ NOBODY }
     {
         let mut input = Input::new(body);
         match self.take(&mut input) {
             Ok(()) => Ok(()),
             Err(_) => {
-                self.uid = u32::MAX;
-                self.gid = u32::MAX;
-                self.gids.clear();
+                self.forget();
                 Err(BadCred)
             }
         }
@@ -84,7 +94,7 @@ impl Cred {
 
     #[inline(always)]
     fn take(&mut self, input: &mut Input<'_>) -> Result<(), XdrFault>
-        ensures { Tells (λ _. credential_of self.new) input.new result (cred_at input.old) }
+        ensures { GivesOrFails (λ _. credential_of self.new) input.new result (cred_at input.old) }
     {
         let _stamp = input.u32()?;
         let _machine = input.opaque(MAX_NAME_BYTES)?;
@@ -99,7 +109,7 @@ impl Cred {
 #[inline(always)]
 fn read_gids(input: &mut Input<'_>, gids: &mut ArrayVec<u32, 16>) -> Result<(), XdrFault>
     requires { gids.old.items ≡ [] }
-    ensures { Tells (λ _. gids.new.items) input.new result (array_at (number_at w32) 16 input.old) }
+    ensures { GivesOrFails (λ _. gids.new.items) input.new result (array_at (number_at w32) 16 input.old) }
 {
     let count = input.u32()?;
     if count > MAX_GIDS {
@@ -117,7 +127,7 @@ fn take_gids(
 ) -> Result<(), XdrFault>
     requires few { count ≤ 16 }
     requires none { gids.old.items ≡ [] }
-    ensures { Tells (λ _. gids.new.items) input.new result (items_at (number_at w32) count input.old) }
+    ensures { GivesOrFails (λ _. gids.new.items) input.new result (items_at (number_at w32) count input.old) }
 {
     for _ in 0..count {
         match input.u32() {

@@ -100,7 +100,7 @@ impl Server {
         ensures { Judged (find (fails_rpc (call_of head.now) head.now.args) (caller_rules ++ Arguments ∷ [])) self.now.setup self.now.state (request_of addr (call_of head.now) head.now.args) head.now.xid (replied reply.new) self.now.state }
     {
         let xid = head.xid;
-        let mut cred = Cred::unread();
+        let mut cred = Cred::nobody();
         match identify(head, &mut cred) {
             Err(rule) => reply.refuse(rule, xid),
             Ok(()) => match read_nfs(head.proc, head.args.rest()) {

@@ -1,7 +1,7 @@
 use Rattle.std.proofs.Common.{◌+◌, take, length, vec_len, vec_capacity, ap, ◌∙◌, arith, rules}
 use Rattle.nfs_rpc.specs.declared.framer.Stage.TheVariants.{Header}
 use Rattle.nfs_rpc.specs.Progress.{Progress}
-use Rattle.nfs_rpc.proofs.Steps.{part_header_moves, header_moves, header_brings, header_asks, keeps_header}
+use Rattle.nfs_rpc.proofs.Steps.{refused_above, part_header_moves, header_moves, header_brings, header_asks, keeps_header}
 use Rattle.nfs_rpc.proofs.framer.Framer.take_header.Goals as goal
 
 pub returns-then-have-n-lt4-clause-moves : goal.returns-then-have-n-lt4-clause-moves
@@ -22,7 +22,8 @@ returns-then-is_err-clause-memory c = λ e.
     let limit = ap (λ (p : Progress). p.limit) c.self.view_is in
     let len = ap (λ (p : Progress). length p.content) c.self.view_is in
     let within = keeps_header c.self.inside.limit (vec_len c.self.inside.content) (vec_capacity c.self.inside.content) c.args.have c.self.inside.stage c.args.bytes (ap (λ (p : Progress). p.stage) c.self.view_is ∙ c.requires.stage) c.self.invariant in
-    header_asks c.args.self.now c.args.have c.fill_header-n.result.1 c.read_header-last.result.1 c.read_header-last.result.0 c.args.bytes c.fill_header-n.result.0 c.args.piece.now c.requires.stage c.if-have-n-lt4.false c.fill_header-n.ensures.filled c.read_header-last.ensures.mark c.read_header-last.ensures.below c.if-left-gt0.true
+    let full = refused_above c.reserve.result c.reserve.ensures.full (search (rules)) in
+    header_asks c.args.self.now c.args.have c.fill_header-n.result.1 c.read_header-last.result.1 c.read_header-last.result.0 c.args.bytes c.fill_header-n.result.0 c.args.piece.now c.requires.stage c.if-have-n-lt4.false c.fill_header-n.ensures.filled c.read_header-last.ensures.mark c.read_header-last.ensures.below (omega (arith, c.self.inside.content.ok, full))
     (omega (arith, c.self.inside.content.ok.0, limit, len, within, c.len.ensures, c.if-left-self.false))
 
 pub returns-clause-moves : goal.returns-clause-moves
