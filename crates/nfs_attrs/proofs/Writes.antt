@@ -5,7 +5,9 @@ use Rattle.std.proofs.lemmas.Grind.{flat_map-append}
 use Rattle.nfs_xdr.specs.Spelling.{IsNumber, numbers_text}
 use Rattle.nfs_xdr.proofs.Writing.{followed}
 use Rattle.nfs_attrs.specs.declared.fattr.Fattr.{Fattr}
-use Rattle.nfs_attrs.specs.Spelling.{IsMoment, IsFileType, IsFattr, type_number, moment_text, file_type_text, fattr_text}
+use Rattle.nfs_attrs.specs.declared.moment.Moment.{Moment}
+use Rattle.nfs_attrs.specs.declared.pre_attr.PreAttr.{PreAttr}
+use Rattle.nfs_attrs.specs.Spelling.{IsMoment, IsFileType, IsFattr, type_number, moment_text, file_type_text, fattr_text, pre_attr_text}
 
 -- a text is that of numbers, one after another
 record AreNumbers (ns text : List ℕ) : Type 0 where
@@ -53,6 +55,17 @@ fattr_numbers a kind size_high size_low used_high used_low fsid_high fsid_low fi
     (words_then _ _ _ _
     (words_then _ _ _ _
     (words a.ctime.seconds a.ctime.nanos))))))))))))).text_is
+
+pub moment_numbers : (m : Moment) → numbers_text (m.seconds ∷ m.nanos ∷ []) ≡ moment_text m
+moment_numbers m = (words m.seconds m.nanos).text_is
+
+pub pre_attr_numbers : (a : PreAttr) (size_high size_low : ℕ)
+    → numbers_text (size_high ∷ size_low ∷ []) ≡ to_be_bytes w64 a.size
+    → numbers_text (size_high ∷ size_low ∷ a.mtime.seconds ∷ a.mtime.nanos ∷ a.ctime.seconds ∷ a.ctime.nanos ∷ []) ≡ pre_attr_text a
+pre_attr_numbers a size_high size_low size =
+    (hyper_then size_high size_low a.size _ _ size
+    (words_then _ _ _ _
+    (words a.ctime.seconds a.ctime.nanos))).text_is
 
 abbrev IsWord : ℕ → Type 0
 IsWord n = IsNumber w32 n (to_be_bytes w32 n)

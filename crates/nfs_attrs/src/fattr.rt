@@ -185,7 +185,7 @@ pub fn write_post_op_attr(out: &mut Output, attributes: Option<&Fattr>)
 /// How many bytes the attributes of a file have, or that there are none: 88 or 4.
 pub fn size_post_op_attr(attributes: Option<Fattr>) -> usize
     ensures text { result ≡ length (post_op_attr_text attributes) }
-    ensures bound { result ≤ 88 }
+    ensures bound { (4 ≤ result) × (result ≤ 88) }
 {
     match attributes {
         None => 4,

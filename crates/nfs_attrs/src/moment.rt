@@ -44,8 +44,7 @@ pub fn write_moment(out: &mut Output, moment: Moment)
     ensures text { Appends (moment_text moment) out.old out.new }
     ensures spelled { IsMoment moment (moment_text moment) }
 {
-    out.u32(moment.seconds);
-    out.u32(moment.nanos);
+    out.numbers([moment.seconds, moment.nanos]);
 }
 
 /// How many bytes a time has.

@@ -5,10 +5,10 @@ ghost use Rattle.nfs_xdr.specs.Written.{Appends};
 ghost use Rattle.nfs_attrs.specs.Spelling.{IsPreAttr, IsPreOpAttr, pre_attr_text, pre_op_attr_text};
 ghost use Rattle.nfs_attrs.specs.Reading.{pre_attr_at, pre_op_attr_at};
 
-use crate::moment::{Moment, read_moment, write_moment};
+use crate::moment::{Moment, read_moment};
 use nfs_xdr::fault::XdrFault;
 use nfs_xdr::input::Input;
-use nfs_xdr::output::Output;
+use nfs_xdr::output::{Output, halves};
 
 /// What a client compares with the attributes it knew, to see whether the file was changed by
 /// others (RFC 1813, section 2.6, wcc_attr).
@@ -48,9 +48,15 @@ pub fn write_pre_attr(out: &mut Output, attributes: &PreAttr)
     ensures text { Appends (pre_attr_text attributes.now) out.old out.new }
     ensures spelled { IsPreAttr attributes.now (pre_attr_text attributes.now) }
 {
-    out.u64(attributes.size);
-    write_moment(out, attributes.mtime);
-    write_moment(out, attributes.ctime);
+    let (size_high, size_low) = halves(attributes.size);
+    out.numbers([
+        size_high,
+        size_low,
+        attributes.mtime.seconds,
+        attributes.mtime.nanos,
+        attributes.ctime.seconds,
+        attributes.ctime.nanos,
+    ]);
 }
 
 /// How many bytes a file's size and times have.
@@ -101,7 +107,7 @@ pub fn write_pre_op_attr(out: &mut Output, attributes: Option<PreAttr>)
 /// How many bytes a file's size and times have, or that there are none: 28 or 4.
 pub fn size_pre_op_attr(attributes: Option<PreAttr>) -> usize
     ensures text { result ≡ length (pre_op_attr_text attributes) }
-    ensures bound { result ≤ 28 }
+    ensures bound { (4 ≤ result) × (result ≤ 28) }
 {
     match attributes {
         None => 4,

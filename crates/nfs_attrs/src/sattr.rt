@@ -132,7 +132,8 @@ fn write_hyper(out: &mut Output, value: Option<u64>)
 
 /// How many bytes these settings have: from 24 to 60.
 pub fn size_sattr(settings: &Sattr) -> usize
-    ensures { result ≡ length (sattr_text settings.now) }
+    ensures text { result ≡ length (sattr_text settings.now) }
+    ensures bound { (24 ≤ result) × (result ≤ 60) }
 {
     let numbers = size_word(settings.mode)
         + size_word(settings.uid)
@@ -143,7 +144,7 @@ pub fn size_sattr(settings: &Sattr) -> usize
 
 fn size_word(value: Option<u32>) -> usize
     ensures text { result ≡ length (optional_text (to_be_bytes w32) value) }
-    ensures bound { result ≤ 8 }
+    ensures bound { (4 ≤ result) × (result ≤ 8) }
 {
     match value {
         None => 4,
@@ -153,7 +154,7 @@ fn size_word(value: Option<u32>) -> usize
 
 fn size_hyper(value: Option<u64>) -> usize
     ensures text { result ≡ length (optional_text (to_be_bytes w64) value) }
-    ensures bound { result ≤ 12 }
+    ensures bound { (4 ≤ result) × (result ≤ 12) }
 {
     match value {
         None => 4,

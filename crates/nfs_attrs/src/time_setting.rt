@@ -66,7 +66,7 @@ pub fn write_time_setting(out: &mut Output, setting: TimeSetting)
 /// How many bytes the setting of a time has: 12 with a time of the client's, else 4.
 pub fn size_time_setting(setting: TimeSetting) -> usize
     ensures text { result ≡ length (time_setting_text setting) }
-    ensures bound { result ≤ 12 }
+    ensures bound { (4 ≤ result) × (result ≤ 12) }
 {
     match setting {
         TimeSetting::Leave | TimeSetting::ServerTime => 4,

@@ -54,7 +54,8 @@ pub fn write_wcc(out: &mut Output, wcc: &Wcc)
 
 /// How many bytes the attributes before and after an operation have: from 8 to 116.
 pub fn size_wcc(wcc: &Wcc) -> usize
-    ensures { result ≡ length (wcc_text wcc.now) }
+    ensures text { result ≡ length (wcc_text wcc.now) }
+    ensures bound { (8 ≤ result) × (result ≤ 116) }
 {
     size_pre_op_attr(wcc.before) + size_post_op_attr(wcc.after)
 }

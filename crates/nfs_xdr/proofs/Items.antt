@@ -374,3 +374,9 @@ are_numbers (n ∷ ns) each = record {
 pub boolean_written : (b : Bool) → IsBoolean b (to_be_bytes w32 (number_of b))
 boolean_written true = record { fits = omega arith; text_is = refl }
 boolean_written false = record { fits = omega arith; text_is = refl }
+
+pub spelled_at : (ns text : List ℕ) → AreItems (IsNumber w32) ns text → (i : ℕ) → i < length ns
+    → IsNumber w32 (get_or ns i 0) (to_be_bytes w32 (get_or ns i 0))
+spelled_at [] text are i below = absurd (omega (arith, below))
+spelled_at (n ∷ ns) text are zero below = record { fits = are.first.fits; text_is = refl }
+spelled_at (n ∷ ns) text are (suc i) below = spelled_at ns are.back are.second i (omega (arith, below))

@@ -1,5 +1,20 @@
-use Rattle.nfs_xdr.proofs.Writing.{appends_then}
+use Rattle.std.proofs.Common.{[], ◌∷◌, arith, subst}
+use Rattle.nfs_xdr.specs.Written.{Appends}
+use Rattle.nfs_xdr.proofs.Writing.{followed}
+use Rattle.nfs_xdr.proofs.Items.{spelled_at}
+use Rattle.nfs_attrs.proofs.Writes.{pre_attr_numbers}
 use Rattle.nfs_attrs.proofs.pre_attr.write_pre_attr.Goals as goal
 
 pub returns-clause-text : goal.returns-clause-text
-returns-clause-text c = appends_then _ _ _ _ _ c.u64.ensures.text (appends_then _ _ _ _ _ c.write_moment.ensures.text c.write_moment-2.ensures.text)
+returns-clause-text c =
+    subst (λ t. Appends t c.args.out.now c.numbers.new.self)
+    (pre_attr_numbers c.args.attributes.now _ _ c.halves-size_high.ensures.text)
+    c.numbers.ensures.text
+
+pub returns-clause-spelled : goal.returns-clause-spelled
+returns-clause-spelled c =
+    let a = c.args.attributes.now in
+    let halves = c.halves-size_high.result in
+    let word = spelled_at (halves.0 ∷ halves.1 ∷ a.mtime.seconds ∷ a.mtime.nanos ∷ a.ctime.seconds ∷ a.ctime.nanos ∷ []) _ c.numbers.ensures.spelled in
+    followed _ _ _ _ c.halves-size_high.ensures.spelled
+    (followed _ _ _ _ (followed _ _ _ _ (word 2 (omega arith)) (word 3 (omega arith))) (followed _ _ _ _ (word 4 (omega arith)) (word 5 (omega arith))))
