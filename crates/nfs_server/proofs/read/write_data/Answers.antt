@@ -13,6 +13,6 @@ returns c =
     (size_is tree file.attributes.fileid file.attributes c.requires.current.0 c.requires.regular)
     c.saturating_sub-left.ensures
     (c.min-len.ensures ∙ ap (min c.saturating_sub-left.result) (c.from.ensures ∙ c.min.ensures))
-    c.u32.ensures.text c.write_post_op_attr.ensures.text c.u32-2.ensures.text c.boolean.ensures c.u32-3.ensures.text
+    c.u32.ensures.text c.write_post_op_attr.ensures.text c.u32-2.ensures.text c.boolean.ensures.text c.u32-3.ensures.text
     (subst (λ bytes. Appends (take c.min-len.result (drop c.args.offset bytes)) c.u32-3.new.self c.write_bytes.new.out) (seen_bytes tree file c.requires.current) c.write_bytes.ensures)
     c.pad.ensures
