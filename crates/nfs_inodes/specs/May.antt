@@ -50,6 +50,13 @@ pub record MayWrite (t : Tree) (n offset count : ℕ) : Type 0 where
   pub at_volume : slice_get t.volumes file.volume ≡ Some volume
   pub room : 0 < count → bytes_of file.volume t.files + (offset + count - length (bytes_in file.kind)) ≤ volume.max_bytes
 
+-- so many bytes at an offset reach beyond the end of file n
+pub record Grows (t : Tree) (n offset count : ℕ) : Type 0 where
+  pub some : 0 < count
+  pub file : File
+  pub at_file : Lives t n file
+  pub beyond : length (bytes_in file.kind) < offset + count
+
 -- a volume more, of a path that no volume has
 pub record MayFound (t : Tree) (path : List ℕ) (max_files : ℕ) : Type 0 where
   pub few : length t.volumes < 64

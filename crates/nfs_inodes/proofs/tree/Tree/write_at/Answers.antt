@@ -2,6 +2,9 @@ use Rattle.std.proofs.Common.{length, sym, subst, ap, ◌∙◌}
 use Rattle.nfs_inodes.specs.Tree.{Tree}
 use Rattle.nfs_inodes.specs.Changes.{written}
 use Rattle.nfs_inodes.specs.May.{MayWrite}
+use Rattle.nfs_inodes.specs.Listing.{file_of}
+use Rattle.nfs_inodes.proofs.Shelves.{on_err}
+use Rattle.nfs_inodes.proofs.Views.{lives_there}
 use Rattle.nfs_inodes.proofs.Makings.{takes_bytes, room_to_grow, keeps_bytes, view_bytes, some_bytes}
 use Rattle.nfs_inodes.proofs.tree.Tree.write_at.Goals as goal
 
@@ -17,3 +20,13 @@ invariant_of-self-2 c = keeps_bytes c.self.inside.files c.self.inside.volumes.it
 pub returns-clause-ok : goal.returns-clause-ok
 returns-clause-ok c = view_bytes c.self.inside.files c.self.inside.volumes.items c.args.number.0 c.args.offset c.args.bytes.now c.self.invariant (subst (λ (t : Tree). MayWrite t c.args.number.0 c.args.offset (length c.args.bytes.now)) (sym c.self.view_is) c.requires) (some_bytes c.args.bytes.now c.if-is_empty.ensures) c.args.now c.in_ok-growth.growth c.write.new.files c.in_ok-growth.ensures.ok c.count.new.volumes.items c.count.ensures
     ∙ ap (λ (t : Tree). written t c.args.number.0 c.args.offset c.args.bytes.now c.args.now) c.self.view_is
+
+pub returns-in_err-growth-clause-full : goal.returns-in_err-growth-clause-full
+returns-in_err-growth-clause-full c =
+    let full = c.in_err-growth.ensures.full in
+    on_err c.from_residual.result (record {
+      some = some_bytes c.args.bytes.now c.if-is_empty.ensures;
+      file = file_of full.file.tag full.file.value;
+      at_file = lives_there c.self.inside.files c.self.inside.volumes.items c.args.self.now c.self.view_is c.args.number.0 full.file full.at_file;
+      beyond = full.beyond;
+    })
