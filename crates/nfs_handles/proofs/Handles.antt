@@ -7,7 +7,7 @@ use Rattle.std.proofs.lemmas.Bool.{eq-eqb, eqb-true, leb-true}
 use Rattle.std.proofs.lemmas.Map.Views.{IfSome-lookup_from_All}
 use Rattle.std.specs.Option.{IfSome}
 use Rattle.std.proofs.lemmas.Slice.Eq.{bytes_eq-Decides}
-use Rattle.nfs_handles.specs.Numbered.{Filed, Numbered, is_number, at, IsGiven, IsNumbered}
+use Rattle.nfs_handles.specs.Numbered.{Filed, Numbered, at, IsGiven, IsNumbered}
 use Rattle.nfs_handles.specs.Handles.{handle_text, handle_at, is_shaped, key_in, tag_in, number_in, live_with, reading, number}
 use Rattle.nfs_handles.specs.declared.number.Number.{Number}
 use Rattle.nfs_handles.specs.declared.reading.Reading.{Reading}
@@ -76,7 +76,7 @@ module _ {T : Type 0} (t : Numbered T) where
   pub live_reads : (n : ℕ) (file : Filed T) → IsNumbered t → at t n ≡ Some file → reading t (handle_text t.key file.tag n) ≡ Live (number n)
   live_reads n file h found =
       let given : IsGiven t.next n = live_is_given t n h (ap is_some found) in
-      let fits : file.tag < 2 ^ 32 = subst (λ o. IfSome o (λ (f : Filed T). f.tag < 2 ^ 32)) found (IfSome-lookup_from_All (λ (f : Filed T). f.tag < 2 ^ 32) (is_number n) t.files h.tags) in
+      let fits : file.tag < 2 ^ 32 = subst (λ o. IfSome o (λ (f : Filed T). f.tag < 2 ^ 32)) found (IfSome-lookup_from_All (λ (f : Filed T). f.tag < 2 ^ 32) (nat_eq n) t.files h.tags) in
       let whole : n < 2 ^ 64 = omega (arith, given.below, h.last) in
       let parts : AreParts (handle_text t.key file.tag n) t.key file.tag n = parts_are t.key file.tag n h.key_len fits whole in
       past_checks (handle_text t.key file.tag n) n parts.shaped parts.ours parts.named given

@@ -3,47 +3,45 @@ use Rattle.std.proofs.Common.{◌≡◌, ℕ, Bool, true, false, cond, List, [],
 use Rattle.std.specs.Ordering.{nat_cmp, eq_by_cmp}
 use Rattle.std.specs.Cmp.{IsEquivalence, unsigned_ties}
 use Rattle.std.specs.Map.{keys_of, lookup}
+use Rattle.std.specs.List.{IsDistinct}
 use Rattle.std.proofs.lemmas.Cmp.{nat_cmp_total, eq_by_cmp_equiv}
 use Rattle.std.proofs.lemmas.Bool.{eqb-true}
 use Rattle.std.proofs.lemmas.List.Elements.{All-tail, All-head}
 use Rattle.std.proofs.lemmas.Map.{lookup-set_value, lookup-remove_entry}
 use Rattle.std.proofs.lemmas.Map.Keys.{IsDistinct-from_sorted}
-use Rattle.nfs_handles.specs.Numbered.{Filed, Numbered, is_number, at, with_new, revalued, with_value, without, IsGiven, IsNumbered}
+use Rattle.nfs_handles.specs.Numbered.{Filed, Numbered, at, with_new, revalued, with_value, without, IsGiven, IsNumbered}
 use Rattle.nfs_handles.specs.Runs.{FilesAre}
 
-pub is_number_eq : (m n : ℕ) → is_number m n ≡ nat_eq m n
-is_number_eq m n = sym (unsigned_ties m n)
+one_number : (m x y : ℕ) → nat_eq m x ≡ true → nat_eq m y ≡ nat_eq x y
+one_number m x y e = ap (λ k. nat_eq k y) (eqb-true m x e)
 
-same_number : (m n : ℕ) → is_number m n ≡ true → m ≡ n
-same_number m n e = eqb-true m n (sym (is_number_eq m n) ∙ e)
+compared : nat_eq ≡ eq_by_cmp nat_cmp
+compared = λ i m n. unsigned_ties m n i
 
-one_number : (m x y : ℕ) → is_number m x ≡ true → is_number m y ≡ eq_by_cmp nat_cmp x y
-one_number m x y e = ap (λ k. is_number k y) (same_number m x e)
+numbers_equal : IsEquivalence nat_eq
+numbers_equal = subst IsEquivalence (sym compared) (eq_by_cmp_equiv nat_cmp_total)
 
-numbers_equal : IsEquivalence (eq_by_cmp nat_cmp)
-numbers_equal = eq_by_cmp_equiv nat_cmp_total
-
-turned : (m n : ℕ) → is_number m n ≡ is_number n m
-turned m n = numbers_equal.symm m n
+turned : (m n : ℕ) → nat_eq m n ≡ nat_eq n m
+turned = numbers_equal.symm
 
 module _ {X : Type 0} where
-  lookup_given : (P : ℕ → Type 0) (n : ℕ) (es : List (ℕ × X)) → All P (keys_of es) → IsSome (lookup (is_number n) es) → P n
+  lookup_given : (P : ℕ → Type 0) (n : ℕ) (es : List (ℕ × X)) → All P (keys_of es) → IsSome (lookup (nat_eq n) es) → P n
   lookup_given P n [] a some = cc
-  lookup_given P n (e ∷ es) a some = by (is_number n e.0) refl some (lookup_given P n es (All-tail P e.0 (keys_of es) a))
+  lookup_given P n (e ∷ es) a some = by (nat_eq n e.0) refl some (lookup_given P n es (All-tail P e.0 (keys_of es) a))
     where
-      by : (b : Bool) → is_number n e.0 ≡ b → IsSome (cond b (Some e.1) (lookup (is_number n) es)) → (IsSome (lookup (is_number n) es) → P n) → P n
-      by true is some rest = subst P (sym (same_number n e.0 is)) (All-head P e.0 (keys_of es) a)
+      by : (b : Bool) → nat_eq n e.0 ≡ b → IsSome (cond b (Some e.1) (lookup (nat_eq n) es)) → (IsSome (lookup (nat_eq n) es) → P n) → P n
+      by true is some rest = subst P (sym (eqb-true n e.0 is)) (All-head P e.0 (keys_of es) a)
       by false is some rest = rest some
 
-  lookup_last : (n : ℕ) (es : List (ℕ × X)) (m : ℕ) (x : X) → lookup (is_number n) (es ++ (m, x) ∷ []) ≡ cond (is_some (lookup (is_number n) es)) (lookup (is_number n) es) (cond (is_number n m) (Some x) None)
+  lookup_last : (n : ℕ) (es : List (ℕ × X)) (m : ℕ) (x : X) → lookup (nat_eq n) (es ++ (m, x) ∷ []) ≡ cond (is_some (lookup (nat_eq n) es)) (lookup (nat_eq n) es) (cond (nat_eq n m) (Some x) None)
   lookup_last n [] m x = refl
-  lookup_last n (e ∷ es) m x = by (is_number n e.0) (lookup_last n es m x)
+  lookup_last n (e ∷ es) m x = by (nat_eq n e.0) (lookup_last n es m x)
     where
       last : Option X
-      last = cond (is_number n m) (Some x) None
+      last = cond (nat_eq n m) (Some x) None
 
-      by : (b : Bool) → lookup (is_number n) (es ++ (m, x) ∷ []) ≡ cond (is_some (lookup (is_number n) es)) (lookup (is_number n) es) (cond (is_number n m) (Some x) None)
-          → cond b (Some e.1) (lookup (is_number n) (es ++ (m, x) ∷ [])) ≡ cond (is_some (cond b (Some e.1) (lookup (is_number n) es))) (cond b (Some e.1) (lookup (is_number n) es)) (cond (is_number n m) (Some x) None)
+      by : (b : Bool) → lookup (nat_eq n) (es ++ (m, x) ∷ []) ≡ cond (is_some (lookup (nat_eq n) es)) (lookup (nat_eq n) es) (cond (nat_eq n m) (Some x) None)
+          → cond b (Some e.1) (lookup (nat_eq n) (es ++ (m, x) ∷ [])) ≡ cond (is_some (cond b (Some e.1) (lookup (nat_eq n) es))) (cond b (Some e.1) (lookup (nat_eq n) es)) (cond (nat_eq n m) (Some x) None)
       by true h = refl
       by false h = h
 
@@ -68,12 +66,12 @@ module _ {T : Type 0} where
       old None = refl
       old (Some x) = refl
 
-      by : (b : Bool) → nat_eq t.next n ≡ b → cond (is_some (at t n)) (at t n) (cond (is_number n t.next) (Some file) None) ≡ cond b (Some file) (at t n)
+      by : (b : Bool) → nat_eq t.next n ≡ b → cond (is_some (at t n)) (at t n) (cond (nat_eq n t.next) (Some file) None) ≡ cond b (Some file) (at t n)
       by true e =
           let same : t.next ≡ n = eqb-true t.next n e in
           let none : at t n ≡ None = subst (λ k. at t k ≡ None) same (none_is_next t h) in
-          ap (λ o. cond (is_some o) o (cond (is_number n t.next) (Some file) None)) none ∙ ap (λ b. cond b (Some file) None) (turned n t.next ∙ is_number_eq t.next n ∙ e)
-      by false e = ap (λ b. cond (is_some (at t n)) (at t n) (cond b (Some file) None)) (turned n t.next ∙ is_number_eq t.next n ∙ e) ∙ old (at t n)
+          ap (λ o. cond (is_some o) o (cond (nat_eq n t.next) (Some file) None)) none ∙ ap (λ b. cond b (Some file) None) (turned n t.next ∙ e)
+      by false e = ap (λ b. cond (is_some (at t n)) (at t n) (cond b (Some file) None)) (turned n t.next ∙ e) ∙ old (at t n)
 
   pub at_value : (t : Numbered T) (m : ℕ) (v : T) (n : ℕ) → at (with_value t m v) n ≡ cond (nat_eq m n) (option_map (λ file. record { tag = file.tag; value = v }) (at t m)) (at t n)
   at_value t m v n = by (at t m) refl
@@ -85,13 +83,11 @@ module _ {T : Type 0} where
       by : (o : Option (Filed T)) → at t m ≡ o → at (revalued t m v o) n ≡ cond (nat_eq m n) (option_map (λ file. record { tag = file.tag; value = v }) o) (at t n)
       by None e = gone (nat_eq m n) refl e
       by (Some file) e =
-          lookup-set_value numbers_equal (is_number m) (one_number m) n (record { tag = file.tag; value = v }) t.files (ap is_some e)
-          ∙ ap (λ b. cond b (Some (record { tag = file.tag; value = v })) (at t n)) (is_number_eq m n)
+          lookup-set_value numbers_equal (nat_eq m) (one_number m) n (record { tag = file.tag; value = v }) t.files (ap is_some e)
 
   pub at_without : (t : Numbered T) (m n : ℕ) → IsNumbered t → at (without t m) n ≡ cond (nat_eq m n) None (at t n)
   at_without t m n h =
-      lookup-remove_entry numbers_equal (is_number m) (one_number m) n t.files (IsDistinct-from_sorted nat_cmp (keys_of t.files) h.rising)
-      ∙ ap (λ b. cond b None (at t n)) (is_number_eq m n)
+      lookup-remove_entry numbers_equal (nat_eq m) (one_number m) n t.files (subst (λ same. IsDistinct same (keys_of t.files)) (sym compared) (IsDistinct-from_sorted nat_cmp (keys_of t.files) h.rising))
 
 pub files_are : {T : Type 0} → FilesAre T
 files_are = record { put = at_new; changed = at_value; taken = at_without; given = live_is_given }

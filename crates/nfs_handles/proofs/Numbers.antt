@@ -1,5 +1,5 @@
 -- What holds of numbered files holds after each change.
-use Rattle.std.proofs.Common.{Less, Greater, ◌≡◌, ℕ, ◌+◌, ◌^◌, ◌<◌, Bool, true, false, cond, List, [], ◌∷◌, ◌++◌, Option, Some, None, All, IfSome, sym, subst, arith}
+use Rattle.std.proofs.Common.{Less, Greater, ◌≡◌, ℕ, ◌+◌, ◌^◌, ◌<◌, Bool, true, false, cond, List, [], ◌∷◌, ◌++◌, Option, Some, None, All, IfSome, nat_eq, sym, subst, arith}
 use Rattle.std.specs.Ordering.{nat_cmp}
 use Rattle.std.specs.Cmp.{nat_cmp_is}
 use Rattle.std.specs.Map.{keys_of, values_of, set_value, remove_entry}
@@ -8,7 +8,7 @@ use Rattle.std.proofs.lemmas.List.{map-append}
 use Rattle.std.proofs.lemmas.List.Elements.{All-push, All-weaker, All-tail, All-head, recursion_from_All, All-from_recursion}
 use Rattle.std.proofs.lemmas.Map.{keys-set_value}
 use Rattle.std.proofs.lemmas.Map.Views.{All-map-remove_entry, All-values-set_value, IfSome-lookup_from_All}
-use Rattle.nfs_handles.specs.Numbered.{Filed, Numbered, is_number, at, with_new, revalued, with_value, without, IsGiven, IsNumbered}
+use Rattle.nfs_handles.specs.Numbered.{Filed, Numbered, at, with_new, revalued, with_value, without, IsGiven, IsNumbered}
 
 pub less : (x y : ℕ) → x < y → nat_cmp x y ≡ Less
 less x y l = sym (nat_cmp_is x y Less l)
@@ -64,17 +64,17 @@ module _ {T : Type 0} where
       }
 
   pub numbered_value : (t : Numbered T) (n : ℕ) (v : T) → IsNumbered t → IsNumbered (with_value t n v)
-  numbered_value t n v h = by (at t n) (IfSome-lookup_from_All HasTag (is_number n) t.files h.tags)
+  numbered_value t n v h = by (at t n) (IfSome-lookup_from_All HasTag (nat_eq n) t.files h.tags)
     where
       by : (o : Option (Filed T)) → IfSome o HasTag → IsNumbered (revalued t n v o)
       by None fits = h
       by (Some file) fits =
           let new : Filed T = record { tag = file.tag; value = v } in
-          let keys : keys_of (set_value (is_number n) t.files new) ≡ keys_of t.files = keys-set_value (is_number n) t.files new in
+          let keys : keys_of (set_value (nat_eq n) t.files new) ≡ keys_of t.files = keys-set_value (nat_eq n) t.files new in
           record {
             rising = subst (IsStrictlySortedBy nat_cmp) (sym keys) h.rising;
             given = subst (All (IsGiven t.next)) (sym keys) h.given;
-            tags = All-values-set_value (is_number n) HasTag t.files new h.tags fits;
+            tags = All-values-set_value (nat_eq n) HasTag t.files new h.tags fits;
             some = h.some;
             last = h.last;
             key_len = h.key_len;
@@ -83,9 +83,9 @@ module _ {T : Type 0} where
 
   pub numbered_without : (t : Numbered T) (n : ℕ) → IsNumbered t → IsNumbered (without t n)
   numbered_without t n h = record {
-    rising = sorted_remove (is_number n) t.files h.rising;
-    given = All-map-remove_entry (is_number n) (λ (e : ℕ × Filed T). e.0) (IsGiven t.next) t.files h.given;
-    tags = All-map-remove_entry (is_number n) (λ (e : ℕ × Filed T). e.1) HasTag t.files h.tags;
+    rising = sorted_remove (nat_eq n) t.files h.rising;
+    given = All-map-remove_entry (nat_eq n) (λ (e : ℕ × Filed T). e.0) (IsGiven t.next) t.files h.given;
+    tags = All-map-remove_entry (nat_eq n) (λ (e : ℕ × Filed T). e.1) HasTag t.files h.tags;
     some = h.some;
     last = h.last;
     key_len = h.key_len;

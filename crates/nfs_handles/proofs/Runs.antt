@@ -1,5 +1,5 @@
 -- What runs keep.
-use Rattle.std.proofs.Common.{◌≡◌, ℕ, ◌-◌, ◌^◌, ◌<◌, ◌≤◌, ◌⊎◌, inl, inr, Bool, true, false, cond, List, [], ◌∷◌, Option, Some, None, Result, Ok, Err, IsSome, is_some, option_map, nat_eq, sym, ap, subst, refl, ◌∙◌, arith}
+use Rattle.std.proofs.Common.{◌≡◌, ℕ, ◌-◌, ◌^◌, ◌<◌, ◌≤◌, ◌⊎◌, inl, inr, Bool, true, false, cond, List, [], ◌∷◌, ◌++◌, Option, Some, None, Result, Ok, Err, IsSome, is_some, option_map, nat_eq, sym, ap, subst, refl, ◌∙◌, arith}
 use Rattle.std.proofs.lemmas.Bool.{eq-eqb, eqb-true}
 use Rattle.nfs_handles.specs.Numbered.{Filed, Numbered, at, tag_at, revalued, without, IsGiven, IsNumbered}
 use Rattle.nfs_handles.specs.Handles.{tag_in, live_with, reading, number}
@@ -92,6 +92,10 @@ module _ {T : Type 0} where
 
   -- ---- a run
 
+  run_joined : (t u w : Numbered T) (first later : List (Change T)) → Runs t first u → Runs u later w → Runs t (first ++ later) w
+  run_joined t u w [] later r s = subst (λ v. Runs v later w) r s
+  run_joined t u w (change ∷ first) later r s = (r.0, run_joined (changed t change) u w first later r.1 s)
+
   run_numbered : (t u : Numbered T) (changes : List (Change T)) → IsNumbered t → Runs t changes u → IsNumbered u
   run_numbered t u [] h r = subst IsNumbered (sym r) h
   run_numbered t u (change ∷ later) h r = run_numbered (changed t change) u later (numbered_changed t change h r.0) r.1
@@ -155,7 +159,7 @@ pub calls_go : {T : Type 0} → CallsGo T
 calls_go = record { put = puts_go; changed = λ old n v. (Changed n v, tt, refl); taken = takes_go }
 
 pub runs_keep : {T : Type 0} → RunsKeep T
-runs_keep = record { numbered = run_numbered; key = run_key; next = run_next }
+runs_keep = record { joined = run_joined; numbered = run_numbered; key = run_key; next = run_next }
 
 pub numbers_are_for_good : {T : Type 0} → NumbersAreForGood T
 numbers_are_for_good = record { gone = run_gone; tag = run_lives; handle = run_handle }

@@ -2,7 +2,8 @@
 use Rattle.std.proofs.Common.{◌≡◌, ℕ, ◌+◌, ◌-◌, ◌^◌, ◌<◌, Bool, true, false, cond, List, [], ◌∷◌, ◌++◌, map, length, get_or, append_assoc, w64, Option, Some, None, All, IsSome, IfNone, is_some, option_map, nat_eq, sym, ap, subst, refl, ◌∙◌, arith}
 use Rattle.std.specs.Int.{to_be_bytes}
 use Rattle.std.specs.Ordering.{nat_cmp, match_ordering}
-use Rattle.std.specs.BTreeMap.{insert_entry}
+use Rattle.std.specs.BTreeMap.{insert_entry, is_at}
+use Rattle.std.specs.Cmp.{unsigned_ties}
 use Rattle.std.specs.Map.{keys_of, values_of, lookup, set_value, remove_entry}
 use Rattle.std.proofs.lemmas.List.{map-append}
 use Rattle.std.proofs.lemmas.List.Elements.{All-tail, All-head, All-map}
@@ -10,7 +11,7 @@ use Rattle.std.proofs.lemmas.Map.Made.{lookup-map_values, keys_of-map_values}
 use Rattle.std.proofs.lemmas.Map.{keys-set_value}
 use Rattle.std.specs.List.Sorted.{IsStrictlySortedBy}
 use Rattle.std.proofs.lemmas.Bool.{eq-eqb, eqb-true}
-use Rattle.nfs_handles.specs.Numbered.{Filed, Numbered, is_number, at, value_at, with_new, revalued, with_value, without, IsGiven, IsNumbered}
+use Rattle.nfs_handles.specs.Numbered.{Filed, Numbered, at, value_at, with_new, revalued, with_value, without, IsGiven, IsNumbered}
 use Rattle.nfs_handles.specs.Handles.{handle_text, handle_at, live_with, number}
 use Rattle.nfs_handles.specs.declared.reading.Reading.{Reading}
 use Rattle.nfs_handles.specs.declared.reading.Reading.TheVariants.{Live, Stale}
@@ -31,6 +32,13 @@ insert_last [] n v a = refl
 insert_last (e ∷ es) n v a =
     subst (λ o. match_ordering o ((n, v) ∷ e ∷ es) ((e.0, v) ∷ es) (e ∷ insert_entry nat_cmp es n v) ≡ e ∷ (es ++ (n, v) ∷ [])) (sym (greater n e.0 (All-head (λ k. k < n) e.0 (keys_of es) a)))
     (ap (λ l. e ∷ l) (insert_last es n v (All-tail (λ k. k < n) e.0 (keys_of es) a)))
+
+-- how the map finds a number
+abbrev pub searched : ℕ → ℕ → Bool
+searched n = is_at (nat_cmp n)
+
+searched_is : (n : ℕ) → nat_eq n ≡ searched n
+searched_is n = λ i m. unsigned_ties n m i
 
 eight : (key rest : List ℕ) → length key ≡ 8 → get_or key 0 0 ∷ get_or key 1 0 ∷ get_or key 2 0 ∷ get_or key 3 0 ∷ get_or key 4 0 ∷ get_or key 5 0 ∷ get_or key 6 0 ∷ get_or key 7 0 ∷ rest ≡ key ++ rest
 eight (a ∷ b ∷ c ∷ d ∷ e ∷ f ∷ g ∷ h ∷ []) rest l = refl
@@ -119,39 +127,39 @@ module _ {T : Type 0} where
       by false h = ap (λ l. entry e ∷ l) h
 
   module _ (es : List (ℕ × T)) (next : ℕ) (key : List ℕ) (n : ℕ) where
-    at_untagged : at (untagged es next key) n ≡ option_map filed (lookup (is_number n) es)
-    at_untagged = lookup-map_values filed (is_number n) es
+    at_untagged : at (untagged es next key) n ≡ option_map filed (lookup (searched n) es)
+    at_untagged = ap (λ test. lookup test (map entry es)) (searched_is n) ∙ lookup-map_values filed (searched n) es
 
-    pub value_untagged : value_at (untagged es next key) n ≡ lookup (is_number n) es
-    value_untagged = ap (option_map (λ (file : Filed T). file.value)) at_untagged ∙ back (lookup (is_number n) es)
+    pub value_untagged : value_at (untagged es next key) n ≡ lookup (searched n) es
+    value_untagged = ap (option_map (λ (file : Filed T). file.value)) at_untagged ∙ back (lookup (searched n) es)
       where
         back : (o : Option T) → option_map (λ (file : Filed T). file.value) (option_map filed o) ≡ o
         back None = refl
         back (Some v) = refl
 
-    pub without_untagged : (fs : List (ℕ × T)) → fs ≡ remove_entry (is_number n) es → untagged fs next key ≡ without (untagged es next key) n
-    without_untagged fs e = ap (numbered next key) (ap (map entry) e ∙ map_remove (is_number n) es)
+    pub without_untagged : (fs : List (ℕ × T)) → fs ≡ remove_entry (searched n) es → untagged fs next key ≡ without (untagged es next key) n
+    without_untagged fs e = ap (numbered next key) (ap (map entry) e ∙ map_remove (searched n) es ∙ ap (λ test. remove_entry test (map entry es)) (sym (searched_is n)))
 
-    pub numbered_taken : (fs : List (ℕ × T)) → fs ≡ remove_entry (is_number n) es → IsNumbered (untagged es next key) → IsNumbered (untagged fs next key)
+    pub numbered_taken : (fs : List (ℕ × T)) → fs ≡ remove_entry (searched n) es → IsNumbered (untagged es next key) → IsNumbered (untagged fs next key)
     numbered_taken fs e h = subst IsNumbered (sym (without_untagged fs e)) (numbered_without (untagged es next key) n h)
 
-    pub takes_untagged : (fs : List (ℕ × T)) (r : Option T) → r ≡ lookup (is_number n) es → fs ≡ remove_entry (is_number n) es → IfNone r (fs ≡ es) → Takes (untagged es next key) n r (untagged fs next key)
+    pub takes_untagged : (fs : List (ℕ × T)) (r : Option T) → r ≡ lookup (searched n) es → fs ≡ remove_entry (searched n) es → IfNone r (fs ≡ es) → Takes (untagged es next key) n r (untagged fs next key)
     takes_untagged fs None found e same = (at_untagged ∙ ap (option_map filed) (sym found), ap (λ l. numbered next key (map entry l)) same)
     takes_untagged fs (Some v) found e same = (value_untagged ∙ sym found, without_untagged fs e)
 
     -- where there is none, nothing changes
-    pub value_lent : (fs : List (ℕ × T)) (w : T) → fs ≡ set_value (is_number n) es w → untagged fs next key ≡ with_value (untagged es next key) n w
-    value_lent fs w e = ap (numbered next key) (ap (map entry) e ∙ map_set (is_number n) es w) ∙ by (lookup (is_number n) es) refl
+    pub value_lent : (fs : List (ℕ × T)) (w : T) → fs ≡ set_value (searched n) es w → untagged fs next key ≡ with_value (untagged es next key) n w
+    value_lent fs w e = ap (numbered next key) (ap (map entry) e ∙ map_set (searched n) es w) ∙ by (lookup (searched n) es) refl
       where
-        none : lookup (is_number n) es ≡ None → set_value (is_number n) (map entry es) (filed w) ≡ map entry es
-        none e = sym (map_set (is_number n) es w) ∙ ap (map entry) (set_none (is_number n) es w e)
+        none : lookup (searched n) es ≡ None → set_value (searched n) (map entry es) (filed w) ≡ map entry es
+        none e = sym (map_set (searched n) es w) ∙ ap (map entry) (set_none (searched n) es w e)
 
-        by : (o : Option T) → lookup (is_number n) es ≡ o → numbered next key (set_value (is_number n) (map entry es) (filed w)) ≡ with_value (untagged es next key) n w
+        by : (o : Option T) → lookup (searched n) es ≡ o → numbered next key (set_value (searched n) (map entry es) (filed w)) ≡ with_value (untagged es next key) n w
         by None e = ap (numbered next key) (none e) ∙ ap (revalued (untagged es next key) n w) (sym (at_untagged ∙ ap (option_map filed) e))
-        by (Some v) e = ap (revalued (untagged es next key) n w) (sym (at_untagged ∙ ap (option_map filed) e))
+        by (Some v) e = ap (λ test. numbered next key (set_value test (map entry es) (filed w))) (sym (searched_is n)) ∙ ap (revalued (untagged es next key) n w) (sym (at_untagged ∙ ap (option_map filed) e))
 
     pub handle_untagged : (text : List ℕ) → IsSome (at (untagged es next key) n) → text ≡ handle_text key 0 n → handle_at (untagged es next key) n ≡ Some text
-    handle_untagged text live e = by (lookup (is_number n) es) (subst IsSome at_untagged live) (ap (option_map (λ (file : Filed T). handle_text key file.tag n)) at_untagged)
+    handle_untagged text live e = by (lookup (searched n) es) (subst IsSome at_untagged live) (ap (option_map (λ (file : Filed T). handle_text key file.tag n)) at_untagged)
       where
         by : (o : Option T) → IsSome (option_map filed o) → handle_at (untagged es next key) n ≡ option_map (λ (file : Filed T). handle_text key file.tag n) (option_map filed o) → handle_at (untagged es next key) n ≡ Some text
         by None some h = cc
@@ -160,23 +168,23 @@ module _ {T : Type 0} where
     abbrev kept : ℕ → Option T → Reading
     kept tag o = cond (is_some o) (cond (nat_eq tag 0) (Live (number n)) Stale) Stale
 
-    live_untagged : (tag : ℕ) → live_with tag n (at (untagged es next key) n) ≡ kept tag (lookup (is_number n) es)
-    live_untagged tag = ap (live_with tag n) at_untagged ∙ by (lookup (is_number n) es)
+    live_untagged : (tag : ℕ) → live_with tag n (at (untagged es next key) n) ≡ kept tag (lookup (searched n) es)
+    live_untagged tag = ap (live_with tag n) at_untagged ∙ by (lookup (searched n) es)
       where
         by : (o : Option T) → live_with tag n (option_map filed o) ≡ kept tag o
         by None = refl
         by (Some v) = refl
 
     pub another_tag : (tag : ℕ) → (tag ≡ 0 → ⊥) → Stale ≡ live_with tag n (at (untagged es next key) n)
-    another_tag tag other = sym (live_untagged tag ∙ by (is_some (lookup (is_number n) es)) (nat_eq tag 0) (no_eq tag 0 other))
+    another_tag tag other = sym (live_untagged tag ∙ by (is_some (lookup (searched n) es)) (nat_eq tag 0) (no_eq tag 0 other))
       where
         by : (b c : Bool) → c ≡ false → cond b (cond c (Live (number n)) Stale) Stale ≡ Stale
         by true true e = cc
         by true false e = refl
         by false c e = refl
 
-    pub living : (tag : ℕ) → tag ≡ 0 → is_some (lookup (is_number n) es) ≡ true → Live (number n) ≡ live_with tag n (at (untagged es next key) n)
+    pub living : (tag : ℕ) → tag ≡ 0 → is_some (lookup (searched n) es) ≡ true → Live (number n) ≡ live_with tag n (at (untagged es next key) n)
     living tag none some = sym (live_untagged tag ∙ ap (λ b. cond b (cond (nat_eq tag 0) (Live (number n)) Stale) Stale) some ∙ ap (λ b. cond b (Live (number n)) Stale) (eq-eqb tag 0 none))
 
-    pub gone : (tag : ℕ) → is_some (lookup (is_number n) es) ≡ false → Stale ≡ live_with tag n (at (untagged es next key) n)
+    pub gone : (tag : ℕ) → is_some (lookup (searched n) es) ≡ false → Stale ≡ live_with tag n (at (untagged es next key) n)
     gone tag none = sym (live_untagged tag ∙ ap (λ b. cond b (cond (nat_eq tag 0) (Live (number n)) Stale) Stale) none)

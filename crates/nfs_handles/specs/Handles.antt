@@ -6,7 +6,7 @@ use Rattle.nfs_handles.specs.declared.number.Number.{Number}
 use Rattle.nfs_handles.specs.declared.reading.Reading.{Reading}
 use Rattle.nfs_handles.specs.declared.reading.Reading.TheVariants.{Live, Stale, Bad}
 use Rattle.nfs_handles.specs.declared.reading.NoFile.{NoFile}
-use Rattle.nfs_handles.specs.declared.reading.NoFile.TheVariants as without
+use Rattle.nfs_handles.specs.declared.reading.NoFile.TheVariants as no_file
 
 -- the bytes `NFS3`
 abbrev pub magic : List ℕ
@@ -53,5 +53,5 @@ reading t bytes =
 
 -- what a handle reads as that names no file
 abbrev pub reading_without : NoFile → Reading
-reading_without without.Stale = Stale
-reading_without without.Bad = Bad
+reading_without no_file.Stale = Stale
+reading_without no_file.Bad = Bad

@@ -1,7 +1,6 @@
 -- Files that each have a number of their own.
-use Rattle.std.specs.Prelude.{◌≡◌, ℕ, ◌+◌, ◌^◌, ◌<◌, ◌≤◌, Bool, List, [], ◌∷◌, ◌++◌, length, All, Option, Some, None, option_map, slice_index}
+use Rattle.std.specs.Prelude.{◌≡◌, ℕ, ◌+◌, ◌^◌, ◌<◌, ◌≤◌, List, [], ◌∷◌, ◌++◌, length, All, Option, Some, None, option_map, nat_eq, slice_index}
 use Rattle.std.specs.Ordering.{nat_cmp}
-use Rattle.std.specs.BTreeMap.{is_at}
 use Rattle.std.specs.Map.{keys_of, values_of, lookup, set_value, remove_entry}
 use Rattle.std.specs.List.Sorted.{IsStrictlySortedBy}
 
@@ -16,14 +15,10 @@ pub record Numbered (T : Type 0) : Type 0 where
   pub next : ℕ
   pub key : List ℕ
 
--- whether a number is n
-abbrev pub is_number : ℕ → ℕ → Bool
-is_number n = is_at (nat_cmp n)
-
 module _ {T : Type 0} where
   -- the file that lives at a number
   abbrev pub at : Numbered T → ℕ → Option (Filed T)
-  at t n = lookup (is_number n) t.files
+  at t n = lookup (nat_eq n) t.files
 
   -- its value, and its tag
   abbrev pub value_at : Numbered T → ℕ → Option T
@@ -43,14 +38,14 @@ module _ {T : Type 0} where
   -- with a value for the file that lives at n, if one does: its tag stays
   abbrev pub revalued : Numbered T → ℕ → T → Option (Filed T) → Numbered T
   revalued t n v None = t
-  revalued t n v (Some file) = record { files = set_value (is_number n) t.files (record { tag = file.tag; value = v }); next = t.next; key = t.key }
+  revalued t n v (Some file) = record { files = set_value (nat_eq n) t.files (record { tag = file.tag; value = v }); next = t.next; key = t.key }
 
   abbrev pub with_value : Numbered T → ℕ → T → Numbered T
   with_value t n v = revalued t n v (at t n)
 
   -- without the file that lives at n, if one does
   abbrev pub without : Numbered T → ℕ → Numbered T
-  without t n = record { files = remove_entry (is_number n) t.files; next = t.next; key = t.key }
+  without t n = record { files = remove_entry (nat_eq n) t.files; next = t.next; key = t.key }
 
 -- a number that was given: 1 or above, and below the next
 pub record IsGiven (next n : ℕ) : Type 0 where

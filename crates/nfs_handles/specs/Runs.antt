@@ -1,5 +1,5 @@
 -- Numbered files change by change, and what holds all the way.
-use Rattle.std.specs.Prelude.{◌≡◌, ℕ, ◌-◌, ◌^◌, ◌<◌, ◌≤◌, ◌≢◌, List, [], ◌∷◌, Option, Some, None, Result, IsSome, is_some, option_map, if◌then◌else◌, nat_eq}
+use Rattle.std.specs.Prelude.{◌≡◌, ℕ, ◌-◌, ◌^◌, ◌<◌, ◌≤◌, ◌≢◌, List, [], ◌∷◌, ◌++◌, Option, Some, None, Result, IsSome, is_some, option_map, if◌then◌else◌, nat_eq}
 use Rattle.nfs_handles.specs.Numbered.{Numbered, at, tag_at, with_new, with_value, without, IsGiven, IsNumbered}
 use Rattle.nfs_handles.specs.Handles.{handle_at, reading, number}
 use Rattle.nfs_handles.specs.Changes.{Puts, Takes}
@@ -55,8 +55,9 @@ pub record HandlesNameOne (T : Type 0) : Type 0 where
   pub read : (t : Numbered T) (n : ℕ) (handle : List ℕ) → IsNumbered t → handle_at t n ≡ Some handle → reading t handle ≡ Live (number n)
   pub once : (t : Numbered T) (m n : ℕ) (handle : List ℕ) → IsNumbered t → handle_at t m ≡ Some handle → handle_at t n ≡ Some handle → m ≡ n
 
--- Through each run: what holds of numbered files holds after it; the key stays, and the next number never falls.
+-- Runs, one after another, are a run. Through each: what holds of numbered files holds after it; the key stays, and the next number never falls.
 pub record RunsKeep (T : Type 0) : Type 0 where
+  pub joined : (t u w : Numbered T) (first later : List (Change T)) → Runs t first u → Runs u later w → Runs t (first ++ later) w
   pub numbered : (t u : Numbered T) (changes : List (Change T)) → IsNumbered t → Runs t changes u → IsNumbered u
   pub key : (t u : Numbered T) (changes : List (Change T)) → Runs t changes u → u.key ≡ t.key
   pub next : (t u : Numbered T) (changes : List (Change T)) → Runs t changes u → t.next ≤ u.next

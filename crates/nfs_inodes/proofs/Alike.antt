@@ -6,11 +6,15 @@ use Rattle.std.proofs.lemmas.List.Sums.{sum_by-cons}
 use Rattle.nfs_inodes.specs.Tree.{Tree, File, Entry, Volume, at, with_at, on_some, one_when, entries_in, bytes_in, is_directory, parent_in, names_in, names_of, names_directory, subdirectories, nlink, bytes_for, one_for, bytes_of, files_of}
 use Rattle.nfs_inodes.specs.Law.{LawBut, IsSound, AreVolumes, IsRoot, AreRising, Lives, climb, parent_of}
 use Rattle.nfs_inodes.specs.Changes.{changed}
+use Rattle.nfs_inodes.specs.Reading.{numbered}
+use Rattle.nfs_handles.specs.Numbered.{IsNumbered}
+use Rattle.nfs_inodes.proofs.Numbers.{numbers_changed}
 use Rattle.nfs_inodes.proofs.Lists.{by_test, by_number, if_true, if_false, same_some, not_both, none_from}
 use Rattle.nfs_inodes.proofs.Maps.{at_with_same, at_with_other, rising_with, sum_with, with_back}
 
 -- two files with the same place in the tree, whatever their entries
 pub record Placed (f g : File) : Type 0 where
+  pub tag : g.tag ≡ f.tag
   pub volume : g.volume ≡ f.volume
   pub directory : is_directory g.kind ≡ is_directory f.kind
   pub parent : parent_in g.kind ≡ parent_in f.kind
@@ -21,6 +25,7 @@ pub record Alike (f g : File) : Type 0 where
   pub entries : entries_in g.kind ≡ entries_in f.kind
 
 pub record AreAlike (old new : Tree) : Type 0 where
+  pub numbers : IsNumbered (numbered new)
   pub rising : AreRising 0 new.files new.next
   pub volumes : new.volumes ≡ old.volumes
   pub back : (m : ℕ) (h : File) → Lives new m h → (f : File) × Lives old m f × Alike f h
@@ -60,6 +65,7 @@ not_root old new n same free r = free (subst (λ vs. IsRoot vs n) (sym same) r)
 
 pub law_alike : (x : ℕ) (old new : Tree) → LawBut x old → AreAlike old new → ((m : ℕ) (h : File) → Lives new m h → IsSound h) → ((place : ℕ) (v : Volume) → slice_get new.volumes place ≡ Some v → bytes_of place new.files ≤ v.max_bytes) → LawBut x new
 law_alike x old new law like sound bytes = record {
+  numbers = like.numbers;
   rising = like.rising;
   sound = sound;
   placed = λ n h e. let b = like.back n h e in let l = law.placed n b.0 b.1 in
@@ -98,7 +104,7 @@ law_alike x old new law like sound bytes = record {
 }
 
 pub placed_itself : (f : File) → Placed f f
-placed_itself f = record { volume = refl; directory = refl; parent = refl }
+placed_itself f = record { tag = refl; volume = refl; directory = refl; parent = refl }
 
 pub alike_itself : (f : File) → Alike f f
 alike_itself f = record { placed = placed_itself f; entries = refl }
@@ -123,8 +129,9 @@ one_for_same place f g e = ap (λ k. one_when (nat_eq k place)) e
 pub count_changed : (t : Tree) (n : ℕ) (f g : File) → Lives t n f → g.volume ≡ f.volume → (place : ℕ) → files_of place (changed t n g).files ≡ files_of place t.files
 count_changed t n f g at_n same place = let s = sum_with (one_for place) n f g t.files at_n in let e = one_for_same place f g same in omega (arith, s, e)
 
-pub one_alike : (t : Tree) (n : ℕ) (f g : File) → AreRising 0 t.files t.next → Lives t n f → Alike f g → AreAlike t (changed t n g)
-one_alike t n f g rising at_n like = record {
+pub one_alike : (t : Tree) (n : ℕ) (f g : File) → AreRising 0 t.files t.next → IsNumbered (numbered t) → Lives t n f → Alike f g → AreAlike t (changed t n g)
+one_alike t n f g rising numbers at_n like = record {
+  numbers = numbers_changed t n f g at_n like.placed.tag numbers;
   rising = rising_with 0 t.next n t.files g rising;
   volumes = refl;
   back = λ m h e. with_back n m f g h t.files at_n e
@@ -163,7 +170,7 @@ pub record HasRoom (t : Tree) (f g : File) : Type 0 where
   pub room : bytes_of f.volume t.files + length (bytes_in g.kind) ≤ volume.max_bytes + length (bytes_in f.kind)
 
 pub law_changed : (x : ℕ) (t : Tree) (n : ℕ) (f g : File) → LawBut x t → Lives t n f → Alike f g → IsSound g → HasRoom t f g → LawBut x (changed t n g)
-law_changed x t n f g law at_n like sound has = law_alike x t (changed t n g) law (one_alike t n f g law.rising at_n like)
+law_changed x t n f g law at_n like sound has = law_alike x t (changed t n g) law (one_alike t n f g law.rising law.numbers at_n like)
     (λ m h e. with_back n m f g h t.files at_n e (λ s is. subst IsSound is sound) (λ o was. law.sound m h was))
     (λ place v e. let told = bytes_changed t n f g at_n like.placed.volume place in by_number f.volume place
     (λ s. let same : has.volume ≡ v = same_some (sym has.at_volume ∙ ap (slice_get t.volumes) s ∙ e) in

@@ -1,6 +1,6 @@
 -- The law after a new file.
 use Rattle.std.proofs.Common.{inl, inr, ◌≡◌, ◌≢◌, ℕ, zero, suc, ◌+◌, ◌<◌, ◌≤◌, Bool, true, false, List, [], ◌∷◌, ◌++◌, sum_by, Some, None, refl, sym, ap, subst, ◌∙◌, arith, length-append}
-use Rattle.std.specs.Prelude.{Contains, All, slice_get, length, nat_eq, if◌then◌else◌}
+use Rattle.std.specs.Prelude.{Contains, All, slice_get, length, nat_eq, ◌-◌, ◌^◌, if◌then◌else◌}
 use Rattle.std.proofs.lemmas.Option.{slice_get_within}
 use Rattle.std.proofs.lemmas.Bool.{eqb-true, eq-eqb}
 use Rattle.std.proofs.lemmas.List.Sums.{sum_by-cons}
@@ -10,6 +10,7 @@ use Rattle.nfs_inodes.specs.Tree.{Tree, File, Entry, Volume, at, on_some, one_wh
 use Rattle.nfs_inodes.specs.Law.{Law, LawBut, IsSound, IsRoot, Lives, LivesAsDirectory, climb, parent_of}
 use Rattle.nfs_inodes.specs.Changes.{born, founded}
 use Rattle.nfs_inodes.proofs.Lists.{by_test, by_number, same_some, not_in_empty, get_push, get_push_old, get_push_new}
+use Rattle.nfs_inodes.proofs.Numbers.{numbers_born}
 use Rattle.nfs_inodes.proofs.Maps.{at_push_same, at_push_other, at_next, rising_push, rising_bounds, sum_push, sum_zero, push_back}
 use Rattle.nfs_inodes.proofs.Alike.{bytes_here, bytes_elsewhere, nlink_by}
 
@@ -87,6 +88,8 @@ entries_born t f law empty d h e at_d in_h = push_back t.next d f h t.files (nex
 
 -- what a new file that isn't a root needs
 pub record MayBeBorn (t : Tree) (f : File) : Type 0 where
+  pub tag : f.tag < 2 ^ 32
+  pub number : t.next < 2 ^ 64 - 1
   pub sound : IsSound f
   pub empty : entries_in f.kind ≡ []
   pub parent : is_directory f.kind ≡ true → (d : File) × LivesAsDirectory t (parent_in f.kind) d × (d.volume ≡ f.volume)
@@ -112,6 +115,7 @@ law_born t f law may =
     let free = next_free t law in
     let names = names_born t f may.empty in
     record {
+      numbers = numbers_born t f law.numbers may.tag may.number;
       rising = rising_push 0 t.next t.files f law.rising;
       sound = λ n h e. push_back t.next n f h t.files free e (λ s is. subst IsSound is may.sound) (λ o was. law.sound n h was);
       placed = λ n h e. push_back t.next n f h t.files free e
@@ -165,6 +169,8 @@ law_born t f law may =
 
 -- what a new volume and its root need
 pub record MayBeFounded (t : Tree) (v : Volume) (f : File) : Type 0 where
+  pub tag : f.tag < 2 ^ 32
+  pub number : t.next < 2 ^ 64 - 1
   pub few : length t.volumes < 64
   pub path : length v.path ≤ 255
   pub fresh : All (λ w. w.path ≢ v.path) t.volumes
@@ -198,6 +204,7 @@ law_founded t v f law may =
     let its_volume : (n : ℕ) (h : File) → f ≡ h → slice_get (t.volumes ++ v ∷ []) h.volume ≡ Some v = λ n h is. ap (slice_get (t.volumes ++ v ∷ [])) (ap (λ (k : File). k.volume) (sym is) ∙ may.volume) ∙ get_push_new t.volumes v in
     let home : (n : ℕ) (h : File) → n ≡ t.next → f ≡ h → parent_in h.kind ≡ n = λ n h s is. ap (λ (k : File). parent_in k.kind) (sym is) ∙ may.parent ∙ sym s in
     record {
+      numbers = numbers_born t f law.numbers may.tag may.number;
       rising = rising_push 0 t.next t.files f law.rising;
       sound = λ n h e. push_back t.next n f h t.files free e (λ s is. subst IsSound is may.sound) (λ o was. law.sound n h was);
       placed = λ n h e. push_back t.next n f h t.files free e

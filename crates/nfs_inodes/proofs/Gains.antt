@@ -9,12 +9,16 @@ use Rattle.nfs_attrs.specs.declared.moment.Moment.{Moment}
 use Rattle.nfs_inodes.specs.Tree.{Tree, File, Kind, Regular, Directory, Link, Entry, Volume, at, with_at, on_some, one_when, entries_in, bytes_in, is_directory, parent_in, next_cookie_in, names_in, names_of, names_directory, subdirectories, nlink, bytes_of, files_of}
 use Rattle.nfs_inodes.specs.Law.{Law, LawBut, IsSound, AreVolumes, IsName, IsRoot, AreRising, Lives, LivesAsDirectory, parent_of}
 use Rattle.nfs_inodes.specs.Changes.{changed, entered, with_entry, gained}
+use Rattle.nfs_inodes.specs.Reading.{numbered}
+use Rattle.nfs_handles.specs.Numbered.{IsNumbered}
+use Rattle.nfs_inodes.proofs.Numbers.{numbers_changed}
 use Rattle.nfs_inodes.proofs.Lists.{by_test, by_number, if_true, if_false, same_some, not_both, none_from}
 use Rattle.nfs_inodes.proofs.Maps.{at_with_same, at_with_other, rising_with, sum_with, with_back}
 use Rattle.nfs_inodes.proofs.Alike.{Placed, placed_itself, climb_alike, not_root, subdirectories_same, parent_changed, directory_changed, count_changed, bytes_changed}
 
 -- the new tree has one entry more, in directory d
 pub record HasMore (d : ℕ) (new_entry : Entry) (old new : Tree) : Type 0 where
+  pub numbers : IsNumbered (numbered old) → IsNumbered (numbered new)
   pub rising : AreRising 0 new.files new.next
   pub volumes : new.volumes ≡ old.volumes
   pub back : (m : ℕ) (h : File) → Lives new m h → (f : File) × Lives old m f × Placed f h × ((e : Entry) → Contains (entries_in h.kind) e → Contains (entries_in f.kind) e ⊎ ((m ≡ d) × (new_entry ≡ e)))
@@ -54,6 +58,7 @@ pub law_more : (x d n : ℕ) (name : List ℕ) (cookie : ℕ) (old new : Tree) �
 law_more x d n name cookie old new law more may fits =
     let e0 : Entry = record { cookie = cookie; name = name; number = n } in
     record {
+      numbers = more.numbers law.numbers;
       rising = more.rising;
       sound = fits.sound;
       placed = λ m h e. let b = more.back m h e in let l = law.placed m b.0 b.1 in
@@ -127,9 +132,9 @@ pub entered_placed : (f : File) (name : List ℕ) (n : ℕ) (now : Moment) → P
 entered_placed f name n now = by_kind f.kind
   where
     by_kind : (k : Kind) → Placed (record f { kind = k }) (entered (record f { kind = k }) name n now)
-    by_kind (Regular bytes) = record { volume = refl; directory = refl; parent = refl }
-    by_kind (Directory parent next entries) = record { volume = refl; directory = refl; parent = refl }
-    by_kind (Link path) = record { volume = refl; directory = refl; parent = refl }
+    by_kind (Regular bytes) = record { tag = refl; volume = refl; directory = refl; parent = refl }
+    by_kind (Directory parent next entries) = record { tag = refl; volume = refl; directory = refl; parent = refl }
+    by_kind (Link path) = record { tag = refl; volume = refl; directory = refl; parent = refl }
 
 pub entered_entries : (k : Kind) (name : List ℕ) (n : ℕ) → is_directory k ≡ true → entries_in (with_entry k name n) ≡ entries_in k ++ record { cookie = next_cookie_in k; name = name; number = n } ∷ []
 entered_entries (Regular bytes) name n e = cc
@@ -171,6 +176,7 @@ one_more t d n now name f rising at_d =
     let placed : Placed f g = entered_placed f name n now in
     let keeps : (e : Entry) → Contains (entries_in f.kind) e → Contains (entries_in g.kind) e = λ e c. subst (λ es. Contains es e) (sym more) (Contains-append_left (entries_in f.kind) (e0 ∷ []) e c) in
     record {
+      numbers = numbers_changed t d f g at_d.0 placed.tag;
       rising = rising_with 0 t.next d t.files g rising;
       volumes = refl;
       back = λ m h e. with_back d m f g h t.files at_d.0 e

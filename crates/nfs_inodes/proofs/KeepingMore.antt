@@ -84,7 +84,7 @@ module _ (k : Kept) (n d : ℕ) (name : List ℕ) (now : Moment) (f g p w : Held
   links_linked : (m : ℕ) (h : Held) → at m (with_at d w (with_at n g k.files)) ≡ Some h → h.nlink ≡ nlink (changed u d (entered p.file name n now)).files m h.file
   links_linked m h e =
       let after : List (ℕ × File) = (changed u d (entered p.file name n now)).files in
-      let like = one_alike (tree_in k) n f.file (record f.file { ctime = now }) keeps.law.rising (shown k n f has.at_file) (touch_alike f.file now) in
+      let like = one_alike (tree_in k) n f.file (record f.file { ctime = now }) keeps.law.rising keeps.law.numbers (shown k n f has.at_file) (touch_alike f.file now) in
       let held : at d (with_at n g k.files) ≡ Some p = at_with_other n d g k.files apart ∙ has.at_dir in
       with_back d m p w h (with_at n g k.files) held e
       (λ s is. let told = nlink_there u d n now name p.file (record f.file { ctime = now }) dir_u file_u in
@@ -143,6 +143,7 @@ kept_written k n w place grown = record { files = with_at n w k.files; next = k.
 -- what is kept of file n
 pub record KeepsBytes (k : Kept) (n offset : ℕ) (bytes : List ℕ) (now : Moment) (f w : Held) : Type 0 where
   pub may : MayWrite (tree_in k) n offset (length bytes)
+  pub some : 0 < length bytes
   pub at_file : at n k.files ≡ Some f
   pub overwritten : w.file ≡ overwritten f.file offset bytes now
   pub same_links : w.nlink ≡ f.nlink
@@ -169,7 +170,7 @@ module _ (k : Kept) (n offset : ℕ) (bytes : List ℕ) (now : Moment) (f w : He
 
   links_written : (m : ℕ) (h : Held) → at m (with_at n w k.files) ≡ Some h → h.nlink ≡ nlink (changed (tree_in k) n g).files m h.file
   links_written m h e =
-      let like = one_alike (tree_in k) n f.file g keeps.law.rising (shown k n f has.at_file) like_g in
+      let like = one_alike (tree_in k) n f.file g keeps.law.rising keeps.law.numbers (shown k n f has.at_file) like_g in
       let after : List (ℕ × File) = (changed (tree_in k) n g).files in
       with_back n m f w h k.files has.at_file e
       (λ s is. let its : h.file ≡ g = ap (λ (a : Held). a.file) (sym is) ∙ has.overwritten in
@@ -188,7 +189,7 @@ module _ (k : Kept) (n offset : ℕ) (bytes : List ℕ) (now : Moment) (f w : He
         (λ o. (told.1 (λ s. o (sym s ∙ sym is_place)), counted)),
       )) in
       record {
-        law = subst Law (sym (view_written ∙ ap (λ (a : File). changed (tree_in k) n (overwritten a offset bytes now)) (sym the_file))) (law_overwritten (tree_in k) n offset bytes now has.may keeps.law);
+        law = subst Law (sym (view_written ∙ ap (λ (a : File). changed (tree_in k) n (overwritten a offset bytes now)) (sym the_file))) (law_overwritten (tree_in k) n offset bytes now has.may has.some keeps.law);
         links = λ m h e. links_written m h e ∙ ap (λ fs. nlink fs m h.file) (sym files_written);
         totals = λ q c e. subst (λ fs. IsCounted fs q c) (sym files_written) (after q c e).0;
         limits = λ q c e. (after q c e).1;

@@ -1,6 +1,6 @@
 -- What a new file is like, and the law after the operations that make one.
 use Rattle.std.proofs.Common.{◌≡◌, ◌≢◌, ℕ, ◌<◌, ◌≤◌, true, false, List, [], length, Option, None, refl, sym, ap, subst, ◌∙◌, arith}
-use Rattle.std.specs.Prelude.{◌%◌, All, AllPairs}
+use Rattle.std.specs.Prelude.{◌%◌, ◌^◌, All, AllPairs}
 use Rattle.nfs_attrs.specs.declared.moment.Moment.{Moment}
 use Rattle.nfs_inodes.specs.declared.new_file.NewFile.{NewFile}
 use Rattle.nfs_inodes.specs.Tree.{Tree, File, Kind, Regular, Directory, Link, Entry, on_some, is_directory, entries_in, path_in, parent_in, bytes_in, next_cookie_in}
@@ -31,8 +31,9 @@ fresh_sound f d size fresh mode large = let long = fresh.bytes in record {
 }
 
 -- a new file in directory d is as it has to be
-pub new_here : (t : Tree) (d size : ℕ) (name : List ℕ) (k : Kind) (given : NewFile) (f : File) (may : MayMake t d name size) → f.kind ≡ k → f.volume ≡ changes.volume_of t d → f.mode ≡ given.mode % 4096 → IsFresh d size k → IsNew d size may.enter.dir f
-new_here t d size name k given f may kind volume mode fresh = record {
+pub new_here : (t : Tree) (d size : ℕ) (name : List ℕ) (k : Kind) (given : NewFile) (f : File) (may : MayMake t d name size) → f.kind ≡ k → f.volume ≡ changes.volume_of t d → f.mode ≡ given.mode % 4096 → f.tag < 2 ^ 32 → IsFresh d size k → IsNew d size may.enter.dir f
+new_here t d size name k given f may kind volume mode fits fresh = record {
+  tag = fits;
   sound = fresh_sound f d size (subst (IsFresh d size) (sym kind) fresh) (subst (λ m. m < 4096) (sym mode) (low_bits given.mode)) may.large;
   volume = volume ∙ ap (λ o. on_some o 0 (λ (k : File). k.volume)) may.enter.at_dir.0;
   empty = ap entries_in kind ∙ fresh.empty;
@@ -58,12 +59,14 @@ impossible e = absurd (no e)
     no : false ≡ true → ⊥
     no e = cc
 
-pub may_be_founded : (t : Tree) (path : List ℕ) (max_bytes max_files tag : ℕ) (given : NewFile) (now : Moment) (f : File) → MayFound t path max_files → f ≡ new_file (length t.volumes) (Directory t.next 3 []) given None tag now →
+pub may_be_founded : (t : Tree) (path : List ℕ) (max_bytes max_files tag : ℕ) (given : NewFile) (now : Moment) (f : File) → MayFound t path max_files → tag < 2 ^ 32 → f ≡ new_file (length t.volumes) (Directory t.next 3 []) given None tag now →
     MayBeFounded t (record { path = path; max_bytes = max_bytes; max_files = max_files; root = t.next }) f
-may_be_founded t path max_bytes max_files tag given now f may is =
+may_be_founded t path max_bytes max_files tag given now f may fits is =
     let kind = ap (λ (f : File). f.kind) is in
     let low : given.mode % 4096 < 4096 = omega arith in
     record {
+      tag = subst (λ n. n < 2 ^ 32) (ap (λ (f : File). f.tag) (sym is)) fits;
+      number = may.number;
       few = may.few;
       path = may.short;
       fresh = may.fresh;
@@ -79,22 +82,22 @@ may_be_founded t path max_bytes max_files tag given now f may is =
 
 -- ---- the law
 
-pub law_file_made : (t : Tree) (d size tag : ℕ) (name : List ℕ) (given : NewFile) (verifier : Option (List ℕ)) (now : Moment) → MayMake t d name size → Law t → Law (file_made t d name size given verifier tag now)
-law_file_made t d size tag name given verifier now may law =
+pub law_file_made : (t : Tree) (d size tag : ℕ) (name : List ℕ) (given : NewFile) (verifier : Option (List ℕ)) (now : Moment) → MayMake t d name size → tag < 2 ^ 32 → Law t → Law (file_made t d name size given verifier tag now)
+law_file_made t d size tag name given verifier now may fits law =
     let f = new_file (changes.volume_of t d) (Regular (zeros size)) given verifier tag now in
-    law_made t d size name f now may law (new_here t d size name (Regular (zeros size)) given f may refl refl refl (fresh_file d size (zeros size) (length_zeros size))) impossible
+    law_made t d size name f now may law (new_here t d size name (Regular (zeros size)) given f may refl refl refl fits (fresh_file d size (zeros size) (length_zeros size))) impossible
 
-pub law_directory_made : (t : Tree) (d tag : ℕ) (name : List ℕ) (given : NewFile) (now : Moment) → MayMakeDirectory t d name → Law t → Law (directory_made t d name given tag now)
-law_directory_made t d tag name given now may law =
+pub law_directory_made : (t : Tree) (d tag : ℕ) (name : List ℕ) (given : NewFile) (now : Moment) → MayMakeDirectory t d name → tag < 2 ^ 32 → Law t → Law (directory_made t d name given tag now)
+law_directory_made t d tag name given now may fits law =
     let f = new_file (changes.volume_of t d) (Directory d 3 []) given None tag now in
-    law_made t d 0 name f now may.make law (new_here t d 0 name (Directory d 3 []) given f may.make refl refl refl (fresh_directory d)) (λ y. may.links)
+    law_made t d 0 name f now may.make law (new_here t d 0 name (Directory d 3 []) given f may.make refl refl refl fits (fresh_directory d)) (λ y. may.links)
 
-pub law_link_made : (t : Tree) (d tag : ℕ) (name path : List ℕ) (given : NewFile) (now : Moment) → MayMakeLink t d name path → Law t → Law (link_made t d name path given tag now)
-law_link_made t d tag name path given now may law =
+pub law_link_made : (t : Tree) (d tag : ℕ) (name path : List ℕ) (given : NewFile) (now : Moment) → MayMakeLink t d name path → tag < 2 ^ 32 → Law t → Law (link_made t d name path given tag now)
+law_link_made t d tag name path given now may fits law =
     let f = new_file (changes.volume_of t d) (Link path) given None tag now in
-    law_made t d 0 name f now may.make law (new_here t d 0 name (Link path) given f may.make refl refl refl (fresh_link d path may.long)) impossible
+    law_made t d 0 name f now may.make law (new_here t d 0 name (Link path) given f may.make refl refl refl fits (fresh_link d path may.long)) impossible
 
-pub law_volume_added : (t : Tree) (max_bytes max_files tag : ℕ) (path : List ℕ) (given : NewFile) (now : Moment) → MayFound t path max_files → Law t → Law (volume_added t path max_bytes max_files given tag now)
-law_volume_added t max_bytes max_files tag path given now may law =
+pub law_volume_added : (t : Tree) (max_bytes max_files tag : ℕ) (path : List ℕ) (given : NewFile) (now : Moment) → MayFound t path max_files → tag < 2 ^ 32 → Law t → Law (volume_added t path max_bytes max_files given tag now)
+law_volume_added t max_bytes max_files tag path given now may fits law =
     let root = new_file (length t.volumes) (Directory t.next 3 []) given None tag now in
-    law_founded t (record { path = path; max_bytes = max_bytes; max_files = max_files; root = t.next }) root law (may_be_founded t path max_bytes max_files tag given now root may refl)
+    law_founded t (record { path = path; max_bytes = max_bytes; max_files = max_files; root = t.next }) root law (may_be_founded t path max_bytes max_files tag given now root may fits refl)

@@ -1,5 +1,7 @@
 pub mod Lists
 pub mod Maps
+pub mod Numbers
+pub mod Follows
 pub mod Alike
 pub mod Gains
 pub mod Births

@@ -112,7 +112,7 @@ module _ (a : Numbered Inode) (shares : List Share) (d : ℕ) (name : List ℕ) 
       entered = ap (λ (f : File). retagged f adds.dir.tag) adds.enters.file;
       links = adds.enters.nlink;
       first_links = may.nlink;
-      new_file = record { sound = retagged_sound (file_of 0 inode) adds.tag may.is_new.sound; volume = may.is_new.volume; empty = may.is_new.empty; bytes = may.is_new.bytes; parent = may.is_new.parent };
+      new_file = record { tag = adds.fits; sound = retagged_sound (file_of 0 inode) adds.tag may.is_new.sound; volume = may.is_new.volume; empty = may.is_new.empty; bytes = may.is_new.bytes; parent = may.is_new.parent };
       few = may.links;
     }
       where
@@ -139,7 +139,7 @@ may_add t d size name k given verifier now inode place may is_place is links fre
     let f : File = file_of 0 inode in
     let kind : f.kind ≡ k = ap (λ (f : File). f.kind) is in
     let long : size ≡ length (bytes_in f.kind) = sym (ap (λ k. length (bytes_in k)) kind ∙ fresh.bytes) in
-    let new : IsNew d size may.enter.dir f = new_here t d size name k given f may kind (ap (λ (f : File). f.volume) is ∙ is_place) (ap (λ (f : File). f.mode) is) fresh in
+    let new : IsNew d size may.enter.dir f = new_here t d size name k given f may kind (ap (λ (f : File). f.volume) is ∙ is_place) (ap (λ (f : File). f.mode) is) (subst (λ n. n < 4294967296) (sym (ap (λ (f : File). f.tag) is)) (omega arith)) fresh in
     let sized : (m : MayMake t d name (length (bytes_in f.kind))) × (m.enter.dir ≡ may.enter.dir) = subst (λ n. (m : MayMake t d name n) × (m.enter.dir ≡ may.enter.dir)) long (may, refl) in
     let directory : is_directory f.kind ≡ is_directory k = ap is_directory kind in
     record {
@@ -204,11 +204,11 @@ module _ (a : Numbered Inode) (shares : List Share) (n d : ℕ) (name : List ℕ
 
 -- ---- bytes
 
-module _ (a : Numbered Inode) (shares : List Share) (n offset : ℕ) (bytes : List ℕ) (keeps : Keeps (kept_of a shares)) (may : MayWrite (tree_in (kept_of a shares)) n offset (length bytes)) where
+module _ (a : Numbered Inode) (shares : List Share) (n offset : ℕ) (bytes : List ℕ) (keeps : Keeps (kept_of a shares)) (may : MayWrite (tree_in (kept_of a shares)) n offset (length bytes)) (some : 0 < length bytes) where
   pub takes_bytes : TakesBytes a n offset (length bytes)
   takes_bytes =
       let f = kept_at a shares (tree_in (kept_of a shares)) refl n may.file may.at_file in
-      record { file = f.0; at_file = f.1; regular = ap (λ (f : File). is_regular f.kind) f.2 ∙ may.regular; large = may.large }
+      record { file = f.0; at_file = f.1; regular = ap (λ (f : File). is_regular f.kind) f.2 ∙ may.regular; large = may.large some }
 
   module _ (now : Moment) (growth : Growth) (b : Numbered Inode) (writes : WritesFile a n offset bytes now growth b) where
     the_file : file_of writes.file.tag writes.file.value ≡ may.file
@@ -222,7 +222,7 @@ module _ (a : Numbered Inode) (shares : List Share) (n offset : ℕ) (bytes : Li
         let t : Tree = tree_in (kept_of a shares) in
         let s = share_of a shares growth.place may.volume keeps (ap (slice_get t.volumes) home ∙ may.at_volume) in
         let has = s.2 in let files = s.3 in let wide = s.4 in let wide_files = s.5 in
-        let room = may.room in let grown = writes.grown in
+        let room = may.room some in let grown = writes.grown in
         let long : length (bytes_in (file_of 0 writes.file.value).kind) ≡ length (bytes_in may.file.kind) = ap (λ (f : File). length (bytes_in f.kind)) the_file in
         let same : bytes_of growth.place t.files ≡ bytes_of may.file.volume t.files = ap (λ k. bytes_of k t.files) home in
         let v = keeps.law.count growth.place may.volume (ap (slice_get t.volumes) home ∙ may.at_volume) in
@@ -243,16 +243,16 @@ module _ (a : Numbered Inode) (shares : List Share) (n offset : ℕ) (bytes : Li
           (counts ∙ ap (λ g. with_totals (map counted_of shares) growth.place g 0) writes.grown)
 
       has_bytes : KeepsBytes (kept_of a shares) n offset bytes now then_held since_held
-      has_bytes = record { may = may; at_file = at_held a n writes.file writes.at_file; overwritten = ap (λ (f : File). retagged f writes.file.tag) writes.overwritten; same_links = writes.nlink }
+      has_bytes = record { may = may; some = some; at_file = at_held a n writes.file writes.at_file; overwritten = ap (λ (f : File). retagged f writes.file.tag) writes.overwritten; same_links = writes.nlink }
 
       pub keeps_bytes : Keeps (kept_of b news)
       keeps_bytes = subst Keeps (sym written_kept) (keeps_written (kept_of a shares) n offset bytes now then_held since_held growth.place keeps has_bytes writes.place)
 
-      pub view_bytes : (bytes ≡ [] → ⊥) → tree_in (kept_of b news) ≡ written (tree_in (kept_of a shares)) n offset bytes now
-      view_bytes some = ap tree_in written_kept ∙ view_written (kept_of a shares) n offset bytes now then_held since_held growth.place keeps has_bytes writes.place ∙ sym (by_bytes bytes some)
+      pub view_bytes : tree_in (kept_of b news) ≡ written (tree_in (kept_of a shares)) n offset bytes now
+      view_bytes = ap tree_in written_kept ∙ view_written (kept_of a shares) n offset bytes now then_held since_held growth.place keeps has_bytes writes.place ∙ sym (by_bytes bytes some)
         where
-          by_bytes : (bs : List ℕ) → (bs ≡ [] → ⊥) → written (tree_in (kept_of a shares)) n offset bs now ≡ changed (tree_in (kept_of a shares)) n (overwritten then_held.file offset bs now)
-          by_bytes [] some = absurd (some refl)
+          by_bytes : (bs : List ℕ) → 0 < length bs → written (tree_in (kept_of a shares)) n offset bs now ≡ changed (tree_in (kept_of a shares)) n (overwritten then_held.file offset bs now)
+          by_bytes [] some = absurd (omega (arith, some))
           by_bytes (x ∷ xs) some = ap (λ o. on_some o (tree_in (kept_of a shares)) (λ f. changed (tree_in (kept_of a shares)) n (overwritten f offset (x ∷ xs) now))) (lives a shares n writes.file writes.at_file)
 
 -- ---- a volume
@@ -269,9 +269,9 @@ root_file f place places next number given now entries a b e is =
     ∙ ap (λ n. new_file place (Directory n 3 []) given None 0 now) b
     ∙ ap (λ n. new_file n (Directory number 3 []) given None 0 now) a
 
-pub some_bytes : (bytes : List ℕ) → false ≡ (length bytes == 0) → bytes ≡ [] → ⊥
-some_bytes [] e s = impossible e
-some_bytes (b ∷ bs) e s = cc
+pub some_bytes : (bytes : List ℕ) → false ≡ (length bytes == 0) → 0 < length bytes
+some_bytes [] e = impossible e
+some_bytes (b ∷ bs) e = omega arith
 
 pub bounded : {n : ℕ} → Fits w64 n → n < 18446744073709551616
 bounded f = f.fits
@@ -299,7 +299,7 @@ module _ (a : Numbered Inode) (shares : List Share) (path : List ℕ) (max_bytes
         (map-append counted_of shares (share ∷ []) ∙ ap (λ c. map counted_of shares ++ c ∷ []) counted)
 
     may_be : MayBeFounded (tree_in (kept_of a shares)) the_volume root_held.file
-    may_be = may_be_founded (tree_in (kept_of a shares)) path max_bytes max_files adds.tag given now root_held.file may root_is
+    may_be = may_be_founded (tree_in (kept_of a shares)) path max_bytes max_files adds.tag given now root_held.file may adds.fits root_is
 
     pub keeps_volume : Keeps (kept_of b (shares ++ share ∷ []))
     keeps_volume = subst Keeps (sym founded_kept) (keeps_founded (kept_of a shares) the_volume root_held keeps may_be two wide wide_files)

@@ -1,21 +1,20 @@
 -- Numbered values: look-ups and sums after a change.
 use Rattle.std.proofs.Common.{◌≡◌, ◌≢◌, ℕ, ◌+◌, ◌<◌, ◌≤◌, Bool, true, false, cond, List, [], ◌∷◌, ◌++◌, map, sum_by, Option, Some, None, option_map, refl, sym, ap, subst, ◌∙◌, arith}
-use Rattle.std.specs.Ordering.{nat_cmp, is_eq}
-use Rattle.std.specs.BTreeMap.{is_at}
-use Rattle.std.proofs.lemmas.Bool.Decides.{nat_tests}
+use Rattle.std.specs.Prelude.{nat_eq}
+use Rattle.std.proofs.lemmas.Bool.{eqb-true, eq-eqb}
 use Rattle.std.proofs.lemmas.List.Sums.{sum_by-cons, sum_by_push}
 use Rattle.nfs_inodes.specs.Tree.{at, with_at}
 use Rattle.nfs_inodes.specs.Law.{AreRising}
 use Rattle.nfs_inodes.proofs.Lists.{by_test, by_number, if_true, if_false, same_some, not_both, none_from}
 
-pub same_number : (n k : ℕ) → is_eq (nat_cmp n k) ≡ true → n ≡ k
-same_number n k e = grind (arith, nat_tests)
+pub same_number : (n k : ℕ) → nat_eq n k ≡ true → n ≡ k
+same_number n k e = eqb-true n k e
 
-pub apart_number : (n k : ℕ) → n ≢ k → is_eq (nat_cmp n k) ≡ false
-apart_number n k e = grind (arith, nat_tests)
+pub apart_number : (n k : ℕ) → n ≢ k → nat_eq n k ≡ false
+apart_number n k e = by_test (nat_eq n k) (λ s. absurd (e (eqb-true n k s))) (λ f. f)
 
-pub itself : (n : ℕ) → is_eq (nat_cmp n n) ≡ true
-itself n = grind (arith, nat_tests)
+pub itself : (n : ℕ) → nat_eq n n ≡ true
+itself n = eq-eqb n n refl
 
 module _ {X : Type 0} where
   pub at_here : (e : ℕ × X) (es : List (ℕ × X)) → at e.0 (e ∷ es) ≡ Some e.1
@@ -47,7 +46,7 @@ module _ {X : Type 0} where
 
   pub rising_with : (low next n : ℕ) (es : List (ℕ × X)) (y : X) → AreRising low es next → AreRising low (with_at n y es) next
   rising_with low next n [] y r = r
-  rising_with low next n (e ∷ es) y r = by_test (is_at (nat_cmp n) e.0)
+  rising_with low next n (e ∷ es) y r = by_test (nat_eq n e.0)
       (λ t. subst (λ l. AreRising low l next) (sym (if_true ((e.0, y) ∷ es) (e ∷ with_at n y es) t)) r)
       (λ f. subst (λ l. AreRising low l next) (sym (if_false ((e.0, y) ∷ es) (e ∷ with_at n y es) f)) (r.0, rising_with e.0 next n es y r.1))
 
@@ -55,26 +54,26 @@ module _ {X : Type 0} where
 
   pub at_with_same : (n : ℕ) (x y : X) (es : List (ℕ × X)) → at n es ≡ Some x → at n (with_at n y es) ≡ Some y
   at_with_same n x y [] h = cc
-  at_with_same n x y (e ∷ es) h = by_test (is_at (nat_cmp n) e.0)
+  at_with_same n x y (e ∷ es) h = by_test (nat_eq n e.0)
       (λ t. ap (at n) (if_true ((e.0, y) ∷ es) _ t) ∙ if_true _ _ t)
       (λ f. ap (at n) (if_false ((e.0, y) ∷ es) _ f) ∙ if_false _ _ f ∙ at_with_same n x y es (sym (if_false (Some e.1) _ f) ∙ h))
 
   pub at_with_other : (n m : ℕ) (y : X) (es : List (ℕ × X)) → m ≢ n → at m (with_at n y es) ≡ at m es
   at_with_other n m y [] h = refl
-  at_with_other n m y (e ∷ es) h = by_test (is_at (nat_cmp n) e.0)
-      (λ t. let f : is_at (nat_cmp m) e.0 ≡ false = apart_number m e.0 (λ q. h (q ∙ sym (same_number n e.0 t))) in
+  at_with_other n m y (e ∷ es) h = by_test (nat_eq n e.0)
+      (λ t. let f : nat_eq m e.0 ≡ false = apart_number m e.0 (λ q. h (q ∙ sym (same_number n e.0 t))) in
       ap (at m) (if_true ((e.0, y) ∷ es) _ t) ∙ if_false _ _ f ∙ sym (if_false _ _ f))
-      (λ f. ap (at m) (if_false ((e.0, y) ∷ es) _ f) ∙ ap (cond (is_at (nat_cmp m) e.0) (Some e.1)) (at_with_other n m y es h))
+      (λ f. ap (at m) (if_false ((e.0, y) ∷ es) _ f) ∙ ap (cond (nat_eq m e.0) (Some e.1)) (at_with_other n m y es h))
 
   pub at_push_same : (n : ℕ) (y : X) (es : List (ℕ × X)) → at n es ≡ None → at n (es ++ (n, y) ∷ []) ≡ Some y
   at_push_same n y [] h = at_here (n, y) []
   at_push_same n y (e ∷ es) h = by_number n e.0
-      (λ s. absurd (not_both h (if_true (Some e.1) (at n es) (subst (λ k. is_eq (nat_cmp n k) ≡ true) s (itself n)))))
+      (λ s. absurd (not_both h (if_true (Some e.1) (at n es) (subst (λ k. nat_eq n k ≡ true) s (itself n)))))
       (λ o. at_after n e (es ++ (n, y) ∷ []) o ∙ at_push_same n y es (sym (at_after n e es o) ∙ h))
 
   pub at_push_other : (n m : ℕ) (y : X) (es : List (ℕ × X)) → m ≢ n → at m (es ++ (n, y) ∷ []) ≡ at m es
   at_push_other n m y [] h = at_after m (n, y) [] h
-  at_push_other n m y (e ∷ es) h = ap (cond (is_at (nat_cmp m) e.0) (Some e.1)) (at_push_other n m y es h)
+  at_push_other n m y (e ∷ es) h = ap (cond (nat_eq m e.0) (Some e.1)) (at_push_other n m y es h)
 
   -- where a value after a change comes from
   pub with_back : {P : Type 0} (n m : ℕ) (x y z : X) (es : List (ℕ × X)) → at n es ≡ Some x → at m (with_at n y es) ≡ Some z → (m ≡ n → y ≡ z → P) → (m ≢ n → at m es ≡ Some z → P) → P
@@ -98,7 +97,7 @@ module _ {X : Type 0} where
 
     pub sum_with : (n : ℕ) (x y : X) (es : List (ℕ × X)) → at n es ≡ Some x → sum_over (with_at n y es) + w x ≡ sum_over es + w y
     sum_with n x y [] h = cc
-    sum_with n x y (e ∷ es) h = by_test (is_at (nat_cmp n) e.0)
+    sum_with n x y (e ∷ es) h = by_test (nat_eq n e.0)
         (λ t. let same : e.1 ≡ x = same_some (sym (if_true (Some e.1) _ t) ∙ h) in
         let ws : w e.1 ≡ w x = ap w same in
         let new : sum_over (with_at n y (e ∷ es)) ≡ w y + sum_over es = ap sum_over (if_true ((e.0, y) ∷ es) _ t) ∙ cons (e.0, y) es in
@@ -120,7 +119,7 @@ module _ {X : Type 0} where
 
     pub sum_some : (n : ℕ) (x : X) (es : List (ℕ × X)) → at n es ≡ Some x → w x ≤ sum_over es
     sum_some n x [] h = cc
-    sum_some n x (e ∷ es) h = by_test (is_at (nat_cmp n) e.0)
+    sum_some n x (e ∷ es) h = by_test (nat_eq n e.0)
         (λ t. let same : e.1 ≡ x = same_some (sym (if_true (Some e.1) _ t) ∙ h) in
         let ws : w e.1 ≡ w x = ap w same in
         let all = cons e es in omega (arith, ws, all))
@@ -139,7 +138,7 @@ module _ {X : Type 0} where
 
     pub at_shows : (n : ℕ) (es : List (ℕ × X)) → at n (shows es) ≡ option_map f (at n es)
     at_shows n [] = refl
-    at_shows n (e ∷ es) = ap (cond (is_at (nat_cmp n) e.0) (Some (f e.1))) (at_shows n es) ∙ option_step (is_at (nat_cmp n) e.0) e.1 (at n es)
+    at_shows n (e ∷ es) = ap (cond (nat_eq n e.0) (Some (f e.1))) (at_shows n es) ∙ option_step (nat_eq n e.0) e.1 (at n es)
 
     with_step : (b : Bool) (e : ℕ × X) (y : X) (es fs : List (ℕ × X)) → shows (cond b ((e.0, y) ∷ es) (e ∷ fs)) ≡ cond b ((e.0, f y) ∷ shows es) ((e.0, f e.1) ∷ shows fs)
     with_step true e y es fs = refl
@@ -147,7 +146,7 @@ module _ {X : Type 0} where
 
     pub shows_with : (n : ℕ) (y : X) (es : List (ℕ × X)) → shows (with_at n y es) ≡ with_at n (f y) (shows es)
     shows_with n y [] = refl
-    shows_with n y (e ∷ es) = with_step (is_at (nat_cmp n) e.0) e y es (with_at n y es) ∙ ap (λ l. cond (is_at (nat_cmp n) e.0) ((e.0, f y) ∷ shows es) ((e.0, f e.1) ∷ l)) (shows_with n y es)
+    shows_with n y (e ∷ es) = with_step (nat_eq n e.0) e y es (with_at n y es) ∙ ap (λ l. cond (nat_eq n e.0) ((e.0, f y) ∷ shows es) ((e.0, f e.1) ∷ l)) (shows_with n y es)
 
     pub shows_push : (n : ℕ) (y : X) (es : List (ℕ × X)) → shows (es ++ (n, y) ∷ []) ≡ shows es ++ (n, f y) ∷ []
     shows_push n y [] = refl

@@ -15,6 +15,8 @@ use Rattle.nfs_inodes.proofs.Bytes.{length_put}
 
 pub may_be_born : (t : Tree) (d size : ℕ) (name : List ℕ) (f : File) (may : MayMake t d name size) → IsNew d size may.enter.dir f → MayBeBorn t f
 may_be_born t d size name f may new = record {
+  tag = new.tag;
+  number = may.number;
   sound = new.sound;
   empty = new.empty;
   parent = λ y. (may.enter.dir, (ap (λ k. at k t.files) (new.parent y) ∙ may.enter.at_dir.0, may.enter.at_dir.1), sym new.volume);
@@ -54,7 +56,7 @@ law_made t d size name f now may law new links = law_gained t.next (born t f) d 
 -- ---- a link
 
 pub touch_alike : (f : File) (now : Moment) → Alike f (record f { ctime = now })
-touch_alike f now = record { placed = record { volume = refl; directory = refl; parent = refl }; entries = refl }
+touch_alike f now = record { placed = record { tag = refl; volume = refl; directory = refl; parent = refl }; entries = refl }
 
 touch_sound : (f : File) (now : Moment) → IsSound f → IsSound (record f { ctime = now })
 touch_sound f now s = record { mode = s.mode; bytes = s.bytes; path = s.path; names = s.names; cookies = s.cookies; next_cookie = s.next_cookie; apart = s.apart }
@@ -75,7 +77,7 @@ pub may_gain_linked : (t : Tree) (n d : ℕ) (name : List ℕ) (now : Moment) (m
 may_gain_linked t n d name now may law =
     let g : File = record may.file { ctime = now } in
     let u : Tree = changed t n g in
-    let like = one_alike t n may.file g law.rising may.at_file (touch_alike may.file now) in
+    let like = one_alike t n may.file g law.rising law.numbers may.at_file (touch_alike may.file now) in
     record {
       dir = may.enter.dir;
       at_dir = (at_with_other n d g t.files (apart_kinds t n d may.file may.enter.dir may.at_file may.not_directory may.enter.at_dir) ∙ may.enter.at_dir.0, may.enter.at_dir.1);
@@ -106,9 +108,9 @@ pub overwritten_alike : (f : File) (offset : ℕ) (bytes : List ℕ) (now : Mome
 overwritten_alike f offset bytes now = by_kind f.kind
   where
     by_kind : (k : Kind) → Alike (record f { kind = k }) (overwritten (record f { kind = k }) offset bytes now)
-    by_kind (Regular old) = record { placed = record { volume = refl; directory = refl; parent = refl }; entries = refl }
-    by_kind (Directory parent next entries) = record { placed = record { volume = refl; directory = refl; parent = refl }; entries = refl }
-    by_kind (Link path) = record { placed = record { volume = refl; directory = refl; parent = refl }; entries = refl }
+    by_kind (Regular old) = record { placed = record { tag = refl; volume = refl; directory = refl; parent = refl }; entries = refl }
+    by_kind (Directory parent next entries) = record { placed = record { tag = refl; volume = refl; directory = refl; parent = refl }; entries = refl }
+    by_kind (Link path) = record { placed = record { tag = refl; volume = refl; directory = refl; parent = refl }; entries = refl }
 
 pub overwritten_bytes : (k : Kind) (offset : ℕ) (bytes : List ℕ) → is_regular k ≡ true → bytes_in (with_bytes k (put_bytes (bytes_in k) offset bytes)) ≡ put_bytes (bytes_in k) offset bytes
 overwritten_bytes (Regular old) offset bytes e = refl
@@ -123,19 +125,19 @@ overwritten_sound f offset bytes now r s h = by_kind f.kind r s
     by_kind (Directory parent next entries) e s = cc
     by_kind (Link path) e s = cc
 
-pub law_overwritten : (t : Tree) (n offset : ℕ) (bytes : List ℕ) (now : Moment) (may : MayWrite t n offset (length bytes)) → Law t → Law (changed t n (overwritten may.file offset bytes now))
-law_overwritten t n offset bytes now may law =
+pub law_overwritten : (t : Tree) (n offset : ℕ) (bytes : List ℕ) (now : Moment) (may : MayWrite t n offset (length bytes)) → 0 < length bytes → Law t → Law (changed t n (overwritten may.file offset bytes now))
+law_overwritten t n offset bytes now may some law =
     let g : File = overwritten may.file offset bytes now in
-    law_changed 0 t n may.file g law may.at_file (overwritten_alike may.file offset bytes now) (overwritten_sound may.file offset bytes now may.regular (law.sound n may.file may.at_file) may.large)
+    law_changed 0 t n may.file g law may.at_file (overwritten_alike may.file offset bytes now) (overwritten_sound may.file offset bytes now may.regular (law.sound n may.file may.at_file) (may.large some))
     (record {
       volume = may.volume;
       at_volume = may.at_volume;
       room =
           let l = length_put (bytes_in may.file.kind) bytes offset in
           let e : length (bytes_in g.kind) ≡ length (put_bytes (bytes_in may.file.kind) offset bytes) = ap length (overwritten_bytes may.file.kind offset bytes may.regular) in
-          let r = may.room in omega (arith, l, e, r);
+          let r = may.room some in omega (arith, l, e, r);
     })
 
 pub law_written : (t : Tree) (n offset : ℕ) (bytes : List ℕ) (now : Moment) → MayWrite t n offset (length bytes) → Law t → Law (written t n offset bytes now)
 law_written t n offset [] now may law = law
-law_written t n offset (b ∷ bs) now may law = subst Law (sym (ap (λ o. on_some o t (λ f. changed t n (overwritten f offset (b ∷ bs) now))) may.at_file)) (law_overwritten t n offset (b ∷ bs) now may law)
+law_written t n offset (b ∷ bs) now may law = subst Law (sym (ap (λ o. on_some o t (λ f. changed t n (overwritten f offset (b ∷ bs) now))) may.at_file)) (law_overwritten t n offset (b ∷ bs) now may (omega arith) law)

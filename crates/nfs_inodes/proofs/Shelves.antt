@@ -1,8 +1,6 @@
 -- The kept files, after changes by number.
 use Rattle.std.proofs.Common.{◌≡◌, ◌≢◌, ℕ, ◌+◌, ◌-◌, ◌<◌, true, length, List, [], ◌∷◌, ◌++◌, Some, option_map, refl, sym, ap, subst, ◌∙◌, arith}
-use Rattle.std.specs.Prelude.{OnOk, OnErr, Result, Ok, Err}
-use Rattle.std.specs.Ordering.{nat_cmp}
-use Rattle.std.specs.BTreeMap.{is_at}
+use Rattle.std.specs.Prelude.{OnOk, OnErr, Result, Ok, Err, nat_eq}
 use Rattle.std.proofs.lemmas.Map.Steps.{set_value_same}
 use Rattle.nfs_handles.specs.Numbered.{Numbered, Filed, at, value_at, with_value, revalued}
 use Rattle.nfs_inodes.specs.declared.inode.Inode.{Inode}
@@ -62,7 +60,7 @@ same_files old new n r =
     let here : held_of r.was.tag r.value ≡ held r.was = same_held r.was.tag r.was.value r.value r.from in
     record {
       files = ap (λ (u : Numbered Inode). helds u.files) r.new_is ∙ helds_value old n r.was r.value r.at_was ∙ ap (λ h. with_at n h (helds old.files)) here
-          ∙ set_value_same (is_at (nat_cmp n)) (helds old.files) (held r.was) (at_held old n r.was r.at_was);
+          ∙ set_value_same (nat_eq n) (helds old.files) (held r.was) (at_held old n r.was r.at_was);
       next = ap (λ (u : Numbered Inode). u.next) r.new_is ∙ (next_value old n r.was r.value r.at_was).0;
       key = ap (λ (u : Numbered Inode). u.key) r.new_is ∙ (next_value old n r.was r.value r.at_was).1;
     }

@@ -12,7 +12,7 @@ use Rattle.nfs_inodes.specs.declared.inode.Inode.{Inode}
 use Rattle.nfs_inodes.specs.declared.inode.Node.TheVariants as node
 use Rattle.nfs_inodes.specs.declared.volume.Share.{Share}
 use Rattle.nfs_inodes.specs.Tree.{Tree, File, Kind, Directory, Entry, Volume, entries_in, bytes_in, next_cookie_in, is_directory, is_regular, nlink, names_of, bytes_of, files_of}
-use Rattle.nfs_inodes.specs.Law.{IsName, Lives}
+use Rattle.nfs_inodes.specs.Law.{Law, IsName, Lives}
 use Rattle.nfs_inodes.specs.May.{MayEnter, MayMake, MayMakeDirectory, MayLink, MayWrite}
 use Rattle.nfs_inodes.specs.Kept.{Counted, Keeps, tree_in}
 use Rattle.nfs_inodes.specs.Listing.{file_of, kind_of, entry_of, kept_of, counted_of, volume_of}
@@ -25,6 +25,10 @@ use Rattle.nfs_inodes.proofs.Shelves.{held, at_held}
 -- `false`, where it can't hold
 pub never : {P : Type 0} → (P → ⊥) → Decides false P
 never refuted = (λ e. absurd (true≢false (sym e)), λ p. absurd (refuted p))
+
+-- `true`, where it holds
+pub always : {P : Type 0} → P → Decides true P
+always holds = (λ e. holds, λ p. refl)
 
 -- ---- searches that find nothing
 
@@ -230,8 +234,8 @@ module _ (a : Numbered Inode) (shares : List Share) (t : Tree) (view : tree_in (
 
   -- ---- tests of bytes
 
-  pub writes_there : (n offset count grown : ℕ) (i : Inode) (b : Bool) → Some i ≡ value_at a n → is_regular (kind_of i.node) ≡ true → offset + count ≤ 16777216 → grown ≡ offset + count - length (bytes_in (kind_of i.node)) → Decides b (HasSpaceIn t i.volume grown) → Decides b (MayWrite t n offset count)
-  writes_there n offset count grown i b e regular large is space = Decides-like b
+  pub writes_there : (n offset count grown : ℕ) (i : Inode) (b : Bool) → Some i ≡ value_at a n → is_regular (kind_of i.node) ≡ true → (0 < count → offset + count ≤ 16777216) → 0 < count → grown ≡ offset + count - length (bytes_in (kind_of i.node)) → Decides b (HasSpaceIn t i.volume grown) → Decides b (MayWrite t n offset count)
+  writes_there n offset count grown i b e regular large some is space = Decides-like b
       (λ (space : HasSpaceIn t i.volume grown). let s = shown_there n i e in record {
         file = file_of s.0 i;
         at_file = s.1;
@@ -239,14 +243,21 @@ module _ (a : Numbered Inode) (shares : List Share) (t : Tree) (view : tree_in (
         large = large;
         volume = space.volume;
         at_volume = space.at_volume;
-        room = let room = space.bytes in omega (arith, room, is);
+        room = λ more. let room = space.bytes in omega (arith, room, is);
       })
       (λ (may : MayWrite t n offset count). let like = like_there n i e may.file may.at_file in
-      let room = may.room in
+      let room = may.room some in
       let long : length (bytes_in (kind_of i.node)) ≡ length (bytes_in may.file.kind) = ap (λ k. length (bytes_in k)) like.1 in
       let total : bytes_of i.volume t.files ≡ bytes_of may.file.volume t.files = ap (λ p. bytes_of p t.files) like.0 in
       record { volume = may.volume; at_volume = ap (slice_get t.volumes) like.0 ∙ may.at_volume; bytes = omega (arith, room, is, long, total) })
       space
 
-  pub written_to : (n offset count : ℕ) (i : Inode) → Some i ≡ value_at a n → MayWrite t n offset count → (is_regular (kind_of i.node) ≡ true) × (offset + count ≤ 16777216)
+  pub written_to : (n offset count : ℕ) (i : Inode) → Some i ≡ value_at a n → MayWrite t n offset count → (is_regular (kind_of i.node) ≡ true) × (0 < count → offset + count ≤ 16777216)
   written_to n offset count i e may = (ap is_regular (like_there n i e may.file may.at_file).1 ∙ may.regular, may.large)
+
+  -- no bytes need no room
+  pub writes_none : Keeps (kept_of a shares) → (n offset : ℕ) (i : Inode) → Some i ≡ value_at a n → is_regular (kind_of i.node) ≡ true → MayWrite t n offset 0
+  writes_none keeps n offset i e regular =
+      let s = shown_there n i e in
+      let v = (subst Law view keeps.law).placed n (file_of s.0 i) s.1 in
+      record { file = file_of s.0 i; at_file = s.1; regular = regular; large = λ more. absurd (omega (arith, more)); volume = v.0; at_volume = v.1; room = λ more. absurd (omega (arith, more)) }

@@ -89,6 +89,12 @@ pub record TakesBytes (files : Numbered Inode) (n offset count : ℕ) : Type 0 w
   pub regular : is_regular (file_of 0 file.value).kind ≡ true
   pub large : offset + count ≤ 16777216
 
+-- file n ends before this offset
+pub record TakesGrowth (files : Numbered Inode) (n end : ℕ) : Type 0 where
+  pub file : Filed Inode
+  pub at_file : at files n ≡ Some file
+  pub beyond : length (bytes_in (file_of 0 file.value).kind) < end
+
 -- file n has these bytes at the offset, and has grown by so many
 pub record WritesFile (old : Numbered Inode) (n offset : ℕ) (bytes : List ℕ) (now : Moment) (growth : Growth) (new : Numbered Inode) : Type 0 where
   pub file : Filed Inode

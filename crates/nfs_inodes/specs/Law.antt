@@ -1,6 +1,8 @@
 -- The law of the tree, where file x may as yet be named by no entry; 0 is no file.
 use Rattle.std.specs.Prelude.{suc, zero, ◌≡◌, ◌≢◌, ℕ, ◌≤◌, ◌<◌, true, false, List, [], ◌∷◌, length, Some, None, All, AllPairs, Contains, slice_get, filter}
 use Rattle.nfs_inodes.specs.Tree.{Tree, File, Entry, Volume, at, on_some, is_directory, entries_in, parent_in, next_cookie_in, bytes_in, path_in, names_of, nlink, bytes_of, files_of}
+use Rattle.nfs_inodes.specs.Reading.{numbered}
+use Rattle.nfs_handles.specs.Numbered.{IsNumbered}
 
 -- 1 to 255 bytes, none 0 or `/`, neither `.` nor `..`
 pub record IsName (name : List ℕ) : Type 0 where
@@ -56,6 +58,8 @@ pub record AreVolumes (volumes : List Volume) : Type 0 where
   pub apart : AllPairs (λ v w. v.path ≢ w.path) volumes
 
 pub record LawBut (x : ℕ) (t : Tree) : Type 0 where
+  -- the next number is below 2^64, the key has 8 bytes, and each tag fits into a handle
+  pub numbers : IsNumbered (numbered t)
   pub rising : AreRising 0 t.files t.next
   pub sound : (n : ℕ) (f : File) → Lives t n f → IsSound f
   pub placed : (n : ℕ) (f : File) → Lives t n f → (v : Volume) × (slice_get t.volumes f.volume ≡ Some v)

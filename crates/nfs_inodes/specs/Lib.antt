@@ -8,4 +8,5 @@ pub mod Kept
 pub mod Listing
 pub mod Inodes
 pub mod Adding
+pub mod Laws
 pub mod Example

@@ -40,15 +40,22 @@ pub record MayLink (t : Tree) (n d : ℕ) (name : List ℕ) : Type 0 where
   pub volume : file.volume ≡ enter.dir.volume
   pub links : names_of n t.files < 1000
 
--- file n is regular, and it and its volume have room for so many bytes at an offset
+-- file n is regular, and it and its volume have room for so many bytes at an offset; no bytes need none
 pub record MayWrite (t : Tree) (n offset count : ℕ) : Type 0 where
   pub file : File
   pub at_file : Lives t n file
   pub regular : is_regular file.kind ≡ true
-  pub large : offset + count ≤ 16777216
+  pub large : 0 < count → offset + count ≤ 16777216
   pub volume : Volume
   pub at_volume : slice_get t.volumes file.volume ≡ Some volume
-  pub room : bytes_of file.volume t.files + (offset + count - length (bytes_in file.kind)) ≤ volume.max_bytes
+  pub room : 0 < count → bytes_of file.volume t.files + (offset + count - length (bytes_in file.kind)) ≤ volume.max_bytes
+
+-- so many bytes at an offset reach beyond the end of file n
+pub record Grows (t : Tree) (n offset count : ℕ) : Type 0 where
+  pub some : 0 < count
+  pub file : File
+  pub at_file : Lives t n file
+  pub beyond : length (bytes_in file.kind) < offset + count
 
 -- a volume more, of a path that no volume has
 pub record MayFound (t : Tree) (path : List ℕ) (max_files : ℕ) : Type 0 where
@@ -60,6 +67,7 @@ pub record MayFound (t : Tree) (path : List ℕ) (max_files : ℕ) : Type 0 wher
 
 -- what a new file in directory d is like, before it has a name
 pub record IsNew (d size : ℕ) (dir f : File) : Type 0 where
+  pub tag : f.tag < 2 ^ 32
   pub sound : IsSound f
   pub volume : f.volume ≡ dir.volume
   pub empty : entries_in f.kind ≡ []

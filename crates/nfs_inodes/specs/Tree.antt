@@ -1,8 +1,6 @@
 -- The tree of files (RFC 1813, section 2.6), however it is kept: files by their numbers, and what is counted of them.
 use Rattle.std.specs.Prelude.{ℕ, ◌+◌, Bool, true, false, List, [], length, sum_by, nat_eq, Option, Some, None, if◌then◌else◌}
-use Rattle.std.specs.Ordering.{nat_cmp}
 use Rattle.std.specs.Map.{lookup, set_value}
-use Rattle.std.specs.BTreeMap.{is_at}
 use Rattle.nfs_attrs.specs.declared.moment.Moment.{Moment}
 
 -- an entry of a directory
@@ -48,11 +46,11 @@ pub record Tree : Type 0 where
 
 -- the value under a number
 abbrev pub at : {X : Type 0} → ℕ → List (ℕ × X) → Option X
-at n files = lookup (is_at (nat_cmp n)) files
+at n files = lookup (nat_eq n) files
 
 -- the same with another value under a number that has one
 abbrev pub with_at : {X : Type 0} → ℕ → X → List (ℕ × X) → List (ℕ × X)
-with_at n x files = set_value (is_at (nat_cmp n)) files x
+with_at n x files = set_value (nat_eq n) files x
 
 abbrev pub on_some : {X Y : Type 0} → Option X → Y → (X → Y) → Y
 on_some None y f = y

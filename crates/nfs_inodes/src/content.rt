@@ -22,12 +22,13 @@ pub(crate) fn copied(alloc: Global, bytes: &[u8]) -> Result<Vec<u8>, AllocError>
     Ok(copy)
 }
 
-/// Puts bytes at an offset, zeros in a gap before them. Refused without memory for what it grows
-/// by, and then the content is as before.
+/// Puts bytes at an offset, zeros in a gap before them. Refused only without memory for what it
+/// grows by, and then the content is as before.
 pub(crate) fn put(content: &mut Vec<u8>, offset: usize, bytes: &[u8]) -> Result<(), AllocError>
     requires { offset + length bytes.now ≤ 16777216 }
     ensures ok { OnOk result (content.new.items ≡ put_bytes content.old.items offset bytes.now) }
     ensures err { OnErr result (content.new.items ≡ content.old.items) }
+    ensures full { OnErr result (length content.old.items < offset + length bytes.now) }
 {
     if offset <= content.len() {
         put_inside(content, offset, bytes)
@@ -41,6 +42,7 @@ fn put_inside(content: &mut Vec<u8>, offset: usize, bytes: &[u8]) -> Result<(), 
     requires { offset ≤ length content.old.items }
     ensures ok { OnOk result (content.new.items ≡ put_bytes content.old.items offset bytes.now) }
     ensures err { OnErr result (content.new.items ≡ content.old.items) }
+    ensures full { OnErr result (length content.old.items < offset + length bytes.now) }
 {
     let inside = bytes.len().min(content.len() - offset);
     content.extend_from_slice(&bytes[inside..])?;
@@ -54,6 +56,7 @@ fn put_beyond(content: &mut Vec<u8>, offset: usize, bytes: &[u8]) -> Result<(), 
     requires size { offset + length bytes.now ≤ 16777216 }
     ensures ok { OnOk result (content.new.items ≡ put_bytes content.old.items offset bytes.now) }
     ensures err { OnErr result (content.new.items ≡ content.old.items) }
+    ensures full { OnErr result (length content.old.items < offset + length bytes.now) }
 {
     content.resize(offset + bytes.len(), 0)?;
     overwrite(content, offset, bytes);

@@ -141,8 +141,8 @@ pub(crate) fn add_entry(
     }
 }
 
-/// Puts bytes at an offset of a regular file, zeros in a gap before them. Refused without memory
-/// for what it grows by, and then it is as before.
+/// Puts bytes at an offset of a regular file, zeros in a gap before them. Refused only without
+/// memory for what it grows by, and then it is as before.
 pub(crate) fn write_bytes(
     inode: &mut Inode,
     offset: usize,
@@ -153,6 +153,7 @@ pub(crate) fn write_bytes(
     requires size { offset + length bytes.now ≤ 16777216 }
     ensures ok { OnOk result (file_of 0 inode.new ≡ overwritten (file_of 0 inode.old) offset bytes.now now) }
     ensures err { OnErr result (file_of 0 inode.new ≡ file_of 0 inode.old) }
+    ensures full { OnErr result (length (bytes_in (file_of 0 inode.old).kind) < offset + length bytes.now) }
     ensures nlink { inode.new.nlink ≡ inode.old.nlink }
 {
     match &mut inode.node {

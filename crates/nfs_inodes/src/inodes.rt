@@ -4,7 +4,7 @@ ghost use Rattle.nfs_handles.specs.Numbered.{value_at};
 ghost use Rattle.nfs_inodes.specs.declared.inode.Inode.{Inode};
 ghost use Rattle.nfs_inodes.specs.Tree.{one_when};
 ghost use Rattle.nfs_inodes.specs.Listing.{HasRoom};
-ghost use Rattle.nfs_inodes.specs.Inodes.{TakesEntry, Revalues, SameFile, Enters, AddsFile, SameFiles, TakesLink, LinksFile, GainsLink, TakesBytes, WritesFile};
+ghost use Rattle.nfs_inodes.specs.Inodes.{TakesEntry, Revalues, SameFile, Enters, AddsFile, SameFiles, TakesLink, LinksFile, GainsLink, TakesBytes, TakesGrowth, WritesFile};
 
 use crate::inode::{Inode, add_entry, reserve_entry, write_bytes};
 use nfs_attrs::moment::Moment;
@@ -64,8 +64,8 @@ pub(crate) struct Growth {
     pub(crate) bytes: u64,
 }
 
-/// Puts bytes at an offset of a regular file. Refused without memory, and then clients see no
-/// change.
+/// Puts bytes at an offset of a regular file. Refused only without memory for what it grows by,
+/// and then clients see no change.
 pub(crate) fn write(
     files: &mut Files<Inode>,
     number: Number,
@@ -76,6 +76,7 @@ pub(crate) fn write(
     requires { TakesBytes files.old number.0 offset (length bytes.now) }
     ensures ok { IfOk result (λ growth. WritesFile files.old number.0 offset bytes.now now growth files.new) }
     ensures err { OnErr result (SameFiles files.old files.new) }
+    ensures full { OnErr result (TakesGrowth files.old number.0 (offset + length bytes.now)) }
 {
     match files.get_mut(number) {
         Some(inode) => {

@@ -1,6 +1,5 @@
 //! What may be done: tests for the conditions of the tree's operations.
 ghost use Rattle.std.specs.Prelude.{◌≡◌, ◌≢◌, ◌↔◌, ◌+◌, ◌<◌, ◌≤◌, true, false, IsTrue, IsFalse, All};
-ghost use Rattle.std.specs.Bool.{MatchBool};
 ghost use Rattle.nfs_inodes.specs.Law.{IsName};
 ghost use Rattle.nfs_inodes.specs.Adding.{TakesName, TakesFile, MayGainLink, HasRoomIn, HasSpaceIn};
 ghost use Rattle.nfs_inodes.specs.Tree.{is_directory, is_regular};
@@ -53,7 +52,7 @@ impl Tree {
 
     /// Whether a directory may be made under this name in directory `dir`.
     pub fn may_make_dir(&self, dir: Number, name: &[u8]) -> bool
-        ensures { MatchBool result (MayMakeDirectory self.now dir.0 name.now) (¬ (MayMakeDirectory self.now dir.0 name.now)) }
+        ensures { IsTrue result ↔ MayMakeDirectory self.now dir.0 name.now }
     {
         match self.files.get(dir) {
             Some(inode) => {
@@ -91,7 +90,8 @@ impl Tree {
         }
     }
 
-    /// Whether so many bytes may be put at an offset of the file `number`.
+    /// Whether so many bytes may be put at an offset of the file `number`: no bytes at any offset
+    /// of a regular file.
     pub fn may_write(&self, number: Number, offset: usize, count: usize) -> bool
         ensures { IsTrue result ↔ MayWrite self.now number.0 offset count }
     {
@@ -99,6 +99,9 @@ impl Tree {
             Some(inode) => {
                 if !takes_bytes(inode, offset, count) {
                     return false;
+                }
+                if count == 0 {
+                    return true;
                 }
                 let end = (offset + count) as u64;
                 self.has_space(inode.volume, end.saturating_sub(inode.size()))
@@ -177,11 +180,11 @@ fn has_link_left(inode: &Inode) -> bool
     inode.nlink < MAX_LINKS
 }
 
-// Whether a kept file is regular, and so many bytes at an offset are within the limit.
+// Whether a kept file is regular, and so many bytes at an offset, if any, are within the limit.
 fn takes_bytes(inode: &Inode, offset: usize, count: usize) -> bool
-    ensures { IsTrue result ↔ ((is_regular (kind_of inode.now.node) ≡ true) × (offset + count ≤ 16777216)) }
+    ensures { IsTrue result ↔ ((is_regular (kind_of inode.now.node) ≡ true) × (0 < count → offset + count ≤ 16777216)) }
 {
-    if offset > MAX_FILE_BYTES || count > MAX_FILE_BYTES - offset {
+    if count > 0 && (offset > MAX_FILE_BYTES || count > MAX_FILE_BYTES - offset) {
         return false;
     }
     match &inode.node {

@@ -3,7 +3,7 @@ ghost use Rattle.std.specs.Prelude.{◌≡◌, ◌+◌, ◌<◌, Option, Some, N
 ghost use Rattle.nfs_inodes.specs.Tree.{Regular, Directory, Link};
 ghost use Rattle.nfs_inodes.specs.Law.{Law};
 ghost use Rattle.nfs_inodes.specs.Changes.{Makes, file_made, directory_made, link_made, linked, written, volume_added, made, new_file, zeros, volume_of};
-ghost use Rattle.nfs_inodes.specs.May.{MayMake, MayMakeDirectory, MayMakeLink, MayLink, MayWrite, MayFound};
+ghost use Rattle.nfs_inodes.specs.May.{MayMake, MayMakeDirectory, MayMakeLink, MayLink, MayWrite, Grows, MayFound};
 ghost use Rattle.nfs_inodes.specs.Listing.{file_of, counted_of};
 ghost use Rattle.nfs_inodes.specs.Adding.{MayAdd, retagged, HasRoomFor};
 ghost use Rattle.nfs_inodes.specs.Kept.{with_totals};
@@ -154,7 +154,8 @@ impl Tree {
     }
 
     /// Puts bytes at an offset of a regular file, zeros in a gap before them; no bytes change
-    /// nothing (RFC 1813, section 3.3.7). Refused without memory, and then the tree is as before.
+    /// nothing (RFC 1813, section 3.3.7). Refused only without memory for what the file grows by,
+    /// and then the tree is as before.
     pub fn write_at(
         &mut self,
         number: Number,
@@ -165,6 +166,7 @@ impl Tree {
         requires { MayWrite self.old number.0 offset (length bytes.now) }
         ensures ok { OnOk result (self.new ≡ written self.old number.0 offset bytes.now now) }
         ensures err { OnErr result (self.new ≡ self.old) }
+        ensures full { OnErr result (Grows self.old number.0 offset (length bytes.now)) }
     {
         if bytes.is_empty() {
             return Ok(());

@@ -1,14 +1,14 @@
 use Rattle.std.proofs.Common.{ap, subst, sym, ◌∙◌}
-use Rattle.nfs_handles.specs.Numbered.{is_number, IsNumbered}
+use Rattle.nfs_handles.specs.Numbered.{IsNumbered}
 use Rattle.nfs_handles.specs.Untagged.{untagged}
 use Rattle.std.specs.Option.{ghost_name_of}
 use borrow.Follows.Closed.{read_of}
-use Rattle.nfs_handles.proofs.Untagged.{numbered_lent, value_untagged, value_lent, same_both}
+use Rattle.nfs_handles.proofs.Untagged.{searched, numbered_lent, value_untagged, value_lent, same_both}
 use Rattle.nfs_handles.proofs.files.Files.get_mut.Goals as goal
 
 pub invariant_of-self-lent : goal.invariant_of-self-lent
 invariant_of-self-lent g c = λ r. (
-  (λ w. numbered_lent c.self.inside.values.entries (c.get_mut.follows.lender w).entries c.self.inside.next c.self.inside.key (is_number c.args.number.0) w (c.get_mut.follows.holds w).0 c.self.invariant),
+  (λ w. numbered_lent c.self.inside.values.entries (c.get_mut.follows.lender w).entries c.self.inside.next c.self.inside.key (searched c.args.number.0) w (c.get_mut.follows.holds w).0 c.self.invariant),
   subst (λ m. IsNumbered (untagged m.entries c.self.inside.next c.self.inside.key)) (sym c.get_mut.follows.holds-at-none) c.self.invariant,
 )
 

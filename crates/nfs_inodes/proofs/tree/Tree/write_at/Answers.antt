@@ -2,18 +2,31 @@ use Rattle.std.proofs.Common.{length, sym, subst, ap, ◌∙◌}
 use Rattle.nfs_inodes.specs.Tree.{Tree}
 use Rattle.nfs_inodes.specs.Changes.{written}
 use Rattle.nfs_inodes.specs.May.{MayWrite}
+use Rattle.nfs_inodes.specs.Listing.{file_of}
+use Rattle.nfs_inodes.proofs.Shelves.{on_err}
+use Rattle.nfs_inodes.proofs.Views.{lives_there}
 use Rattle.nfs_inodes.proofs.Makings.{takes_bytes, room_to_grow, keeps_bytes, view_bytes, some_bytes}
 use Rattle.nfs_inodes.proofs.tree.Tree.write_at.Goals as goal
 
 pub write-requires : goal.write-requires
-write-requires c = takes_bytes c.self.inside.files c.self.inside.volumes.items c.args.number.0 c.args.offset c.args.bytes.now c.self.invariant (subst (λ (t : Tree). MayWrite t c.args.number.0 c.args.offset (length c.args.bytes.now)) (sym c.self.view_is) c.requires)
+write-requires c = takes_bytes c.self.inside.files c.self.inside.volumes.items c.args.number.0 c.args.offset c.args.bytes.now c.self.invariant (subst (λ (t : Tree). MayWrite t c.args.number.0 c.args.offset (length c.args.bytes.now)) (sym c.self.view_is) c.requires) (some_bytes c.args.bytes.now c.if-is_empty.ensures)
 
 pub count-requires : goal.count-requires
-count-requires c = room_to_grow c.self.inside.files c.self.inside.volumes.items c.args.number.0 c.args.offset c.args.bytes.now c.self.invariant (subst (λ (t : Tree). MayWrite t c.args.number.0 c.args.offset (length c.args.bytes.now)) (sym c.self.view_is) c.requires) c.args.now c.in_ok-growth.growth c.write.new.files c.in_ok-growth.ensures.ok
+count-requires c = room_to_grow c.self.inside.files c.self.inside.volumes.items c.args.number.0 c.args.offset c.args.bytes.now c.self.invariant (subst (λ (t : Tree). MayWrite t c.args.number.0 c.args.offset (length c.args.bytes.now)) (sym c.self.view_is) c.requires) (some_bytes c.args.bytes.now c.if-is_empty.ensures) c.args.now c.in_ok-growth.growth c.write.new.files c.in_ok-growth.ensures.ok
 
 pub invariant_of-self-2 : goal.invariant_of-self-2
-invariant_of-self-2 c = keeps_bytes c.self.inside.files c.self.inside.volumes.items c.args.number.0 c.args.offset c.args.bytes.now c.self.invariant (subst (λ (t : Tree). MayWrite t c.args.number.0 c.args.offset (length c.args.bytes.now)) (sym c.self.view_is) c.requires) c.args.now c.in_ok-growth.growth c.write.new.files c.in_ok-growth.ensures.ok c.count.new.volumes.items c.count.ensures
+invariant_of-self-2 c = keeps_bytes c.self.inside.files c.self.inside.volumes.items c.args.number.0 c.args.offset c.args.bytes.now c.self.invariant (subst (λ (t : Tree). MayWrite t c.args.number.0 c.args.offset (length c.args.bytes.now)) (sym c.self.view_is) c.requires) (some_bytes c.args.bytes.now c.if-is_empty.ensures) c.args.now c.in_ok-growth.growth c.write.new.files c.in_ok-growth.ensures.ok c.count.new.volumes.items c.count.ensures
 
 pub returns-clause-ok : goal.returns-clause-ok
-returns-clause-ok c = view_bytes c.self.inside.files c.self.inside.volumes.items c.args.number.0 c.args.offset c.args.bytes.now c.self.invariant (subst (λ (t : Tree). MayWrite t c.args.number.0 c.args.offset (length c.args.bytes.now)) (sym c.self.view_is) c.requires) c.args.now c.in_ok-growth.growth c.write.new.files c.in_ok-growth.ensures.ok c.count.new.volumes.items c.count.ensures (some_bytes c.args.bytes.now c.if-is_empty.ensures)
+returns-clause-ok c = view_bytes c.self.inside.files c.self.inside.volumes.items c.args.number.0 c.args.offset c.args.bytes.now c.self.invariant (subst (λ (t : Tree). MayWrite t c.args.number.0 c.args.offset (length c.args.bytes.now)) (sym c.self.view_is) c.requires) (some_bytes c.args.bytes.now c.if-is_empty.ensures) c.args.now c.in_ok-growth.growth c.write.new.files c.in_ok-growth.ensures.ok c.count.new.volumes.items c.count.ensures
     ∙ ap (λ (t : Tree). written t c.args.number.0 c.args.offset c.args.bytes.now c.args.now) c.self.view_is
+
+pub returns-in_err-growth-clause-full : goal.returns-in_err-growth-clause-full
+returns-in_err-growth-clause-full c =
+    let full = c.in_err-growth.ensures.full in
+    on_err c.from_residual.result (record {
+      some = some_bytes c.args.bytes.now c.if-is_empty.ensures;
+      file = file_of full.file.tag full.file.value;
+      at_file = lives_there c.self.inside.files c.self.inside.volumes.items c.args.self.now c.self.view_is c.args.number.0 full.file full.at_file;
+      beyond = full.beyond;
+    })
