@@ -79,7 +79,7 @@ changes_follow = record {
 abbrev tagged : File → Filed File
 tagged f = record { tag = f.tag; value = f }
 
-lives_alike : (u : Tree) (n : ℕ) → is_some (Rattle.nfs_handles.specs.Numbered.at (numbered u) n) ≡ is_some (at n u.files)
+pub lives_alike : (u : Tree) (n : ℕ) → is_some (Rattle.nfs_handles.specs.Numbered.at (numbered u) n) ≡ is_some (at n u.files)
 lives_alike u n = ap is_some (at_shows tagged n u.files) ∙ mapped (at n u.files)
   where
     mapped : (o : Option File) → is_some (option_map tagged o) ≡ is_some o

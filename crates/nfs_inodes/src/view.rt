@@ -85,7 +85,7 @@ impl Tree {
         }
     }
 
-    /// The handle of a file that lives (RFC 1813, section 2.3.3, nfs_fh3), without a search.
+    /// The handle of a file that lives (RFC 1813, section 2.6, nfs_fh3), without a search.
     pub fn handle(&self, file: &FileView<'_>) -> [u8; 24]
         requires { IsSeen self.now file.now }
         ensures { handle_at (numbered self.now) file.now.attributes.fileid ≡ Some result }

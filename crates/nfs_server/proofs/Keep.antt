@@ -8,4 +8,4 @@ use Rattle.nfs_server.specs.Keeping.{choice_of, Answers}
 pub answers_go : (past : Past) (old : Held) (event : Event) (answer : Answer) (new : Held) → Fits past old → Answers old event answer new
     → Step old.setup past.done old.state event (choice_of old event answer) answer new.state × Fits (after past event (choice_of old event answer) answer) new
 answers_go past old event answer new fits answers =
-    (answers.1, record { run = subst (λ s. IsRun s past.opening (after past event (choice_of old event answer) answer).done new.state) (sym answers.0) (old.state, fits.run, answers.1) })
+    (answers.1, record { opens = fits.opens; run = subst (λ s. IsRun s past.opening (after past event (choice_of old event answer) answer).done new.state) (sym answers.0) (old.state, fits.run, answers.1) })

@@ -5,3 +5,4 @@ pub mod Going
 pub mod Forward
 pub mod Arguments
 pub mod Built
+pub mod Cases

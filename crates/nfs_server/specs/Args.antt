@@ -22,7 +22,7 @@ procedure_of (GetAttr file) = 1
 procedure_of (Lookup dir name) = 3
 procedure_of (ReadFile file offset count) = 6
 
--- nfs_fh3 (section 2.3.3), of at most 64 bytes
+-- nfs_fh3 (section 2.6), of at most 64 bytes
 abbrev pub IsHandle : List ℕ → List ℕ → Type 0
 IsHandle = IsOpaque 64
 

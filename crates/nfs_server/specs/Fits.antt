@@ -1,5 +1,6 @@
 -- Which pasts fit a server. The server stores none: a past is the caller's.
 use Rattle.std.specs.Prelude.{List, ◌∷◌}
+use Rattle.nfs_inodes.specs.Law.{Law}
 use Rattle.nfs_server.specs.Events.{Event, Answer, Choice, Done}
 use Rattle.nfs_server.specs.Steps.{Setup, State, IsRun}
 
@@ -17,6 +18,11 @@ pub record Past : Type 0 where
 abbrev pub after : Past → Event → Choice → Answer → Past
 after past event choice answer = record { opening = past.opening; done = record { event = event; choice = choice; answer = answer } ∷ past.done }
 
--- the past is a run that ends in what the server holds
+-- what a server begins with: a lawful tree
+abbrev pub IsOpening : State → Type 0
+IsOpening opening = Law opening.tree
+
+-- the past is a run from such an opening that ends in what the server holds
 pub record Fits (past : Past) (s : Held) : Type 0 where
+  pub opens : IsOpening past.opening
   pub run : IsRun s.setup past.opening past.done s.state

@@ -17,3 +17,4 @@ pub mod Keeping
 pub mod Runs
 pub mod Forward
 pub mod Connections
+pub mod Cases

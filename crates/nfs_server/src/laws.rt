@@ -3,6 +3,7 @@ ghost use Rattle.std.specs.Prelude.{ℕ};
 ghost use Rattle.nfs_xdr.specs.Spelling.{SpellsOnce};
 ghost use Rattle.nfs_xdr.specs.Reading.{Finds};
 ghost use Rattle.nfs_server.specs.Args.{IsArgsOf, args_at};
+ghost use Rattle.nfs_server.specs.Cases.{CallsAskForSomething, GrantedHasSubject, FoundHasHandle};
 ghost use Rattle.nfs_server.specs.Forward.{RunsForward};
 ghost use Rattle.nfs_server.specs.Results.{ResultsTell};
 
@@ -23,4 +24,13 @@ pub fn results_tell_the_verdict()
 pub fn arguments_are_found()
     ensures found { (proc : ℕ) → Finds (IsArgsOf proc) (args_at proc) }
     ensures once { (proc : ℕ) → SpellsOnce (IsArgsOf proc) }
+{}
+
+/// No call comes to those cases of the definitions that stand for nothing: a call that fails no
+/// rule of RPC and isn't NULL asks for something, a call that fails no rule of its procedure has a
+/// file with its export, and what is found under a name has a handle.
+pub fn no_case_is_left()
+    ensures requests { CallsAskForSomething }
+    ensures subjects { GrantedHasSubject }
+    ensures handles { FoundHasHandle }
 {}

@@ -49,6 +49,7 @@ impl Server {
         ensures tree { IfOk result (λ server. server.state.tree ≡ loaded.tree) }
         ensures fits { IfOk result (λ server. Fits (record { opening = server.state; done = [] }) server) }
     {
+        loaded.tree.law();
         Ok(Server {
             tree: loaded.tree,
             table: loaded.table,

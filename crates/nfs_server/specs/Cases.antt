@@ -1,0 +1,24 @@
+-- Cases of the definitions that no call comes to.
+use Rattle.std.specs.Prelude.{◌≡◌, ℕ, false, List, Some, None, IsSome}
+use Rattle.nfs_handles.specs.Handles.{handle_at}
+use Rattle.nfs_inodes.specs.Tree.{Tree}
+use Rattle.nfs_inodes.specs.Law.{Law}
+use Rattle.nfs_inodes.specs.Reading.{found, numbered}
+use Rattle.nfs_rpc.specs.Calls.{Call}
+use Rattle.nfs_server.specs.declared.event.Addr.{Addr}
+use Rattle.nfs_server.specs.declared.exports.Export.{Export}
+use Rattle.nfs_server.specs.RpcRules.{is_nfs, is_null, rpc_failure_of}
+use Rattle.nfs_server.specs.Rules.{Request, subject, verdict}
+use Rattle.nfs_server.specs.Steps.{request_of}
+
+-- Where no rule of RPC fails, a call of NFS other than NULL asks for something.
+abbrev pub CallsAskForSomething : Type 0
+CallsAskForSomething = (addr : Addr) (call : Call) (bytes : List ℕ) → rpc_failure_of call bytes ≡ None → is_null call ≡ false → IsSome (request_of addr call bytes)
+
+-- Where no rule of a call fails, its handle names a file of the lawful tree that an export grants.
+abbrev pub GrantedHasSubject : Type 0
+GrantedHasSubject = (t : Tree) (exports : List Export) (r : Request) → Law t → verdict t exports r ≡ None → IsSome (subject t exports r)
+
+-- What a lawful tree finds under a name has a handle.
+abbrev pub FoundHasHandle : Type 0
+FoundHasHandle = (t : Tree) (d n : ℕ) (name : List ℕ) → Law t → found t d name ≡ Some n → IsSome (handle_at (numbered t) n)
