@@ -7,7 +7,7 @@ use Rattle.std.proofs.lemmas.Bool.{eq-eqb, eqb-true, leb-true}
 use Rattle.std.proofs.lemmas.Map.Views.{IfSome-lookup_from_All}
 use Rattle.std.specs.Option.{IfSome}
 use Rattle.std.proofs.lemmas.Slice.Eq.{bytes_eq-Decides}
-use Rattle.nfs_handles.specs.Numbered.{Filed, Numbered, at, IsGiven, IsNumbered}
+use Rattle.nfs_handles.specs.NumberedFiles.{TaggedFile, NumberedFiles, at, IsGiven, IsNumbered}
 use Rattle.nfs_handles.specs.Handles.{handle_text, handle_at, is_shaped, key_in, tag_in, number_in, live_with, reading, number}
 use Rattle.nfs_handles.specs.declared.number.Number.{Number}
 use Rattle.nfs_handles.specs.declared.reading.Reading.{Reading}
@@ -62,7 +62,7 @@ no_zero n l = by (nat_eq n 0) (eqb-true n 0)
 pub is_given : (next n : ℕ) → IsGiven next n → (nat_eq n 0 || nat_le next n) ≡ false
 is_given next n g = ap (λ b. b || nat_le next n) (no_zero n g.counted) ∙ no_le next n g.below
 
-module _ {T : Type 0} (t : Numbered T) where
+module _ {T : Type 0} (t : NumberedFiles T) where
   pub past_checks : (bytes : List ℕ) (n : ℕ) → is_shaped bytes ≡ true → key_in bytes ≡ t.key → number_in bytes ≡ n → IsGiven t.next n → reading t bytes ≡ live_with (tag_in bytes) n (at t n)
   past_checks bytes n shaped ours names g =
       let m : ℕ = number_in bytes in
@@ -73,10 +73,10 @@ module _ {T : Type 0} (t : Numbered T) where
       ∙ ap (λ b. judged true true b rest) given
       ∙ ap (λ k. live_with (tag_in bytes) k (at t k)) names
 
-  pub live_reads : (n : ℕ) (file : Filed T) → IsNumbered t → at t n ≡ Some file → reading t (handle_text t.key file.tag n) ≡ Live (number n)
+  pub live_reads : (n : ℕ) (file : TaggedFile T) → IsNumbered t → at t n ≡ Some file → reading t (handle_text t.key file.tag n) ≡ Live (number n)
   live_reads n file h found =
       let given : IsGiven t.next n = live_is_given t n h (ap is_some found) in
-      let fits : file.tag < 2 ^ 32 = subst (λ o. IfSome o (λ (f : Filed T). f.tag < 2 ^ 32)) found (IfSome-lookup_from_All (λ (f : Filed T). f.tag < 2 ^ 32) (nat_eq n) t.files h.tags) in
+      let fits : file.tag < 2 ^ 32 = subst (λ o. IfSome o (λ (f : TaggedFile T). f.tag < 2 ^ 32)) found (IfSome-lookup_from_All (λ (f : TaggedFile T). f.tag < 2 ^ 32) (nat_eq n) t.files h.tags) in
       let whole : n < 2 ^ 64 = omega (arith, given.below, h.last) in
       let parts : AreParts (handle_text t.key file.tag n) t.key file.tag n = parts_are t.key file.tag n h.key_len fits whole in
       past_checks (handle_text t.key file.tag n) n parts.shaped parts.ours parts.named given
@@ -93,19 +93,19 @@ unfolding live_number
 one_live m n e = ap live_number e
 
 module _ {T : Type 0} where
-  pub record Held (t : Numbered T) (n : ℕ) (handle : List ℕ) : Type 0 where
-    pub file : Filed T
+  pub record Held (t : NumberedFiles T) (n : ℕ) (handle : List ℕ) : Type 0 where
+    pub file : TaggedFile T
     pub found : at t n ≡ Some file
     pub text_is : handle_text t.key file.tag n ≡ handle
 
-  pub held : (t : Numbered T) (n : ℕ) (handle : List ℕ) → handle_at t n ≡ Some handle → Held t n handle
+  pub held : (t : NumberedFiles T) (n : ℕ) (handle : List ℕ) → handle_at t n ≡ Some handle → Held t n handle
   held t n handle e = by (at t n) refl e
     where
-      by : (o : Option (Filed T)) → at t n ≡ o → option_map (λ (file : Filed T). handle_text t.key file.tag n) o ≡ Some handle → Held t n handle
+      by : (o : Option (TaggedFile T)) → at t n ≡ o → option_map (λ (file : TaggedFile T). handle_text t.key file.tag n) o ≡ Some handle → Held t n handle
       by None is e = cc
       by (Some file) is e = record { file = file; found = is; text_is = cc }
 
-  handle_reads : (t : Numbered T) (n : ℕ) (handle : List ℕ) → IsNumbered t → handle_at t n ≡ Some handle → reading t handle ≡ Live (number n)
+  handle_reads : (t : NumberedFiles T) (n : ℕ) (handle : List ℕ) → IsNumbered t → handle_at t n ≡ Some handle → reading t handle ≡ Live (number n)
   handle_reads t n handle h e =
       let it : Held t n handle = held t n handle e in
       subst (λ bytes. reading t bytes ≡ Live (number n)) it.text_is (live_reads t n it.file h it.found)
@@ -125,23 +125,23 @@ checks_of true false g rest m e = cc
 checks_of false k g rest m e = cc
 
 module _ {T : Type 0} where
-  pub record Names (t : Numbered T) (n : ℕ) (bytes : List ℕ) : Type 0 where
+  pub record Names (t : NumberedFiles T) (n : ℕ) (bytes : List ℕ) : Type 0 where
     pub shaped : is_shaped bytes ≡ true
     pub ours : key_in bytes ≡ t.key
     pub number : number_in bytes ≡ n
-    pub file : Filed T
+    pub file : TaggedFile T
     pub found : at t n ≡ Some file
     pub tag : tag_in bytes ≡ file.tag
 
-  live_of : (tag k n : ℕ) (o : Option (Filed T)) → live_with tag k o ≡ Live (number n) → (k ≡ n) × (file : Filed T) × (o ≡ Some file) × (tag ≡ file.tag)
+  live_of : (tag k n : ℕ) (o : Option (TaggedFile T)) → live_with tag k o ≡ Live (number n) → (k ≡ n) × (file : TaggedFile T) × (o ≡ Some file) × (tag ≡ file.tag)
   live_of tag k n None e = cc
   live_of tag k n (Some file) e = by (nat_eq tag file.tag) refl e
     where
-      by : (b : Bool) → nat_eq tag file.tag ≡ b → cond b (Live (number k)) Stale ≡ Live (number n) → (k ≡ n) × (other : Filed T) × (Some file ≡ Some other) × (tag ≡ other.tag)
+      by : (b : Bool) → nat_eq tag file.tag ≡ b → cond b (Live (number k)) Stale ≡ Live (number n) → (k ≡ n) × (other : TaggedFile T) × (Some file ≡ Some other) × (tag ≡ other.tag)
       by true is e = (one_live k n e, file, refl, eqb-true tag file.tag is)
       by false is e = cc
 
-  pub names : (t : Numbered T) (n : ℕ) (bytes : List ℕ) → reading t bytes ≡ Live (number n) → Names t n bytes
+  pub names : (t : NumberedFiles T) (n : ℕ) (bytes : List ℕ) → reading t bytes ≡ Live (number n) → Names t n bytes
   names t n bytes e =
       let m : ℕ = number_in bytes in
       let c = checks_of (is_shaped bytes) (bytes_eq (key_in bytes) t.key) (nat_eq m 0 || nat_le t.next m) (live_with (tag_in bytes) m (at t m)) (number n) e in

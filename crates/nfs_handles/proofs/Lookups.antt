@@ -9,7 +9,7 @@ use Rattle.std.proofs.lemmas.Bool.{eqb-true}
 use Rattle.std.proofs.lemmas.List.Elements.{All-tail, All-head}
 use Rattle.std.proofs.lemmas.Map.{lookup-set_value, lookup-remove_entry}
 use Rattle.std.proofs.lemmas.Map.Keys.{IsDistinct-from_sorted}
-use Rattle.nfs_handles.specs.Numbered.{Filed, Numbered, at, with_new, revalued, with_value, without, IsGiven, IsNumbered}
+use Rattle.nfs_handles.specs.NumberedFiles.{TaggedFile, NumberedFiles, at, with_new, revalued, with_value, without, IsGiven, IsNumbered}
 use Rattle.nfs_handles.specs.Runs.{FilesAre}
 
 one_number : (m x y : ℕ) → nat_eq m x ≡ true → nat_eq m y ≡ nat_eq x y
@@ -50,19 +50,19 @@ none_of None f = refl
 none_of (Some x) f = absurd (f refl)
 
 module _ {T : Type 0} where
-  pub live_is_given : (t : Numbered T) (n : ℕ) → IsNumbered t → IsSome (at t n) → IsGiven t.next n
+  pub live_is_given : (t : NumberedFiles T) (n : ℕ) → IsNumbered t → IsSome (at t n) → IsGiven t.next n
   live_is_given t n h some = lookup_given (IsGiven t.next) n t.files h.given some
 
-  pub none_is_next : (t : Numbered T) → IsNumbered t → at t t.next ≡ None
+  pub none_is_next : (t : NumberedFiles T) → IsNumbered t → at t t.next ≡ None
   none_is_next t h = none_of (at t t.next) (λ some. let g : IsGiven t.next t.next = live_is_given t t.next h some in omega (arith, g.below))
 
-  pub at_new : (t : Numbered T) (tag : ℕ) (v : T) (n : ℕ) → IsNumbered t → at (with_new t tag v) n ≡ cond (nat_eq t.next n) (Some (record { tag = tag; value = v })) (at t n)
+  pub at_new : (t : NumberedFiles T) (tag : ℕ) (v : T) (n : ℕ) → IsNumbered t → at (with_new t tag v) n ≡ cond (nat_eq t.next n) (Some (record { tag = tag; value = v })) (at t n)
   at_new t tag v n h = lookup_last n t.files t.next file ∙ by (nat_eq t.next n) refl
     where
-      file : Filed T
+      file : TaggedFile T
       file = record { tag = tag; value = v }
 
-      old : (o : Option (Filed T)) → cond (is_some o) o (cond false (Some file) None) ≡ o
+      old : (o : Option (TaggedFile T)) → cond (is_some o) o (cond false (Some file) None) ≡ o
       old None = refl
       old (Some x) = refl
 
@@ -73,19 +73,19 @@ module _ {T : Type 0} where
           ap (λ o. cond (is_some o) o (cond (nat_eq n t.next) (Some file) None)) none ∙ ap (λ b. cond b (Some file) None) (turned n t.next ∙ e)
       by false e = ap (λ b. cond (is_some (at t n)) (at t n) (cond b (Some file) None)) (turned n t.next ∙ e) ∙ old (at t n)
 
-  pub at_value : (t : Numbered T) (m : ℕ) (v : T) (n : ℕ) → at (with_value t m v) n ≡ cond (nat_eq m n) (option_map (λ file. record { tag = file.tag; value = v }) (at t m)) (at t n)
+  pub at_value : (t : NumberedFiles T) (m : ℕ) (v : T) (n : ℕ) → at (with_value t m v) n ≡ cond (nat_eq m n) (option_map (λ file. record { tag = file.tag; value = v }) (at t m)) (at t n)
   at_value t m v n = by (at t m) refl
     where
       gone : (b : Bool) → nat_eq m n ≡ b → at t m ≡ None → at t n ≡ cond b None (at t n)
       gone true e z = subst (λ k. at t k ≡ None) (eqb-true m n e) z
       gone false e z = refl
 
-      by : (o : Option (Filed T)) → at t m ≡ o → at (revalued t m v o) n ≡ cond (nat_eq m n) (option_map (λ file. record { tag = file.tag; value = v }) o) (at t n)
+      by : (o : Option (TaggedFile T)) → at t m ≡ o → at (revalued t m v o) n ≡ cond (nat_eq m n) (option_map (λ file. record { tag = file.tag; value = v }) o) (at t n)
       by None e = gone (nat_eq m n) refl e
       by (Some file) e =
           lookup-set_value numbers_equal (nat_eq m) (one_number m) n (record { tag = file.tag; value = v }) t.files (ap is_some e)
 
-  pub at_without : (t : Numbered T) (m n : ℕ) → IsNumbered t → at (without t m) n ≡ cond (nat_eq m n) None (at t n)
+  pub at_without : (t : NumberedFiles T) (m n : ℕ) → IsNumbered t → at (without t m) n ≡ cond (nat_eq m n) None (at t n)
   at_without t m n h =
       lookup-remove_entry numbers_equal (nat_eq m) (one_number m) n t.files (subst (λ same. IsDistinct same (keys_of t.files)) (sym compared) (IsDistinct-from_sorted nat_cmp (keys_of t.files) h.rising))
 

@@ -8,7 +8,7 @@ use Rattle.std.proofs.lemmas.List.{map-append}
 use Rattle.std.proofs.lemmas.List.Elements.{All-push, All-weaker, All-tail, All-head, recursion_from_All, All-from_recursion}
 use Rattle.std.proofs.lemmas.Map.{keys-set_value}
 use Rattle.std.proofs.lemmas.Map.Views.{All-map-remove_entry, All-values-set_value, IfSome-lookup_from_All}
-use Rattle.nfs_handles.specs.Numbered.{Filed, Numbered, at, with_new, revalued, with_value, without, IsGiven, IsNumbered}
+use Rattle.nfs_handles.specs.NumberedFiles.{TaggedFile, NumberedFiles, at, with_new, revalued, with_value, without, IsGiven, IsNumbered}
 
 pub less : (x y : ℕ) → x < y → nat_cmp x y ≡ Less
 less x y l = sym (nat_cmp_is x y Less l)
@@ -43,14 +43,14 @@ later : (next k : ℕ) → IsGiven next k → IsGiven (next + 1) k
 later next k g = record { counted = g.counted; below = omega (arith, g.below) }
 
 module _ {T : Type 0} where
-  abbrev HasTag : Filed T → Type 0
+  abbrev HasTag : TaggedFile T → Type 0
   HasTag file = file.tag < 2 ^ 32
 
-  pub numbered_new : (t : Numbered T) (tag : ℕ) (v : T) → IsNumbered t → tag < 2 ^ 32 → t.next + 1 < 2 ^ 64 → IsNumbered (with_new t tag v)
+  pub numbered_new : (t : NumberedFiles T) (tag : ℕ) (v : T) → IsNumbered t → tag < 2 ^ 32 → t.next + 1 < 2 ^ 64 → IsNumbered (with_new t tag v)
   numbered_new t tag v h fits room =
-      let file : Filed T = record { tag = tag; value = v } in
-      let keys : keys_of (t.files ++ (t.next, file) ∷ []) ≡ keys_of t.files ++ t.next ∷ [] = map-append (λ (e : ℕ × Filed T). e.0) t.files ((t.next, file) ∷ []) in
-      let values : values_of (t.files ++ (t.next, file) ∷ []) ≡ values_of t.files ++ file ∷ [] = map-append (λ (e : ℕ × Filed T). e.1) t.files ((t.next, file) ∷ []) in
+      let file : TaggedFile T = record { tag = tag; value = v } in
+      let keys : keys_of (t.files ++ (t.next, file) ∷ []) ≡ keys_of t.files ++ t.next ∷ [] = map-append (λ (e : ℕ × TaggedFile T). e.0) t.files ((t.next, file) ∷ []) in
+      let values : values_of (t.files ++ (t.next, file) ∷ []) ≡ values_of t.files ++ file ∷ [] = map-append (λ (e : ℕ × TaggedFile T). e.1) t.files ((t.next, file) ∷ []) in
       let old : All (IsGiven (t.next + 1)) (keys_of t.files) = All-weaker (IsGiven t.next) (IsGiven (t.next + 1)) (later t.next) (keys_of t.files) h.given in
       let this : IsGiven (t.next + 1) t.next = record { counted = h.some; below = omega arith } in
       record {
@@ -63,13 +63,13 @@ module _ {T : Type 0} where
         key_bytes = h.key_bytes;
       }
 
-  pub numbered_value : (t : Numbered T) (n : ℕ) (v : T) → IsNumbered t → IsNumbered (with_value t n v)
+  pub numbered_value : (t : NumberedFiles T) (n : ℕ) (v : T) → IsNumbered t → IsNumbered (with_value t n v)
   numbered_value t n v h = by (at t n) (IfSome-lookup_from_All HasTag (nat_eq n) t.files h.tags)
     where
-      by : (o : Option (Filed T)) → IfSome o HasTag → IsNumbered (revalued t n v o)
+      by : (o : Option (TaggedFile T)) → IfSome o HasTag → IsNumbered (revalued t n v o)
       by None fits = h
       by (Some file) fits =
-          let new : Filed T = record { tag = file.tag; value = v } in
+          let new : TaggedFile T = record { tag = file.tag; value = v } in
           let keys : keys_of (set_value (nat_eq n) t.files new) ≡ keys_of t.files = keys-set_value (nat_eq n) t.files new in
           record {
             rising = subst (IsStrictlySortedBy nat_cmp) (sym keys) h.rising;
@@ -81,11 +81,11 @@ module _ {T : Type 0} where
             key_bytes = h.key_bytes;
           }
 
-  pub numbered_without : (t : Numbered T) (n : ℕ) → IsNumbered t → IsNumbered (without t n)
+  pub numbered_without : (t : NumberedFiles T) (n : ℕ) → IsNumbered t → IsNumbered (without t n)
   numbered_without t n h = record {
     rising = sorted_remove (nat_eq n) t.files h.rising;
-    given = All-map-remove_entry (nat_eq n) (λ (e : ℕ × Filed T). e.0) (IsGiven t.next) t.files h.given;
-    tags = All-map-remove_entry (nat_eq n) (λ (e : ℕ × Filed T). e.1) HasTag t.files h.tags;
+    given = All-map-remove_entry (nat_eq n) (λ (e : ℕ × TaggedFile T). e.0) (IsGiven t.next) t.files h.given;
+    tags = All-map-remove_entry (nat_eq n) (λ (e : ℕ × TaggedFile T). e.1) HasTag t.files h.tags;
     some = h.some;
     last = h.last;
     key_len = h.key_len;

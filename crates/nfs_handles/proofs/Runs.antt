@@ -1,7 +1,7 @@
 -- What runs keep.
 use Rattle.std.proofs.Common.{◌≡◌, ℕ, ◌-◌, ◌^◌, ◌<◌, ◌≤◌, ◌⊎◌, inl, inr, Bool, true, false, cond, List, [], ◌∷◌, ◌++◌, Option, Some, None, Result, Ok, Err, IsSome, is_some, option_map, nat_eq, sym, ap, subst, refl, ◌∙◌, arith}
 use Rattle.std.proofs.lemmas.Bool.{eq-eqb, eqb-true}
-use Rattle.nfs_handles.specs.Numbered.{Filed, Numbered, at, tag_at, revalued, without, IsGiven, IsNumbered}
+use Rattle.nfs_handles.specs.NumberedFiles.{TaggedFile, NumberedFiles, at, tag_at, revalued, without, IsGiven, IsNumbered}
 use Rattle.nfs_handles.specs.Handles.{tag_in, live_with, reading, number}
 use Rattle.nfs_handles.specs.Changes.{Puts, Takes}
 use Rattle.nfs_handles.specs.declared.number.Number.{Number}
@@ -32,16 +32,16 @@ no_eq m n l = by (nat_eq m n) (eqb-true m n)
 module _ {T : Type 0} where
   -- ---- one change
 
-  puts_go : (old new : Numbered T) (v : T) (result : Result Number (PutFault T)) → Puts old v result new → Goes old new
+  puts_go : (old new : NumberedFiles T) (v : T) (result : Result Number (PutFault T)) → Puts old v result new → Goes old new
   puts_go old new v (Ok n) p = (Put p.2.tag v, (p.2.fits, p.1), p.2.new_is)
   puts_go old new v (Err (Spent back)) p = (Nothing, tt, p.2)
   puts_go old new v (Err (Memory back)) p = (Nothing, tt, p.2)
 
-  takes_go : (old new : Numbered T) (n : ℕ) (result : Option T) → Takes old n result new → Goes old new
+  takes_go : (old new : NumberedFiles T) (n : ℕ) (result : Option T) → Takes old n result new → Goes old new
   takes_go old new n (Some v) p = (Taken n, tt, p.1)
   takes_go old new n None p = (Nothing, tt, p.1)
 
-  numbered_changed : (t : Numbered T) (change : Change T) → IsNumbered t → CanChange t change → IsNumbered (changed t change)
+  numbered_changed : (t : NumberedFiles T) (change : Change T) → IsNumbered t → CanChange t change → IsNumbered (changed t change)
   numbered_changed t Nothing h can = h
   numbered_changed t (Put tag v) h can =
       let more : t.next ≡ 2 ^ 64 - 1 → ⊥ = can.1 in
@@ -49,39 +49,39 @@ module _ {T : Type 0} where
   numbered_changed t (Changed n v) h can = numbered_value t n v h
   numbered_changed t (Taken n) h can = numbered_without t n h
 
-  key_revalued : (t : Numbered T) (n : ℕ) (v : T) (o : Option (Filed T)) → (revalued t n v o).key ≡ t.key
+  key_revalued : (t : NumberedFiles T) (n : ℕ) (v : T) (o : Option (TaggedFile T)) → (revalued t n v o).key ≡ t.key
   key_revalued t n v None = refl
   key_revalued t n v (Some file) = refl
 
-  next_revalued : (t : Numbered T) (n : ℕ) (v : T) (o : Option (Filed T)) → (revalued t n v o).next ≡ t.next
+  next_revalued : (t : NumberedFiles T) (n : ℕ) (v : T) (o : Option (TaggedFile T)) → (revalued t n v o).next ≡ t.next
   next_revalued t n v None = refl
   next_revalued t n v (Some file) = refl
 
-  key_changed : (t : Numbered T) (change : Change T) → (changed t change).key ≡ t.key
+  key_changed : (t : NumberedFiles T) (change : Change T) → (changed t change).key ≡ t.key
   key_changed t Nothing = refl
   key_changed t (Put tag v) = refl
   key_changed t (Changed n v) = key_revalued t n v (at t n)
   key_changed t (Taken n) = refl
 
-  next_changed : (t : Numbered T) (change : Change T) → t.next ≤ (changed t change).next
+  next_changed : (t : NumberedFiles T) (change : Change T) → t.next ≤ (changed t change).next
   next_changed t Nothing = omega arith
   next_changed t (Put tag v) = omega arith
   next_changed t (Changed n v) = omega (arith, next_revalued t n v (at t n))
   next_changed t (Taken n) = omega arith
 
-  abbrev tag_of : Option (Filed T) → Option ℕ
-  tag_of o = option_map (λ (file : Filed T). file.tag) o
+  abbrev tag_of : Option (TaggedFile T) → Option ℕ
+  tag_of o = option_map (λ (file : TaggedFile T). file.tag) o
 
-  tag_changed : (t : Numbered T) (change : Change T) (n : ℕ) → IsNumbered t → n < t.next → Keeps (tag_at t n) (tag_at (changed t change) n)
+  tag_changed : (t : NumberedFiles T) (change : Change T) (n : ℕ) → IsNumbered t → n < t.next → Keeps (tag_at t n) (tag_at (changed t change) n)
   tag_changed t Nothing n h l = inl refl
   tag_changed t (Put tag v) n h l = inl (ap tag_of (at_new t tag v n h) ∙ ap (λ b. tag_of (cond b (Some (record { tag = tag; value = v })) (at t n))) (no_eq t.next n l))
   tag_changed t (Changed m v) n h l = inl (ap tag_of (at_value t m v n) ∙ by (nat_eq m n) refl)
     where
-      same : (o : Option (Filed T)) → tag_of (option_map (λ (file : Filed T). record { tag = file.tag; value = v }) o) ≡ tag_of o
+      same : (o : Option (TaggedFile T)) → tag_of (option_map (λ (file : TaggedFile T). record { tag = file.tag; value = v }) o) ≡ tag_of o
       same None = refl
       same (Some file) = refl
 
-      by : (b : Bool) → nat_eq m n ≡ b → tag_of (cond b (option_map (λ (file : Filed T). record { tag = file.tag; value = v }) (at t m)) (at t n)) ≡ tag_at t n
+      by : (b : Bool) → nat_eq m n ≡ b → tag_of (cond b (option_map (λ (file : TaggedFile T). record { tag = file.tag; value = v }) (at t m)) (at t n)) ≡ tag_at t n
       by true e = same (at t m) ∙ ap (tag_at t) (eqb-true m n e)
       by false e = refl
   tag_changed t (Taken m) n h l = by (nat_eq m n) (ap tag_of (at_without t m n h))
@@ -92,52 +92,52 @@ module _ {T : Type 0} where
 
   -- ---- a run
 
-  run_joined : (t u w : Numbered T) (first later : List (Change T)) → Runs t first u → Runs u later w → Runs t (first ++ later) w
+  run_joined : (t u w : NumberedFiles T) (first later : List (Change T)) → Runs t first u → Runs u later w → Runs t (first ++ later) w
   run_joined t u w [] later r s = subst (λ v. Runs v later w) r s
   run_joined t u w (change ∷ first) later r s = (r.0, run_joined (changed t change) u w first later r.1 s)
 
-  run_numbered : (t u : Numbered T) (changes : List (Change T)) → IsNumbered t → Runs t changes u → IsNumbered u
+  run_numbered : (t u : NumberedFiles T) (changes : List (Change T)) → IsNumbered t → Runs t changes u → IsNumbered u
   run_numbered t u [] h r = subst IsNumbered (sym r) h
   run_numbered t u (change ∷ later) h r = run_numbered (changed t change) u later (numbered_changed t change h r.0) r.1
 
-  run_key : (t u : Numbered T) (changes : List (Change T)) → Runs t changes u → u.key ≡ t.key
-  run_key t u [] r = ap (λ (w : Numbered T). w.key) r
+  run_key : (t u : NumberedFiles T) (changes : List (Change T)) → Runs t changes u → u.key ≡ t.key
+  run_key t u [] r = ap (λ (w : NumberedFiles T). w.key) r
   run_key t u (change ∷ later) r = run_key (changed t change) u later r.1 ∙ key_changed t change
 
-  run_next : (t u : Numbered T) (changes : List (Change T)) → Runs t changes u → t.next ≤ u.next
-  run_next t u [] r = subst (λ (w : Numbered T). t.next ≤ w.next) (sym r) (omega arith)
+  run_next : (t u : NumberedFiles T) (changes : List (Change T)) → Runs t changes u → t.next ≤ u.next
+  run_next t u [] r = subst (λ (w : NumberedFiles T). t.next ≤ w.next) (sym r) (omega arith)
   run_next t u (change ∷ later) r =
       let first : t.next ≤ (changed t change).next = next_changed t change in
       let then : (changed t change).next ≤ u.next = run_next (changed t change) u later r.1 in
       omega arith
 
-  run_tag : (t u : Numbered T) (changes : List (Change T)) (n : ℕ) → IsNumbered t → Runs t changes u → n < t.next → Keeps (tag_at t n) (tag_at u n)
-  run_tag t u [] n h r l = inl (ap (λ (w : Numbered T). tag_at w n) r)
+  run_tag : (t u : NumberedFiles T) (changes : List (Change T)) (n : ℕ) → IsNumbered t → Runs t changes u → n < t.next → Keeps (tag_at t n) (tag_at u n)
+  run_tag t u [] n h r l = inl (ap (λ (w : NumberedFiles T). tag_at w n) r)
   run_tag t u (change ∷ later) n h r l =
       let next : t.next ≤ (changed t change).next = next_changed t change in
       both (tag_at t n) (tag_at (changed t change) n) (tag_at u n) (tag_changed t change n h l)
       (run_tag (changed t change) u later n (numbered_changed t change h r.0) r.1 (omega arith))
 
-  untagged_is_none : (o : Option (Filed T)) → tag_of o ≡ None → o ≡ None
+  untagged_is_none : (o : Option (TaggedFile T)) → tag_of o ≡ None → o ≡ None
   untagged_is_none None e = refl
   untagged_is_none (Some file) e = cc
 
-  run_gone : (t u : Numbered T) (changes : List (Change T)) (n : ℕ) → IsNumbered t → Runs t changes u → n < t.next → at t n ≡ None → at u n ≡ None
+  run_gone : (t u : NumberedFiles T) (changes : List (Change T)) (n : ℕ) → IsNumbered t → Runs t changes u → n < t.next → at t n ≡ None → at u n ≡ None
   run_gone t u changes n h r l none = untagged_is_none (at u n) (by (run_tag t u changes n h r l))
     where
       by : Keeps (tag_at t n) (tag_at u n) → tag_at u n ≡ None
       by (inl e) = e ∙ ap tag_of none
       by (inr e) = e
 
-  run_lives : (t u : Numbered T) (changes : List (Change T)) (n : ℕ) → IsNumbered t → Runs t changes u → n < t.next → IsSome (at u n) → tag_at u n ≡ tag_at t n
+  run_lives : (t u : NumberedFiles T) (changes : List (Change T)) (n : ℕ) → IsNumbered t → Runs t changes u → n < t.next → IsSome (at u n) → tag_at u n ≡ tag_at t n
   run_lives t u changes n h r l some = by (at u n) some (run_tag t u changes n h r l)
     where
-      by : (o : Option (Filed T)) → IsSome o → Keeps (tag_at t n) (tag_of o) → tag_of o ≡ tag_at t n
+      by : (o : Option (TaggedFile T)) → IsSome o → Keeps (tag_at t n) (tag_of o) → tag_of o ≡ tag_at t n
       by None some k = cc
       by (Some file) some (inl e) = e
       by (Some file) some (inr e) = cc
 
-  run_handle : (t u : Numbered T) (changes : List (Change T)) (n : ℕ) (handle : List ℕ) → IsNumbered t → Runs t changes u → reading t handle ≡ Live (number n)
+  run_handle : (t u : NumberedFiles T) (changes : List (Change T)) (n : ℕ) (handle : List ℕ) → IsNumbered t → Runs t changes u → reading t handle ≡ Live (number n)
       → reading u handle ≡ cond (is_some (at u n)) (Live (number n)) Stale
   run_handle t u changes n handle h r live =
       let it : Names t n handle = names t n handle live in
@@ -147,7 +147,7 @@ module _ {T : Type 0} where
       past_checks u handle n it.shaped (it.ours ∙ sym (run_key t u changes r)) it.number given
       ∙ by it.file it.found it.tag (at u n) (run_tag t u changes n h r old.below)
     where
-      by : (file : Filed T) → at t n ≡ Some file → tag_in handle ≡ file.tag → (o : Option (Filed T)) → Keeps (tag_at t n) (tag_of o) → live_with (tag_in handle) n o ≡ cond (is_some o) (Live (number n)) Stale
+      by : (file : TaggedFile T) → at t n ≡ Some file → tag_in handle ≡ file.tag → (o : Option (TaggedFile T)) → Keeps (tag_at t n) (tag_of o) → live_with (tag_in handle) n o ≡ cond (is_some o) (Live (number n)) Stale
       by file found tag None k = refl
       by file found tag (Some now) (inl e) =
           let same : Some now.tag ≡ Some file.tag = e ∙ ap tag_of found in

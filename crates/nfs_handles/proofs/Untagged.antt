@@ -11,7 +11,7 @@ use Rattle.std.proofs.lemmas.Map.Made.{lookup-map_values, keys_of-map_values}
 use Rattle.std.proofs.lemmas.Map.{keys-set_value}
 use Rattle.std.specs.List.Sorted.{IsStrictlySortedBy}
 use Rattle.std.proofs.lemmas.Bool.{eq-eqb, eqb-true}
-use Rattle.nfs_handles.specs.Numbered.{Filed, Numbered, at, value_at, with_new, revalued, with_value, without, IsGiven, IsNumbered}
+use Rattle.nfs_handles.specs.NumberedFiles.{TaggedFile, NumberedFiles, at, value_at, with_new, revalued, with_value, without, IsGiven, IsNumbered}
 use Rattle.nfs_handles.specs.Handles.{handle_text, handle_at, live_with, number}
 use Rattle.nfs_handles.specs.declared.reading.Reading.{Reading}
 use Rattle.nfs_handles.specs.declared.reading.Reading.TheVariants.{Live, Stale}
@@ -70,10 +70,10 @@ pub same_both : {E D Z : Type 0} (read : (E → D) → D → Z) (F G : E → D) 
 same_both read F G v w f e = λ i. read (λ x. f x i) (e i)
 
 module _ {T : Type 0} where
-  abbrev entry : ℕ × T → ℕ × Filed T
+  abbrev entry : ℕ × T → ℕ × TaggedFile T
   entry e = (e.0, filed e.1)
 
-  abbrev numbered : ℕ → List ℕ → List (ℕ × Filed T) → Numbered T
+  abbrev numbered : ℕ → List ℕ → List (ℕ × TaggedFile T) → NumberedFiles T
   numbered next key files = record { files = files; next = next; key = key }
 
   pub untagged_new : (es : List (ℕ × T)) (next : ℕ) (key : List ℕ) (v : T) → IsNumbered (untagged es next key) → untagged (insert_entry nat_cmp es next v) (next + 1) key ≡ with_new (untagged es next key) 0 v
@@ -93,8 +93,8 @@ module _ {T : Type 0} where
         let room : next + 1 < 2 ^ 64 = omega (arith, h.last, more) in
         subst IsNumbered (sym is_new) (numbered_new (untagged es next key) 0 v h (omega arith) room)
 
-  tagged : (es : List (ℕ × T)) → All (λ (file : Filed T). file.tag < 2 ^ 32) (values_of (map entry es))
-  tagged es = All-map (λ (file : Filed T). file.tag < 2 ^ 32) (λ (e : ℕ × Filed T). e.1) (map entry es) (All-map (λ (e : ℕ × Filed T). e.1.tag < 2 ^ 32) entry es (λ k d l. omega arith))
+  tagged : (es : List (ℕ × T)) → All (λ (file : TaggedFile T). file.tag < 2 ^ 32) (values_of (map entry es))
+  tagged es = All-map (λ (file : TaggedFile T). file.tag < 2 ^ 32) (λ (e : ℕ × TaggedFile T). e.1) (map entry es) (All-map (λ (e : ℕ × TaggedFile T). e.1.tag < 2 ^ 32) entry es (λ k d l. omega arith))
 
   -- whatever the values are
   pub numbered_lent : (es fs : List (ℕ × T)) (next : ℕ) (key : List ℕ) (test : ℕ → Bool) (w : T) → fs ≡ set_value test es w → IsNumbered (untagged es next key) → IsNumbered (untagged fs next key)
@@ -131,9 +131,9 @@ module _ {T : Type 0} where
     at_untagged = ap (λ test. lookup test (map entry es)) (searched_is n) ∙ lookup-map_values filed (searched n) es
 
     pub value_untagged : value_at (untagged es next key) n ≡ lookup (searched n) es
-    value_untagged = ap (option_map (λ (file : Filed T). file.value)) at_untagged ∙ back (lookup (searched n) es)
+    value_untagged = ap (option_map (λ (file : TaggedFile T). file.value)) at_untagged ∙ back (lookup (searched n) es)
       where
-        back : (o : Option T) → option_map (λ (file : Filed T). file.value) (option_map filed o) ≡ o
+        back : (o : Option T) → option_map (λ (file : TaggedFile T). file.value) (option_map filed o) ≡ o
         back None = refl
         back (Some v) = refl
 
@@ -159,9 +159,9 @@ module _ {T : Type 0} where
         by (Some v) e = ap (λ test. numbered next key (set_value test (map entry es) (filed w))) (sym (searched_is n)) ∙ ap (revalued (untagged es next key) n w) (sym (at_untagged ∙ ap (option_map filed) e))
 
     pub handle_untagged : (text : List ℕ) → IsSome (at (untagged es next key) n) → text ≡ handle_text key 0 n → handle_at (untagged es next key) n ≡ Some text
-    handle_untagged text live e = by (lookup (searched n) es) (subst IsSome at_untagged live) (ap (option_map (λ (file : Filed T). handle_text key file.tag n)) at_untagged)
+    handle_untagged text live e = by (lookup (searched n) es) (subst IsSome at_untagged live) (ap (option_map (λ (file : TaggedFile T). handle_text key file.tag n)) at_untagged)
       where
-        by : (o : Option T) → IsSome (option_map filed o) → handle_at (untagged es next key) n ≡ option_map (λ (file : Filed T). handle_text key file.tag n) (option_map filed o) → handle_at (untagged es next key) n ≡ Some text
+        by : (o : Option T) → IsSome (option_map filed o) → handle_at (untagged es next key) n ≡ option_map (λ (file : TaggedFile T). handle_text key file.tag n) (option_map filed o) → handle_at (untagged es next key) n ≡ Some text
         by None some h = cc
         by (Some v) some h = h ∙ ap Some (sym e)
 

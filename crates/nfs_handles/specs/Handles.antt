@@ -1,7 +1,7 @@
 -- File handles (RFC 1813, section 2.6, nfs_fh3): which bytes name a file, and what bytes read as.
 use Rattle.std.specs.Prelude.{ℕ, Bool, not, ◌&&◌, ◌||◌, List, [], ◌∷◌, ◌++◌, length, take, drop, Option, Some, None, option_map, if◌then◌else◌, nat_eq, nat_le, bytes_eq}
 use Rattle.std.specs.Int.{w32, w64, to_be_bytes, from_be_bytes}
-use Rattle.nfs_handles.specs.Numbered.{Filed, Numbered, at}
+use Rattle.nfs_handles.specs.NumberedFiles.{TaggedFile, NumberedFiles, at}
 use Rattle.nfs_handles.specs.declared.number.Number.{Number}
 use Rattle.nfs_handles.specs.declared.reading.Reading.{Reading}
 use Rattle.nfs_handles.specs.declared.reading.Reading.TheVariants.{Live, Stale, Bad}
@@ -16,7 +16,7 @@ magic = 0x4e ∷ 0x46 ∷ 0x53 ∷ 0x33 ∷ []
 abbrev pub handle_text : List ℕ → ℕ → ℕ → List ℕ
 handle_text key tag n = magic ++ key ++ to_be_bytes w32 tag ++ to_be_bytes w64 n
 
-abbrev pub handle_at : {T : Type 0} → Numbered T → ℕ → Option (List ℕ)
+abbrev pub handle_at : {T : Type 0} → NumberedFiles T → ℕ → Option (List ℕ)
 handle_at t n = option_map (λ file. handle_text t.key file.tag n) (at t n)
 
 -- the parts of a handle
@@ -39,12 +39,12 @@ abbrev pub number : ℕ → Number
 number n = record { 0 = n }
 
 -- the file that lives at n, where it has this tag; else its handle has outlived it
-abbrev pub live_with : {T : Type 0} → ℕ → ℕ → Option (Filed T) → Reading
+abbrev pub live_with : {T : Type 0} → ℕ → ℕ → Option (TaggedFile T) → Reading
 live_with tag n None = Stale
 live_with tag n (Some file) = if nat_eq tag file.tag then Live (number n) else Stale
 
 -- The first of these that applies: bytes that are no handle are bad; a handle of another server is stale; a number that was not given is bad; a file that lives; and else the file is gone.
-abbrev pub reading : {T : Type 0} → Numbered T → List ℕ → Reading
+abbrev pub reading : {T : Type 0} → NumberedFiles T → List ℕ → Reading
 reading t bytes =
     if not (is_shaped bytes) then Bad
     else (if not (bytes_eq (key_in bytes) t.key) then Stale

@@ -1,4 +1,4 @@
-pub mod Numbered
+pub mod NumberedFiles
 pub mod Handles
 pub mod Untagged
 pub mod Changes

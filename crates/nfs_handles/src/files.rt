@@ -1,8 +1,8 @@
-//! Numbered files: a map from numbers to values.
+//! NumberedFiles files: a map from numbers to values.
 ghost use Rattle.std.specs.Prelude.{◌≡◌, ℕ, ◌^◌, ◌<◌, ◌≤◌, ◌≢◌, Some, IsSome, IfSome, IfNone, IfOk, IfErr, true, length, bytes_eq, option_copied};
 ghost use Rattle.std.specs.Borrow.{sem};
 ghost use Rattle.std.specs.Option.{option_copied_mut};
-ghost use Rattle.nfs_handles.specs.Numbered.{Numbered, at, value_at, unused, IsNumbered};
+ghost use Rattle.nfs_handles.specs.NumberedFiles.{NumberedFiles, at, value_at, unused, IsNumbered};
 ghost use Rattle.nfs_handles.specs.Handles.{handle_at, is_shaped, key_in, live_with, reading, reading_without};
 ghost use Rattle.nfs_handles.specs.Handles.{number as number_of};
 ghost use Rattle.nfs_handles.specs.declared.reading.Reading.TheVariants.{Live, Stale};
@@ -28,10 +28,10 @@ pub struct Files<T> {
 }
 
 impl<T> Model for Files<T> {
-    ghost use Rattle.nfs_handles.specs.Numbered.{Numbered, IsNumbered};
+    ghost use Rattle.nfs_handles.specs.NumberedFiles.{NumberedFiles, IsNumbered};
     ghost use Rattle.nfs_handles.specs.Untagged.{untagged};
 
-    ghost Value = { Numbered T };
+    ghost Value = { NumberedFiles T };
 
     ghost view = { λ f. untagged f.values.entries f.next f.key };
 

@@ -1,4 +1,4 @@
-//! Numbered files, and the handles that name them (RFC 1813, section 2.6).
+//! NumberedFiles files, and the handles that name them (RFC 1813, section 2.6).
 #![tactic(auto)]
 
 pub mod fault;

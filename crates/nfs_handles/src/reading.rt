@@ -2,7 +2,7 @@
 use crate::number::Number;
 
 /// What the bytes of a handle say.
-#[derive(Clone, Copy, Debug, PartialEq, Eq)]
+#[derive(Clone, Copy, Debug, PartialEq)]
 pub enum Reading {
     /// The file of this number, which lives.
     Live(Number),
@@ -13,7 +13,7 @@ pub enum Reading {
 }
 
 /// Why a handle names no file.
-#[derive(Clone, Copy, Debug, PartialEq, Eq)]
+#[derive(Clone, Copy, Debug, PartialEq)]
 pub enum NoFile {
     /// It is of a file that lived once, or of another server: `NFS3ERR_STALE` (RFC 1813, section
     /// 2.6).

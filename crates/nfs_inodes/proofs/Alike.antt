@@ -7,7 +7,7 @@ use Rattle.nfs_inodes.specs.Tree.{Tree, File, Entry, Volume, at, with_at, on_som
 use Rattle.nfs_inodes.specs.Law.{LawBut, IsSound, AreVolumes, IsRoot, AreRising, Lives, climb, parent_of}
 use Rattle.nfs_inodes.specs.Changes.{changed}
 use Rattle.nfs_inodes.specs.Reading.{numbered}
-use Rattle.nfs_handles.specs.Numbered.{IsNumbered}
+use Rattle.nfs_handles.specs.NumberedFiles.{IsNumbered}
 use Rattle.nfs_inodes.proofs.Numbers.{numbers_changed}
 use Rattle.nfs_inodes.proofs.Lists.{by_test, by_number, if_true, if_false, same_some, not_both, none_from}
 use Rattle.nfs_inodes.proofs.Maps.{at_with_same, at_with_other, rising_with, sum_with, with_back}

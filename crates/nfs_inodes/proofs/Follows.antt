@@ -2,7 +2,7 @@
 use Rattle.std.proofs.Common.{◌≡◌, ℕ, ◌-◌, ◌^◌, ◌<◌, List, [], ◌∷◌, ◌++◌, Option, Some, None, option_map, is_some, cond, refl, sym, ap, subst, ◌∙◌, arith}
 use Rattle.std.specs.Prelude.{length}
 use Rattle.nfs_attrs.specs.declared.moment.Moment.{Moment}
-use Rattle.nfs_handles.specs.Numbered.{Filed, IsNumbered}
+use Rattle.nfs_handles.specs.NumberedFiles.{TaggedFile, IsNumbered}
 use Rattle.nfs_handles.specs.Handles.{number}
 use Rattle.nfs_handles.specs.declared.reading.Reading.TheVariants.{Live, Stale}
 use Rattle.nfs_handles.specs.Runs.{Put, Changed}
@@ -12,7 +12,7 @@ use Rattle.nfs_inodes.specs.declared.new_file.NewFile.{NewFile}
 use Rattle.nfs_inodes.specs.Tree.{Tree, File, Directory, at, on_some}
 use Rattle.nfs_inodes.specs.Law.{Law, Lives}
 use Rattle.nfs_inodes.specs.Changes.{born, changed, entered, overwritten, gained, made, linked, written, volume_added, new_file}
-use Rattle.nfs_inodes.specs.May.{MayMake, MayLink, MayWrite, MayFound}
+use Rattle.nfs_inodes.specs.Conditions.{MayMake, MayLink, MayWrite, MayAddVolume}
 use Rattle.nfs_inodes.specs.Reading.{numbered}
 use Rattle.nfs_inodes.specs.Laws.{Follows, ChangesFollow, HandlesAreForGood}
 use Rattle.nfs_inodes.proofs.Maps.{at_shows, at_with_other}
@@ -56,7 +56,7 @@ follows_written t n offset [] now may law = itself t
 follows_written t n offset (b ∷ bs) now may law = subst (Follows t) (sym (ap (λ o. on_some o t (λ f. changed t n (overwritten f offset (b ∷ bs) now))) may.at_file))
     (follows_changed t n may.file (overwritten may.file offset (b ∷ bs) now) may.at_file refl)
 
-follows_volume : (t : Tree) (max_bytes max_files tag : ℕ) (path : List ℕ) (given : NewFile) (now : Moment) → MayFound t path max_files → tag < 2 ^ 32 → Law t → Follows t (volume_added t path max_bytes max_files given tag now)
+follows_volume : (t : Tree) (max_bytes max_files tag : ℕ) (path : List ℕ) (given : NewFile) (now : Moment) → MayAddVolume t path max_files → tag < 2 ^ 32 → Law t → Follows t (volume_added t path max_bytes max_files given tag now)
 follows_volume t max_bytes max_files tag path given now may fits law =
     let f = follows_born t (new_file (length t.volumes) (Directory t.next 3 []) given None tag now) fits may.number in record { changes = f.changes; run = f.run }
 
@@ -76,10 +76,10 @@ changes_follow = record {
 
 -- ---- handles
 
-abbrev tagged : File → Filed File
+abbrev tagged : File → TaggedFile File
 tagged f = record { tag = f.tag; value = f }
 
-pub lives_alike : (u : Tree) (n : ℕ) → is_some (Rattle.nfs_handles.specs.Numbered.at (numbered u) n) ≡ is_some (at n u.files)
+pub lives_alike : (u : Tree) (n : ℕ) → is_some (Rattle.nfs_handles.specs.NumberedFiles.at (numbered u) n) ≡ is_some (at n u.files)
 lives_alike u n = ap is_some (at_shows tagged n u.files) ∙ mapped (at n u.files)
   where
     mapped : (o : Option File) → is_some (option_map tagged o) ≡ is_some o

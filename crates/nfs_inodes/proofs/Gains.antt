@@ -10,7 +10,7 @@ use Rattle.nfs_inodes.specs.Tree.{Tree, File, Kind, Regular, Directory, Link, En
 use Rattle.nfs_inodes.specs.Law.{Law, LawBut, IsSound, AreVolumes, IsName, IsRoot, AreRising, Lives, LivesAsDirectory, parent_of}
 use Rattle.nfs_inodes.specs.Changes.{changed, entered, with_entry, gained}
 use Rattle.nfs_inodes.specs.Reading.{numbered}
-use Rattle.nfs_handles.specs.Numbered.{IsNumbered}
+use Rattle.nfs_handles.specs.NumberedFiles.{IsNumbered}
 use Rattle.nfs_inodes.proofs.Numbers.{numbers_changed}
 use Rattle.nfs_inodes.proofs.Lists.{by_test, by_number, if_true, if_false, same_some, not_both, none_from}
 use Rattle.nfs_inodes.proofs.Maps.{at_with_same, at_with_other, rising_with, sum_with, with_back}

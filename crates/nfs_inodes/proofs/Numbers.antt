@@ -1,6 +1,6 @@
 -- The files of a tree as numbered files, after changes of the tree.
 use Rattle.std.proofs.Common.{◌≡◌, ℕ, ◌+◌, ◌-◌, ◌^◌, ◌<◌, List, option_map, sym, ap, subst, ◌∙◌, arith}
-use Rattle.nfs_handles.specs.Numbered.{Filed, Numbered, with_new, with_value, revalued, IsNumbered}
+use Rattle.nfs_handles.specs.NumberedFiles.{TaggedFile, NumberedFiles, with_new, with_value, revalued, IsNumbered}
 use Rattle.nfs_handles.proofs.Numbers.{numbered_new, numbered_value}
 use Rattle.nfs_inodes.specs.Tree.{Tree, File, with_at}
 use Rattle.nfs_inodes.specs.Law.{Lives}
@@ -8,10 +8,10 @@ use Rattle.nfs_inodes.specs.Reading.{numbered}
 use Rattle.nfs_inodes.specs.Changes.{born, changed}
 use Rattle.nfs_inodes.proofs.Maps.{at_shows, shows_with, shows_push}
 
-abbrev tagged : File → Filed File
+abbrev tagged : File → TaggedFile File
 tagged f = record { tag = f.tag; value = f }
 
-abbrev with_files : Tree → ℕ → List (ℕ × Filed File) → Numbered File
+abbrev with_files : Tree → ℕ → List (ℕ × TaggedFile File) → NumberedFiles File
 with_files t next files = record { files = files; next = next; key = t.key }
 
 pub numbered_born : (t : Tree) (f : File) → numbered (born t f) ≡ with_new (numbered t) f.tag f

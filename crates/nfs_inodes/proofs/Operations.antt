@@ -5,7 +5,7 @@ use Rattle.nfs_attrs.specs.declared.moment.Moment.{Moment}
 use Rattle.nfs_inodes.specs.Tree.{Tree, File, Kind, Regular, Directory, Link, at, on_some, entries_in, bytes_in, is_directory, is_regular, names_of, subdirectories, nlink, bytes_of, files_of}
 use Rattle.nfs_inodes.specs.Law.{Law, IsSound, Lives, LivesAsDirectory}
 use Rattle.nfs_inodes.specs.Changes.{born, changed, gained, made, touched, linked, put_bytes, with_bytes, overwritten, written}
-use Rattle.nfs_inodes.specs.May.{IsNew, MayMake, MayLink, MayWrite}
+use Rattle.nfs_inodes.specs.Conditions.{IsNew, MayMake, MayLink, MayWrite}
 use Rattle.nfs_inodes.proofs.Lists.{if_true, not_both, same_some}
 use Rattle.nfs_inodes.proofs.Maps.{at_with_same, at_with_other}
 use Rattle.nfs_inodes.proofs.Alike.{Alike, law_changed, room_same, one_alike}

@@ -6,21 +6,21 @@ use Rattle.std.specs.List.{find}
 use Rattle.std.proofs.lemmas.Bool.Decides.{Decides-at, Decides-like, Decides-not, Decides-by_and}
 use Rattle.std.proofs.lemmas.Slice.Eq.{bytes_eq-Decides}
 use Rattle.std.proofs.lemmas.Option.{slice_get-map}
-use Rattle.nfs_handles.specs.Numbered.{Numbered, value_at}
-use Rattle.nfs_inodes.specs.declared.entry.Listed.{Listed}
-use Rattle.nfs_inodes.specs.declared.inode.Inode.{Inode}
-use Rattle.nfs_inodes.specs.declared.inode.Node.TheVariants as node
-use Rattle.nfs_inodes.specs.declared.volume.Share.{Share}
+use Rattle.nfs_handles.specs.NumberedFiles.{NumberedFiles, value_at}
+use Rattle.nfs_inodes.specs.declared.stored_entry.StoredEntry.{StoredEntry}
+use Rattle.nfs_inodes.specs.declared.stored_file.StoredFile.{StoredFile}
+use Rattle.nfs_inodes.specs.declared.stored_file.Node.TheVariants as node
+use Rattle.nfs_inodes.specs.declared.stored_volume.StoredVolume.{StoredVolume}
 use Rattle.nfs_inodes.specs.Tree.{Tree, File, Kind, Directory, Entry, Volume, entries_in, bytes_in, next_cookie_in, is_directory, is_regular, nlink, names_of, bytes_of, files_of}
 use Rattle.nfs_inodes.specs.Law.{Law, IsName, Lives}
-use Rattle.nfs_inodes.specs.May.{MayEnter, MayMake, MayMakeDirectory, MayLink, MayWrite}
-use Rattle.nfs_inodes.specs.Kept.{Counted, Keeps, tree_in}
-use Rattle.nfs_inodes.specs.Listing.{file_of, kind_of, entry_of, kept_of, counted_of, volume_of}
-use Rattle.nfs_inodes.specs.Adding.{TakesName, TakesFile, MayGainLink, HasSpaceIn, HasRoomIn}
+use Rattle.nfs_inodes.specs.Conditions.{MayEnter, MayMake, MayMakeDirectory, MayLink, MayWrite}
+use Rattle.nfs_inodes.specs.Counts.{CountedVolume, Agrees, tree_in}
+use Rattle.nfs_inodes.specs.Storage.{file_of, kind_of, entry_of, kept_of, counted_of, volume_of}
+use Rattle.nfs_inodes.specs.StepConditions.{TakesName, TakesFile, MayGainLink, HasSpaceIn, HasRoomIn}
 use Rattle.nfs_inodes.specs.Reading.{place_where}
 use Rattle.nfs_inodes.proofs.Lists.{same_some, not_both, if_false}
 use Rattle.nfs_inodes.proofs.Views.{filed, lives_there, none_there, share_at, share_counted}
-use Rattle.nfs_inodes.proofs.Shelves.{held, at_held}
+use Rattle.nfs_inodes.proofs.StoredFiles.{held, at_held}
 
 -- `false`, where it can't hold
 pub never : {P : Type 0} → (P → ⊥) → Decides false P
@@ -70,7 +70,7 @@ none_alike f g (Some x) (Some y) e = refl
 -- ---- entries
 
 -- the kept directory takes the name where no entry has it
-pub takes_name : {X : Type 0} (g : X → ℕ) (i : Inode) (parent next_cookie : ℕ) (entries : Vec Listed Global) (es : List Listed) (name : List ℕ) (o : Option X) (b : Bool) → i.node ≡ node.Directory parent next_cookie entries → es ≡ entries.items → next_cookie < 18446744073709551615 → IsName name →
+pub takes_name : {X : Type 0} (g : X → ℕ) (i : StoredFile) (parent next_cookie : ℕ) (entries : Vec StoredEntry Global) (es : List StoredEntry) (name : List ℕ) (o : Option X) (b : Bool) → i.node ≡ node.Directory parent next_cookie entries → es ≡ entries.items → next_cookie < 18446744073709551615 → IsName name →
     option_map g o ≡ option_map (λ e. e.number) (find (λ e. bytes_eq e.name name) (map entry_of es)) → is_some o ≡ not b → Decides b (TakesName i name)
 takes_name g i parent next_cookie entries es name o b is same below is_name search none =
     let kind : kind_of i.node ≡ Directory parent next_cookie (map entry_of es) = ap kind_of is ∙ ap (λ es. Directory parent next_cookie (map entry_of es)) (sym same) in
@@ -87,20 +87,20 @@ takes_name g i parent next_cookie entries es name o b is same below is_name sear
 
 -- ---- what is kept, and the tree
 
-module _ (a : Numbered Inode) (shares : List Share) (t : Tree) (view : tree_in (kept_of a shares) ≡ t) where
+module _ (a : NumberedFiles StoredFile) (shares : List StoredVolume) (t : Tree) (view : tree_in (kept_of a shares) ≡ t) where
   -- a kept file in the tree
-  shown_there : (n : ℕ) (i : Inode) → Some i ≡ value_at a n → (tag : ℕ) × Lives t n (file_of tag i)
+  shown_there : (n : ℕ) (i : StoredFile) → Some i ≡ value_at a n → (tag : ℕ) × Lives t n (file_of tag i)
   shown_there n i e = let k = filed a n i e in (k.0.tag, lives_there a shares t view n k.0 k.1 ∙ ap (λ i. Some (file_of k.0.tag i)) k.2)
 
   -- and what is there under its number is like it
-  like_there : (n : ℕ) (i : Inode) → Some i ≡ value_at a n → (f : File) → Lives t n f → (i.volume ≡ f.volume) × (kind_of i.node ≡ f.kind)
+  like_there : (n : ℕ) (i : StoredFile) → Some i ≡ value_at a n → (f : File) → Lives t n f → (i.volume ≡ f.volume) × (kind_of i.node ≡ f.kind)
   like_there n i e f at_n = let s = shown_there n i e in let same : file_of s.0 i ≡ f = same_some (sym s.1 ∙ at_n) in
       (ap (λ (f : File). f.volume) same, ap (λ (f : File). f.kind) same)
 
   pub none_lives : (n : ℕ) → None ≡ value_at a n → (f : File) → Lives t n f → ⊥
   none_lives n e f at_n = not_both (none_there a shares t view n e) at_n
 
-  enters : (d : ℕ) (i : Inode) (name : List ℕ) → Some i ≡ value_at a d → TakesName i name → MayEnter t d name
+  enters : (d : ℕ) (i : StoredFile) (name : List ℕ) → Some i ≡ value_at a d → TakesName i name → MayEnter t d name
   enters d i name e takes = let s = shown_there d i e in record {
     dir = file_of s.0 i;
     at_dir = (s.1, takes.directory);
@@ -109,7 +109,7 @@ module _ (a : Numbered Inode) (shares : List Share) (t : Tree) (view : tree_in (
     fresh = takes.fresh;
   }
 
-  entered : (d : ℕ) (i : Inode) (name : List ℕ) → Some i ≡ value_at a d → MayEnter t d name → TakesName i name
+  entered : (d : ℕ) (i : StoredFile) (name : List ℕ) → Some i ≡ value_at a d → MayEnter t d name → TakesName i name
   entered d i name e enter = let kind = sym (like_there d i e enter.dir enter.at_dir.0).1 in record {
     directory = subst (λ k. is_directory k ≡ true) kind enter.at_dir.1;
     cookie = subst (λ k. next_cookie_in k < 18446744073709551615) kind enter.cookie;
@@ -117,13 +117,13 @@ module _ (a : Numbered Inode) (shares : List Share) (t : Tree) (view : tree_in (
     fresh = subst (λ k. All (λ (e : Entry). e.name ≢ name) (entries_in k)) kind enter.fresh;
   }
 
-  makes : (d size : ℕ) (i : Inode) (name : List ℕ) → Some i ≡ value_at a d → TakesFile t i name size → MayMake t d name size
+  makes : (d size : ℕ) (i : StoredFile) (name : List ℕ) → Some i ≡ value_at a d → TakesFile t i name size → MayMake t d name size
   makes d size i name e takes =
       let enter = enters d i name e takes.entry in
       let room : HasRoomIn t enter.dir.volume size = subst (λ p. HasRoomIn t p size) (like_there d i e enter.dir enter.at_dir.0).0 takes.room in
       record { enter = enter; number = takes.number; volume = room.space.volume; at_volume = room.space.at_volume; files = room.files; bytes = room.space.bytes; large = takes.large }
 
-  made : (d size : ℕ) (i : Inode) (name : List ℕ) → Some i ≡ value_at a d → MayMake t d name size → TakesFile t i name size
+  made : (d size : ℕ) (i : StoredFile) (name : List ℕ) → Some i ≡ value_at a d → MayMake t d name size → TakesFile t i name size
   made d size i name e may = record {
     entry = entered d i name e may.enter;
     number = may.number;
@@ -133,31 +133,31 @@ module _ (a : Numbered Inode) (shares : List Share) (t : Tree) (view : tree_in (
 
   -- ---- tests of a new file
 
-  pub may_make_there : (d size : ℕ) (i : Inode) (name : List ℕ) (b : Bool) → Some i ≡ value_at a d → Decides b (TakesFile t i name size) → Decides b (MayMake t d name size)
+  pub may_make_there : (d size : ℕ) (i : StoredFile) (name : List ℕ) (b : Bool) → Some i ≡ value_at a d → Decides b (TakesFile t i name size) → Decides b (MayMake t d name size)
   may_make_there d size i name b e takes = Decides-like b (makes d size i name e) (made d size i name e) takes
 
   pub may_make_none : (d size : ℕ) (name : List ℕ) → None ≡ value_at a d → MayMake t d name size → ⊥
   may_make_none d size name e may = none_lives d e may.enter.dir may.enter.at_dir.0
 
-  module _ (keeps : Keeps (kept_of a shares)) where
-    links_there : (n : ℕ) (i : Inode) → Some i ≡ value_at a n → (f : File) → Lives t n f → i.nlink ≡ nlink t.files n f
+  module _ (keeps : Agrees (kept_of a shares)) where
+    links_there : (n : ℕ) (i : StoredFile) → Some i ≡ value_at a n → (f : File) → Lives t n f → i.nlink ≡ nlink t.files n f
     links_there n i e f at_n =
         let k = filed a n i e in
         let kept = keeps.links n (held k.0) (at_held a n k.0 k.1) in
-        ap (λ (i : Inode). i.nlink) (sym k.2) ∙ kept ∙ ap (λ (t : Tree). nlink t.files n (file_of k.0.tag k.0.value)) view ∙ ap (nlink t.files n) (same_some (sym (lives_there a shares t view n k.0 k.1) ∙ at_n))
+        ap (λ (i : StoredFile). i.nlink) (sym k.2) ∙ kept ∙ ap (λ (t : Tree). nlink t.files n (file_of k.0.tag k.0.value)) view ∙ ap (nlink t.files n) (same_some (sym (lives_there a shares t view n k.0 k.1) ∙ at_n))
 
-    pub may_make_dir_there : (d : ℕ) (i : Inode) (name : List ℕ) (b : Bool) → Some i ≡ value_at a d → i.nlink < 1000 → Decides b (TakesFile t i name 0) → Decides b (MayMakeDirectory t d name)
+    pub may_make_dir_there : (d : ℕ) (i : StoredFile) (name : List ℕ) (b : Bool) → Some i ≡ value_at a d → i.nlink < 1000 → Decides b (TakesFile t i name 0) → Decides b (MayMakeDirectory t d name)
     may_make_dir_there d i name b e few takes = Decides-like b
         (λ takes. let make = makes d 0 i name e takes in record { make = make; links = subst (λ n. n < 1000) (links_there d i e make.enter.dir make.enter.at_dir.0) few })
         (λ (may : MayMakeDirectory t d name). made d 0 i name e may.make)
         takes
 
-    pub few_links : (d : ℕ) (i : Inode) (name : List ℕ) → Some i ≡ value_at a d → MayMakeDirectory t d name → i.nlink < 1000
+    pub few_links : (d : ℕ) (i : StoredFile) (name : List ℕ) → Some i ≡ value_at a d → MayMakeDirectory t d name → i.nlink < 1000
     few_links d i name e may = let few = may.links in let same = links_there d i e may.make.enter.dir may.make.enter.at_dir.0 in omega (arith, few, same)
 
     -- ---- tests of a link
 
-    pub gains_link : (n place : ℕ) (i : Inode) (b : Bool) → Some i ≡ value_at a n → Decides b ((is_directory (kind_of i.node) ≡ false) × (i.volume ≡ place) × (i.nlink < 1000)) → Decides b (MayGainLink t n place)
+    pub gains_link : (n place : ℕ) (i : StoredFile) (b : Bool) → Some i ≡ value_at a n → Decides b ((is_directory (kind_of i.node) ≡ false) × (i.volume ≡ place) × (i.nlink < 1000)) → Decides b (MayGainLink t n place)
     gains_link n place i b e takes = Decides-like b
         (λ takes. let s = shown_there n i e in
         let links = links_there n i e (file_of s.0 i) s.1 in
@@ -173,19 +173,19 @@ module _ (a : Numbered Inode) (shares : List Share) (t : Tree) (view : tree_in (
 
     -- ---- volumes
 
-    volume_there : (place : ℕ) (s : Share) → slice_get shares place ≡ Some s → slice_get t.volumes place ≡ Some (volume_of s)
-    volume_there place s e = ap (λ (t : Tree). slice_get t.volumes place) (sym view) ∙ slice_get-map (λ (c : Counted). c.volume) (map counted_of shares) place ∙ ap (option_map (λ (c : Counted). c.volume)) (share_counted shares place s e)
+    volume_there : (place : ℕ) (s : StoredVolume) → slice_get shares place ≡ Some s → slice_get t.volumes place ≡ Some (volume_of s)
+    volume_there place s e = ap (λ (t : Tree). slice_get t.volumes place) (sym view) ∙ slice_get-map (λ (c : CountedVolume). c.volume) (map counted_of shares) place ∙ ap (option_map (λ (c : CountedVolume). c.volume)) (share_counted shares place s e)
 
-    its_limits : (place : ℕ) (s : Share) (v : Volume) → slice_get shares place ≡ Some s → slice_get t.volumes place ≡ Some v → volume_of s ≡ v
+    its_limits : (place : ℕ) (s : StoredVolume) (v : Volume) → slice_get shares place ≡ Some s → slice_get t.volumes place ≡ Some v → volume_of s ≡ v
     its_limits place s v e there = same_some (sym (volume_there place s e) ∙ there)
 
-    bytes_there : (place : ℕ) (s : Share) → slice_get shares place ≡ Some s → s.bytes ≡ bytes_of place t.files
+    bytes_there : (place : ℕ) (s : StoredVolume) → slice_get shares place ≡ Some s → s.bytes ≡ bytes_of place t.files
     bytes_there place s e = (keeps.totals place (counted_of s) (share_counted shares place s e)).bytes ∙ ap (λ (t : Tree). bytes_of place t.files) view
 
-    files_there : (place : ℕ) (s : Share) → slice_get shares place ≡ Some s → s.files ≡ files_of place t.files
+    files_there : (place : ℕ) (s : StoredVolume) → slice_get shares place ≡ Some s → s.files ≡ files_of place t.files
     files_there place s e = (keeps.totals place (counted_of s) (share_counted shares place s e)).files ∙ ap (λ (t : Tree). files_of place t.files) view
 
-    pub space_there : (place size : ℕ) (s : Share) (b : Bool) → slice_get shares place ≡ Some s → Decides b (s.bytes + size ≤ s.max_bytes) → Decides b (HasSpaceIn t place size)
+    pub space_there : (place size : ℕ) (s : StoredVolume) (b : Bool) → slice_get shares place ≡ Some s → Decides b (s.bytes + size ≤ s.max_bytes) → Decides b (HasSpaceIn t place size)
     space_there place size s b e fits = Decides-like b
         (λ fits. let has = bytes_there place s e in record { volume = volume_of s; at_volume = volume_there place s e; bytes = omega (arith, has, fits) })
         (λ (space : HasSpaceIn t place size). let has = bytes_there place s e in let fits = space.bytes in
@@ -193,14 +193,14 @@ module _ (a : Numbered Inode) (shares : List Share) (t : Tree) (view : tree_in (
         omega (arith, has, fits, limit))
         fits
 
-    pub room_there : (place size : ℕ) (s : Share) (b : Bool) → slice_get shares place ≡ Some s → s.files < s.max_files → Decides b (s.bytes + size ≤ s.max_bytes) → Decides b (HasRoomIn t place size)
+    pub room_there : (place size : ℕ) (s : StoredVolume) (b : Bool) → slice_get shares place ≡ Some s → s.files < s.max_files → Decides b (s.bytes + size ≤ s.max_bytes) → Decides b (HasRoomIn t place size)
     room_there place size s b e few fits = Decides-like b
         (λ space. let limit : s.max_files ≡ space.volume.max_files = ap (λ (v : Volume). v.max_files) (its_limits place s space.volume e space.at_volume) in
         let has = files_there place s e in record { space = space; files = omega (arith, has, few, limit) })
         (λ (room : HasRoomIn t place size). room.space)
         (space_there place size s b e fits)
 
-    pub full : (place size : ℕ) (s : Share) → slice_get shares place ≡ Some s → s.max_files ≤ s.files → HasRoomIn t place size → ⊥
+    pub full : (place size : ℕ) (s : StoredVolume) → slice_get shares place ≡ Some s → s.max_files ≤ s.files → HasRoomIn t place size → ⊥
     full place size s e many room =
         let limit : s.max_files ≡ room.space.volume.max_files = ap (λ (v : Volume). v.max_files) (its_limits place s room.space.volume e room.space.at_volume) in
         let has = files_there place s e in let few = room.files in omega (arith, has, many, few, limit)
@@ -210,7 +210,7 @@ module _ (a : Numbered Inode) (shares : List Share) (t : Tree) (view : tree_in (
 
   -- ---- tests of an entry for a file that is there
 
-  pub may_link_there : (n d : ℕ) (i : Inode) (name : List ℕ) (b : Bool) → Some i ≡ value_at a d → MayGainLink t n i.volume → Decides b (TakesName i name) → Decides b (MayLink t n d name)
+  pub may_link_there : (n d : ℕ) (i : StoredFile) (name : List ℕ) (b : Bool) → Some i ≡ value_at a d → MayGainLink t n i.volume → Decides b (TakesName i name) → Decides b (MayLink t n d name)
   may_link_there n d i name b e gains takes = Decides-like b
       (λ takes. let enter = enters d i name e takes in record {
         enter = enter;
@@ -223,7 +223,7 @@ module _ (a : Numbered Inode) (shares : List Share) (t : Tree) (view : tree_in (
       (λ (may : MayLink t n d name). entered d i name e may.enter)
       takes
 
-  pub gains_by : (n d : ℕ) (i : Inode) (name : List ℕ) → Some i ≡ value_at a d → MayLink t n d name → MayGainLink t n i.volume
+  pub gains_by : (n d : ℕ) (i : StoredFile) (name : List ℕ) → Some i ≡ value_at a d → MayLink t n d name → MayGainLink t n i.volume
   gains_by n d i name e may = record {
     file = may.file;
     at_file = may.at_file;
@@ -234,7 +234,7 @@ module _ (a : Numbered Inode) (shares : List Share) (t : Tree) (view : tree_in (
 
   -- ---- tests of bytes
 
-  pub writes_there : (n offset count grown : ℕ) (i : Inode) (b : Bool) → Some i ≡ value_at a n → is_regular (kind_of i.node) ≡ true → (0 < count → offset + count ≤ 16777216) → 0 < count → grown ≡ offset + count - length (bytes_in (kind_of i.node)) → Decides b (HasSpaceIn t i.volume grown) → Decides b (MayWrite t n offset count)
+  pub writes_there : (n offset count grown : ℕ) (i : StoredFile) (b : Bool) → Some i ≡ value_at a n → is_regular (kind_of i.node) ≡ true → (0 < count → offset + count ≤ 16777216) → 0 < count → grown ≡ offset + count - length (bytes_in (kind_of i.node)) → Decides b (HasSpaceIn t i.volume grown) → Decides b (MayWrite t n offset count)
   writes_there n offset count grown i b e regular large some is space = Decides-like b
       (λ (space : HasSpaceIn t i.volume grown). let s = shown_there n i e in record {
         file = file_of s.0 i;
@@ -252,11 +252,11 @@ module _ (a : Numbered Inode) (shares : List Share) (t : Tree) (view : tree_in (
       record { volume = may.volume; at_volume = ap (slice_get t.volumes) like.0 ∙ may.at_volume; bytes = omega (arith, room, is, long, total) })
       space
 
-  pub written_to : (n offset count : ℕ) (i : Inode) → Some i ≡ value_at a n → MayWrite t n offset count → (is_regular (kind_of i.node) ≡ true) × (0 < count → offset + count ≤ 16777216)
+  pub written_to : (n offset count : ℕ) (i : StoredFile) → Some i ≡ value_at a n → MayWrite t n offset count → (is_regular (kind_of i.node) ≡ true) × (0 < count → offset + count ≤ 16777216)
   written_to n offset count i e may = (ap is_regular (like_there n i e may.file may.at_file).1 ∙ may.regular, may.large)
 
   -- no bytes need no room
-  pub writes_none : Keeps (kept_of a shares) → (n offset : ℕ) (i : Inode) → Some i ≡ value_at a n → is_regular (kind_of i.node) ≡ true → MayWrite t n offset 0
+  pub writes_none : Agrees (kept_of a shares) → (n offset : ℕ) (i : StoredFile) → Some i ≡ value_at a n → is_regular (kind_of i.node) ≡ true → MayWrite t n offset 0
   writes_none keeps n offset i e regular =
       let s = shown_there n i e in
       let v = (subst Law view keeps.law).placed n (file_of s.0 i) s.1 in

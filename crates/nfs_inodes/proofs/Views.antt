@@ -2,19 +2,19 @@
 use Rattle.std.proofs.Common.{◌≡◌, ℕ, zero, suc, ◌+◌, List, [], ◌∷◌, map, Option, Some, None, option_map, refl, sym, ap, subst, ◌∙◌}
 use Rattle.std.specs.Prelude.{slice_get, slice_set}
 use Rattle.std.proofs.lemmas.Option.{slice_get-map}
-use Rattle.nfs_handles.specs.Numbered.{Numbered, Filed, at, value_at}
-use Rattle.nfs_inodes.specs.declared.inode.Inode.{Inode}
-use Rattle.nfs_inodes.specs.declared.volume.Share.{Share}
+use Rattle.nfs_handles.specs.NumberedFiles.{NumberedFiles, TaggedFile, at, value_at}
+use Rattle.nfs_inodes.specs.declared.stored_file.StoredFile.{StoredFile}
+use Rattle.nfs_inodes.specs.declared.stored_volume.StoredVolume.{StoredVolume}
 use Rattle.nfs_inodes.specs.Tree.{Tree, File, Volume, on_some, bytes_of, files_of, is_directory, nlink}
 use Rattle.nfs_inodes.specs.Tree as tree
 use Rattle.nfs_inodes.specs.Law.{Lives}
 use Rattle.nfs_inodes.specs.Changes as changes
-use Rattle.nfs_inodes.specs.Kept.{Held, Counted, tree_in, with_totals}
-use Rattle.nfs_inodes.specs.Listing.{file_of, helds, counted_of, volume_of, kept_of}
+use Rattle.nfs_inodes.specs.Counts.{CountedFile, CountedVolume, tree_in, with_totals}
+use Rattle.nfs_inodes.specs.Storage.{file_of, helds, counted_of, volume_of, kept_of}
 use Rattle.nfs_inodes.proofs.Lists.{same_some, not_both}
 use Rattle.nfs_inodes.proofs.Maps.{at_shows}
-use Rattle.nfs_inodes.proofs.Shelves.{held, at_held}
-use Rattle.nfs_inodes.proofs.Keeping.{shown}
+use Rattle.nfs_inodes.proofs.StoredFiles.{held, at_held}
+use Rattle.nfs_inodes.proofs.Counts.{shown}
 
 -- a look-up shows nothing where there is nothing, and what it shows is of something
 pub mapped : {X Y : Type 0} (f : X → Y) (o : Option X) (y : Y) → option_map f o ≡ Some y → (x : X) × (o ≡ Some x) × (f x ≡ y)
@@ -22,54 +22,54 @@ mapped f None y e = absurd (not_both refl e)
 mapped f (Some x) y e = (x, refl, same_some e)
 
 -- the value of a file, and its tag
-pub filed : (a : Numbered Inode) (n : ℕ) (i : Inode) → Some i ≡ value_at a n → (f : Filed Inode) × (at a n ≡ Some f) × (f.value ≡ i)
-filed a n i e = mapped (λ (f : Filed Inode). f.value) (at a n) i (sym e)
+pub filed : (a : NumberedFiles StoredFile) (n : ℕ) (i : StoredFile) → Some i ≡ value_at a n → (f : TaggedFile StoredFile) × (at a n ≡ Some f) × (f.value ≡ i)
+filed a n i e = mapped (λ (f : TaggedFile StoredFile). f.value) (at a n) i (sym e)
 
-pub lives : (a : Numbered Inode) (shares : List Share) (n : ℕ) (f : Filed Inode) → at a n ≡ Some f → Lives (tree_in (kept_of a shares)) n (file_of f.tag f.value)
+pub lives : (a : NumberedFiles StoredFile) (shares : List StoredVolume) (n : ℕ) (f : TaggedFile StoredFile) → at a n ≡ Some f → Lives (tree_in (kept_of a shares)) n (file_of f.tag f.value)
 lives a shares n f e = shown (kept_of a shares) n (held f) (at_held a n f e)
 
-all_shown : (a : Numbered Inode) (shares : List Share) (n : ℕ) → tree.at n (tree_in (kept_of a shares)).files ≡ option_map (λ (f : Filed Inode). file_of f.tag f.value) (at a n)
-all_shown a shares n = at_shows (λ (h : Held). h.file) n (helds a.files) ∙ ap (option_map (λ (h : Held). h.file)) (at_shows held n a.files) ∙ twice (at a n)
+all_shown : (a : NumberedFiles StoredFile) (shares : List StoredVolume) (n : ℕ) → tree.at n (tree_in (kept_of a shares)).files ≡ option_map (λ (f : TaggedFile StoredFile). file_of f.tag f.value) (at a n)
+all_shown a shares n = at_shows (λ (h : CountedFile). h.file) n (helds a.files) ∙ ap (option_map (λ (h : CountedFile). h.file)) (at_shows held n a.files) ∙ twice (at a n)
   where
-    twice : (o : Option (Filed Inode)) → option_map (λ (h : Held). h.file) (option_map held o) ≡ option_map (λ (f : Filed Inode). file_of f.tag f.value) o
+    twice : (o : Option (TaggedFile StoredFile)) → option_map (λ (h : CountedFile). h.file) (option_map held o) ≡ option_map (λ (f : TaggedFile StoredFile). file_of f.tag f.value) o
     twice None = refl
     twice (Some f) = refl
 
-module _ (a : Numbered Inode) (shares : List Share) (t : Tree) (view : tree_in (kept_of a shares) ≡ t) where
-  pub lives_there : (n : ℕ) (f : Filed Inode) → at a n ≡ Some f → Lives t n (file_of f.tag f.value)
+module _ (a : NumberedFiles StoredFile) (shares : List StoredVolume) (t : Tree) (view : tree_in (kept_of a shares) ≡ t) where
+  pub lives_there : (n : ℕ) (f : TaggedFile StoredFile) → at a n ≡ Some f → Lives t n (file_of f.tag f.value)
   lives_there n f e = subst (λ (t : Tree). Lives t n (file_of f.tag f.value)) view (lives a shares n f e)
 
   -- what is kept of a file of the tree
-  pub kept_at : (n : ℕ) (g : File) → Lives t n g → (f : Filed Inode) × (at a n ≡ Some f) × (file_of f.tag f.value ≡ g)
-  kept_at n g e = mapped (λ (f : Filed Inode). file_of f.tag f.value) (at a n) g (sym (all_shown a shares n) ∙ subst (λ (t : Tree). Lives t n g) (sym view) e)
+  pub kept_at : (n : ℕ) (g : File) → Lives t n g → (f : TaggedFile StoredFile) × (at a n ≡ Some f) × (file_of f.tag f.value ≡ g)
+  kept_at n g e = mapped (λ (f : TaggedFile StoredFile). file_of f.tag f.value) (at a n) g (sym (all_shown a shares n) ∙ subst (λ (t : Tree). Lives t n g) (sym view) e)
 
   pub none_there : (n : ℕ) → None ≡ value_at a n → tree.at n t.files ≡ None
   none_there n e = ap (λ (t : Tree). tree.at n t.files) (sym view) ∙ all_shown a shares n ∙ none_of (at a n) e
     where
-      none_of : (o : Option (Filed Inode)) → None ≡ option_map (λ (f : Filed Inode). f.value) o → option_map (λ (f : Filed Inode). file_of f.tag f.value) o ≡ None
+      none_of : (o : Option (TaggedFile StoredFile)) → None ≡ option_map (λ (f : TaggedFile StoredFile). f.value) o → option_map (λ (f : TaggedFile StoredFile). file_of f.tag f.value) o ≡ None
       none_of None e = refl
       none_of (Some f) e = cc
 
   -- the volume of a file
-  pub place_there : (n : ℕ) (i : Inode) → Some i ≡ value_at a n → i.volume ≡ changes.volume_of t n
+  pub place_there : (n : ℕ) (i : StoredFile) → Some i ≡ value_at a n → i.volume ≡ changes.volume_of t n
   place_there n i e = let f = filed a n i e in
-      ap (λ (i : Inode). i.volume) (sym f.2) ∙ sym (ap (λ o. on_some o 0 (λ (k : File). k.volume)) (lives_there n f.0 f.1))
+      ap (λ (i : StoredFile). i.volume) (sym f.2) ∙ sym (ap (λ o. on_some o 0 (λ (k : File). k.volume)) (lives_there n f.0 f.1))
 
   pub place_none : (n : ℕ) → None ≡ value_at a n → 0 ≡ changes.volume_of t n
   place_none n e = sym (ap (λ o. on_some o 0 (λ (k : File). k.volume)) (none_there n e))
 
 -- ---- volumes
 
-pub share_at : (shares : List Share) (place : ℕ) (v : Volume) → slice_get (map (λ (c : Counted). c.volume) (map counted_of shares)) place ≡ Some v → (s : Share) × (slice_get shares place ≡ Some s) × (volume_of s ≡ v)
+pub share_at : (shares : List StoredVolume) (place : ℕ) (v : Volume) → slice_get (map (λ (c : CountedVolume). c.volume) (map counted_of shares)) place ≡ Some v → (s : StoredVolume) × (slice_get shares place ≡ Some s) × (volume_of s ≡ v)
 share_at [] place v e = absurd (not_both refl e)
 share_at (s ∷ ss) zero v e = (s, refl, same_some e)
 share_at (s ∷ ss) (suc place) v e = share_at ss place v e
 
-pub share_counted : (shares : List Share) (place : ℕ) (s : Share) → slice_get shares place ≡ Some s → slice_get (map counted_of shares) place ≡ Some (counted_of s)
+pub share_counted : (shares : List StoredVolume) (place : ℕ) (s : StoredVolume) → slice_get shares place ≡ Some s → slice_get (map counted_of shares) place ≡ Some (counted_of s)
 share_counted shares place s e = slice_get-map counted_of shares place ∙ ap (option_map counted_of) e
 
-pub set_totals : (shares : List Share) (place bytes files : ℕ) (s : Share) → slice_get shares place ≡ Some s → map counted_of (slice_set shares place (record s { bytes = s.bytes + bytes; files = s.files + files })) ≡ with_totals (map counted_of shares) place bytes files
+pub set_totals : (shares : List StoredVolume) (place bytes files : ℕ) (s : StoredVolume) → slice_get shares place ≡ Some s → map counted_of (slice_set shares place (record s { bytes = s.bytes + bytes; files = s.files + files })) ≡ with_totals (map counted_of shares) place bytes files
 set_totals [] place bytes files s e = absurd (not_both refl e)
 set_totals (b ∷ bs) zero bytes files s e = let same : b ≡ s = same_some e in
-    ap (λ (s : Share). record { volume = volume_of s; bytes = s.bytes + bytes; files = s.files + files } ∷ map counted_of bs) (sym same)
+    ap (λ (s : StoredVolume). record { volume = volume_of s; bytes = s.bytes + bytes; files = s.files + files } ∷ map counted_of bs) (sym same)
 set_totals (b ∷ bs) (suc place) bytes files s e = ap (λ l. counted_of b ∷ l) (set_totals bs place bytes files s e)

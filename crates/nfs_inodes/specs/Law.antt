@@ -2,7 +2,7 @@
 use Rattle.std.specs.Prelude.{suc, zero, ◌≡◌, ◌≢◌, ℕ, ◌≤◌, ◌<◌, true, false, List, [], ◌∷◌, length, Some, None, All, AllPairs, Contains, slice_get, filter}
 use Rattle.nfs_inodes.specs.Tree.{Tree, File, Entry, Volume, at, on_some, is_directory, entries_in, parent_in, next_cookie_in, bytes_in, path_in, names_of, nlink, bytes_of, files_of}
 use Rattle.nfs_inodes.specs.Reading.{numbered}
-use Rattle.nfs_handles.specs.Numbered.{IsNumbered}
+use Rattle.nfs_handles.specs.NumberedFiles.{IsNumbered}
 
 -- 1 to 255 bytes, none 0 or `/`, neither `.` nor `..`
 pub record IsName (name : List ℕ) : Type 0 where

@@ -8,7 +8,7 @@ use Rattle.nfs_inodes.specs.declared.new_file.NewFile.{NewFile}
 use Rattle.nfs_inodes.specs.Tree.{Tree, File, at}
 use Rattle.nfs_inodes.specs.Law.{Law, Lives, LivesAsDirectory, IsReached}
 use Rattle.nfs_inodes.specs.Changes.{file_made, directory_made, link_made, linked, written, volume_added}
-use Rattle.nfs_inodes.specs.May.{MayMake, MayMakeDirectory, MayMakeLink, MayLink, MayWrite, MayFound}
+use Rattle.nfs_inodes.specs.Conditions.{MayMake, MayMakeDirectory, MayMakeLink, MayLink, MayWrite, MayAddVolume}
 use Rattle.nfs_inodes.specs.Reading.{found, numbered}
 
 abbrev pub RootsAreReached : Type 0
@@ -27,7 +27,7 @@ pub record Leads (To : Tree → Tree → Type 0) : Type 0 where
   pub bytes : (t : Tree) (n offset : ℕ) (bytes : List ℕ) (now : Moment)
       → MayWrite t n offset (length bytes) → Law t → To t (written t n offset bytes now)
   pub volumes : (t : Tree) (max_bytes max_files tag : ℕ) (path : List ℕ) (given : NewFile) (now : Moment)
-      → MayFound t path max_files → tag < 2 ^ 32 → Law t → To t (volume_added t path max_bytes max_files given tag now)
+      → MayAddVolume t path max_files → tag < 2 ^ 32 → Law t → To t (volume_added t path max_bytes max_files given tag now)
 
 abbrev pub ChangesKeepTheLaw : Type 0
 ChangesKeepTheLaw = Leads (λ t u. Law u)

@@ -4,7 +4,7 @@ use Rattle.std.specs.List.{find}
 use Rattle.nfs_attrs.specs.declared.fattr.Fattr.{Fattr}
 use Rattle.nfs_attrs.specs.declared.file_type.FileType.{FileType}
 use Rattle.nfs_attrs.specs.declared.file_type.FileType.TheVariants as file_type
-use Rattle.nfs_handles.specs.Numbered.{Numbered}
+use Rattle.nfs_handles.specs.NumberedFiles.{NumberedFiles}
 use Rattle.nfs_inodes.specs.declared.volumes.Totals.{Totals}
 use Rattle.nfs_inodes.specs.Tree.{Tree, File, Kind, Entry, Volume, Regular, Directory, Link, at, on_some, bytes_in, nlink, bytes_of, files_of}
 
@@ -88,7 +88,7 @@ abbrev pub bytes_at : Tree → ℕ → List ℕ
 bytes_at t n = on_some (at n t.files) [] (λ f. bytes_in f.kind)
 
 -- the first of some bytes, some of them where there are any
-pub record IsRun (run bytes : List ℕ) : Type 0 where
+pub record IsFirstChunk (run bytes : List ℕ) : Type 0 where
   pub rest : List ℕ
   pub bytes_are : bytes ≡ run ++ rest
   pub some : run ≡ [] → bytes ≡ []
@@ -124,5 +124,5 @@ totals_at t place = option_map (λ (v : Volume). record { bytes = bytes_of place
 -- ---- handles
 
 -- the files with their tags
-abbrev pub numbered : Tree → Numbered File
+abbrev pub numbered : Tree → NumberedFiles File
 numbered t = record { files = map (λ e. (e.0, record { tag = e.1.tag; value = e.1 })) t.files; next = t.next; key = t.key }

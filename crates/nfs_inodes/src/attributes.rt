@@ -1,10 +1,10 @@
-//! The attributes of files.
+//! The attributes of files, and the verifiers that made them.
 ghost use Rattle.std.specs.Prelude.{◌≡◌, ℕ, ◌<◌};
-ghost use Rattle.nfs_inodes.specs.Listing.{file_of, kind_of};
-ghost use Rattle.nfs_inodes.specs.Reading.{attributes_at};
+ghost use Rattle.nfs_inodes.specs.Storage.{file_of, kind_of};
+ghost use Rattle.nfs_inodes.specs.Reading.{attributes_at, verifier_at};
 ghost use Rattle.nfs_inodes.specs.Reading as spec;
 
-use crate::inode::{Inode, Node};
+use crate::stored_file::{StoredFile, Node};
 use crate::tree::Tree;
 use nfs_attrs::fattr::{Fattr, SpecData};
 use nfs_attrs::file_type::FileType;
@@ -24,10 +24,21 @@ impl Tree {
             None => None,
         }
     }
+
+    /// The verifier of the exclusive CREATE that made a file (RFC 1813, section 3.3.8). `None`
+    /// where it was made otherwise or none lives under the number.
+    pub fn verifier(&self, number: Number) -> Option<[u8; 8]>
+        ensures { result ≡ verifier_at self.now number.0 }
+    {
+        match self.files.get(number) {
+            Some(inode) => inode.verifier,
+            None => None,
+        }
+    }
 }
 
 #[inline(always)]
-pub(crate) fn attributes_of(inode: &Inode, number: Number) -> Fattr
+pub(crate) fn attributes_of(inode: &StoredFile, number: Number) -> Fattr
     requires { inode.now.volume < 64 }
     ensures { result ≡ spec.attributes_of number.0 (file_of 0 inode.now) inode.now.nlink }
 {

@@ -1,11 +1,11 @@
-//! What files contain, as it is read.
+//! What files contain, as it is read: the bytes of regular files and the paths of links.
 ghost use Rattle.std.specs.Prelude.{◌≡◌, ℕ, drop, option_map};
 ghost use Rattle.nfs_inodes.specs.Tree.{bytes_in};
-ghost use Rattle.nfs_inodes.specs.Listing.{kind_of};
-ghost use Rattle.nfs_inodes.specs.Reading.{IsRun, bytes_at, path_at, verifier_at};
+ghost use Rattle.nfs_inodes.specs.Storage.{kind_of};
+ghost use Rattle.nfs_inodes.specs.Reading.{IsFirstChunk, bytes_at, path_at};
 ghost use Rattle.nfs_inodes.specs.Reading as spec;
 
-use crate::inode::Node;
+use crate::stored_file::Node;
 use crate::tree::Tree;
 use nfs_handles::number::Number;
 
@@ -13,7 +13,7 @@ impl Tree {
     /// The bytes of a regular file from an offset on: a first run of them, which has one where
     /// there is one. None where no regular file lives under the number.
     pub fn bytes_at(&self, number: Number, offset: usize) -> &[u8]
-        ensures { IsRun result.now (drop offset (bytes_at self.now number.0)) }
+        ensures { IsFirstChunk result.now (drop offset (bytes_at self.now number.0)) }
     {
         match self.files.get(number) {
             Some(inode) => run_from(&inode.node, offset),
@@ -28,17 +28,6 @@ impl Tree {
     {
         match self.files.get(number) {
             Some(inode) => path_of(&inode.node),
-            None => None,
-        }
-    }
-
-    /// The verifier of the exclusive CREATE that made a file (RFC 1813, section 3.3.8). `None`
-    /// where it was made otherwise or none lives under the number.
-    pub fn verifier(&self, number: Number) -> Option<[u8; 8]>
-        ensures { result ≡ verifier_at self.now number.0 }
-    {
-        match self.files.get(number) {
-            Some(inode) => inode.verifier,
             None => None,
         }
     }

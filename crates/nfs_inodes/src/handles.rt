@@ -4,7 +4,7 @@ ghost use Rattle.nfs_handles.specs.Handles.{handle_at, reading, reading_without}
 ghost use Rattle.nfs_handles.specs.Handles.{number as number_of};
 ghost use Rattle.nfs_handles.specs.declared.reading.Reading.TheVariants.{Live};
 ghost use Rattle.nfs_inodes.specs.Reading.{numbered};
-ghost use Rattle.nfs_inodes.specs.Shown.{IsSeen};
+ghost use Rattle.nfs_inodes.specs.Views.{IsSeen};
 
 use crate::tree::Tree;
 use crate::view::FileView;
@@ -41,13 +41,6 @@ impl Tree {
             Ok((number, inode)) => Ok(FileView::new(inode, number)),
             Err(why) => Err(why),
         }
-    }
-
-    /// The number that the next new file takes.
-    pub fn next_number(&self) -> u64
-        ensures { result ≡ self.now.next }
-    {
-        self.files.next()
     }
 
     /// The key of the server, which is in every handle.

@@ -2,18 +2,20 @@
 #![tactic(auto)]
 
 pub mod attributes;
+pub mod conditions;
 mod content;
 pub mod content_reader;
-mod entry;
+pub mod directory;
 pub mod examples;
 pub mod handles;
-mod inode;
-mod inodes;
 pub mod laws;
-pub mod lookup;
-pub mod may;
+pub mod limits;
+pub mod name;
 pub mod new_file;
+mod stored_entry;
+mod stored_file;
+mod stored_files;
+mod stored_volume;
 pub mod tree;
 pub mod view;
-mod volume;
 pub mod volumes;

@@ -3,7 +3,7 @@ use nfs_attrs::moment::Moment;
 
 /// The attributes that a new file begins with (RFC 1813, section 2.6, sattr3); of the mode the
 /// low 12 bits.
-#[derive(Clone, Copy, Debug, PartialEq, Eq)]
+#[derive(Clone, Copy)]
 pub struct NewFile {
     /// Who may do what.
     pub mode: u32,

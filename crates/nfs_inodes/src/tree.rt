@@ -3,16 +3,16 @@ ghost use Rattle.std.specs.Prelude.{◌≡◌, ◌+◌, ◌<◌, Option, Some, N
 ghost use Rattle.nfs_inodes.specs.Tree.{Regular, Directory, Link};
 ghost use Rattle.nfs_inodes.specs.Law.{Law};
 ghost use Rattle.nfs_inodes.specs.Changes.{Makes, file_made, directory_made, link_made, linked, written, volume_added, made, new_file, zeros, volume_of};
-ghost use Rattle.nfs_inodes.specs.May.{MayMake, MayMakeDirectory, MayMakeLink, MayLink, MayWrite, Grows, MayFound};
-ghost use Rattle.nfs_inodes.specs.Listing.{file_of, counted_of};
-ghost use Rattle.nfs_inodes.specs.Adding.{MayAdd, retagged, HasRoomFor};
-ghost use Rattle.nfs_inodes.specs.Kept.{with_totals};
+ghost use Rattle.nfs_inodes.specs.Conditions.{MayMake, MayMakeDirectory, MayMakeLink, MayLink, MayWrite, Grows, MayAddVolume};
+ghost use Rattle.nfs_inodes.specs.Storage.{file_of, counted_of};
+ghost use Rattle.nfs_inodes.specs.StepConditions.{MayAdd, retagged, HasRoomFor};
+ghost use Rattle.nfs_inodes.specs.Counts.{with_totals};
 
 use crate::content::{copied, zeroed};
-use crate::inode::{Inode, Node};
-use crate::inodes::{add, link, write};
+use crate::stored_file::{StoredFile, Node};
+use crate::stored_files::{add, link, write};
 use crate::new_file::NewFile;
-use crate::volume::Share;
+use crate::stored_volume::StoredVolume;
 use nfs_attrs::moment::Moment;
 use nfs_handles::files::Files;
 use nfs_handles::number::Number;
@@ -23,8 +23,8 @@ use std::marker::Model;
 #[derive(Drop)]
 pub struct Tree {
     alloc: Global,
-    pub(crate) files: Files<Inode>,
-    pub(crate) volumes: Vec<Share>,
+    pub(crate) files: Files<StoredFile>,
+    pub(crate) volumes: Vec<StoredVolume>,
 }
 
 impl Model for Tree {
@@ -32,12 +32,12 @@ impl Model for Tree {
 
     ghost Value = { shown.Tree };
 
-    ghost use Rattle.nfs_inodes.specs.Kept.{tree_in, Keeps};
-    ghost use Rattle.nfs_inodes.specs.Listing.{kept_of};
+    ghost use Rattle.nfs_inodes.specs.Counts.{tree_in, Agrees};
+    ghost use Rattle.nfs_inodes.specs.Storage.{kept_of};
 
     ghost view = { λ a. tree_in (kept_of a.files a.volumes.items) };
 
-    ghost invariant = { λ a. Keeps (kept_of a.files a.volumes.items) };
+    ghost invariant = { λ a. Agrees (kept_of a.files a.volumes.items) };
 }
 
 // `.` and `..` have the cookies 1 and 2.
@@ -62,6 +62,13 @@ impl Tree {
         let _ = &self.files;
     }
 
+    /// The number that the next new file takes.
+    pub fn next_number(&self) -> u64
+        ensures { result ≡ self.now.next }
+    {
+        self.files.next()
+    }
+
     /// A new regular file of `size` zeros, with an entry in directory `dir`. Refused without
     /// memory, and then the tree is as before.
     pub fn make_file(
@@ -80,7 +87,7 @@ impl Tree {
     {
         let content = zeroed(self.alloc, size)?;
         let name = copied(self.alloc, name)?;
-        let inode = Inode::new(
+        let inode = StoredFile::new(
             self.place(dir),
             Node::Regular(content),
             given,
@@ -110,7 +117,7 @@ impl Tree {
             next_cookie: FIRST_COOKIE,
             entries: Vec::new(self.alloc),
         };
-        let inode = Inode::new(self.place(dir), node, given, None, now);
+        let inode = StoredFile::new(self.place(dir), node, given, None, now);
         self.make(dir, name, inode, now)
     }
 
@@ -131,7 +138,7 @@ impl Tree {
     {
         let path = copied(self.alloc, path)?;
         let name = copied(self.alloc, name)?;
-        let inode = Inode::new(self.place(dir), Node::Link(path), given, None, now);
+        let inode = StoredFile::new(self.place(dir), Node::Link(path), given, None, now);
         self.make(dir, name, inode, now)
     }
 
@@ -186,7 +193,7 @@ impl Tree {
         given: &NewFile,
         now: Moment,
     ) -> Result<Number, AllocError>
-        requires { MayFound self.old path.now max_files }
+        requires { MayAddVolume self.old path.now max_files }
         ensures ok { OnOk result (Makes (λ tag. volume_added self.old path.now max_bytes max_files given.now tag now) self.new) }
         ensures number { IfOk result (λ n. n.0 ≡ self.old.next) }
         ensures err { OnErr result (self.new ≡ self.old) }
@@ -198,14 +205,14 @@ impl Tree {
             next_cookie: FIRST_COOKIE,
             entries: Vec::new(self.alloc),
         };
-        let inode = Inode::new(self.volumes.len(), node, given, None, now);
+        let inode = StoredFile::new(self.volumes.len(), node, given, None, now);
         let root = match self.files.put(inode) {
             Ok(root) => root,
             Err(_) => return Err(AllocError),
         };
         append(
             &mut self.volumes,
-            Share {
+            StoredVolume {
                 path,
                 max_bytes,
                 max_files,
@@ -232,7 +239,7 @@ impl Tree {
         &mut self,
         dir: Number,
         name: Vec<u8>,
-        inode: Inode,
+        inode: StoredFile,
         now: Moment,
     ) -> Result<Number, AllocError>
         requires { MayAdd self.old dir.0 name.items inode }
@@ -249,7 +256,7 @@ impl Tree {
 }
 
 // One volume more, for which there is room.
-fn append(volumes: &mut Vec<Share>, share: Share)
+fn append(volumes: &mut Vec<StoredVolume>, share: StoredVolume)
     requires { vec_len volumes.old < vec_capacity volumes.old }
     ensures { volumes.new.items ≡ volumes.old.items ++ share ∷ [] }
 {
@@ -257,7 +264,7 @@ fn append(volumes: &mut Vec<Share>, share: Share)
 }
 
 // So many bytes and files more in the volume at a place.
-fn count(volumes: &mut Vec<Share>, place: usize, bytes: u64, files: u64)
+fn count(volumes: &mut Vec<StoredVolume>, place: usize, bytes: u64, files: u64)
     requires { HasRoomFor volumes.old.items place bytes files }
     ensures { map counted_of volumes.new.items ≡ with_totals (map counted_of volumes.old.items) place bytes files }
 {

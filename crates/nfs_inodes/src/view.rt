@@ -2,14 +2,14 @@
 ghost use Rattle.std.specs.Prelude.{◌≡◌, ◌<◌, drop, option_map, Some, None, IfSome, IfNone};
 ghost use Rattle.nfs_handles.specs.Handles.{handle_at};
 ghost use Rattle.nfs_inodes.specs.Tree.{Tree};
-ghost use Rattle.nfs_inodes.specs.Listing.{file_of, kind_of};
-ghost use Rattle.nfs_inodes.specs.Reading.{IsRun, attributes_of, attributes_at, bytes_at, found, numbered};
-ghost use Rattle.nfs_inodes.specs.Shown.{kind_seen, bytes_seen, IsSeen};
+ghost use Rattle.nfs_inodes.specs.Storage.{file_of, kind_of};
+ghost use Rattle.nfs_inodes.specs.Reading.{IsFirstChunk, attributes_of, attributes_at, bytes_at, found, numbered};
+ghost use Rattle.nfs_inodes.specs.Views.{kind_seen, bytes_seen, IsSeen};
 
 use crate::attributes::attributes_of;
 use crate::content_reader::run_from;
-use crate::inode::{Inode, Node};
-use crate::lookup::under_name;
+use crate::stored_file::{StoredFile, Node};
+use crate::directory::under_name;
 use crate::tree::Tree;
 use nfs_attrs::fattr::Fattr;
 use nfs_handles::number::Number;
@@ -25,7 +25,7 @@ pub struct FileView<'a> {
 impl<'a> FileView<'a> {
     // The file that is kept under a number.
     #[inline(always)]
-    pub(crate) fn new(inode: &'a Inode, number: Number) -> FileView<'a>
+    pub(crate) fn new(inode: &'a StoredFile, number: Number) -> FileView<'a>
         requires { inode.now.volume < 64 }
         ensures attributes { result.attributes ≡ attributes_of number.0 (file_of 0 inode.now) inode.now.nlink }
         ensures kind { kind_seen result ≡ kind_of inode.now.node }
@@ -46,7 +46,7 @@ impl<'a> FileView<'a> {
     /// The bytes of this regular file from an offset on: a first run of them, which has one where
     /// there is one. None where this is no regular file.
     pub fn bytes_at(&self, offset: usize) -> &'a [u8]
-        ensures { IsRun result.now (drop offset (bytes_seen self.now)) }
+        ensures { IsFirstChunk result.now (drop offset (bytes_seen self.now)) }
     {
         run_from(self.node, offset)
     }

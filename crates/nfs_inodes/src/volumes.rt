@@ -1,16 +1,16 @@
 //! Volumes as they are read.
 ghost use Rattle.std.specs.Prelude.{◌≡◌, ℕ, bytes_eq, length, slice_get, option_copied, option_map, map};
 ghost use Rattle.nfs_inodes.specs.Tree.{Volume};
-ghost use Rattle.nfs_inodes.specs.Listing.{volume_of};
+ghost use Rattle.nfs_inodes.specs.Storage.{volume_of};
 ghost use Rattle.nfs_inodes.specs.Reading.{place_where, place_named, totals_at};
-ghost use Rattle.nfs_inodes.specs.Shown.{volume_seen};
+ghost use Rattle.nfs_inodes.specs.Views.{volume_seen};
 
 use crate::tree::Tree;
-use crate::volume::Share;
+use crate::stored_volume::StoredVolume;
 use nfs_handles::number::Number;
 
 /// A volume: a tree of directories with limits of its own.
-#[derive(Clone, Copy, Debug, PartialEq, Eq)]
+#[derive(Clone, Copy, Debug)]
 pub struct VolumeView<'a> {
     /// The path that it is exported under.
     pub path: &'a [u8],
@@ -23,7 +23,7 @@ pub struct VolumeView<'a> {
 }
 
 /// What the files of a volume have in all.
-#[derive(Clone, Copy, Debug, PartialEq, Eq)]
+#[derive(Clone, Copy, Debug, PartialEq)]
 pub struct Totals {
     /// The bytes of its regular files.
     pub bytes: u64,
@@ -71,13 +71,13 @@ impl Tree {
     }
 }
 
-pub(crate) fn share_at(volumes: &[Share], place: usize) -> Option<&Share>
+pub(crate) fn share_at(volumes: &[StoredVolume], place: usize) -> Option<&StoredVolume>
     ensures { option_copied result ≡ slice_get volumes.now place }
 {
     volumes.get(place)
 }
 
-fn view_of(share: &Share) -> VolumeView<'_>
+fn view_of(share: &StoredVolume) -> VolumeView<'_>
     ensures { volume_seen result ≡ volume_of share.now }
 {
     VolumeView {
@@ -88,7 +88,7 @@ fn view_of(share: &Share) -> VolumeView<'_>
     }
 }
 
-fn place_of(volumes: &[Share], path: &[u8]) -> Option<usize>
+fn place_of(volumes: &[StoredVolume], path: &[u8]) -> Option<usize>
     ensures { result ≡ place_where (λ (v : Volume). bytes_eq v.path path.now) (map volume_of volumes.now) }
 {
     for place in 0..volumes.len() {

@@ -1,6 +1,6 @@
 //! Numbered files and their handles.
 ghost use Rattle.std.specs.Prelude.{◌≡◌, ℕ, ◌/◌, ◌<◌, ◌≤◌, Some, None, false, IsTrue};
-ghost use Rattle.nfs_handles.specs.Numbered.{value_at, with_value};
+ghost use Rattle.nfs_handles.specs.NumberedFiles.{value_at, with_value};
 
 use crate::support::{bytes, digits};
 use ballast::Ballast;

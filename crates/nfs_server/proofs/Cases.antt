@@ -4,7 +4,7 @@ use Rattle.std.specs.Prelude.{IsSome, nat_eq}
 use Rattle.std.specs.List.{find, list_any}
 use Rattle.std.proofs.lemmas.Bool.{true≢false, false≢true}
 use Rattle.nfs_attrs.specs.declared.fattr.Fattr.{Fattr}
-use Rattle.nfs_handles.specs.Numbered.{Filed, at as file_at}
+use Rattle.nfs_handles.specs.NumberedFiles.{TaggedFile, at as file_at}
 use Rattle.nfs_handles.specs.Handles.{handle_text, reading}
 use Rattle.nfs_handles.specs.declared.reading.Reading.{Reading}
 use Rattle.nfs_handles.specs.declared.reading.Reading.TheVariants.{Live, Stale, Bad}
@@ -12,7 +12,7 @@ use Rattle.nfs_handles.specs.declared.number.Number.{Number}
 use Rattle.nfs_inodes.specs.Tree.{Tree, File, at, on_some, nlink}
 use Rattle.nfs_inodes.specs.Law.{Law}
 use Rattle.nfs_inodes.specs.Reading.{found, numbered, attributes_of, attributes_at}
-use Rattle.nfs_inodes.proofs.Found.{found_lives}
+use Rattle.nfs_inodes.proofs.Lookups.{found_lives}
 use Rattle.nfs_inodes.proofs.Follows.{changes_follow, handles_are_for_good, lives_alike}
 use Rattle.nfs_rpc.specs.AuthSys.{Credential, caller}
 use Rattle.nfs_rpc.specs.Calls.{Call}
@@ -133,6 +133,6 @@ found_has_handle t d n name law e =
     let lives = found_lives t law d n name e in
     handled (file_at (numbered t) n) (lives_alike t n ∙ ap is_some lives.at_file)
   where
-    handled : (o : Option (Filed File)) → is_some o ≡ true → IsSome (option_map (λ (file : Filed File). handle_text t.key file.tag n) o)
+    handled : (o : Option (TaggedFile File)) → is_some o ≡ true → IsSome (option_map (λ (file : TaggedFile File). handle_text t.key file.tag n) o)
     handled None e = absurd (false≢true e)
     handled (Some file) e = refl

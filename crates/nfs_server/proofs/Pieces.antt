@@ -13,7 +13,7 @@ use Rattle.nfs_attrs.specs.declared.fattr.Fattr.{Fattr}
 use Rattle.nfs_attrs.specs.Spelling.{post_op_attr_text}
 use Rattle.nfs_handles.specs.Handles.{handle_at}
 use Rattle.nfs_inodes.specs.Tree.{Tree, File, Kind, Regular, Directory, Link, at, on_some, bytes_in, nlink}
-use Rattle.nfs_inodes.specs.Reading.{IsRun, attributes_of, attributes_at, bytes_at, numbered, type_of, size_of}
+use Rattle.nfs_inodes.specs.Reading.{IsFirstChunk, attributes_of, attributes_at, bytes_at, numbered, type_of, size_of}
 use Rattle.nfs_server.specs.Rules.{Subject, is_regular}
 use Rattle.nfs_server.specs.Results.{status_text, lookup_text, read_text}
 
@@ -25,12 +25,12 @@ same_some : {X : Type 0} {x y : X} → Some x ≡ Some y → x ≡ y
 same_some e = cc
 
 -- the front of a run of the bytes that are left are the next bytes
-next_bytes : (bytes run : List ℕ) (offset done some : ℕ) → IsRun run (drop (offset + done) bytes) → some ≤ length run → take (done + some) (drop offset bytes) ≡ take done (drop offset bytes) ++ take some run
+next_bytes : (bytes run : List ℕ) (offset done some : ℕ) → IsFirstChunk run (drop (offset + done) bytes) → some ≤ length run → take (done + some) (drop offset bytes) ≡ take done (drop offset bytes) ++ take some run
 next_bytes bytes run offset done some is within =
     let left : drop done (drop offset bytes) ≡ run ++ is.rest = drop-drop done offset bytes ∙ is.bytes_are in
     take-add done some (drop offset bytes) ∙ ap (λ l. take done (drop offset bytes) ++ take some l) left ∙ ap (λ l. take done (drop offset bytes) ++ l) (take-append-le some run is.rest within)
 
-pub run_goes : (bytes run : List ℕ) (offset done some : ℕ) (a b c : Written) → IsRun run (drop (offset + done) bytes) → some ≤ length run → Appends (take done (drop offset bytes)) a b → Appends (take some run) b c → Appends (take (done + some) (drop offset bytes)) a c
+pub run_goes : (bytes run : List ℕ) (offset done some : ℕ) (a b c : Written) → IsFirstChunk run (drop (offset + done) bytes) → some ≤ length run → Appends (take done (drop offset bytes)) a b → Appends (take some run) b c → Appends (take (done + some) (drop offset bytes)) a c
 run_goes bytes run offset done some a b c is within first second = subst (λ text. Appends text a c) (sym (next_bytes bytes run offset done some is within)) (appends_then _ _ a b c first second)
 
 -- ---- the result of READ

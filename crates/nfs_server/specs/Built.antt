@@ -3,7 +3,7 @@ use Rattle.std.specs.Prelude.{ℕ, ◌+◌, ◌*◌, true, false, List, [], ◌�
 use Rattle.nfs_inodes.specs.declared.new_file.NewFile.{NewFile}
 use Rattle.nfs_inodes.specs.Tree.{Tree, File}
 use Rattle.nfs_inodes.specs.Changes.{file_made, written}
-use Rattle.nfs_inodes.specs.Adding.{retagged}
+use Rattle.nfs_inodes.specs.StepConditions.{retagged}
 use Rattle.nfs_inodes.specs.Example.{start}
 use Rattle.nfs_server.specs.declared.event.Addr.{Addr}
 use Rattle.nfs_server.specs.declared.exports.Options.{Options}

@@ -3,7 +3,7 @@ use Rattle.std.specs.Prelude.{◌≡◌, ℕ, List, [], Option, Some, None, Resu
 use Rattle.std.specs.List.{find}
 use Rattle.nfs_inodes.specs.Tree.{Tree}
 use Rattle.nfs_inodes.specs.Reading.{found}
-use Rattle.nfs_inodes.specs.Shown.{IsSeen}
+use Rattle.nfs_inodes.specs.Views.{IsSeen}
 use Rattle.nfs_inodes.specs.declared.view.FileView.{FileView}
 use Rattle.nfs_rpc.specs.AuthSys.{Credential, credential_of}
 use Rattle.nfs_server.specs.declared.event.Addr.{Addr}

@@ -5,7 +5,7 @@ ghost use Rattle.nfs_xdr.specs.Written.{Appends};
 ghost use Rattle.nfs_server.specs.Rules.{is_separator};
 ghost use Rattle.nfs_server.specs.Results.{status_text, lookup_text, result_of};
 ghost use Rattle.nfs_server.specs.Args.{Lookup};
-ghost use Rattle.nfs_inodes.specs.Shown.{IsSeen};
+ghost use Rattle.nfs_inodes.specs.Views.{IsSeen};
 ghost use Rattle.nfs_server.specs.Judging.{subject_of, IsCurrent, Looks, lookup_failure};
 
 use crate::procedures::write_denied;
@@ -14,7 +14,7 @@ use crate::rule::Rule;
 use crate::subject::Subject;
 use nfs_attrs::fattr::write_post_op_attr;
 use nfs_attrs::file_type::FileType;
-use nfs_inodes::may::MAX_NAME_BYTES;
+use nfs_inodes::limits::MAX_NAME_BYTES;
 use nfs_inodes::view::FileView;
 use nfs_xdr::output::Output;
 

@@ -1,7 +1,7 @@
 //! READ: bytes of a file (RFC 1813, section 3.3.6).
 ghost use Rattle.std.specs.Prelude.{◌≡◌, ◌+◌, ◌^◌, ◌<◌, ◌≤◌, [], ◌++◌, Some, true, length, take, drop};
 ghost use Rattle.nfs_xdr.specs.Written.{Appends};
-ghost use Rattle.nfs_inodes.specs.Shown.{bytes_seen};
+ghost use Rattle.nfs_inodes.specs.Views.{bytes_seen};
 ghost use Rattle.nfs_server.specs.Rules.{is_regular};
 ghost use Rattle.nfs_server.specs.Results.{status_text, read_text, read_bytes, result_of};
 ghost use Rattle.nfs_server.specs.Args.{ReadFile};

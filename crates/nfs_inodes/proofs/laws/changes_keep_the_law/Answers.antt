@@ -1,5 +1,5 @@
 use Rattle.nfs_inodes.proofs.Operations.{law_linked, law_written}
-use Rattle.nfs_inodes.proofs.Lawful.{law_file_made, law_directory_made, law_link_made, law_volume_added}
+use Rattle.nfs_inodes.proofs.NewFiles.{law_file_made, law_directory_made, law_link_made, law_volume_added}
 use Rattle.nfs_inodes.proofs.laws.changes_keep_the_law.Goals as goal
 
 pub returns : goal.returns

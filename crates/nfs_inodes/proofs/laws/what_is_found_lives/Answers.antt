@@ -1,4 +1,4 @@
-use Rattle.nfs_inodes.proofs.Found.{found_lives}
+use Rattle.nfs_inodes.proofs.Lookups.{found_lives}
 use Rattle.nfs_inodes.proofs.laws.what_is_found_lives.Goals as goal
 
 pub returns : goal.returns

@@ -1,6 +1,6 @@
 use Rattle.std.proofs.Common.{◌≡◌, ◌+◌, bytes_eq, map, drop, option_map}
 use Rattle.nfs_inodes.specs.Tree.{Volume}
-use Rattle.nfs_inodes.specs.Listing.{volume_of}
+use Rattle.nfs_inodes.specs.Storage.{volume_of}
 use Rattle.nfs_inodes.specs.Reading.{place_where}
 use Rattle.nfs_inodes.proofs.volumes.place_of.Given as goal
 

@@ -1,6 +1,6 @@
 use Rattle.std.proofs.Common.{◌-◌, ◌≤◌, take, drop}
 use Rattle.nfs_xdr.specs.Written.{Appends}
-use Rattle.nfs_inodes.specs.Shown.{bytes_seen}
+use Rattle.nfs_inodes.specs.Views.{bytes_seen}
 use Rattle.nfs_server.proofs.read.write_bytes.Given as goal
 
 abbrev pub invariant-loop-done : goal.invariant-loop-done

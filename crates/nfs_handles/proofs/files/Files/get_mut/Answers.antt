@@ -1,5 +1,5 @@
 use Rattle.std.proofs.Common.{ap, subst, sym, ◌∙◌}
-use Rattle.nfs_handles.specs.Numbered.{IsNumbered}
+use Rattle.nfs_handles.specs.NumberedFiles.{IsNumbered}
 use Rattle.nfs_handles.specs.Untagged.{untagged}
 use Rattle.std.specs.Option.{ghost_name_of}
 use borrow.Follows.Closed.{read_of}

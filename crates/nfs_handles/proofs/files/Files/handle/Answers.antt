@@ -1,6 +1,6 @@
 use Rattle.std.proofs.Common.{subst, sym}
 use Rattle.std.specs.Option.{IsSome}
-use Rattle.nfs_handles.specs.Numbered.{at}
+use Rattle.nfs_handles.specs.NumberedFiles.{at}
 use Rattle.nfs_handles.proofs.Untagged.{handle_untagged, handle_spelled}
 use Rattle.nfs_handles.proofs.files.Files.handle.Goals as goal
 

@@ -1,6 +1,6 @@
 use Rattle.std.proofs.Common.{[], drop, ap, ◌∙◌, refl}
 use Rattle.nfs_inodes.specs.Tree.{File, bytes_in}
-use Rattle.nfs_inodes.specs.Listing.{kind_of}
+use Rattle.nfs_inodes.specs.Storage.{kind_of}
 use Rattle.nfs_inodes.specs.Reading.{bytes_at}
 use Rattle.nfs_inodes.proofs.Readers.{seen, unseen, whole_run, drop_none}
 use Rattle.nfs_inodes.proofs.tree.Tree.bytes_at.Goals as goal

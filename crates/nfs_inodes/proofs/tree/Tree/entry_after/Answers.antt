@@ -1,7 +1,7 @@
 use Rattle.std.proofs.Common.{nat_lt, List, [], ap, ◌∙◌, refl}
 use Rattle.std.specs.List.{find}
 use Rattle.nfs_inodes.specs.Tree.{File, Entry}
-use Rattle.nfs_inodes.specs.Listing.{kind_of}
+use Rattle.nfs_inodes.specs.Storage.{kind_of}
 use Rattle.nfs_inodes.specs.Reading.{listing}
 use Rattle.nfs_inodes.proofs.Readers.{seen, unseen}
 use Rattle.nfs_inodes.proofs.tree.Tree.entry_after.Goals as goal

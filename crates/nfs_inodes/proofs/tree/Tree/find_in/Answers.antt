@@ -2,8 +2,8 @@ use Rattle.std.proofs.Common.{◌≡◌, ℕ, bytes_eq, option_map, List, Some, 
 use Rattle.std.specs.List.{find}
 use Rattle.nfs_inodes.specs.Tree.{Entry}
 use Rattle.nfs_inodes.specs.Reading.{found, listing}
-use Rattle.nfs_inodes.specs.Shown.{kind_seen}
-use Rattle.nfs_inodes.proofs.Found.{found_shown}
+use Rattle.nfs_inodes.specs.Views.{kind_seen}
+use Rattle.nfs_inodes.proofs.Lookups.{found_shown}
 use Rattle.nfs_inodes.proofs.Readers.{listed_seen}
 use Rattle.nfs_inodes.proofs.tree.Tree.find_in.Goals as goal
 

@@ -1,6 +1,6 @@
 use Rattle.std.proofs.Common.{refl, sym, ap, subst, ◌∙◌}
 use Rattle.std.specs.Prelude.{IsSome}
-use Rattle.nfs_handles.specs.Numbered.{at}
+use Rattle.nfs_handles.specs.NumberedFiles.{at}
 use Rattle.nfs_handles.specs.Handles.{handle_at}
 use Rattle.nfs_inodes.proofs.Readers.{seen_kept, handle_there}
 use Rattle.nfs_inodes.proofs.tree.Tree.handle.Goals as goal

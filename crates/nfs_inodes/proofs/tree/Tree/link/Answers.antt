@@ -1,7 +1,7 @@
 use Rattle.std.proofs.Common.{refl, ap, ◌∙◌}
 use Rattle.nfs_inodes.specs.Tree.{Tree}
 use Rattle.nfs_inodes.specs.Changes.{linked}
-use Rattle.nfs_inodes.proofs.Makings.{takes_entry, takes_link, keeps_link, view_link, may_link}
+use Rattle.nfs_inodes.proofs.Steps.{takes_entry, takes_link, keeps_link, view_link, may_link}
 use Rattle.nfs_inodes.proofs.tree.Tree.link.Goals as goal
 
 pub link-requires-clause-dir : goal.link-requires-clause-dir

@@ -1,10 +1,10 @@
 use Rattle.std.proofs.Common.{sym, ap, subst, ◌∙◌, map}
 use Rattle.nfs_inodes.specs.Tree.{Tree}
 use Rattle.nfs_inodes.specs.Changes.{Makes, made}
-use Rattle.nfs_inodes.specs.Listing.{file_of, counted_of, kept_of}
-use Rattle.nfs_inodes.specs.Kept.{with_totals, tree_in}
-use Rattle.nfs_inodes.specs.Adding.{MayAdd, HasRoomFor, retagged}
-use Rattle.nfs_inodes.proofs.Makings.{takes_here, room_here, keeps_added, view_added}
+use Rattle.nfs_inodes.specs.Storage.{file_of, counted_of, kept_of}
+use Rattle.nfs_inodes.specs.Counts.{with_totals, tree_in}
+use Rattle.nfs_inodes.specs.StepConditions.{MayAdd, HasRoomFor, retagged}
+use Rattle.nfs_inodes.proofs.Steps.{takes_here, room_here, keeps_added, view_added}
 use Rattle.nfs_inodes.proofs.tree.Tree.make.Goals as goal
 
 pub add-requires-clause-dir : goal.add-requires-clause-dir

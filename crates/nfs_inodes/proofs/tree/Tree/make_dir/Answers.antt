@@ -1,10 +1,10 @@
 use Rattle.std.proofs.Common.{map, None, [], sym, ap, subst, ◌∙◌}
 use Rattle.nfs_inodes.specs.Tree.{Directory}
 use Rattle.nfs_inodes.specs.Changes.{new_file}
-use Rattle.nfs_inodes.specs.Listing.{entry_of}
-use Rattle.nfs_inodes.specs.Adding.{MayAdd}
-use Rattle.nfs_inodes.proofs.Lawful.{fresh_directory}
-use Rattle.nfs_inodes.proofs.Makings.{may_add}
+use Rattle.nfs_inodes.specs.Storage.{entry_of}
+use Rattle.nfs_inodes.specs.StepConditions.{MayAdd}
+use Rattle.nfs_inodes.proofs.NewFiles.{fresh_directory}
+use Rattle.nfs_inodes.proofs.Steps.{may_add}
 use Rattle.nfs_inodes.proofs.tree.Tree.make_dir.Goals as goal
 
 pub make-requires : goal.make-requires

@@ -1,9 +1,9 @@
 use Rattle.std.proofs.Common.{length, sym, ap, subst, ◌∙◌}
 use Rattle.nfs_inodes.specs.Tree.{Regular}
-use Rattle.nfs_inodes.specs.Adding.{MayAdd}
+use Rattle.nfs_inodes.specs.StepConditions.{MayAdd}
 use Rattle.nfs_inodes.proofs.Bytes.{length_zeros}
-use Rattle.nfs_inodes.proofs.Lawful.{fresh_file, impossible}
-use Rattle.nfs_inodes.proofs.Makings.{may_add}
+use Rattle.nfs_inodes.proofs.NewFiles.{fresh_file, impossible}
+use Rattle.nfs_inodes.proofs.Steps.{may_add}
 use Rattle.nfs_inodes.proofs.tree.Tree.make_file.Goals as goal
 
 pub make-requires : goal.make-requires

@@ -1,8 +1,8 @@
 use Rattle.std.proofs.Common.{◌≤◌, None, List, ℕ, length, sym, subst}
 use Rattle.nfs_inodes.specs.Tree.{Link}
-use Rattle.nfs_inodes.specs.Adding.{MayAdd}
-use Rattle.nfs_inodes.proofs.Lawful.{fresh_link, impossible}
-use Rattle.nfs_inodes.proofs.Makings.{may_add}
+use Rattle.nfs_inodes.specs.StepConditions.{MayAdd}
+use Rattle.nfs_inodes.proofs.NewFiles.{fresh_link, impossible}
+use Rattle.nfs_inodes.proofs.Steps.{may_add}
 use Rattle.nfs_inodes.proofs.tree.Tree.make_link.Goals as goal
 
 pub make-requires : goal.make-requires

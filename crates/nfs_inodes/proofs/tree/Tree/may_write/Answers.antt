@@ -1,5 +1,5 @@
 use Rattle.std.proofs.Common.{◌≡◌, ◌<◌, ℕ, zero, suc, refl, ◌+◌, ◌-◌, ap, sym, subst, ◌∙◌, arith}
-use Rattle.nfs_inodes.specs.May.{MayWrite}
+use Rattle.nfs_inodes.specs.Conditions.{MayWrite}
 use Rattle.std.proofs.lemmas.Bool.Decides.{not_from_Decides}
 use Rattle.nfs_inodes.proofs.Tests.{always, never, writes_there, writes_none, written_to, none_lives}
 use Rattle.nfs_inodes.proofs.tree.Tree.may_write.Goals as goal

@@ -1,6 +1,6 @@
 use Rattle.std.proofs.Common.{None, ◌∙◌, refl}
 use Rattle.nfs_inodes.specs.Tree.{File}
-use Rattle.nfs_inodes.specs.Listing.{kind_of}
+use Rattle.nfs_inodes.specs.Storage.{kind_of}
 use Rattle.nfs_inodes.specs.Reading.{cookie_of_next}
 use Rattle.nfs_inodes.proofs.Readers.{seen, unseen}
 use Rattle.nfs_inodes.proofs.tree.Tree.next_cookie.Goals as goal

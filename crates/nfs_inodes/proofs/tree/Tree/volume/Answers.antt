@@ -1,6 +1,6 @@
 use Rattle.std.proofs.Common.{Some, ap, option_map, ◌∙◌}
 use Rattle.std.specs.Prelude.{slice_get}
-use Rattle.nfs_inodes.specs.Listing.{volume_of}
+use Rattle.nfs_inodes.specs.Storage.{volume_of}
 use Rattle.nfs_inodes.proofs.Readers.{volume_there}
 use Rattle.nfs_inodes.proofs.tree.Tree.volume.Goals as goal
 

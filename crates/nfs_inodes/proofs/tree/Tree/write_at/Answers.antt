@@ -1,11 +1,11 @@
 use Rattle.std.proofs.Common.{length, sym, subst, ap, ◌∙◌}
 use Rattle.nfs_inodes.specs.Tree.{Tree}
 use Rattle.nfs_inodes.specs.Changes.{written}
-use Rattle.nfs_inodes.specs.May.{MayWrite}
-use Rattle.nfs_inodes.specs.Listing.{file_of}
-use Rattle.nfs_inodes.proofs.Shelves.{on_err}
+use Rattle.nfs_inodes.specs.Conditions.{MayWrite}
+use Rattle.nfs_inodes.specs.Storage.{file_of}
+use Rattle.nfs_inodes.proofs.StoredFiles.{on_err}
 use Rattle.nfs_inodes.proofs.Views.{lives_there}
-use Rattle.nfs_inodes.proofs.Makings.{takes_bytes, room_to_grow, keeps_bytes, view_bytes, some_bytes}
+use Rattle.nfs_inodes.proofs.Steps.{takes_bytes, room_to_grow, keeps_bytes, view_bytes, some_bytes}
 use Rattle.nfs_inodes.proofs.tree.Tree.write_at.Goals as goal
 
 pub write-requires : goal.write-requires

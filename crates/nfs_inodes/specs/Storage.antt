@@ -1,0 +1,47 @@
+-- What is kept, as clients see it.
+use Rattle.std.specs.Prelude.{ℕ, ◌<◌, List, map, vec_len, vec_capacity}
+use Rattle.nfs_inodes.specs.declared.stored_entry.StoredEntry.{StoredEntry}
+use Rattle.nfs_inodes.specs.declared.stored_file.StoredFile.{StoredFile}
+use Rattle.nfs_inodes.specs.declared.stored_file.Node.{Node}
+use Rattle.nfs_inodes.specs.declared.stored_file.Node.TheVariants as node
+use Rattle.nfs_inodes.specs.declared.stored_volume.StoredVolume.{StoredVolume}
+use Rattle.nfs_inodes.specs.Tree.{File, Kind, Entry, Volume, Regular, Directory, Link}
+use Rattle.nfs_inodes.specs.Counts.{CountedFile, CountedVolume, CountedTree}
+use Rattle.nfs_handles.specs.NumberedFiles.{NumberedFiles, TaggedFile}
+
+abbrev pub entry_of : StoredEntry → Entry
+entry_of l = record { cookie = l.cookie; name = l.name.items; number = l.number }
+
+abbrev pub kind_of : Node → Kind
+kind_of (node.Regular bytes) = Regular bytes.items
+kind_of (node.Directory parent next_cookie entries) = Directory parent next_cookie (map entry_of entries.items)
+kind_of (node.Link path) = Link path.items
+
+-- the file, under some tag
+abbrev pub file_of : ℕ → StoredFile → File
+file_of tag i = record { volume = i.volume; kind = kind_of i.node; mode = i.mode; uid = i.uid; gid = i.gid; atime = i.atime; mtime = i.mtime; ctime = i.ctime; tag = tag; verifier = i.verifier }
+
+abbrev pub held_of : ℕ → StoredFile → CountedFile
+held_of tag i = record { file = file_of tag i; nlink = i.nlink }
+
+abbrev pub volume_of : StoredVolume → Volume
+volume_of s = record { path = s.path.items; max_bytes = s.max_bytes; max_files = s.max_files; root = s.root }
+
+abbrev pub counted_of : StoredVolume → CountedVolume
+counted_of s = record { volume = volume_of s; bytes = s.bytes; files = s.files }
+
+-- a directory takes an entry with no growth
+abbrev pub has_room : Node → Type 0
+has_room (node.Regular bytes) = ⊥
+has_room (node.Directory parent next_cookie entries) = vec_len entries < vec_capacity entries
+has_room (node.Link path) = ⊥
+
+abbrev pub HasRoom : StoredFile → Type 0
+HasRoom i = has_room i.node
+
+-- the files with what is kept beside each
+abbrev pub helds : List (ℕ × TaggedFile StoredFile) → List (ℕ × CountedFile)
+helds files = map (λ e. (e.0, held_of e.1.tag e.1.value)) files
+
+abbrev pub kept_of : NumberedFiles StoredFile → List StoredVolume → CountedTree
+kept_of numbered shares = record { files = helds numbered.files; next = numbered.next; key = numbered.key; volumes = map counted_of shares }

@@ -1,0 +1,109 @@
+-- What is done to the kept files of a tree.
+use Rattle.std.specs.Prelude.{◌≡◌, ℕ, ◌≢◌, ◌+◌, ◌-◌, ◌<◌, ◌≤◌, ◌^◌, true, List, [], ◌∷◌, ◌++◌, length, Some}
+use Rattle.nfs_attrs.specs.declared.moment.Moment.{Moment}
+use Rattle.nfs_handles.specs.NumberedFiles.{NumberedFiles, TaggedFile, at, with_value}
+use Rattle.nfs_inodes.specs.declared.stored_file.StoredFile.{StoredFile}
+use Rattle.nfs_inodes.specs.Tree.{with_at, one_when, is_directory, is_regular, bytes_in, next_cookie_in}
+use Rattle.nfs_inodes.specs.declared.stored_files.Growth.{Growth}
+use Rattle.nfs_inodes.specs.Changes.{entered, overwritten}
+use Rattle.nfs_inodes.specs.Storage.{file_of, held_of, helds}
+
+-- number d is that of a directory, which takes an entry more
+pub record TakesEntry (files : NumberedFiles StoredFile) (d : ℕ) : Type 0 where
+  pub dir : TaggedFile StoredFile
+  pub at_dir : at files d ≡ Some dir
+  pub is_dir : is_directory (file_of 0 dir.value).kind ≡ true
+  pub next_cookie : next_cookie_in (file_of 0 dir.value).kind + 1 < 2 ^ 64
+  pub nlink : dir.value.nlink ≤ 1000
+  pub below : d < files.next
+
+-- of the file under a number the kept value has changed, from one to another
+pub record Revalues (old : NumberedFiles StoredFile) (n : ℕ) (From : StoredFile → StoredFile → Type 0) (new : NumberedFiles StoredFile) : Type 0 where
+  pub was : TaggedFile StoredFile
+  pub at_was : at old n ≡ Some was
+  pub value : StoredFile
+  pub from : From was.value value
+  pub new_is : new ≡ with_value old n value
+
+-- the same file with the same links, whatever room there is
+pub record SameFile (old new : StoredFile) : Type 0 where
+  pub file : file_of 0 new ≡ file_of 0 old
+  pub nlink : new.nlink ≡ old.nlink
+
+-- a directory with one entry more
+pub record Enters (name : List ℕ) (number : ℕ) (links : ℕ) (now : Moment) (old new : StoredFile) : Type 0 where
+  pub file : file_of 0 new ≡ entered (file_of 0 old) name number now
+  pub nlink : new.nlink ≡ old.nlink + links
+
+-- a new file, of some tag, with its entry in directory d
+pub record AddsFile (old : NumberedFiles StoredFile) (d : ℕ) (name : List ℕ) (inode : StoredFile) (now : Moment) (new : NumberedFiles StoredFile) : Type 0 where
+  pub tag : ℕ
+  pub fits : tag < 2 ^ 32
+  pub dir : TaggedFile StoredFile
+  pub at_dir : at old d ≡ Some dir
+  pub value : StoredFile
+  pub enters : Enters name old.next (one_when (is_directory (file_of 0 inode).kind)) now dir.value value
+  pub files : helds new.files ≡ with_at d (held_of dir.tag value) (helds old.files ++ (old.next, held_of tag inode) ∷ [])
+  pub next : new.next ≡ old.next + 1
+  pub key : new.key ≡ old.key
+
+-- nothing of what is kept for clients has changed
+pub record SameFiles (old new : NumberedFiles StoredFile) : Type 0 where
+  pub files : helds new.files ≡ helds old.files
+  pub next : new.next ≡ old.next
+  pub key : new.key ≡ old.key
+
+-- ---- links
+
+-- number n is that of a file other than d, which takes a link more
+pub record TakesLink (files : NumberedFiles StoredFile) (n d : ℕ) : Type 0 where
+  pub file : TaggedFile StoredFile
+  pub at_file : at files n ≡ Some file
+  pub nlink : file.value.nlink ≤ 1000
+  pub other : d ≢ n
+
+pub record GainsLink (now : Moment) (old new : StoredFile) : Type 0 where
+  pub file : file_of 0 new ≡ record (file_of 0 old) { ctime = now }
+  pub nlink : new.nlink ≡ old.nlink + 1
+
+-- file n has a link more, and directory d an entry more, which names it
+pub record LinksFile (old : NumberedFiles StoredFile) (n d : ℕ) (name : List ℕ) (now : Moment) (new : NumberedFiles StoredFile) : Type 0 where
+  pub file : TaggedFile StoredFile
+  pub at_file : at old n ≡ Some file
+  pub file_now : StoredFile
+  pub gains : GainsLink now file.value file_now
+  pub dir : TaggedFile StoredFile
+  pub at_dir : at old d ≡ Some dir
+  pub dir_now : StoredFile
+  pub enters : Enters name n 0 now dir.value dir_now
+  pub files : helds new.files ≡ with_at d (held_of dir.tag dir_now) (with_at n (held_of file.tag file_now) (helds old.files))
+  pub next : new.next ≡ old.next
+  pub key : new.key ≡ old.key
+
+-- ---- bytes
+
+-- number n is that of a regular file, which takes so many bytes at an offset
+pub record TakesBytes (files : NumberedFiles StoredFile) (n offset count : ℕ) : Type 0 where
+  pub file : TaggedFile StoredFile
+  pub at_file : at files n ≡ Some file
+  pub regular : is_regular (file_of 0 file.value).kind ≡ true
+  pub large : offset + count ≤ 16777216
+
+-- file n ends before this offset
+pub record TakesGrowth (files : NumberedFiles StoredFile) (n end : ℕ) : Type 0 where
+  pub file : TaggedFile StoredFile
+  pub at_file : at files n ≡ Some file
+  pub beyond : length (bytes_in (file_of 0 file.value).kind) < end
+
+-- file n has these bytes at the offset, and has grown by so many
+pub record WritesFile (old : NumberedFiles StoredFile) (n offset : ℕ) (bytes : List ℕ) (now : Moment) (growth : Growth) (new : NumberedFiles StoredFile) : Type 0 where
+  pub file : TaggedFile StoredFile
+  pub at_file : at old n ≡ Some file
+  pub file_now : StoredFile
+  pub overwritten : file_of 0 file_now ≡ overwritten (file_of 0 file.value) offset bytes now
+  pub nlink : file_now.nlink ≡ file.value.nlink
+  pub place : growth.place ≡ file.value.volume
+  pub grown : growth.bytes ≡ offset + length bytes - length (bytes_in (file_of 0 file.value).kind)
+  pub files : helds new.files ≡ with_at n (held_of file.tag file_now) (helds old.files)
+  pub next : new.next ≡ old.next
+  pub key : new.key ≡ old.key

@@ -1,0 +1,25 @@
+-- What readers lend, as values.
+use Rattle.std.specs.Prelude.{◌≡◌, ℕ, List, Some}
+use Rattle.nfs_inodes.specs.Tree.{Tree, Kind, Entry, Volume, bytes_in}
+use Rattle.nfs_inodes.specs.Storage.{kind_of}
+use Rattle.nfs_inodes.specs.Reading.{attributes_at, kind_at}
+use Rattle.nfs_inodes.specs.declared.directory.EntryView.{EntryView}
+use Rattle.nfs_inodes.specs.declared.view.FileView.{FileView}
+use Rattle.nfs_inodes.specs.declared.volumes.VolumeView.{VolumeView}
+
+abbrev pub entry_seen : EntryView → Entry
+entry_seen e = record { cookie = e.cookie; name = e.name.now; number = e.number.0 }
+
+abbrev pub volume_seen : VolumeView → Volume
+volume_seen v = record { path = v.path.now; max_bytes = v.max_bytes; max_files = v.max_files; root = v.root.0 }
+
+abbrev pub kind_seen : FileView → Kind
+kind_seen v = kind_of v.node.now
+
+-- the bytes of a regular file; of another none
+abbrev pub bytes_seen : FileView → List ℕ
+bytes_seen v = bytes_in (kind_seen v)
+
+-- the file lives in the tree, with these attributes, and is this
+abbrev pub IsSeen : Tree → FileView → Type 0
+IsSeen t v = (attributes_at t v.attributes.fileid ≡ Some v.attributes) × (kind_at t v.attributes.fileid ≡ Some (kind_seen v))

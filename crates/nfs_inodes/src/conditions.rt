@@ -1,0 +1,206 @@
+//! What may be done: tests for the conditions of the tree's operations.
+ghost use Rattle.std.specs.Prelude.{◌≡◌, ◌↔◌, ◌+◌, ◌<◌, ◌≤◌, true, false, IsTrue};
+ghost use Rattle.nfs_inodes.specs.StepConditions.{TakesName, TakesFile, MayGainLink, HasRoomIn, HasSpaceIn};
+ghost use Rattle.nfs_inodes.specs.Tree.{is_directory, is_regular};
+ghost use Rattle.nfs_inodes.specs.Storage.{kind_of};
+ghost use Rattle.nfs_inodes.specs.Conditions.{MayMake, MayMakeDirectory, MayMakeLink, MayLink, MayWrite, MayAddVolume};
+
+use crate::limits::{
+    MAX_FILE_BYTES, MAX_LINKS, MAX_PATH_BYTES, MAX_VOLUME_PATH_BYTES, MAX_VOLUMES,
+};
+use crate::name::is_name;
+use crate::stored_file::{StoredFile, Node};
+use crate::directory::named;
+use crate::tree::Tree;
+use crate::stored_volume::StoredVolume;
+use crate::volumes::share_at;
+use nfs_handles::number::Number;
+
+impl Tree {
+    /// Whether a volume of this path and for so many files may be added.
+    pub fn may_add_volume(&self, path: &[u8], max_files: u64) -> bool
+        ensures { IsTrue result ↔ MayAddVolume self.now path.now max_files }
+    {
+        if self.volumes() >= MAX_VOLUMES || path.len() > MAX_VOLUME_PATH_BYTES {
+            return false;
+        }
+        if self.next_number() >= u64::MAX || max_files < 1 {
+            return false;
+        }
+        self.volume_named(path).is_none()
+    }
+
+    /// Whether a regular file of so many bytes may be made under this name in directory `dir`.
+    pub fn may_make(&self, dir: Number, name: &[u8], size: usize) -> bool
+        ensures { IsTrue result ↔ MayMake self.now dir.0 name.now size }
+    {
+        match self.files.get(dir) {
+            Some(inode) => self.takes_file(inode, name, size),
+            None => false,
+        }
+    }
+
+    /// Whether a directory may be made under this name in directory `dir`.
+    pub fn may_make_dir(&self, dir: Number, name: &[u8]) -> bool
+        ensures { IsTrue result ↔ MayMakeDirectory self.now dir.0 name.now }
+    {
+        match self.files.get(dir) {
+            Some(inode) => {
+                if !has_link_left(inode) {
+                    return false;
+                }
+                self.takes_file(inode, name, 0)
+            }
+            None => false,
+        }
+    }
+
+    /// Whether a link with this path may be made under this name in directory `dir`.
+    pub fn may_make_link(&self, dir: Number, name: &[u8], path: &[u8]) -> bool
+        ensures { IsTrue result ↔ MayMakeLink self.now dir.0 name.now path.now }
+    {
+        if path.len() > MAX_PATH_BYTES {
+            return false;
+        }
+        self.may_make(dir, name, 0)
+    }
+
+    /// Whether directory `dir` may have an entry of this name for the file `number`.
+    pub fn may_link(&self, number: Number, dir: Number, name: &[u8]) -> bool
+        ensures { IsTrue result ↔ MayLink self.now number.0 dir.0 name.now }
+    {
+        match self.files.get(dir) {
+            Some(inode) => {
+                if !self.may_gain_link(number, inode.volume) {
+                    return false;
+                }
+                takes_entry(inode, name)
+            }
+            None => false,
+        }
+    }
+
+    /// Whether so many bytes may be put at an offset of the file `number`: no bytes at any offset
+    /// of a regular file.
+    pub fn may_write(&self, number: Number, offset: usize, count: usize) -> bool
+        ensures { IsTrue result ↔ MayWrite self.now number.0 offset count }
+    {
+        match self.files.get(number) {
+            Some(inode) => {
+                if !takes_bytes(inode, offset, count) {
+                    return false;
+                }
+                if count == 0 {
+                    return true;
+                }
+                let end = (offset + count) as u64;
+                self.has_space(inode.volume, end.saturating_sub(inode.size()))
+            }
+            None => false,
+        }
+    }
+
+    // Whether a kept file is a directory that takes a new file of so many bytes under this name.
+    fn takes_file(&self, inode: &StoredFile, name: &[u8], size: usize) -> bool
+        ensures { IsTrue result ↔ TakesFile self.now inode.now name.now size }
+    {
+        if self.files.next() >= u64::MAX || size > MAX_FILE_BYTES {
+            return false;
+        }
+        if !self.has_room(inode.volume, size as u64) {
+            return false;
+        }
+        takes_entry(inode, name)
+    }
+
+    // Whether the file `number` may have one link more, from the volume at a place.
+    fn may_gain_link(&self, number: Number, place: usize) -> bool
+        ensures { IsTrue result ↔ MayGainLink self.now number.0 place }
+    {
+        match self.files.get(number) {
+            Some(inode) => takes_link(inode, place),
+            None => false,
+        }
+    }
+
+    // Whether the volume at a place may have one file more, with so many bytes.
+    fn has_room(&self, place: usize, size: u64) -> bool
+        ensures { IsTrue result ↔ HasRoomIn self.now place size }
+    {
+        match share_at(self.volumes.as_slice(), place) {
+            Some(share) => {
+                if share.files >= share.max_files {
+                    return false;
+                }
+                takes_size(share, size)
+            }
+            None => false,
+        }
+    }
+
+    // Whether the volume at a place may have so many bytes more.
+    fn has_space(&self, place: usize, size: u64) -> bool
+        ensures { IsTrue result ↔ HasSpaceIn self.now place size }
+    {
+        match share_at(self.volumes.as_slice(), place) {
+            Some(share) => takes_size(share, size),
+            None => false,
+        }
+    }
+}
+
+// Whether so many bytes more are within a volume's limit.
+fn takes_size(share: &StoredVolume, size: u64) -> bool
+    ensures { IsTrue result ↔ (share.now.bytes + size ≤ share.now.max_bytes) }
+{
+    share.bytes <= share.max_bytes && size <= share.max_bytes - share.bytes
+}
+
+// Whether a kept file is no directory, of the volume at a place, and may have a link more.
+fn takes_link(inode: &StoredFile, place: usize) -> bool
+    ensures { IsTrue result ↔ ((is_directory (kind_of inode.now.node) ≡ false) × (inode.now.volume ≡ place) × (inode.now.nlink < 1000)) }
+{
+    !inode.is_directory() && inode.volume == place && has_link_left(inode)
+}
+
+// Whether a kept file may have a link more.
+fn has_link_left(inode: &StoredFile) -> bool
+    ensures { IsTrue result ↔ (inode.now.nlink < 1000) }
+{
+    inode.nlink < MAX_LINKS
+}
+
+// Whether a kept file is regular, and so many bytes at an offset, if any, are within the limit.
+fn takes_bytes(inode: &StoredFile, offset: usize, count: usize) -> bool
+    ensures { IsTrue result ↔ ((is_regular (kind_of inode.now.node) ≡ true) × (0 < count → offset + count ≤ 16777216)) }
+{
+    if count > 0 && (offset > MAX_FILE_BYTES || count > MAX_FILE_BYTES - offset) {
+        return false;
+    }
+    match &inode.node {
+        Node::Regular(_) => true,
+        _ => false,
+    }
+}
+
+// Whether a kept file is a directory that takes an entry of this name.
+fn takes_entry(inode: &StoredFile, name: &[u8]) -> bool
+    ensures { IsTrue result ↔ TakesName inode.now name.now }
+{
+    match &inode.node {
+        Node::Directory {
+            next_cookie,
+            entries,
+            ..
+        } => {
+            if *next_cookie >= u64::MAX {
+                return false;
+            }
+            if !is_name(name) {
+                return false;
+            }
+            named(entries.as_slice(), name).is_none()
+        }
+        _ => false,
+    }
+}

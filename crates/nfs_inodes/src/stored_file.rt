@@ -1,0 +1,166 @@
+//! A file as it is kept, and what is done to it alone.
+ghost use Rattle.std.specs.Prelude.{◌≡◌, ◌+◌, ◌<◌, ◌≤◌, ◌^◌, ◌*◌, OnOk, OnErr, length, IsTrue, if◌then◌else◌};
+ghost use Rattle.nfs_inodes.specs.Tree.{is_directory, is_regular, next_cookie_in, bytes_in, one_when};
+ghost use Rattle.nfs_inodes.specs.Changes.{entered, overwritten, new_file};
+ghost use Rattle.nfs_inodes.specs.Storage.{file_of, kind_of, HasRoom};
+
+use crate::content::put;
+use crate::stored_entry::StoredEntry;
+use crate::new_file::NewFile;
+use nfs_attrs::moment::Moment;
+use std::alloc::AllocError;
+
+/// What a file is, as it is kept.
+#[derive(Drop)]
+pub(crate) enum Node {
+    Regular(Vec<u8>),
+    Directory {
+        parent: u64,
+        next_cookie: u64,
+        entries: Vec<StoredEntry>,
+    },
+    Link(Vec<u8>),
+}
+
+/// A file as it is kept, with the number of its links.
+#[derive(Drop)]
+pub(crate) struct StoredFile {
+    pub(crate) volume: usize,
+    pub(crate) node: Node,
+    pub(crate) mode: u32,
+    pub(crate) uid: u32,
+    pub(crate) gid: u32,
+    pub(crate) atime: Moment,
+    pub(crate) mtime: Moment,
+    pub(crate) ctime: Moment,
+    pub(crate) verifier: Option<[u8; 8]>,
+    pub(crate) nlink: u32,
+}
+
+impl StoredFile {
+    /// A new file, with the links that it has once it has an entry.
+    pub(crate) fn new(
+        volume: usize,
+        node: Node,
+        given: &NewFile,
+        verifier: Option<[u8; 8]>,
+        now: Moment,
+    ) -> StoredFile
+        ensures file { file_of 0 result ≡ new_file volume (kind_of node) given.now verifier 0 now }
+        ensures nlink { result.nlink ≡ (if is_directory (kind_of node) then 2 else 1) }
+    {
+        let nlink = match &node {
+            Node::Directory { .. } => 2,
+            _ => 1,
+        };
+        StoredFile {
+            volume,
+            node,
+            mode: given.mode % 4096,
+            uid: given.uid,
+            gid: given.gid,
+            atime: given.atime,
+            mtime: given.mtime,
+            ctime: now,
+            verifier,
+            nlink,
+        }
+    }
+
+    /// How many bytes it has, as a regular file.
+    pub(crate) fn size(&self) -> u64
+        ensures { result ≡ length (bytes_in (file_of 0 self.now).kind) }
+    {
+        match &self.node {
+            Node::Regular(content) => content.len() as u64,
+            _ => 0,
+        }
+    }
+
+    /// Whether it is a directory.
+    pub(crate) fn is_directory(&self) -> bool
+        ensures { result ≡ is_directory (file_of 0 self.now).kind }
+    {
+        match &self.node {
+            Node::Directory { .. } => true,
+            _ => false,
+        }
+    }
+}
+
+/// Room for one entry more in a directory.
+pub(crate) fn reserve_entry(inode: &mut StoredFile) -> Result<(), AllocError>
+    requires { IsTrue (is_directory (file_of 0 inode.old).kind) }
+    ensures ok { OnOk result (HasRoom inode.new) }
+    ensures file { file_of 0 inode.new ≡ file_of 0 inode.old }
+    ensures nlink { inode.new.nlink ≡ inode.old.nlink }
+{
+    match &mut inode.node {
+        Node::Directory { entries, .. } => entries.reserve(1),
+        _ => unreachable!(),
+    }
+}
+
+/// One entry more in a directory, which has room for it.
+pub(crate) fn add_entry(
+    inode: &mut StoredFile,
+    name: Vec<u8>,
+    number: u64,
+    subdirectory: bool,
+    now: Moment,
+)
+    requires dir { IsTrue (is_directory (file_of 0 inode.old).kind) }
+    requires room { HasRoom inode.old }
+    requires next { next_cookie_in (file_of 0 inode.old).kind + 1 < 2 ^ 64 }
+    requires links { inode.old.nlink ≤ 1000 }
+    ensures file { file_of 0 inode.new ≡ entered (file_of 0 inode.old) name.items number now }
+    ensures nlink { inode.new.nlink ≡ inode.old.nlink + one_when subdirectory }
+{
+    inode.mtime = now;
+    inode.ctime = now;
+    if subdirectory {
+        inode.nlink += 1;
+    }
+    match &mut inode.node {
+        Node::Directory {
+            next_cookie,
+            entries,
+            ..
+        } => {
+            let cookie = *next_cookie;
+            *next_cookie += 1;
+            entries
+                .push(StoredEntry {
+                    cookie,
+                    name,
+                    number,
+                })
+                .unwrap();
+        }
+        _ => unreachable!(),
+    }
+}
+
+/// Puts bytes at an offset of a regular file, zeros in a gap before them. Refused only without
+/// memory for what it grows by, and then it is as before.
+pub(crate) fn write_bytes(
+    inode: &mut StoredFile,
+    offset: usize,
+    bytes: &[u8],
+    now: Moment,
+) -> Result<(), AllocError>
+    requires regular { IsTrue (is_regular (file_of 0 inode.old).kind) }
+    requires size { offset + length bytes.now ≤ 16777216 }
+    ensures ok { OnOk result (file_of 0 inode.new ≡ overwritten (file_of 0 inode.old) offset bytes.now now) }
+    ensures err { OnErr result (file_of 0 inode.new ≡ file_of 0 inode.old) }
+    ensures full { OnErr result (length (bytes_in (file_of 0 inode.old).kind) < offset + length bytes.now) }
+    ensures nlink { inode.new.nlink ≡ inode.old.nlink }
+{
+    match &mut inode.node {
+        Node::Regular(content) => put(content, offset, bytes)?,
+        _ => unreachable!(),
+    }
+    inode.mtime = now;
+    inode.ctime = now;
+    Ok(())
+}

@@ -1,0 +1,137 @@
+//! The kept files of a tree, and what is done to one or two of them.
+ghost use Rattle.std.specs.Prelude.{◌≡◌, ◌-◌, ◌+◌, ◌<◌, ◌^◌, IfOk, OnErr, OnOk, Some, length};
+ghost use Rattle.nfs_handles.specs.NumberedFiles.{value_at};
+ghost use Rattle.nfs_inodes.specs.declared.stored_file.StoredFile.{StoredFile};
+ghost use Rattle.nfs_inodes.specs.Tree.{one_when};
+ghost use Rattle.nfs_inodes.specs.Storage.{HasRoom};
+ghost use Rattle.nfs_inodes.specs.StoredFiles.{TakesEntry, Revalues, SameFile, Enters, AddsFile, SameFiles, TakesLink, LinksFile, GainsLink, TakesBytes, TakesGrowth, WritesFile};
+
+use crate::stored_file::{StoredFile, add_entry, reserve_entry, write_bytes};
+use nfs_attrs::moment::Moment;
+use nfs_handles::files::Files;
+use nfs_handles::number::Number;
+use std::alloc::AllocError;
+
+/// Adds a file with its entry in directory `dir`. Refused without memory, and then clients see
+/// no change.
+pub(crate) fn add(
+    files: &mut Files<StoredFile>,
+    dir: Number,
+    name: Vec<u8>,
+    inode: StoredFile,
+    now: Moment,
+) -> Result<Number, AllocError>
+    requires dir { TakesEntry files.old dir.0 }
+    requires number { files.old.next < 2 ^ 64 - 1 }
+    ensures ok { OnOk result (AddsFile files.old dir.0 name.items inode now files.new) }
+    ensures number { IfOk result (λ n. n.0 ≡ files.old.next) }
+    ensures err { OnErr result (SameFiles files.old files.new) }
+{
+    let subdirectory = inode.is_directory();
+    reserve(files, dir)?;
+    let number = match files.put(inode) {
+        Ok(number) => number,
+        Err(_) => return Err(AllocError),
+    };
+    enter(files, dir, name, number.0, subdirectory, now);
+    Ok(number)
+}
+
+/// An entry in directory `dir` for a file that has one. Refused without memory, and then clients
+/// see no change.
+pub(crate) fn link(
+    files: &mut Files<StoredFile>,
+    number: Number,
+    dir: Number,
+    name: Vec<u8>,
+    now: Moment,
+) -> Result<(), AllocError>
+    requires dir { TakesEntry files.old dir.0 }
+    requires file { TakesLink files.old number.0 dir.0 }
+    ensures ok { OnOk result (LinksFile files.old number.0 dir.0 name.items now files.new) }
+    ensures err { OnErr result (SameFiles files.old files.new) }
+{
+    reserve(files, dir)?;
+    gain_link(files, number, dir, now);
+    enter(files, dir, name, number.0, false, now);
+    Ok(())
+}
+
+/// By how many bytes a file has grown, and the place of its volume.
+#[derive(Clone, Copy)]
+pub(crate) struct Growth {
+    pub(crate) place: usize,
+    pub(crate) bytes: u64,
+}
+
+/// Puts bytes at an offset of a regular file. Refused only without memory for what it grows by,
+/// and then clients see no change.
+pub(crate) fn write(
+    files: &mut Files<StoredFile>,
+    number: Number,
+    offset: usize,
+    bytes: &[u8],
+    now: Moment,
+) -> Result<Growth, AllocError>
+    requires { TakesBytes files.old number.0 offset (length bytes.now) }
+    ensures ok { IfOk result (λ growth. WritesFile files.old number.0 offset bytes.now now growth files.new) }
+    ensures err { OnErr result (SameFiles files.old files.new) }
+    ensures full { OnErr result (TakesGrowth files.old number.0 (offset + length bytes.now)) }
+{
+    match files.get_mut(number) {
+        Some(inode) => {
+            let before = inode.size();
+            write_bytes(inode, offset, bytes, now)?;
+            Ok(Growth {
+                place: inode.volume,
+                bytes: inode.size() - before,
+            })
+        }
+        None => unreachable!(),
+    }
+}
+
+// One link more for a file other than directory `dir`.
+fn gain_link(files: &mut Files<StoredFile>, number: Number, dir: Number, now: Moment)
+    requires { TakesLink files.old number.0 dir.0 }
+    ensures { Revalues files.old number.0 (GainsLink now) files.new }
+{
+    match files.get_mut(number) {
+        Some(inode) => {
+            inode.nlink += 1;
+            inode.ctime = now;
+        }
+        None => unreachable!(),
+    }
+}
+
+// Room in a directory for one entry more.
+fn reserve(files: &mut Files<StoredFile>, dir: Number) -> Result<(), AllocError>
+    requires { TakesEntry files.old dir.0 }
+    ensures same { Revalues files.old dir.0 SameFile files.new }
+    ensures ok { OnOk result ((inode : StoredFile) → value_at files.new dir.0 ≡ Some inode → HasRoom inode) }
+{
+    match files.get_mut(dir) {
+        Some(parent) => reserve_entry(parent),
+        None => unreachable!(),
+    }
+}
+
+// One entry more in a directory, which has room for it.
+fn enter(
+    files: &mut Files<StoredFile>,
+    dir: Number,
+    name: Vec<u8>,
+    number: u64,
+    subdirectory: bool,
+    now: Moment,
+)
+    requires dir { TakesEntry files.old dir.0 }
+    requires room { (inode : StoredFile) → value_at files.old dir.0 ≡ Some inode → HasRoom inode }
+    ensures { Revalues files.old dir.0 (Enters name.items number (one_when subdirectory) now) files.new }
+{
+    match files.get_mut(dir) {
+        Some(parent) => add_entry(parent, name, number, subdirectory, now),
+        None => unreachable!(),
+    }
+}
