@@ -1,4 +1,4 @@
-/* The baselines of GETATTR and LOOKUP: the same calls over the same files, written plainly.
+/* The baselines of GETATTR, LOOKUP and READ: the same calls over the same files, written plainly.
  *
  * A call is read word by word with its bounds tested, as in plain.c; its credential is read and
  * squashed, its handle compared and looked up in a sorted array, the address looked up among the
@@ -8,7 +8,7 @@
 #include <stdio.h>
 #include <string.h>
 
-enum { CALLS = 5000000, RUNS = 5, MAX_GIDS = 16, HANDLE = 24, OWNER = 9 };
+enum { CALLS = 5000000, READS = 200000, RUNS = 5, MAX_GIDS = 16, HANDLE = 24, OWNER = 9, MAX_READ = 65536 };
 
 /* ---- items of XDR */
 
@@ -63,6 +63,7 @@ struct file {
     uint64_t parent;
     const struct entry *entries;
     size_t count;
+    const unsigned char *bytes;
 };
 
 enum squash { NOBODY, ROOT, ALL };
@@ -151,16 +152,21 @@ static void squash(const struct export *e, struct ids *ids) {
             ids->gids[i] = e->anongid;
 }
 
-static int may_search(const struct ids *ids, const struct file *file) {
+/* the three bits of the caller's class */
+static uint32_t rights(const struct ids *ids, const struct file *file) {
     if (ids->uid == 0)
-        return 1;
+        return 7;
     if (ids->uid == file->uid)
-        return file->mode >> 6 & 1;
+        return file->mode >> 6 & 7;
     int member = ids->gid == file->gid;
     for (uint32_t i = 0; i < ids->count; i++)
         member |= ids->gids[i] == file->gid;
-    return member ? file->mode >> 3 & 1 : file->mode & 1;
+    return member ? file->mode >> 3 & 7 : file->mode & 7;
 }
+
+static int may_search(const struct ids *ids, const struct file *file) { return rights(ids, file) & 1; }
+
+static int may_read(const struct ids *ids, const struct file *file) { return ids->uid == file->uid || (rights(ids, file) & 5) != 0; }
 
 /* ---- results */
 
@@ -219,7 +225,24 @@ static unsigned char *write_found(const struct server *s, unsigned char *at, con
     return shown(at, found);
 }
 
-static unsigned char *perform(const struct server *s, uint32_t address, uint32_t proc, struct ids *ids, struct bytes handle, struct bytes name, unsigned char *at) {
+static unsigned char *write_data(unsigned char *at, const struct file *file, uint64_t offset, uint32_t count) {
+    uint64_t left = offset < file->size ? file->size - offset : 0;
+    uint32_t n = count < MAX_READ ? count : MAX_READ;
+    n = left < n ? (uint32_t)left : n;
+    at = put(put(put(shown(at, file), n), left <= n), n);
+    memcpy(at, file->bytes + offset, n);
+    memset(at + n, 0, (4 - n % 4) % 4);
+    return at + n + (4 - n % 4) % 4;
+}
+
+/* what a call asks for beside its handle */
+struct asked {
+    struct bytes name;
+    uint64_t offset;
+    uint32_t count;
+};
+
+static unsigned char *perform(const struct server *s, uint32_t address, uint32_t proc, struct ids *ids, struct bytes handle, const struct asked *asked, unsigned char *at) {
     const struct file *file = NULL, *found = NULL;
     const struct export *e = NULL;
     uint32_t status = named(s, handle, &file);
@@ -233,9 +256,14 @@ static unsigned char *perform(const struct server *s, uint32_t address, uint32_t
     }
     if (file) {
         squash(e, ids);
-        status = look_up(s, ids, file, name, &found);
+        if (proc == 3)
+            status = look_up(s, ids, file, asked->name, &found);
+        else
+            status = file->type != 1 ? 22 : may_read(ids, file) ? 0 : 13;
     }
     at = put(at, status);
+    if (status == 0 && proc == 6)
+        return write_data(at, file, asked->offset, asked->count);
     if (status == 0)
         at = write_found(s, at, found);
     return shown(at, file);
@@ -244,7 +272,9 @@ static unsigned char *perform(const struct server *s, uint32_t address, uint32_t
 __attribute__((noinline, noclone)) static size_t answer(const struct server *s, uint32_t address, const unsigned char *record, size_t len, unsigned char *reply) {
     struct input in = {record, len};
     uint32_t xid, kind, rpcvers, prog, vers, proc, flavor, other, stat = 0;
-    struct bytes body, verifier, handle = {NULL, 0}, name = {NULL, 0};
+    struct bytes body, verifier, handle = {NULL, 0};
+    struct asked asked = {{NULL, 0}, 0, 0};
+    uint32_t high, low;
     struct ids ids;
     ids.uid = ids.gid = ids.count = 0;
     if (!get(&in, &xid) || !get(&in, &kind) || kind != 0 || !get(&in, &rpcvers) || !get(&in, &prog) || !get(&in, &vers) ||
@@ -256,15 +286,21 @@ __attribute__((noinline, noclone)) static size_t answer(const struct server *s, 
         stat = 1;
     else if (vers != 3)
         stat = 2;
-    else if (proc != 1 && proc != 3)
+    else if (proc != 1 && proc != 3 && proc != 6)
         stat = 3;
     else if (flavor != 1 || !read_ids(body, &ids))
         return 0;
-    else if (!opaque(&in, 64, &handle) || (proc == 3 && !opaque(&in, UINT32_MAX, &name)))
+    else if (!opaque(&in, 64, &handle) || (proc == 3 && !opaque(&in, UINT32_MAX, &asked.name)))
         stat = 4;
+    else if (proc == 6) {
+        if (!get(&in, &high) || !get(&in, &low) || !get(&in, &asked.count))
+            stat = 4;
+        else
+            asked.offset = (uint64_t)high << 32 | low;
+    }
     unsigned char *at = put(put(put64(put(put(reply + 4, xid), 1), 0), 0), stat);
     if (stat == 0)
-        at = perform(s, address, proc, &ids, handle, name, at);
+        at = perform(s, address, proc, &ids, handle, &asked, at);
     put(reply, 0x80000000u | (uint32_t)(at - reply - 4));
     return at - reply - 4;
 }
@@ -273,16 +309,17 @@ __attribute__((noinline, noclone)) static size_t answer(const struct server *s, 
 
 static const struct entry in_a[] = {{"pub", 3, 2}, {"g", 1, 5}, {"own", 3, 6}, {"zero", 4, 7}};
 static const struct entry in_pub[] = {{"x", 1, 3}, {"n", 1, 4}, {"large", 5, 9}};
+static unsigned char large[65536];
 static const struct file files[] = {
-    {1, 2, 0755, 4, 0, 0, 4096, 0, {0}, {0}, {0}, 1, in_a, 4},
-    {2, 2, 0777, 2, 1, 1, 4096, 0, {0}, {0}, {0}, 1, in_pub, 3},
-    {3, 1, 0711, 1, 1, 1, 5, 0, {0}, {0}, {0}, 0, NULL, 0},
-    {4, 1, 0710, 1, 1, 1, 5, 0, {0}, {0}, {0}, 0, NULL, 0},
-    {5, 1, 0640, 1, 1, 0, 2, 0, {0}, {0}, {0}, 0, NULL, 0},
-    {6, 2, 0007, 2, 5, 5, 4096, 0, {0}, {0}, {0}, 1, NULL, 0},
-    {7, 1, 0, 1, 5, 5, 0, 0, {0}, {0}, {0}, 0, NULL, 0},
-    {8, 2, 0777, 2, 0, 0, 4096, 1, {0}, {0}, {0}, 8, NULL, 0},
-    {9, 1, 0644, 1, OWNER, OWNER, 65536, 0, {0}, {0}, {0}, 0, NULL, 0},
+    {1, 2, 0755, 4, 0, 0, 4096, 0, {0}, {0}, {0}, 1, in_a, 4, NULL},
+    {2, 2, 0777, 2, 1, 1, 4096, 0, {0}, {0}, {0}, 1, in_pub, 3, NULL},
+    {3, 1, 0711, 1, 1, 1, 5, 0, {0}, {0}, {0}, 0, NULL, 0, NULL},
+    {4, 1, 0710, 1, 1, 1, 5, 0, {0}, {0}, {0}, 0, NULL, 0, NULL},
+    {5, 1, 0640, 1, 1, 0, 2, 0, {0}, {0}, {0}, 0, NULL, 0, NULL},
+    {6, 2, 0007, 2, 5, 5, 4096, 0, {0}, {0}, {0}, 1, NULL, 0, NULL},
+    {7, 1, 0, 1, 5, 5, 0, 0, {0}, {0}, {0}, 0, NULL, 0, NULL},
+    {8, 2, 0777, 2, 0, 0, 4096, 1, {0}, {0}, {0}, 8, NULL, 0, NULL},
+    {9, 1, 0644, 1, OWNER, OWNER, 65536, 0, {0}, {0}, {0}, 0, NULL, 0, large},
 };
 static const struct export exports[] = {
     {0, 0x0a000000, 24, ROOT, 65534, 65534},
@@ -291,17 +328,17 @@ static const struct export exports[] = {
     {1, 0x0a000000, 24, NOBODY, 65534, 65534},
 };
 
-static void measure(const char *what, const struct server *s, unsigned char *record, size_t len) {
+static void measure(const char *what, const struct server *s, unsigned char *record, size_t len, uint32_t calls) {
     static unsigned char reply[294912];
     uint64_t least = UINT64_MAX;
     volatile size_t bytes = 0;
     for (int run = 0; run < RUNS; run++) {
         uint64_t start = now();
-        for (uint32_t xid = 0; xid < CALLS; xid++) {
+        for (uint32_t xid = 0; xid < calls; xid++) {
             put(record, xid);
             bytes += answer(s, 0x0a000001, record, len, reply);
         }
-        uint64_t time = (now() - start) / (CALLS / 10);
+        uint64_t time = (now() - start) / (calls / 10);
         least = time < least ? time : least;
     }
     printf("%s %llu.%llu\n", what, (unsigned long long)(least / 10), (unsigned long long)(least % 10));
@@ -309,13 +346,22 @@ static void measure(const char *what, const struct server *s, unsigned char *rec
 
 int main(void) {
     const struct server s = {{1, 2, 3, 4, 5, 6, 7, 8}, 10, files, sizeof files / sizeof *files, exports, sizeof exports / sizeof *exports};
-    unsigned char call[96] = {
+    memset(large, 7, sizeof large);
+    unsigned char call[100] = {
         0, 0, 0, 42, 0, 0, 0, 0, 0, 0, 0, 2, 0, 1, 0x86, 0xa3, 0, 0, 0, 3, 0, 0, 0, 1,
         0, 0, 0, 1, 0, 0, 0, 20, 0, 0, 0, 0, 0, 0, 0, 0, 0, 0, 0, OWNER, 0, 0, 0, OWNER, 0, 0, 0, 0, 0, 0, 0, 0, 0, 0, 0, 0,
         0, 0, 0, HANDLE, 'N', 'F', 'S', '3', 1, 2, 3, 4, 5, 6, 7, 8, 0, 0, 0, 0, 0, 0, 0, 0, 0, 0, 0, 9, 0, 0, 0, 1, 'x'};
-    measure("getattr", &s, call, 88);
+    measure("getattr", &s, call, 88, CALLS);
     call[23] = 3;
     call[87] = 2;
-    measure("lookup", &s, call, 96);
+    measure("lookup", &s, call, 96, CALLS);
+    call[23] = 6;
+    call[87] = 9;
+    memset(call + 88, 0, 12);
+    call[98] = 0x10;
+    measure("read-4096", &s, call, 100, READS);
+    call[98] = 0;
+    call[97] = 1;
+    measure("read-65536", &s, call, 100, READS);
     return 0;
 }
