@@ -1,7 +1,7 @@
 -- File handles (RFC 1813, section 2.6, nfs_fh3): which bytes name a file, and what bytes read as.
-use Rattle.std.specs.Prelude.{ℕ, Bool, not, ◌&&◌, ◌||◌, List, [], ◌∷◌, ◌++◌, length, take, drop, Option, Some, None, option_map, if◌then◌else◌, nat_eq, nat_le, bytes_eq}
+use Rattle.std.specs.Prelude.{◌≡◌, ℕ, Bool, not, ◌&&◌, ◌||◌, List, [], ◌∷◌, ◌++◌, length, take, drop, Option, Some, None, option_map, if◌then◌else◌, nat_eq, nat_le, bytes_eq}
 use Rattle.std.specs.Int.{w32, w64, to_be_bytes, from_be_bytes}
-use Rattle.nfs_handles.specs.NumberedFiles.{TaggedFile, NumberedFiles, at}
+use Rattle.nfs_handles.specs.NumberedFiles.{TaggedFile, NumberedFiles, at, value_at}
 use Rattle.nfs_handles.specs.declared.number.Number.{Number}
 use Rattle.nfs_handles.specs.declared.reading.Reading.{Reading}
 use Rattle.nfs_handles.specs.declared.reading.Reading.TheVariants.{Live, Stale, Bad}
@@ -55,3 +55,11 @@ reading t bytes =
 abbrev pub reading_without : NoFile → Reading
 reading_without no_file.Stale = Stale
 reading_without no_file.Bad = Bad
+
+-- bytes read as file n, which has this value
+abbrev pub Names : {T : Type 0} → NumberedFiles T → List ℕ → Number → T → Type 0
+Names t bytes n v = (reading t bytes ≡ Live n) × (value_at t n.0 ≡ Some v)
+
+-- a file with this tag lives at n, and has this value
+abbrev pub LivesWith : {T : Type 0} → NumberedFiles T → ℕ → ℕ → T → Type 0
+LivesWith t tag n v = (live_with tag n (at t n) ≡ Live (number n)) × (value_at t n ≡ Some v)

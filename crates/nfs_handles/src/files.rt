@@ -1,11 +1,12 @@
 //! NumberedFiles files: a map from numbers to values.
-ghost use Rattle.std.specs.Prelude.{◌≡◌, ℕ, ◌^◌, ◌<◌, ◌≤◌, ◌≢◌, Some, IsSome, IfSome, IfNone, IfOk, IfErr, true, length, bytes_eq, option_copied};
+ghost use Rattle.std.specs.Prelude.{◌≡◌, ℕ, ◌^◌, ◌<◌, ◌≤◌, ◌≢◌, Some, IsSome, IfSome, IfNone, IfOk};
+ghost use Rattle.std.specs.Prelude.{IfErr, true, length, bytes_eq, option_copied};
 ghost use Rattle.std.specs.Borrow.{sem};
 ghost use Rattle.std.specs.Option.{option_copied_mut};
 ghost use Rattle.nfs_handles.specs.NumberedFiles.{NumberedFiles, at, value_at, unused, IsNumbered};
-ghost use Rattle.nfs_handles.specs.Handles.{handle_at, is_shaped, key_in, live_with, reading, reading_without};
-ghost use Rattle.nfs_handles.specs.Handles.{number as number_of};
-ghost use Rattle.nfs_handles.specs.declared.reading.Reading.TheVariants.{Live, Stale};
+ghost use Rattle.nfs_handles.specs.Handles.{handle_at, is_shaped, key_in, live_with, Names};
+ghost use Rattle.nfs_handles.specs.Handles.{LivesWith, reading, reading_without};
+ghost use Rattle.nfs_handles.specs.declared.reading.Reading.TheVariants.{Stale};
 ghost use Rattle.nfs_handles.specs.Changes.{Puts, Takes, LendsValue};
 
 use crate::fault::PutFault;
@@ -107,7 +108,7 @@ impl<T: Drop> Files<T> {
     /// The file that a handle names, with its number. `Stale` and `Bad` as a handle reads.
     #[inline(always)]
     pub fn find(&self, handle: &[u8]) -> Result<(Number, &T), NoFile>
-        ensures found { IfOk result (λ file. (reading self.now handle.now ≡ Live file.0) × (value_at self.now file.0.0 ≡ Some file.1.now)) }
+        ensures found { IfOk result (λ file. Names self.now handle.now file.0 file.1.now) }
         ensures none { IfErr result (λ why. reading self.now handle.now ≡ reading_without why) }
     {
         if !is_shaped(handle) {
@@ -142,7 +143,7 @@ impl<T: Drop> Files<T> {
     // The file that lives under a number that was given, where it has this tag.
     #[inline(always)]
     fn living(&self, tag: u32, number: u64) -> Option<&T>
-        ensures found { IfSome result (λ value. (live_with tag number (at self.now number) ≡ Live (number_of number)) × (value_at self.now number ≡ Some value.now)) }
+        ensures found { IfSome result (λ value. LivesWith self.now tag number value.now) }
         ensures none { IfNone result (live_with tag number (at self.now number) ≡ Stale) }
     {
         let Some(value) = self.values.get(&number) else {

@@ -1,5 +1,6 @@
 //! Laws over the definitions alone.
-ghost use Rattle.nfs_handles.specs.Runs.{CallsGo, FilesAre, HandlesNameOne, RunsKeep, NumbersAreForGood};
+ghost use Rattle.nfs_handles.specs.Runs.{CallsGo, FilesAre, HandlesNameOne, RunsKeep};
+ghost use Rattle.nfs_handles.specs.Runs.{NumbersAreForGood};
 
 /// Each call goes by one change, or by none: so calls, one after another, are a run.
 pub fn calls_are_changes<T>()

@@ -5,8 +5,8 @@ use Rattle.std.proofs.lemmas.Bool.{eqb-true, eq-eqb}
 use Rattle.std.proofs.lemmas.List.Sums.{sum_by-cons}
 use Rattle.nfs_inodes.specs.Tree.{Tree, File, Entry, Volume, at, with_at, on_some, one_when, entries_in, bytes_in, is_directory, parent_in, names_in, names_of, names_directory, subdirectories, nlink, bytes_for, one_for, bytes_of, files_of}
 use Rattle.nfs_inodes.specs.Law.{LawBut, IsSound, AreVolumes, IsRoot, AreRising, Lives, climb, parent_of}
-use Rattle.nfs_inodes.specs.Changes.{changed}
-use Rattle.nfs_inodes.specs.Reading.{numbered}
+use Rattle.nfs_inodes.specs.Changes.{with_file}
+use Rattle.nfs_inodes.specs.Reading.{numbered_files}
 use Rattle.nfs_handles.specs.NumberedFiles.{IsNumbered}
 use Rattle.nfs_inodes.proofs.Numbers.{numbers_changed}
 use Rattle.nfs_inodes.proofs.Lists.{by_test, by_number, if_true, if_false, same_some, not_both, none_from}
@@ -25,7 +25,7 @@ pub record Alike (f g : File) : Type 0 where
   pub entries : entries_in g.kind ≡ entries_in f.kind
 
 pub record AreAlike (old new : Tree) : Type 0 where
-  pub numbers : IsNumbered (numbered new)
+  pub numbers : IsNumbered (numbered_files new)
   pub rising : AreRising 0 new.files new.next
   pub volumes : new.volumes ≡ old.volumes
   pub back : (m : ℕ) (h : File) → Lives new m h → (f : File) × Lives old m f × Alike f h
@@ -111,13 +111,13 @@ alike_itself f = record { placed = placed_itself f; entries = refl }
 
 -- ---- one file changed
 
-pub parent_changed : (t : Tree) (n : ℕ) (f g : File) → Lives t n f → parent_in g.kind ≡ parent_in f.kind → (m : ℕ) → parent_of (changed t n g).files m ≡ parent_of t.files m
+pub parent_changed : (t : Tree) (n : ℕ) (f g : File) → Lives t n f → parent_in g.kind ≡ parent_in f.kind → (m : ℕ) → parent_of (with_file t n g).files m ≡ parent_of t.files m
 parent_changed t n f g at_n same m = by_number m n
     (λ s. ap (λ o. on_some o 0 (λ k. parent_in k.kind)) (ap (λ k. at k (with_at n g t.files)) s ∙ at_with_same n f g t.files at_n)
     ∙ same ∙ sym (ap (λ o. on_some o 0 (λ k. parent_in k.kind)) (ap (λ k. at k t.files) s ∙ at_n)))
     (λ o. ap (λ o. on_some o 0 (λ k. parent_in k.kind)) (at_with_other n m g t.files o))
 
-pub directory_changed : (t : Tree) (n : ℕ) (f g : File) → Lives t n f → is_directory g.kind ≡ is_directory f.kind → (e : Entry) → names_directory (changed t n g).files e ≡ names_directory t.files e
+pub directory_changed : (t : Tree) (n : ℕ) (f g : File) → Lives t n f → is_directory g.kind ≡ is_directory f.kind → (e : Entry) → names_directory (with_file t n g).files e ≡ names_directory t.files e
 directory_changed t n f g at_n same e = by_number e.number n
     (λ s. ap (λ o. on_some o false (λ k. is_directory k.kind)) (ap (λ k. at k (with_at n g t.files)) s ∙ at_with_same n f g t.files at_n)
     ∙ same ∙ sym (ap (λ o. on_some o false (λ k. is_directory k.kind)) (ap (λ k. at k t.files) s ∙ at_n)))
@@ -126,10 +126,10 @@ directory_changed t n f g at_n same e = by_number e.number n
 pub one_for_same : (place : ℕ) (f g : File) → g.volume ≡ f.volume → one_for place g ≡ one_for place f
 one_for_same place f g e = ap (λ k. one_when (nat_eq k place)) e
 
-pub count_changed : (t : Tree) (n : ℕ) (f g : File) → Lives t n f → g.volume ≡ f.volume → (place : ℕ) → files_of place (changed t n g).files ≡ files_of place t.files
+pub count_changed : (t : Tree) (n : ℕ) (f g : File) → Lives t n f → g.volume ≡ f.volume → (place : ℕ) → files_of place (with_file t n g).files ≡ files_of place t.files
 count_changed t n f g at_n same place = let s = sum_with (one_for place) n f g t.files at_n in let e = one_for_same place f g same in omega (arith, s, e)
 
-pub one_alike : (t : Tree) (n : ℕ) (f g : File) → AreRising 0 t.files t.next → IsNumbered (numbered t) → Lives t n f → Alike f g → AreAlike t (changed t n g)
+pub one_alike : (t : Tree) (n : ℕ) (f g : File) → AreRising 0 t.files t.next → IsNumbered (numbered_files t) → Lives t n f → Alike f g → AreAlike t (with_file t n g)
 one_alike t n f g rising numbers at_n like = record {
   numbers = numbers_changed t n f g at_n like.placed.tag numbers;
   rising = rising_with 0 t.next n t.files g rising;
@@ -157,7 +157,7 @@ bytes_elsewhere place f o = by_test (nat_eq f.volume place) (λ t. absurd (o (eq
 
 -- the bytes of a volume after a change of a file's bytes
 pub bytes_changed : (t : Tree) (n : ℕ) (f g : File) → Lives t n f → g.volume ≡ f.volume → (place : ℕ) →
-    (f.volume ≡ place → bytes_of place (changed t n g).files + length (bytes_in f.kind) ≡ bytes_of place t.files + length (bytes_in g.kind)) × (f.volume ≢ place → bytes_of place (changed t n g).files ≡ bytes_of place t.files)
+    (f.volume ≡ place → bytes_of place (with_file t n g).files + length (bytes_in f.kind) ≡ bytes_of place t.files + length (bytes_in g.kind)) × (f.volume ≢ place → bytes_of place (with_file t n g).files ≡ bytes_of place t.files)
 bytes_changed t n f g at_n same place = let s = sum_with (bytes_for place) n f g t.files at_n in (
   λ h. let a = bytes_here place f h in let b = bytes_here place g (same ∙ h) in omega (arith, s, a, b),
   λ o. let a = bytes_elsewhere place f o in let b = bytes_elsewhere place g (λ q. o (sym same ∙ q)) in omega (arith, s, a, b),
@@ -169,8 +169,8 @@ pub record HasRoom (t : Tree) (f g : File) : Type 0 where
   pub at_volume : slice_get t.volumes f.volume ≡ Some volume
   pub room : bytes_of f.volume t.files + length (bytes_in g.kind) ≤ volume.max_bytes + length (bytes_in f.kind)
 
-pub law_changed : (x : ℕ) (t : Tree) (n : ℕ) (f g : File) → LawBut x t → Lives t n f → Alike f g → IsSound g → HasRoom t f g → LawBut x (changed t n g)
-law_changed x t n f g law at_n like sound has = law_alike x t (changed t n g) law (one_alike t n f g law.rising law.numbers at_n like)
+pub law_with_file : (x : ℕ) (t : Tree) (n : ℕ) (f g : File) → LawBut x t → Lives t n f → Alike f g → IsSound g → HasRoom t f g → LawBut x (with_file t n g)
+law_with_file x t n f g law at_n like sound has = law_alike x t (with_file t n g) law (one_alike t n f g law.rising law.numbers at_n like)
     (λ m h e. with_back n m f g h t.files at_n e (λ s is. subst IsSound is sound) (λ o was. law.sound m h was))
     (λ place v e. let told = bytes_changed t n f g at_n like.placed.volume place in by_number f.volume place
     (λ s. let same : has.volume ≡ v = same_some (sym has.at_volume ∙ ap (slice_get t.volumes) s ∙ e) in

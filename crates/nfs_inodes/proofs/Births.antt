@@ -8,7 +8,7 @@ use Rattle.std.proofs.lemmas.List.Elements.{Contains-push, Contains-append_left,
 use Rattle.std.proofs.lemmas.List.Quantifiers.{all_pairs_push}
 use Rattle.nfs_inodes.specs.Tree.{Tree, File, Entry, Volume, at, on_some, one_when, entries_in, bytes_in, is_directory, parent_in, names_in, names_of, names_directory, subdirectories, nlink, bytes_for, one_for, bytes_of, files_of}
 use Rattle.nfs_inodes.specs.Law.{Law, LawBut, IsSound, IsRoot, Lives, LivesAsDirectory, climb, parent_of}
-use Rattle.nfs_inodes.specs.Changes.{born, founded}
+use Rattle.nfs_inodes.specs.Changes.{with_new_file, with_new_volume}
 use Rattle.nfs_inodes.proofs.Lists.{by_test, by_number, same_some, not_in_empty, get_push, get_push_old, get_push_new}
 use Rattle.nfs_inodes.proofs.Numbers.{numbers_born}
 use Rattle.nfs_inodes.proofs.Maps.{at_push_same, at_push_other, at_next, rising_push, rising_bounds, sum_push, sum_zero, push_back}
@@ -24,26 +24,26 @@ pub live_some : {x : ℕ} (t : Tree) (m : ℕ) (h : File) → LawBut x t → Liv
 live_some t m h law e z = let b = (rising_bounds 0 t.next t.files m h law.rising e).0 in omega (arith, b, z)
 
 -- a live file still lives after a new one
-pub stays : {x : ℕ} (t : Tree) (f : File) (m : ℕ) (h : File) → LawBut x t → Lives t m h → Lives (born t f) m h
+pub stays : {x : ℕ} (t : Tree) (f : File) (m : ℕ) (h : File) → LawBut x t → Lives t m h → Lives (with_new_file t f) m h
 stays t f m h law e = at_push_other t.next m f t.files (live_apart t m h law e) ∙ e
 
-pub new_lives : {x : ℕ} (t : Tree) (f : File) → LawBut x t → Lives (born t f) t.next f
+pub new_lives : {x : ℕ} (t : Tree) (f : File) → LawBut x t → Lives (with_new_file t f) t.next f
 new_lives t f law = at_push_same t.next f t.files (next_free t law)
 
-parent_stays : (t : Tree) (f : File) (m : ℕ) → m ≢ t.next → parent_of (born t f).files m ≡ parent_of t.files m
+parent_stays : (t : Tree) (f : File) (m : ℕ) → m ≢ t.next → parent_of (with_new_file t f).files m ≡ parent_of t.files m
 parent_stays t f m o = ap (λ o. on_some o 0 (λ k. parent_in k.kind)) (at_push_other t.next m f t.files o)
 
 -- a new file changes no climb of a live directory
-climb_born : (t : Tree) (f : File) → Law t → (k m : ℕ) (h : File) → LivesAsDirectory t m h → climb k (born t f).files m ≡ climb k t.files m
+climb_born : (t : Tree) (f : File) → Law t → (k m : ℕ) (h : File) → LivesAsDirectory t m h → climb k (with_new_file t f).files m ≡ climb k t.files m
 climb_born t f law zero m h at_m = refl
 climb_born t f law (suc k) m h at_m =
     let home = law.homes m h at_m in
     let up : parent_of t.files m ≡ parent_in h.kind = ap (λ o. on_some o 0 (λ k. parent_in k.kind)) at_m.0 in
-    ap (climb k (born t f).files) (parent_stays t f m (live_apart t m h law at_m.0))
+    ap (climb k (with_new_file t f).files) (parent_stays t f m (live_apart t m h law at_m.0))
     ∙ climb_born t f law k (parent_of t.files m) home.0 (ap (λ j. at j t.files) up ∙ home.1.0, home.1.1)
 
 -- names, with a file that has no entries
-pub names_born : (t : Tree) (f : File) → entries_in f.kind ≡ [] → (m : ℕ) → names_of m (born t f).files ≡ names_of m t.files
+pub names_born : (t : Tree) (f : File) → entries_in f.kind ≡ [] → (m : ℕ) → names_of m (with_new_file t f).files ≡ names_of m t.files
 names_born t f empty m =
     let s = sum_push (λ (k : File). names_in m (entries_in k.kind)) t.next f t.files in
     let z : names_in m (entries_in f.kind) ≡ 0 = ap (names_in m) empty in omega (arith, s, z)
@@ -56,32 +56,32 @@ sum_in f g (x ∷ xs) h =
     let rest = sum_in f g xs (λ y c. h y (Contains-append_right (x ∷ []) xs y c)) in
     let a = sum_by-cons f x xs in let b = sum_by-cons g x xs in omega (arith, a, b, here, rest)
 
-pub subdirectories_born : (t : Tree) (f : File) (m : ℕ) (h : File) → Law t → Lives t m h → subdirectories (born t f).files (entries_in h.kind) ≡ subdirectories t.files (entries_in h.kind)
-subdirectories_born t f m h law at_m = sum_in (λ e. one_when (names_directory (born t f).files e)) (λ e. one_when (names_directory t.files e)) (entries_in h.kind)
+pub subdirectories_born : (t : Tree) (f : File) (m : ℕ) (h : File) → Law t → Lives t m h → subdirectories (with_new_file t f).files (entries_in h.kind) ≡ subdirectories t.files (entries_in h.kind)
+subdirectories_born t f m h law at_m = sum_in (λ e. one_when (names_directory (with_new_file t f).files e)) (λ e. one_when (names_directory t.files e)) (entries_in h.kind)
     (λ e c. let l = law.entries m h e at_m c in
     ap (λ o. one_when (on_some o false (λ k. is_directory k.kind))) (at_push_other t.next e.number f t.files (live_apart t e.number l.0 law l.1)))
 
-pub nlink_born : (t : Tree) (f : File) (m : ℕ) (h : File) → Law t → entries_in f.kind ≡ [] → Lives t m h → nlink (born t f).files m h ≡ nlink t.files m h
-nlink_born t f m h law empty at_m = nlink_by (is_directory h.kind) (is_directory h.kind) (subdirectories (born t f).files (entries_in h.kind)) (subdirectories t.files (entries_in h.kind)) (names_of m (born t f).files) (names_of m t.files)
+pub nlink_born : (t : Tree) (f : File) (m : ℕ) (h : File) → Law t → entries_in f.kind ≡ [] → Lives t m h → nlink (with_new_file t f).files m h ≡ nlink t.files m h
+nlink_born t f m h law empty at_m = nlink_by (is_directory h.kind) (is_directory h.kind) (subdirectories (with_new_file t f).files (entries_in h.kind)) (subdirectories t.files (entries_in h.kind)) (names_of m (with_new_file t f).files) (names_of m t.files)
     refl (subdirectories_born t f m h law at_m) (names_born t f empty m)
 
 -- the links of the new file
-pub nlink_new : (t : Tree) (f : File) → Law t → entries_in f.kind ≡ [] → nlink (born t f).files t.next f ≡ (if is_directory f.kind then 2 else 0)
-nlink_new t f law empty = nlink_by (is_directory f.kind) (is_directory f.kind) (subdirectories (born t f).files (entries_in f.kind)) 0 (names_of t.next (born t f).files) 0
-    refl (ap (subdirectories (born t f).files) empty) (names_born t f empty t.next ∙ law.absent t.next (next_free t law))
+pub nlink_new : (t : Tree) (f : File) → Law t → entries_in f.kind ≡ [] → nlink (with_new_file t f).files t.next f ≡ (if is_directory f.kind then 2 else 0)
+nlink_new t f law empty = nlink_by (is_directory f.kind) (is_directory f.kind) (subdirectories (with_new_file t f).files (entries_in f.kind)) 0 (names_of t.next (with_new_file t f).files) 0
+    refl (ap (subdirectories (with_new_file t f).files) empty) (names_born t f empty t.next ∙ law.absent t.next (next_free t law))
 
 few_new : (b : Bool) → (if b then 2 else 0) ≤ 1000
 few_new true = omega arith
 few_new false = omega arith
 
-links_born : (t : Tree) (f : File) → Law t → entries_in f.kind ≡ [] → (m : ℕ) (h : File) → Lives (born t f) m h → nlink (born t f).files m h ≤ 1000
+links_born : (t : Tree) (f : File) → Law t → entries_in f.kind ≡ [] → (m : ℕ) (h : File) → Lives (with_new_file t f) m h → nlink (with_new_file t f).files m h ≤ 1000
 links_born t f law empty m h e = push_back t.next m f h t.files (next_free t law) e
-    (λ s is. let told : nlink (born t f).files m h ≡ (if is_directory f.kind then 2 else 0) = ap (λ k. nlink (born t f).files k h) s ∙ ap (nlink (born t f).files t.next) (sym is) ∙ nlink_new t f law empty in
+    (λ s is. let told : nlink (with_new_file t f).files m h ≡ (if is_directory f.kind then 2 else 0) = ap (λ k. nlink (with_new_file t f).files k h) s ∙ ap (nlink (with_new_file t f).files t.next) (sym is) ∙ nlink_new t f law empty in
     subst (λ k. k ≤ 1000) (sym told) (few_new (is_directory f.kind)))
     (λ o was. subst (λ k. k ≤ 1000) (sym (nlink_born t f m h law empty was)) (law.links m h was))
 
 -- the entries of a file, where one was born without any
-entries_born : (t : Tree) (f : File) → Law t → entries_in f.kind ≡ [] → (d : ℕ) (h : File) (e : Entry) → Lives (born t f) d h → Contains (entries_in h.kind) e → Lives t d h
+entries_born : (t : Tree) (f : File) → Law t → entries_in f.kind ≡ [] → (d : ℕ) (h : File) (e : Entry) → Lives (with_new_file t f) d h → Contains (entries_in h.kind) e → Lives t d h
 entries_born t f law empty d h e at_d in_h = push_back t.next d f h t.files (next_free t law) at_d
     (λ s is. absurd (not_in_empty (entries_in h.kind) e (sym (ap (λ (k : File). entries_in k.kind) is) ∙ empty) in_h))
     (λ o was. was)
@@ -98,20 +98,20 @@ pub record MayBeBorn (t : Tree) (f : File) : Type 0 where
   pub bytes : bytes_of f.volume t.files + length (bytes_in f.kind) ≤ volume.max_bytes
   pub count : files_of f.volume t.files + 1 ≤ volume.max_files
 
-pub bytes_born : (t : Tree) (f : File) (place : ℕ) → (f.volume ≡ place → bytes_of place (born t f).files ≡ bytes_of place t.files + length (bytes_in f.kind)) × (f.volume ≢ place → bytes_of place (born t f).files ≡ bytes_of place t.files)
+pub bytes_born : (t : Tree) (f : File) (place : ℕ) → (f.volume ≡ place → bytes_of place (with_new_file t f).files ≡ bytes_of place t.files + length (bytes_in f.kind)) × (f.volume ≢ place → bytes_of place (with_new_file t f).files ≡ bytes_of place t.files)
 bytes_born t f place = let s = sum_push (bytes_for place) t.next f t.files in (
   λ h. let a = bytes_here place f h in omega (arith, s, a),
   λ o. let a = bytes_elsewhere place f o in omega (arith, s, a),
 )
 
-pub files_born : (t : Tree) (f : File) (place : ℕ) → (f.volume ≡ place → files_of place (born t f).files ≡ files_of place t.files + 1) × (f.volume ≢ place → files_of place (born t f).files ≡ files_of place t.files)
+pub files_born : (t : Tree) (f : File) (place : ℕ) → (f.volume ≡ place → files_of place (with_new_file t f).files ≡ files_of place t.files + 1) × (f.volume ≢ place → files_of place (with_new_file t f).files ≡ files_of place t.files)
 files_born t f place = let s = sum_push (one_for place) t.next f t.files in (
   λ h. let a : one_for place f ≡ 1 = ap one_when (eq-eqb f.volume place h) in omega (arith, s, a),
   λ o. let a : one_for place f ≡ 0 = by_test (nat_eq f.volume place) (λ t. absurd (o (eqb-true f.volume place t))) (λ z. ap one_when z) in omega (arith, s, a),
 )
 
-pub law_born : (t : Tree) (f : File) → Law t → MayBeBorn t f → LawBut t.next (born t f)
-law_born t f law may =
+pub law_with_new_file : (t : Tree) (f : File) → Law t → MayBeBorn t f → LawBut t.next (with_new_file t f)
+law_with_new_file t f law may =
     let free = next_free t law in
     let names = names_born t f may.empty in
     record {
@@ -138,13 +138,13 @@ law_born t f law may =
           (λ o was. let l = law.stands n h (live_some t n h law was) (was, dir.1) root in (l.0, stays t f (parent_in h.kind) l.0 law l.1, l.2, l.3, l.4));
       homes = λ n h dir. push_back t.next n f h t.files free dir.0
           (λ s is. let home = may.parent (ap (λ (k : File). is_directory k.kind) is ∙ dir.1) in
-          (home.0, (ap (λ k. at k (born t f).files) (sym (ap (λ (k : File). parent_in k.kind) is)) ∙ stays t f (parent_in f.kind) home.0 law home.1.0, home.1.1), home.2 ∙ ap (λ (k : File). k.volume) is))
+          (home.0, (ap (λ k. at k (with_new_file t f).files) (sym (ap (λ (k : File). parent_in k.kind) is)) ∙ stays t f (parent_in f.kind) home.0 law home.1.0, home.1.1), home.2 ∙ ap (λ (k : File). k.volume) is))
           (λ o was. let home = law.homes n h (was, dir.1) in (home.0, (stays t f (parent_in h.kind) home.0 law home.1.0, home.1.1), home.2));
       reached = λ n h dir. push_back t.next n f h t.files free dir.0
           (λ s is. let home = may.parent (ap (λ (k : File). is_directory k.kind) is ∙ dir.1) in
           let r = law.reached (parent_in f.kind) home.0 home.1 in
-          let up : parent_of (born t f).files n ≡ parent_in f.kind = ap (λ o. on_some o 0 (λ k. parent_in k.kind)) (dir.0 ∙ ap Some (sym is)) in
-          (suc r.0, r.1, subst (λ k. slice_get t.volumes k ≡ Some r.1) (home.2 ∙ ap (λ (k : File). k.volume) is) r.2, ap (climb r.0 (born t f).files) up ∙ climb_born t f law r.0 (parent_in f.kind) home.0 home.1 ∙ r.3))
+          let up : parent_of (with_new_file t f).files n ≡ parent_in f.kind = ap (λ o. on_some o 0 (λ k. parent_in k.kind)) (dir.0 ∙ ap Some (sym is)) in
+          (suc r.0, r.1, subst (λ k. slice_get t.volumes k ≡ Some r.1) (home.2 ∙ ap (λ (k : File). k.volume) is) r.2, ap (climb r.0 (with_new_file t f).files) up ∙ climb_born t f law r.0 (parent_in f.kind) home.0 home.1 ∙ r.3))
           (λ o was. let r = law.reached n h (was, dir.1) in (r.0, r.1, r.2, climb_born t f law r.0 n h (was, dir.1) ∙ r.3));
       named = λ n h other at_n dir. push_back t.next n f h t.files free at_n
           (λ s is. absurd (other s))
@@ -194,8 +194,8 @@ pub no_files_yet : (t : Tree) → Law t → files_of (length t.volumes) t.files 
 no_files_yet t law = sum_zero (one_for (length t.volumes)) 0 t.next t.files law.rising
     (λ m h e. by_test (nat_eq h.volume (length t.volumes)) (λ y. absurd (unplaced t law m h e (eqb-true h.volume (length t.volumes) y))) (λ z. ap one_when z))
 
-pub law_founded : (t : Tree) (v : Volume) (f : File) → Law t → MayBeFounded t v f → Law (founded t v f)
-law_founded t v f law may =
+pub law_with_new_volume : (t : Tree) (v : Volume) (f : File) → Law t → MayBeFounded t v f → Law (with_new_volume t v f)
+law_with_new_volume t v f law may =
     let free = next_free t law in
     let names = names_born t f may.empty in
     let old : (place : ℕ) (w : Volume) → slice_get t.volumes place ≡ Some w → slice_get (t.volumes ++ v ∷ []) place ≡ Some w = λ place w e. get_push_old t.volumes v w place e in
@@ -217,7 +217,7 @@ law_founded t v f law may =
       roots = λ place w e. elim (get_push t.volumes v w place e) [
         | inl was ↦ let l = law.roots place w was in (l.0, (stays t f w.root l.0 law l.1.0, l.1.1), l.2, l.3, names w.root ∙ l.4)
         | inr is ↦ let here : w.root ≡ t.next = ap (λ (k : Volume). k.root) (sym is.1) ∙ may.root in
-            (f, (ap (λ k. at k (born t f).files) here ∙ new_lives t f law, may.is_dir), may.parent ∙ sym here, may.volume ∙ sym is.0, names w.root ∙ ap (λ k. names_of k t.files) here ∙ law.absent t.next free)
+            (f, (ap (λ k. at k (with_new_file t f).files) here ∙ new_lives t f law, may.is_dir), may.parent ∙ sym here, may.volume ∙ sym is.0, names w.root ∙ ap (λ k. names_of k t.files) here ∙ law.absent t.next free)
       ];
       once = λ n h other dir root. push_back t.next n f h t.files free dir.0
           (λ s is. absurd (root (its_root n s)))
@@ -230,7 +230,7 @@ law_founded t v f law may =
           (λ s is. absurd (root (its_root n s)))
           (λ o was. let l = law.stands n h other (was, dir.1) (older_root n root) in (l.0, stays t f (parent_in h.kind) l.0 law l.1, l.2, l.3, l.4));
       homes = λ n h dir. push_back t.next n f h t.files free dir.0
-          (λ s is. (h, (ap (λ k. at k (born t f).files) (home n h s is) ∙ dir.0, dir.1), refl))
+          (λ s is. (h, (ap (λ k. at k (with_new_file t f).files) (home n h s is) ∙ dir.0, dir.1), refl))
           (λ o was. let l = law.homes n h (was, dir.1) in (l.0, (stays t f (parent_in h.kind) l.0 law l.1.0, l.1.1), l.2));
       reached = λ n h dir. push_back t.next n f h t.files free dir.0
           (λ s is. (0, v, its_volume n h is, s ∙ sym may.root))

@@ -5,7 +5,7 @@ use Rattle.std.proofs.lemmas.Bool.{eq-eqb}
 use Rattle.nfs_attrs.specs.declared.moment.Moment.{Moment}
 use Rattle.nfs_inodes.specs.Tree.{Tree, File, Volume, at, with_at, one_when, bytes_in, is_directory, nlink, bytes_of, files_of}
 use Rattle.nfs_inodes.specs.Law.{Law, AreRising, Lives, LivesAsDirectory}
-use Rattle.nfs_inodes.specs.Changes.{born, changed, entered, made}
+use Rattle.nfs_inodes.specs.Changes.{with_new_file, with_file, entered, with_named_file}
 use Rattle.nfs_inodes.specs.Conditions.{IsNew, MayMake}
 use Rattle.nfs_inodes.specs.Counts.{CountedFile, CountedVolume, CountedTree, Agrees, IsCounted, files_in, tree_in, with_totals}
 use Rattle.nfs_inodes.proofs.Lists.{by_number, by_test, if_true, if_false, same_some, not_both}
@@ -13,7 +13,7 @@ use Rattle.nfs_inodes.proofs.Maps.{at_shows, shows_with, shows_push, with_back, 
 use Rattle.nfs_inodes.proofs.Alike.{bytes_changed, count_changed}
 use Rattle.nfs_inodes.proofs.Gains.{entered_placed, entered_bytes, gained_is, nlink_there, nlink_elsewhere, one_other}
 use Rattle.nfs_inodes.proofs.Births.{next_free, live_apart, stays, new_lives, nlink_born, nlink_new, bytes_born, files_born}
-use Rattle.nfs_inodes.proofs.Operations.{law_made}
+use Rattle.nfs_inodes.proofs.Operations.{law_with_named_file}
 
 -- the file of what is kept under a number
 pub shown : (k : CountedTree) (n : ℕ) (h : CountedFile) → at n k.files ≡ Some h → Lives (tree_in k) n h.file
@@ -60,11 +60,11 @@ totals_after k files place b n keeps sums p c e =
 
 -- ---- a new file
 
-abbrev pub kept_made : CountedTree → ℕ → CountedFile → CountedFile → ℕ → ℕ → CountedTree
-kept_made k d w new place size = record { files = with_at d w (k.files ++ (k.next, new) ∷ []); next = k.next + 1; key = k.key; volumes = with_totals k.volumes place size 1 }
+abbrev pub counted_after_make : CountedTree → ℕ → CountedFile → CountedFile → ℕ → ℕ → CountedTree
+counted_after_make k d w new place size = record { files = with_at d w (k.files ++ (k.next, new) ∷ []); next = k.next + 1; key = k.key; volumes = with_totals k.volumes place size 1 }
 
 -- what is kept of directory d and of the new file
-pub record KeepsNew (k : CountedTree) (d size : ℕ) (name : List ℕ) (now : Moment) (p w new : CountedFile) : Type 0 where
+pub record CountsNewFile (k : CountedTree) (d size : ℕ) (name : List ℕ) (now : Moment) (p w new : CountedFile) : Type 0 where
   pub may : MayMake (tree_in k) d name size
   pub at_dir : at d k.files ≡ Some p
   pub entered : w.file ≡ entered p.file name k.next now
@@ -73,19 +73,19 @@ pub record KeepsNew (k : CountedTree) (d size : ℕ) (name : List ℕ) (now : Mo
   pub new_file : IsNew d size may.enter.dir new.file
   pub few : is_directory new.file.kind ≡ true → nlink (tree_in k).files d may.enter.dir < 1000
 
-its_dir : (k : CountedTree) (d size : ℕ) (name : List ℕ) (now : Moment) (p w new : CountedFile) (has : KeepsNew k d size name now p w new) → has.may.enter.dir ≡ p.file
+its_dir : (k : CountedTree) (d size : ℕ) (name : List ℕ) (now : Moment) (p w new : CountedFile) (has : CountsNewFile k d size name now p w new) → has.may.enter.dir ≡ p.file
 its_dir k d size name now p w new has = same_some (sym has.may.enter.at_dir.0 ∙ shown k d p has.at_dir)
 
-files_made : (k : CountedTree) (d : ℕ) (w new : CountedFile) → files_in (with_at d w (k.files ++ (k.next, new) ∷ [])) ≡ (changed (born (tree_in k) new.file) d w.file).files
+files_made : (k : CountedTree) (d : ℕ) (w new : CountedFile) → files_in (with_at d w (k.files ++ (k.next, new) ∷ [])) ≡ (with_file (with_new_file (tree_in k) new.file) d w.file).files
 files_made k d w new = shows_with (λ (a : CountedFile). a.file) d w (k.files ++ (k.next, new) ∷ []) ∙ ap (with_at d w.file) (shows_push (λ (a : CountedFile). a.file) k.next new k.files)
 
-pub view_made : (k : CountedTree) (d size : ℕ) (name : List ℕ) (now : Moment) (p w new : CountedFile) (place : ℕ) → Law (tree_in k) → KeepsNew k d size name now p w new → tree_in (kept_made k d w new place size) ≡ made (tree_in k) d name new.file now
-view_made k d size name now p w new place law has =
+pub view_after_make : (k : CountedTree) (d size : ℕ) (name : List ℕ) (now : Moment) (p w new : CountedFile) (place : ℕ) → Law (tree_in k) → CountsNewFile k d size name now p w new → tree_in (counted_after_make k d w new place size) ≡ with_named_file (tree_in k) d name new.file now
+view_after_make k d size name now p w new place law has =
     let t = tree_in k in
     ap (λ vs. record { files = files_in (with_at d w (k.files ++ (k.next, new) ∷ [])); next = k.next + 1; key = k.key; volumes = vs }) (volumes_stay k.volumes place size 1)
     ∙ ap (λ fs. record { files = fs; next = k.next + 1; key = k.key; volumes = t.volumes }) (files_made k d w new)
-    ∙ ap (λ g. changed (born t new.file) d g) has.entered
-    ∙ sym (gained_is (born t new.file) d t.next now name p.file (stays t new.file d p.file law (shown k d p has.at_dir)))
+    ∙ ap (λ g. with_file (with_new_file t new.file) d g) has.entered
+    ∙ sym (gained_is (with_new_file t new.file) d t.next now name p.file (stays t new.file d p.file law (shown k d p has.at_dir)))
 
 pub free_number : (k : CountedTree) → Law (tree_in k) → at k.next k.files ≡ None
 free_number k law = none_kept (at k.next k.files) (sym (at_shows (λ (a : CountedFile). a.file) k.next k.files) ∙ next_free (tree_in k) law)
@@ -94,23 +94,23 @@ free_number k law = none_kept (at k.next k.files) (sym (at_shows (λ (a : Counte
     none_kept None e = refl
     none_kept (Some h) e = cc
 
-rising_after : (k : CountedTree) (new : CountedFile) → Law (tree_in k) → AreRising 0 (born (tree_in k) new.file).files (born (tree_in k) new.file).next
+rising_after : (k : CountedTree) (new : CountedFile) → Law (tree_in k) → AreRising 0 (with_new_file (tree_in k) new.file).files (with_new_file (tree_in k) new.file).next
 rising_after k new law = rising_push 0 k.next (tree_in k).files new.file law.rising
 
 -- the links of every file after it
-links_made : (k : CountedTree) (d size : ℕ) (name : List ℕ) (now : Moment) (p w new : CountedFile) → Agrees k → KeepsNew k d size name now p w new → (m : ℕ) (h : CountedFile) → at m (with_at d w (k.files ++ (k.next, new) ∷ [])) ≡ Some h → h.nlink ≡ nlink (changed (born (tree_in k) new.file) d (entered p.file name k.next now)).files m h.file
+links_made : (k : CountedTree) (d size : ℕ) (name : List ℕ) (now : Moment) (p w new : CountedFile) → Agrees k → CountsNewFile k d size name now p w new → (m : ℕ) (h : CountedFile) → at m (with_at d w (k.files ++ (k.next, new) ∷ [])) ≡ Some h → h.nlink ≡ nlink (with_file (with_new_file (tree_in k) new.file) d (entered p.file name k.next now)).files m h.file
 links_made k d size name now p w new keeps has m h e =
     let t = tree_in k in
     let law = keeps.law in
-    let b : Tree = born t new.file in
+    let b : Tree = with_new_file t new.file in
     let g : File = entered p.file name k.next now in
-    let after : List (ℕ × File) = (changed b d g).files in
+    let after : List (ℕ × File) = (with_file b d g).files in
     let law_b = rising_after k new law in
     let dir_t : LivesAsDirectory t d p.file = (shown k d p has.at_dir, ap (λ (f : File). is_directory f.kind) (sym (its_dir k d size name now p w new has)) ∙ has.may.enter.at_dir.1) in
     let dir_b : LivesAsDirectory b d p.file = (stays t new.file d p.file law dir_t.0, dir_t.1) in
     let apart : d ≢ k.next = live_apart t d p.file law dir_t.0 in
-    let held : at d (k.files ++ (k.next, new) ∷ []) ≡ Some p = at_push_other k.next d new k.files apart ∙ has.at_dir in
-    with_back d m p w h (k.files ++ (k.next, new) ∷ []) held e
+    let counted_file : at d (k.files ++ (k.next, new) ∷ []) ≡ Some p = at_push_other k.next d new k.files apart ∙ has.at_dir in
+    with_back d m p w h (k.files ++ (k.next, new) ∷ []) counted_file e
     (λ s is. let told = nlink_there b d k.next now name p.file new.file dir_b (new_lives t new.file law) in
     let same = nlink_born t new.file d p.file law has.new_file.empty dir_t.0 in
     let was = keeps.links d p has.at_dir in
@@ -145,29 +145,29 @@ links_made k d size name now p w new keeps has m h e =
     itself_named : (n m : ℕ) → m ≡ n → one_when (nat_eq n m) ≡ 1
     itself_named n m s = ap one_when (eq-eqb n m (sym s))
 
-pub keeps_made : (k : CountedTree) (d size : ℕ) (name : List ℕ) (now : Moment) (p w new : CountedFile) (place : ℕ) → Agrees k → KeepsNew k d size name now p w new → place ≡ p.file.volume → Agrees (kept_made k d w new place size)
-keeps_made k d size name now p w new place keeps has is_place =
+pub agree_after_make : (k : CountedTree) (d size : ℕ) (name : List ℕ) (now : Moment) (p w new : CountedFile) (place : ℕ) → Agrees k → CountsNewFile k d size name now p w new → place ≡ p.file.volume → Agrees (counted_after_make k d w new place size)
+agree_after_make k d size name now p w new place keeps has is_place =
     let t = tree_in k in
     let law = keeps.law in
-    let b : Tree = born t new.file in
+    let b : Tree = with_new_file t new.file in
     let g : File = entered p.file name k.next now in
-    let files : files_in (with_at d w (k.files ++ (k.next, new) ∷ [])) ≡ (changed b d g).files = files_made k d w new ∙ ap (λ f. (changed b d f).files) has.entered in
-    let view = view_made k d size name now p w new place law has in
+    let files : files_in (with_at d w (k.files ++ (k.next, new) ∷ [])) ≡ (with_file b d g).files = files_made k d w new ∙ ap (λ f. (with_file b d f).files) has.entered in
+    let view = view_after_make k d size name now p w new place law has in
     let dir : has.may.enter.dir ≡ p.file = its_dir k d size name now p w new has in
     let at_b : Lives b d p.file = stays t new.file d p.file law (shown k d p has.at_dir) in
     let home : new.file.volume ≡ place = has.new_file.volume ∙ ap (λ (f : File). f.volume) dir ∙ sym is_place in
-    let after = totals_after k (changed b d g).files place size 1 keeps (λ q.
+    let after = totals_after k (with_file b d g).files place size 1 keeps (λ q.
     let same = bytes_changed b d p.file g at_b (entered_placed p.file name k.next now).volume q in
     let no_more : length (bytes_in g.kind) ≡ length (bytes_in p.file.kind) = ap length (entered_bytes p.file.kind name k.next) in
     let counted = count_changed b d p.file g at_b (entered_placed p.file name k.next now).volume q in
     let told = bytes_born t new.file q in let counts = files_born t new.file q in
-    let bytes_stay : bytes_of q (changed b d g).files ≡ bytes_of q b.files = by_number p.file.volume q (λ s. let y = same.0 s in omega (arith, y, no_more)) (λ o. same.1 o) in
+    let bytes_stay : bytes_of q (with_file b d g).files ≡ bytes_of q b.files = by_number p.file.volume q (λ s. let y = same.0 s in omega (arith, y, no_more)) (λ o. same.1 o) in
     let long = has.new_file.bytes in (
       (λ s. let y = told.0 (home ∙ sym s) in let z = counts.0 (home ∙ sym s) in (omega (arith, bytes_stay, y, long), omega (arith, counted, z))),
       (λ o. let y = told.1 (λ s. o (sym s ∙ home)) in let z = counts.1 (λ s. o (sym s ∙ home)) in (omega (arith, bytes_stay, y), omega (arith, counted, z))),
     )) in
     record {
-      law = subst Law (sym view) (law_made t d size name new.file now has.may law has.new_file has.few);
+      law = subst Law (sym view) (law_with_named_file t d size name new.file now has.may law has.new_file has.few);
       links = λ m h e. links_made k d size name now p w new keeps has m h e ∙ ap (λ fs. nlink fs m h.file) (sym files);
       totals = λ q c e. subst (λ fs. IsCounted fs q c) (sym files) (after q c e).0;
       limits = λ q c e. (after q c e).1;

@@ -7,30 +7,30 @@ use Rattle.std.proofs.lemmas.List.{map-append, length-map}
 use Rattle.nfs_attrs.specs.declared.moment.Moment.{Moment}
 use Rattle.nfs_inodes.specs.Tree.{Tree, File, Volume, at, with_at, one_when, bytes_in, is_directory, is_regular, nlink, bytes_of, files_of}
 use Rattle.nfs_inodes.specs.Law.{Law, AreRising, Lives, LivesAsDirectory}
-use Rattle.nfs_inodes.specs.Changes.{born, changed, entered, linked, overwritten, founded}
+use Rattle.nfs_inodes.specs.Changes.{with_new_file, with_file, entered, after_link, file_with_bytes, with_new_volume}
 use Rattle.nfs_inodes.specs.Conditions.{MayLink, MayWrite}
 use Rattle.nfs_inodes.specs.Counts.{CountedFile, CountedVolume, CountedTree, Agrees, IsCounted, files_in, tree_in, with_totals}
 use Rattle.nfs_inodes.proofs.Lists.{by_number, by_test, if_true, same_some, get_push}
 use Rattle.nfs_inodes.proofs.Maps.{shows_with, shows_push, with_back, push_back, at_with_other, at_with_same, rising_with}
 use Rattle.nfs_inodes.proofs.Alike.{Alike, alike_itself, bytes_changed, count_changed, nlink_alike, one_alike}
 use Rattle.nfs_inodes.proofs.Gains.{entered_placed, entered_bytes, gained_is, nlink_there, nlink_elsewhere, one_other}
-use Rattle.nfs_inodes.proofs.Births.{nlink_born, nlink_new, bytes_born, files_born, law_founded, MayBeFounded, no_bytes_yet, no_files_yet}
-use Rattle.nfs_inodes.proofs.Operations.{law_linked, law_overwritten, linked_is, touch_alike, apart_kinds, overwritten_alike, overwritten_bytes}
+use Rattle.nfs_inodes.proofs.Births.{nlink_born, nlink_new, bytes_born, files_born, law_with_new_volume, MayBeFounded, no_bytes_yet, no_files_yet}
+use Rattle.nfs_inodes.proofs.Operations.{law_after_link, law_with_bytes, linked_is, touch_alike, apart_kinds, overwritten_alike, overwritten_bytes}
 use Rattle.nfs_inodes.proofs.Bytes.{length_put}
 use Rattle.nfs_inodes.proofs.Counts.{shown, totals_after, volumes_stay, free_number}
 
 -- ---- nothing that is shown changes
 
-abbrev pub kept_same : CountedTree → ℕ → CountedFile → CountedTree
-kept_same k n w = record { files = with_at n w k.files; next = k.next; key = k.key; volumes = k.volumes }
+abbrev pub counted_after_none : CountedTree → ℕ → CountedFile → CountedTree
+counted_after_none k n w = record { files = with_at n w k.files; next = k.next; key = k.key; volumes = k.volumes }
 
 -- ---- a link
 
-abbrev pub kept_linked : CountedTree → ℕ → CountedFile → ℕ → CountedFile → CountedTree
-kept_linked k n g d w = record { files = with_at d w (with_at n g k.files); next = k.next; key = k.key; volumes = k.volumes }
+abbrev pub counted_after_link : CountedTree → ℕ → CountedFile → ℕ → CountedFile → CountedTree
+counted_after_link k n g d w = record { files = with_at d w (with_at n g k.files); next = k.next; key = k.key; volumes = k.volumes }
 
 -- what is kept of file n and of directory d
-pub record KeepsLink (k : CountedTree) (n d : ℕ) (name : List ℕ) (now : Moment) (f g p w : CountedFile) : Type 0 where
+pub record CountsLink (k : CountedTree) (n d : ℕ) (name : List ℕ) (now : Moment) (f g p w : CountedFile) : Type 0 where
   pub may : MayLink (tree_in k) n d name
   pub at_file : at n k.files ≡ Some f
   pub touched : g.file ≡ record f.file { ctime = now }
@@ -39,7 +39,7 @@ pub record KeepsLink (k : CountedTree) (n d : ℕ) (name : List ℕ) (now : Mome
   pub entered : w.file ≡ entered p.file name n now
   pub same_links : w.nlink ≡ p.nlink
 
-module _ (k : CountedTree) (n d : ℕ) (name : List ℕ) (now : Moment) (f g p w : CountedFile) (keeps : Agrees k) (has : KeepsLink k n d name now f g p w) where
+module _ (k : CountedTree) (n d : ℕ) (name : List ℕ) (now : Moment) (f g p w : CountedFile) (keeps : Agrees k) (has : CountsLink k n d name now f g p w) where
   t : Tree
   t = tree_in k
 
@@ -60,7 +60,7 @@ module _ (k : CountedTree) (n d : ℕ) (name : List ℕ) (now : Moment) (f g p w
 
   -- the tree once the file is touched
   abbrev u : Tree
-  u = changed (tree_in k) n (record f.file { ctime = now })
+  u = with_file (tree_in k) n (record f.file { ctime = now })
 
   dir_u : LivesAsDirectory u d p.file
   dir_u = (at_with_other n d (record f.file { ctime = now }) (tree_in k).files apart ∙ dir_t.0, dir_t.1)
@@ -71,22 +71,22 @@ module _ (k : CountedTree) (n d : ℕ) (name : List ℕ) (now : Moment) (f g p w
   rising_u : AreRising 0 u.files u.next
   rising_u = rising_with 0 k.next n (tree_in k).files (record f.file { ctime = now }) keeps.law.rising
 
-  files_linked : files_in (with_at d w (with_at n g k.files)) ≡ (changed u d (entered p.file name n now)).files
+  files_linked : files_in (with_at d w (with_at n g k.files)) ≡ (with_file u d (entered p.file name n now)).files
   files_linked = shows_with (λ (a : CountedFile). a.file) d w (with_at n g k.files) ∙ ap (with_at d w.file) (shows_with (λ (a : CountedFile). a.file) n g k.files)
       ∙ ap (λ a. with_at d a (with_at n g.file (tree_in k).files)) has.entered
       ∙ ap (λ a. with_at d (entered p.file name n now) (with_at n a (tree_in k).files)) has.touched
 
-  pub view_linked : tree_in (kept_linked k n g d w) ≡ linked (tree_in k) n d name now
-  view_linked = ap (λ fs. record (tree_in k) { files = fs }) files_linked
+  pub view_after_link : tree_in (counted_after_link k n g d w) ≡ after_link (tree_in k) n d name now
+  view_after_link = ap (λ fs. record (tree_in k) { files = fs }) files_linked
       ∙ sym (gained_is u d n now name p.file dir_u.0)
       ∙ sym (linked_is (tree_in k) n d name now f.file (shown k n f has.at_file))
 
-  links_linked : (m : ℕ) (h : CountedFile) → at m (with_at d w (with_at n g k.files)) ≡ Some h → h.nlink ≡ nlink (changed u d (entered p.file name n now)).files m h.file
+  links_linked : (m : ℕ) (h : CountedFile) → at m (with_at d w (with_at n g k.files)) ≡ Some h → h.nlink ≡ nlink (with_file u d (entered p.file name n now)).files m h.file
   links_linked m h e =
-      let after : List (ℕ × File) = (changed u d (entered p.file name n now)).files in
+      let after : List (ℕ × File) = (with_file u d (entered p.file name n now)).files in
       let like = one_alike (tree_in k) n f.file (record f.file { ctime = now }) keeps.law.rising keeps.law.numbers (shown k n f has.at_file) (touch_alike f.file now) in
-      let held : at d (with_at n g k.files) ≡ Some p = at_with_other n d g k.files apart ∙ has.at_dir in
-      with_back d m p w h (with_at n g k.files) held e
+      let counted_file : at d (with_at n g k.files) ≡ Some p = at_with_other n d g k.files apart ∙ has.at_dir in
+      with_back d m p w h (with_at n g k.files) counted_file e
       (λ s is. let told = nlink_there u d n now name p.file (record f.file { ctime = now }) dir_u file_u in
       let none = ap one_when is_file in
       let same : nlink u.files d p.file ≡ nlink (tree_in k).files d p.file = nlink_alike (tree_in k) u like d p.file p.file (alike_itself p.file) in
@@ -113,7 +113,7 @@ module _ (k : CountedTree) (n d : ℕ) (name : List ℕ) (now : Moment) (f g p w
       (λ y. let a = told.0 y in omega (arith, a, same, mine))
       (λ z. let a = told.1 z in omega (arith, a, same, mine, none))))
 
-  totals_linked : (place : ℕ) → (bytes_of place (changed u d (entered p.file name n now)).files ≡ bytes_of place (tree_in k).files) × (files_of place (changed u d (entered p.file name n now)).files ≡ files_of place (tree_in k).files)
+  totals_linked : (place : ℕ) → (bytes_of place (with_file u d (entered p.file name n now)).files ≡ bytes_of place (tree_in k).files) × (files_of place (with_file u d (entered p.file name n now)).files ≡ files_of place (tree_in k).files)
   totals_linked place =
       let g2 : File = record f.file { ctime = now } in
       let w2 : File = entered p.file name n now in
@@ -121,14 +121,14 @@ module _ (k : CountedTree) (n d : ℕ) (name : List ℕ) (now : Moment) (f g p w
       let b = bytes_changed u d p.file w2 dir_u.0 (entered_placed p.file name n now).volume place in
       let no_more : length (bytes_in w2.kind) ≡ length (bytes_in p.file.kind) = ap length (entered_bytes p.file.kind name n) in
       let first : bytes_of place u.files ≡ bytes_of place (tree_in k).files = by_number f.file.volume place (λ s. let y = a.0 s in omega (arith, y)) (λ o. a.1 o) in
-      let second : bytes_of place (changed u d w2).files ≡ bytes_of place u.files = by_number p.file.volume place (λ s. let y = b.0 s in omega (arith, y, no_more)) (λ o. b.1 o) in (
+      let second : bytes_of place (with_file u d w2).files ≡ bytes_of place u.files = by_number p.file.volume place (λ s. let y = b.0 s in omega (arith, y, no_more)) (λ o. b.1 o) in (
         second ∙ first,
         count_changed u d p.file w2 dir_u.0 (entered_placed p.file name n now).volume place ∙ count_changed (tree_in k) n f.file g2 (shown k n f has.at_file) refl place,
       )
 
-  pub keeps_linked : Agrees (kept_linked k n g d w)
-  keeps_linked = record {
-    law = subst Law (sym view_linked) (law_linked (tree_in k) n d name now has.may keeps.law);
+  pub agree_after_link : Agrees (counted_after_link k n g d w)
+  agree_after_link = record {
+    law = subst Law (sym view_after_link) (law_after_link (tree_in k) n d name now has.may keeps.law);
     links = λ m h e. links_linked m h e ∙ ap (λ fs. nlink fs m h.file) (sym files_linked);
     totals = λ place c e. let r = keeps.totals place c e in let s = totals_linked place in
         subst (λ fs. IsCounted fs place c) (sym files_linked) (record { bytes = r.bytes ∙ sym s.0; files = r.files ∙ sym s.1 });
@@ -137,59 +137,59 @@ module _ (k : CountedTree) (n d : ℕ) (name : List ℕ) (now : Moment) (f g p w
 
 -- ---- bytes
 
-abbrev pub kept_written : CountedTree → ℕ → CountedFile → ℕ → ℕ → CountedTree
-kept_written k n w place grown = record { files = with_at n w k.files; next = k.next; key = k.key; volumes = with_totals k.volumes place grown 0 }
+abbrev pub counted_after_write : CountedTree → ℕ → CountedFile → ℕ → ℕ → CountedTree
+counted_after_write k n w place grown = record { files = with_at n w k.files; next = k.next; key = k.key; volumes = with_totals k.volumes place grown 0 }
 
 -- what is kept of file n
-pub record KeepsBytes (k : CountedTree) (n offset : ℕ) (bytes : List ℕ) (now : Moment) (f w : CountedFile) : Type 0 where
+pub record CountsBytes (k : CountedTree) (n offset : ℕ) (bytes : List ℕ) (now : Moment) (f w : CountedFile) : Type 0 where
   pub may : MayWrite (tree_in k) n offset (length bytes)
   pub some : 0 < length bytes
   pub at_file : at n k.files ≡ Some f
-  pub overwritten : w.file ≡ overwritten f.file offset bytes now
+  pub file_with_bytes : w.file ≡ file_with_bytes f.file offset bytes now
   pub same_links : w.nlink ≡ f.nlink
 
-module _ (k : CountedTree) (n offset : ℕ) (bytes : List ℕ) (now : Moment) (f w : CountedFile) (place : ℕ) (keeps : Agrees k) (has : KeepsBytes k n offset bytes now f w) (is_place : place ≡ f.file.volume) where
+module _ (k : CountedTree) (n offset : ℕ) (bytes : List ℕ) (now : Moment) (f w : CountedFile) (place : ℕ) (keeps : Agrees k) (has : CountsBytes k n offset bytes now f w) (is_place : place ≡ f.file.volume) where
   the_file : has.may.file ≡ f.file
   the_file = same_some (sym has.may.at_file ∙ shown k n f has.at_file)
 
   abbrev g : File
-  g = overwritten f.file offset bytes now
+  g = file_with_bytes f.file offset bytes now
 
   abbrev grown : ℕ
   grown = offset + length bytes - length (bytes_in f.file.kind)
 
-  files_written : files_in (with_at n w k.files) ≡ (changed (tree_in k) n g).files
-  files_written = shows_with (λ (a : CountedFile). a.file) n w k.files ∙ ap (λ a. with_at n a (tree_in k).files) has.overwritten
+  files_written : files_in (with_at n w k.files) ≡ (with_file (tree_in k) n g).files
+  files_written = shows_with (λ (a : CountedFile). a.file) n w k.files ∙ ap (λ a. with_at n a (tree_in k).files) has.file_with_bytes
 
-  pub view_written : tree_in (kept_written k n w place grown) ≡ changed (tree_in k) n g
-  view_written = ap (λ vs. record { files = files_in (with_at n w k.files); next = k.next; key = k.key; volumes = vs }) (volumes_stay k.volumes place grown 0)
+  pub view_after_write : tree_in (counted_after_write k n w place grown) ≡ with_file (tree_in k) n g
+  view_after_write = ap (λ vs. record { files = files_in (with_at n w k.files); next = k.next; key = k.key; volumes = vs }) (volumes_stay k.volumes place grown 0)
       ∙ ap (λ fs. record (tree_in k) { files = fs }) files_written
 
   like_g : Alike f.file g
   like_g = overwritten_alike f.file offset bytes now
 
-  links_written : (m : ℕ) (h : CountedFile) → at m (with_at n w k.files) ≡ Some h → h.nlink ≡ nlink (changed (tree_in k) n g).files m h.file
+  links_written : (m : ℕ) (h : CountedFile) → at m (with_at n w k.files) ≡ Some h → h.nlink ≡ nlink (with_file (tree_in k) n g).files m h.file
   links_written m h e =
       let like = one_alike (tree_in k) n f.file g keeps.law.rising keeps.law.numbers (shown k n f has.at_file) like_g in
-      let after : List (ℕ × File) = (changed (tree_in k) n g).files in
+      let after : List (ℕ × File) = (with_file (tree_in k) n g).files in
       with_back n m f w h k.files has.at_file e
-      (λ s is. let its : h.file ≡ g = ap (λ (a : CountedFile). a.file) (sym is) ∙ has.overwritten in
-      let same : nlink after m h.file ≡ nlink (tree_in k).files n f.file = ap (λ i. nlink after i h.file) s ∙ ap (nlink after n) its ∙ nlink_alike (tree_in k) (changed (tree_in k) n g) like n f.file g like_g in
+      (λ s is. let its : h.file ≡ g = ap (λ (a : CountedFile). a.file) (sym is) ∙ has.file_with_bytes in
+      let same : nlink after m h.file ≡ nlink (tree_in k).files n f.file = ap (λ i. nlink after i h.file) s ∙ ap (nlink after n) its ∙ nlink_alike (tree_in k) (with_file (tree_in k) n g) like n f.file g like_g in
       ap (λ (a : CountedFile). a.nlink) (sym is) ∙ has.same_links ∙ keeps.links n f has.at_file ∙ sym same)
-      (λ o was. keeps.links m h was ∙ sym (nlink_alike (tree_in k) (changed (tree_in k) n g) like m h.file h.file (alike_itself h.file)))
+      (λ o was. keeps.links m h was ∙ sym (nlink_alike (tree_in k) (with_file (tree_in k) n g) like m h.file h.file (alike_itself h.file)))
 
-  pub keeps_written : Agrees (kept_written k n w place grown)
-  keeps_written =
+  pub agree_after_write : Agrees (counted_after_write k n w place grown)
+  agree_after_write =
       let regular = ap (λ (a : File). is_regular a.kind) (sym the_file) ∙ has.may.regular in
       let long : length (bytes_in g.kind) ≡ length (bytes_in f.file.kind) + grown = ap length (overwritten_bytes f.file.kind offset bytes regular) ∙ length_put (bytes_in f.file.kind) bytes offset in
-      let after = totals_after k (changed (tree_in k) n g).files place grown 0 keeps (λ q.
+      let after = totals_after k (with_file (tree_in k) n g).files place grown 0 keeps (λ q.
       let told = bytes_changed (tree_in k) n f.file g (shown k n f has.at_file) like_g.placed.volume q in
       let counted = count_changed (tree_in k) n f.file g (shown k n f has.at_file) like_g.placed.volume q in (
         (λ s. let y = told.0 (sym is_place ∙ sym s) in (omega (arith, y, long), omega (arith, counted))),
         (λ o. (told.1 (λ s. o (sym s ∙ sym is_place)), counted)),
       )) in
       record {
-        law = subst Law (sym (view_written ∙ ap (λ (a : File). changed (tree_in k) n (overwritten a offset bytes now)) (sym the_file))) (law_overwritten (tree_in k) n offset bytes now has.may has.some keeps.law);
+        law = subst Law (sym (view_after_write ∙ ap (λ (a : File). with_file (tree_in k) n (file_with_bytes a offset bytes now)) (sym the_file))) (law_with_bytes (tree_in k) n offset bytes now has.may has.some keeps.law);
         links = λ m h e. links_written m h e ∙ ap (λ fs. nlink fs m h.file) (sym files_written);
         totals = λ q c e. subst (λ fs. IsCounted fs q c) (sym files_written) (after q c e).0;
         limits = λ q c e. (after q c e).1;
@@ -197,21 +197,21 @@ module _ (k : CountedTree) (n offset : ℕ) (bytes : List ℕ) (now : Moment) (f
 
 -- ---- a volume
 
-abbrev pub kept_founded : CountedTree → Volume → CountedFile → CountedTree
-kept_founded k v root = record { files = k.files ++ (k.next, root) ∷ []; next = k.next + 1; key = k.key; volumes = k.volumes ++ record { volume = v; bytes = 0; files = 1 } ∷ [] }
+abbrev pub counted_after_add_volume : CountedTree → Volume → CountedFile → CountedTree
+counted_after_add_volume k v root = record { files = k.files ++ (k.next, root) ∷ []; next = k.next + 1; key = k.key; volumes = k.volumes ++ record { volume = v; bytes = 0; files = 1 } ∷ [] }
 
-pub view_founded : (k : CountedTree) (v : Volume) (root : CountedFile) → tree_in (kept_founded k v root) ≡ founded (tree_in k) v root.file
-view_founded k v root =
+pub view_after_add_volume : (k : CountedTree) (v : Volume) (root : CountedFile) → tree_in (counted_after_add_volume k v root) ≡ with_new_volume (tree_in k) v root.file
+view_after_add_volume k v root =
     ap (λ fs. record { files = fs; next = k.next + 1; key = k.key; volumes = map (λ (c : CountedVolume). c.volume) (k.volumes ++ record { volume = v; bytes = 0; files = 1 } ∷ []) }) (shows_push (λ (a : CountedFile). a.file) k.next root k.files)
     ∙ ap (λ vs. record { files = (tree_in k).files ++ (k.next, root.file) ∷ []; next = k.next + 1; key = k.key; volumes = vs }) (map-append (λ (c : CountedVolume). c.volume) k.volumes (record { volume = v; bytes = 0; files = 1 } ∷ []))
 
-pub keeps_founded : (k : CountedTree) (v : Volume) (root : CountedFile) → Agrees k → MayBeFounded (tree_in k) v root.file → root.nlink ≡ 2 → v.max_bytes < 2 ^ 64 → v.max_files < 2 ^ 64 → Agrees (kept_founded k v root)
-keeps_founded k v root keeps may two wide_bytes wide_files =
+pub agree_after_add_volume : (k : CountedTree) (v : Volume) (root : CountedFile) → Agrees k → MayBeFounded (tree_in k) v root.file → root.nlink ≡ 2 → v.max_bytes < 2 ^ 64 → v.max_files < 2 ^ 64 → Agrees (counted_after_add_volume k v root)
+agree_after_add_volume k v root keeps may two wide_bytes wide_files =
     let t = tree_in k in
     let c0 : CountedVolume = record { volume = v; bytes = 0; files = 1 } in
-    let fs : files_in (k.files ++ (k.next, root) ∷ []) ≡ (born t root.file).files = shows_push (λ (a : CountedFile). a.file) k.next root k.files in
+    let fs : files_in (k.files ++ (k.next, root) ∷ []) ≡ (with_new_file t root.file).files = shows_push (λ (a : CountedFile). a.file) k.next root k.files in
     let places : length t.volumes ≡ length k.volumes = length-map k.volumes (λ (c : CountedVolume). c.volume) in
-    let is_counted : (place : ℕ) (c : CountedVolume) → slice_get (k.volumes ++ c0 ∷ []) place ≡ Some c → IsCounted (born t root.file).files place c = λ place c e.
+    let is_counted : (place : ℕ) (c : CountedVolume) → slice_get (k.volumes ++ c0 ∷ []) place ≡ Some c → IsCounted (with_new_file t root.file).files place c = λ place c e.
     let bytes = bytes_born t root.file place in let files = files_born t root.file place in
     elim (get_push k.volumes c0 c place e) [
       | inl was ↦ let r = keeps.totals place c was in
@@ -230,11 +230,11 @@ keeps_founded k v root keeps may two wide_bytes wide_files =
           record { bytes = omega (arith, none, empty, b, cb); files = omega (arith, no_file, n, cn) }
     ] in
     record {
-      law = subst Law (sym (view_founded k v root)) (law_founded t v root.file keeps.law may);
+      law = subst Law (sym (view_after_add_volume k v root)) (law_with_new_volume t v root.file keeps.law may);
       links = λ m h e. push_back k.next m root h k.files (free_number k keeps.law) e
           (λ s is. let first = nlink_new t root.file keeps.law may.empty in
           let yes : (if is_directory root.file.kind then 2 else 0) ≡ 2 = if_true 2 zero may.is_dir in
-          let here : nlink (files_in (k.files ++ (k.next, root) ∷ [])) m h.file ≡ nlink (born t root.file).files t.next root.file = ap (λ l. nlink l m h.file) fs ∙ ap (λ i. nlink (born t root.file).files i h.file) s ∙ ap (λ (a : CountedFile). nlink (born t root.file).files t.next a.file) (sym is) in
+          let here : nlink (files_in (k.files ++ (k.next, root) ∷ [])) m h.file ≡ nlink (with_new_file t root.file).files t.next root.file = ap (λ l. nlink l m h.file) fs ∙ ap (λ i. nlink (with_new_file t root.file).files i h.file) s ∙ ap (λ (a : CountedFile). nlink (with_new_file t root.file).files t.next a.file) (sym is) in
           let mine : h.nlink ≡ root.nlink = ap (λ (a : CountedFile). a.nlink) (sym is) in
           omega (arith, first, yes, here, mine, two))
           (λ o was. keeps.links m h was ∙ sym (ap (λ l. nlink l m h.file) fs ∙ nlink_born t root.file m h.file keeps.law may.empty (shown k m h was)));

@@ -8,8 +8,8 @@ use Rattle.std.proofs.lemmas.List.Quantifiers.{all_pairs_push}
 use Rattle.nfs_attrs.specs.declared.moment.Moment.{Moment}
 use Rattle.nfs_inodes.specs.Tree.{Tree, File, Kind, Regular, Directory, Link, Entry, Volume, at, with_at, on_some, one_when, entries_in, bytes_in, is_directory, parent_in, next_cookie_in, names_in, names_of, names_directory, subdirectories, nlink, bytes_of, files_of}
 use Rattle.nfs_inodes.specs.Law.{Law, LawBut, IsSound, AreVolumes, IsName, IsRoot, AreRising, Lives, LivesAsDirectory, parent_of}
-use Rattle.nfs_inodes.specs.Changes.{changed, entered, with_entry, gained}
-use Rattle.nfs_inodes.specs.Reading.{numbered}
+use Rattle.nfs_inodes.specs.Changes.{with_file, entered, kind_with_entry, with_entry}
+use Rattle.nfs_inodes.specs.Reading.{numbered_files}
 use Rattle.nfs_handles.specs.NumberedFiles.{IsNumbered}
 use Rattle.nfs_inodes.proofs.Numbers.{numbers_changed}
 use Rattle.nfs_inodes.proofs.Lists.{by_test, by_number, if_true, if_false, same_some, not_both, none_from}
@@ -18,7 +18,7 @@ use Rattle.nfs_inodes.proofs.Alike.{Placed, placed_itself, climb_alike, not_root
 
 -- the new tree has one entry more, in directory d
 pub record HasMore (d : ℕ) (new_entry : Entry) (old new : Tree) : Type 0 where
-  pub numbers : IsNumbered (numbered old) → IsNumbered (numbered new)
+  pub numbers : IsNumbered (numbered_files old) → IsNumbered (numbered_files new)
   pub rising : AreRising 0 new.files new.next
   pub volumes : new.volumes ≡ old.volumes
   pub back : (m : ℕ) (h : File) → Lives new m h → (f : File) × Lives old m f × Placed f h × ((e : Entry) → Contains (entries_in h.kind) e → Contains (entries_in f.kind) e ⊎ ((m ≡ d) × (new_entry ≡ e)))
@@ -136,12 +136,12 @@ entered_placed f name n now = by_kind f.kind
     by_kind (Directory parent next entries) = record { tag = refl; volume = refl; directory = refl; parent = refl }
     by_kind (Link path) = record { tag = refl; volume = refl; directory = refl; parent = refl }
 
-pub entered_entries : (k : Kind) (name : List ℕ) (n : ℕ) → is_directory k ≡ true → entries_in (with_entry k name n) ≡ entries_in k ++ record { cookie = next_cookie_in k; name = name; number = n } ∷ []
+pub entered_entries : (k : Kind) (name : List ℕ) (n : ℕ) → is_directory k ≡ true → entries_in (kind_with_entry k name n) ≡ entries_in k ++ record { cookie = next_cookie_in k; name = name; number = n } ∷ []
 entered_entries (Regular bytes) name n e = cc
 entered_entries (Directory parent next entries) name n e = refl
 entered_entries (Link path) name n e = cc
 
-pub entered_bytes : (k : Kind) (name : List ℕ) (n : ℕ) → bytes_in (with_entry k name n) ≡ bytes_in k
+pub entered_bytes : (k : Kind) (name : List ℕ) (n : ℕ) → bytes_in (kind_with_entry k name n) ≡ bytes_in k
 entered_bytes (Regular bytes) name n = refl
 entered_bytes (Directory parent next entries) name n = refl
 entered_bytes (Link path) name n = refl
@@ -168,7 +168,7 @@ entered_sound f name n now r s is_name fresh = by_kind f.kind r s fresh
     by_kind (Link path) e s h = cc
 
 -- one entry more in one directory
-pub one_more : (t : Tree) (d n : ℕ) (now : Moment) (name : List ℕ) (f : File) → AreRising 0 t.files t.next → LivesAsDirectory t d f → HasMore d (record { cookie = next_cookie_in f.kind; name = name; number = n }) t (changed t d (entered f name n now))
+pub one_more : (t : Tree) (d n : ℕ) (now : Moment) (name : List ℕ) (f : File) → AreRising 0 t.files t.next → LivesAsDirectory t d f → HasMore d (record { cookie = next_cookie_in f.kind; name = name; number = n }) t (with_file t d (entered f name n now))
 one_more t d n now name f rising at_d =
     let g : File = entered f name n now in
     let e0 : Entry = record { cookie = next_cookie_in f.kind; name = name; number = n } in
@@ -207,10 +207,10 @@ one_more t d n now name f rising at_d =
 -- ---- the links after it
 
 -- directory d gains the link of a subdirectory
-pub nlink_there : (t : Tree) (d n : ℕ) (now : Moment) (name : List ℕ) (f file : File) → LivesAsDirectory t d f → Lives t n file → nlink (changed t d (entered f name n now)).files d (entered f name n now) ≡ nlink t.files d f + one_when (is_directory file.kind)
+pub nlink_there : (t : Tree) (d n : ℕ) (now : Moment) (name : List ℕ) (f file : File) → LivesAsDirectory t d f → Lives t n file → nlink (with_file t d (entered f name n now)).files d (entered f name n now) ≡ nlink t.files d f + one_when (is_directory file.kind)
 nlink_there t d n now name f file at_d at_n =
     let g : File = entered f name n now in
-    let new : List (ℕ × File) = (changed t d g).files in
+    let new : List (ℕ × File) = (with_file t d g).files in
     let e0 : Entry = record { cookie = next_cookie_in f.kind; name = name; number = n } in
     let placed : Placed f g = entered_placed f name n now in
     let is_dir : is_directory g.kind ≡ true = placed.directory ∙ at_d.1 in
@@ -223,10 +223,10 @@ nlink_there t d n now name f file at_d at_n =
     omega (arith, now_links, old_links, same, more, is)
 
 -- any other file has the links of its names
-pub nlink_elsewhere : (t : Tree) (d n : ℕ) (now : Moment) (name : List ℕ) (f : File) → AreRising 0 t.files t.next → LivesAsDirectory t d f → (m : ℕ) (h : File) → (is_directory h.kind ≡ true → nlink (changed t d (entered f name n now)).files m h ≡ nlink t.files m h) × (is_directory h.kind ≡ false → nlink (changed t d (entered f name n now)).files m h ≡ nlink t.files m h + one_when (nat_eq n m))
+pub nlink_elsewhere : (t : Tree) (d n : ℕ) (now : Moment) (name : List ℕ) (f : File) → AreRising 0 t.files t.next → LivesAsDirectory t d f → (m : ℕ) (h : File) → (is_directory h.kind ≡ true → nlink (with_file t d (entered f name n now)).files m h ≡ nlink t.files m h) × (is_directory h.kind ≡ false → nlink (with_file t d (entered f name n now)).files m h ≡ nlink t.files m h + one_when (nat_eq n m))
 nlink_elsewhere t d n now name f rising at_d m h =
     let g : File = entered f name n now in
-    let new : List (ℕ × File) = (changed t d g).files in
+    let new : List (ℕ × File) = (with_file t d g).files in
     let placed : Placed f g = entered_placed f name n now in (
       λ y. let a : nlink new m h ≡ 2 + subdirectories new (entries_in h.kind) = if_true _ _ y in
           let b : nlink t.files m h ≡ 2 + subdirectories t.files (entries_in h.kind) = if_true _ _ y in
@@ -238,10 +238,10 @@ nlink_elsewhere t d n now name f rising at_d m h =
           omega (arith, a, b, told),
     )
 
-links_after : (x : ℕ) (t : Tree) (d n : ℕ) (now : Moment) (name : List ℕ) (law : LawBut x t) (may : MayGain x t d name n) → (m : ℕ) (h : File) → Lives (changed t d (entered may.dir name n now)) m h → nlink (changed t d (entered may.dir name n now)).files m h ≤ 1000
+links_after : (x : ℕ) (t : Tree) (d n : ℕ) (now : Moment) (name : List ℕ) (law : LawBut x t) (may : MayGain x t d name n) → (m : ℕ) (h : File) → Lives (with_file t d (entered may.dir name n now)) m h → nlink (with_file t d (entered may.dir name n now)).files m h ≤ 1000
 links_after x t d n now name law may m h e =
     let g : File = entered may.dir name n now in
-    let files : List (ℕ × File) = (changed t d g).files in
+    let files : List (ℕ × File) = (with_file t d g).files in
     with_back d m may.dir g h t.files may.at_dir.0 e
     (λ s is. let told = nlink_there t d n now name may.dir may.file may.at_dir may.at_file in
     let old_links : nlink t.files d may.dir ≡ 2 + subdirectories t.files (entries_in may.dir.kind) = if_true _ _ may.at_dir.1 in
@@ -268,15 +268,15 @@ links_after x t d n now name law may m h e =
     one_when_below true = omega arith
     one_when_below false = omega arith
 
-pub gained_is : (t : Tree) (d n : ℕ) (now : Moment) (name : List ℕ) (f : File) → Lives t d f → gained t d name n now ≡ changed t d (entered f name n now)
-gained_is t d n now name f at_d = ap (λ o. on_some o t (λ h. changed t d (entered h name n now))) at_d
+pub gained_is : (t : Tree) (d n : ℕ) (now : Moment) (name : List ℕ) (f : File) → Lives t d f → with_entry t d name n now ≡ with_file t d (entered f name n now)
+gained_is t d n now name f at_d = ap (λ o. on_some o t (λ h. with_file t d (entered h name n now))) at_d
 
-pub law_gained : (x : ℕ) (t : Tree) (d n : ℕ) (now : Moment) (name : List ℕ) → LawBut x t → MayGain x t d name n → Law (gained t d name n now)
-law_gained x t d n now name law may =
+pub law_with_entry : (x : ℕ) (t : Tree) (d n : ℕ) (now : Moment) (name : List ℕ) → LawBut x t → MayGain x t d name n → Law (with_entry t d name n now)
+law_with_entry x t d n now name law may =
     let g : File = entered may.dir name n now in
     let placed : Placed may.dir g = entered_placed may.dir name n now in
     subst Law (sym (gained_is t d n now name may.dir may.at_dir.0))
-    (law_more x d n name (next_cookie_in may.dir.kind) t (changed t d g) law (one_more t d n now name may.dir law.rising may.at_dir) may (record {
+    (law_more x d n name (next_cookie_in may.dir.kind) t (with_file t d g) law (one_more t d n now name may.dir law.rising may.at_dir) may (record {
       sound = λ m h e. with_back d m may.dir g h t.files may.at_dir.0 e
           (λ s is. subst IsSound is (entered_sound may.dir name n now may.at_dir.1 (law.sound d may.dir may.at_dir.0) may.is_name may.fresh))
           (λ o was. law.sound m h was);

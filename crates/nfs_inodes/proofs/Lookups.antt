@@ -5,7 +5,7 @@ use Rattle.std.specs.List.{find}
 use Rattle.nfs_inodes.specs.Tree.{Tree, File, Kind, Entry, Regular, Directory, Link, at, on_some, entries_in, is_directory, parent_in, nlink}
 use Rattle.nfs_inodes.specs.Law.{Law, Lives}
 use Rattle.nfs_inodes.specs.Laws.{LiveTogether}
-use Rattle.nfs_inodes.specs.Reading.{dot, dot_dot, found, listing, attributes_of, attributes_at}
+use Rattle.nfs_inodes.specs.Reading.{dot, dot_dot, number_under, listing, attributes_of, attributes_at}
 use Rattle.nfs_inodes.proofs.Lists.{by_test, same_some, not_both}
 use Rattle.nfs_inodes.proofs.Views.{mapped}
 
@@ -55,10 +55,10 @@ module _ (t : Tree) (law : Law t) (d n : ℕ) (name : List ℕ) where
   of None a e = absurd (not_both refl e)
   of (Some f) a e = let g = in_kind f a f.kind refl e in record { dir = f; at_dir = (a, of_directory f.kind e); file = g.0; at_file = g.1; volume = g.2 }
 
-  pub found_lives : found t d name ≡ Some n → LiveTogether t d n
+  pub found_lives : number_under t d name ≡ Some n → LiveTogether t d n
   found_lives e = of (at d t.files) refl e
 
 -- nothing is found where nothing lives
-pub found_shown : (t : Tree) → Law t → (d n : ℕ) (name : List ℕ) → found t d name ≡ Some n → attributes_at t n ≡ None → ⊥
+pub found_shown : (t : Tree) → Law t → (d n : ℕ) (name : List ℕ) → number_under t d name ≡ Some n → attributes_at t n ≡ None → ⊥
 found_shown t law d n name e none = let both = found_lives t law d n name e in
     not_both none (ap (option_map (λ (f : File). attributes_of n f (nlink t.files n f))) both.at_file)

@@ -5,12 +5,12 @@ use Rattle.nfs_attrs.specs.declared.moment.Moment.{Moment}
 use Rattle.nfs_inodes.specs.declared.new_file.NewFile.{NewFile}
 use Rattle.nfs_inodes.specs.Tree.{Tree, File, Kind, Regular, Directory, Link, Entry, on_some, is_directory, entries_in, path_in, parent_in, bytes_in, next_cookie_in}
 use Rattle.nfs_inodes.specs.Law.{Law, IsName, IsSound}
-use Rattle.nfs_inodes.specs.Changes.{file_made, directory_made, link_made, volume_added, new_file, zeros}
+use Rattle.nfs_inodes.specs.Changes.{after_make_file, after_make_dir, after_make_link, after_add_volume, new_file, zeros}
 use Rattle.nfs_inodes.specs.Changes as changes
 use Rattle.nfs_inodes.specs.Conditions.{MayMake, MayMakeDirectory, MayMakeLink, MayAddVolume, IsNew}
 use Rattle.nfs_inodes.proofs.Bytes.{length_zeros}
-use Rattle.nfs_inodes.proofs.Births.{law_founded, MayBeFounded}
-use Rattle.nfs_inodes.proofs.Operations.{law_made}
+use Rattle.nfs_inodes.proofs.Births.{law_with_new_volume, MayBeFounded}
+use Rattle.nfs_inodes.proofs.Operations.{law_with_named_file}
 
 pub record IsFresh (d size : ℕ) (k : Kind) : Type 0 where
   pub empty : entries_in k ≡ []
@@ -82,22 +82,22 @@ may_be_founded t path max_bytes max_files tag given now f may fits is =
 
 -- ---- the law
 
-pub law_file_made : (t : Tree) (d size tag : ℕ) (name : List ℕ) (given : NewFile) (verifier : Option (List ℕ)) (now : Moment) → MayMake t d name size → tag < 2 ^ 32 → Law t → Law (file_made t d name size given verifier tag now)
-law_file_made t d size tag name given verifier now may fits law =
+pub law_after_make_file : (t : Tree) (d size tag : ℕ) (name : List ℕ) (given : NewFile) (verifier : Option (List ℕ)) (now : Moment) → MayMake t d name size → tag < 2 ^ 32 → Law t → Law (after_make_file t d name size given verifier tag now)
+law_after_make_file t d size tag name given verifier now may fits law =
     let f = new_file (changes.volume_of t d) (Regular (zeros size)) given verifier tag now in
-    law_made t d size name f now may law (new_here t d size name (Regular (zeros size)) given f may refl refl refl fits (fresh_file d size (zeros size) (length_zeros size))) impossible
+    law_with_named_file t d size name f now may law (new_here t d size name (Regular (zeros size)) given f may refl refl refl fits (fresh_file d size (zeros size) (length_zeros size))) impossible
 
-pub law_directory_made : (t : Tree) (d tag : ℕ) (name : List ℕ) (given : NewFile) (now : Moment) → MayMakeDirectory t d name → tag < 2 ^ 32 → Law t → Law (directory_made t d name given tag now)
-law_directory_made t d tag name given now may fits law =
+pub law_after_make_dir : (t : Tree) (d tag : ℕ) (name : List ℕ) (given : NewFile) (now : Moment) → MayMakeDirectory t d name → tag < 2 ^ 32 → Law t → Law (after_make_dir t d name given tag now)
+law_after_make_dir t d tag name given now may fits law =
     let f = new_file (changes.volume_of t d) (Directory d 3 []) given None tag now in
-    law_made t d 0 name f now may.make law (new_here t d 0 name (Directory d 3 []) given f may.make refl refl refl fits (fresh_directory d)) (λ y. may.links)
+    law_with_named_file t d 0 name f now may.make law (new_here t d 0 name (Directory d 3 []) given f may.make refl refl refl fits (fresh_directory d)) (λ y. may.links)
 
-pub law_link_made : (t : Tree) (d tag : ℕ) (name path : List ℕ) (given : NewFile) (now : Moment) → MayMakeLink t d name path → tag < 2 ^ 32 → Law t → Law (link_made t d name path given tag now)
-law_link_made t d tag name path given now may fits law =
+pub law_after_make_link : (t : Tree) (d tag : ℕ) (name path : List ℕ) (given : NewFile) (now : Moment) → MayMakeLink t d name path → tag < 2 ^ 32 → Law t → Law (after_make_link t d name path given tag now)
+law_after_make_link t d tag name path given now may fits law =
     let f = new_file (changes.volume_of t d) (Link path) given None tag now in
-    law_made t d 0 name f now may.make law (new_here t d 0 name (Link path) given f may.make refl refl refl fits (fresh_link d path may.long)) impossible
+    law_with_named_file t d 0 name f now may.make law (new_here t d 0 name (Link path) given f may.make refl refl refl fits (fresh_link d path may.long)) impossible
 
-pub law_volume_added : (t : Tree) (max_bytes max_files tag : ℕ) (path : List ℕ) (given : NewFile) (now : Moment) → MayAddVolume t path max_files → tag < 2 ^ 32 → Law t → Law (volume_added t path max_bytes max_files given tag now)
-law_volume_added t max_bytes max_files tag path given now may fits law =
+pub law_after_add_volume : (t : Tree) (max_bytes max_files tag : ℕ) (path : List ℕ) (given : NewFile) (now : Moment) → MayAddVolume t path max_files → tag < 2 ^ 32 → Law t → Law (after_add_volume t path max_bytes max_files given tag now)
+law_after_add_volume t max_bytes max_files tag path given now may fits law =
     let root = new_file (length t.volumes) (Directory t.next 3 []) given None tag now in
-    law_founded t (record { path = path; max_bytes = max_bytes; max_files = max_files; root = t.next }) root law (may_be_founded t path max_bytes max_files tag given now root may fits refl)
+    law_with_new_volume t (record { path = path; max_bytes = max_bytes; max_files = max_files; root = t.next }) root law (may_be_founded t path max_bytes max_files tag given now root may fits refl)

@@ -4,8 +4,8 @@ use Rattle.nfs_handles.specs.NumberedFiles.{TaggedFile, NumberedFiles, with_new,
 use Rattle.nfs_handles.proofs.Numbers.{numbered_new, numbered_value}
 use Rattle.nfs_inodes.specs.Tree.{Tree, File, with_at}
 use Rattle.nfs_inodes.specs.Law.{Lives}
-use Rattle.nfs_inodes.specs.Reading.{numbered}
-use Rattle.nfs_inodes.specs.Changes.{born, changed}
+use Rattle.nfs_inodes.specs.Reading.{numbered_files}
+use Rattle.nfs_inodes.specs.Changes.{with_new_file, with_file}
 use Rattle.nfs_inodes.proofs.Maps.{at_shows, shows_with, shows_push}
 
 abbrev tagged : File → TaggedFile File
@@ -14,16 +14,16 @@ tagged f = record { tag = f.tag; value = f }
 abbrev with_files : Tree → ℕ → List (ℕ × TaggedFile File) → NumberedFiles File
 with_files t next files = record { files = files; next = next; key = t.key }
 
-pub numbered_born : (t : Tree) (f : File) → numbered (born t f) ≡ with_new (numbered t) f.tag f
+pub numbered_born : (t : Tree) (f : File) → numbered_files (with_new_file t f) ≡ with_new (numbered_files t) f.tag f
 numbered_born t f = ap (with_files t (t.next + 1)) (shows_push tagged t.next f t.files)
 
-pub numbered_changed : (t : Tree) (n : ℕ) (f g : File) → Lives t n f → g.tag ≡ f.tag → numbered (changed t n g) ≡ with_value (numbered t) n g
+pub numbered_changed : (t : Tree) (n : ℕ) (f g : File) → Lives t n f → g.tag ≡ f.tag → numbered_files (with_file t n g) ≡ with_value (numbered_files t) n g
 numbered_changed t n f g at_n same =
-    ap (with_files t t.next) (shows_with tagged n g t.files ∙ ap (λ tag. with_at n (record { tag = tag; value = g }) (numbered t).files) same)
-    ∙ sym (ap (revalued (numbered t) n g) (at_shows tagged n t.files ∙ ap (option_map tagged) at_n))
+    ap (with_files t t.next) (shows_with tagged n g t.files ∙ ap (λ tag. with_at n (record { tag = tag; value = g }) (numbered_files t).files) same)
+    ∙ sym (ap (revalued (numbered_files t) n g) (at_shows tagged n t.files ∙ ap (option_map tagged) at_n))
 
-pub numbers_born : (t : Tree) (f : File) → IsNumbered (numbered t) → f.tag < 2 ^ 32 → t.next < 2 ^ 64 - 1 → IsNumbered (numbered (born t f))
-numbers_born t f h fits room = subst IsNumbered (sym (numbered_born t f)) (numbered_new (numbered t) f.tag f h fits (omega (arith, room)))
+pub numbers_born : (t : Tree) (f : File) → IsNumbered (numbered_files t) → f.tag < 2 ^ 32 → t.next < 2 ^ 64 - 1 → IsNumbered (numbered_files (with_new_file t f))
+numbers_born t f h fits room = subst IsNumbered (sym (numbered_born t f)) (numbered_new (numbered_files t) f.tag f h fits (omega (arith, room)))
 
-pub numbers_changed : (t : Tree) (n : ℕ) (f g : File) → Lives t n f → g.tag ≡ f.tag → IsNumbered (numbered t) → IsNumbered (numbered (changed t n g))
-numbers_changed t n f g at_n same h = subst IsNumbered (sym (numbered_changed t n f g at_n same)) (numbered_value (numbered t) n g h)
+pub numbers_changed : (t : Tree) (n : ℕ) (f g : File) → Lives t n f → g.tag ≡ f.tag → IsNumbered (numbered_files t) → IsNumbered (numbered_files (with_file t n g))
+numbers_changed t n f g at_n same h = subst IsNumbered (sym (numbered_changed t n f g at_n same)) (numbered_value (numbered_files t) n g h)

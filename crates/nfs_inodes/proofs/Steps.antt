@@ -10,12 +10,12 @@ use Rattle.nfs_inodes.specs.declared.stored_file.StoredFile.{StoredFile}
 use Rattle.nfs_inodes.specs.declared.stored_volume.StoredVolume.{StoredVolume}
 use Rattle.nfs_inodes.specs.Tree.{Tree, File, Kind, Directory, Volume, on_some, is_directory, is_regular, bytes_in, next_cookie_in, nlink, bytes_of, files_of}
 use Rattle.nfs_inodes.specs.Law.{IsSound}
-use Rattle.nfs_inodes.specs.Changes.{made, Makes, entered, new_file, linked, written, overwritten, changed, volume_added, founded}
+use Rattle.nfs_inodes.specs.Changes.{with_named_file, Makes, entered, new_file, after_link, after_write_at, file_with_bytes, with_file, after_add_volume, with_new_volume}
 use Rattle.nfs_inodes.specs.Changes as changes
 use Rattle.nfs_inodes.specs.declared.new_file.NewFile.{NewFile}
 use Rattle.nfs_inodes.specs.Conditions.{MayEnter, MayMake, MayLink, MayWrite, MayAddVolume, IsNew}
 use Rattle.nfs_inodes.specs.Counts.{CountedFile, CountedVolume, CountedTree, Agrees, tree_in, with_totals}
-use Rattle.nfs_inodes.specs.Storage.{file_of, entry_of, held_of, helds, counted_of, kept_of}
+use Rattle.nfs_inodes.specs.Storage.{file_of, entry_of, counted_file_of, counted_files, counted_volume_of, counted_tree_of}
 use Rattle.nfs_inodes.specs.StoredFiles.{TakesEntry, AddsFile, TakesLink, LinksFile, TakesBytes, WritesFile}
 use Rattle.nfs_inodes.specs.declared.stored_files.Growth.{Growth}
 use Rattle.nfs_inodes.specs.StepConditions.{MayAdd, HasRoomFor, retagged}
@@ -23,28 +23,28 @@ use Rattle.nfs_inodes.proofs.Lists.{same_some}
 use Rattle.nfs_handles.specs.Changes.{Adds}
 use Rattle.std.proofs.lemmas.List.{map-append, length-map}
 use Rattle.nfs_inodes.proofs.Maps.{rising_bounds, shows_push}
-use Rattle.nfs_inodes.proofs.StoredFiles.{held, at_held}
-use Rattle.nfs_inodes.proofs.Counts.{KeepsNew, kept_made, view_made, keeps_made}
-use Rattle.nfs_inodes.proofs.CountsMore.{kept_linked, KeepsLink, view_linked, keeps_linked, kept_written, KeepsBytes, view_written, keeps_written, kept_founded, view_founded, keeps_founded}
+use Rattle.nfs_inodes.proofs.StoredFiles.{counted_file, at_counted_file}
+use Rattle.nfs_inodes.proofs.Counts.{CountsNewFile, counted_after_make, view_after_make, agree_after_make}
+use Rattle.nfs_inodes.proofs.CountsMore.{counted_after_link, CountsLink, view_after_link, agree_after_link, counted_after_write, CountsBytes, view_after_write, agree_after_write, counted_after_add_volume, view_after_add_volume, agree_after_add_volume}
 use Rattle.nfs_inodes.proofs.Operations.{apart_kinds}
 use Rattle.nfs_inodes.proofs.NewFiles.{IsFresh, new_here, may_be_founded, impossible}
 use Rattle.nfs_inodes.proofs.Births.{MayBeFounded}
-use Rattle.nfs_inodes.proofs.Views.{lives, kept_at, share_at, share_counted}
+use Rattle.nfs_inodes.proofs.Views.{lives, kept_at, stored_volume_at, stored_volume_counted}
 
-kept_parts : (k l : CountedTree) → l.files ≡ k.files → l.next ≡ k.next → l.key ≡ k.key → l.volumes ≡ k.volumes → l ≡ k
-kept_parts k l f n e v =
+counted_parts : (k l : CountedTree) → l.files ≡ k.files → l.next ≡ k.next → l.key ≡ k.key → l.volumes ≡ k.volumes → l ≡ k
+counted_parts k l f n e v =
     ap (λ x. make x l.next l.key l.volumes) f ∙ ap (λ x. make k.files x l.key l.volumes) n ∙ ap (λ x. make k.files k.next x l.volumes) e ∙ ap (λ x. make k.files k.next k.key x) v
   where
     make : List (ℕ × CountedFile) → ℕ → List ℕ → List CountedVolume → CountedTree
     make f n e v = record { files = f; next = n; key = e; volumes = v }
 
 -- directory d of the tree takes an entry
-pub takes_entry : (a : NumberedFiles StoredFile) (shares : List StoredVolume) (d : ℕ) (name : List ℕ) → Agrees (kept_of a shares) → MayEnter (tree_in (kept_of a shares)) d name → TakesEntry a d
-takes_entry a shares d name keeps enter =
-    let t : Tree = tree_in (kept_of a shares) in
-    let f = kept_at a shares t refl d enter.dir enter.at_dir.0 in
+pub takes_entry : (a : NumberedFiles StoredFile) (stored_volumes : List StoredVolume) (d : ℕ) (name : List ℕ) → Agrees (counted_tree_of a stored_volumes) → MayEnter (tree_in (counted_tree_of a stored_volumes)) d name → TakesEntry a d
+takes_entry a stored_volumes d name keeps enter =
+    let t : Tree = tree_in (counted_tree_of a stored_volumes) in
+    let f = kept_at a stored_volumes t refl d enter.dir enter.at_dir.0 in
     let few = keeps.law.links d enter.dir enter.at_dir.0 in
-    let are = keeps.links d (held f.0) (at_held a d f.0 f.1) in
+    let are = keeps.links d (counted_file f.0) (at_counted_file a d f.0 f.1) in
     let same : nlink t.files d (file_of f.0.tag f.0.value) ≡ nlink t.files d enter.dir = ap (nlink t.files d) f.2 in
     let low = enter.cookie in
     let cookies : next_cookie_in (file_of f.0.tag f.0.value).kind ≡ next_cookie_in enter.dir.kind = ap (λ (f : File). next_cookie_in f.kind) f.2 in
@@ -58,85 +58,85 @@ takes_entry a shares d name keeps enter =
     }
 
 -- the share of a volume of the tree, and what it counts
-pub share_of : (a : NumberedFiles StoredFile) (shares : List StoredVolume) (place : ℕ) (v : Volume) → Agrees (kept_of a shares) → slice_get (tree_in (kept_of a shares)).volumes place ≡ Some v →
-    (s : StoredVolume) × (slice_get shares place ≡ Some s) × (s.bytes ≡ bytes_of place (tree_in (kept_of a shares)).files) × (s.files ≡ files_of place (tree_in (kept_of a shares)).files) × (v.max_bytes < 18446744073709551616) × (v.max_files < 18446744073709551616)
-share_of a shares place v keeps e =
-    let s = share_at shares place v e in
-    let c = share_counted shares place s.0 s.1 in
-    let t = keeps.totals place (counted_of s.0) c in
-    let l = keeps.limits place (counted_of s.0) c in
+pub stored_volume_of : (a : NumberedFiles StoredFile) (stored_volumes : List StoredVolume) (place : ℕ) (v : Volume) → Agrees (counted_tree_of a stored_volumes) → slice_get (tree_in (counted_tree_of a stored_volumes)).volumes place ≡ Some v →
+    (s : StoredVolume) × (slice_get stored_volumes place ≡ Some s) × (s.bytes ≡ bytes_of place (tree_in (counted_tree_of a stored_volumes)).files) × (s.files ≡ files_of place (tree_in (counted_tree_of a stored_volumes)).files) × (v.max_bytes < 18446744073709551616) × (v.max_files < 18446744073709551616)
+stored_volume_of a stored_volumes place v keeps e =
+    let s = stored_volume_at stored_volumes place v e in
+    let c = stored_volume_counted stored_volumes place s.0 s.1 in
+    let t = keeps.totals place (counted_volume_of s.0) c in
+    let l = keeps.limits place (counted_volume_of s.0) c in
     (s.0, s.1, t.bytes, t.files, subst (λ (v : Volume). v.max_bytes < 18446744073709551616) s.2 l.0, subst (λ (v : Volume). v.max_files < 18446744073709551616) s.2 l.1)
 
-module _ (a : NumberedFiles StoredFile) (shares : List StoredVolume) (d : ℕ) (name : List ℕ) (inode : StoredFile) (keeps : Agrees (kept_of a shares)) (may : MayAdd (tree_in (kept_of a shares)) d name inode) where
+module _ (a : NumberedFiles StoredFile) (stored_volumes : List StoredVolume) (d : ℕ) (name : List ℕ) (stored_file : StoredFile) (keeps : Agrees (counted_tree_of a stored_volumes)) (may : MayAdd (tree_in (counted_tree_of a stored_volumes)) d name stored_file) where
   abbrev t : Tree
-  t = tree_in (kept_of a shares)
+  t = tree_in (counted_tree_of a stored_volumes)
 
   abbrev size : ℕ
-  size = length (bytes_in (file_of 0 inode).kind)
+  size = length (bytes_in (file_of 0 stored_file).kind)
 
   pub takes_here : TakesEntry a d
-  takes_here = takes_entry a shares d name keeps may.may.enter
+  takes_here = takes_entry a stored_volumes d name keeps may.may.enter
 
-  pub room_here : HasRoomFor shares inode.volume size 1
+  pub room_here : HasRoomFor stored_volumes stored_file.volume size 1
   room_here =
-      let at_place : slice_get t.volumes inode.volume ≡ Some may.may.volume = ap (slice_get t.volumes) may.is_new.volume ∙ may.may.at_volume in
-      let s = share_of a shares inode.volume may.may.volume keeps at_place in
+      let at_place : slice_get t.volumes stored_file.volume ≡ Some may.may.volume = ap (slice_get t.volumes) may.is_new.volume ∙ may.may.at_volume in
+      let s = stored_volume_of a stored_volumes stored_file.volume may.may.volume keeps at_place in
       let bytes = s.2 in let files = s.3 in let wide = s.4 in let wide_files = s.5 in
-      let same_bytes : bytes_of inode.volume t.files ≡ bytes_of may.may.enter.dir.volume t.files = ap (λ k. bytes_of k t.files) may.is_new.volume in
-      let same_files : files_of inode.volume t.files ≡ files_of may.may.enter.dir.volume t.files = ap (λ k. files_of k t.files) may.is_new.volume in
+      let same_bytes : bytes_of stored_file.volume t.files ≡ bytes_of may.may.enter.dir.volume t.files = ap (λ k. bytes_of k t.files) may.is_new.volume in
+      let same_files : files_of stored_file.volume t.files ≡ files_of may.may.enter.dir.volume t.files = ap (λ k. files_of k t.files) may.is_new.volume in
       let room = may.may.bytes in let few = may.may.files in
       record {
-        share = s.0;
+        stored_volume = s.0;
         at_place = s.1;
         bytes_fit = omega (arith, bytes, wide, same_bytes, room);
         files_fit = omega (arith, files, wide_files, same_files, few);
       }
 
-  module _ (now : Moment) (b : NumberedFiles StoredFile) (news : List StoredVolume) (adds : AddsFile a d name inode now b) (counts : map counted_of news ≡ with_totals (map counted_of shares) inode.volume size 1) where
+  module _ (now : Moment) (b : NumberedFiles StoredFile) (news : List StoredVolume) (adds : AddsFile a d name stored_file now b) (counts : map counted_volume_of news ≡ with_totals (map counted_volume_of stored_volumes) stored_file.volume size 1) where
     abbrev dir_held : CountedFile
-    dir_held = held adds.dir
+    dir_held = counted_file adds.dir
 
     abbrev dir_now : CountedFile
-    dir_now = held_of adds.dir.tag adds.value
+    dir_now = counted_file_of adds.dir.tag adds.value
 
     abbrev new_held : CountedFile
-    new_held = held_of adds.tag inode
+    new_held = counted_file_of adds.tag stored_file
 
-    kept_is : kept_of b news ≡ kept_made (kept_of a shares) d dir_now new_held inode.volume size
-    kept_is = kept_parts (kept_made (kept_of a shares) d dir_now new_held inode.volume size) (kept_of b news) adds.files adds.next adds.key counts
+    counted_is : counted_tree_of b news ≡ counted_after_make (counted_tree_of a stored_volumes) d dir_now new_held stored_file.volume size
+    counted_is = counted_parts (counted_after_make (counted_tree_of a stored_volumes) d dir_now new_held stored_file.volume size) (counted_tree_of b news) adds.files adds.next adds.key counts
 
-    has : KeepsNew (kept_of a shares) d size name now dir_held dir_now new_held
+    has : CountsNewFile (counted_tree_of a stored_volumes) d size name now dir_held dir_now new_held
     has = record {
       may = may.may;
-      at_dir = at_held a d adds.dir adds.at_dir;
+      at_dir = at_counted_file a d adds.dir adds.at_dir;
       entered = ap (λ (f : File). retagged f adds.dir.tag) adds.enters.file;
       links = adds.enters.nlink;
       first_links = may.nlink;
-      new_file = record { tag = adds.fits; sound = retagged_sound (file_of 0 inode) adds.tag may.is_new.sound; volume = may.is_new.volume; empty = may.is_new.empty; bytes = may.is_new.bytes; parent = may.is_new.parent };
+      new_file = record { tag = adds.fits; sound = retagged_sound (file_of 0 stored_file) adds.tag may.is_new.sound; volume = may.is_new.volume; empty = may.is_new.empty; bytes = may.is_new.bytes; parent = may.is_new.parent };
       few = may.links;
     }
       where
         retagged_sound : (f : File) (tag : ℕ) → IsSound f → IsSound (retagged f tag)
         retagged_sound f tag s = record { mode = s.mode; bytes = s.bytes; path = s.path; names = s.names; cookies = s.cookies; next_cookie = s.next_cookie; apart = s.apart }
 
-    pub keeps_added : Agrees (kept_of b news)
-    keeps_added = subst Agrees (sym kept_is) (keeps_made (kept_of a shares) d size name now dir_held dir_now new_held inode.volume keeps has same_volume)
+    pub stored_agree_after_make : Agrees (counted_tree_of b news)
+    stored_agree_after_make = subst Agrees (sym counted_is) (agree_after_make (counted_tree_of a stored_volumes) d size name now dir_held dir_now new_held stored_file.volume keeps has same_volume)
       where
-        same_volume : inode.volume ≡ dir_held.file.volume
-        same_volume = may.is_new.volume ∙ ap (λ (f : File). f.volume) (same_some (sym may.may.enter.at_dir.0 ∙ lives a shares d adds.dir adds.at_dir))
+        same_volume : stored_file.volume ≡ dir_held.file.volume
+        same_volume = may.is_new.volume ∙ ap (λ (f : File). f.volume) (same_some (sym may.may.enter.at_dir.0 ∙ lives a stored_volumes d adds.dir adds.at_dir))
 
-    pub view_added : Makes (λ tag. made (tree_in (kept_of a shares)) d name (retagged (file_of 0 inode) tag) now) (tree_in (kept_of b news))
-    view_added = record {
+    pub stored_view_after_make : Makes (λ tag. with_named_file (tree_in (counted_tree_of a stored_volumes)) d name (retagged (file_of 0 stored_file) tag) now) (tree_in (counted_tree_of b news))
+    stored_view_after_make = record {
       tag = adds.tag;
       fits = adds.fits;
-      new_is = ap tree_in kept_is ∙ view_made (kept_of a shares) d size name now dir_held dir_now new_held inode.volume keeps.law has;
+      new_is = ap tree_in counted_is ∙ view_after_make (counted_tree_of a stored_volumes) d size name now dir_held dir_now new_held stored_file.volume keeps.law has;
     }
 
 -- ---- a file to be added
 
-pub may_add : (t : Tree) (d size : ℕ) (name : List ℕ) (k : Kind) (given : NewFile) (verifier : Option (List ℕ)) (now : Moment) (inode : StoredFile) (place : ℕ) (may : MayMake t d name size) → place ≡ changes.volume_of t d → file_of 0 inode ≡ new_file place k given verifier 0 now → inode.nlink ≡ (if is_directory k then 2 else 1) → IsFresh d size k → (is_directory k ≡ true → nlink t.files d may.enter.dir < 1000) → MayAdd t d name inode
-may_add t d size name k given verifier now inode place may is_place is links fresh few =
-    let f : File = file_of 0 inode in
+pub may_add : (t : Tree) (d size : ℕ) (name : List ℕ) (k : Kind) (given : NewFile) (verifier : Option (List ℕ)) (now : Moment) (stored_file : StoredFile) (place : ℕ) (may : MayMake t d name size) → place ≡ changes.volume_of t d → file_of 0 stored_file ≡ new_file place k given verifier 0 now → stored_file.nlink ≡ (if is_directory k then 2 else 1) → IsFresh d size k → (is_directory k ≡ true → nlink t.files d may.enter.dir < 1000) → MayAdd t d name stored_file
+may_add t d size name k given verifier now stored_file place may is_place is links fresh few =
+    let f : File = file_of 0 stored_file in
     let kind : f.kind ≡ k = ap (λ (f : File). f.kind) is in
     let long : size ≡ length (bytes_in f.kind) = sym (ap (λ k. length (bytes_in k)) kind ∙ fresh.bytes) in
     let new : IsNew d size may.enter.dir f = new_here t d size name k given f may kind (ap (λ (f : File). f.volume) is ∙ is_place) (ap (λ (f : File). f.mode) is) (subst (λ n. n < 4294967296) (sym (ap (λ (f : File). f.tag) is)) (omega arith)) fresh in
@@ -151,16 +151,16 @@ may_add t d size name k given verifier now inode place may is_place is links fre
 
 -- ---- a link
 
-pub may_link : (a : NumberedFiles StoredFile) (shares : List StoredVolume) (n d : ℕ) (name given : List ℕ) (t : Tree) → tree_in (kept_of a shares) ≡ t → name ≡ given → MayLink t n d given → MayLink (tree_in (kept_of a shares)) n d name
-may_link a shares n d name given t view is may = subst (λ (t : Tree). MayLink t n d name) (sym view) (subst (λ (name : List ℕ). MayLink t n d name) (sym is) may)
+pub may_link : (a : NumberedFiles StoredFile) (stored_volumes : List StoredVolume) (n d : ℕ) (name given : List ℕ) (t : Tree) → tree_in (counted_tree_of a stored_volumes) ≡ t → name ≡ given → MayLink t n d given → MayLink (tree_in (counted_tree_of a stored_volumes)) n d name
+may_link a stored_volumes n d name given t view is may = subst (λ (t : Tree). MayLink t n d name) (sym view) (subst (λ (name : List ℕ). MayLink t n d name) (sym is) may)
 
-module _ (a : NumberedFiles StoredFile) (shares : List StoredVolume) (n d : ℕ) (name : List ℕ) (keeps : Agrees (kept_of a shares)) (may : MayLink (tree_in (kept_of a shares)) n d name) where
+module _ (a : NumberedFiles StoredFile) (stored_volumes : List StoredVolume) (n d : ℕ) (name : List ℕ) (keeps : Agrees (counted_tree_of a stored_volumes)) (may : MayLink (tree_in (counted_tree_of a stored_volumes)) n d name) where
   pub takes_link : TakesLink a n d
   takes_link =
-      let t : Tree = tree_in (kept_of a shares) in
-      let f = kept_at a shares t refl n may.file may.at_file in
+      let t : Tree = tree_in (counted_tree_of a stored_volumes) in
+      let f = kept_at a stored_volumes t refl n may.file may.at_file in
       let few = keeps.law.links n may.file may.at_file in
-      let are = keeps.links n (held f.0) (at_held a n f.0 f.1) in
+      let are = keeps.links n (counted_file f.0) (at_counted_file a n f.0 f.1) in
       let same : nlink t.files n (file_of f.0.tag f.0.value) ≡ nlink t.files n may.file = ap (nlink t.files n) f.2 in
       record {
         file = f.0;
@@ -171,97 +171,97 @@ module _ (a : NumberedFiles StoredFile) (shares : List StoredVolume) (n d : ℕ)
 
   module _ (now : Moment) (b : NumberedFiles StoredFile) (links : LinksFile a n d name now b) where
     abbrev file_then : CountedFile
-    file_then = held links.file
+    file_then = counted_file links.file
 
     abbrev file_since : CountedFile
-    file_since = held_of links.file.tag links.file_now
+    file_since = counted_file_of links.file.tag links.file_now
 
     abbrev dir_then : CountedFile
-    dir_then = held links.dir
+    dir_then = counted_file links.dir
 
     abbrev dir_since : CountedFile
-    dir_since = held_of links.dir.tag links.dir_now
+    dir_since = counted_file_of links.dir.tag links.dir_now
 
-    linked_kept : kept_of b shares ≡ kept_linked (kept_of a shares) n file_since d dir_since
-    linked_kept = kept_parts (kept_linked (kept_of a shares) n file_since d dir_since) (kept_of b shares) links.files links.next links.key refl
+    linked_kept : counted_tree_of b stored_volumes ≡ counted_after_link (counted_tree_of a stored_volumes) n file_since d dir_since
+    linked_kept = counted_parts (counted_after_link (counted_tree_of a stored_volumes) n file_since d dir_since) (counted_tree_of b stored_volumes) links.files links.next links.key refl
 
-    has_link : KeepsLink (kept_of a shares) n d name now file_then file_since dir_then dir_since
+    has_link : CountsLink (counted_tree_of a stored_volumes) n d name now file_then file_since dir_then dir_since
     has_link = record {
       may = may;
-      at_file = at_held a n links.file links.at_file;
+      at_file = at_counted_file a n links.file links.at_file;
       touched = ap (λ (f : File). retagged f links.file.tag) links.gains.file;
       one_more = links.gains.nlink;
-      at_dir = at_held a d links.dir links.at_dir;
+      at_dir = at_counted_file a d links.dir links.at_dir;
       entered = ap (λ (f : File). retagged f links.dir.tag) links.enters.file;
       same_links = let l = links.enters.nlink in omega (arith, l);
     }
 
-    pub keeps_link : Agrees (kept_of b shares)
-    keeps_link = subst Agrees (sym linked_kept) (keeps_linked (kept_of a shares) n d name now file_then file_since dir_then dir_since keeps has_link)
+    pub stored_agree_after_link : Agrees (counted_tree_of b stored_volumes)
+    stored_agree_after_link = subst Agrees (sym linked_kept) (agree_after_link (counted_tree_of a stored_volumes) n d name now file_then file_since dir_then dir_since keeps has_link)
 
-    pub view_link : tree_in (kept_of b shares) ≡ linked (tree_in (kept_of a shares)) n d name now
-    view_link = ap tree_in linked_kept ∙ view_linked (kept_of a shares) n d name now file_then file_since dir_then dir_since keeps has_link
+    pub stored_view_after_link : tree_in (counted_tree_of b stored_volumes) ≡ after_link (tree_in (counted_tree_of a stored_volumes)) n d name now
+    stored_view_after_link = ap tree_in linked_kept ∙ view_after_link (counted_tree_of a stored_volumes) n d name now file_then file_since dir_then dir_since keeps has_link
 
 -- ---- bytes
 
-module _ (a : NumberedFiles StoredFile) (shares : List StoredVolume) (n offset : ℕ) (bytes : List ℕ) (keeps : Agrees (kept_of a shares)) (may : MayWrite (tree_in (kept_of a shares)) n offset (length bytes)) (some : 0 < length bytes) where
+module _ (a : NumberedFiles StoredFile) (stored_volumes : List StoredVolume) (n offset : ℕ) (bytes : List ℕ) (keeps : Agrees (counted_tree_of a stored_volumes)) (may : MayWrite (tree_in (counted_tree_of a stored_volumes)) n offset (length bytes)) (some : 0 < length bytes) where
   pub takes_bytes : TakesBytes a n offset (length bytes)
   takes_bytes =
-      let f = kept_at a shares (tree_in (kept_of a shares)) refl n may.file may.at_file in
+      let f = kept_at a stored_volumes (tree_in (counted_tree_of a stored_volumes)) refl n may.file may.at_file in
       record { file = f.0; at_file = f.1; regular = ap (λ (f : File). is_regular f.kind) f.2 ∙ may.regular; large = may.large some }
 
   module _ (now : Moment) (growth : Growth) (b : NumberedFiles StoredFile) (writes : WritesFile a n offset bytes now growth b) where
     the_file : file_of writes.file.tag writes.file.value ≡ may.file
-    the_file = same_some (sym (lives a shares n writes.file writes.at_file) ∙ may.at_file)
+    the_file = same_some (sym (lives a stored_volumes n writes.file writes.at_file) ∙ may.at_file)
 
     home : growth.place ≡ may.file.volume
     home = writes.place ∙ ap (λ (f : File). f.volume) the_file
 
-    pub room_to_grow : HasRoomFor shares growth.place growth.bytes 0
+    pub room_to_grow : HasRoomFor stored_volumes growth.place growth.bytes 0
     room_to_grow =
-        let t : Tree = tree_in (kept_of a shares) in
-        let s = share_of a shares growth.place may.volume keeps (ap (slice_get t.volumes) home ∙ may.at_volume) in
+        let t : Tree = tree_in (counted_tree_of a stored_volumes) in
+        let s = stored_volume_of a stored_volumes growth.place may.volume keeps (ap (slice_get t.volumes) home ∙ may.at_volume) in
         let has = s.2 in let files = s.3 in let wide = s.4 in let wide_files = s.5 in
         let room = may.room some in let grown = writes.grown in
         let long : length (bytes_in (file_of 0 writes.file.value).kind) ≡ length (bytes_in may.file.kind) = ap (λ (f : File). length (bytes_in f.kind)) the_file in
         let same : bytes_of growth.place t.files ≡ bytes_of may.file.volume t.files = ap (λ k. bytes_of k t.files) home in
         let v = keeps.law.count growth.place may.volume (ap (slice_get t.volumes) home ∙ may.at_volume) in
-        record { share = s.0; at_place = s.1; bytes_fit = omega (arith, has, wide, room, grown, long, same); files_fit = omega (arith, files, wide_files, v) }
+        record { stored_volume = s.0; at_place = s.1; bytes_fit = omega (arith, has, wide, room, grown, long, same); files_fit = omega (arith, files, wide_files, v) }
 
-    module _ (news : List StoredVolume) (counts : map counted_of news ≡ with_totals (map counted_of shares) growth.place growth.bytes 0) where
+    module _ (news : List StoredVolume) (counts : map counted_volume_of news ≡ with_totals (map counted_volume_of stored_volumes) growth.place growth.bytes 0) where
       abbrev then_held : CountedFile
-      then_held = held writes.file
+      then_held = counted_file writes.file
 
       abbrev since_held : CountedFile
-      since_held = held_of writes.file.tag writes.file_now
+      since_held = counted_file_of writes.file.tag writes.file_now
 
       abbrev size_grown : ℕ
       size_grown = offset + length bytes - length (bytes_in (file_of 0 writes.file.value).kind)
 
-      written_kept : kept_of b news ≡ kept_written (kept_of a shares) n since_held growth.place size_grown
-      written_kept = kept_parts (kept_written (kept_of a shares) n since_held growth.place size_grown) (kept_of b news) writes.files writes.next writes.key
-          (counts ∙ ap (λ g. with_totals (map counted_of shares) growth.place g 0) writes.grown)
+      written_kept : counted_tree_of b news ≡ counted_after_write (counted_tree_of a stored_volumes) n since_held growth.place size_grown
+      written_kept = counted_parts (counted_after_write (counted_tree_of a stored_volumes) n since_held growth.place size_grown) (counted_tree_of b news) writes.files writes.next writes.key
+          (counts ∙ ap (λ g. with_totals (map counted_volume_of stored_volumes) growth.place g 0) writes.grown)
 
-      has_bytes : KeepsBytes (kept_of a shares) n offset bytes now then_held since_held
-      has_bytes = record { may = may; some = some; at_file = at_held a n writes.file writes.at_file; overwritten = ap (λ (f : File). retagged f writes.file.tag) writes.overwritten; same_links = writes.nlink }
+      has_bytes : CountsBytes (counted_tree_of a stored_volumes) n offset bytes now then_held since_held
+      has_bytes = record { may = may; some = some; at_file = at_counted_file a n writes.file writes.at_file; file_with_bytes = ap (λ (f : File). retagged f writes.file.tag) writes.file_with_bytes; same_links = writes.nlink }
 
-      pub keeps_bytes : Agrees (kept_of b news)
-      keeps_bytes = subst Agrees (sym written_kept) (keeps_written (kept_of a shares) n offset bytes now then_held since_held growth.place keeps has_bytes writes.place)
+      pub stored_agree_after_write : Agrees (counted_tree_of b news)
+      stored_agree_after_write = subst Agrees (sym written_kept) (agree_after_write (counted_tree_of a stored_volumes) n offset bytes now then_held since_held growth.place keeps has_bytes writes.place)
 
-      pub view_bytes : tree_in (kept_of b news) ≡ written (tree_in (kept_of a shares)) n offset bytes now
-      view_bytes = ap tree_in written_kept ∙ view_written (kept_of a shares) n offset bytes now then_held since_held growth.place keeps has_bytes writes.place ∙ sym (by_bytes bytes some)
+      pub stored_view_after_write : tree_in (counted_tree_of b news) ≡ after_write_at (tree_in (counted_tree_of a stored_volumes)) n offset bytes now
+      stored_view_after_write = ap tree_in written_kept ∙ view_after_write (counted_tree_of a stored_volumes) n offset bytes now then_held since_held growth.place keeps has_bytes writes.place ∙ sym (by_bytes bytes some)
         where
-          by_bytes : (bs : List ℕ) → 0 < length bs → written (tree_in (kept_of a shares)) n offset bs now ≡ changed (tree_in (kept_of a shares)) n (overwritten then_held.file offset bs now)
+          by_bytes : (bs : List ℕ) → 0 < length bs → after_write_at (tree_in (counted_tree_of a stored_volumes)) n offset bs now ≡ with_file (tree_in (counted_tree_of a stored_volumes)) n (file_with_bytes then_held.file offset bs now)
           by_bytes [] some = absurd (omega (arith, some))
-          by_bytes (x ∷ xs) some = ap (λ o. on_some o (tree_in (kept_of a shares)) (λ f. changed (tree_in (kept_of a shares)) n (overwritten f offset (x ∷ xs) now))) (lives a shares n writes.file writes.at_file)
+          by_bytes (x ∷ xs) some = ap (λ o. on_some o (tree_in (counted_tree_of a stored_volumes)) (λ f. with_file (tree_in (counted_tree_of a stored_volumes)) n (file_with_bytes f offset (x ∷ xs) now))) (lives a stored_volumes n writes.file writes.at_file)
 
 -- ---- a volume
 
-pub unchanged : (a b : NumberedFiles StoredFile) (shares news : List StoredVolume) → b ≡ a → news ≡ shares → Agrees (kept_of a shares) → Agrees (kept_of b news)
-unchanged a b shares news e f keeps = subst (λ (b : NumberedFiles StoredFile). Agrees (kept_of b news)) (sym e) (subst (λ (n : List StoredVolume). Agrees (kept_of a n)) (sym f) keeps)
+pub unchanged : (a b : NumberedFiles StoredFile) (stored_volumes news : List StoredVolume) → b ≡ a → news ≡ stored_volumes → Agrees (counted_tree_of a stored_volumes) → Agrees (counted_tree_of b news)
+unchanged a b stored_volumes news e f keeps = subst (λ (b : NumberedFiles StoredFile). Agrees (counted_tree_of b news)) (sym e) (subst (λ (n : List StoredVolume). Agrees (counted_tree_of a n)) (sym f) keeps)
 
-pub may_found : (a : NumberedFiles StoredFile) (shares : List StoredVolume) (max_files : ℕ) (path given : List ℕ) (t : Tree) → tree_in (kept_of a shares) ≡ t → path ≡ given → MayAddVolume t given max_files → MayAddVolume (tree_in (kept_of a shares)) path max_files
-may_found a shares max_files path given t view is may = subst (λ (t : Tree). MayAddVolume t path max_files) (sym view) (subst (λ (path : List ℕ). MayAddVolume t path max_files) (sym is) may)
+pub may_found : (a : NumberedFiles StoredFile) (stored_volumes : List StoredVolume) (max_files : ℕ) (path given : List ℕ) (t : Tree) → tree_in (counted_tree_of a stored_volumes) ≡ t → path ≡ given → MayAddVolume t given max_files → MayAddVolume (tree_in (counted_tree_of a stored_volumes)) path max_files
+may_found a stored_volumes max_files path given t view is may = subst (λ (t : Tree). MayAddVolume t path max_files) (sym view) (subst (λ (path : List ℕ). MayAddVolume t path max_files) (sym is) may)
 
 pub root_file : (f : File) (place places next number : ℕ) (given : NewFile) (now : Moment) (entries : List StoredEntry) → place ≡ places → next ≡ number → entries ≡ [] → f ≡ new_file place (Directory next 3 (map entry_of entries)) given None 0 now → f ≡ new_file places (Directory number 3 []) given None 0 now
 root_file f place places next number given now entries a b e is =
@@ -276,38 +276,38 @@ some_bytes (b ∷ bs) e = omega arith
 pub bounded : {n : ℕ} → Fits w64 n → n < 18446744073709551616
 bounded f = f.fits
 
-module _ (a : NumberedFiles StoredFile) (shares : List StoredVolume) (path : List ℕ) (max_bytes max_files : ℕ) (given : NewFile) (now : Moment) (keeps : Agrees (kept_of a shares)) (may : MayAddVolume (tree_in (kept_of a shares)) path max_files) (inode : StoredFile) where
+module _ (a : NumberedFiles StoredFile) (stored_volumes : List StoredVolume) (path : List ℕ) (max_bytes max_files : ℕ) (given : NewFile) (now : Moment) (keeps : Agrees (counted_tree_of a stored_volumes)) (may : MayAddVolume (tree_in (counted_tree_of a stored_volumes)) path max_files) (stored_file : StoredFile) where
   abbrev the_volume : Volume
   the_volume = record { path = path; max_bytes = max_bytes; max_files = max_files; root = a.next }
 
-  module _ (is : file_of 0 inode ≡ new_file (length shares) (Directory a.next 3 []) given None 0 now) (two : inode.nlink ≡ 2) (wide : max_bytes < 18446744073709551616) (wide_files : max_files < 18446744073709551616)
-      (b : NumberedFiles StoredFile) (adds : Adds a inode b) (share : StoredVolume) (counted : counted_of share ≡ record { volume = the_volume; bytes = 0; files = 1 }) where
+  module _ (is : file_of 0 stored_file ≡ new_file (length stored_volumes) (Directory a.next 3 []) given None 0 now) (two : stored_file.nlink ≡ 2) (wide : max_bytes < 18446744073709551616) (wide_files : max_files < 18446744073709551616)
+      (b : NumberedFiles StoredFile) (adds : Adds a stored_file b) (stored_volume : StoredVolume) (counted : counted_volume_of stored_volume ≡ record { volume = the_volume; bytes = 0; files = 1 }) where
     abbrev root_held : CountedFile
-    root_held = held_of adds.tag inode
+    root_held = counted_file_of adds.tag stored_file
 
-    places : length (tree_in (kept_of a shares)).volumes ≡ length shares
-    places = length-map (map counted_of shares) (λ (c : CountedVolume). c.volume) ∙ length-map shares counted_of
+    places : length (tree_in (counted_tree_of a stored_volumes)).volumes ≡ length stored_volumes
+    places = length-map (map counted_volume_of stored_volumes) (λ (c : CountedVolume). c.volume) ∙ length-map stored_volumes counted_volume_of
 
-    root_is : root_held.file ≡ new_file (length (tree_in (kept_of a shares)).volumes) (Directory a.next 3 []) given None adds.tag now
+    root_is : root_held.file ≡ new_file (length (tree_in (counted_tree_of a stored_volumes)).volumes) (Directory a.next 3 []) given None adds.tag now
     root_is = ap (λ (f : File). retagged f adds.tag) is ∙ ap (λ n. new_file n (Directory a.next 3 []) given None adds.tag now) (sym places)
 
-    founded_kept : kept_of b (shares ++ share ∷ []) ≡ kept_founded (kept_of a shares) the_volume root_held
-    founded_kept = kept_parts (kept_founded (kept_of a shares) the_volume root_held) (kept_of b (shares ++ share ∷ []))
-        (ap (λ (k : NumberedFiles StoredFile). helds k.files) adds.new_is ∙ shows_push held a.next (record { tag = adds.tag; value = inode }) a.files)
+    founded_kept : counted_tree_of b (stored_volumes ++ stored_volume ∷ []) ≡ counted_after_add_volume (counted_tree_of a stored_volumes) the_volume root_held
+    founded_kept = counted_parts (counted_after_add_volume (counted_tree_of a stored_volumes) the_volume root_held) (counted_tree_of b (stored_volumes ++ stored_volume ∷ []))
+        (ap (λ (k : NumberedFiles StoredFile). counted_files k.files) adds.new_is ∙ shows_push counted_file a.next (record { tag = adds.tag; value = stored_file }) a.files)
         (ap (λ (k : NumberedFiles StoredFile). k.next) adds.new_is)
         (ap (λ (k : NumberedFiles StoredFile). k.key) adds.new_is)
-        (map-append counted_of shares (share ∷ []) ∙ ap (λ c. map counted_of shares ++ c ∷ []) counted)
+        (map-append counted_volume_of stored_volumes (stored_volume ∷ []) ∙ ap (λ c. map counted_volume_of stored_volumes ++ c ∷ []) counted)
 
-    may_be : MayBeFounded (tree_in (kept_of a shares)) the_volume root_held.file
-    may_be = may_be_founded (tree_in (kept_of a shares)) path max_bytes max_files adds.tag given now root_held.file may adds.fits root_is
+    may_be : MayBeFounded (tree_in (counted_tree_of a stored_volumes)) the_volume root_held.file
+    may_be = may_be_founded (tree_in (counted_tree_of a stored_volumes)) path max_bytes max_files adds.tag given now root_held.file may adds.fits root_is
 
-    pub keeps_volume : Agrees (kept_of b (shares ++ share ∷ []))
-    keeps_volume = subst Agrees (sym founded_kept) (keeps_founded (kept_of a shares) the_volume root_held keeps may_be two wide wide_files)
+    pub stored_agree_after_add_volume : Agrees (counted_tree_of b (stored_volumes ++ stored_volume ∷ []))
+    stored_agree_after_add_volume = subst Agrees (sym founded_kept) (agree_after_add_volume (counted_tree_of a stored_volumes) the_volume root_held keeps may_be two wide wide_files)
 
-    pub view_volume : Makes (λ tag. volume_added (tree_in (kept_of a shares)) path max_bytes max_files given tag now) (tree_in (kept_of b (shares ++ share ∷ [])))
-    view_volume = record {
+    pub stored_view_after_add_volume : Makes (λ tag. after_add_volume (tree_in (counted_tree_of a stored_volumes)) path max_bytes max_files given tag now) (tree_in (counted_tree_of b (stored_volumes ++ stored_volume ∷ [])))
+    stored_view_after_add_volume = record {
       tag = adds.tag;
       fits = adds.fits;
-      new_is = ap tree_in founded_kept ∙ view_founded (kept_of a shares) the_volume root_held
-          ∙ ap (founded (tree_in (kept_of a shares)) the_volume) root_is;
+      new_is = ap tree_in founded_kept ∙ view_after_add_volume (counted_tree_of a stored_volumes) the_volume root_held
+          ∙ ap (with_new_volume (tree_in (counted_tree_of a stored_volumes)) the_volume) root_is;
     }

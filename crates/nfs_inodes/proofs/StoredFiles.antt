@@ -8,10 +8,10 @@ use Rattle.nfs_attrs.specs.declared.moment.Moment.{Moment}
 use Rattle.nfs_handles.specs.Changes.{Adds, Puts}
 use Rattle.nfs_handles.specs.declared.fault.PutFault.{PutFault}
 use Rattle.nfs_handles.specs.declared.fault.PutFault.TheVariants.{Spent, Memory}
-use Rattle.nfs_inodes.specs.Changes.{entered, overwritten}
+use Rattle.nfs_inodes.specs.Changes.{entered, file_with_bytes}
 use Rattle.nfs_inodes.specs.Tree.{File, with_at, one_when, is_directory, is_regular, bytes_in, next_cookie_in}
 use Rattle.nfs_inodes.specs.Counts.{CountedFile}
-use Rattle.nfs_inodes.specs.Storage.{file_of, held_of, helds, HasRoom}
+use Rattle.nfs_inodes.specs.Storage.{file_of, counted_file_of, counted_files, HasRoom}
 use Rattle.nfs_inodes.specs.StoredFiles.{TakesEntry, Revalues, SameFile, SameFiles, Enters, AddsFile, TakesLink, GainsLink, LinksFile, TakesBytes, WritesFile}
 use Rattle.nfs_inodes.specs.declared.stored_files.Growth.{Growth}
 use Rattle.nfs_inodes.proofs.Lists.{same_some}
@@ -20,8 +20,8 @@ use Rattle.nfs_inodes.proofs.Operations.{overwritten_bytes}
 use Rattle.nfs_inodes.proofs.Maps.{at_shows, shows_with, shows_push, at_with_same, at_with_other, at_push_other}
 
 -- what is shown of a kept file
-abbrev pub held : TaggedFile StoredFile → CountedFile
-held f = held_of f.tag f.value
+abbrev pub counted_file : TaggedFile StoredFile → CountedFile
+counted_file f = counted_file_of f.tag f.value
 
 pub value_found : (t : NumberedFiles StoredFile) (n : ℕ) (f : TaggedFile StoredFile) (i : StoredFile) → at t n ≡ Some f → Some i ≡ value_at t n → i ≡ f.value
 value_found t n f i e v = same_some (v ∙ ap (option_map (λ (f : TaggedFile StoredFile). f.value)) e)
@@ -36,16 +36,16 @@ at_value_same t n f w e = ap (λ (u : NumberedFiles StoredFile). at u n) (with_v
 pub at_value_other : (t : NumberedFiles StoredFile) (n m : ℕ) (f : TaggedFile StoredFile) (w : StoredFile) → at t n ≡ Some f → m ≢ n → at (with_value t n w) m ≡ at t m
 at_value_other t n m f w e o = ap (λ (u : NumberedFiles StoredFile). at u m) (with_value_is t n f w e) ∙ at_with_other n m (record { tag = f.tag; value = w }) t.files o
 
-pub helds_value : (t : NumberedFiles StoredFile) (n : ℕ) (f : TaggedFile StoredFile) (w : StoredFile) → at t n ≡ Some f → helds (with_value t n w).files ≡ with_at n (held_of f.tag w) (helds t.files)
-helds_value t n f w e = ap (λ (u : NumberedFiles StoredFile). helds u.files) (with_value_is t n f w e) ∙ shows_with held n (record { tag = f.tag; value = w }) t.files
+pub helds_value : (t : NumberedFiles StoredFile) (n : ℕ) (f : TaggedFile StoredFile) (w : StoredFile) → at t n ≡ Some f → counted_files (with_value t n w).files ≡ with_at n (counted_file_of f.tag w) (counted_files t.files)
+helds_value t n f w e = ap (λ (u : NumberedFiles StoredFile). counted_files u.files) (with_value_is t n f w e) ∙ shows_with counted_file n (record { tag = f.tag; value = w }) t.files
 
 pub next_value : (t : NumberedFiles StoredFile) (n : ℕ) (f : TaggedFile StoredFile) (w : StoredFile) → at t n ≡ Some f → ((with_value t n w).next ≡ t.next) × ((with_value t n w).key ≡ t.key)
 next_value t n f w e = (ap (λ (u : NumberedFiles StoredFile). u.next) (with_value_is t n f w e), ap (λ (u : NumberedFiles StoredFile). u.key) (with_value_is t n f w e))
 
-pub at_held : (t : NumberedFiles StoredFile) (n : ℕ) (f : TaggedFile StoredFile) → at t n ≡ Some f → Rattle.nfs_inodes.specs.Tree.at n (helds t.files) ≡ Some (held f)
-at_held t n f e = at_shows held n t.files ∙ ap (option_map held) e
+pub at_counted_file : (t : NumberedFiles StoredFile) (n : ℕ) (f : TaggedFile StoredFile) → at t n ≡ Some f → Rattle.nfs_inodes.specs.Tree.at n (counted_files t.files) ≡ Some (counted_file f)
+at_counted_file t n f e = at_shows counted_file n t.files ∙ ap (option_map counted_file) e
 
-same_held : (tag : ℕ) (old new : StoredFile) → SameFile old new → held_of tag new ≡ held_of tag old
+same_held : (tag : ℕ) (old new : StoredFile) → SameFile old new → counted_file_of tag new ≡ counted_file_of tag old
 same_held tag old new s = both (ap (λ (f : File). record f { tag = tag }) s.file) s.nlink
   where
     make : File → ℕ → CountedFile
@@ -57,10 +57,10 @@ same_held tag old new s = both (ap (λ (f : File). record f { tag = tag }) s.fil
 -- a value that shows the same
 pub same_files : (old new : NumberedFiles StoredFile) (n : ℕ) → Revalues old n SameFile new → SameFiles old new
 same_files old new n r =
-    let here : held_of r.was.tag r.value ≡ held r.was = same_held r.was.tag r.was.value r.value r.from in
+    let here : counted_file_of r.was.tag r.value ≡ counted_file r.was = same_held r.was.tag r.was.value r.value r.from in
     record {
-      files = ap (λ (u : NumberedFiles StoredFile). helds u.files) r.new_is ∙ helds_value old n r.was r.value r.at_was ∙ ap (λ h. with_at n h (helds old.files)) here
-          ∙ set_value_same (nat_eq n) (helds old.files) (held r.was) (at_held old n r.was r.at_was);
+      files = ap (λ (u : NumberedFiles StoredFile). counted_files u.files) r.new_is ∙ helds_value old n r.was r.value r.at_was ∙ ap (λ h. with_at n h (counted_files old.files)) here
+          ∙ set_value_same (nat_eq n) (counted_files old.files) (counted_file r.was) (at_counted_file old n r.was r.at_was);
       next = ap (λ (u : NumberedFiles StoredFile). u.next) r.new_is ∙ (next_value old n r.was r.value r.at_was).0;
       key = ap (λ (u : NumberedFiles StoredFile). u.key) r.new_is ∙ (next_value old n r.was r.value r.at_was).1;
     }
@@ -85,7 +85,7 @@ room_there t n f w e h i v = subst HasRoom (same_some (sym (ap (option_map (λ (
 pub on_new : (t u : NumberedFiles StoredFile) (v : StoredFile) (adds : Adds t v u) (m : ℕ) → m ≢ t.next → at u m ≡ at t m
 on_new t u v adds m o = ap (λ (k : NumberedFiles StoredFile). at k m) adds.new_is ∙ at_push_other t.next m (record { tag = adds.tag; value = v }) t.files o
 
-module _ (t0 t1 t2 : NumberedFiles StoredFile) (d : ℕ) (inode : StoredFile) (takes : TakesEntry t0 d) (reserved : Revalues t0 d SameFile t1) (adds : Adds t1 inode t2) where
+module _ (t0 t1 t2 : NumberedFiles StoredFile) (d : ℕ) (stored_file : StoredFile) (takes : TakesEntry t0 d) (reserved : Revalues t0 d SameFile t1) (adds : Adds t1 stored_file t2) where
   same_dir : reserved.was ≡ takes.dir
   same_dir = same_some (sym reserved.at_was ∙ takes.at_dir)
 
@@ -100,7 +100,7 @@ module _ (t0 t1 t2 : NumberedFiles StoredFile) (d : ℕ) (inode : StoredFile) (t
   at_1 = ap (λ (k : NumberedFiles StoredFile). at k d) reserved.new_is ∙ at_value_same t0 d reserved.was reserved.value reserved.at_was
 
   pub at_2 : at t2 d ≡ Some its
-  at_2 = on_new t1 t2 inode adds d apart ∙ at_1
+  at_2 = on_new t1 t2 stored_file adds d apart ∙ at_1
 
   same_file : file_of 0 reserved.value ≡ file_of 0 takes.dir.value
   same_file = reserved.from.file ∙ ap (λ (f : TaggedFile StoredFile). file_of 0 f.value) same_dir
@@ -119,9 +119,9 @@ module _ (t0 t1 t2 : NumberedFiles StoredFile) (d : ℕ) (inode : StoredFile) (t
   }
 
   pub room_twice : ((i : StoredFile) → value_at t1 d ≡ Some i → HasRoom i) → (i : StoredFile) → value_at t2 d ≡ Some i → HasRoom i
-  room_twice has i v = has i (ap (option_map (λ (f : TaggedFile StoredFile). f.value)) (sym (on_new t1 t2 inode adds d apart)) ∙ v)
+  room_twice has i v = has i (ap (option_map (λ (f : TaggedFile StoredFile). f.value)) (sym (on_new t1 t2 stored_file adds d apart)) ∙ v)
 
-  pub added : (t3 : NumberedFiles StoredFile) (name : List ℕ) (number links : ℕ) (now : Moment) → Revalues t2 d (Enters name number links now) t3 → number ≡ t1.next → links ≡ one_when (is_directory (file_of 0 inode).kind) → AddsFile t0 d name inode now t3
+  pub added : (t3 : NumberedFiles StoredFile) (name : List ℕ) (number links : ℕ) (now : Moment) → Revalues t2 d (Enters name number links now) t3 → number ≡ t1.next → links ≡ one_when (is_directory (file_of 0 stored_file).kind) → AddsFile t0 d name stored_file now t3
   added t3 name number links now enters is_next are_links =
       let was_its : enters.was ≡ its = same_some (sym enters.at_was ∙ at_2) in
       let dir_value : Enters name number links now reserved.value enters.value = subst (λ (f : TaggedFile StoredFile). Enters name number links now f.value enters.value) was_its enters.from in
@@ -135,13 +135,13 @@ module _ (t0 t1 t2 : NumberedFiles StoredFile) (d : ℕ) (inode : StoredFile) (t
         value = enters.value;
         enters = record {
           file = dir_value.file ∙ ap (λ n. entered (file_of 0 reserved.value) name n now) is_number ∙ ap (λ f. entered f name t0.next now) same_file;
-          nlink = dir_value.nlink ∙ ap (λ l. reserved.value.nlink + l) are_links ∙ ap (λ n. n + one_when (is_directory (file_of 0 inode).kind)) (reserved.from.nlink ∙ ap (λ (f : TaggedFile StoredFile). f.value.nlink) same_dir);
+          nlink = dir_value.nlink ∙ ap (λ l. reserved.value.nlink + l) are_links ∙ ap (λ n. n + one_when (is_directory (file_of 0 stored_file).kind)) (reserved.from.nlink ∙ ap (λ (f : TaggedFile StoredFile). f.value.nlink) same_dir);
         };
-        files = ap (λ (k : NumberedFiles StoredFile). helds k.files) enters.new_is ∙ helds_value t2 d enters.was enters.value enters.at_was
-            ∙ ap (λ t. with_at d (held_of t enters.value) (helds t2.files)) tags
-            ∙ ap (with_at d (held_of takes.dir.tag enters.value)) (ap (λ (k : NumberedFiles StoredFile). helds k.files) adds.new_is ∙ shows_push held t1.next (record { tag = adds.tag; value = inode }) t1.files
-            ∙ ap (λ n. helds t1.files ++ (n, held_of adds.tag inode) ∷ []) next_1
-            ∙ ap (λ l. l ++ (t0.next, held_of adds.tag inode) ∷ []) (same_files t0 t1 d reserved).files);
+        files = ap (λ (k : NumberedFiles StoredFile). counted_files k.files) enters.new_is ∙ helds_value t2 d enters.was enters.value enters.at_was
+            ∙ ap (λ t. with_at d (counted_file_of t enters.value) (counted_files t2.files)) tags
+            ∙ ap (with_at d (counted_file_of takes.dir.tag enters.value)) (ap (λ (k : NumberedFiles StoredFile). counted_files k.files) adds.new_is ∙ shows_push counted_file t1.next (record { tag = adds.tag; value = stored_file }) t1.files
+            ∙ ap (λ n. counted_files t1.files ++ (n, counted_file_of adds.tag stored_file) ∷ []) next_1
+            ∙ ap (λ l. l ++ (t0.next, counted_file_of adds.tag stored_file) ∷ []) (same_files t0 t1 d reserved).files);
         next = ap (λ (k : NumberedFiles StoredFile). k.next) enters.new_is ∙ (next_value t2 d enters.was enters.value enters.at_was).0 ∙ ap (λ (k : NumberedFiles StoredFile). k.next) adds.new_is ∙ ap (λ n. n + 1) next_1;
         key = ap (λ (k : NumberedFiles StoredFile). k.key) enters.new_is ∙ (next_value t2 d enters.was enters.value enters.at_was).1 ∙ ap (λ (k : NumberedFiles StoredFile). k.key) adds.new_is ∙ (same_files t0 t1 d reserved).key;
       }
@@ -176,9 +176,9 @@ module _ (t0 t1 t2 : NumberedFiles StoredFile) (n d : ℕ) (now : Moment) (takes
   same_dir_file : file_of 0 reserved.value ≡ file_of 0 takes.dir.value
   same_dir_file = reserved.from.file ∙ ap (λ (f : TaggedFile StoredFile). file_of 0 f.value) its_dir
 
-  module _ (gained : Revalues t1 n (GainsLink now) t2) where
+  module _ (with_entry : Revalues t1 n (GainsLink now) t2) where
     at_dir_2 : at t2 d ≡ Some dir_1
-    at_dir_2 = ap (λ (k : NumberedFiles StoredFile). at k d) gained.new_is ∙ at_value_other t1 n d gained.was gained.value gained.at_was link.other ∙ at_dir_1
+    at_dir_2 = ap (λ (k : NumberedFiles StoredFile). at k d) with_entry.new_is ∙ at_value_other t1 n d with_entry.was with_entry.value with_entry.at_was link.other ∙ at_dir_1
 
     pub dir_for_link : TakesEntry t2 d
     dir_for_link = record {
@@ -188,7 +188,7 @@ module _ (t0 t1 t2 : NumberedFiles StoredFile) (n d : ℕ) (now : Moment) (takes
       next_cookie = subst (λ (f : File). next_cookie_in f.kind + 1 < 18446744073709551616) (sym same_dir_file) takes.next_cookie;
       nlink = let few = takes.nlink in let same : reserved.value.nlink ≡ takes.dir.value.nlink = reserved.from.nlink ∙ ap (λ (f : TaggedFile StoredFile). f.value.nlink) its_dir in omega (arith, few, same);
       below = let low = takes.below in
-          let a : t2.next ≡ t1.next = ap (λ (k : NumberedFiles StoredFile). k.next) gained.new_is ∙ (next_value t1 n gained.was gained.value gained.at_was).0 in
+          let a : t2.next ≡ t1.next = ap (λ (k : NumberedFiles StoredFile). k.next) with_entry.new_is ∙ (next_value t1 n with_entry.was with_entry.value with_entry.at_was).0 in
           let b = (same_files t0 t1 d reserved).next in omega (arith, low, a, b);
     }
 
@@ -198,15 +198,15 @@ module _ (t0 t1 t2 : NumberedFiles StoredFile) (n d : ℕ) (now : Moment) (takes
     pub linked_files : (t3 : NumberedFiles StoredFile) (name : List ℕ) → Revalues t2 d (Enters name n 0 now) t3 → LinksFile t0 n d name now t3
     linked_files t3 name enters =
         let was_dir : enters.was ≡ dir_1 = same_some (sym enters.at_was ∙ at_dir_2) in
-        let was_file : gained.was ≡ link.file = same_some (sym gained.at_was ∙ file_1) in
+        let was_file : with_entry.was ≡ link.file = same_some (sym with_entry.at_was ∙ file_1) in
         let value : Enters name n 0 now reserved.value enters.value = subst (λ (f : TaggedFile StoredFile). Enters name n 0 now f.value enters.value) was_dir enters.from in
         let dir_tag : enters.was.tag ≡ takes.dir.tag = ap (λ (f : TaggedFile StoredFile). f.tag) was_dir ∙ ap (λ (f : TaggedFile StoredFile). f.tag) its_dir in
-        let file_tag : gained.was.tag ≡ link.file.tag = ap (λ (f : TaggedFile StoredFile). f.tag) was_file in
+        let file_tag : with_entry.was.tag ≡ link.file.tag = ap (λ (f : TaggedFile StoredFile). f.tag) was_file in
         record {
           file = link.file;
           at_file = link.at_file;
-          file_now = gained.value;
-          gains = subst (λ (f : TaggedFile StoredFile). GainsLink now f.value gained.value) was_file gained.from;
+          file_now = with_entry.value;
+          gains = subst (λ (f : TaggedFile StoredFile). GainsLink now f.value with_entry.value) was_file with_entry.from;
           dir = takes.dir;
           at_dir = takes.at_dir;
           dir_now = enters.value;
@@ -214,13 +214,13 @@ module _ (t0 t1 t2 : NumberedFiles StoredFile) (n d : ℕ) (now : Moment) (takes
             file = value.file ∙ ap (λ f. entered f name n now) same_dir_file;
             nlink = value.nlink ∙ ap (λ k. k + 0) (reserved.from.nlink ∙ ap (λ (f : TaggedFile StoredFile). f.value.nlink) its_dir);
           };
-          files = ap (λ (k : NumberedFiles StoredFile). helds k.files) enters.new_is ∙ helds_value t2 d enters.was enters.value enters.at_was
-              ∙ ap (λ tag. with_at d (held_of tag enters.value) (helds t2.files)) dir_tag
-              ∙ ap (with_at d (held_of takes.dir.tag enters.value)) (ap (λ (k : NumberedFiles StoredFile). helds k.files) gained.new_is ∙ helds_value t1 n gained.was gained.value gained.at_was
-              ∙ ap (λ tag. with_at n (held_of tag gained.value) (helds t1.files)) file_tag
-              ∙ ap (with_at n (held_of link.file.tag gained.value)) (same_files t0 t1 d reserved).files);
-          next = ap (λ (k : NumberedFiles StoredFile). k.next) enters.new_is ∙ (next_value t2 d enters.was enters.value enters.at_was).0 ∙ ap (λ (k : NumberedFiles StoredFile). k.next) gained.new_is ∙ (next_value t1 n gained.was gained.value gained.at_was).0 ∙ (same_files t0 t1 d reserved).next;
-          key = ap (λ (k : NumberedFiles StoredFile). k.key) enters.new_is ∙ (next_value t2 d enters.was enters.value enters.at_was).1 ∙ ap (λ (k : NumberedFiles StoredFile). k.key) gained.new_is ∙ (next_value t1 n gained.was gained.value gained.at_was).1 ∙ (same_files t0 t1 d reserved).key;
+          files = ap (λ (k : NumberedFiles StoredFile). counted_files k.files) enters.new_is ∙ helds_value t2 d enters.was enters.value enters.at_was
+              ∙ ap (λ tag. with_at d (counted_file_of tag enters.value) (counted_files t2.files)) dir_tag
+              ∙ ap (with_at d (counted_file_of takes.dir.tag enters.value)) (ap (λ (k : NumberedFiles StoredFile). counted_files k.files) with_entry.new_is ∙ helds_value t1 n with_entry.was with_entry.value with_entry.at_was
+              ∙ ap (λ tag. with_at n (counted_file_of tag with_entry.value) (counted_files t1.files)) file_tag
+              ∙ ap (with_at n (counted_file_of link.file.tag with_entry.value)) (same_files t0 t1 d reserved).files);
+          next = ap (λ (k : NumberedFiles StoredFile). k.next) enters.new_is ∙ (next_value t2 d enters.was enters.value enters.at_was).0 ∙ ap (λ (k : NumberedFiles StoredFile). k.next) with_entry.new_is ∙ (next_value t1 n with_entry.was with_entry.value with_entry.at_was).0 ∙ (same_files t0 t1 d reserved).next;
+          key = ap (λ (k : NumberedFiles StoredFile). k.key) enters.new_is ∙ (next_value t2 d enters.was enters.value enters.at_was).1 ∙ ap (λ (k : NumberedFiles StoredFile). k.key) with_entry.new_is ∙ (next_value t1 n with_entry.was with_entry.value with_entry.at_was).1 ∙ (same_files t0 t1 d reserved).key;
         }
 
 -- ---- bytes
@@ -229,7 +229,7 @@ pub unwritten : (t : NumberedFiles StoredFile) (n : ℕ) (f : TaggedFile StoredF
 unwritten t n f i w e v file nlink = let s = value_found t n f i e v in
     same_files t (with_value t n w) n (record { was = f; at_was = e; value = w; from = record { file = file ∙ ap (file_of 0) s; nlink = nlink ∙ ap (λ (i : StoredFile). i.nlink) s }; new_is = refl })
 
-pub wrote : (t : NumberedFiles StoredFile) (n offset : ℕ) (bytes : List ℕ) (now : Moment) (takes : TakesBytes t n offset (length bytes)) (i w : StoredFile) (growth : Growth) → Some i ≡ value_at t n → file_of 0 w ≡ overwritten (file_of 0 i) offset bytes now → w.nlink ≡ i.nlink →
+pub wrote : (t : NumberedFiles StoredFile) (n offset : ℕ) (bytes : List ℕ) (now : Moment) (takes : TakesBytes t n offset (length bytes)) (i w : StoredFile) (growth : Growth) → Some i ≡ value_at t n → file_of 0 w ≡ file_with_bytes (file_of 0 i) offset bytes now → w.nlink ≡ i.nlink →
     growth.place ≡ w.volume → growth.bytes ≡ length (bytes_in (file_of 0 w).kind) - length (bytes_in (file_of 0 i).kind) → WritesFile t n offset bytes now growth (with_value t n w)
 wrote t n offset bytes now takes i w growth v file nlink place grown =
     let s = value_found t n takes.file i takes.at_file v in
@@ -241,7 +241,7 @@ wrote t n offset bytes now takes i w growth v file nlink place grown =
       file = takes.file;
       at_file = takes.at_file;
       file_now = w;
-      overwritten = file ∙ ap (λ i. overwritten (file_of 0 i) offset bytes now) s;
+      file_with_bytes = file ∙ ap (λ i. file_with_bytes (file_of 0 i) offset bytes now) s;
       nlink = nlink ∙ ap (λ (i : StoredFile). i.nlink) s;
       place = place ∙ ap (λ (f : File). f.volume) file ∙ ap (λ (i : StoredFile). i.volume) s;
       grown = omega (arith, grown, long, same);

@@ -15,12 +15,12 @@ use Rattle.nfs_inodes.specs.Tree.{Tree, File, Kind, Directory, Entry, Volume, en
 use Rattle.nfs_inodes.specs.Law.{Law, IsName, Lives}
 use Rattle.nfs_inodes.specs.Conditions.{MayEnter, MayMake, MayMakeDirectory, MayLink, MayWrite}
 use Rattle.nfs_inodes.specs.Counts.{CountedVolume, Agrees, tree_in}
-use Rattle.nfs_inodes.specs.Storage.{file_of, kind_of, entry_of, kept_of, counted_of, volume_of}
+use Rattle.nfs_inodes.specs.Storage.{file_of, kind_of, entry_of, counted_tree_of, counted_volume_of, volume_of}
 use Rattle.nfs_inodes.specs.StepConditions.{TakesName, TakesFile, MayGainLink, HasSpaceIn, HasRoomIn}
 use Rattle.nfs_inodes.specs.Reading.{place_where}
 use Rattle.nfs_inodes.proofs.Lists.{same_some, not_both, if_false}
-use Rattle.nfs_inodes.proofs.Views.{filed, lives_there, none_there, share_at, share_counted}
-use Rattle.nfs_inodes.proofs.StoredFiles.{held, at_held}
+use Rattle.nfs_inodes.proofs.Views.{filed, lives_there, none_there, stored_volume_at, stored_volume_counted}
+use Rattle.nfs_inodes.proofs.StoredFiles.{counted_file, at_counted_file}
 
 -- `false`, where it can't hold
 pub never : {P : Type 0} → (P → ⊥) → Decides false P
@@ -87,10 +87,10 @@ takes_name g i parent next_cookie entries es name o b is same below is_name sear
 
 -- ---- what is kept, and the tree
 
-module _ (a : NumberedFiles StoredFile) (shares : List StoredVolume) (t : Tree) (view : tree_in (kept_of a shares) ≡ t) where
+module _ (a : NumberedFiles StoredFile) (stored_volumes : List StoredVolume) (t : Tree) (view : tree_in (counted_tree_of a stored_volumes) ≡ t) where
   -- a kept file in the tree
   shown_there : (n : ℕ) (i : StoredFile) → Some i ≡ value_at a n → (tag : ℕ) × Lives t n (file_of tag i)
-  shown_there n i e = let k = filed a n i e in (k.0.tag, lives_there a shares t view n k.0 k.1 ∙ ap (λ i. Some (file_of k.0.tag i)) k.2)
+  shown_there n i e = let k = filed a n i e in (k.0.tag, lives_there a stored_volumes t view n k.0 k.1 ∙ ap (λ i. Some (file_of k.0.tag i)) k.2)
 
   -- and what is there under its number is like it
   like_there : (n : ℕ) (i : StoredFile) → Some i ≡ value_at a n → (f : File) → Lives t n f → (i.volume ≡ f.volume) × (kind_of i.node ≡ f.kind)
@@ -98,7 +98,7 @@ module _ (a : NumberedFiles StoredFile) (shares : List StoredVolume) (t : Tree) 
       (ap (λ (f : File). f.volume) same, ap (λ (f : File). f.kind) same)
 
   pub none_lives : (n : ℕ) → None ≡ value_at a n → (f : File) → Lives t n f → ⊥
-  none_lives n e f at_n = not_both (none_there a shares t view n e) at_n
+  none_lives n e f at_n = not_both (none_there a stored_volumes t view n e) at_n
 
   enters : (d : ℕ) (i : StoredFile) (name : List ℕ) → Some i ≡ value_at a d → TakesName i name → MayEnter t d name
   enters d i name e takes = let s = shown_there d i e in record {
@@ -123,8 +123,8 @@ module _ (a : NumberedFiles StoredFile) (shares : List StoredVolume) (t : Tree) 
       let room : HasRoomIn t enter.dir.volume size = subst (λ p. HasRoomIn t p size) (like_there d i e enter.dir enter.at_dir.0).0 takes.room in
       record { enter = enter; number = takes.number; volume = room.space.volume; at_volume = room.space.at_volume; files = room.files; bytes = room.space.bytes; large = takes.large }
 
-  made : (d size : ℕ) (i : StoredFile) (name : List ℕ) → Some i ≡ value_at a d → MayMake t d name size → TakesFile t i name size
-  made d size i name e may = record {
+  with_named_file : (d size : ℕ) (i : StoredFile) (name : List ℕ) → Some i ≡ value_at a d → MayMake t d name size → TakesFile t i name size
+  with_named_file d size i name e may = record {
     entry = entered d i name e may.enter;
     number = may.number;
     room = subst (λ p. HasRoomIn t p size) (sym (like_there d i e may.enter.dir may.enter.at_dir.0).0) (record { space = record { volume = may.volume; at_volume = may.at_volume; bytes = may.bytes }; files = may.files });
@@ -134,22 +134,22 @@ module _ (a : NumberedFiles StoredFile) (shares : List StoredVolume) (t : Tree) 
   -- ---- tests of a new file
 
   pub may_make_there : (d size : ℕ) (i : StoredFile) (name : List ℕ) (b : Bool) → Some i ≡ value_at a d → Decides b (TakesFile t i name size) → Decides b (MayMake t d name size)
-  may_make_there d size i name b e takes = Decides-like b (makes d size i name e) (made d size i name e) takes
+  may_make_there d size i name b e takes = Decides-like b (makes d size i name e) (with_named_file d size i name e) takes
 
   pub may_make_none : (d size : ℕ) (name : List ℕ) → None ≡ value_at a d → MayMake t d name size → ⊥
   may_make_none d size name e may = none_lives d e may.enter.dir may.enter.at_dir.0
 
-  module _ (keeps : Agrees (kept_of a shares)) where
+  module _ (keeps : Agrees (counted_tree_of a stored_volumes)) where
     links_there : (n : ℕ) (i : StoredFile) → Some i ≡ value_at a n → (f : File) → Lives t n f → i.nlink ≡ nlink t.files n f
     links_there n i e f at_n =
         let k = filed a n i e in
-        let kept = keeps.links n (held k.0) (at_held a n k.0 k.1) in
-        ap (λ (i : StoredFile). i.nlink) (sym k.2) ∙ kept ∙ ap (λ (t : Tree). nlink t.files n (file_of k.0.tag k.0.value)) view ∙ ap (nlink t.files n) (same_some (sym (lives_there a shares t view n k.0 k.1) ∙ at_n))
+        let kept = keeps.links n (counted_file k.0) (at_counted_file a n k.0 k.1) in
+        ap (λ (i : StoredFile). i.nlink) (sym k.2) ∙ kept ∙ ap (λ (t : Tree). nlink t.files n (file_of k.0.tag k.0.value)) view ∙ ap (nlink t.files n) (same_some (sym (lives_there a stored_volumes t view n k.0 k.1) ∙ at_n))
 
     pub may_make_dir_there : (d : ℕ) (i : StoredFile) (name : List ℕ) (b : Bool) → Some i ≡ value_at a d → i.nlink < 1000 → Decides b (TakesFile t i name 0) → Decides b (MayMakeDirectory t d name)
     may_make_dir_there d i name b e few takes = Decides-like b
         (λ takes. let make = makes d 0 i name e takes in record { make = make; links = subst (λ n. n < 1000) (links_there d i e make.enter.dir make.enter.at_dir.0) few })
-        (λ (may : MayMakeDirectory t d name). made d 0 i name e may.make)
+        (λ (may : MayMakeDirectory t d name). with_named_file d 0 i name e may.make)
         takes
 
     pub few_links : (d : ℕ) (i : StoredFile) (name : List ℕ) → Some i ≡ value_at a d → MayMakeDirectory t d name → i.nlink < 1000
@@ -173,19 +173,19 @@ module _ (a : NumberedFiles StoredFile) (shares : List StoredVolume) (t : Tree) 
 
     -- ---- volumes
 
-    volume_there : (place : ℕ) (s : StoredVolume) → slice_get shares place ≡ Some s → slice_get t.volumes place ≡ Some (volume_of s)
-    volume_there place s e = ap (λ (t : Tree). slice_get t.volumes place) (sym view) ∙ slice_get-map (λ (c : CountedVolume). c.volume) (map counted_of shares) place ∙ ap (option_map (λ (c : CountedVolume). c.volume)) (share_counted shares place s e)
+    volume_there : (place : ℕ) (s : StoredVolume) → slice_get stored_volumes place ≡ Some s → slice_get t.volumes place ≡ Some (volume_of s)
+    volume_there place s e = ap (λ (t : Tree). slice_get t.volumes place) (sym view) ∙ slice_get-map (λ (c : CountedVolume). c.volume) (map counted_volume_of stored_volumes) place ∙ ap (option_map (λ (c : CountedVolume). c.volume)) (stored_volume_counted stored_volumes place s e)
 
-    its_limits : (place : ℕ) (s : StoredVolume) (v : Volume) → slice_get shares place ≡ Some s → slice_get t.volumes place ≡ Some v → volume_of s ≡ v
+    its_limits : (place : ℕ) (s : StoredVolume) (v : Volume) → slice_get stored_volumes place ≡ Some s → slice_get t.volumes place ≡ Some v → volume_of s ≡ v
     its_limits place s v e there = same_some (sym (volume_there place s e) ∙ there)
 
-    bytes_there : (place : ℕ) (s : StoredVolume) → slice_get shares place ≡ Some s → s.bytes ≡ bytes_of place t.files
-    bytes_there place s e = (keeps.totals place (counted_of s) (share_counted shares place s e)).bytes ∙ ap (λ (t : Tree). bytes_of place t.files) view
+    bytes_there : (place : ℕ) (s : StoredVolume) → slice_get stored_volumes place ≡ Some s → s.bytes ≡ bytes_of place t.files
+    bytes_there place s e = (keeps.totals place (counted_volume_of s) (stored_volume_counted stored_volumes place s e)).bytes ∙ ap (λ (t : Tree). bytes_of place t.files) view
 
-    files_there : (place : ℕ) (s : StoredVolume) → slice_get shares place ≡ Some s → s.files ≡ files_of place t.files
-    files_there place s e = (keeps.totals place (counted_of s) (share_counted shares place s e)).files ∙ ap (λ (t : Tree). files_of place t.files) view
+    files_there : (place : ℕ) (s : StoredVolume) → slice_get stored_volumes place ≡ Some s → s.files ≡ files_of place t.files
+    files_there place s e = (keeps.totals place (counted_volume_of s) (stored_volume_counted stored_volumes place s e)).files ∙ ap (λ (t : Tree). files_of place t.files) view
 
-    pub space_there : (place size : ℕ) (s : StoredVolume) (b : Bool) → slice_get shares place ≡ Some s → Decides b (s.bytes + size ≤ s.max_bytes) → Decides b (HasSpaceIn t place size)
+    pub space_there : (place size : ℕ) (s : StoredVolume) (b : Bool) → slice_get stored_volumes place ≡ Some s → Decides b (s.bytes + size ≤ s.max_bytes) → Decides b (HasSpaceIn t place size)
     space_there place size s b e fits = Decides-like b
         (λ fits. let has = bytes_there place s e in record { volume = volume_of s; at_volume = volume_there place s e; bytes = omega (arith, has, fits) })
         (λ (space : HasSpaceIn t place size). let has = bytes_there place s e in let fits = space.bytes in
@@ -193,20 +193,20 @@ module _ (a : NumberedFiles StoredFile) (shares : List StoredVolume) (t : Tree) 
         omega (arith, has, fits, limit))
         fits
 
-    pub room_there : (place size : ℕ) (s : StoredVolume) (b : Bool) → slice_get shares place ≡ Some s → s.files < s.max_files → Decides b (s.bytes + size ≤ s.max_bytes) → Decides b (HasRoomIn t place size)
+    pub room_there : (place size : ℕ) (s : StoredVolume) (b : Bool) → slice_get stored_volumes place ≡ Some s → s.files < s.max_files → Decides b (s.bytes + size ≤ s.max_bytes) → Decides b (HasRoomIn t place size)
     room_there place size s b e few fits = Decides-like b
         (λ space. let limit : s.max_files ≡ space.volume.max_files = ap (λ (v : Volume). v.max_files) (its_limits place s space.volume e space.at_volume) in
         let has = files_there place s e in record { space = space; files = omega (arith, has, few, limit) })
         (λ (room : HasRoomIn t place size). room.space)
         (space_there place size s b e fits)
 
-    pub full : (place size : ℕ) (s : StoredVolume) → slice_get shares place ≡ Some s → s.max_files ≤ s.files → HasRoomIn t place size → ⊥
+    pub full : (place size : ℕ) (s : StoredVolume) → slice_get stored_volumes place ≡ Some s → s.max_files ≤ s.files → HasRoomIn t place size → ⊥
     full place size s e many room =
         let limit : s.max_files ≡ room.space.volume.max_files = ap (λ (v : Volume). v.max_files) (its_limits place s room.space.volume e room.space.at_volume) in
         let has = files_there place s e in let few = room.files in omega (arith, has, many, few, limit)
 
-  pub no_space : (place size : ℕ) → slice_get shares place ≡ None → HasSpaceIn t place size → ⊥
-  no_space place size e space = let s = share_at shares place space.volume (subst (λ (t : Tree). slice_get t.volumes place ≡ Some space.volume) (sym view) space.at_volume) in not_both e s.1
+  pub no_space : (place size : ℕ) → slice_get stored_volumes place ≡ None → HasSpaceIn t place size → ⊥
+  no_space place size e space = let s = stored_volume_at stored_volumes place space.volume (subst (λ (t : Tree). slice_get t.volumes place ≡ Some space.volume) (sym view) space.at_volume) in not_both e s.1
 
   -- ---- tests of an entry for a file that is there
 
@@ -256,7 +256,7 @@ module _ (a : NumberedFiles StoredFile) (shares : List StoredVolume) (t : Tree) 
   written_to n offset count i e may = (ap is_regular (like_there n i e may.file may.at_file).1 ∙ may.regular, may.large)
 
   -- no bytes need no room
-  pub writes_none : Agrees (kept_of a shares) → (n offset : ℕ) (i : StoredFile) → Some i ≡ value_at a n → is_regular (kind_of i.node) ≡ true → MayWrite t n offset 0
+  pub writes_none : Agrees (counted_tree_of a stored_volumes) → (n offset : ℕ) (i : StoredFile) → Some i ≡ value_at a n → is_regular (kind_of i.node) ≡ true → MayWrite t n offset 0
   writes_none keeps n offset i e regular =
       let s = shown_there n i e in
       let v = (subst Law view keeps.law).placed n (file_of s.0 i) s.1 in

@@ -10,10 +10,10 @@ use Rattle.nfs_inodes.specs.Tree as tree
 use Rattle.nfs_inodes.specs.Law.{Lives}
 use Rattle.nfs_inodes.specs.Changes as changes
 use Rattle.nfs_inodes.specs.Counts.{CountedFile, CountedVolume, tree_in, with_totals}
-use Rattle.nfs_inodes.specs.Storage.{file_of, helds, counted_of, volume_of, kept_of}
+use Rattle.nfs_inodes.specs.Storage.{file_of, counted_files, counted_volume_of, volume_of, counted_tree_of}
 use Rattle.nfs_inodes.proofs.Lists.{same_some, not_both}
 use Rattle.nfs_inodes.proofs.Maps.{at_shows}
-use Rattle.nfs_inodes.proofs.StoredFiles.{held, at_held}
+use Rattle.nfs_inodes.proofs.StoredFiles.{counted_file, at_counted_file}
 use Rattle.nfs_inodes.proofs.Counts.{shown}
 
 -- a look-up shows nothing where there is nothing, and what it shows is of something
@@ -25,26 +25,26 @@ mapped f (Some x) y e = (x, refl, same_some e)
 pub filed : (a : NumberedFiles StoredFile) (n : ℕ) (i : StoredFile) → Some i ≡ value_at a n → (f : TaggedFile StoredFile) × (at a n ≡ Some f) × (f.value ≡ i)
 filed a n i e = mapped (λ (f : TaggedFile StoredFile). f.value) (at a n) i (sym e)
 
-pub lives : (a : NumberedFiles StoredFile) (shares : List StoredVolume) (n : ℕ) (f : TaggedFile StoredFile) → at a n ≡ Some f → Lives (tree_in (kept_of a shares)) n (file_of f.tag f.value)
-lives a shares n f e = shown (kept_of a shares) n (held f) (at_held a n f e)
+pub lives : (a : NumberedFiles StoredFile) (stored_volumes : List StoredVolume) (n : ℕ) (f : TaggedFile StoredFile) → at a n ≡ Some f → Lives (tree_in (counted_tree_of a stored_volumes)) n (file_of f.tag f.value)
+lives a stored_volumes n f e = shown (counted_tree_of a stored_volumes) n (counted_file f) (at_counted_file a n f e)
 
-all_shown : (a : NumberedFiles StoredFile) (shares : List StoredVolume) (n : ℕ) → tree.at n (tree_in (kept_of a shares)).files ≡ option_map (λ (f : TaggedFile StoredFile). file_of f.tag f.value) (at a n)
-all_shown a shares n = at_shows (λ (h : CountedFile). h.file) n (helds a.files) ∙ ap (option_map (λ (h : CountedFile). h.file)) (at_shows held n a.files) ∙ twice (at a n)
+all_shown : (a : NumberedFiles StoredFile) (stored_volumes : List StoredVolume) (n : ℕ) → tree.at n (tree_in (counted_tree_of a stored_volumes)).files ≡ option_map (λ (f : TaggedFile StoredFile). file_of f.tag f.value) (at a n)
+all_shown a stored_volumes n = at_shows (λ (h : CountedFile). h.file) n (counted_files a.files) ∙ ap (option_map (λ (h : CountedFile). h.file)) (at_shows counted_file n a.files) ∙ twice (at a n)
   where
-    twice : (o : Option (TaggedFile StoredFile)) → option_map (λ (h : CountedFile). h.file) (option_map held o) ≡ option_map (λ (f : TaggedFile StoredFile). file_of f.tag f.value) o
+    twice : (o : Option (TaggedFile StoredFile)) → option_map (λ (h : CountedFile). h.file) (option_map counted_file o) ≡ option_map (λ (f : TaggedFile StoredFile). file_of f.tag f.value) o
     twice None = refl
     twice (Some f) = refl
 
-module _ (a : NumberedFiles StoredFile) (shares : List StoredVolume) (t : Tree) (view : tree_in (kept_of a shares) ≡ t) where
+module _ (a : NumberedFiles StoredFile) (stored_volumes : List StoredVolume) (t : Tree) (view : tree_in (counted_tree_of a stored_volumes) ≡ t) where
   pub lives_there : (n : ℕ) (f : TaggedFile StoredFile) → at a n ≡ Some f → Lives t n (file_of f.tag f.value)
-  lives_there n f e = subst (λ (t : Tree). Lives t n (file_of f.tag f.value)) view (lives a shares n f e)
+  lives_there n f e = subst (λ (t : Tree). Lives t n (file_of f.tag f.value)) view (lives a stored_volumes n f e)
 
   -- what is kept of a file of the tree
   pub kept_at : (n : ℕ) (g : File) → Lives t n g → (f : TaggedFile StoredFile) × (at a n ≡ Some f) × (file_of f.tag f.value ≡ g)
-  kept_at n g e = mapped (λ (f : TaggedFile StoredFile). file_of f.tag f.value) (at a n) g (sym (all_shown a shares n) ∙ subst (λ (t : Tree). Lives t n g) (sym view) e)
+  kept_at n g e = mapped (λ (f : TaggedFile StoredFile). file_of f.tag f.value) (at a n) g (sym (all_shown a stored_volumes n) ∙ subst (λ (t : Tree). Lives t n g) (sym view) e)
 
   pub none_there : (n : ℕ) → None ≡ value_at a n → tree.at n t.files ≡ None
-  none_there n e = ap (λ (t : Tree). tree.at n t.files) (sym view) ∙ all_shown a shares n ∙ none_of (at a n) e
+  none_there n e = ap (λ (t : Tree). tree.at n t.files) (sym view) ∙ all_shown a stored_volumes n ∙ none_of (at a n) e
     where
       none_of : (o : Option (TaggedFile StoredFile)) → None ≡ option_map (λ (f : TaggedFile StoredFile). f.value) o → option_map (λ (f : TaggedFile StoredFile). file_of f.tag f.value) o ≡ None
       none_of None e = refl
@@ -60,16 +60,16 @@ module _ (a : NumberedFiles StoredFile) (shares : List StoredVolume) (t : Tree) 
 
 -- ---- volumes
 
-pub share_at : (shares : List StoredVolume) (place : ℕ) (v : Volume) → slice_get (map (λ (c : CountedVolume). c.volume) (map counted_of shares)) place ≡ Some v → (s : StoredVolume) × (slice_get shares place ≡ Some s) × (volume_of s ≡ v)
-share_at [] place v e = absurd (not_both refl e)
-share_at (s ∷ ss) zero v e = (s, refl, same_some e)
-share_at (s ∷ ss) (suc place) v e = share_at ss place v e
+pub stored_volume_at : (stored_volumes : List StoredVolume) (place : ℕ) (v : Volume) → slice_get (map (λ (c : CountedVolume). c.volume) (map counted_volume_of stored_volumes)) place ≡ Some v → (s : StoredVolume) × (slice_get stored_volumes place ≡ Some s) × (volume_of s ≡ v)
+stored_volume_at [] place v e = absurd (not_both refl e)
+stored_volume_at (s ∷ ss) zero v e = (s, refl, same_some e)
+stored_volume_at (s ∷ ss) (suc place) v e = stored_volume_at ss place v e
 
-pub share_counted : (shares : List StoredVolume) (place : ℕ) (s : StoredVolume) → slice_get shares place ≡ Some s → slice_get (map counted_of shares) place ≡ Some (counted_of s)
-share_counted shares place s e = slice_get-map counted_of shares place ∙ ap (option_map counted_of) e
+pub stored_volume_counted : (stored_volumes : List StoredVolume) (place : ℕ) (s : StoredVolume) → slice_get stored_volumes place ≡ Some s → slice_get (map counted_volume_of stored_volumes) place ≡ Some (counted_volume_of s)
+stored_volume_counted stored_volumes place s e = slice_get-map counted_volume_of stored_volumes place ∙ ap (option_map counted_volume_of) e
 
-pub set_totals : (shares : List StoredVolume) (place bytes files : ℕ) (s : StoredVolume) → slice_get shares place ≡ Some s → map counted_of (slice_set shares place (record s { bytes = s.bytes + bytes; files = s.files + files })) ≡ with_totals (map counted_of shares) place bytes files
+pub set_totals : (stored_volumes : List StoredVolume) (place bytes files : ℕ) (s : StoredVolume) → slice_get stored_volumes place ≡ Some s → map counted_volume_of (slice_set stored_volumes place (record s { bytes = s.bytes + bytes; files = s.files + files })) ≡ with_totals (map counted_volume_of stored_volumes) place bytes files
 set_totals [] place bytes files s e = absurd (not_both refl e)
 set_totals (b ∷ bs) zero bytes files s e = let same : b ≡ s = same_some e in
-    ap (λ (s : StoredVolume). record { volume = volume_of s; bytes = s.bytes + bytes; files = s.files + files } ∷ map counted_of bs) (sym same)
-set_totals (b ∷ bs) (suc place) bytes files s e = ap (λ l. counted_of b ∷ l) (set_totals bs place bytes files s e)
+    ap (λ (s : StoredVolume). record { volume = volume_of s; bytes = s.bytes + bytes; files = s.files + files } ∷ map counted_volume_of bs) (sym same)
+set_totals (b ∷ bs) (suc place) bytes files s e = ap (λ l. counted_volume_of b ∷ l) (set_totals bs place bytes files s e)

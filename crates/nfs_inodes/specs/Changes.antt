@@ -7,30 +7,30 @@ use Rattle.nfs_inodes.specs.Tree.{Tree, File, Kind, Regular, Directory, Link, Vo
 -- ---- the elementary changes
 
 -- the next number for this file, which no entry names yet
-abbrev pub born : Tree → File → Tree
-born t f = record t { files = t.files ++ (t.next, f) ∷ []; next = t.next + 1 }
+abbrev pub with_new_file : Tree → File → Tree
+with_new_file t f = record t { files = t.files ++ (t.next, f) ∷ []; next = t.next + 1 }
 
 -- another file under a number that has one
-abbrev pub changed : Tree → ℕ → File → Tree
-changed t n f = record t { files = with_at n f t.files }
+abbrev pub with_file : Tree → ℕ → File → Tree
+with_file t n f = record t { files = with_at n f t.files }
 
 -- the new entry has the next cookie, which rises by 1
-abbrev pub with_entry : Kind → List ℕ → ℕ → Kind
-with_entry (Regular bytes) name n = Regular bytes
-with_entry (Directory parent next_cookie entries) name n = Directory parent (next_cookie + 1) (entries ++ record { cookie = next_cookie; name = name; number = n } ∷ [])
-with_entry (Link path) name n = Link path
+abbrev pub kind_with_entry : Kind → List ℕ → ℕ → Kind
+kind_with_entry (Regular bytes) name n = Regular bytes
+kind_with_entry (Directory parent next_cookie entries) name n = Directory parent (next_cookie + 1) (entries ++ record { cookie = next_cookie; name = name; number = n } ∷ [])
+kind_with_entry (Link path) name n = Link path
 
 -- a directory with one entry more, at this moment
 abbrev pub entered : File → List ℕ → ℕ → Moment → File
-entered d name n now = record d { kind = with_entry d.kind name n; mtime = now; ctime = now }
+entered d name n now = record d { kind = kind_with_entry d.kind name n; mtime = now; ctime = now }
 
 -- directory d has one entry more, which names n
-abbrev pub gained : Tree → ℕ → List ℕ → ℕ → Moment → Tree
-gained t d name n now = on_some (at d t.files) t (λ f. changed t d (entered f name n now))
+abbrev pub with_entry : Tree → ℕ → List ℕ → ℕ → Moment → Tree
+with_entry t d name n now = on_some (at d t.files) t (λ f. with_file t d (entered f name n now))
 
 -- the attributes of file n change at this moment
 abbrev pub touched : Tree → ℕ → Moment → Tree
-touched t n now = on_some (at n t.files) t (λ f. changed t n (record f { ctime = now }))
+touched t n now = on_some (at n t.files) t (λ f. with_file t n (record f { ctime = now }))
 
 -- ---- new files
 
@@ -48,50 +48,50 @@ volume_of t n = on_some (at n t.files) 0 (λ f. f.volume)
 -- ---- the operations
 
 -- a new file under the next number, with an entry in d
-abbrev pub made : Tree → ℕ → List ℕ → File → Moment → Tree
-made t d name f now = gained (born t f) d name t.next now
+abbrev pub with_named_file : Tree → ℕ → List ℕ → File → Moment → Tree
+with_named_file t d name f now = with_entry (with_new_file t f) d name t.next now
 
 -- a regular file of so many zeros
-abbrev pub file_made : Tree → ℕ → List ℕ → ℕ → NewFile → Option (List ℕ) → ℕ → Moment → Tree
-file_made t d name size given verifier tag now = made t d name (new_file (volume_of t d) (Regular (zeros size)) given verifier tag now) now
+abbrev pub after_make_file : Tree → ℕ → List ℕ → ℕ → NewFile → Option (List ℕ) → ℕ → Moment → Tree
+after_make_file t d name size given verifier tag now = with_named_file t d name (new_file (volume_of t d) (Regular (zeros size)) given verifier tag now) now
 
 -- a directory without entries
-abbrev pub directory_made : Tree → ℕ → List ℕ → NewFile → ℕ → Moment → Tree
-directory_made t d name given tag now = made t d name (new_file (volume_of t d) (Directory d 3 []) given None tag now) now
+abbrev pub after_make_dir : Tree → ℕ → List ℕ → NewFile → ℕ → Moment → Tree
+after_make_dir t d name given tag now = with_named_file t d name (new_file (volume_of t d) (Directory d 3 []) given None tag now) now
 
 -- a link with this path
-abbrev pub link_made : Tree → ℕ → List ℕ → List ℕ → NewFile → ℕ → Moment → Tree
-link_made t d name path given tag now = made t d name (new_file (volume_of t d) (Link path) given None tag now) now
+abbrev pub after_make_link : Tree → ℕ → List ℕ → List ℕ → NewFile → ℕ → Moment → Tree
+after_make_link t d name path given tag now = with_named_file t d name (new_file (volume_of t d) (Link path) given None tag now) now
 
 -- an entry in d for a file that has one already
-abbrev pub linked : Tree → ℕ → ℕ → List ℕ → Moment → Tree
-linked t n d name now = gained (touched t n now) d name n now
+abbrev pub after_link : Tree → ℕ → ℕ → List ℕ → Moment → Tree
+after_link t n d name now = with_entry (touched t n now) d name n now
 
 -- some bytes put at an offset, zeros in a gap before it
 abbrev pub put_bytes : List ℕ → ℕ → List ℕ → List ℕ
 put_bytes old offset new = take offset old ++ zeros (offset - length old) ++ new ++ drop (offset + length new) old
 
-abbrev pub with_bytes : Kind → List ℕ → Kind
-with_bytes (Regular old) bytes = Regular bytes
-with_bytes (Directory parent next_cookie entries) bytes = Directory parent next_cookie entries
-with_bytes (Link path) bytes = Link path
+abbrev pub kind_with_bytes : Kind → List ℕ → Kind
+kind_with_bytes (Regular old) bytes = Regular bytes
+kind_with_bytes (Directory parent next_cookie entries) bytes = Directory parent next_cookie entries
+kind_with_bytes (Link path) bytes = Link path
 
 -- a regular file with these bytes at an offset, at this moment
-abbrev pub overwritten : File → ℕ → List ℕ → Moment → File
-overwritten f offset bytes now = record f { kind = with_bytes f.kind (put_bytes (bytes_in f.kind) offset bytes); mtime = now; ctime = now }
+abbrev pub file_with_bytes : File → ℕ → List ℕ → Moment → File
+file_with_bytes f offset bytes now = record f { kind = kind_with_bytes f.kind (put_bytes (bytes_in f.kind) offset bytes); mtime = now; ctime = now }
 
 -- writing no bytes changes nothing
-abbrev pub written : Tree → ℕ → ℕ → List ℕ → Moment → Tree
-written t n offset [] now = t
-written t n offset (byte ∷ bytes) now = on_some (at n t.files) t (λ f. changed t n (overwritten f offset (byte ∷ bytes) now))
+abbrev pub after_write_at : Tree → ℕ → ℕ → List ℕ → Moment → Tree
+after_write_at t n offset [] now = t
+after_write_at t n offset (byte ∷ bytes) now = on_some (at n t.files) t (λ f. with_file t n (file_with_bytes f offset (byte ∷ bytes) now))
 
 -- one volume more, whose root is a new file
-abbrev pub founded : Tree → Volume → File → Tree
-founded t v root = record t { files = t.files ++ (t.next, root) ∷ []; next = t.next + 1; volumes = t.volumes ++ v ∷ [] }
+abbrev pub with_new_volume : Tree → Volume → File → Tree
+with_new_volume t v root = record t { files = t.files ++ (t.next, root) ∷ []; next = t.next + 1; volumes = t.volumes ++ v ∷ [] }
 
 -- with these limits; its root is its own parent and has no entries
-abbrev pub volume_added : Tree → List ℕ → ℕ → ℕ → NewFile → ℕ → Moment → Tree
-volume_added t path max_bytes max_files given tag now = founded t
+abbrev pub after_add_volume : Tree → List ℕ → ℕ → ℕ → NewFile → ℕ → Moment → Tree
+after_add_volume t path max_bytes max_files given tag now = with_new_volume t
     (record { path = path; max_bytes = max_bytes; max_files = max_files; root = t.next })
     (new_file (length t.volumes) (Directory t.next 3 []) given None tag now)
 

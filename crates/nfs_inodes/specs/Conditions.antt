@@ -1,5 +1,6 @@
 -- What has to hold before an operation, beside memory.
 use Rattle.std.specs.Prelude.{◌≡◌, ◌≢◌, ℕ, ◌+◌, ◌-◌, ◌<◌, ◌≤◌, ◌^◌, true, false, List, [], length, Some, All, slice_get}
+use Rattle.nfs_inodes.specs.Limits.{max_file_bytes, max_path_bytes, max_links, max_volumes, max_volume_path_bytes}
 use Rattle.nfs_inodes.specs.Tree.{Tree, File, Volume, is_directory, is_regular, parent_in, entries_in, next_cookie_in, bytes_in, names_of, nlink, bytes_of, files_of}
 use Rattle.nfs_inodes.specs.Law.{IsName, IsSound, Lives, LivesAsDirectory}
 
@@ -19,17 +20,17 @@ pub record MayMake (t : Tree) (d : ℕ) (name : List ℕ) (size : ℕ) : Type 0 
   pub at_volume : slice_get t.volumes enter.dir.volume ≡ Some volume
   pub files : files_of enter.dir.volume t.files < volume.max_files
   pub bytes : bytes_of enter.dir.volume t.files + size ≤ volume.max_bytes
-  pub large : size ≤ 16777216
+  pub large : size ≤ max_file_bytes
 
 -- and a new directory, which is a link more for it
 pub record MayMakeDirectory (t : Tree) (d : ℕ) (name : List ℕ) : Type 0 where
   pub make : MayMake t d name 0
-  pub links : nlink t.files d make.enter.dir < 1000
+  pub links : nlink t.files d make.enter.dir < max_links
 
 -- and a link with this path
 pub record MayMakeLink (t : Tree) (d : ℕ) (name path : List ℕ) : Type 0 where
   pub make : MayMake t d name 0
-  pub long : length path ≤ 1024
+  pub long : length path ≤ max_path_bytes
 
 -- directory d takes an entry of this name for file n of its volume, which is no directory
 pub record MayLink (t : Tree) (n d : ℕ) (name : List ℕ) : Type 0 where
@@ -38,14 +39,14 @@ pub record MayLink (t : Tree) (n d : ℕ) (name : List ℕ) : Type 0 where
   pub at_file : Lives t n file
   pub not_directory : is_directory file.kind ≡ false
   pub volume : file.volume ≡ enter.dir.volume
-  pub links : names_of n t.files < 1000
+  pub links : names_of n t.files < max_links
 
 -- file n is regular, and it and its volume have room for so many bytes at an offset; no bytes need none
 pub record MayWrite (t : Tree) (n offset count : ℕ) : Type 0 where
   pub file : File
   pub at_file : Lives t n file
   pub regular : is_regular file.kind ≡ true
-  pub large : 0 < count → offset + count ≤ 16777216
+  pub large : 0 < count → offset + count ≤ max_file_bytes
   pub volume : Volume
   pub at_volume : slice_get t.volumes file.volume ≡ Some volume
   pub room : 0 < count → bytes_of file.volume t.files + (offset + count - length (bytes_in file.kind)) ≤ volume.max_bytes
@@ -59,8 +60,8 @@ pub record Grows (t : Tree) (n offset count : ℕ) : Type 0 where
 
 -- a volume more, of a path that no volume has
 pub record MayAddVolume (t : Tree) (path : List ℕ) (max_files : ℕ) : Type 0 where
-  pub few : length t.volumes < 64
-  pub short : length path ≤ 255
+  pub few : length t.volumes < max_volumes
+  pub short : length path ≤ max_volume_path_bytes
   pub fresh : All (λ v. v.path ≢ path) t.volumes
   pub number : t.next < 2 ^ 64 - 1
   pub files : 1 ≤ max_files

@@ -5,7 +5,7 @@ use Rattle.nfs_attrs.specs.declared.file_type.FileType.{FileType}
 use Rattle.nfs_attrs.specs.declared.file_type.FileType.TheVariants as file_type
 use Rattle.nfs_attrs.specs.declared.moment.Moment.{Moment}
 use Rattle.nfs_inodes.specs.Tree.{Tree, File, Kind, Entry, Regular, Directory}
-use Rattle.nfs_inodes.specs.Reading.{found, entry_after, next_cookie_at, attributes_at, totals_at, bytes_at, path_at, verifier_at, place_named}
+use Rattle.nfs_inodes.specs.Reading.{number_under, entry_after, next_cookie_at, attributes_at, totals_at, bytes_at, path_at, verifier_at, place_named}
 
 abbrev pub start : Moment
 start = record { seconds = 0; nanos = 0 }
@@ -88,12 +88,12 @@ pub record ReadsOfE : Type 0 where
   pub attributes_7 : attributes_at tree_e 7 ≡ attributes file_type.Regular 0 1 5 5 0 1 7
   pub attributes_8 : attributes_at tree_e 8 ≡ attributes file_type.Directory 511 2 0 0 4096 2 8
   pub attributes_none : attributes_at tree_e 9 ≡ None
-  pub found_x : found tree_e 2 (0x78 ∷ []) ≡ Some 3
-  pub found_none : found tree_e 2 (0x6e ∷ 0x6f ∷ 0x6e ∷ 0x65 ∷ []) ≡ None
-  pub found_dot : found tree_e 1 (0x2e ∷ []) ≡ Some 1
-  pub found_parent : found tree_e 2 (0x2e ∷ 0x2e ∷ []) ≡ Some 1
-  pub found_root : found tree_e 1 (0x2e ∷ 0x2e ∷ []) ≡ Some 1
-  pub found_in_file : found tree_e 5 (0x78 ∷ []) ≡ None
+  pub found_x : number_under tree_e 2 (0x78 ∷ []) ≡ Some 3
+  pub found_none : number_under tree_e 2 (0x6e ∷ 0x6f ∷ 0x6e ∷ 0x65 ∷ []) ≡ None
+  pub found_dot : number_under tree_e 1 (0x2e ∷ []) ≡ Some 1
+  pub found_parent : number_under tree_e 2 (0x2e ∷ 0x2e ∷ []) ≡ Some 1
+  pub found_root : number_under tree_e 1 (0x2e ∷ 0x2e ∷ []) ≡ Some 1
+  pub found_in_file : number_under tree_e 5 (0x78 ∷ []) ≡ None
   pub first_entry : entry_after tree_e 2 0 ≡ Some (entry 1 (0x2e ∷ []) 2)
   pub second_entry : entry_after tree_e 2 1 ≡ Some (entry 2 (0x2e ∷ 0x2e ∷ []) 1)
   pub third_entry : entry_after tree_e 2 2 ≡ Some (entry 3 (0x78 ∷ []) 3)

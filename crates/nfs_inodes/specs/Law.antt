@@ -1,13 +1,14 @@
 -- The law of the tree, where file x may as yet be named by no entry; 0 is no file.
 use Rattle.std.specs.Prelude.{suc, zero, ◌≡◌, ◌≢◌, ℕ, ◌≤◌, ◌<◌, true, false, List, [], ◌∷◌, length, Some, None, All, AllPairs, Contains, slice_get, filter}
+use Rattle.nfs_inodes.specs.Limits.{max_name_bytes, max_file_bytes, max_path_bytes, max_links, max_volumes, max_volume_path_bytes}
 use Rattle.nfs_inodes.specs.Tree.{Tree, File, Entry, Volume, at, on_some, is_directory, entries_in, parent_in, next_cookie_in, bytes_in, path_in, names_of, nlink, bytes_of, files_of}
-use Rattle.nfs_inodes.specs.Reading.{numbered}
+use Rattle.nfs_inodes.specs.Reading.{numbered_files}
 use Rattle.nfs_handles.specs.NumberedFiles.{IsNumbered}
 
 -- 1 to 255 bytes, none 0 or `/`, neither `.` nor `..`
 pub record IsName (name : List ℕ) : Type 0 where
   pub some : 1 ≤ length name
-  pub few : length name ≤ 255
+  pub few : length name ≤ max_name_bytes
   pub bytes : All (λ byte. (byte ≢ 0) × (byte ≢ 47)) name
   pub no_dot : name ≢ 46 ∷ []
   pub no_dot_dot : name ≢ 46 ∷ 46 ∷ []
@@ -15,8 +16,8 @@ pub record IsName (name : List ℕ) : Type 0 where
 -- what is true of one file alone
 pub record IsSound (f : File) : Type 0 where
   pub mode : f.mode < 4096
-  pub bytes : length (bytes_in f.kind) ≤ 16777216
-  pub path : length (path_in f.kind) ≤ 1024
+  pub bytes : length (bytes_in f.kind) ≤ max_file_bytes
+  pub path : length (path_in f.kind) ≤ max_path_bytes
   pub names : All (λ e. IsName e.name) (entries_in f.kind)
   pub cookies : All (λ e. (3 ≤ e.cookie) × (e.cookie < next_cookie_in f.kind)) (entries_in f.kind)
   pub next_cookie : is_directory f.kind ≡ true → 3 ≤ next_cookie_in f.kind
@@ -53,13 +54,13 @@ LivesAsDirectory t n f = (at n t.files ≡ Some f) × (is_directory f.kind ≡ t
 
 -- at most 64 volumes, with different paths of at most 255 bytes
 pub record AreVolumes (volumes : List Volume) : Type 0 where
-  pub few : length volumes ≤ 64
-  pub paths : All (λ v. length v.path ≤ 255) volumes
+  pub few : length volumes ≤ max_volumes
+  pub paths : All (λ v. length v.path ≤ max_volume_path_bytes) volumes
   pub apart : AllPairs (λ v w. v.path ≢ w.path) volumes
 
 pub record LawBut (x : ℕ) (t : Tree) : Type 0 where
   -- the next number is below 2^64, the key has 8 bytes, and each tag fits into a handle
-  pub numbers : IsNumbered (numbered t)
+  pub numbers : IsNumbered (numbered_files t)
   pub rising : AreRising 0 t.files t.next
   pub sound : (n : ℕ) (f : File) → Lives t n f → IsSound f
   pub placed : (n : ℕ) (f : File) → Lives t n f → (v : Volume) × (slice_get t.volumes f.volume ≡ Some v)
@@ -77,7 +78,7 @@ pub record LawBut (x : ℕ) (t : Tree) : Type 0 where
   pub reached : (n : ℕ) (f : File) → LivesAsDirectory t n f → (steps : ℕ) × (v : Volume) × (slice_get t.volumes f.volume ≡ Some v) × (climb steps t.files n ≡ v.root)
   -- every other file has a name
   pub named : (n : ℕ) (f : File) → n ≢ x → Lives t n f → is_directory f.kind ≡ false → 1 ≤ names_of n t.files
-  pub links : (n : ℕ) (f : File) → Lives t n f → nlink t.files n f ≤ 1000
+  pub links : (n : ℕ) (f : File) → Lives t n f → nlink t.files n f ≤ max_links
   pub volumes : AreVolumes t.volumes
   pub bytes : (place : ℕ) (v : Volume) → slice_get t.volumes place ≡ Some v → bytes_of place t.files ≤ v.max_bytes
   pub count : (place : ℕ) (v : Volume) → slice_get t.volumes place ≡ Some v → files_of place t.files ≤ v.max_files

@@ -1,4 +1,5 @@
 pub mod Tree
+pub mod Limits
 pub mod Reading
 pub mod Views
 pub mod Law

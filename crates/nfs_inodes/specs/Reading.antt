@@ -23,16 +23,24 @@ listing d (Regular bytes) = []
 listing d (Directory parent next_cookie entries) = record { cookie = 1; name = dot; number = d } ∷ record { cookie = 2; name = dot_dot; number = parent } ∷ entries
 listing d (Link path) = []
 
-abbrev pub listed : Tree → ℕ → List Entry
-listed t d = on_some (at d t.files) [] (λ f. listing d f.kind)
+abbrev pub listing_at : Tree → ℕ → List Entry
+listing_at t d = on_some (at d t.files) [] (λ f. listing d f.kind)
+
+-- the number under a name among some entries
+abbrev pub number_named : List ℕ → List Entry → Option ℕ
+number_named name es = option_map (λ (e : Entry). e.number) (find (λ e. bytes_eq e.name name) es)
+
+-- the first of some entries after a cookie
+abbrev pub first_after : ℕ → List Entry → Option Entry
+first_after cookie es = find (λ e. nat_lt cookie e.cookie) es
 
 -- the number under a name in directory d
-abbrev pub found : Tree → ℕ → List ℕ → Option ℕ
-found t d name = option_map (λ (e : Entry). e.number) (find (λ e. bytes_eq e.name name) (listed t d))
+abbrev pub number_under : Tree → ℕ → List ℕ → Option ℕ
+number_under t d name = number_named name (listing_at t d)
 
 -- what directory d lists first after a cookie
 abbrev pub entry_after : Tree → ℕ → ℕ → Option Entry
-entry_after t d cookie = find (λ e. nat_lt cookie e.cookie) (listed t d)
+entry_after t d cookie = first_after cookie (listing_at t d)
 
 abbrev pub cookie_of_next : Kind → Option ℕ
 cookie_of_next (Regular bytes) = None
@@ -124,5 +132,5 @@ totals_at t place = option_map (λ (v : Volume). record { bytes = bytes_of place
 -- ---- handles
 
 -- the files with their tags
-abbrev pub numbered : Tree → NumberedFiles File
-numbered t = record { files = map (λ e. (e.0, record { tag = e.1.tag; value = e.1 })) t.files; next = t.next; key = t.key }
+abbrev pub numbered_files : Tree → NumberedFiles File
+numbered_files t = record { files = map (λ e. (e.0, record { tag = e.1.tag; value = e.1 })) t.files; next = t.next; key = t.key }

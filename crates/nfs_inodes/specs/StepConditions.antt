@@ -1,8 +1,9 @@
 -- What the tree's own steps need.
 use Rattle.std.specs.Prelude.{◌≡◌, ℕ, ◌≢◌, ◌+◌, ◌-◌, ◌<◌, ◌≤◌, ◌^◌, All, true, false, List, Some, slice_get, length, if◌then◌else◌}
+use Rattle.nfs_inodes.specs.Limits.{max_file_bytes, max_links}
 use Rattle.nfs_inodes.specs.declared.stored_file.StoredFile.{StoredFile}
 use Rattle.nfs_inodes.specs.declared.stored_volume.StoredVolume.{StoredVolume}
-use Rattle.nfs_inodes.specs.Tree.{Tree, File, is_directory, entries_in, next_cookie_in, names_of, nlink, bytes_in, Volume, bytes_of, files_of}
+use Rattle.nfs_inodes.specs.Tree.{Tree, File, is_directory, is_regular, entries_in, next_cookie_in, names_of, nlink, bytes_in, Volume, bytes_of, files_of}
 use Rattle.nfs_inodes.specs.Conditions.{MayMake, IsNew}
 use Rattle.nfs_inodes.specs.Storage.{file_of, kind_of}
 use Rattle.nfs_inodes.specs.Law.{IsName, Lives}
@@ -12,25 +13,33 @@ abbrev pub retagged : File → ℕ → File
 retagged f tag = record f { tag = tag }
 
 -- a new file may be added to directory d under a name
-pub record MayAdd (t : Tree) (d : ℕ) (name : List ℕ) (inode : StoredFile) : Type 0 where
-  pub may : MayMake t d name (length (bytes_in (file_of 0 inode).kind))
-  pub is_new : IsNew d (length (bytes_in (file_of 0 inode).kind)) may.enter.dir (file_of 0 inode)
-  pub links : is_directory (file_of 0 inode).kind ≡ true → nlink t.files d may.enter.dir < 1000
-  pub nlink : inode.nlink ≡ (if is_directory (file_of 0 inode).kind then 2 else 1)
+pub record MayAdd (t : Tree) (d : ℕ) (name : List ℕ) (stored_file : StoredFile) : Type 0 where
+  pub may : MayMake t d name (length (bytes_in (file_of 0 stored_file).kind))
+  pub is_new : IsNew d (length (bytes_in (file_of 0 stored_file).kind)) may.enter.dir (file_of 0 stored_file)
+  pub links : is_directory (file_of 0 stored_file).kind ≡ true → nlink t.files d may.enter.dir < max_links
+  pub nlink : stored_file.nlink ≡ (if is_directory (file_of 0 stored_file).kind then 2 else 1)
 
 -- the totals of the volume at a place take so many bytes and files more
-pub record HasRoomFor (shares : List StoredVolume) (place bytes files : ℕ) : Type 0 where
-  pub share : StoredVolume
-  pub at_place : slice_get shares place ≡ Some share
-  pub bytes_fit : share.bytes + bytes < 2 ^ 64
-  pub files_fit : share.files + files < 2 ^ 64
+pub record HasRoomFor (stored_volumes : List StoredVolume) (place bytes files : ℕ) : Type 0 where
+  pub stored_volume : StoredVolume
+  pub at_place : slice_get stored_volumes place ≡ Some stored_volume
+  pub bytes_fit : stored_volume.bytes + bytes < 2 ^ 64
+  pub files_fit : stored_volume.files + files < 2 ^ 64
 
 -- a kept file is a directory that takes an entry of this name
-pub record TakesName (inode : StoredFile) (name : List ℕ) : Type 0 where
-  pub directory : is_directory (kind_of inode.node) ≡ true
-  pub cookie : next_cookie_in (kind_of inode.node) < 2 ^ 64 - 1
+pub record TakesName (stored_file : StoredFile) (name : List ℕ) : Type 0 where
+  pub directory : is_directory (kind_of stored_file.node) ≡ true
+  pub cookie : next_cookie_in (kind_of stored_file.node) < 2 ^ 64 - 1
   pub is_name : IsName name
-  pub fresh : All (λ e. e.name ≢ name) (entries_in (kind_of inode.node))
+  pub fresh : All (λ e. e.name ≢ name) (entries_in (kind_of stored_file.node))
+
+-- a kept file is no directory, is in the volume at a place, and may have a link more
+abbrev pub TakesLinkIn : StoredFile → ℕ → Type 0
+TakesLinkIn f place = (is_directory (kind_of f.node) ≡ false) × (f.volume ≡ place) × (f.nlink < max_links)
+
+-- a kept file is regular, and so many bytes at an offset, if any, are within the limit
+abbrev pub TakesCount : StoredFile → ℕ → ℕ → Type 0
+TakesCount f offset count = (is_regular (kind_of f.node) ≡ true) × (0 < count → offset + count ≤ max_file_bytes)
 
 -- the volume at a place may have so many bytes more
 pub record HasSpaceIn (t : Tree) (place size : ℕ) : Type 0 where
@@ -44,11 +53,11 @@ pub record HasRoomIn (t : Tree) (place size : ℕ) : Type 0 where
   pub files : files_of place t.files < space.volume.max_files
 
 -- a new file of so many bytes may have an entry of this name in a kept file, a directory
-pub record TakesFile (t : Tree) (inode : StoredFile) (name : List ℕ) (size : ℕ) : Type 0 where
-  pub entry : TakesName inode name
+pub record TakesFile (t : Tree) (stored_file : StoredFile) (name : List ℕ) (size : ℕ) : Type 0 where
+  pub entry : TakesName stored_file name
   pub number : t.next < 2 ^ 64 - 1
-  pub room : HasRoomIn t inode.volume size
-  pub large : size ≤ 16777216
+  pub room : HasRoomIn t stored_file.volume size
+  pub large : size ≤ max_file_bytes
 
 -- file n is no directory, is in the volume at a place, and may have a link more
 pub record MayGainLink (t : Tree) (n place : ℕ) : Type 0 where
@@ -56,4 +65,4 @@ pub record MayGainLink (t : Tree) (n place : ℕ) : Type 0 where
   pub at_file : Lives t n file
   pub not_directory : is_directory file.kind ≡ false
   pub volume : file.volume ≡ place
-  pub links : names_of n t.files < 1000
+  pub links : names_of n t.files < max_links

@@ -21,14 +21,14 @@ kind_of (node.Link path) = Link path.items
 abbrev pub file_of : ℕ → StoredFile → File
 file_of tag i = record { volume = i.volume; kind = kind_of i.node; mode = i.mode; uid = i.uid; gid = i.gid; atime = i.atime; mtime = i.mtime; ctime = i.ctime; tag = tag; verifier = i.verifier }
 
-abbrev pub held_of : ℕ → StoredFile → CountedFile
-held_of tag i = record { file = file_of tag i; nlink = i.nlink }
+abbrev pub counted_file_of : ℕ → StoredFile → CountedFile
+counted_file_of tag i = record { file = file_of tag i; nlink = i.nlink }
 
 abbrev pub volume_of : StoredVolume → Volume
 volume_of s = record { path = s.path.items; max_bytes = s.max_bytes; max_files = s.max_files; root = s.root }
 
-abbrev pub counted_of : StoredVolume → CountedVolume
-counted_of s = record { volume = volume_of s; bytes = s.bytes; files = s.files }
+abbrev pub counted_volume_of : StoredVolume → CountedVolume
+counted_volume_of s = record { volume = volume_of s; bytes = s.bytes; files = s.files }
 
 -- a directory takes an entry with no growth
 abbrev pub has_room : Node → Type 0
@@ -40,8 +40,8 @@ abbrev pub HasRoom : StoredFile → Type 0
 HasRoom i = has_room i.node
 
 -- the files with what is kept beside each
-abbrev pub helds : List (ℕ × TaggedFile StoredFile) → List (ℕ × CountedFile)
-helds files = map (λ e. (e.0, held_of e.1.tag e.1.value)) files
+abbrev pub counted_files : List (ℕ × TaggedFile StoredFile) → List (ℕ × CountedFile)
+counted_files files = map (λ e. (e.0, counted_file_of e.1.tag e.1.value)) files
 
-abbrev pub kept_of : NumberedFiles StoredFile → List StoredVolume → CountedTree
-kept_of numbered shares = record { files = helds numbered.files; next = numbered.next; key = numbered.key; volumes = map counted_of shares }
+abbrev pub counted_tree_of : NumberedFiles StoredFile → List StoredVolume → CountedTree
+counted_tree_of numbered_files stored_volumes = record { files = counted_files numbered_files.files; next = numbered_files.next; key = numbered_files.key; volumes = map counted_volume_of stored_volumes }

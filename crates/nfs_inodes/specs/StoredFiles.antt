@@ -2,11 +2,12 @@
 use Rattle.std.specs.Prelude.{◌≡◌, ℕ, ◌≢◌, ◌+◌, ◌-◌, ◌<◌, ◌≤◌, ◌^◌, true, List, [], ◌∷◌, ◌++◌, length, Some}
 use Rattle.nfs_attrs.specs.declared.moment.Moment.{Moment}
 use Rattle.nfs_handles.specs.NumberedFiles.{NumberedFiles, TaggedFile, at, with_value}
+use Rattle.nfs_inodes.specs.Limits.{max_file_bytes, max_links}
 use Rattle.nfs_inodes.specs.declared.stored_file.StoredFile.{StoredFile}
 use Rattle.nfs_inodes.specs.Tree.{with_at, one_when, is_directory, is_regular, bytes_in, next_cookie_in}
 use Rattle.nfs_inodes.specs.declared.stored_files.Growth.{Growth}
-use Rattle.nfs_inodes.specs.Changes.{entered, overwritten}
-use Rattle.nfs_inodes.specs.Storage.{file_of, held_of, helds}
+use Rattle.nfs_inodes.specs.Changes.{entered, file_with_bytes}
+use Rattle.nfs_inodes.specs.Storage.{file_of, counted_file_of, counted_files}
 
 -- number d is that of a directory, which takes an entry more
 pub record TakesEntry (files : NumberedFiles StoredFile) (d : ℕ) : Type 0 where
@@ -14,7 +15,7 @@ pub record TakesEntry (files : NumberedFiles StoredFile) (d : ℕ) : Type 0 wher
   pub at_dir : at files d ≡ Some dir
   pub is_dir : is_directory (file_of 0 dir.value).kind ≡ true
   pub next_cookie : next_cookie_in (file_of 0 dir.value).kind + 1 < 2 ^ 64
-  pub nlink : dir.value.nlink ≤ 1000
+  pub nlink : dir.value.nlink ≤ max_links
   pub below : d < files.next
 
 -- of the file under a number the kept value has changed, from one to another
@@ -36,20 +37,20 @@ pub record Enters (name : List ℕ) (number : ℕ) (links : ℕ) (now : Moment) 
   pub nlink : new.nlink ≡ old.nlink + links
 
 -- a new file, of some tag, with its entry in directory d
-pub record AddsFile (old : NumberedFiles StoredFile) (d : ℕ) (name : List ℕ) (inode : StoredFile) (now : Moment) (new : NumberedFiles StoredFile) : Type 0 where
+pub record AddsFile (old : NumberedFiles StoredFile) (d : ℕ) (name : List ℕ) (stored_file : StoredFile) (now : Moment) (new : NumberedFiles StoredFile) : Type 0 where
   pub tag : ℕ
   pub fits : tag < 2 ^ 32
   pub dir : TaggedFile StoredFile
   pub at_dir : at old d ≡ Some dir
   pub value : StoredFile
-  pub enters : Enters name old.next (one_when (is_directory (file_of 0 inode).kind)) now dir.value value
-  pub files : helds new.files ≡ with_at d (held_of dir.tag value) (helds old.files ++ (old.next, held_of tag inode) ∷ [])
+  pub enters : Enters name old.next (one_when (is_directory (file_of 0 stored_file).kind)) now dir.value value
+  pub files : counted_files new.files ≡ with_at d (counted_file_of dir.tag value) (counted_files old.files ++ (old.next, counted_file_of tag stored_file) ∷ [])
   pub next : new.next ≡ old.next + 1
   pub key : new.key ≡ old.key
 
 -- nothing of what is kept for clients has changed
 pub record SameFiles (old new : NumberedFiles StoredFile) : Type 0 where
-  pub files : helds new.files ≡ helds old.files
+  pub files : counted_files new.files ≡ counted_files old.files
   pub next : new.next ≡ old.next
   pub key : new.key ≡ old.key
 
@@ -59,7 +60,7 @@ pub record SameFiles (old new : NumberedFiles StoredFile) : Type 0 where
 pub record TakesLink (files : NumberedFiles StoredFile) (n d : ℕ) : Type 0 where
   pub file : TaggedFile StoredFile
   pub at_file : at files n ≡ Some file
-  pub nlink : file.value.nlink ≤ 1000
+  pub nlink : file.value.nlink ≤ max_links
   pub other : d ≢ n
 
 pub record GainsLink (now : Moment) (old new : StoredFile) : Type 0 where
@@ -76,7 +77,7 @@ pub record LinksFile (old : NumberedFiles StoredFile) (n d : ℕ) (name : List �
   pub at_dir : at old d ≡ Some dir
   pub dir_now : StoredFile
   pub enters : Enters name n 0 now dir.value dir_now
-  pub files : helds new.files ≡ with_at d (held_of dir.tag dir_now) (with_at n (held_of file.tag file_now) (helds old.files))
+  pub files : counted_files new.files ≡ with_at d (counted_file_of dir.tag dir_now) (with_at n (counted_file_of file.tag file_now) (counted_files old.files))
   pub next : new.next ≡ old.next
   pub key : new.key ≡ old.key
 
@@ -87,7 +88,7 @@ pub record TakesBytes (files : NumberedFiles StoredFile) (n offset count : ℕ) 
   pub file : TaggedFile StoredFile
   pub at_file : at files n ≡ Some file
   pub regular : is_regular (file_of 0 file.value).kind ≡ true
-  pub large : offset + count ≤ 16777216
+  pub large : offset + count ≤ max_file_bytes
 
 -- file n ends before this offset
 pub record TakesGrowth (files : NumberedFiles StoredFile) (n end : ℕ) : Type 0 where
@@ -100,10 +101,10 @@ pub record WritesFile (old : NumberedFiles StoredFile) (n offset : ℕ) (bytes :
   pub file : TaggedFile StoredFile
   pub at_file : at old n ≡ Some file
   pub file_now : StoredFile
-  pub overwritten : file_of 0 file_now ≡ overwritten (file_of 0 file.value) offset bytes now
+  pub file_with_bytes : file_of 0 file_now ≡ file_with_bytes (file_of 0 file.value) offset bytes now
   pub nlink : file_now.nlink ≡ file.value.nlink
   pub place : growth.place ≡ file.value.volume
   pub grown : growth.bytes ≡ offset + length bytes - length (bytes_in (file_of 0 file.value).kind)
-  pub files : helds new.files ≡ with_at n (held_of file.tag file_now) (helds old.files)
+  pub files : counted_files new.files ≡ with_at n (counted_file_of file.tag file_now) (counted_files old.files)
   pub next : new.next ≡ old.next
   pub key : new.key ≡ old.key

@@ -2,7 +2,9 @@
 use Rattle.std.specs.Prelude.{◌≡◌, ℕ, List, Some}
 use Rattle.nfs_inodes.specs.Tree.{Tree, Kind, Entry, Volume, bytes_in}
 use Rattle.nfs_inodes.specs.Storage.{kind_of}
-use Rattle.nfs_inodes.specs.Reading.{attributes_at, kind_at}
+use Rattle.nfs_inodes.specs.Reading.{attributes_at, kind_at, numbered_files}
+use Rattle.nfs_handles.specs.Handles.{reading, number}
+use Rattle.nfs_handles.specs.declared.reading.Reading.TheVariants.{Live}
 use Rattle.nfs_inodes.specs.declared.directory.EntryView.{EntryView}
 use Rattle.nfs_inodes.specs.declared.view.FileView.{FileView}
 use Rattle.nfs_inodes.specs.declared.volumes.VolumeView.{VolumeView}
@@ -23,3 +25,7 @@ bytes_seen v = bytes_in (kind_seen v)
 -- the file lives in the tree, with these attributes, and is this
 abbrev pub IsSeen : Tree → FileView → Type 0
 IsSeen t v = (attributes_at t v.attributes.fileid ≡ Some v.attributes) × (kind_at t v.attributes.fileid ≡ Some (kind_seen v))
+
+-- and a handle reads as it
+abbrev pub IsNamedBy : Tree → List ℕ → FileView → Type 0
+IsNamedBy t handle v = (reading (numbered_files t) handle ≡ Live (number v.attributes.fileid)) × IsSeen t v

@@ -1,10 +1,11 @@
 //! The attributes of files, and the verifiers that made them.
 ghost use Rattle.std.specs.Prelude.{◌≡◌, ℕ, ◌<◌};
+ghost use Rattle.nfs_inodes.specs.Limits.{max_volumes};
 ghost use Rattle.nfs_inodes.specs.Storage.{file_of, kind_of};
 ghost use Rattle.nfs_inodes.specs.Reading.{attributes_at, verifier_at};
 ghost use Rattle.nfs_inodes.specs.Reading as spec;
 
-use crate::stored_file::{StoredFile, Node};
+use crate::stored_file::{Node, StoredFile};
 use crate::tree::Tree;
 use nfs_attrs::fattr::{Fattr, SpecData};
 use nfs_attrs::file_type::FileType;
@@ -31,35 +32,35 @@ impl Tree {
         ensures { result ≡ verifier_at self.now number.0 }
     {
         match self.files.get(number) {
-            Some(inode) => inode.verifier,
+            Some(stored_file) => stored_file.verifier,
             None => None,
         }
     }
 }
 
 #[inline(always)]
-pub(crate) fn attributes_of(inode: &StoredFile, number: Number) -> Fattr
-    requires { inode.now.volume < 64 }
-    ensures { result ≡ spec.attributes_of number.0 (file_of 0 inode.now) inode.now.nlink }
+pub(crate) fn attributes_of(stored_file: &StoredFile, number: Number) -> Fattr
+    requires { stored_file.now.volume < max_volumes }
+    ensures { result ≡ spec.attributes_of number.0 (file_of 0 stored_file.now) stored_file.now.nlink }
 {
-    let size = size_of(&inode.node);
+    let size = size_of(&stored_file.node);
     Fattr {
-        file_type: type_of(&inode.node),
-        mode: inode.mode,
-        nlink: inode.nlink,
-        uid: inode.uid,
-        gid: inode.gid,
+        file_type: type_of(&stored_file.node),
+        mode: stored_file.mode,
+        nlink: stored_file.nlink,
+        uid: stored_file.uid,
+        gid: stored_file.gid,
         size,
         used: size,
         rdev: SpecData {
             specdata1: 0,
             specdata2: 0,
         },
-        fsid: inode.volume as u64 + 1,
+        fsid: stored_file.volume as u64 + 1,
         fileid: number.0,
-        atime: inode.atime,
-        mtime: inode.mtime,
-        ctime: inode.ctime,
+        atime: stored_file.atime,
+        mtime: stored_file.mtime,
+        ctime: stored_file.ctime,
     }
 }
 

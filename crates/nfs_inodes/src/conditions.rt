@@ -1,19 +1,20 @@
 //! What may be done: tests for the conditions of the tree's operations.
-ghost use Rattle.std.specs.Prelude.{◌≡◌, ◌↔◌, ◌+◌, ◌<◌, ◌≤◌, true, false, IsTrue};
-ghost use Rattle.nfs_inodes.specs.StepConditions.{TakesName, TakesFile, MayGainLink, HasRoomIn, HasSpaceIn};
-ghost use Rattle.nfs_inodes.specs.Tree.{is_directory, is_regular};
-ghost use Rattle.nfs_inodes.specs.Storage.{kind_of};
-ghost use Rattle.nfs_inodes.specs.Conditions.{MayMake, MayMakeDirectory, MayMakeLink, MayLink, MayWrite, MayAddVolume};
+ghost use Rattle.std.specs.Prelude.{◌↔◌, ◌+◌, ◌<◌, ◌≤◌, IsTrue};
+ghost use Rattle.nfs_inodes.specs.Limits.{max_links};
+ghost use Rattle.nfs_inodes.specs.StepConditions.{TakesName, TakesFile, TakesLinkIn, TakesCount};
+ghost use Rattle.nfs_inodes.specs.StepConditions.{MayGainLink, HasRoomIn, HasSpaceIn};
+ghost use Rattle.nfs_inodes.specs.Conditions.{MayMake, MayMakeDirectory, MayMakeLink, MayLink};
+ghost use Rattle.nfs_inodes.specs.Conditions.{MayWrite, MayAddVolume};
 
+use crate::directory::named;
 use crate::limits::{
     MAX_FILE_BYTES, MAX_LINKS, MAX_PATH_BYTES, MAX_VOLUME_PATH_BYTES, MAX_VOLUMES,
 };
 use crate::name::is_name;
-use crate::stored_file::{StoredFile, Node};
-use crate::directory::named;
-use crate::tree::Tree;
+use crate::stored_file::{Node, StoredFile};
 use crate::stored_volume::StoredVolume;
-use crate::volumes::share_at;
+use crate::tree::Tree;
+use crate::volumes::stored_volume_at;
 use nfs_handles::number::Number;
 
 impl Tree {
@@ -35,7 +36,7 @@ impl Tree {
         ensures { IsTrue result ↔ MayMake self.now dir.0 name.now size }
     {
         match self.files.get(dir) {
-            Some(inode) => self.takes_file(inode, name, size),
+            Some(stored_file) => self.takes_file(stored_file, name, size),
             None => false,
         }
     }
@@ -45,11 +46,11 @@ impl Tree {
         ensures { IsTrue result ↔ MayMakeDirectory self.now dir.0 name.now }
     {
         match self.files.get(dir) {
-            Some(inode) => {
-                if !has_link_left(inode) {
+            Some(stored_file) => {
+                if !has_link_left(stored_file) {
                     return false;
                 }
-                self.takes_file(inode, name, 0)
+                self.takes_file(stored_file, name, 0)
             }
             None => false,
         }
@@ -70,11 +71,11 @@ impl Tree {
         ensures { IsTrue result ↔ MayLink self.now number.0 dir.0 name.now }
     {
         match self.files.get(dir) {
-            Some(inode) => {
-                if !self.may_gain_link(number, inode.volume) {
+            Some(stored_file) => {
+                if !self.may_gain_link(number, stored_file.volume) {
                     return false;
                 }
-                takes_entry(inode, name)
+                takes_entry(stored_file, name)
             }
             None => false,
         }
@@ -86,31 +87,31 @@ impl Tree {
         ensures { IsTrue result ↔ MayWrite self.now number.0 offset count }
     {
         match self.files.get(number) {
-            Some(inode) => {
-                if !takes_bytes(inode, offset, count) {
+            Some(stored_file) => {
+                if !takes_bytes(stored_file, offset, count) {
                     return false;
                 }
                 if count == 0 {
                     return true;
                 }
                 let end = (offset + count) as u64;
-                self.has_space(inode.volume, end.saturating_sub(inode.size()))
+                self.has_space(stored_file.volume, end.saturating_sub(stored_file.size()))
             }
             None => false,
         }
     }
 
     // Whether a kept file is a directory that takes a new file of so many bytes under this name.
-    fn takes_file(&self, inode: &StoredFile, name: &[u8], size: usize) -> bool
-        ensures { IsTrue result ↔ TakesFile self.now inode.now name.now size }
+    fn takes_file(&self, stored_file: &StoredFile, name: &[u8], size: usize) -> bool
+        ensures { IsTrue result ↔ TakesFile self.now stored_file.now name.now size }
     {
         if self.files.next() >= u64::MAX || size > MAX_FILE_BYTES {
             return false;
         }
-        if !self.has_room(inode.volume, size as u64) {
+        if !self.has_room(stored_file.volume, size as u64) {
             return false;
         }
-        takes_entry(inode, name)
+        takes_entry(stored_file, name)
     }
 
     // Whether the file `number` may have one link more, from the volume at a place.
@@ -118,7 +119,7 @@ impl Tree {
         ensures { IsTrue result ↔ MayGainLink self.now number.0 place }
     {
         match self.files.get(number) {
-            Some(inode) => takes_link(inode, place),
+            Some(stored_file) => takes_link(stored_file, place),
             None => false,
         }
     }
@@ -127,12 +128,12 @@ impl Tree {
     fn has_room(&self, place: usize, size: u64) -> bool
         ensures { IsTrue result ↔ HasRoomIn self.now place size }
     {
-        match share_at(self.volumes.as_slice(), place) {
-            Some(share) => {
-                if share.files >= share.max_files {
+        match stored_volume_at(self.volumes.as_slice(), place) {
+            Some(stored_volume) => {
+                if stored_volume.files >= stored_volume.max_files {
                     return false;
                 }
-                takes_size(share, size)
+                takes_size(stored_volume, size)
             }
             None => false,
         }
@@ -142,52 +143,53 @@ impl Tree {
     fn has_space(&self, place: usize, size: u64) -> bool
         ensures { IsTrue result ↔ HasSpaceIn self.now place size }
     {
-        match share_at(self.volumes.as_slice(), place) {
-            Some(share) => takes_size(share, size),
+        match stored_volume_at(self.volumes.as_slice(), place) {
+            Some(stored_volume) => takes_size(stored_volume, size),
             None => false,
         }
     }
 }
 
 // Whether so many bytes more are within a volume's limit.
-fn takes_size(share: &StoredVolume, size: u64) -> bool
-    ensures { IsTrue result ↔ (share.now.bytes + size ≤ share.now.max_bytes) }
+fn takes_size(stored_volume: &StoredVolume, size: u64) -> bool
+    ensures { IsTrue result ↔ (stored_volume.now.bytes + size ≤ stored_volume.now.max_bytes) }
 {
-    share.bytes <= share.max_bytes && size <= share.max_bytes - share.bytes
+    stored_volume.bytes <= stored_volume.max_bytes
+        && size <= stored_volume.max_bytes - stored_volume.bytes
 }
 
 // Whether a kept file is no directory, of the volume at a place, and may have a link more.
-fn takes_link(inode: &StoredFile, place: usize) -> bool
-    ensures { IsTrue result ↔ ((is_directory (kind_of inode.now.node) ≡ false) × (inode.now.volume ≡ place) × (inode.now.nlink < 1000)) }
+fn takes_link(stored_file: &StoredFile, place: usize) -> bool
+    ensures { IsTrue result ↔ TakesLinkIn stored_file.now place }
 {
-    !inode.is_directory() && inode.volume == place && has_link_left(inode)
+    !stored_file.is_directory() && stored_file.volume == place && has_link_left(stored_file)
 }
 
 // Whether a kept file may have a link more.
-fn has_link_left(inode: &StoredFile) -> bool
-    ensures { IsTrue result ↔ (inode.now.nlink < 1000) }
+fn has_link_left(stored_file: &StoredFile) -> bool
+    ensures { IsTrue result ↔ (stored_file.now.nlink < max_links) }
 {
-    inode.nlink < MAX_LINKS
+    stored_file.nlink < MAX_LINKS
 }
 
 // Whether a kept file is regular, and so many bytes at an offset, if any, are within the limit.
-fn takes_bytes(inode: &StoredFile, offset: usize, count: usize) -> bool
-    ensures { IsTrue result ↔ ((is_regular (kind_of inode.now.node) ≡ true) × (0 < count → offset + count ≤ 16777216)) }
+fn takes_bytes(stored_file: &StoredFile, offset: usize, count: usize) -> bool
+    ensures { IsTrue result ↔ TakesCount stored_file.now offset count }
 {
     if count > 0 && (offset > MAX_FILE_BYTES || count > MAX_FILE_BYTES - offset) {
         return false;
     }
-    match &inode.node {
+    match &stored_file.node {
         Node::Regular(_) => true,
         _ => false,
     }
 }
 
 // Whether a kept file is a directory that takes an entry of this name.
-fn takes_entry(inode: &StoredFile, name: &[u8]) -> bool
-    ensures { IsTrue result ↔ TakesName inode.now name.now }
+fn takes_entry(stored_file: &StoredFile, name: &[u8]) -> bool
+    ensures { IsTrue result ↔ TakesName stored_file.now name.now }
 {
-    match &inode.node {
+    match &stored_file.node {
         Node::Directory {
             next_cookie,
             entries,

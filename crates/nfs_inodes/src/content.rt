@@ -1,5 +1,7 @@
 //! The bytes of a regular file.
-ghost use Rattle.std.specs.Prelude.{◌≡◌, ◌+◌, ◌<◌, ◌≤◌, ◌++◌, OnOk, OnErr, IfOk, length, take, drop};
+ghost use Rattle.std.specs.Prelude.{◌≡◌, ◌+◌, ◌<◌, ◌≤◌, ◌++◌, OnOk, OnErr, IfOk, length, take};
+ghost use Rattle.std.specs.Prelude.{drop};
+ghost use Rattle.nfs_inodes.specs.Limits.{max_file_bytes};
 ghost use Rattle.nfs_inodes.specs.Changes.{put_bytes, zeros};
 
 use std::alloc::{AllocError, Global};
@@ -25,7 +27,7 @@ pub(crate) fn copied(alloc: Global, bytes: &[u8]) -> Result<Vec<u8>, AllocError>
 /// Puts bytes at an offset, zeros in a gap before them. Refused only without memory for what it
 /// grows by, and then the content is as before.
 pub(crate) fn put(content: &mut Vec<u8>, offset: usize, bytes: &[u8]) -> Result<(), AllocError>
-    requires { offset + length bytes.now ≤ 16777216 }
+    requires { offset + length bytes.now ≤ max_file_bytes }
     ensures ok { OnOk result (content.new.items ≡ put_bytes content.old.items offset bytes.now) }
     ensures err { OnErr result (content.new.items ≡ content.old.items) }
     ensures full { OnErr result (length content.old.items < offset + length bytes.now) }
@@ -53,7 +55,7 @@ fn put_inside(content: &mut Vec<u8>, offset: usize, bytes: &[u8]) -> Result<(), 
 // Bytes that begin beyond the end.
 fn put_beyond(content: &mut Vec<u8>, offset: usize, bytes: &[u8]) -> Result<(), AllocError>
     requires place { length content.old.items < offset }
-    requires size { offset + length bytes.now ≤ 16777216 }
+    requires size { offset + length bytes.now ≤ max_file_bytes }
     ensures ok { OnOk result (content.new.items ≡ put_bytes content.old.items offset bytes.now) }
     ensures err { OnErr result (content.new.items ≡ content.old.items) }
     ensures full { OnErr result (length content.old.items < offset + length bytes.now) }

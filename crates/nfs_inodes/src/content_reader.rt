@@ -16,7 +16,7 @@ impl Tree {
         ensures { IsFirstChunk result.now (drop offset (bytes_at self.now number.0)) }
     {
         match self.files.get(number) {
-            Some(inode) => run_from(&inode.node, offset),
+            Some(stored_file) => run_from(&stored_file.node, offset),
             None => &[],
         }
     }
@@ -27,7 +27,7 @@ impl Tree {
         ensures { option_map (λ path. path.now) result ≡ path_at self.now number.0 }
     {
         match self.files.get(number) {
-            Some(inode) => path_of(&inode.node),
+            Some(stored_file) => path_of(&stored_file.node),
             None => None,
         }
     }

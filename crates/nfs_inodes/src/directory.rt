@@ -1,8 +1,8 @@
 //! Directories as they are read.
-ghost use Rattle.std.specs.Prelude.{◌≡◌, ℕ, bytes_eq, nat_lt, map, option_map};
-ghost use Rattle.std.specs.List.{find};
+ghost use Rattle.std.specs.Prelude.{◌≡◌, ℕ, map, option_map};
 ghost use Rattle.nfs_inodes.specs.Storage.{entry_of, kind_of};
-ghost use Rattle.nfs_inodes.specs.Reading.{listing, found, entry_after, next_cookie_at};
+ghost use Rattle.nfs_inodes.specs.Reading.{listing, number_named, first_after, number_under};
+ghost use Rattle.nfs_inodes.specs.Reading.{entry_after, next_cookie_at};
 ghost use Rattle.nfs_inodes.specs.Reading as spec;
 ghost use Rattle.nfs_inodes.specs.Views.{entry_seen};
 
@@ -26,10 +26,10 @@ impl Tree {
     /// The file under a name in directory `dir`; `.` is the directory itself and `..` its parent
     /// (RFC 1813, section 3.3.3). `None` where there is no such name or no directory.
     pub fn lookup(&self, dir: Number, name: &[u8]) -> Option<Number>
-        ensures { option_map (λ n. n.0) result ≡ found self.now dir.0 name.now }
+        ensures { option_map (λ n. n.0) result ≡ number_under self.now dir.0 name.now }
     {
         match self.files.get(dir) {
-            Some(inode) => under_name(&inode.node, dir, name),
+            Some(stored_file) => under_name(&stored_file.node, dir, name),
             None => None,
         }
     }
@@ -41,7 +41,7 @@ impl Tree {
         ensures { option_map entry_seen result ≡ entry_after self.now dir.0 cookie }
     {
         match self.files.get(dir) {
-            Some(inode) => after_cookie(&inode.node, dir, cookie),
+            Some(stored_file) => after_cookie(&stored_file.node, dir, cookie),
             None => None,
         }
     }
@@ -51,7 +51,7 @@ impl Tree {
         ensures { result ≡ next_cookie_at self.now dir.0 }
     {
         match self.files.get(dir) {
-            Some(inode) => cookie_of_next(&inode.node),
+            Some(stored_file) => cookie_of_next(&stored_file.node),
             None => None,
         }
     }
@@ -67,7 +67,7 @@ fn cookie_of_next(node: &Node) -> Option<u64>
 }
 
 pub(crate) fn under_name(node: &Node, dir: Number, name: &[u8]) -> Option<Number>
-    ensures { option_map (λ n. n.0) result ≡ option_map (λ e. e.number) (find (λ e. bytes_eq e.name name.now) (listing dir.0 (kind_of node.now))) }
+    ensures { option_map (λ n. n.0) result ≡ number_named name.now (listing dir.0 (kind_of node.now)) }
 {
     match node {
         Node::Directory {
@@ -88,7 +88,7 @@ pub(crate) fn under_name(node: &Node, dir: Number, name: &[u8]) -> Option<Number
 }
 
 pub(crate) fn named(entries: &[StoredEntry], name: &[u8]) -> Option<Number>
-    ensures { option_map (λ n. n.0) result ≡ option_map (λ e. e.number) (find (λ e. bytes_eq e.name name.now) (map entry_of entries.now)) }
+    ensures { option_map (λ n. n.0) result ≡ number_named name.now (map entry_of entries.now) }
 {
     for entry in entries {
         if entry.name.as_slice() == name {
@@ -99,7 +99,7 @@ pub(crate) fn named(entries: &[StoredEntry], name: &[u8]) -> Option<Number>
 }
 
 fn after_cookie(node: &Node, dir: Number, cookie: u64) -> Option<EntryView<'_>>
-    ensures { option_map entry_seen result ≡ find (λ e. nat_lt cookie e.cookie) (listing dir.0 (kind_of node.now)) }
+    ensures { option_map entry_seen result ≡ first_after cookie (listing dir.0 (kind_of node.now)) }
 {
     match node {
         Node::Directory {
@@ -128,7 +128,7 @@ fn after_cookie(node: &Node, dir: Number, cookie: u64) -> Option<EntryView<'_>>
 }
 
 fn later(entries: &[StoredEntry], cookie: u64) -> Option<EntryView<'_>>
-    ensures { option_map entry_seen result ≡ find (λ e. nat_lt cookie e.cookie) (map entry_of entries.now) }
+    ensures { option_map entry_seen result ≡ first_after cookie (map entry_of entries.now) }
 {
     for entry in entries {
         if cookie < entry.cookie {

@@ -1,10 +1,8 @@
 //! Handles of the files of a tree.
 ghost use Rattle.std.specs.Prelude.{◌≡◌, ℕ, IfOk, IfErr};
 ghost use Rattle.nfs_handles.specs.Handles.{handle_at, reading, reading_without};
-ghost use Rattle.nfs_handles.specs.Handles.{number as number_of};
-ghost use Rattle.nfs_handles.specs.declared.reading.Reading.TheVariants.{Live};
-ghost use Rattle.nfs_inodes.specs.Reading.{numbered};
-ghost use Rattle.nfs_inodes.specs.Views.{IsSeen};
+ghost use Rattle.nfs_inodes.specs.Reading.{numbered_files};
+ghost use Rattle.nfs_inodes.specs.Views.{IsNamedBy};
 
 use crate::tree::Tree;
 use crate::view::FileView;
@@ -15,7 +13,7 @@ impl Tree {
     /// The handle of a file (RFC 1813, section 2.6, nfs_fh3). `None` where none lives under the
     /// number.
     pub fn handle_of(&self, number: u64) -> Option<[u8; 24]>
-        ensures { result ≡ handle_at (numbered self.now) number }
+        ensures { result ≡ handle_at (numbered_files self.now) number }
     {
         let number = Number(number);
         match self.files.get(number) {
@@ -26,7 +24,7 @@ impl Tree {
 
     /// What the bytes of a handle say.
     pub fn read_handle(&self, handle: &[u8]) -> Reading
-        ensures { result ≡ reading (numbered self.now) handle.now }
+        ensures { result ≡ reading (numbered_files self.now) handle.now }
     {
         self.files.read(handle)
     }
@@ -34,11 +32,11 @@ impl Tree {
     /// The file that a handle names, by one search. `Stale` and `Bad` as the handle reads.
     #[inline(always)]
     pub fn find(&self, handle: &[u8]) -> Result<FileView<'_>, NoFile>
-        ensures found { IfOk result (λ file. (reading (numbered self.now) handle.now ≡ Live (number_of file.attributes.fileid)) × IsSeen self.now file) }
-        ensures none { IfErr result (λ why. reading (numbered self.now) handle.now ≡ reading_without why) }
+        ensures found { IfOk result (λ file. IsNamedBy self.now handle.now file) }
+        ensures none { IfErr result (λ why. reading (numbered_files self.now) handle.now ≡ reading_without why) }
     {
         match self.files.find(handle) {
-            Ok((number, inode)) => Ok(FileView::new(inode, number)),
+            Ok((number, stored_file)) => Ok(FileView::new(stored_file, number)),
             Err(why) => Err(why),
         }
     }

@@ -1,5 +1,6 @@
 //! What holds of every lawful tree, of the operations as changes of it, and of its handles.
-ghost use Rattle.nfs_inodes.specs.Laws.{RootsAreReached, ChangesKeepTheLaw, ChangesFollow, HandlesAreForGood, FoundLives};
+ghost use Rattle.nfs_inodes.specs.Laws.{RootsAreReached, ChangesKeepTheLaw, ChangesFollow};
+ghost use Rattle.nfs_inodes.specs.Laws.{HandlesAreForGood, FoundLives};
 
 /// From each directory, steps to the parent lead to the root of its volume, at most as many as
 /// there are directories.

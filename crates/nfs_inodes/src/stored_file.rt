@@ -1,12 +1,15 @@
 //! A file as it is kept, and what is done to it alone.
-ghost use Rattle.std.specs.Prelude.{◌≡◌, ◌+◌, ◌<◌, ◌≤◌, ◌^◌, ◌*◌, OnOk, OnErr, length, IsTrue, if◌then◌else◌};
-ghost use Rattle.nfs_inodes.specs.Tree.{is_directory, is_regular, next_cookie_in, bytes_in, one_when};
-ghost use Rattle.nfs_inodes.specs.Changes.{entered, overwritten, new_file};
+ghost use Rattle.std.specs.Prelude.{◌≡◌, ◌+◌, ◌<◌, ◌≤◌, ◌^◌, ◌*◌, OnOk, OnErr, length, IsTrue};
+ghost use Rattle.std.specs.Prelude.{if◌then◌else◌};
+ghost use Rattle.nfs_inodes.specs.Limits.{max_file_bytes, max_links};
+ghost use Rattle.nfs_inodes.specs.Tree.{is_directory, is_regular, next_cookie_in, bytes_in};
+ghost use Rattle.nfs_inodes.specs.Tree.{one_when};
+ghost use Rattle.nfs_inodes.specs.Changes.{entered, file_with_bytes, new_file};
 ghost use Rattle.nfs_inodes.specs.Storage.{file_of, kind_of, HasRoom};
 
 use crate::content::put;
-use crate::stored_entry::StoredEntry;
 use crate::new_file::NewFile;
+use crate::stored_entry::StoredEntry;
 use nfs_attrs::moment::Moment;
 use std::alloc::AllocError;
 
@@ -89,13 +92,13 @@ impl StoredFile {
 }
 
 /// Room for one entry more in a directory.
-pub(crate) fn reserve_entry(inode: &mut StoredFile) -> Result<(), AllocError>
-    requires { IsTrue (is_directory (file_of 0 inode.old).kind) }
-    ensures ok { OnOk result (HasRoom inode.new) }
-    ensures file { file_of 0 inode.new ≡ file_of 0 inode.old }
-    ensures nlink { inode.new.nlink ≡ inode.old.nlink }
+pub(crate) fn reserve_entry(stored_file: &mut StoredFile) -> Result<(), AllocError>
+    requires { IsTrue (is_directory (file_of 0 stored_file.old).kind) }
+    ensures ok { OnOk result (HasRoom stored_file.new) }
+    ensures file { file_of 0 stored_file.new ≡ file_of 0 stored_file.old }
+    ensures nlink { stored_file.new.nlink ≡ stored_file.old.nlink }
 {
-    match &mut inode.node {
+    match &mut stored_file.node {
         Node::Directory { entries, .. } => entries.reserve(1),
         _ => unreachable!(),
     }
@@ -103,25 +106,25 @@ pub(crate) fn reserve_entry(inode: &mut StoredFile) -> Result<(), AllocError>
 
 /// One entry more in a directory, which has room for it.
 pub(crate) fn add_entry(
-    inode: &mut StoredFile,
+    stored_file: &mut StoredFile,
     name: Vec<u8>,
     number: u64,
     subdirectory: bool,
     now: Moment,
 )
-    requires dir { IsTrue (is_directory (file_of 0 inode.old).kind) }
-    requires room { HasRoom inode.old }
-    requires next { next_cookie_in (file_of 0 inode.old).kind + 1 < 2 ^ 64 }
-    requires links { inode.old.nlink ≤ 1000 }
-    ensures file { file_of 0 inode.new ≡ entered (file_of 0 inode.old) name.items number now }
-    ensures nlink { inode.new.nlink ≡ inode.old.nlink + one_when subdirectory }
+    requires dir { IsTrue (is_directory (file_of 0 stored_file.old).kind) }
+    requires room { HasRoom stored_file.old }
+    requires next { next_cookie_in (file_of 0 stored_file.old).kind + 1 < 2 ^ 64 }
+    requires links { stored_file.old.nlink ≤ max_links }
+    ensures file { file_of 0 stored_file.new ≡ entered (file_of 0 stored_file.old) name.items number now }
+    ensures nlink { stored_file.new.nlink ≡ stored_file.old.nlink + one_when subdirectory }
 {
-    inode.mtime = now;
-    inode.ctime = now;
+    stored_file.mtime = now;
+    stored_file.ctime = now;
     if subdirectory {
-        inode.nlink += 1;
+        stored_file.nlink += 1;
     }
-    match &mut inode.node {
+    match &mut stored_file.node {
         Node::Directory {
             next_cookie,
             entries,
@@ -144,23 +147,23 @@ pub(crate) fn add_entry(
 /// Puts bytes at an offset of a regular file, zeros in a gap before them. Refused only without
 /// memory for what it grows by, and then it is as before.
 pub(crate) fn write_bytes(
-    inode: &mut StoredFile,
+    stored_file: &mut StoredFile,
     offset: usize,
     bytes: &[u8],
     now: Moment,
 ) -> Result<(), AllocError>
-    requires regular { IsTrue (is_regular (file_of 0 inode.old).kind) }
-    requires size { offset + length bytes.now ≤ 16777216 }
-    ensures ok { OnOk result (file_of 0 inode.new ≡ overwritten (file_of 0 inode.old) offset bytes.now now) }
-    ensures err { OnErr result (file_of 0 inode.new ≡ file_of 0 inode.old) }
-    ensures full { OnErr result (length (bytes_in (file_of 0 inode.old).kind) < offset + length bytes.now) }
-    ensures nlink { inode.new.nlink ≡ inode.old.nlink }
+    requires regular { IsTrue (is_regular (file_of 0 stored_file.old).kind) }
+    requires size { offset + length bytes.now ≤ max_file_bytes }
+    ensures ok { OnOk result (file_of 0 stored_file.new ≡ file_with_bytes (file_of 0 stored_file.old) offset bytes.now now) }
+    ensures err { OnErr result (file_of 0 stored_file.new ≡ file_of 0 stored_file.old) }
+    ensures full { OnErr result (length (bytes_in (file_of 0 stored_file.old).kind) < offset + length bytes.now) }
+    ensures nlink { stored_file.new.nlink ≡ stored_file.old.nlink }
 {
-    match &mut inode.node {
+    match &mut stored_file.node {
         Node::Regular(content) => put(content, offset, bytes)?,
         _ => unreachable!(),
     }
-    inode.mtime = now;
-    inode.ctime = now;
+    stored_file.mtime = now;
+    stored_file.ctime = now;
     Ok(())
 }

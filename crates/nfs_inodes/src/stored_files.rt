@@ -4,7 +4,9 @@ ghost use Rattle.nfs_handles.specs.NumberedFiles.{value_at};
 ghost use Rattle.nfs_inodes.specs.declared.stored_file.StoredFile.{StoredFile};
 ghost use Rattle.nfs_inodes.specs.Tree.{one_when};
 ghost use Rattle.nfs_inodes.specs.Storage.{HasRoom};
-ghost use Rattle.nfs_inodes.specs.StoredFiles.{TakesEntry, Revalues, SameFile, Enters, AddsFile, SameFiles, TakesLink, LinksFile, GainsLink, TakesBytes, TakesGrowth, WritesFile};
+ghost use Rattle.nfs_inodes.specs.StoredFiles.{TakesEntry, Revalues, SameFile, Enters, AddsFile};
+ghost use Rattle.nfs_inodes.specs.StoredFiles.{SameFiles, TakesLink, LinksFile, GainsLink};
+ghost use Rattle.nfs_inodes.specs.StoredFiles.{TakesBytes, TakesGrowth, WritesFile};
 
 use crate::stored_file::{StoredFile, add_entry, reserve_entry, write_bytes};
 use nfs_attrs::moment::Moment;
@@ -18,18 +20,18 @@ pub(crate) fn add(
     files: &mut Files<StoredFile>,
     dir: Number,
     name: Vec<u8>,
-    inode: StoredFile,
+    stored_file: StoredFile,
     now: Moment,
 ) -> Result<Number, AllocError>
     requires dir { TakesEntry files.old dir.0 }
     requires number { files.old.next < 2 ^ 64 - 1 }
-    ensures ok { OnOk result (AddsFile files.old dir.0 name.items inode now files.new) }
+    ensures ok { OnOk result (AddsFile files.old dir.0 name.items stored_file now files.new) }
     ensures number { IfOk result (λ n. n.0 ≡ files.old.next) }
     ensures err { OnErr result (SameFiles files.old files.new) }
 {
-    let subdirectory = inode.is_directory();
+    let subdirectory = stored_file.is_directory();
     reserve(files, dir)?;
-    let number = match files.put(inode) {
+    let number = match files.put(stored_file) {
         Ok(number) => number,
         Err(_) => return Err(AllocError),
     };
@@ -79,12 +81,12 @@ pub(crate) fn write(
     ensures full { OnErr result (TakesGrowth files.old number.0 (offset + length bytes.now)) }
 {
     match files.get_mut(number) {
-        Some(inode) => {
-            let before = inode.size();
-            write_bytes(inode, offset, bytes, now)?;
+        Some(stored_file) => {
+            let before = stored_file.size();
+            write_bytes(stored_file, offset, bytes, now)?;
             Ok(Growth {
-                place: inode.volume,
-                bytes: inode.size() - before,
+                place: stored_file.volume,
+                bytes: stored_file.size() - before,
             })
         }
         None => unreachable!(),
@@ -97,9 +99,9 @@ fn gain_link(files: &mut Files<StoredFile>, number: Number, dir: Number, now: Mo
     ensures { Revalues files.old number.0 (GainsLink now) files.new }
 {
     match files.get_mut(number) {
-        Some(inode) => {
-            inode.nlink += 1;
-            inode.ctime = now;
+        Some(stored_file) => {
+            stored_file.nlink += 1;
+            stored_file.ctime = now;
         }
         None => unreachable!(),
     }
@@ -109,7 +111,7 @@ fn gain_link(files: &mut Files<StoredFile>, number: Number, dir: Number, now: Mo
 fn reserve(files: &mut Files<StoredFile>, dir: Number) -> Result<(), AllocError>
     requires { TakesEntry files.old dir.0 }
     ensures same { Revalues files.old dir.0 SameFile files.new }
-    ensures ok { OnOk result ((inode : StoredFile) → value_at files.new dir.0 ≡ Some inode → HasRoom inode) }
+    ensures ok { OnOk result ((stored_file : StoredFile) → value_at files.new dir.0 ≡ Some stored_file → HasRoom stored_file) }
 {
     match files.get_mut(dir) {
         Some(parent) => reserve_entry(parent),
@@ -127,7 +129,7 @@ fn enter(
     now: Moment,
 )
     requires dir { TakesEntry files.old dir.0 }
-    requires room { (inode : StoredFile) → value_at files.old dir.0 ≡ Some inode → HasRoom inode }
+    requires room { (stored_file : StoredFile) → value_at files.old dir.0 ≡ Some stored_file → HasRoom stored_file }
     ensures { Revalues files.old dir.0 (Enters name.items number (one_when subdirectory) now) files.new }
 {
     match files.get_mut(dir) {

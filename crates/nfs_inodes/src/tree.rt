@@ -1,17 +1,21 @@
 //! The tree of files.
-ghost use Rattle.std.specs.Prelude.{◌≡◌, ◌+◌, ◌<◌, Option, Some, None, OnOk, OnErr, IfOk, length, [], ◌∷◌, ◌++◌, vec_len, vec_capacity, map};
+ghost use Rattle.std.specs.Prelude.{◌≡◌, ◌+◌, ◌<◌, Option, Some, None, OnOk, OnErr, IfOk, length};
+ghost use Rattle.std.specs.Prelude.{[], ◌∷◌, ◌++◌, vec_len, vec_capacity, map};
 ghost use Rattle.nfs_inodes.specs.Tree.{Regular, Directory, Link};
 ghost use Rattle.nfs_inodes.specs.Law.{Law};
-ghost use Rattle.nfs_inodes.specs.Changes.{Makes, file_made, directory_made, link_made, linked, written, volume_added, made, new_file, zeros, volume_of};
-ghost use Rattle.nfs_inodes.specs.Conditions.{MayMake, MayMakeDirectory, MayMakeLink, MayLink, MayWrite, Grows, MayAddVolume};
-ghost use Rattle.nfs_inodes.specs.Storage.{file_of, counted_of};
+ghost use Rattle.nfs_inodes.specs.Changes.{Makes, after_make_file, after_make_dir, after_make_link};
+ghost use Rattle.nfs_inodes.specs.Changes.{after_link, after_write_at, after_add_volume};
+ghost use Rattle.nfs_inodes.specs.Changes.{with_named_file, new_file, zeros, volume_of};
+ghost use Rattle.nfs_inodes.specs.Conditions.{MayMake, MayMakeDirectory, MayMakeLink, MayLink};
+ghost use Rattle.nfs_inodes.specs.Conditions.{MayWrite, Grows, MayAddVolume};
+ghost use Rattle.nfs_inodes.specs.Storage.{file_of, counted_volume_of};
 ghost use Rattle.nfs_inodes.specs.StepConditions.{MayAdd, retagged, HasRoomFor};
 ghost use Rattle.nfs_inodes.specs.Counts.{with_totals};
 
 use crate::content::{copied, zeroed};
-use crate::stored_file::{StoredFile, Node};
-use crate::stored_files::{add, link, write};
 use crate::new_file::NewFile;
+use crate::stored_file::{Node, StoredFile};
+use crate::stored_files::{add, link, write};
 use crate::stored_volume::StoredVolume;
 use nfs_attrs::moment::Moment;
 use nfs_handles::files::Files;
@@ -33,11 +37,11 @@ impl Model for Tree {
     ghost Value = { shown.Tree };
 
     ghost use Rattle.nfs_inodes.specs.Counts.{tree_in, Agrees};
-    ghost use Rattle.nfs_inodes.specs.Storage.{kept_of};
+    ghost use Rattle.nfs_inodes.specs.Storage.{counted_tree_of};
 
-    ghost view = { λ a. tree_in (kept_of a.files a.volumes.items) };
+    ghost view = { λ a. tree_in (counted_tree_of a.files a.volumes.items) };
 
-    ghost invariant = { λ a. Agrees (kept_of a.files a.volumes.items) };
+    ghost invariant = { λ a. Agrees (counted_tree_of a.files a.volumes.items) };
 }
 
 // `.` and `..` have the cookies 1 and 2.
@@ -81,20 +85,20 @@ impl Tree {
         now: Moment,
     ) -> Result<Number, AllocError>
         requires { MayMake self.old dir.0 name.now size }
-        ensures ok { OnOk result (Makes (λ tag. file_made self.old dir.0 name.now size given.now verifier tag now) self.new) }
+        ensures ok { OnOk result (Makes (λ tag. after_make_file self.old dir.0 name.now size given.now verifier tag now) self.new) }
         ensures number { IfOk result (λ n. n.0 ≡ self.old.next) }
         ensures err { OnErr result (self.new ≡ self.old) }
     {
         let content = zeroed(self.alloc, size)?;
         let name = copied(self.alloc, name)?;
-        let inode = StoredFile::new(
+        let stored_file = StoredFile::new(
             self.place(dir),
             Node::Regular(content),
             given,
             verifier,
             now,
         );
-        self.make(dir, name, inode, now)
+        self.make(dir, name, stored_file, now)
     }
 
     /// A new directory, with an entry in directory `dir`, which has a link more by it. Refused
@@ -107,7 +111,7 @@ impl Tree {
         now: Moment,
     ) -> Result<Number, AllocError>
         requires { MayMakeDirectory self.old dir.0 name.now }
-        ensures ok { OnOk result (Makes (λ tag. directory_made self.old dir.0 name.now given.now tag now) self.new) }
+        ensures ok { OnOk result (Makes (λ tag. after_make_dir self.old dir.0 name.now given.now tag now) self.new) }
         ensures number { IfOk result (λ n. n.0 ≡ self.old.next) }
         ensures err { OnErr result (self.new ≡ self.old) }
     {
@@ -117,8 +121,8 @@ impl Tree {
             next_cookie: FIRST_COOKIE,
             entries: Vec::new(self.alloc),
         };
-        let inode = StoredFile::new(self.place(dir), node, given, None, now);
-        self.make(dir, name, inode, now)
+        let stored_file = StoredFile::new(self.place(dir), node, given, None, now);
+        self.make(dir, name, stored_file, now)
     }
 
     /// A new link with this path, with an entry in directory `dir`. Refused without memory, and
@@ -132,14 +136,14 @@ impl Tree {
         now: Moment,
     ) -> Result<Number, AllocError>
         requires { MayMakeLink self.old dir.0 name.now path.now }
-        ensures ok { OnOk result (Makes (λ tag. link_made self.old dir.0 name.now path.now given.now tag now) self.new) }
+        ensures ok { OnOk result (Makes (λ tag. after_make_link self.old dir.0 name.now path.now given.now tag now) self.new) }
         ensures number { IfOk result (λ n. n.0 ≡ self.old.next) }
         ensures err { OnErr result (self.new ≡ self.old) }
     {
         let path = copied(self.alloc, path)?;
         let name = copied(self.alloc, name)?;
-        let inode = StoredFile::new(self.place(dir), Node::Link(path), given, None, now);
-        self.make(dir, name, inode, now)
+        let stored_file = StoredFile::new(self.place(dir), Node::Link(path), given, None, now);
+        self.make(dir, name, stored_file, now)
     }
 
     /// An entry in directory `dir` for a file that has one already (RFC 1813, section 3.3.15).
@@ -152,7 +156,7 @@ impl Tree {
         now: Moment,
     ) -> Result<(), AllocError>
         requires { MayLink self.old number.0 dir.0 name.now }
-        ensures ok { OnOk result (self.new ≡ linked self.old number.0 dir.0 name.now now) }
+        ensures ok { OnOk result (self.new ≡ after_link self.old number.0 dir.0 name.now now) }
         ensures err { OnErr result (self.new ≡ self.old) }
     {
         let name = copied(self.alloc, name)?;
@@ -171,7 +175,7 @@ impl Tree {
         now: Moment,
     ) -> Result<(), AllocError>
         requires { MayWrite self.old number.0 offset (length bytes.now) }
-        ensures ok { OnOk result (self.new ≡ written self.old number.0 offset bytes.now now) }
+        ensures ok { OnOk result (self.new ≡ after_write_at self.old number.0 offset bytes.now now) }
         ensures err { OnErr result (self.new ≡ self.old) }
         ensures full { OnErr result (Grows self.old number.0 offset (length bytes.now)) }
     {
@@ -194,7 +198,7 @@ impl Tree {
         now: Moment,
     ) -> Result<Number, AllocError>
         requires { MayAddVolume self.old path.now max_files }
-        ensures ok { OnOk result (Makes (λ tag. volume_added self.old path.now max_bytes max_files given.now tag now) self.new) }
+        ensures ok { OnOk result (Makes (λ tag. after_add_volume self.old path.now max_bytes max_files given.now tag now) self.new) }
         ensures number { IfOk result (λ n. n.0 ≡ self.old.next) }
         ensures err { OnErr result (self.new ≡ self.old) }
     {
@@ -205,8 +209,8 @@ impl Tree {
             next_cookie: FIRST_COOKIE,
             entries: Vec::new(self.alloc),
         };
-        let inode = StoredFile::new(self.volumes.len(), node, given, None, now);
-        let root = match self.files.put(inode) {
+        let stored_file = StoredFile::new(self.volumes.len(), node, given, None, now);
+        let root = match self.files.put(stored_file) {
             Ok(root) => root,
             Err(_) => return Err(AllocError),
         };
@@ -229,7 +233,7 @@ impl Tree {
         ensures { result ≡ volume_of self.now number.0 }
     {
         match self.files.get(number) {
-            Some(inode) => inode.volume,
+            Some(stored_file) => stored_file.volume,
             None => 0,
         }
     }
@@ -239,39 +243,39 @@ impl Tree {
         &mut self,
         dir: Number,
         name: Vec<u8>,
-        inode: StoredFile,
+        stored_file: StoredFile,
         now: Moment,
     ) -> Result<Number, AllocError>
-        requires { MayAdd self.old dir.0 name.items inode }
-        ensures ok { OnOk result (Makes (λ tag. made self.old dir.0 name.items (retagged (file_of 0 inode) tag) now) self.new) }
+        requires { MayAdd self.old dir.0 name.items stored_file }
+        ensures ok { OnOk result (Makes (λ tag. with_named_file self.old dir.0 name.items (retagged (file_of 0 stored_file) tag) now) self.new) }
         ensures number { IfOk result (λ n. n.0 ≡ self.old.next) }
         ensures err { OnErr result (self.new ≡ self.old) }
     {
-        let place = inode.volume;
-        let size = inode.size();
-        let number = add(&mut self.files, dir, name, inode, now)?;
+        let place = stored_file.volume;
+        let size = stored_file.size();
+        let number = add(&mut self.files, dir, name, stored_file, now)?;
         count(&mut self.volumes, place, size, 1);
         Ok(number)
     }
 }
 
 // One volume more, for which there is room.
-fn append(volumes: &mut Vec<StoredVolume>, share: StoredVolume)
+fn append(volumes: &mut Vec<StoredVolume>, stored_volume: StoredVolume)
     requires { vec_len volumes.old < vec_capacity volumes.old }
-    ensures { volumes.new.items ≡ volumes.old.items ++ share ∷ [] }
+    ensures { volumes.new.items ≡ volumes.old.items ++ stored_volume ∷ [] }
 {
-    volumes.push(share).unwrap();
+    volumes.push(stored_volume).unwrap();
 }
 
 // So many bytes and files more in the volume at a place.
 fn count(volumes: &mut Vec<StoredVolume>, place: usize, bytes: u64, files: u64)
     requires { HasRoomFor volumes.old.items place bytes files }
-    ensures { map counted_of volumes.new.items ≡ with_totals (map counted_of volumes.old.items) place bytes files }
+    ensures { map counted_volume_of volumes.new.items ≡ with_totals (map counted_volume_of volumes.old.items) place bytes files }
 {
     match volumes.get_mut(place) {
-        Some(share) => {
-            share.bytes += bytes;
-            share.files += files;
+        Some(stored_volume) => {
+            stored_volume.bytes += bytes;
+            stored_volume.files += files;
         }
         None => unreachable!(),
     }

@@ -1,15 +1,17 @@
 //! A file that lives, with what is read of it.
 ghost use Rattle.std.specs.Prelude.{◌≡◌, ◌<◌, drop, option_map, Some, None, IfSome, IfNone};
 ghost use Rattle.nfs_handles.specs.Handles.{handle_at};
+ghost use Rattle.nfs_inodes.specs.Limits.{max_volumes};
 ghost use Rattle.nfs_inodes.specs.Tree.{Tree};
 ghost use Rattle.nfs_inodes.specs.Storage.{file_of, kind_of};
-ghost use Rattle.nfs_inodes.specs.Reading.{IsFirstChunk, attributes_of, attributes_at, bytes_at, found, numbered};
+ghost use Rattle.nfs_inodes.specs.Reading.{IsFirstChunk, attributes_of, attributes_at, bytes_at};
+ghost use Rattle.nfs_inodes.specs.Reading.{number_under, numbered_files};
 ghost use Rattle.nfs_inodes.specs.Views.{kind_seen, bytes_seen, IsSeen};
 
 use crate::attributes::attributes_of;
 use crate::content_reader::run_from;
-use crate::stored_file::{StoredFile, Node};
 use crate::directory::under_name;
+use crate::stored_file::{Node, StoredFile};
 use crate::tree::Tree;
 use nfs_attrs::fattr::Fattr;
 use nfs_handles::number::Number;
@@ -25,14 +27,14 @@ pub struct FileView<'a> {
 impl<'a> FileView<'a> {
     // The file that is kept under a number.
     #[inline(always)]
-    pub(crate) fn new(inode: &'a StoredFile, number: Number) -> FileView<'a>
-        requires { inode.now.volume < 64 }
-        ensures attributes { result.attributes ≡ attributes_of number.0 (file_of 0 inode.now) inode.now.nlink }
-        ensures kind { kind_seen result ≡ kind_of inode.now.node }
+    pub(crate) fn new(stored_file: &'a StoredFile, number: Number) -> FileView<'a>
+        requires { stored_file.now.volume < max_volumes }
+        ensures attributes { result.attributes ≡ attributes_of number.0 (file_of 0 stored_file.now) stored_file.now.nlink }
+        ensures kind { kind_seen result ≡ kind_of stored_file.now.node }
     {
         FileView {
-            attributes: attributes_of(inode, number),
-            node: &inode.node,
+            attributes: attributes_of(stored_file, number),
+            node: &stored_file.node,
         }
     }
 
@@ -61,7 +63,7 @@ impl Tree {
         ensures none { IfNone result (attributes_at self.now number.0 ≡ None) }
     {
         match self.files.get(number) {
-            Some(inode) => Some(FileView::new(inode, number)),
+            Some(stored_file) => Some(FileView::new(stored_file, number)),
             None => None,
         }
     }
@@ -72,8 +74,8 @@ impl Tree {
     pub fn find_in(&self, dir: &FileView<'_>, name: &[u8]) -> Option<FileView<'_>>
         requires { IsSeen self.now dir.now }
         ensures some { IfSome result (λ file. IsSeen self.now file) }
-        ensures found { IfSome result (λ file. found self.now dir.now.attributes.fileid name.now ≡ Some file.attributes.fileid) }
-        ensures none { IfNone result (found self.now dir.now.attributes.fileid name.now ≡ None) }
+        ensures found { IfSome result (λ file. number_under self.now dir.now.attributes.fileid name.now ≡ Some file.attributes.fileid) }
+        ensures none { IfNone result (number_under self.now dir.now.attributes.fileid name.now ≡ None) }
     {
         self.law();
         match under_name(dir.node, dir.number(), name) {
@@ -88,7 +90,7 @@ impl Tree {
     /// The handle of a file that lives (RFC 1813, section 2.6, nfs_fh3), without a search.
     pub fn handle(&self, file: &FileView<'_>) -> [u8; 24]
         requires { IsSeen self.now file.now }
-        ensures { handle_at (numbered self.now) file.now.attributes.fileid ≡ Some result }
+        ensures { handle_at (numbered_files self.now) file.now.attributes.fileid ≡ Some result }
     {
         self.files.handle(file.number())
     }

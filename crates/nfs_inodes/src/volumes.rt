@@ -1,12 +1,13 @@
 //! Volumes as they are read.
-ghost use Rattle.std.specs.Prelude.{◌≡◌, ℕ, bytes_eq, length, slice_get, option_copied, option_map, map};
+ghost use Rattle.std.specs.Prelude.{◌≡◌, ℕ, bytes_eq, length, slice_get, option_copied, option_map};
+ghost use Rattle.std.specs.Prelude.{map};
 ghost use Rattle.nfs_inodes.specs.Tree.{Volume};
 ghost use Rattle.nfs_inodes.specs.Storage.{volume_of};
 ghost use Rattle.nfs_inodes.specs.Reading.{place_where, place_named, totals_at};
 ghost use Rattle.nfs_inodes.specs.Views.{volume_seen};
 
-use crate::tree::Tree;
 use crate::stored_volume::StoredVolume;
+use crate::tree::Tree;
 use nfs_handles::number::Number;
 
 /// A volume: a tree of directories with limits of its own.
@@ -43,8 +44,8 @@ impl Tree {
     pub fn volume(&self, place: usize) -> Option<VolumeView<'_>>
         ensures { option_map volume_seen result ≡ slice_get self.now.volumes place }
     {
-        match share_at(self.volumes.as_slice(), place) {
-            Some(share) => Some(view_of(share)),
+        match stored_volume_at(self.volumes.as_slice(), place) {
+            Some(stored_volume) => Some(view_of(stored_volume)),
             None => None,
         }
     }
@@ -61,30 +62,30 @@ impl Tree {
     pub fn totals(&self, place: usize) -> Option<Totals>
         ensures { result ≡ totals_at self.now place }
     {
-        match share_at(self.volumes.as_slice(), place) {
-            Some(share) => Some(Totals {
-                bytes: share.bytes,
-                files: share.files,
+        match stored_volume_at(self.volumes.as_slice(), place) {
+            Some(stored_volume) => Some(Totals {
+                bytes: stored_volume.bytes,
+                files: stored_volume.files,
             }),
             None => None,
         }
     }
 }
 
-pub(crate) fn share_at(volumes: &[StoredVolume], place: usize) -> Option<&StoredVolume>
+pub(crate) fn stored_volume_at(volumes: &[StoredVolume], place: usize) -> Option<&StoredVolume>
     ensures { option_copied result ≡ slice_get volumes.now place }
 {
     volumes.get(place)
 }
 
-fn view_of(share: &StoredVolume) -> VolumeView<'_>
-    ensures { volume_seen result ≡ volume_of share.now }
+fn view_of(stored_volume: &StoredVolume) -> VolumeView<'_>
+    ensures { volume_seen result ≡ volume_of stored_volume.now }
 {
     VolumeView {
-        path: share.path.as_slice(),
-        max_bytes: share.max_bytes,
-        max_files: share.max_files,
-        root: Number(share.root),
+        path: stored_volume.path.as_slice(),
+        max_bytes: stored_volume.max_bytes,
+        max_files: stored_volume.max_files,
+        root: Number(stored_volume.root),
     }
 }
 

@@ -2,7 +2,7 @@
 use Rattle.std.proofs.Common.{◌≡◌, ℕ, [], ◌∷◌, refl, ap, ◌∙◌}
 use Rattle.nfs_inodes.specs.declared.new_file.NewFile.{NewFile}
 use Rattle.nfs_inodes.specs.Tree.{Tree}
-use Rattle.nfs_inodes.specs.Changes.{Makes, volume_added, directory_made}
+use Rattle.nfs_inodes.specs.Changes.{Makes, after_add_volume, after_make_dir}
 use Rattle.nfs_inodes.specs.Example.{start, tree_e}
 use Rattle.nfs_server.specs.Built.{untagged, file_built}
 
@@ -19,10 +19,10 @@ given mode uid gid = record { mode = mode; uid = uid; gid = gid; atime = start; 
 
 -- the operations in their order, on a tree, in a directory, with attributes and a tag
 abbrev step_1 : Tree → ℕ → NewFile → ℕ → Tree
-step_1 t d g tag = volume_added t (0x2f ∷ 0x61 ∷ []) 20000000 12 g tag start
+step_1 t d g tag = after_add_volume t (0x2f ∷ 0x61 ∷ []) 20000000 12 g tag start
 
 abbrev step_2 : Tree → ℕ → NewFile → ℕ → Tree
-step_2 t d g tag = directory_made t d (0x70 ∷ 0x75 ∷ 0x62 ∷ []) g tag start
+step_2 t d g tag = after_make_dir t d (0x70 ∷ 0x75 ∷ 0x62 ∷ []) g tag start
 
 abbrev step_3 : Tree → ℕ → NewFile → ℕ → Tree
 step_3 t d g tag = file_built t d (0x78 ∷ []) g (0x68 ∷ 0x65 ∷ 0x6c ∷ 0x6c ∷ 0x6f ∷ []) tag
@@ -34,13 +34,13 @@ abbrev step_5 : Tree → ℕ → NewFile → ℕ → Tree
 step_5 t d g tag = file_built t d (0x67 ∷ []) g (0x6f ∷ 0x6b ∷ []) tag
 
 abbrev step_6 : Tree → ℕ → NewFile → ℕ → Tree
-step_6 t d g tag = directory_made t d (0x6f ∷ 0x77 ∷ 0x6e ∷ []) g tag start
+step_6 t d g tag = after_make_dir t d (0x6f ∷ 0x77 ∷ 0x6e ∷ []) g tag start
 
 abbrev step_7 : Tree → ℕ → NewFile → ℕ → Tree
 step_7 t d g tag = file_built t d (0x7a ∷ 0x65 ∷ 0x72 ∷ 0x6f ∷ []) g [] tag
 
 abbrev step_8 : Tree → ℕ → NewFile → ℕ → Tree
-step_8 t d g tag = volume_added t (0x2f ∷ 0x62 ∷ []) 1000 4 g tag start
+step_8 t d g tag = after_add_volume t (0x2f ∷ 0x62 ∷ []) 1000 4 g tag start
 
 pub built : (t0 t1 t2 t3 t4 t5 t6 t7 t8 : Tree) (a p : ℕ) (g1 g2 g3 g4 g5 g6 g7 g8 : NewFile)
     → t0 ≡ opening → g1 ≡ given 493 0 0 → g2 ≡ given 511 1 1 → g3 ≡ given 457 1 1 → g4 ≡ given 456 1 1 → g5 ≡ given 416 1 0 → g6 ≡ given 7 5 5 → g7 ≡ given 0 5 5 → g8 ≡ given 511 0 0

@@ -13,7 +13,7 @@ use Rattle.nfs_attrs.specs.declared.fattr.Fattr.{Fattr}
 use Rattle.nfs_attrs.specs.Spelling.{post_op_attr_text}
 use Rattle.nfs_handles.specs.Handles.{handle_at}
 use Rattle.nfs_inodes.specs.Tree.{Tree, File, Kind, Regular, Directory, Link, at, on_some, bytes_in, nlink}
-use Rattle.nfs_inodes.specs.Reading.{IsFirstChunk, attributes_of, attributes_at, bytes_at, numbered, type_of, size_of}
+use Rattle.nfs_inodes.specs.Reading.{IsFirstChunk, attributes_of, attributes_at, bytes_at, numbered_files, type_of, size_of}
 use Rattle.nfs_server.specs.Rules.{Subject, is_regular}
 use Rattle.nfs_server.specs.Results.{status_text, lookup_text, read_text}
 
@@ -77,10 +77,10 @@ read_written f offset count left len all a b c d e g h i size is least status at
 
 -- ---- the result of LOOKUP
 
-pub found_written : (s : Subject) (n : ℕ) (handle : List ℕ) (f : Fattr) (a b c d e : Written) → handle_at (numbered s.tree) n ≡ Some handle → attributes_at s.tree n ≡ Some f
+pub found_written : (s : Subject) (n : ℕ) (handle : List ℕ) (f : Fattr) (a b c d e : Written) → handle_at (numbered_files s.tree) n ≡ Some handle → attributes_at s.tree n ≡ Some f
     → Appends (status_text 0) a b → Appends (opaque_text handle) b c → Appends (post_op_attr_text (Some f)) c d → Appends (post_op_attr_text (Some s.file)) d e → Appends (status_text 0 ++ lookup_text s n) a e
 found_written s n handle f a b c d e named shown status item found dir =
-    let item' : Appends (on_some (handle_at (numbered s.tree) n) [] opaque_text) b c = subst (λ o. Appends (on_some o [] opaque_text) b c) (sym named) item in
+    let item' : Appends (on_some (handle_at (numbered_files s.tree) n) [] opaque_text) b c = subst (λ o. Appends (on_some o [] opaque_text) b c) (sym named) item in
     let found' : Appends (post_op_attr_text (attributes_at s.tree n)) c d = subst (λ o. Appends (post_op_attr_text o) c d) (sym shown) found in
     appends_then _ _ a b e status (appends_then _ _ b d e (appends_then _ _ b c d item' found') dir)
 

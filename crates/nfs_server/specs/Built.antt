@@ -2,7 +2,7 @@
 use Rattle.std.specs.Prelude.{ℕ, ◌+◌, ◌*◌, true, false, List, [], ◌∷◌, map, None}
 use Rattle.nfs_inodes.specs.declared.new_file.NewFile.{NewFile}
 use Rattle.nfs_inodes.specs.Tree.{Tree, File}
-use Rattle.nfs_inodes.specs.Changes.{file_made, written}
+use Rattle.nfs_inodes.specs.Changes.{after_make_file, after_write_at}
 use Rattle.nfs_inodes.specs.StepConditions.{retagged}
 use Rattle.nfs_inodes.specs.Example.{start}
 use Rattle.nfs_server.specs.declared.event.Addr.{Addr}
@@ -28,7 +28,7 @@ exports_e =
 
 -- a regular file with these bytes, all at the time that everything loaded has
 abbrev pub file_built : Tree → ℕ → List ℕ → NewFile → List ℕ → ℕ → Tree
-file_built t dir name given bytes tag = written (file_made t dir name 0 given None tag start) t.next 0 bytes start
+file_built t dir name given bytes tag = after_write_at (after_make_file t dir name 0 given None tag start) t.next 0 bytes start
 
 -- the same tree with the tag 0 in each file: tags are chosen freely
 abbrev pub untagged : Tree → Tree

@@ -2,7 +2,7 @@
 use Rattle.std.specs.Prelude.{◌≡◌, ℕ, List, [], Option, Some, None, Result, Ok, Err}
 use Rattle.std.specs.List.{find}
 use Rattle.nfs_inodes.specs.Tree.{Tree}
-use Rattle.nfs_inodes.specs.Reading.{found}
+use Rattle.nfs_inodes.specs.Reading.{number_under}
 use Rattle.nfs_inodes.specs.Views.{IsSeen}
 use Rattle.nfs_inodes.specs.declared.view.FileView.{FileView}
 use Rattle.nfs_rpc.specs.AuthSys.{Credential, credential_of}
@@ -36,5 +36,5 @@ read_failure s = find (violates s (ReadFile [] 0 0)) (rules_of (ReadFile [] 0 0)
 
 -- that rule, and else what stands under the name
 abbrev pub Looks : Subject → List ℕ → Result FileView Rule → Type 0
-Looks s name (Ok file) = (lookup_failure s name ≡ None) × (found s.tree s.file.fileid name ≡ Some file.attributes.fileid) × IsSeen s.tree file
+Looks s name (Ok file) = (lookup_failure s name ≡ None) × (number_under s.tree s.file.fileid name ≡ Some file.attributes.fileid) × IsSeen s.tree file
 Looks s name (Err rule) = lookup_failure s name ≡ Some rule

@@ -6,7 +6,7 @@ use Rattle.nfs_attrs.specs.declared.fattr.Fattr.{Fattr}
 use Rattle.nfs_attrs.specs.Spelling.{fattr_text, post_op_attr_text}
 use Rattle.nfs_handles.specs.Handles.{handle_at}
 use Rattle.nfs_inodes.specs.Tree.{Tree, on_some}
-use Rattle.nfs_inodes.specs.Reading.{attributes_at, bytes_at, found, numbered}
+use Rattle.nfs_inodes.specs.Reading.{attributes_at, bytes_at, number_under, numbered_files}
 use Rattle.nfs_server.specs.declared.exports.Export.{Export}
 use Rattle.nfs_server.specs.declared.rule.Rule.{Rule}
 use Rattle.nfs_server.specs.Args.{Args, GetAttr, Lookup, ReadFile}
@@ -18,7 +18,7 @@ status_text status = to_be_bytes w32 status
 
 -- LOOKUP: the handle of the file that was found, its attributes, and those of the directory
 abbrev pub lookup_text : Subject → ℕ → List ℕ
-lookup_text s n = on_some (handle_at (numbered s.tree) n) [] opaque_text ++ post_op_attr_text (attributes_at s.tree n) ++ post_op_attr_text (Some s.file)
+lookup_text s n = on_some (handle_at (numbered_files s.tree) n) [] opaque_text ++ post_op_attr_text (attributes_at s.tree n) ++ post_op_attr_text (Some s.file)
 
 -- the bytes that READ answers: from the offset on, as many as are asked for, at most 65,536, and as many as are there
 abbrev pub read_bytes : Subject → ℕ → ℕ → List ℕ
@@ -31,7 +31,7 @@ read_text f offset bytes = post_op_attr_text (Some f) ++ to_be_bytes w32 (length
 -- what follows the status 0
 abbrev pub granted_text : Subject → Args → List ℕ
 granted_text s (GetAttr file) = fattr_text s.file
-granted_text s (Lookup dir name) = on_some (found s.tree s.file.fileid name) [] (lookup_text s)
+granted_text s (Lookup dir name) = on_some (number_under s.tree s.file.fileid name) [] (lookup_text s)
 granted_text s (ReadFile file offset count) = read_text s.file offset (read_bytes s offset count)
 
 -- what follows another status: but for GETATTR the attributes of the file that the handle names, where the rules of the handle are kept

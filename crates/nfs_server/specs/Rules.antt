@@ -8,7 +8,7 @@ use Rattle.nfs_handles.specs.Handles.{reading}
 use Rattle.nfs_handles.specs.declared.reading.Reading as read
 use Rattle.nfs_handles.specs.declared.reading.Reading.TheVariants.{Live, Stale, Bad}
 use Rattle.nfs_inodes.specs.Tree.{Tree, on_some}
-use Rattle.nfs_inodes.specs.Reading.{attributes_at, found, numbered}
+use Rattle.nfs_inodes.specs.Reading.{attributes_at, number_under, numbered_files}
 use Rattle.nfs_rpc.specs.AuthSys.{Credential}
 use Rattle.nfs_server.specs.declared.event.Addr.{Addr}
 use Rattle.nfs_server.specs.declared.exports.Options.{Options}
@@ -66,7 +66,7 @@ live_at t Bad = None
 
 -- the attributes of the file that a handle names, if one lives
 abbrev pub named : Tree → List ℕ → Option Fattr
-named t handle = live_at t (reading (numbered t) handle)
+named t handle = live_at t (reading (numbered_files t) handle)
 
 -- the options that an address has at the volume of a file, if a pattern covers it; the number of a volume is 1 more than its place
 abbrev pub granted : List exported.Export → Addr → Fattr → Option Options
@@ -116,12 +116,12 @@ violates s args ReadRight = not (owns s.ids s.file || may s.ids s.file Read || m
 violates s args Search = not (may s.ids s.file Execute)
 violates s args NameLong = nat_lt 255 (length (name_in args))
 violates s args NameForm = nat_eq (length (name_in args)) 0 || list_any is_separator (name_in args)
-violates s args NoEntry = is_none (found s.tree s.file.fileid (name_in args))
+violates s args NoEntry = is_none (number_under s.tree s.file.fileid (name_in args))
 
 -- of a handle: it is one that was given, its file lives, and a pattern of the volume covers the address
 abbrev pub violates_handle : Tree → List exported.Export → Addr → List ℕ → Rule → Bool
-violates_handle t exports addr handle BadHandle = is_bad (reading (numbered t) handle)
-violates_handle t exports addr handle StaleHandle = is_stale (reading (numbered t) handle)
+violates_handle t exports addr handle BadHandle = is_bad (reading (numbered_files t) handle)
+violates_handle t exports addr handle StaleHandle = is_stale (reading (numbered_files t) handle)
 violates_handle t exports addr handle Export = on_some (named t handle) false (λ f. is_none (granted exports addr f))
 violates_handle t exports addr handle NotRegular = false
 violates_handle t exports addr handle NotDirectory = false

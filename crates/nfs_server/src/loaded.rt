@@ -1,7 +1,7 @@
 //! What a server serves.
 ghost use Rattle.std.specs.Prelude.{◌≡◌, IfOk, OnOk};
 ghost use Rattle.nfs_inodes.specs.Law.{Law};
-ghost use Rattle.nfs_inodes.specs.Changes.{Makes, volume_added, directory_made};
+ghost use Rattle.nfs_inodes.specs.Changes.{Makes, after_add_volume, after_make_dir};
 ghost use Rattle.nfs_inodes.specs.Example.{start};
 ghost use Rattle.nfs_inodes.specs.Example as example;
 ghost use Rattle.nfs_server.specs.Built.{exports_e, untagged, file_built};
@@ -115,7 +115,7 @@ fn volume(
     max_files: u64,
     given: &NewFile,
 ) -> Result<Number, AllocError>
-    ensures made { OnOk result (Makes (λ tag. volume_added tree.old path.now max_bytes max_files given.now tag start) tree.new) }
+    ensures made { OnOk result (Makes (λ tag. after_add_volume tree.old path.now max_bytes max_files given.now tag start) tree.new) }
     ensures number { IfOk result (λ n. n.0 ≡ tree.old.next) }
 {
     if !tree.may_add_volume(path, max_files) {
@@ -130,7 +130,7 @@ fn directory(
     name: &[u8],
     given: &NewFile,
 ) -> Result<Number, AllocError>
-    ensures made { OnOk result (Makes (λ tag. directory_made tree.old dir.0 name.now given.now tag start) tree.new) }
+    ensures made { OnOk result (Makes (λ tag. after_make_dir tree.old dir.0 name.now given.now tag start) tree.new) }
     ensures number { IfOk result (λ n. n.0 ≡ tree.old.next) }
 {
     if !tree.may_make_dir(dir, name) {

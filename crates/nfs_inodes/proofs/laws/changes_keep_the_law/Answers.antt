@@ -1,13 +1,13 @@
-use Rattle.nfs_inodes.proofs.Operations.{law_linked, law_written}
-use Rattle.nfs_inodes.proofs.NewFiles.{law_file_made, law_directory_made, law_link_made, law_volume_added}
+use Rattle.nfs_inodes.proofs.Operations.{law_after_link, law_after_write_at}
+use Rattle.nfs_inodes.proofs.NewFiles.{law_after_make_file, law_after_make_dir, law_after_make_link, law_after_add_volume}
 use Rattle.nfs_inodes.proofs.laws.changes_keep_the_law.Goals as goal
 
 pub returns : goal.returns
 returns c = record {
-  files = law_file_made;
-  directories = law_directory_made;
-  links = law_link_made;
-  names = law_linked;
-  bytes = law_written;
-  volumes = law_volume_added;
+  files = law_after_make_file;
+  directories = law_after_make_dir;
+  links = law_after_make_link;
+  names = law_after_link;
+  bytes = law_after_write_at;
+  volumes = law_after_add_volume;
 }

@@ -7,7 +7,7 @@ use Rattle.nfs_inodes.proofs.tree.Tree.bytes_at.Goals as goal
 
 pub returns-in-Some : goal.returns-in-Some
 returns-in-Some c = whole_run c.run_from.result.now (drop c.args.offset (bytes_at c.args.self.now c.args.number.0)) (c.run_from.ensures ∙ ap (drop c.args.offset)
-    (seen c.self.inside.files c.self.inside.volumes.items c.args.self.now c.self.view_is [] (λ (f : File). bytes_in f.kind) c.args.number.0 c.in-Some.inode.now (bytes_in (kind_of c.in-Some.inode.now.node)) c.in-Some.ensures (λ tag. refl)))
+    (seen c.self.inside.files c.self.inside.volumes.items c.args.self.now c.self.view_is [] (λ (f : File). bytes_in f.kind) c.args.number.0 c.in-Some.stored_file.now (bytes_in (kind_of c.in-Some.stored_file.now.node)) c.in-Some.ensures (λ tag. refl)))
 
 pub returns-in-None : goal.returns-in-None
 returns-in-None c = whole_run [] (drop c.args.offset (bytes_at c.args.self.now c.args.number.0)) (drop_none c.args.offset (bytes_at c.args.self.now c.args.number.0)

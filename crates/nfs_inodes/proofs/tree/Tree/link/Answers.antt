@@ -1,7 +1,7 @@
 use Rattle.std.proofs.Common.{refl, ap, ◌∙◌}
 use Rattle.nfs_inodes.specs.Tree.{Tree}
-use Rattle.nfs_inodes.specs.Changes.{linked}
-use Rattle.nfs_inodes.proofs.Steps.{takes_entry, takes_link, keeps_link, view_link, may_link}
+use Rattle.nfs_inodes.specs.Changes.{after_link}
+use Rattle.nfs_inodes.proofs.Steps.{takes_entry, takes_link, stored_agree_after_link, stored_view_after_link, may_link}
 use Rattle.nfs_inodes.proofs.tree.Tree.link.Goals as goal
 
 pub link-requires-clause-dir : goal.link-requires-clause-dir
@@ -13,13 +13,13 @@ link-requires-clause-file c = takes_link c.self.inside.files c.self.inside.volum
     (may_link c.self.inside.files c.self.inside.volumes.items c.args.number.0 c.args.dir.0 c.args.name.now c.args.name.now c.args.self.now c.self.view_is refl c.requires)
 
 pub invariant_of-self-2 : goal.invariant_of-self-2
-invariant_of-self-2 c = keeps_link c.self.inside.files c.self.inside.volumes.items c.args.number.0 c.args.dir.0 c.in_ok-name.name.items c.self.invariant
+invariant_of-self-2 c = stored_agree_after_link c.self.inside.files c.self.inside.volumes.items c.args.number.0 c.args.dir.0 c.in_ok-name.name.items c.self.invariant
     (may_link c.self.inside.files c.self.inside.volumes.items c.args.number.0 c.args.dir.0 c.in_ok-name.name.items c.args.name.now c.args.self.now c.self.view_is c.in_ok-name.ensures c.requires)
     c.args.now c.link.new.files c.in_ok-link.ensures.ok
 
 pub returns-clause-ok : goal.returns-clause-ok
-returns-clause-ok c = view_link c.self.inside.files c.self.inside.volumes.items c.args.number.0 c.args.dir.0 c.in_ok-name.name.items c.self.invariant
+returns-clause-ok c = stored_view_after_link c.self.inside.files c.self.inside.volumes.items c.args.number.0 c.args.dir.0 c.in_ok-name.name.items c.self.invariant
     (may_link c.self.inside.files c.self.inside.volumes.items c.args.number.0 c.args.dir.0 c.in_ok-name.name.items c.args.name.now c.args.self.now c.self.view_is c.in_ok-name.ensures c.requires)
     c.args.now c.link.new.files c.in_ok-link.ensures.ok
-    ∙ ap (λ (t : Tree). linked t c.args.number.0 c.args.dir.0 c.in_ok-name.name.items c.args.now) c.self.view_is
-    ∙ ap (λ name. linked c.args.self.now c.args.number.0 c.args.dir.0 name c.args.now) c.in_ok-name.ensures
+    ∙ ap (λ (t : Tree). after_link t c.args.number.0 c.args.dir.0 c.in_ok-name.name.items c.args.now) c.self.view_is
+    ∙ ap (λ name. after_link c.args.self.now c.args.number.0 c.args.dir.0 name c.args.now) c.in_ok-name.ensures

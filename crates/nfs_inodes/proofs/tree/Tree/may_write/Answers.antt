@@ -10,16 +10,16 @@ counted (suc n) f = omega arith
 
 pub returns-then-not-takes_bytes : goal.returns-then-not-takes_bytes
 returns-then-not-takes_bytes c = never (λ may. not_from_Decides c.takes_bytes.result c.takes_bytes.ensures c.if-not-takes_bytes.true
-    (written_to c.self.inside.files c.self.inside.volumes.items c.args.self.now c.self.view_is c.args.number.0 c.args.offset c.args.count c.in-Some.inode.now c.in-Some.ensures may))
+    (written_to c.self.inside.files c.self.inside.volumes.items c.args.self.now c.self.view_is c.args.number.0 c.args.offset c.args.count c.in-Some.stored_file.now c.in-Some.ensures may))
 
 pub returns-then-count-eq0 : goal.returns-then-count-eq0
 returns-then-count-eq0 c = let takes = c.takes_bytes.ensures.0 c.if-not-takes_bytes.false in
     always (subst (MayWrite c.args.self.now c.args.number.0 c.args.offset) (sym c.if-count-eq0.true)
-    (writes_none c.self.inside.files c.self.inside.volumes.items c.args.self.now c.self.view_is c.self.invariant c.args.number.0 c.args.offset c.in-Some.inode.now c.in-Some.ensures takes.0))
+    (writes_none c.self.inside.files c.self.inside.volumes.items c.args.self.now c.self.view_is c.self.invariant c.args.number.0 c.args.offset c.in-Some.stored_file.now c.in-Some.ensures takes.0))
 
 pub returns-else-count-eq0 : goal.returns-else-count-eq0
 returns-else-count-eq0 c = let takes = c.takes_bytes.ensures.0 c.if-not-takes_bytes.false in
-    writes_there c.self.inside.files c.self.inside.volumes.items c.args.self.now c.self.view_is c.args.number.0 c.args.offset c.args.count c.saturating_sub.result c.in-Some.inode.now c.has_space.result c.in-Some.ensures takes.0 takes.1 (counted c.args.count c.if-count-eq0.false)
+    writes_there c.self.inside.files c.self.inside.volumes.items c.args.self.now c.self.view_is c.args.number.0 c.args.offset c.args.count c.saturating_sub.result c.in-Some.stored_file.now c.has_space.result c.in-Some.ensures takes.0 takes.1 (counted c.args.count c.if-count-eq0.false)
     (c.saturating_sub.ensures ∙ ap (λ n. c.args.offset + c.args.count - n) c.size.ensures) c.has_space.ensures
 
 pub returns-in-None : goal.returns-in-None
