@@ -1,0 +1,6 @@
+//! Rows of text, each a question and the answer that is wanted of it.
+#![tactic(auto)]
+
+mod definitions;
+pub mod sheet;
+pub mod words;
