@@ -10,7 +10,8 @@ use nfs_server::exports::Table;
 use nfs_server::loaded::{Loaded, tree_e};
 use nfs_server::reply_buf::ReplyBuf;
 use nfs_server::server::Server;
-use rows::words::{digits, size, word};
+use rows::answers::{digits, text, then, told, with};
+use rows::words::{size, word};
 use std::alloc::{AllocError, Global};
 use std::mem;
 use std::str::SplitWhitespace;
@@ -77,7 +78,7 @@ impl Calls {
         if handled == Handled::Answered {
             return Some(reply);
         }
-        format!(in self.alloc; "no reply {reply}").ok()
+        then(text(self.alloc, "no reply")?, reply.as_str())
     }
 
     // `status ADDRESS SECONDS BYTES`: the first word of the result of a call that is done.
@@ -89,7 +90,7 @@ impl Calls {
             return None;
         }
         let status = u32::from_be_bytes([status[0], status[1], status[2], status[3]]);
-        format!(in self.alloc; "{status}").ok()
+        told(self.alloc, status)
     }
 
     // `long ADDRESS SECONDS BYTES`: the reply to a READ of a made file, its data as the first
@@ -102,7 +103,8 @@ impl Calls {
         let first = data.first()?;
         let count = counted(data);
         let rest = digits(self.alloc, data.get(count..)?)?;
-        format!(in self.alloc; "{head} from {first} on {count} then {rest}").ok()
+        let counted = with(self.alloc, head, "counts", (*first, count))?;
+        then(counted, rest.as_str())
     }
 
     // `sealed ADDRESS SECONDS BYTES`: the reply with its record mark.
@@ -129,33 +131,31 @@ impl Calls {
         let done = self
             .server
             .run(events.as_slice(), &mut self.reply, &mut kept);
-        let replies = kept.text();
-        format!(in self.alloc; "{done}{replies}").ok()
+        then(told(self.alloc, done)?, kept.text())
     }
 
     // `kept`: whether the tree is that of the built-in description.
     fn kept(&self) -> Option<String> {
         let built = tree_e(self.alloc).ok()?;
-        let is_same = is_same(self.server.tree(), &built.tree);
-        format!(in self.alloc; "{is_same}").ok()
+        told(self.alloc, is_same(self.server.tree(), &built.tree))
     }
 
     // `bare`: the built-in files are exported to nobody.
     fn bare(&mut self) -> Option<String> {
         self.loaded.table = Table::new(self.alloc);
-        String::from_str(self.alloc, "done").ok()
+        text(self.alloc, "done")
     }
 
     // `export ..`: one export more.
     fn export(&mut self, words: &mut SplitWhitespace<'_>) -> Option<String> {
         self.loaded.table.add(export(words)?).ok()?;
-        String::from_str(self.alloc, "done").ok()
+        text(self.alloc, "done")
     }
 
     // `make ..`: one file more; its number.
     fn make(&mut self, words: &mut SplitWhitespace<'_>) -> Option<String> {
         let number = make(self.alloc, &mut self.loaded.tree, words)?;
-        format!(in self.alloc; "{number}").ok()
+        told(self.alloc, number)
     }
 
     // `serve REPLIES`: a new server of what was described, which keeps so many replies; the reply

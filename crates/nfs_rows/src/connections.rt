@@ -9,7 +9,8 @@ use nfs_server::server::Server;
 use nfs_server::sessions::Sessions;
 use nfs_xdr::device::Device;
 use nfs_xdr::stutter::Stutter;
-use rows::words::{address, digits, number, size, word};
+use rows::answers::{digits, text, then, told};
+use rows::words::{address, number, size, word};
 use std::alloc::{AllocError, Global};
 use std::str::SplitWhitespace;
 
@@ -60,7 +61,7 @@ impl Connections {
     // `open`: a new server.
     fn open(&mut self) -> Option<String> {
         self.sessions = sessions(self.alloc).ok()?;
-        String::from_str(self.alloc, "done").ok()
+        text(self.alloc, "done")
     }
 
     // `attach CONNECTION ADDRESS`: whether it is there.
@@ -68,16 +69,16 @@ impl Connections {
         let conn = word(words)?;
         let addr = Addr(address(words)?);
         if !self.sessions.may_attach(conn) {
-            return String::from_str(self.alloc, "no room").ok();
+            return text(self.alloc, "no room");
         }
         let attached = self.sessions.attach(conn, addr);
-        format!(in self.alloc; "{attached:?}").ok()
+        told(self.alloc, attached)
     }
 
     // `detach CONNECTION`: whether it was there.
     fn detach(&mut self, words: &mut SplitWhitespace<'_>) -> Option<String> {
         let detached = self.sessions.detach(word(words)?);
-        format!(in self.alloc; "{detached:?}").ok()
+        told(self.alloc, detached)
     }
 
     // `CONNECTION SECONDS BYTES`.
@@ -97,7 +98,7 @@ impl Connections {
         let mut out = Device::new(Vec::new(self.alloc));
         let fed = self.sessions.feed(conn, moment, piece, &mut out);
         let replies = digits(self.alloc, out.into_inner().as_slice())?;
-        format!(in self.alloc; "{fed:?} {replies}").ok()
+        then(told(self.alloc, fed)?, replies.as_str())
     }
 
     // `feed CONNECTION SECONDS BYTES`.
@@ -111,7 +112,7 @@ impl Connections {
     fn pieces(&mut self, words: &mut SplitWhitespace<'_>) -> Option<String> {
         let size = size(words)?.max(1);
         let stream = self.stream(words)?;
-        let mut last = String::from_str(self.alloc, "Ok(0) -").ok()?;
+        let mut last = text(self.alloc, "Ok(0) -")?;
         for piece in stream.bytes.as_slice().chunks(size) {
             if last.as_str() != "Ok(0) -" {
                 return None;
@@ -150,7 +151,7 @@ impl Connections {
             .sessions
             .feed(stream.conn, stream.moment, bytes, &mut out);
         let written = digits(self.alloc, out.into_inner().into_inner().as_slice())?;
-        format!(in self.alloc; "{fed:?} {written}").ok()
+        then(told(self.alloc, fed)?, written.as_str())
     }
 
     // `beside ADDRESS SECONDS BYTES`: a whole record that comes beside the connection.
@@ -158,7 +159,6 @@ impl Connections {
         let record = record_of(self.alloc, self.sessions.server().tree(), words)?;
         let mut kept = Kept::new(self.alloc, 0);
         let done = self.sessions.run(&[record.event()], &mut kept);
-        let replies = kept.text();
-        format!(in self.alloc; "{done}{replies}").ok()
+        then(told(self.alloc, done)?, kept.text())
     }
 }

@@ -1,7 +1,7 @@
 //! The replies of a run.
 
 use nfs_server::event::{Outcome, Sink};
-use rows::words::digits;
+use rows::answers::digits;
 use std::alloc::Global;
 
 /// Keeps the digits of the replies, and ends the run at a given one.

@@ -1,4 +1,4 @@
-//! The words of a question, and those of an answer.
+//! The words of a question.
 
 use std::alloc::Global;
 use std::str::SplitWhitespace;
@@ -70,12 +70,4 @@ pub fn name(alloc: Global, words: &mut SplitWhitespace<'_>) -> Option<Vec<u8>> {
         None => bytes.extend_from_slice(word.as_bytes()).ok()?,
     }
     Some(bytes)
-}
-
-/// The hexadecimal digits of bytes, `-` for none. `None` where there is no memory.
-pub fn digits(alloc: Global, bytes: &[u8]) -> Option<String> {
-    if bytes.is_empty() {
-        return String::from_str(alloc, "-").ok();
-    }
-    hex::encode(alloc, bytes).ok()
 }
