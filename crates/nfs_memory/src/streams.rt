@@ -49,19 +49,28 @@ fn a_framer_without_memory_fails_for_good(rt: HostRuntime) -> Result<(), Fail> {
     Ok(())
 }
 
+// A new connection of number 1.
+fn attach(sessions: &mut Sessions) -> Option<()> {
+    if !sessions.may_attach(1) {
+        return None;
+    }
+    sessions.attach(1, Addr(0x0a00_0001)).ok()
+}
+
+fn feed(alloc: Global, sessions: &mut Sessions, piece: &[u8]) -> Result<u64, SessionFault> {
+    let mut replies = Device::new(Vec::new(alloc));
+    sessions.feed(1, NOW, piece, &mut replies)
+}
+
 // What a new connection answers to the beginning of a record, and then to no bytes; it is taken
 // away again.
 fn fed(
     alloc: Global,
     sessions: &mut Sessions,
 ) -> Option<(Result<u64, SessionFault>, Result<u64, SessionFault>)> {
-    if !sessions.may_attach(1) {
-        return None;
-    }
-    sessions.attach(1, Addr(0x0a00_0001)).ok()?;
-    let mut replies = Device::new(Vec::new(alloc));
-    let first = sessions.feed(1, NOW, &BEGUN, &mut replies);
-    let then = sessions.feed(1, NOW, b"", &mut replies);
+    attach(sessions)?;
+    let first = feed(alloc, sessions, &BEGUN);
+    let then = feed(alloc, sessions, b"");
     sessions.detach(1).ok()?;
     Some((first, then))
 }
