@@ -8,8 +8,6 @@ mod hexadecimal;
 mod printing;
 mod replay;
 mod script;
-#[cfg(test)]
-mod tests;
 
 use crate::fault::ReplayFault;
 use std::alloc::AllocError;

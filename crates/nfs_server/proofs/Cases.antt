@@ -11,7 +11,7 @@ use Rattle.nfs_handles.specs.declared.reading.Reading.TheVariants.{Live, Stale, 
 use Rattle.nfs_handles.specs.declared.number.Number.{Number}
 use Rattle.nfs_inodes.specs.Tree.{Tree, File, at, on_some, nlink}
 use Rattle.nfs_inodes.specs.Law.{Law}
-use Rattle.nfs_inodes.specs.Reading.{found, numbered, attributes_of, attributes_at}
+use Rattle.nfs_inodes.specs.Reading.{number_under, numbered_files, attributes_of, attributes_at}
 use Rattle.nfs_inodes.proofs.Lookups.{found_lives}
 use Rattle.nfs_inodes.proofs.Follows.{changes_follow, handles_are_for_good, lives_alike}
 use Rattle.nfs_rpc.specs.AuthSys.{Credential, caller}
@@ -86,7 +86,7 @@ left_false false b e = refl
 
 module _ (t : Tree) (law : Law t) (handle : List ℕ) where
   -- a handle that reads as a file names it
-  live_is_there : (n : Number) → reading (numbered t) handle ≡ Live n → (o : Option File) → at n.0 t.files ≡ o → is_some o ≡ true
+  live_is_there : (n : Number) → reading (numbered_files t) handle ≡ Live n → (o : Option File) → at n.0 t.files ≡ o → is_some o ≡ true
   live_is_there n live (Some f) e = refl
   live_is_there n live None e =
       let for_good = handles_are_for_good.for_good t t n.0 handle law (changes_follow.itself t) live in
@@ -100,7 +100,7 @@ module _ (t : Tree) (law : Law t) (handle : List ℕ) where
       of None e = e
       of (Some f) e = refl
 
-  named_by : (k : Reading) → reading (numbered t) handle ≡ k → is_bad k ≡ false → is_stale k ≡ false → is_some (live_at t k) ≡ true
+  named_by : (k : Reading) → reading (numbered_files t) handle ≡ k → is_bad k ≡ false → is_stale k ≡ false → is_some (live_at t k) ≡ true
   named_by Bad e bad stale = absurd (true≢false bad)
   named_by Stale e bad stale = absurd (true≢false stale)
   named_by (Live n) e bad stale = shown n.0 (live_is_there n e (at n.0 t.files) refl)
@@ -126,12 +126,12 @@ granted_has_subject t exports r law none =
     let bad = left_false (first BadHandle) (later BadHandle) (first_not p BadHandle (StaleHandle ∷ Export ∷ rest) none) in
     let stale = left_false (first StaleHandle) (later StaleHandle) (first_not p StaleHandle (Export ∷ rest) a) in
     let covered = left_false (first Export) (later Export) (first_not p Export rest b) in
-    some_subject t exports r.addr r.cred (named t handle) (named_by t law handle (reading (numbered t) handle) refl bad stale) covered
+    some_subject t exports r.addr r.cred (named t handle) (named_by t law handle (reading (numbered_files t) handle) refl bad stale) covered
 
 pub found_has_handle : FoundHasHandle
 found_has_handle t d n name law e =
     let lives = found_lives t law d n name e in
-    handled (file_at (numbered t) n) (lives_alike t n ∙ ap is_some lives.at_file)
+    handled (file_at (numbered_files t) n) (lives_alike t n ∙ ap is_some lives.at_file)
   where
     handled : (o : Option (TaggedFile File)) → is_some o ≡ true → IsSome (option_map (λ (file : TaggedFile File). handle_text t.key file.tag n) o)
     handled None e = absurd (false≢true e)

@@ -3,7 +3,7 @@ use Rattle.std.specs.Prelude.{◌≡◌, ℕ, false, List, Some, None, IsSome}
 use Rattle.nfs_handles.specs.Handles.{handle_at}
 use Rattle.nfs_inodes.specs.Tree.{Tree}
 use Rattle.nfs_inodes.specs.Law.{Law}
-use Rattle.nfs_inodes.specs.Reading.{found, numbered}
+use Rattle.nfs_inodes.specs.Reading.{number_under, numbered_files}
 use Rattle.nfs_rpc.specs.Calls.{Call}
 use Rattle.nfs_server.specs.declared.event.Addr.{Addr}
 use Rattle.nfs_server.specs.declared.exports.Export.{Export}
@@ -21,4 +21,4 @@ GrantedHasSubject = (t : Tree) (exports : List Export) (r : Request) → Law t �
 
 -- What a lawful tree finds under a name has a handle.
 abbrev pub FoundHasHandle : Type 0
-FoundHasHandle = (t : Tree) (d n : ℕ) (name : List ℕ) → Law t → found t d name ≡ Some n → IsSome (handle_at (numbered t) n)
+FoundHasHandle = (t : Tree) (d n : ℕ) (name : List ℕ) → Law t → number_under t d name ≡ Some n → IsSome (handle_at (numbered_files t) n)

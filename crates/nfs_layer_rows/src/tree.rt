@@ -1,0 +1,277 @@
+//! The tree of files: what is read of it, and what its operations do.
+
+use nfs_attrs::moment::Moment;
+use nfs_handles::number::Number;
+use nfs_inodes::new_file::NewFile;
+use nfs_inodes::tree::Tree;
+use nfs_server::loaded::tree_e;
+use rows::answers::{digits, text, told};
+use rows::words::{bytes, name, number, size, word};
+use std::alloc::{AllocError, Global};
+use std::str::SplitWhitespace;
+
+// When everything is done.
+const NOW: Moment = Moment {
+    seconds: 100,
+    nanos: 0,
+};
+
+// What a new file is given.
+const GIVEN: NewFile = NewFile {
+    mode: 0o100_644,
+    uid: 9,
+    gid: 8,
+    atime: Moment {
+        seconds: 0,
+        nanos: 0,
+    },
+    mtime: NOW,
+};
+
+/// A tree that is read and changed.
+#[derive(Drop)]
+pub(crate) struct Served {
+    alloc: Global,
+    tree: Tree,
+}
+
+impl Served {
+    /// The built-in tree.
+    pub(crate) fn new(alloc: Global) -> Result<Served, AllocError> {
+        Ok(Served {
+            alloc,
+            tree: tree_e(alloc)?.tree,
+        })
+    }
+
+    /// The tree.
+    pub(crate) fn tree(&self) -> &Tree {
+        &self.tree
+    }
+
+    /// The answer to a question about the tree.
+    pub(crate) fn answer(&mut self, words: &mut SplitWhitespace<'_>) -> Option<String> {
+        let verb = words.next()?;
+        match verb {
+            "built-in" => self.tree = tree_e(self.alloc).ok()?.tree,
+            "empty" => self.tree = Tree::new(self.alloc, [0; 8]),
+            "make-file"
+            | "make-dir"
+            | "make-link"
+            | "make-dirs"
+            | "link"
+            | "write"
+            | "add-volume" => return self.change(verb, words),
+            "may-make" | "may-write" => return may(self.alloc, &self.tree, verb, words),
+            "volumes" | "next" | "totals" | "place" | "limits" => {
+                return volumes(self.alloc, &self.tree, verb, words);
+            }
+            _ => return read(self.alloc, &self.tree, verb, words),
+        }
+        text(self.alloc, "done")
+    }
+
+    // The number of what is made, or whether it is done; `None` where it may not be.
+    fn change(&mut self, verb: &str, words: &mut SplitWhitespace<'_>) -> Option<String> {
+        let done = match verb {
+            "make-file" => make_file(self.alloc, &mut self.tree, words),
+            "make-dir" => make_dir(self.alloc, &mut self.tree, words),
+            "make-dirs" => make_dirs(self.alloc, &mut self.tree, words),
+            "make-link" => make_link(self.alloc, &mut self.tree, words),
+            "link" => link(self.alloc, &mut self.tree, words),
+            "write" => write(self.alloc, &mut self.tree, words),
+            _ => add_volume(self.alloc, &mut self.tree, words),
+        };
+        told(self.alloc, done)
+    }
+}
+
+// What is read of a file.
+fn read(alloc: Global, tree: &Tree, verb: &str, words: &mut SplitWhitespace<'_>) -> Option<String> {
+    match verb {
+        "attributes" => told(alloc, tree.attributes(Number(number(words)?))),
+        "lookup" => lookup(alloc, tree, words),
+        "entry" => entry(alloc, tree, words),
+        "cookie" => told(alloc, tree.next_cookie(Number(number(words)?))),
+        "content" => content(alloc, tree, words),
+        "path" => path(alloc, tree, words),
+        "verifier" => verifier(alloc, tree, words),
+        "handle" => handle(alloc, tree, words),
+        "reading" => told(alloc, tree.read_handle(bytes(alloc, words)?.as_slice())),
+        "named" => named(alloc, tree, words),
+        _ => None,
+    }
+}
+
+// The file of a name in a directory.
+fn lookup(alloc: Global, tree: &Tree, words: &mut SplitWhitespace<'_>) -> Option<String> {
+    let dir = Number(number(words)?);
+    let name = name(alloc, words)?;
+    told(alloc, tree.lookup(dir, name.as_slice()))
+}
+
+// The cookie and the number of the first entry of a directory after a cookie.
+fn entry(alloc: Global, tree: &Tree, words: &mut SplitWhitespace<'_>) -> Option<String> {
+    let dir = Number(number(words)?);
+    match tree.entry_after(dir, number(words)?) {
+        Some(entry) => told(alloc, (entry.cookie, entry.number.0)),
+        None => text(alloc, "None"),
+    }
+}
+
+// The bytes of a file from an offset.
+fn content(alloc: Global, tree: &Tree, words: &mut SplitWhitespace<'_>) -> Option<String> {
+    let number = Number(number(words)?);
+    digits(alloc, tree.bytes_at(number, size(words)?))
+}
+
+// The path of a link.
+fn path(alloc: Global, tree: &Tree, words: &mut SplitWhitespace<'_>) -> Option<String> {
+    match tree.link_path(Number(number(words)?)) {
+        Some(path) => digits(alloc, path),
+        None => text(alloc, "None"),
+    }
+}
+
+// The verifier that a file was made with.
+fn verifier(alloc: Global, tree: &Tree, words: &mut SplitWhitespace<'_>) -> Option<String> {
+    match tree.verifier(Number(number(words)?)) {
+        Some(verifier) => digits(alloc, &verifier),
+        None => text(alloc, "None"),
+    }
+}
+
+fn handle(alloc: Global, tree: &Tree, words: &mut SplitWhitespace<'_>) -> Option<String> {
+    match tree.handle_of(number(words)?) {
+        Some(handle) => digits(alloc, &handle),
+        None => text(alloc, "None"),
+    }
+}
+
+// The attributes of the file that a handle names, or why it names none.
+fn named(alloc: Global, tree: &Tree, words: &mut SplitWhitespace<'_>) -> Option<String> {
+    let handle = bytes(alloc, words)?;
+    match tree.find(handle.as_slice()) {
+        Ok(file) => told(alloc, file.attributes),
+        Err(why) => told(alloc, why),
+    }
+}
+
+// What is read of volumes: how many there are, the number of the next file, what the files of the
+// volume at a place have in all, the place of the volume of a path, and the limits and root of
+// the volume at a place.
+fn volumes(
+    alloc: Global,
+    tree: &Tree,
+    verb: &str,
+    words: &mut SplitWhitespace<'_>,
+) -> Option<String> {
+    match verb {
+        "volumes" => told(alloc, tree.volumes()),
+        "next" => told(alloc, tree.next_number()),
+        "totals" => told(alloc, tree.totals(size(words)?)),
+        "place" => told(alloc, tree.volume_named(name(alloc, words)?.as_slice())),
+        _ => match tree.volume(size(words)?) {
+            Some(volume) => told(alloc, (volume.max_bytes, volume.max_files, volume.root.0)),
+            None => text(alloc, "None"),
+        },
+    }
+}
+
+// `may-make DIRECTORY NAME SIZE` and `may-write NUMBER OFFSET COUNT`.
+fn may(alloc: Global, tree: &Tree, verb: &str, words: &mut SplitWhitespace<'_>) -> Option<String> {
+    let file = Number(number(words)?);
+    if verb == "may-write" {
+        return told(alloc, tree.may_write(file, size(words)?, size(words)?));
+    }
+    let name = name(alloc, words)?;
+    told(alloc, tree.may_make(file, name.as_slice(), size(words)?))
+}
+
+// `make-file DIRECTORY NAME SIZE [VERIFIER]`.
+fn make_file(alloc: Global, tree: &mut Tree, words: &mut SplitWhitespace<'_>) -> Option<u64> {
+    let dir = Number(number(words)?);
+    let name = name(alloc, words)?;
+    let size = size(words)?;
+    let verifier = bytes(alloc, words)?.first_chunk::<8>().copied();
+    if !tree.may_make(dir, name.as_slice(), size) {
+        return None;
+    }
+    let made = tree.make_file(dir, name.as_slice(), size, &GIVEN, verifier, NOW);
+    made.ok().map(|number| number.0)
+}
+
+// `make-dir DIRECTORY NAME`.
+fn make_dir(alloc: Global, tree: &mut Tree, words: &mut SplitWhitespace<'_>) -> Option<u64> {
+    let dir = Number(number(words)?);
+    let name = name(alloc, words)?;
+    directory(tree, dir, name.as_slice())
+}
+
+fn directory(tree: &mut Tree, dir: Number, name: &[u8]) -> Option<u64> {
+    if !tree.may_make_dir(dir, name) {
+        return None;
+    }
+    let made = tree.make_dir(dir, name, &GIVEN, NOW);
+    made.ok().map(|number| number.0)
+}
+
+// `make-dirs DIRECTORY COUNT`: so many directories, with numbers as names; how many were made.
+fn make_dirs(alloc: Global, tree: &mut Tree, words: &mut SplitWhitespace<'_>) -> Option<u64> {
+    let dir = Number(number(words)?);
+    let mut made = 0u64;
+    for index in 0..word(words)? {
+        let name = format!(in alloc; "{index}").ok()?;
+        if directory(tree, dir, name.as_bytes()).is_some() {
+            made = made.saturating_add(1);
+        }
+    }
+    Some(made)
+}
+
+// `make-link DIRECTORY NAME PATH`.
+fn make_link(alloc: Global, tree: &mut Tree, words: &mut SplitWhitespace<'_>) -> Option<u64> {
+    let dir = Number(number(words)?);
+    let name_of_link = name(alloc, words)?;
+    let path = name(alloc, words)?;
+    if !tree.may_make_link(dir, name_of_link.as_slice(), path.as_slice()) {
+        return None;
+    }
+    let made = tree.make_link(dir, name_of_link.as_slice(), path.as_slice(), &GIVEN, NOW);
+    made.ok().map(|number| number.0)
+}
+
+// `link NUMBER DIRECTORY NAME`: the number.
+fn link(alloc: Global, tree: &mut Tree, words: &mut SplitWhitespace<'_>) -> Option<u64> {
+    let file = Number(number(words)?);
+    let dir = Number(number(words)?);
+    let name = name(alloc, words)?;
+    if !tree.may_link(file, dir, name.as_slice()) {
+        return None;
+    }
+    tree.link(file, dir, name.as_slice(), NOW).ok()?;
+    Some(file.0)
+}
+
+// `write NUMBER OFFSET BYTES`: the number.
+fn write(alloc: Global, tree: &mut Tree, words: &mut SplitWhitespace<'_>) -> Option<u64> {
+    let file = Number(number(words)?);
+    let offset = size(words)?;
+    let content = bytes(alloc, words)?;
+    if !tree.may_write(file, offset, content.len()) {
+        return None;
+    }
+    tree.write_at(file, offset, content.as_slice(), NOW).ok()?;
+    Some(file.0)
+}
+
+// `add-volume PATH FILES`: a volume of at most so many files, and no bytes.
+fn add_volume(alloc: Global, tree: &mut Tree, words: &mut SplitWhitespace<'_>) -> Option<u64> {
+    let path = name(alloc, words)?;
+    let max_files = number(words)?;
+    if !tree.may_add_volume(path.as_slice(), max_files) {
+        return None;
+    }
+    let added = tree.add_volume(path.as_slice(), 0, max_files, &GIVEN, NOW);
+    added.ok().map(|number| number.0)
+}

@@ -1,0 +1,103 @@
+//! Each growth of the tree refused in turn.
+use crate::ROUNDS;
+use ballast::Ballast;
+use nfs_attrs::fattr::Fattr;
+use nfs_attrs::moment::Moment;
+use nfs_handles::number::Number;
+use nfs_inodes::new_file::NewFile;
+use nfs_inodes::tree::Tree;
+use nfs_inodes::volumes::Totals;
+use nfs_server::loaded::tree_e;
+use std::alloc::{AllocError, Global};
+use std::test::Fail;
+
+const NOW: Moment = Moment {
+    seconds: 100,
+    nanos: 0,
+};
+
+const GIVEN: NewFile = NewFile {
+    mode: 0o644,
+    uid: 9,
+    gid: 8,
+    atime: NOW,
+    mtime: NOW,
+};
+
+// What the tests see of a tree: directory 2 with the cookie of its next entry, file 3 and its
+// length, the first volume's totals, the volumes and the next number.
+#[derive(Clone, Copy, Debug, PartialEq, Eq)]
+struct Seen {
+    directory: Option<Fattr>,
+    cookie: Option<u64>,
+    file: Option<Fattr>,
+    length: usize,
+    totals: Option<Totals>,
+    volumes: usize,
+    number: u64,
+}
+
+fn look(tree: &Tree) -> Seen {
+    Seen {
+        directory: tree.attributes(Number(2)),
+        cookie: tree.next_cookie(Number(2)),
+        file: tree.attributes(Number(3)),
+        length: tree.bytes_at(Number(3), 0).len(),
+        totals: tree.totals(0),
+        volumes: tree.volumes(),
+        number: tree.next_number(),
+    }
+}
+
+// One operation of each kind, by its number.
+fn operate(tree: &mut Tree, operation: u32) -> Result<(), AllocError> {
+    let dir = Number(2);
+    match operation {
+        0 if tree.may_make(dir, b"y", 100) => {
+            tree.make_file(dir, b"y", 100, &GIVEN, None, NOW)?;
+        }
+        1 if tree.may_make_dir(dir, b"y") => {
+            tree.make_dir(dir, b"y", &GIVEN, NOW)?;
+        }
+        2 if tree.may_make_link(dir, b"y", b"to") => {
+            tree.make_link(dir, b"y", b"to", &GIVEN, NOW)?;
+        }
+        3 if tree.may_link(Number(3), dir, b"y") => tree.link(Number(3), dir, b"y", NOW)?,
+        4 if tree.may_write(Number(3), 100, 3) => tree.write_at(Number(3), 100, b"end", NOW)?,
+        5 if tree.may_add_volume(b"/c", 1) => {
+            tree.add_volume(b"/c", 1, 1, &GIVEN, NOW)?;
+        }
+        _ => (),
+    }
+    Ok(())
+}
+
+// How often the operation was refused until there was memory; none where it was refused and had
+// changed what is seen, or did nothing.
+fn refusals(alloc: Global, operation: u32) -> Result<Option<u32>, AllocError> {
+    let mut tree = tree_e(alloc)?.tree;
+    let before = look(&tree);
+    let mut ballast = Ballast::new(alloc)?;
+    for refused in 0..ROUNDS {
+        if operate(&mut tree, operation).is_ok() {
+            return Ok(if look(&tree) == before {
+                None
+            } else {
+                Some(refused)
+            });
+        }
+        if look(&tree) != before || !ballast.lighten() {
+            break;
+        }
+    }
+    Ok(None)
+}
+
+#[test]
+fn refused_operations_leave_the_tree(rt: HostRuntime) -> Result<(), Fail> {
+    for operation in 0..6 {
+        let refused = refusals(rt.alloc(), operation)?;
+        assert!(rt; refused.is_some_and(|count| count > 0));
+    }
+    Ok(())
+}

@@ -1,0 +1,164 @@
+//! Calls on a connection.
+
+use crate::kept::Kept;
+use crate::record::{bytes, moment, record_of};
+use nfs_attrs::moment::Moment;
+use nfs_server::event::Addr;
+use nfs_server::loaded::tree_e;
+use nfs_server::server::Server;
+use nfs_server::sessions::Sessions;
+use nfs_xdr::device::Device;
+use nfs_xdr::stutter::Stutter;
+use rows::answers::{digits, text, then, told};
+use rows::words::{address, number, size, word};
+use std::alloc::{AllocError, Global};
+use std::str::SplitWhitespace;
+
+/// A server of the built-in description, with its connection.
+#[derive(Drop)]
+pub(crate) struct Connections {
+    alloc: Global,
+    sessions: Sessions,
+}
+
+// Bytes on a connection.
+#[derive(Drop)]
+struct Stream {
+    conn: u32,
+    moment: Moment,
+    bytes: Vec<u8>,
+}
+
+fn sessions(alloc: Global) -> Result<Sessions, AllocError> {
+    let server = Server::new(alloc, tree_e(alloc)?, 128)?;
+    Sessions::new(alloc, server)
+}
+
+impl Connections {
+    /// A server without a connection.
+    pub(crate) fn new(alloc: Global) -> Result<Connections, AllocError> {
+        Ok(Connections {
+            alloc,
+            sessions: sessions(alloc)?,
+        })
+    }
+
+    /// The answer to a question about connections.
+    pub(crate) fn answer(&mut self, verb: &str, words: &mut SplitWhitespace<'_>) -> Option<String> {
+        match verb {
+            "open" => self.open(),
+            "attach" => self.attach(words),
+            "detach" => self.detach(words),
+            "feed" => self.feed(words),
+            "pieces" => self.pieces(words),
+            "cuts" => self.cuts(words),
+            "stutter" => self.stutter(words),
+            "beside" => self.beside(words),
+            _ => None,
+        }
+    }
+
+    // `open`: a new server.
+    fn open(&mut self) -> Option<String> {
+        self.sessions = sessions(self.alloc).ok()?;
+        text(self.alloc, "done")
+    }
+
+    // `attach CONNECTION ADDRESS`: whether it is there.
+    fn attach(&mut self, words: &mut SplitWhitespace<'_>) -> Option<String> {
+        let conn = word(words)?;
+        let addr = Addr(address(words)?);
+        if !self.sessions.may_attach(conn) {
+            return text(self.alloc, "no room");
+        }
+        let attached = self.sessions.attach(conn, addr);
+        told(self.alloc, attached)
+    }
+
+    // `detach CONNECTION`: whether it was there.
+    fn detach(&mut self, words: &mut SplitWhitespace<'_>) -> Option<String> {
+        let detached = self.sessions.detach(word(words)?);
+        told(self.alloc, detached)
+    }
+
+    // `CONNECTION SECONDS BYTES`.
+    fn stream(&self, words: &mut SplitWhitespace<'_>) -> Option<Stream> {
+        let conn = word(words)?;
+        let moment = moment(words)?;
+        let bytes = bytes(self.alloc, self.sessions.server().tree(), words)?;
+        Some(Stream {
+            conn,
+            moment,
+            bytes,
+        })
+    }
+
+    // How many records a piece ends, or the fault, and the replies as they are written.
+    fn fed(&mut self, conn: u32, moment: Moment, piece: &[u8]) -> Option<String> {
+        let mut out = Device::new(Vec::new(self.alloc));
+        let fed = self.sessions.feed(conn, moment, piece, &mut out);
+        let replies = digits(self.alloc, out.into_inner().as_slice())?;
+        then(told(self.alloc, fed)?, replies.as_str())
+    }
+
+    // `feed CONNECTION SECONDS BYTES`.
+    fn feed(&mut self, words: &mut SplitWhitespace<'_>) -> Option<String> {
+        let stream = self.stream(words)?;
+        self.fed(stream.conn, stream.moment, stream.bytes.as_slice())
+    }
+
+    // `pieces BYTES_A_PIECE CONNECTION SECONDS BYTES`: what the last piece brings; none before it
+    // may bring anything.
+    fn pieces(&mut self, words: &mut SplitWhitespace<'_>) -> Option<String> {
+        let size = size(words)?.max(1);
+        let stream = self.stream(words)?;
+        let mut last = text(self.alloc, "Ok(0) -")?;
+        for piece in stream.bytes.as_slice().chunks(size) {
+            if last.as_str() != "Ok(0) -" {
+                return None;
+            }
+            last = self.fed(stream.conn, stream.moment, piece)?;
+        }
+        Some(last)
+    }
+
+    // `cuts CONNECTION SECONDS BYTES`: what the bytes in two pieces bring, wherever they are cut;
+    // the first piece may bring nothing.
+    fn cuts(&mut self, words: &mut SplitWhitespace<'_>) -> Option<String> {
+        let stream = self.stream(words)?;
+        let mut all = None;
+        for cut in 0..stream.bytes.len() {
+            let (front, back) = stream.bytes.as_slice().split_at(cut);
+            let before = self.fed(stream.conn, stream.moment, front)?;
+            let after = self.fed(stream.conn, stream.moment, back)?;
+            if before.as_str() != "Ok(0) -" || all.as_ref().is_some_and(|text| *text != after) {
+                return None;
+            }
+            all = Some(after);
+        }
+        all
+    }
+
+    // `stutter STEP K CONNECTION SECONDS BYTES`: as `feed`, with replies written to a device that
+    // takes at most STEP bytes a call, and fails at its K-th call.
+    fn stutter(&mut self, words: &mut SplitWhitespace<'_>) -> Option<String> {
+        let step = size(words)?.max(1);
+        let k = number(words)?.max(1);
+        let stream = self.stream(words)?;
+        let mut out = Stutter::new(Device::new(Vec::new(self.alloc)), step, k);
+        let bytes = stream.bytes.as_slice();
+        let fed = self
+            .sessions
+            .feed(stream.conn, stream.moment, bytes, &mut out);
+        let written = digits(self.alloc, out.into_inner().into_inner().as_slice())?;
+        then(told(self.alloc, fed)?, written.as_str())
+    }
+
+    // `beside ADDRESS SECONDS BYTES`: a whole record that comes beside the connection.
+    fn beside(&mut self, words: &mut SplitWhitespace<'_>) -> Option<String> {
+        let record = record_of(self.alloc, self.sessions.server().tree(), words)?;
+        let mut kept = Kept::new(self.alloc, 0);
+        let done = self.sessions.run(&[record.event()], &mut kept);
+        then(told(self.alloc, done)?, kept.text())
+    }
+}

@@ -1,0 +1,7 @@
+//! Rows of text, each a question and the answer that is wanted of it.
+#![tactic(auto)]
+
+pub mod answers;
+mod definitions;
+pub mod sheet;
+pub mod words;
