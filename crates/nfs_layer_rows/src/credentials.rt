@@ -6,13 +6,13 @@ use rows::words::bytes;
 use std::alloc::Global;
 use std::str::SplitWhitespace;
 
-/// `cred of BYTES`, `cred again BYTES / BYTES`, `cred cuts BYTES` and `cred unread`.
+/// `cred of BYTES`, `cred again BYTES / BYTES`, `cred cuts BYTES` and `cred nobody`.
 pub(crate) fn answer(alloc: Global, words: &mut SplitWhitespace<'_>) -> Option<String> {
     match words.next()? {
         "of" => of(alloc, words),
         "again" => again(alloc, words),
         "cuts" => cuts(alloc, words),
-        "unread" => said(alloc, &Cred::unread()),
+        "nobody" => said(alloc, &Cred::nobody()),
         _ => None,
     }
 }
@@ -36,7 +36,7 @@ fn of(alloc: Global, words: &mut SplitWhitespace<'_>) -> Option<String> {
 fn again(alloc: Global, words: &mut SplitWhitespace<'_>) -> Option<String> {
     let first = bytes(alloc, words)?;
     let second = bytes(alloc, words)?;
-    let mut cred = Cred::unread();
+    let mut cred = Cred::nobody();
     cred.read(first.as_slice()).ok()?;
     match cred.read(second.as_slice()) {
         Ok(()) => said(alloc, &cred),
