@@ -1,4 +1,5 @@
 //! NumberedFiles files: a map from numbers to values.
+ghost use Rattle.std.specs.Prelude.{not, ◌||◌, nat_eq, nat_le};
 ghost use Rattle.std.specs.Prelude.{◌≡◌, ℕ, ◌^◌, ◌<◌, ◌≤◌, ◌≢◌, Some, IsSome, IfSome, IfNone, IfOk};
 ghost use Rattle.std.specs.Prelude.{IfErr, true, length, bytes_eq, option_copied};
 ghost use Rattle.std.specs.Borrow.{sem};
@@ -121,7 +122,7 @@ impl<T: Drop> Files<T> {
         let n = &handle[16..];
         let tag = u32::from_be_bytes([t[0], t[1], t[2], t[3]]);
         let number = u64::from_be_bytes([n[0], n[1], n[2], n[3], n[4], n[5], n[6], n[7]]);
-        if number == 0 || self.next <= number {
+        if !self.was_given(number) {
             return Err(NoFile::Bad);
         }
         match self.living(tag, number) {
@@ -138,6 +139,14 @@ impl<T: Drop> Files<T> {
     {
         let k = &handle[4..12];
         [k[0], k[1], k[2], k[3], k[4], k[5], k[6], k[7]] == self.key
+    }
+
+    // Whether a number was given.
+    #[inline(always)]
+    fn was_given(&self, number: u64) -> bool
+        ensures { result ≡ not (nat_eq number 0 || nat_le self.now.next number) }
+    {
+        number != 0 && number < self.next
     }
 
     // The file that lives under a number that was given, where it has this tag.

@@ -1,5 +1,7 @@
 -- What the tree's own steps need.
 use Rattle.std.specs.Prelude.{◌≡◌, ℕ, ◌≢◌, ◌+◌, ◌-◌, ◌<◌, ◌≤◌, ◌^◌, All, true, false, List, Some, slice_get, length, if◌then◌else◌}
+use Rattle.nfs_attrs.specs.declared.moment.Moment.{Moment}
+use Rattle.nfs_inodes.specs.Changes.{with_named_file}
 use Rattle.nfs_inodes.specs.Limits.{max_file_bytes, max_links}
 use Rattle.nfs_inodes.specs.declared.stored_file.StoredFile.{StoredFile}
 use Rattle.nfs_inodes.specs.declared.stored_volume.StoredVolume.{StoredVolume}
@@ -11,6 +13,10 @@ use Rattle.nfs_inodes.specs.Law.{IsName, Lives}
 -- the file with this tag
 abbrev pub retagged : File → ℕ → File
 retagged f tag = record f { tag = tag }
+
+-- the tree with a file as it is kept under the next number, with this tag, and an entry in d
+abbrev pub with_stored_file : Tree → ℕ → List ℕ → StoredFile → Moment → ℕ → Tree
+with_stored_file t d name f now tag = with_named_file t d name (retagged (file_of 0 f) tag) now
 
 -- a new file may be added to directory d under a name
 pub record MayAdd (t : Tree) (d : ℕ) (name : List ℕ) (stored_file : StoredFile) : Type 0 where

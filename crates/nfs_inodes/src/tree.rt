@@ -5,11 +5,11 @@ ghost use Rattle.nfs_inodes.specs.Tree.{Regular, Directory, Link};
 ghost use Rattle.nfs_inodes.specs.Law.{Law};
 ghost use Rattle.nfs_inodes.specs.Changes.{Makes, after_make_file, after_make_dir, after_make_link};
 ghost use Rattle.nfs_inodes.specs.Changes.{after_link, after_write_at, after_add_volume};
-ghost use Rattle.nfs_inodes.specs.Changes.{with_named_file, new_file, zeros, volume_of};
+ghost use Rattle.nfs_inodes.specs.Changes.{new_file, zeros, volume_of};
 ghost use Rattle.nfs_inodes.specs.Conditions.{MayMake, MayMakeDirectory, MayMakeLink, MayLink};
 ghost use Rattle.nfs_inodes.specs.Conditions.{MayWrite, Grows, MayAddVolume};
 ghost use Rattle.nfs_inodes.specs.Storage.{file_of, counted_volume_of};
-ghost use Rattle.nfs_inodes.specs.StepConditions.{MayAdd, retagged, HasRoomFor};
+ghost use Rattle.nfs_inodes.specs.StepConditions.{MayAdd, with_stored_file, HasRoomFor};
 ghost use Rattle.nfs_inodes.specs.Counts.{with_totals};
 
 use crate::content::{copied, zeroed};
@@ -247,7 +247,7 @@ impl Tree {
         now: Moment,
     ) -> Result<Number, AllocError>
         requires { MayAdd self.old dir.0 name.items stored_file }
-        ensures ok { OnOk result (Makes (λ tag. with_named_file self.old dir.0 name.items (retagged (file_of 0 stored_file) tag) now) self.new) }
+        ensures ok { OnOk result (Makes (with_stored_file self.old dir.0 name.items stored_file now) self.new) }
         ensures number { IfOk result (λ n. n.0 ≡ self.old.next) }
         ensures err { OnErr result (self.new ≡ self.old) }
     {
