@@ -26,7 +26,7 @@ const GIVEN: NewFile = NewFile {
 
 // What the tests see of a tree: directory 2 with the cookie of its next entry, file 3 and its
 // length, the first volume's totals, the volumes and the next number.
-#[derive(Clone, Copy, Debug, PartialEq, Eq)]
+#[derive(Clone, Copy, Debug, PartialEq)]
 struct Seen {
     directory: Option<Fattr>,
     cookie: Option<u64>,
