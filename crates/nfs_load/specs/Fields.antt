@@ -1,0 +1,60 @@
+-- Fields that are a key or numbers: the value, or the cause.
+use Rattle.std.specs.Prelude.{◌≡◌, ℕ, Bool, ◌&&◌, List, [], ◌∷◌, length, Option, Some, None, Result, Ok, Err, if◌then◌else◌, nat_lt, nat_le}
+use Rattle.std.specs.List.{list_all}
+use Rattle.std.specs.Str.Parse.{digits_value}
+use Rattle.hex.specs.Hex.{decode_sized}
+use Rattle.hex.specs.declared.error.FromHexError.{FromHexError}
+use Rattle.nfs_text.specs.Numbers.{decimal_of}
+use Rattle.nfs_load.specs.declared.cause.Cause.{Cause}
+use Rattle.nfs_load.specs.declared.cause.Cause.TheVariants.{FieldCount, BadKey, BadNumber, BadContent}
+
+abbrev pub keyed : Result (List ℕ) FromHexError → Result (List ℕ) Cause
+keyed (Ok key) = Ok key
+keyed (Err e) = Err BadKey
+
+-- 16 hexadecimal digits, two for each of 8 bytes
+abbrev pub key_in : List ℕ → Result (List ℕ) Cause
+key_in field = keyed (decode_sized field 8)
+
+abbrev pub is_octal_digit : ℕ → Bool
+is_octal_digit byte = nat_le 48 byte && nat_le byte 55
+
+-- one to four octal digits
+abbrev pub is_mode : List ℕ → Bool
+is_mode field = nat_lt 0 (length field) && (nat_le (length field) 4 && list_all is_octal_digit field)
+
+abbrev pub mode_in : List ℕ → Result ℕ Cause
+mode_in field = if is_mode field then Ok (digits_value 8 field) else Err BadNumber
+
+abbrev pub at_least : ℕ → Option ℕ → Result ℕ Cause
+at_least min None = Err BadNumber
+at_least min (Some number) = if nat_le min number then Ok number else Err BadNumber
+
+-- decimal digits that say a number from min to max
+abbrev pub number_in : ℕ → ℕ → List ℕ → Result ℕ Cause
+number_in min max field = at_least min (decimal_of max field)
+
+-- what a symbolic link holds: at most 1,024 bytes
+abbrev pub target_in : List ℕ → Result (List ℕ) Cause
+target_in field = if nat_le (length field) 1024 then Ok field else Err BadContent
+
+-- ---- the fields of a line from left to right
+
+infixl 20 ◌>>=◌
+abbrev pub ◌>>=◌ : {A B E : Type 0} → Result A E → (A → Result B E) → Result B E
+(Ok x) >>= f = f x
+(Err e) >>= f = Err e
+
+abbrev pub behind : {A : Type 0} → List (List ℕ) → Result A Cause → Result (A × List (List ℕ)) Cause
+behind rest (Ok value) = Ok (value, rest)
+behind rest (Err cause) = Err cause
+
+-- the value of the next field, and the fields behind it
+abbrev pub by : {A : Type 0} → (List ℕ → Result A Cause) → List (List ℕ) → Result (A × List (List ℕ)) Cause
+by read [] = Err FieldCount
+by read (field ∷ rest) = behind rest (read field)
+
+-- What was answered, seen by view, is what reading gives, with these fields left. A fault may have taken some.
+abbrev pub Takes : {X A : Type 0} → (X → A) → List (List ℕ) → Result X Cause → Result (A × List (List ℕ)) Cause → Type 0
+Takes view rest (Ok x) read = read ≡ Ok (view x, rest)
+Takes view rest (Err cause) read = read ≡ Err cause

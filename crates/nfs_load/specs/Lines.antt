@@ -1,0 +1,67 @@
+-- The lines of a description, as far as each alone says what it asks for.
+use Rattle.std.specs.Prelude.{ℕ, Bool, false, ◌&&◌, ◌||◌, List, [], ◌∷◌, length, Option, Some, None, option_map, Result, Ok, Err, if◌then◌else◌, nat_eq, nat_le, bytes_eq, codes}
+use Rattle.std.specs.List.{list_all}
+use Rattle.nfs_text.specs.Words.{words, words_left}
+use Rattle.nfs_load.specs.declared.cause.Cause.{Cause}
+use Rattle.nfs_load.specs.declared.cause.Cause.TheVariants.{BadByte, UnknownWord, FieldCount}
+use Rattle.nfs_load.specs.declared.line.Keyword.{Keyword}
+use Rattle.nfs_load.specs.declared.line.Keyword.TheVariants.{Server, Volume, Export, Dir, File, Link, Hard}
+use Rattle.nfs_load.specs.declared.line.Line as kept
+
+-- the byte `#`
+abbrev pub is_comment : List ℕ → Bool
+is_comment [] = false
+is_comment (byte ∷ rest) = nat_eq byte 35
+
+-- bytes of ASCII that are printed, and spaces
+abbrev pub is_printable : ℕ → Bool
+is_printable byte = nat_le 32 byte && nat_le byte 126
+
+abbrev pub is_text : List ℕ → Bool
+is_text line = list_all is_printable line
+
+abbrev pub keyword_named : List ℕ → Option Keyword
+keyword_named word =
+    if bytes_eq word (codes "server") then Some Server
+    else (if bytes_eq word (codes "volume") then Some Volume
+    else (if bytes_eq word (codes "export") then Some Export
+    else (if bytes_eq word (codes "dir") then Some Dir
+    else (if bytes_eq word (codes "file") then Some File
+    else (if bytes_eq word (codes "link") then Some Link
+    else (if bytes_eq word (codes "hard") then Some Hard
+    else None))))))
+
+-- whether a keyword takes so many fields
+abbrev pub takes : Keyword → ℕ → Bool
+takes Server count = nat_eq count 1
+takes Volume count = nat_eq count 6
+takes Export count = nat_eq count 1 || nat_eq count 2
+takes Dir count = nat_eq count 4
+takes File count = nat_eq count 5
+takes Link count = nat_eq count 4
+takes Hard count = nat_eq count 2
+
+-- a line that asks for something: its keyword, and the words behind it
+pub record Line : Type 0 where
+  pub keyword : Keyword
+  pub fields : List (List ℕ)
+
+abbrev pub counted : Option Keyword → List (List ℕ) → Result (Option Line) Cause
+counted None fields = Err UnknownWord
+counted (Some keyword) fields = if takes keyword (length fields) then Ok (Some (record { keyword = keyword; fields = fields })) else Err FieldCount
+
+abbrev pub shape_of : List ℕ → List (List ℕ) → Result (Option Line) Cause
+shape_of line [] = Ok None
+shape_of line (word ∷ fields) = if is_text line then counted (keyword_named word) fields else Err BadByte
+
+-- A line whose first byte is `#`, and one without words, asks for nothing. Else the first cause, or what it asks for.
+abbrev pub shape : List ℕ → Result (Option Line) Cause
+shape line = if is_comment line then Ok None else shape_of line (words line)
+
+-- a line that was read, without where it lies in memory
+abbrev pub line_of : kept.Line → Line
+line_of line = record { keyword = line.keyword; fields = words_left line.fields }
+
+abbrev pub asked : Result (Option kept.Line) Cause → Result (Option Line) Cause
+asked (Ok line) = Ok (option_map line_of line)
+asked (Err cause) = Err cause

@@ -1,0 +1,77 @@
+-- What the lines of a description say, by their fields from left to right.
+use Rattle.std.specs.Prelude.{ℕ, List, Result, Ok}
+use Rattle.nfs_load.specs.declared.cause.Cause.{Cause}
+use Rattle.nfs_load.specs.declared.statement.Given.{Given}
+use Rattle.nfs_load.specs.declared.statement.DirLine.{DirLine}
+use Rattle.nfs_load.specs.declared.statement.HardLine.{HardLine}
+use Rattle.nfs_load.specs.declared.statement.VolumeLine as volume
+use Rattle.nfs_load.specs.declared.statement.LinkLine as link
+use Rattle.nfs_load.specs.Fields.{by, ◌>>=◌, mode_in, number_in, target_in}
+use Rattle.nfs_load.specs.Paths.{path_in, volume_path_in}
+
+-- a value and the fields behind it, or a cause
+abbrev pub Read : Type 0 → Type 0
+Read A = Result (A × List (List ℕ)) Cause
+
+-- the number of a user or a group
+abbrev pub id_in : List ℕ → Result ℕ Cause
+id_in = number_in 0 4294967295
+
+-- MODE UID GID
+abbrev pub given_in : List (List ℕ) → Read Given
+given_in fields = do
+  mode ← by mode_in fields
+  uid ← by id_in mode.1
+  gid ← by id_in uid.1
+  Ok (record { mode = mode.0; uid = uid.0; gid = gid.0 }, gid.1)
+
+-- PATH BYTES FILES MODE UID GID
+pub record VolumeLine : Type 0 where
+  pub path : List ℕ
+  pub max_bytes : ℕ
+  pub max_files : ℕ
+  pub given : Given
+
+abbrev pub volume_in : List (List ℕ) → Read VolumeLine
+volume_in fields = do
+  path ← by volume_path_in fields
+  max_bytes ← by (number_in 0 1099511627776) path.1
+  max_files ← by (number_in 1 1000000) max_bytes.1
+  given ← given_in max_files.1
+  Ok (record { path = path.0; max_bytes = max_bytes.0; max_files = max_files.0; given = given.0 }, given.1)
+
+-- PATH MODE UID GID
+abbrev pub dir_in : List (List ℕ) → Read DirLine
+dir_in fields = do
+  path ← by path_in fields
+  given ← given_in path.1
+  Ok (record { path = path.0; given = given.0 }, given.1)
+
+-- PATH UID GID TARGET
+pub record LinkLine : Type 0 where
+  pub path : List (List ℕ)
+  pub uid : ℕ
+  pub gid : ℕ
+  pub target : List ℕ
+
+abbrev pub link_in : List (List ℕ) → Read LinkLine
+link_in fields = do
+  path ← by path_in fields
+  uid ← by id_in path.1
+  gid ← by id_in uid.1
+  target ← by target_in gid.1
+  Ok (record { path = path.0; uid = uid.0; gid = gid.0; target = target.0 }, target.1)
+
+-- PATH OLD
+abbrev pub hard_in : List (List ℕ) → Read HardLine
+hard_in fields = do
+  path ← by path_in fields
+  old ← by path_in path.1
+  Ok (record { path = path.0; old = old.0 }, old.1)
+
+-- lines as they are in memory
+abbrev pub volume_of : volume.VolumeLine → VolumeLine
+volume_of line = record { path = line.path.now; max_bytes = line.max_bytes; max_files = line.max_files; given = line.given }
+
+abbrev pub link_of : link.LinkLine → LinkLine
+link_of line = record { path = line.path; uid = line.uid; gid = line.gid; target = line.target.now }

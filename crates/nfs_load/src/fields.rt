@@ -1,0 +1,100 @@
+//! The fields of a line, read from left to right.
+ghost use Rattle.std.specs.Prelude.{◌≡◌, Ok};
+ghost use Rattle.nfs_text.specs.Words.{words_left};
+ghost use Rattle.nfs_load.specs.Fields.{by, key_in, mode_in, number_in, target_in, Takes};
+ghost use Rattle.nfs_load.specs.Paths.{path_in, volume_path_in};
+
+use crate::cause::Cause;
+use crate::field::{read_key, read_mode, read_number};
+use crate::limits::{MAX_ID, MAX_LINK_BYTES};
+use crate::path::{Path, read_path, read_volume_path};
+use nfs_text::words::Words;
+use std::marker::Model;
+
+/// The fields of a line that are to come. Contracts see a list of words.
+#[derive(Drop)]
+pub struct Fields<'a> {
+    words: Words<'a>,
+}
+
+impl<'a> Model for Fields<'a> {
+    ghost use Rattle.std.specs.Prelude.{ℕ, List};
+    ghost use Rattle.nfs_text.specs.Words.{words_left};
+
+    ghost Value = { List (List ℕ) };
+
+    ghost view = { λ fields. words_left fields.words };
+}
+
+impl<'a> Fields<'a> {
+    /// The fields that these words are.
+    pub fn new(words: Words<'a>) -> Fields<'a>
+        ensures { result ≡ words_left words.entry }
+    {
+        Fields { words }
+    }
+
+    // The next field. `FieldCount` where there is none.
+    fn next(&mut self) -> Result<&'a [u8], Cause>
+        ensures { Takes (λ text. text.now) self.new result (by (λ field. Ok field) self.old) }
+    {
+        match self.words.next() {
+            Some(field) => Ok(field),
+            None => Err(Cause::FieldCount),
+        }
+    }
+
+    /// A server's key, of 16 hexadecimal digits. `BadKey` where the field is none.
+    pub fn key(&mut self) -> Result<[u8; 8], Cause>
+        ensures { Takes (λ key. key) self.new result (by key_in self.old) }
+    {
+        read_key(self.next()?)
+    }
+
+    /// A mode, of one to four octal digits. `BadNumber` where the field is none.
+    pub fn mode(&mut self) -> Result<u32, Cause>
+        ensures { Takes (λ mode. mode) self.new result (by mode_in self.old) }
+    {
+        read_mode(self.next()?)
+    }
+
+    /// A number from `min` to `max`, in decimal digits. `BadNumber` where the field is none.
+    pub fn number(&mut self, min: u64, max: u64) -> Result<u64, Cause>
+        ensures { Takes (λ number. number) self.new result (by (number_in min max) self.old) }
+    {
+        read_number(self.next()?, min, max)
+    }
+
+    /// A path. `BadPath` where the field is none.
+    pub fn path(&mut self) -> Result<Path<'a>, Cause>
+        ensures { Takes (λ path. path) self.new result (by path_in self.old) }
+    {
+        read_path(self.next()?)
+    }
+
+    /// A volume's path. `BadVolumePath` where the field is none.
+    pub fn volume_path(&mut self) -> Result<&'a [u8], Cause>
+        ensures { Takes (λ text. text.now) self.new result (by volume_path_in self.old) }
+    {
+        read_volume_path(self.next()?)
+    }
+
+    /// The number of a user or a group, in decimal digits. `BadNumber` where the field is none.
+    pub fn id(&mut self) -> Result<u32, Cause>
+        ensures { Takes (λ id. id) self.new result (by (number_in 0 4294967295) self.old) }
+    {
+        let id = self.number(0, MAX_ID)?;
+        Ok(id as u32)
+    }
+
+    /// What a symbolic link holds. `BadContent` where it has more than 1,024 bytes.
+    pub fn target(&mut self) -> Result<&'a [u8], Cause>
+        ensures { Takes (λ text. text.now) self.new result (by target_in self.old) }
+    {
+        let target = self.next()?;
+        if target.len() > MAX_LINK_BYTES {
+            return Err(Cause::BadContent);
+        }
+        Ok(target)
+    }
+}

@@ -1,0 +1,131 @@
+//! The lines of a description: which are looked at, and what each asks for.
+ghost use Rattle.std.specs.Prelude.{◌≡◌, length};
+ghost use Rattle.nfs_text.specs.Words.{words};
+ghost use Rattle.nfs_load.specs.Lines as spec;
+ghost use Rattle.nfs_load.specs.Lines.{asked, keyword_named, shape};
+
+use crate::cause::Cause;
+use nfs_text::words::Words;
+
+/// The word that a line begins with.
+#[derive(Clone, Copy)]
+pub enum Keyword {
+    /// The server's key.
+    Server,
+    /// A new volume.
+    Volume,
+    /// A pattern of addresses to which the last volume is exported.
+    Export,
+    /// A directory.
+    Dir,
+    /// A regular file.
+    File,
+    /// A symbolic link.
+    Link,
+    /// A further name of a file.
+    Hard,
+}
+
+/// A line that asks for something: its keyword, and its fields.
+#[derive(Drop)]
+pub struct Line<'a> {
+    /// What it asks for.
+    pub keyword: Keyword,
+    /// The words behind the keyword.
+    pub fields: Words<'a>,
+}
+
+/// What a line asks for, as far as the line alone says it: `None` where it has no words or its
+/// first byte is `#`. Else the first of these: `BadByte` where a byte is below 0x20 or above 0x7e,
+/// `UnknownWord` where its first word is no keyword, `FieldCount` where the keyword takes another
+/// number of fields.
+pub fn read_line(line: &[u8]) -> Result<Option<Line<'_>>, Cause>
+    ensures { asked result ≡ shape line.now }
+{
+    if is_comment(line) {
+        return Ok(None);
+    }
+    let mut fields = Words::new(line);
+    let Some(word) = fields.next() else {
+        return Ok(None);
+    };
+    if !is_text(line) {
+        return Err(Cause::BadByte);
+    }
+    let Some(keyword) = keyword_of(word) else {
+        return Err(Cause::UnknownWord);
+    };
+    if !takes(keyword, count_words(line) - 1) {
+        return Err(Cause::FieldCount);
+    }
+    Ok(Some(Line { keyword, fields }))
+}
+
+// Whether a line is one of the writer's own.
+fn is_comment(line: &[u8]) -> bool
+    ensures { result ≡ spec.is_comment line.now }
+{
+    match line.first() {
+        Some(byte) => *byte == b'#',
+        None => false,
+    }
+}
+
+// Whether a line has bytes of text alone.
+fn is_text(line: &[u8]) -> bool
+    ensures { result ≡ spec.is_text line.now }
+{
+    for byte in line {
+        if *byte < 0x20 || *byte > 0x7e {
+            return false;
+        }
+    }
+    true
+}
+
+fn keyword_of(word: &[u8]) -> Option<Keyword>
+    ensures { result ≡ keyword_named word.now }
+{
+    if word == b"server".as_slice() {
+        Some(Keyword::Server)
+    } else if word == b"volume".as_slice() {
+        Some(Keyword::Volume)
+    } else if word == b"export".as_slice() {
+        Some(Keyword::Export)
+    } else if word == b"dir".as_slice() {
+        Some(Keyword::Dir)
+    } else if word == b"file".as_slice() {
+        Some(Keyword::File)
+    } else if word == b"link".as_slice() {
+        Some(Keyword::Link)
+    } else if word == b"hard".as_slice() {
+        Some(Keyword::Hard)
+    } else {
+        None
+    }
+}
+
+// Whether a keyword takes so many fields.
+fn takes(keyword: Keyword, count: usize) -> bool
+    ensures { result ≡ spec.takes keyword count }
+{
+    match keyword {
+        Keyword::Server => count == 1,
+        Keyword::Volume => count == 6,
+        Keyword::Export => count == 1 || count == 2,
+        Keyword::Dir | Keyword::Link => count == 4,
+        Keyword::File => count == 5,
+        Keyword::Hard => count == 2,
+    }
+}
+
+fn count_words(line: &[u8]) -> usize
+    ensures { result ≡ length (words line.now) }
+{
+    let mut words = Words::new(line);
+    let mut count = 0;
+    while words.next().is_some() {
+        count += 1;
+    }
+    count
+}

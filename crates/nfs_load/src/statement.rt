@@ -1,0 +1,135 @@
+//! What a line says.
+ghost use Rattle.std.specs.Prelude.{◌≡◌};
+ghost use Rattle.nfs_load.specs.Fields.{Takes};
+ghost use Rattle.nfs_load.specs.Statements.{dir_in, given_in, hard_in, link_of, link_in, volume_in, volume_of};
+
+use crate::cause::Cause;
+use crate::fields::Fields;
+use crate::limits::{MAX_FILES, MAX_VOLUME_BYTES};
+use crate::path::Path;
+
+/// The attributes that a line gives a new file.
+#[derive(Clone, Copy)]
+pub struct Given {
+    /// The protection bits.
+    pub mode: u32,
+    /// The owner's user number.
+    pub uid: u32,
+    /// The number of the file's group.
+    pub gid: u32,
+}
+
+/// `volume PATH BYTES FILES MODE UID GID`: a new volume.
+#[derive(Drop)]
+pub struct VolumeLine<'a> {
+    /// Its path.
+    pub path: &'a [u8],
+    /// The most bytes that its regular files have together.
+    pub max_bytes: u64,
+    /// The most files, with the root.
+    pub max_files: u64,
+    /// The attributes of its root.
+    pub given: Given,
+}
+
+/// `dir PATH MODE UID GID`: a new directory.
+#[derive(Drop)]
+pub struct DirLine<'a> {
+    /// Its path in the last volume.
+    pub path: Path<'a>,
+    /// Its attributes.
+    pub given: Given,
+}
+
+/// `link PATH UID GID TARGET`: a new symbolic link.
+#[derive(Drop)]
+pub struct LinkLine<'a> {
+    /// Its path in the last volume.
+    pub path: Path<'a>,
+    /// The owner's user number.
+    pub uid: u32,
+    /// The number of the file's group.
+    pub gid: u32,
+    /// What it holds.
+    pub target: &'a [u8],
+}
+
+/// `hard PATH OLD`: a further name of a file.
+#[derive(Drop)]
+pub struct HardLine<'a> {
+    /// The new path.
+    pub path: Path<'a>,
+    /// A path that the file has.
+    pub old: Path<'a>,
+}
+
+impl Given {
+    fn read(fields: &mut Fields<'_>) -> Result<Given, Cause>
+        ensures { Takes (λ given. given) fields.new result (given_in fields.old) }
+    {
+        let mode = fields.mode()?;
+        let uid = fields.id()?;
+        let gid = fields.id()?;
+        Ok(Given { mode, uid, gid })
+    }
+}
+
+impl<'a> VolumeLine<'a> {
+    /// The fields of such a line. The first cause from left to right: `BadVolumePath` or
+    /// `BadNumber`.
+    pub fn read(fields: &mut Fields<'a>) -> Result<VolumeLine<'a>, Cause>
+        ensures { Takes volume_of fields.new result (volume_in fields.old) }
+    {
+        let path = fields.volume_path()?;
+        let max_bytes = fields.number(0, MAX_VOLUME_BYTES)?;
+        let max_files = fields.number(1, MAX_FILES)?;
+        let given = Given::read(fields)?;
+        Ok(VolumeLine {
+            path,
+            max_bytes,
+            max_files,
+            given,
+        })
+    }
+}
+
+impl<'a> DirLine<'a> {
+    /// The fields of such a line. The first cause from left to right: `BadPath` or `BadNumber`.
+    pub fn read(fields: &mut Fields<'a>) -> Result<DirLine<'a>, Cause>
+        ensures { Takes (λ line. line) fields.new result (dir_in fields.old) }
+    {
+        let path = fields.path()?;
+        let given = Given::read(fields)?;
+        Ok(DirLine { path, given })
+    }
+}
+
+impl<'a> LinkLine<'a> {
+    /// The fields of such a line. The first cause from left to right: `BadPath`, `BadNumber`, or
+    /// `BadContent` where the link's path has more than 1,024 bytes.
+    pub fn read(fields: &mut Fields<'a>) -> Result<LinkLine<'a>, Cause>
+        ensures { Takes link_of fields.new result (link_in fields.old) }
+    {
+        let path = fields.path()?;
+        let uid = fields.id()?;
+        let gid = fields.id()?;
+        let target = fields.target()?;
+        Ok(LinkLine {
+            path,
+            uid,
+            gid,
+            target,
+        })
+    }
+}
+
+impl<'a> HardLine<'a> {
+    /// The fields of such a line. `BadPath` where one of them is no path.
+    pub fn read(fields: &mut Fields<'a>) -> Result<HardLine<'a>, Cause>
+        ensures { Takes (λ line. line) fields.new result (hard_in fields.old) }
+    {
+        let path = fields.path()?;
+        let old = fields.path()?;
+        Ok(HardLine { path, old })
+    }
+}
