@@ -1,0 +1,43 @@
+-- Which addresses a pattern covers, and how it is written (exports(5), "Machine Name Formats").
+use Rattle.std.specs.Prelude.{ℕ, ◌-◌, ◌/◌, ◌^◌, Bool, List, [], ◌∷◌, Option, Some, None, option_map, if◌then◌else◌, length, nat_eq, nat_lt, bytes_eq}
+use Rattle.std.specs.Borrow.{Bor}
+use Rattle.nfs_text.specs.Numbers.{decimal_of}
+use Rattle.nfs_text.specs.Pieces.{cut}
+use Rattle.nfs_exports.specs.Addresses.{◌>>=◌, address_of}
+use Rattle.nfs_exports.specs.declared.addr.Addr.{Addr}
+use Rattle.nfs_exports.specs.declared.pattern.Pattern.{Pattern}
+
+-- the first n of the 32 bits of an address
+abbrev pub first_bits : ℕ → Addr → ℕ
+first_bits n addr = addr.0 / 2 ^ (32 - n)
+
+abbrev pub covers : Pattern → Addr → Bool
+covers pattern addr = nat_eq (first_bits pattern.bits addr) (first_bits pattern.bits pattern.address)
+
+-- one or two digits that say a number to 32
+abbrev pub bits : List ℕ → Option ℕ
+bits text = if nat_lt 2 (length text) then None else decimal_of 32 text
+
+-- without a number of bits all of them decide
+abbrev pub bits_or_all : Option (List ℕ) → Option ℕ
+bits_or_all (Some text) = bits text
+bits_or_all None = Some 32
+
+-- an address, and a number of bits behind `/`
+abbrev pub network_of : List ℕ × Option (List ℕ) → Option Pattern
+network_of parts = do
+  address ← address_of parts.0
+  bits ← bits_or_all parts.1
+  Some (record { address = address; bits = bits })
+
+-- every address
+abbrev pub any : Pattern
+any = record { address = record { 0 = 0 }; bits = 0 }
+
+-- the pattern that a text says: `*`, an address, or a network
+abbrev pub pattern_of : List ℕ → Option Pattern
+pattern_of text = if bytes_eq text (42 ∷ []) then Some any else network_of (cut 47 text)
+
+-- a text as clauses see it
+abbrev pub text_behind : Option (Bor (List ℕ)) → Option (List ℕ)
+text_behind text = option_map (λ t. t.now) text

@@ -1,0 +1,10 @@
+//! Who may reach which volume, and as whom (exports(5)).
+#![tactic(auto)]
+
+pub mod addr;
+pub mod limits;
+pub mod options;
+pub mod pattern;
+pub mod setting;
+pub mod settings;
+pub mod squash;

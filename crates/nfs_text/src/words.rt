@@ -1,0 +1,40 @@
+//! The words of a line.
+ghost use Rattle.std.specs.Prelude.{◌≡◌};
+ghost use Rattle.std.specs.Iterator.{YieldsFirstRef, item_count};
+ghost use Rattle.nfs_text.specs.Words.{words, words_left};
+
+use crate::pieces::Pieces;
+
+/// Gives the words of a line in turn: what stands between spaces, where something does.
+#[derive(Drop)]
+pub struct Words<'a> {
+    pieces: Pieces<'a>,
+}
+
+impl<'a> Words<'a> {
+    /// The words of this line.
+    pub fn new(line: &'a [u8]) -> Words<'a>
+        ensures { words_left result ≡ words line.entry.now }
+    {
+        Words {
+            pieces: Pieces::new(line, b' '),
+        }
+    }
+}
+
+impl<'a> Iterator for Words<'a> {
+    type Item = &'a [u8];
+
+    ghost next_gives = { YieldsFirstRef words_left };
+
+    ghost remaining = { item_count words_left };
+
+    fn next(&mut self) -> Option<&'a [u8]> {
+        while let Some(piece) = self.pieces.next() {
+            if !piece.is_empty() {
+                return Some(piece);
+            }
+        }
+        None
+    }
+}
