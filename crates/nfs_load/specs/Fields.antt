@@ -1,12 +1,20 @@
 -- Fields that are a key or numbers: the value, or the cause.
-use Rattle.std.specs.Prelude.{◌≡◌, ℕ, Bool, ◌&&◌, List, [], ◌∷◌, length, Option, Some, None, Result, Ok, Err, if◌then◌else◌, nat_lt, nat_le}
+use Rattle.std.specs.Prelude.{◌≡◌, ℕ, Bool, ◌&&◌, List, [], ◌∷◌, length, Option, Some, None, Result, Ok, Err, if◌then◌else◌, nat_lt, nat_le, bytes_eq, codes}
 use Rattle.std.specs.List.{list_all}
 use Rattle.std.specs.Str.Parse.{digits_value}
-use Rattle.hex.specs.Hex.{decode_sized}
+use Rattle.hex.specs.Hex.{decode_of, decode_sized}
 use Rattle.hex.specs.declared.error.FromHexError.{FromHexError}
 use Rattle.nfs_text.specs.Numbers.{decimal_of}
+use Rattle.nfs_exports.specs.Options.{default_options}
+use Rattle.nfs_exports.specs.Settings.{parse_options}
+use Rattle.nfs_exports.specs.Patterns.{pattern_of}
+use Rattle.nfs_exports.specs.declared.options.Options.{Options}
+use Rattle.nfs_exports.specs.declared.options.OptionsFault.{OptionsFault}
+use Rattle.nfs_exports.specs.declared.pattern.Pattern.{Pattern}
 use Rattle.nfs_load.specs.declared.cause.Cause.{Cause}
-use Rattle.nfs_load.specs.declared.cause.Cause.TheVariants.{FieldCount, BadKey, BadNumber, BadContent}
+use Rattle.nfs_load.specs.declared.refusal.Refusal.{Refusal}
+use Rattle.nfs_load.specs.declared.refusal.Refusal.TheVariants.{Fault, Memory}
+use Rattle.nfs_load.specs.declared.cause.Cause.TheVariants.{FieldCount, BadKey, BadNumber, BadPattern, BadOptions, BadContent}
 
 abbrev pub keyed : Result (List ℕ) FromHexError → Result (List ℕ) Cause
 keyed (Ok key) = Ok key
@@ -38,6 +46,28 @@ number_in min max field = at_least min (decimal_of max field)
 abbrev pub target_in : List ℕ → Result (List ℕ) Cause
 target_in field = if nat_le (length field) 1024 then Ok field else Err BadContent
 
+abbrev pub found_pattern : Option Pattern → Result Pattern Cause
+found_pattern None = Err BadPattern
+found_pattern (Some pattern) = Ok pattern
+
+abbrev pub pattern_in : List ℕ → Result Pattern Cause
+pattern_in field = found_pattern (pattern_of field)
+
+abbrev pub options_or_cause : Result Options OptionsFault → Result Options Cause
+options_or_cause (Ok options) = Ok options
+options_or_cause (Err fault) = Err BadOptions
+
+abbrev pub options_in : List ℕ → Result Options Cause
+options_in field = options_or_cause (parse_options field)
+
+abbrev pub within : Result (List ℕ) FromHexError → Result (List ℕ) Cause
+within (Ok content) = if nat_le (length content) 16777216 then Ok content else Err BadContent
+within (Err e) = Err BadContent
+
+-- two hexadecimal digits for each of at most 16,777,216 bytes, or `-` for none
+abbrev pub content_in : List ℕ → Result (List ℕ) Cause
+content_in field = if bytes_eq field (codes "-") then Ok [] else within (decode_of field)
+
 -- ---- the fields of a line from left to right
 
 infixl 20 ◌>>=◌
@@ -54,7 +84,23 @@ abbrev pub by : {A : Type 0} → (List ℕ → Result A Cause) → List (List �
 by read [] = Err FieldCount
 by read (field ∷ rest) = behind rest (read field)
 
+-- options, or those that hold where nothing is said
+abbrev pub options_at : List (List ℕ) → Result (Options × List (List ℕ)) Cause
+options_at [] = Ok (default_options, [])
+options_at (field ∷ rest) = behind rest (options_in field)
+
 -- What was answered, seen by view, is what reading gives, with these fields left. A fault may have taken some.
 abbrev pub Takes : {X A : Type 0} → (X → A) → List (List ℕ) → Result X Cause → Result (A × List (List ℕ)) Cause → Type 0
 Takes view rest (Ok x) read = read ≡ Ok (view x, rest)
 Takes view rest (Err cause) read = read ≡ Err cause
+
+-- the same, where there is memory
+abbrev pub GivesIfRoom : {X A : Type 0} → (X → A) → Result X Refusal → Result A Cause → Type 0
+GivesIfRoom view (Ok x) read = read ≡ Ok (view x)
+GivesIfRoom view (Err (Fault cause)) read = read ≡ Err cause
+GivesIfRoom view (Err Memory) read = Unit {0}
+
+abbrev pub TakesIfRoom : {X A : Type 0} → (X → A) → List (List ℕ) → Result X Refusal → Result (A × List (List ℕ)) Cause → Type 0
+TakesIfRoom view rest (Ok x) read = read ≡ Ok (view x, rest)
+TakesIfRoom view rest (Err (Fault cause)) read = read ≡ Err cause
+TakesIfRoom view rest (Err Memory) read = Unit {0}

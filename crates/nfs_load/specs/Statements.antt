@@ -6,7 +6,9 @@ use Rattle.nfs_load.specs.declared.statement.DirLine.{DirLine}
 use Rattle.nfs_load.specs.declared.statement.HardLine.{HardLine}
 use Rattle.nfs_load.specs.declared.statement.VolumeLine as volume
 use Rattle.nfs_load.specs.declared.statement.LinkLine as link
-use Rattle.nfs_load.specs.Fields.{by, ◌>>=◌, mode_in, number_in, target_in}
+use Rattle.nfs_load.specs.declared.statement.FileLine as file
+use Rattle.nfs_load.specs.declared.statement.ExportLine.{ExportLine}
+use Rattle.nfs_load.specs.Fields.{by, ◌>>=◌, content_in, mode_in, number_in, options_at, pattern_in, target_in}
 use Rattle.nfs_load.specs.Paths.{path_in, volume_path_in}
 
 -- a value and the fields behind it, or a cause
@@ -39,6 +41,26 @@ volume_in fields = do
   max_files ← by (number_in 1 1000000) max_bytes.1
   given ← given_in max_files.1
   Ok (record { path = path.0; max_bytes = max_bytes.0; max_files = max_files.0; given = given.0 }, given.1)
+
+-- PATTERN, then OPTIONS or nothing
+abbrev pub export_in : List (List ℕ) → Read ExportLine
+export_in fields = do
+  pattern ← by pattern_in fields
+  options ← options_at pattern.1
+  Ok (record { pattern = pattern.0; options = options.0 }, options.1)
+
+-- PATH MODE UID GID CONTENT
+pub record FileLine : Type 0 where
+  pub path : List (List ℕ)
+  pub given : Given
+  pub content : List ℕ
+
+abbrev pub file_in : List (List ℕ) → Read FileLine
+file_in fields = do
+  path ← by path_in fields
+  given ← given_in path.1
+  content ← by content_in given.1
+  Ok (record { path = path.0; given = given.0; content = content.0 }, content.1)
 
 -- PATH MODE UID GID
 abbrev pub dir_in : List (List ℕ) → Read DirLine
@@ -75,3 +97,6 @@ volume_of line = record { path = line.path.now; max_bytes = line.max_bytes; max_
 
 abbrev pub link_of : link.LinkLine → LinkLine
 link_of line = record { path = line.path; uid = line.uid; gid = line.gid; target = line.target.now }
+
+abbrev pub file_of : file.FileLine → FileLine
+file_of line = record { path = line.path; given = line.given; content = line.content.items }

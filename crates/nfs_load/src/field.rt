@@ -1,10 +1,12 @@
 //! Fields that are a key or numbers.
 ghost use Rattle.std.specs.Prelude.{◌≡◌};
-ghost use Rattle.nfs_load.specs.Fields.{key_in, mode_in, number_in};
+ghost use Rattle.nfs_load.specs.Fields.{content_in, key_in, mode_in, number_in, GivesIfRoom};
 
 use crate::cause::Cause;
-use crate::limits::MAX_MODE_DIGITS;
+use crate::limits::{MAX_CONTENT_BYTES, MAX_MODE_DIGITS};
+use crate::refusal::Refusal;
 use nfs_text::number::decimal;
+use std::alloc::Global;
 
 /// A server's key of 8 bytes. `BadKey` where the field is not 16 hexadecimal digits of either case.
 pub fn read_key(field: &[u8]) -> Result<[u8; 8], Cause>
@@ -42,5 +44,20 @@ pub fn read_number(field: &[u8], min: u64, max: u64) -> Result<u64, Cause>
     match decimal(field, max) {
         Some(number) if min <= number => Ok(number),
         _ => Err(Cause::BadNumber),
+    }
+}
+
+/// A file's bytes, two hexadecimal digits each, or `-` for none. `BadContent` where the field is
+/// neither, or says more than 16,777,216 bytes; `Memory` where there is none.
+pub fn read_content(alloc: Global, field: &[u8]) -> Result<Vec<u8>, Refusal>
+    ensures { GivesIfRoom (λ content. content.items) result (content_in field.now) }
+{
+    if field == b"-".as_slice() {
+        return Ok(Vec::new(alloc));
+    }
+    match hex::decode(alloc, field) {
+        Ok(content) if content.len() <= MAX_CONTENT_BYTES => Ok(content),
+        Err(hex::FromHexError::OutOfMemory) => Err(Refusal::Memory),
+        _ => Err(Refusal::Fault(Cause::BadContent)),
     }
 }

@@ -1,14 +1,18 @@
 //! The fields of a line, read from left to right.
 ghost use Rattle.std.specs.Prelude.{◌≡◌, Ok};
 ghost use Rattle.nfs_text.specs.Words.{words_left};
-ghost use Rattle.nfs_load.specs.Fields.{by, key_in, mode_in, number_in, target_in, Takes};
+ghost use Rattle.nfs_load.specs.Fields.{by, content_in, key_in, mode_in, number_in, options_at, pattern_in, target_in, Takes, TakesIfRoom};
 ghost use Rattle.nfs_load.specs.Paths.{path_in, volume_path_in};
 
 use crate::cause::Cause;
-use crate::field::{read_key, read_mode, read_number};
+use crate::field::{read_content, read_key, read_mode, read_number};
 use crate::limits::{MAX_ID, MAX_LINK_BYTES};
 use crate::path::{Path, read_path, read_volume_path};
+use crate::refusal::Refusal;
+use nfs_exports::options::{Options, parse_options};
+use nfs_exports::pattern::{Pattern, parse_pattern};
 use nfs_text::words::Words;
+use std::alloc::Global;
 use std::marker::Model;
 
 /// The fields of a line that are to come. Contracts see a list of words.
@@ -96,5 +100,36 @@ impl<'a> Fields<'a> {
             return Err(Cause::BadContent);
         }
         Ok(target)
+    }
+
+    /// A pattern of addresses. `BadPattern` where the field is none.
+    pub fn pattern(&mut self) -> Result<Pattern, Cause>
+        ensures { Takes (λ pattern. pattern) self.new result (by pattern_in self.old) }
+    {
+        match parse_pattern(self.next()?) {
+            Ok(pattern) => Ok(pattern),
+            Err(_) => Err(Cause::BadPattern),
+        }
+    }
+
+    /// Options, or those that hold where nothing is said. `BadOptions` where the field is none.
+    pub fn options(&mut self) -> Result<Options, Cause>
+        ensures { Takes (λ options. options) self.new result (options_at self.old) }
+    {
+        let Some(field) = self.words.next() else {
+            return Ok(Options::default_options());
+        };
+        match parse_options(field) {
+            Ok(options) => Ok(options),
+            Err(_) => Err(Cause::BadOptions),
+        }
+    }
+
+    /// A file's bytes, two hexadecimal digits each, or `-` for none. `BadContent` where the field
+    /// is neither, or says more than 16,777,216 bytes.
+    pub fn content(&mut self, alloc: Global) -> Result<Vec<u8>, Refusal>
+        ensures { TakesIfRoom (λ content. content.items) self.new result (by content_in self.old) }
+    {
+        read_content(alloc, self.next()?)
     }
 }

@@ -7,4 +7,5 @@ pub mod fields;
 pub mod limits;
 pub mod line;
 pub mod path;
+pub mod refusal;
 pub mod statement;

@@ -23,3 +23,6 @@ pub const MAX_ID: u64 = 4_294_967_295;
 
 /// The most bytes of a symbolic link's path.
 pub const MAX_LINK_BYTES: usize = 1_024;
+
+/// The most bytes of a regular file.
+pub const MAX_CONTENT_BYTES: usize = 16_777_216;

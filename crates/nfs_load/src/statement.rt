@@ -1,12 +1,16 @@
 //! What a line says.
 ghost use Rattle.std.specs.Prelude.{◌≡◌};
-ghost use Rattle.nfs_load.specs.Fields.{Takes};
-ghost use Rattle.nfs_load.specs.Statements.{dir_in, given_in, hard_in, link_of, link_in, volume_in, volume_of};
+ghost use Rattle.nfs_load.specs.Fields.{Takes, TakesIfRoom};
+ghost use Rattle.nfs_load.specs.Statements.{dir_in, export_in, file_in, file_of, given_in, hard_in, link_of, link_in, volume_in, volume_of};
 
 use crate::cause::Cause;
 use crate::fields::Fields;
 use crate::limits::{MAX_FILES, MAX_VOLUME_BYTES};
 use crate::path::Path;
+use crate::refusal::Refusal;
+use nfs_exports::options::Options;
+use nfs_exports::pattern::Pattern;
+use std::alloc::Global;
 
 /// The attributes that a line gives a new file.
 #[derive(Clone, Copy)]
@@ -30,6 +34,26 @@ pub struct VolumeLine<'a> {
     pub max_files: u64,
     /// The attributes of its root.
     pub given: Given,
+}
+
+/// `export PATTERN OPTIONS`: to whom the last volume is exported.
+#[derive(Clone, Copy)]
+pub struct ExportLine {
+    /// The addresses.
+    pub pattern: Pattern,
+    /// What is allowed to them.
+    pub options: Options,
+}
+
+/// `file PATH MODE UID GID CONTENT`: a new regular file.
+#[derive(Drop)]
+pub struct FileLine<'a> {
+    /// Its path in the last volume.
+    pub path: Path<'a>,
+    /// Its attributes.
+    pub given: Given,
+    /// Its bytes.
+    pub content: Vec<u8>,
 }
 
 /// `dir PATH MODE UID GID`: a new directory.
@@ -89,6 +113,35 @@ impl<'a> VolumeLine<'a> {
             max_bytes,
             max_files,
             given,
+        })
+    }
+}
+
+impl ExportLine {
+    /// The fields of such a line, the options of which may be left out. The first cause from left
+    /// to right: `BadPattern` or `BadOptions`.
+    pub fn read(fields: &mut Fields<'_>) -> Result<ExportLine, Cause>
+        ensures { Takes (λ line. line) fields.new result (export_in fields.old) }
+    {
+        let pattern = fields.pattern()?;
+        let options = fields.options()?;
+        Ok(ExportLine { pattern, options })
+    }
+}
+
+impl<'a> FileLine<'a> {
+    /// The fields of such a line. The first cause from left to right: `BadPath`, `BadNumber` or
+    /// `BadContent`; `Memory` where there is none for the content.
+    pub fn read(alloc: Global, fields: &mut Fields<'a>) -> Result<FileLine<'a>, Refusal>
+        ensures { TakesIfRoom file_of fields.new result (file_in fields.old) }
+    {
+        let path = fields.path()?;
+        let given = Given::read(fields)?;
+        let content = fields.content(alloc)?;
+        Ok(FileLine {
+            path,
+            given,
+            content,
         })
     }
 }
