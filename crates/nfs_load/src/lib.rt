@@ -7,5 +7,6 @@ pub mod fields;
 pub mod limits;
 pub mod line;
 pub mod path;
+pub mod place;
 pub mod refusal;
 pub mod statement;
