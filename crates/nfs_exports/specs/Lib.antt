@@ -4,3 +4,4 @@ pub mod Options
 pub mod Ids
 pub mod Words
 pub mod Settings
+pub mod Tables

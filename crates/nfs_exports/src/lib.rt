@@ -8,3 +8,4 @@ pub mod pattern;
 pub mod setting;
 pub mod settings;
 pub mod squash;
+pub mod table;
