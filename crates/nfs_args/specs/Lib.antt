@@ -1,0 +1,3 @@
+pub mod Procedures
+pub mod Spelling
+pub mod Reading

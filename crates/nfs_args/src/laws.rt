@@ -1,0 +1,13 @@
+//! Laws over the definitions alone.
+ghost use Rattle.nfs_xdr.specs.Spelling.{SpellsOnce};
+ghost use Rattle.nfs_xdr.specs.Reading.{Finds};
+ghost use Rattle.nfs_args.specs.declared.procedure.Procedure.{Procedure};
+ghost use Rattle.nfs_args.specs.Spelling.{IsArgsOf};
+ghost use Rattle.nfs_args.specs.Reading.{args_at};
+
+/// The arguments of a procedure are found where they are spelled, all of them and nothing else; so
+/// no spelling of arguments begins a spelling of others of the same procedure.
+pub fn arguments_are_found()
+    ensures found { (proc : Procedure) → Finds (IsArgsOf proc) (args_at proc) }
+    ensures once { (proc : Procedure) → SpellsOnce (IsArgsOf proc) }
+{}
