@@ -5,8 +5,14 @@ use Rattle.nfs_xdr.specs.Spelling.{IsEnum}
 use Rattle.nfs_xdr.specs.Reading.{Read, ◌>>=◌, Finds, numbered, enum_at}
 use Rattle.nfs_xdr.proofs.Finding.{finds_as, Then, finds_then, IsDone, finds_done, IsNothing, IsEither, finds_either, finds_fault}
 use Rattle.nfs_xdr.proofs.Items.{finds_enum}
-use Rattle.nfs_args.specs.Spelling.{IsUnion}
-use Rattle.nfs_args.specs.Reading.{union_at}
+use Rattle.nfs_args.specs.Spelling.{IsBare, IsUnion}
+use Rattle.nfs_args.specs.Reading.{bare_at, union_at}
+
+pub finds_bare : {A : Type 0} (made : A) → Finds (IsBare made) (bare_at made)
+finds_bare made =
+    finds_as (IsDone made) (IsBare made) (bare_at made)
+    (λ value text s. record { value_is = s.value_is; text_is = s.text_is }) (λ value text s. record { value_is = s.value_is; text_is = s.text_is })
+    (finds_done made)
 
 pub finds_union : {K A : Type 0} (number : K → ℕ) (kinds : List K) (arm : K → A → List ℕ → Type 0) (read : K → List ℕ → Read A)
     → ((kind : K) → numbered number kinds (number kind) ≡ Some kind) → ((kind : K) → Finds (arm kind) (read kind)) → Finds (IsUnion number arm) (union_at number kinds read)

@@ -1,18 +1,35 @@
--- Which bytes spell which arguments (RFC 1813, section 3.3).
-use Rattle.std.specs.Prelude.{◌≡◌, ℕ, List, length}
+-- Which bytes spell which arguments (RFC 1813, section 3.3, and appendix I, section 5.2).
+use Rattle.std.specs.Prelude.{◌≡◌, ℕ, List, [], length}
 use Rattle.std.specs.Int.{w32, w64}
 use Rattle.nfs_xdr.specs.Spelling.{IsNumber, IsEnum, IsFixed, IsOpaque, IsOptional, ◌⨾◌}
-use Rattle.nfs_attrs.specs.Spelling.{IsMoment, IsSattr}
+use Rattle.nfs_attrs.specs.declared.file_type.FileType.{FileType}
+use Rattle.nfs_attrs.specs.declared.file_type.FileType.TheVariants.{Regular, Directory, BlockDevice, CharacterDevice, SymbolicLink, Socket, Fifo}
+use Rattle.nfs_attrs.specs.Spelling.{IsMoment, type_number, IsSpecData, IsSattr}
 use Rattle.nfs_args.specs.declared.procedure.Procedure.{Procedure}
 use Rattle.nfs_args.specs.declared.procedure.Procedure.TheVariants as proc
+use Rattle.nfs_args.specs.declared.procedure.MountProcedure.{MountProcedure}
+use Rattle.nfs_args.specs.declared.procedure.MountProcedure.TheVariants as mount
 use Rattle.nfs_args.specs.declared.args.NfsArgs.{NfsArgs}
 use Rattle.nfs_args.specs.declared.args.NfsArgs.TheVariants as asked
+use Rattle.nfs_args.specs.declared.mount_args.MountArgs.{MountArgs}
+use Rattle.nfs_args.specs.declared.mount_args.MountArgs.TheVariants as mount_asked
+use Rattle.nfs_args.specs.declared.access.Access.{Access}
 use Rattle.nfs_args.specs.declared.byte_range.ByteRange.{ByteRange}
 use Rattle.nfs_args.specs.declared.create.Create.{Create}
 use Rattle.nfs_args.specs.declared.create.CreateHow.{CreateHow}
 use Rattle.nfs_args.specs.declared.create.CreateHow.TheVariants as how
 use Rattle.nfs_args.specs.declared.dir_op.DirOp.{DirOp}
+use Rattle.nfs_args.specs.declared.link.Link.{Link}
+use Rattle.nfs_args.specs.declared.make_dir.MakeDir.{MakeDir}
+use Rattle.nfs_args.specs.declared.make_node.DeviceData.{DeviceData}
+use Rattle.nfs_args.specs.declared.make_node.MakeNode.{MakeNode}
+use Rattle.nfs_args.specs.declared.make_node.NodeData.{NodeData}
+use Rattle.nfs_args.specs.declared.make_node.NodeData.TheVariants as node
+use Rattle.nfs_args.specs.declared.read_dir.ReadDir.{ReadDir}
+use Rattle.nfs_args.specs.declared.read_dir.ReadDirPlus.{ReadDirPlus}
+use Rattle.nfs_args.specs.declared.rename.Rename.{Rename}
 use Rattle.nfs_args.specs.declared.set_attr.SetAttr.{SetAttr}
+use Rattle.nfs_args.specs.declared.sym_link.SymLink.{SymLink}
 use Rattle.nfs_args.specs.declared.write.Stability.{Stability}
 use Rattle.nfs_args.specs.declared.write.Stability.TheVariants.{Unstable, DataSync, FileSync}
 use Rattle.nfs_args.specs.declared.write.Write.{Write}
@@ -22,6 +39,11 @@ use Rattle.nfs_args.specs.declared.write.Write.{Write}
 -- an arm that holds a value, of which the union's value is made
 abbrev pub Arm : {A B : Type 0} → (A → B) → (A → List ℕ → Type 0) → B → List ℕ → Type 0
 Arm {A} made Spells value text = (held : A) × (made held ≡ value) × Spells held text
+
+-- an arm that holds nothing
+pub record IsBare {A : Type 0} (made value : A) (text : List ℕ) : Type 0 where
+  pub value_is : made ≡ value
+  pub text_is : text ≡ []
 
 -- the number of a kind, and then the arm of this kind
 pub record IsUnion {K A : Type 0} (number : K → ℕ) (arm : K → A → List ℕ → Type 0) (value : A) (text : List ℕ) : Type 0 where
@@ -90,12 +112,85 @@ IsCreateHow = IsUnion mode_number IsCreateArm
 abbrev pub IsCreate : Create → List ℕ → Type 0
 IsCreate a = IsDirOp a.place ⨾ IsCreateHow a.how
 
+-- ACCESS3args
+abbrev pub IsAccess : Access → List ℕ → Type 0
+IsAccess a = IsHandle a.file ⨾ IsNumber w32 a.rights
+
+-- MKDIR3args
+abbrev pub IsMakeDir : MakeDir → List ℕ → Type 0
+IsMakeDir a = IsDirOp a.place ⨾ IsSattr a.attributes
+
+-- SYMLINK3args
+abbrev pub IsSymLink : SymLink → List ℕ → Type 0
+IsSymLink a = IsDirOp a.place ⨾ IsSattr a.attributes ⨾ IsString a.path
+
+-- devicedata3
+abbrev pub IsDeviceData : DeviceData → List ℕ → Type 0
+IsDeviceData a = IsSattr a.attributes ⨾ IsSpecData a.device
+
+-- mknoddata3
+abbrev pub IsNodeArm : FileType → NodeData → List ℕ → Type 0
+IsNodeArm Regular = IsBare node.Regular
+IsNodeArm Directory = IsBare node.Directory
+IsNodeArm BlockDevice = Arm node.BlockDevice IsDeviceData
+IsNodeArm CharacterDevice = Arm node.CharacterDevice IsDeviceData
+IsNodeArm SymbolicLink = IsBare node.SymbolicLink
+IsNodeArm Socket = Arm node.Socket IsSattr
+IsNodeArm Fifo = Arm node.Fifo IsSattr
+
+abbrev pub IsNodeData : NodeData → List ℕ → Type 0
+IsNodeData = IsUnion type_number IsNodeArm
+
+-- MKNOD3args
+abbrev pub IsMakeNode : MakeNode → List ℕ → Type 0
+IsMakeNode a = IsDirOp a.place ⨾ IsNodeData a.node
+
+-- RENAME3args
+abbrev pub IsRename : Rename → List ℕ → Type 0
+IsRename a = IsDirOp a.from ⨾ IsDirOp a.to
+
+-- LINK3args
+abbrev pub IsLink : Link → List ℕ → Type 0
+IsLink a = IsHandle a.file ⨾ IsDirOp a.place
+
+-- READDIR3args
+abbrev pub IsReadDir : ReadDir → List ℕ → Type 0
+IsReadDir a = IsHandle a.dir ⨾ IsNumber w64 a.cookie ⨾ IsVerifier a.verifier ⨾ IsNumber w32 a.count
+
+-- READDIRPLUS3args
+abbrev pub IsReadDirPlus : ReadDirPlus → List ℕ → Type 0
+IsReadDirPlus a = IsHandle a.dir ⨾ IsNumber w64 a.cookie ⨾ IsVerifier a.verifier ⨾ IsNumber w32 a.dircount ⨾ IsNumber w32 a.maxcount
+
 -- ---- by the procedure
 
 abbrev pub IsArgsOf : Procedure → NfsArgs → List ℕ → Type 0
+IsArgsOf proc.Null = IsBare asked.Null
 IsArgsOf proc.GetAttr = Arm asked.GetAttr IsHandle
 IsArgsOf proc.SetAttr = Arm asked.SetAttr IsSetAttr
 IsArgsOf proc.Lookup = Arm asked.Lookup IsDirOp
+IsArgsOf proc.Access = Arm asked.Access IsAccess
+IsArgsOf proc.ReadLink = Arm asked.ReadLink IsHandle
 IsArgsOf proc.Read = Arm asked.Read IsByteRange
 IsArgsOf proc.Write = Arm asked.Write IsWrite
 IsArgsOf proc.Create = Arm asked.Create IsCreate
+IsArgsOf proc.MakeDir = Arm asked.MakeDir IsMakeDir
+IsArgsOf proc.SymLink = Arm asked.SymLink IsSymLink
+IsArgsOf proc.MakeNode = Arm asked.MakeNode IsMakeNode
+IsArgsOf proc.Remove = Arm asked.Remove IsDirOp
+IsArgsOf proc.RemoveDir = Arm asked.RemoveDir IsDirOp
+IsArgsOf proc.Rename = Arm asked.Rename IsRename
+IsArgsOf proc.Link = Arm asked.Link IsLink
+IsArgsOf proc.ReadDir = Arm asked.ReadDir IsReadDir
+IsArgsOf proc.ReadDirPlus = Arm asked.ReadDirPlus IsReadDirPlus
+IsArgsOf proc.FsStat = Arm asked.FsStat IsHandle
+IsArgsOf proc.FsInfo = Arm asked.FsInfo IsHandle
+IsArgsOf proc.PathConf = Arm asked.PathConf IsHandle
+IsArgsOf proc.Commit = Arm asked.Commit IsByteRange
+
+abbrev pub IsMountArgsOf : MountProcedure → MountArgs → List ℕ → Type 0
+IsMountArgsOf mount.Null = IsBare mount_asked.Null
+IsMountArgsOf mount.Mount = Arm mount_asked.Mount IsString
+IsMountArgsOf mount.Dump = IsBare mount_asked.Dump
+IsMountArgsOf mount.Unmount = Arm mount_asked.Unmount IsString
+IsMountArgsOf mount.UnmountAll = IsBare mount_asked.UnmountAll
+IsMountArgsOf mount.Export = IsBare mount_asked.Export

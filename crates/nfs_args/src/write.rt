@@ -6,7 +6,7 @@ use nfs_xdr::fault::XdrFault;
 use nfs_xdr::input::Input;
 
 /// How safe written bytes have to be before they are answered (RFC 1813, section 3.3.7, stable_how).
-#[derive(Clone, Copy, Debug, PartialEq, Eq)]
+#[derive(Clone, Copy)]
 pub enum Stability {
     /// As the server likes.
     Unstable,
