@@ -41,7 +41,7 @@ use Rattle.nfs_args.specs.Spelling.{IsHandle, IsString, IsVerifier, IsDirOp, IsB
 use Rattle.nfs_args.specs.Reading.{handle_at, string_at, verifier_at, dir_op_at, byte_range_at, guard_at, set_attr_at, stabilities, stability_at, write_at, create_modes, create_arm_at, create_how_at, create_at, access_at, make_dir_at, sym_link_at, device_data_at, node_arm_at, node_data_at, make_node_at, rename_at, link_at, read_dir_at, read_dir_plus_at, args_at, mount_args_at}
 use Rattle.nfs_args.proofs.Unions.{finds_bare, finds_union, finds_last_if}
 
-finds_handle : Finds IsHandle handle_at
+pub finds_handle : Finds IsHandle handle_at
 finds_handle = finds_opaque 64
 
 finds_string : Finds IsString string_at

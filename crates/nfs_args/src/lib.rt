@@ -1,8 +1,9 @@
 //! The arguments of the procedures of NFS version 3 and of MOUNT version 3 (RFC 1813), read from
-//! records.
+//! records, and the answers of some of them, written behind their status.
 #![tactic(auto)]
 
 pub mod access;
+pub mod answer;
 pub mod args;
 pub mod byte_range;
 pub mod create;
