@@ -1,0 +1,4 @@
+pub mod Procedures
+pub mod Spelling
+pub mod Reading
+pub mod Results
