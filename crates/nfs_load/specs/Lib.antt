@@ -3,3 +3,4 @@ pub mod Fields
 pub mod Paths
 pub mod Statements
 pub mod Places
+pub mod Effects

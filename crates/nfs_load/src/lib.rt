@@ -2,6 +2,7 @@
 #![tactic(auto)]
 
 pub mod cause;
+pub mod changes;
 pub mod field;
 pub mod fields;
 pub mod limits;

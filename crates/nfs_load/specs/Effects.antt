@@ -1,0 +1,53 @@
+-- What the lines of a description do to a tree, each by itself.
+use Rattle.std.specs.Prelude.{◌≡◌, ℕ, List, Option, Some, None, is_some, Result, Ok, Err, if◌then◌else◌}
+use Rattle.nfs_attrs.specs.declared.moment.Moment.{Moment}
+use Rattle.nfs_inodes.specs.declared.new_file.NewFile.{NewFile}
+use Rattle.nfs_inodes.specs.Tree.{Tree}
+use Rattle.nfs_inodes.specs.Reading.{attributes_at, place_named}
+use Rattle.nfs_load.specs.declared.cause.Cause.{Cause}
+use Rattle.nfs_load.specs.declared.cause.Cause.TheVariants.{VolumeTwice, NoTarget, Full}
+use Rattle.nfs_load.specs.declared.refusal.Refusal.{Refusal}
+use Rattle.nfs_load.specs.declared.refusal.Refusal.TheVariants.{Fault, Memory}
+use Rattle.nfs_load.specs.declared.place.Place as kept
+use Rattle.nfs_load.specs.declared.statement.Given.{Given}
+use Rattle.nfs_handles.specs.declared.number.Number.{Number}
+use Rattle.nfs_load.specs.Fields.{◌>>=◌}
+use Rattle.nfs_load.specs.Places.{Place, file_at, free_place, is_directory, place_of}
+
+-- the time of everything that a description makes
+abbrev pub start : Moment
+start = record { seconds = 0; nanos = 0 }
+
+abbrev pub attributes : Given → NewFile
+attributes given = record { mode = given.mode; uid = given.uid; gid = given.gid; atime = start; mtime = start }
+
+-- a link's mode is 0777
+abbrev pub link_attributes : ℕ → ℕ → NewFile
+link_attributes uid gid = attributes (record { mode = 511; uid = uid; gid = gid })
+
+-- a line finds where it is done, or a cause; it is done where it may be, and else the cause is Full; a line that isn't done leaves the tree
+abbrev pub Does : {P : Type 0} → Tree → Result P Cause → (P → Type 0) → (P → Tree → Type 0) → Result Unit Refusal → Tree → Type 0
+Does {P} t found May Made (Ok x) new = (place : P) × (found ≡ Ok place) × Made place new
+Does {P} t found May Made (Err (Fault Full)) new = (place : P) × (found ≡ Ok place) × (May place → ⊥) × (new ≡ t)
+Does {P} t found May Made (Err (Fault cause)) new = (found ≡ Err cause) × (new ≡ t)
+Does {P} t found May Made (Err Memory) new = new ≡ t
+
+-- a path that no volume has
+abbrev pub free_path : Tree → List ℕ → Result (List ℕ) Cause
+free_path t path = if is_some (place_named t path) then Err VolumeTwice else Ok path
+
+-- a file that may have further names
+abbrev pub named_file : Tree → Option ℕ → Result ℕ Cause
+named_file t None = Err NoTarget
+named_file t (Some n) = if is_directory (attributes_at t n) then Err NoTarget else Ok n
+
+-- where a further name goes, and the file that it names
+abbrev pub link_place : Tree → ℕ → List (List ℕ) → List (List ℕ) → Result (Place × ℕ) Cause
+link_place t root path old = do
+  place ← free_place t root path
+  n ← named_file t (file_at t root old)
+  Ok (place, n)
+
+abbrev pub links_found : Result (kept.Place × Number) Cause → Result (Place × ℕ) Cause
+links_found (Ok it) = Ok (place_of it.0, it.1.0)
+links_found (Err cause) = Err cause
