@@ -85,6 +85,9 @@ fn command<'a>(alloc: Global) -> Result<Command<'a>, AllocError> {
         .about(
             "An NFS version 3 server with its MOUNT service, in memory, with access rules proved",
         )
+        .after_help(
+            "A first try, beside the folder examples: nfs3d replay examples/e.tree examples/read.script",
+        )
         .subcommand_required(true)
         .arg_required_else_help(true)
         .subcommand(replay)

@@ -11,22 +11,19 @@ use Rattle.nfs_handles.specs.declared.reading.Reading.TheVariants.{Live, Stale, 
 use Rattle.nfs_handles.specs.declared.number.Number.{Number}
 use Rattle.nfs_inodes.specs.Tree.{Tree, File, at, on_some, nlink}
 use Rattle.nfs_inodes.specs.Law.{Law}
-use Rattle.nfs_inodes.specs.Reading.{number_under, numbered_files, attributes_of, attributes_at}
+use Rattle.nfs_inodes.specs.Reading.{numbered_files, attributes_of, attributes_at}
 use Rattle.nfs_inodes.proofs.Lookups.{found_lives}
 use Rattle.nfs_inodes.proofs.Follows.{changes_follow, handles_are_for_good, lives_alike}
 use Rattle.nfs_rpc.specs.AuthSys.{Credential, caller}
-use Rattle.nfs_rpc.specs.Calls.{Call}
 use Rattle.nfs_server.specs.declared.event.Addr.{Addr}
 use Rattle.nfs_server.specs.declared.exports.Export as exported
-use Rattle.nfs_server.specs.declared.exports.Options.{Options}
-use Rattle.nfs_server.specs.declared.rpc_rules.RpcRule.{RpcRule}
 use Rattle.nfs_server.specs.declared.rpc_rules.RpcRule.TheVariants.{Version, Program, ProgramVersion, Procedure, Flavor, WeakCredential, Arguments, Credential as RpcCredential}
 use Rattle.nfs_server.specs.declared.rule.Rule.{Rule}
 use Rattle.nfs_server.specs.declared.rule.Rule.TheVariants.{BadHandle, StaleHandle, Export}
 use Rattle.nfs_server.specs.Args.{Args, args_in, handle_in}
-use Rattle.nfs_server.specs.RpcRules.{NFS, AUTH_NONE, AUTH_SYS, is_nfs, is_null, fails_rpc, caller_rules, rpc_rules, rpc_failure_of}
-use Rattle.nfs_server.specs.Rules.{Request, Subject, subject, subject_with, is_bad, is_stale, live_at, named, granted, violates, violates_handle, handle_rules, rules_of, fails, verdict}
-use Rattle.nfs_server.specs.Steps.{asked, request_of}
+use Rattle.nfs_server.specs.RpcRules.{AUTH_NONE, AUTH_SYS, is_nfs, is_null, fails_rpc, caller_rules}
+use Rattle.nfs_server.specs.Rules.{subject, subject_with, is_bad, is_stale, live_at, named, granted, violates, violates_handle, rules_of, fails}
+use Rattle.nfs_server.specs.Steps.{asked}
 use Rattle.nfs_server.specs.Cases.{CallsAskForSomething, GrantedHasSubject, FoundHasHandle}
 
 -- where none of a list passes, the first doesn't, and none of the others does
@@ -70,11 +67,11 @@ calls_ask addr call bytes none other =
     let unread = is_none (caller call.cred.body) in
     let unspelled = is_none (args_in call.proc bytes) in
     let both = taken (is_null call) (is_nfs call) (nat_eq call.cred.flavor AUTH_NONE) (nat_eq call.cred.flavor AUTH_SYS) (list_any (nat_eq call.proc) (1 ∷ 3 ∷ 6 ∷ [])) unread unspelled other
-        (first_not p Procedure (caller_rules ++ Arguments ∷ []) c)
-        (first_not p Flavor (RpcCredential ∷ WeakCredential ∷ Arguments ∷ []) d)
-        (first_not p RpcCredential (WeakCredential ∷ Arguments ∷ []) e)
-        (first_not p WeakCredential (Arguments ∷ []) f)
-        (first_not p Arguments [] g) in
+    (first_not p Procedure (caller_rules ++ Arguments ∷ []) c)
+    (first_not p Flavor (RpcCredential ∷ WeakCredential ∷ Arguments ∷ []) d)
+    (first_not p RpcCredential (WeakCredential ∷ Arguments ∷ []) e)
+    (first_not p WeakCredential (Arguments ∷ []) f)
+    (first_not p Arguments [] g) in
     subst (λ b. IsSome (cond b None (asked addr (caller call.cred.body) (args_in call.proc bytes)))) (sym other)
     (some_asked addr (caller call.cred.body) (args_in call.proc bytes) both.0 both.1)
 

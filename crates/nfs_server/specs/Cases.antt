@@ -7,7 +7,7 @@ use Rattle.nfs_inodes.specs.Reading.{number_under, numbered_files}
 use Rattle.nfs_rpc.specs.Calls.{Call}
 use Rattle.nfs_server.specs.declared.event.Addr.{Addr}
 use Rattle.nfs_server.specs.declared.exports.Export.{Export}
-use Rattle.nfs_server.specs.RpcRules.{is_nfs, is_null, rpc_failure_of}
+use Rattle.nfs_server.specs.RpcRules.{is_null, rpc_failure_of}
 use Rattle.nfs_server.specs.Rules.{Request, subject, verdict}
 use Rattle.nfs_server.specs.Steps.{request_of}
 

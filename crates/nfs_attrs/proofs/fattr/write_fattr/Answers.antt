@@ -21,8 +21,8 @@ returns-clause-spelled c =
     let fsid = c.halves-fsid_high.result in
     let fileid = c.halves-fileid_high.result in
     let word = spelled_at (
-        c.number_of.result ∷ a.mode ∷ a.nlink ∷ a.uid ∷ a.gid ∷ size.0 ∷ size.1 ∷ used.0 ∷ used.1 ∷ a.rdev.specdata1 ∷ a.rdev.specdata2
-        ∷ fsid.0 ∷ fsid.1 ∷ fileid.0 ∷ fileid.1 ∷ a.atime.seconds ∷ a.atime.nanos ∷ a.mtime.seconds ∷ a.mtime.nanos ∷ a.ctime.seconds ∷ a.ctime.nanos ∷ []) _ c.numbers.ensures.spelled in
+    c.number_of.result ∷ a.mode ∷ a.nlink ∷ a.uid ∷ a.gid ∷ size.0 ∷ size.1 ∷ used.0 ∷ used.1 ∷ a.rdev.specdata1 ∷ a.rdev.specdata2
+    ∷ fsid.0 ∷ fsid.1 ∷ fileid.0 ∷ fileid.1 ∷ a.atime.seconds ∷ a.atime.nanos ∷ a.mtime.seconds ∷ a.mtime.nanos ∷ a.ctime.seconds ∷ a.ctime.nanos ∷ []) _ c.numbers.ensures.spelled in
     fattr_written c.args.attributes.now (subst (λ n. IsNumber w32 n (to_be_bytes w32 n)) c.number_of.ensures (word 0 (omega arith)))
     (word 1 (omega arith)) (word 2 (omega arith)) (word 3 (omega arith)) (word 4 (omega arith)) c.halves-size_high.ensures.spelled c.halves-used_high.ensures.spelled (word 9 (omega arith)) (word 10 (omega arith)) c.halves-fsid_high.ensures.spelled c.halves-fileid_high.ensures.spelled
     (followed _ _ _ _ (word 15 (omega arith)) (word 16 (omega arith))) (followed _ _ _ _ (word 17 (omega arith)) (word 18 (omega arith))) (followed _ _ _ _ (word 19 (omega arith)) (word 20 (omega arith)))
