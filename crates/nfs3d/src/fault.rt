@@ -2,12 +2,23 @@
 ghost use Rattle.std.specs.Prelude.{◌≡◌};
 ghost use Rattle.nfs3d.specs.Status.{status_of};
 
+use nfs_load::cause::Cause;
+use nfs_load::listing::WriteFault;
+use nfs_load::load_error::LoadError;
 use std::alloc::{AllocError, AllocFailed};
 use thiserror::Error;
 
 /// A fault, which prints as the line that goes to standard error.
 #[derive(Debug, Drop, Error)]
 pub enum ReplayFault {
+    /// A line of the description is faulty.
+    #[error("line {line}: {cause}")]
+    Description {
+        /// Its number, from 1.
+        line: u64,
+        /// Its first cause.
+        cause: Cause,
+    },
     /// A line of the script is none that there is.
     #[error("script line {0}: BadLine")]
     BadLine(u64),
@@ -32,13 +43,16 @@ pub enum ReplayFault {
 }
 
 impl ReplayFault {
-    /// The program's exit status: 1 where the script is at fault, 2 where the words are, 3 where the
+    /// The program's exit status: 1 where the description or the script is at fault, 2 where the words are, 3 where the
     /// machine is.
     pub fn status(&self) -> u8
         ensures { result ≡ status_of self.now }
     {
         match self {
-            ReplayFault::BadLine(_) | ReplayFault::BadHex(_) | ReplayFault::NoHandle(_) => 1,
+            ReplayFault::Description { .. }
+            | ReplayFault::BadLine(_)
+            | ReplayFault::BadHex(_)
+            | ReplayFault::NoHandle(_) => 1,
             ReplayFault::NoText => 2,
             ReplayFault::CannotRead(_) | ReplayFault::Write | ReplayFault::Memory(_) => 3,
         }
@@ -66,10 +80,29 @@ impl<T: Drop> From<AllocFailed<T>> for RunFault {
     }
 }
 
-impl From<RunFault> for ReplayFault {
-    ghost use Rattle.nfs3d.specs.Status.{IsOfReplay};
+impl From<WriteFault> for RunFault {
+    fn from(_error: WriteFault) -> RunFault {
+        RunFault::Write
+    }
+}
 
-    ghost from_gives = { λ _ fault. IsOfReplay fault };
+impl From<LoadError> for ReplayFault {
+    ghost use Rattle.nfs3d.specs.Status.{IsToldAs};
+
+    ghost from_gives = { IsToldAs };
+
+    fn from(error: LoadError) -> ReplayFault {
+        match error {
+            LoadError::Fault { line, cause } => ReplayFault::Description { line, cause },
+            LoadError::Memory => ReplayFault::Memory(AllocError),
+        }
+    }
+}
+
+impl From<RunFault> for ReplayFault {
+    ghost use Rattle.nfs3d.specs.Status.{IsOfCheck, IsOfReplay};
+
+    ghost from_gives = { λ _ fault. IsOfReplay fault × IsOfCheck fault };
 
     fn from(fault: RunFault) -> ReplayFault {
         match fault {

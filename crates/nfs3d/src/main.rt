@@ -2,6 +2,7 @@
 #![tactic(auto)]
 
 mod captured;
+mod check;
 mod commands;
 mod fault;
 mod hexadecimal;

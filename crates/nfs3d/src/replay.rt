@@ -6,18 +6,23 @@ use crate::captured::{Captured, split_record};
 use crate::fault::{ReplayFault, RunFault};
 use crate::hexadecimal::{HexFault, push_bytes};
 use crate::printing::{Printer, Replies};
-use crate::script::{Order, Words, number, order_of};
+use crate::script::{Order, order_of};
 use nfs_attrs::moment::Moment;
+use nfs_exports::addr::Addr;
 use nfs_inodes::tree::Tree;
-use nfs_server::event::{Addr, Event};
-use nfs_server::loaded::tree_e;
+use nfs_load::listing::listing;
+use nfs_load::loaded::Loaded;
+use nfs_server::event::Event;
 use nfs_server::server::Server;
 use nfs_server::sessions::{SessionFault, Sessions};
+use nfs_text::number::decimal;
+use nfs_text::words::Words;
 use nfs_xdr::device::ByteOut;
 use std::alloc::{AllocError, AllocFailed, Global};
 use std::mem;
 
-/// Runs the script's lines in order, and prints what each brings.
+/// Runs the script's lines in order against a server of this description, and prints what each
+/// brings.
 ///
 /// What stands before a faulty line is run and printed. `BadLine` for a line that is none, else
 /// for its first faulty word `BadHex` where that says no bytes, and `NoHandle` where it names no
@@ -25,7 +30,7 @@ use std::mem;
 /// there is no memory.
 pub fn replay<W: ByteOut>(
     alloc: Global,
-    _tree: &[u8],
+    loaded: Loaded,
     script: &[u8],
     cache: usize,
     out: &mut W,
@@ -34,7 +39,7 @@ pub fn replay<W: ByteOut>(
     requires few { cache ≤ 1024 }
     ensures { IfErr result IsOfReplay }
 {
-    let mut player = Player::new(alloc, cache)?;
+    let mut player = Player::new(alloc, loaded, cache)?;
     for (index, line) in script.split(|b| *b == b'\n').enumerate() {
         if let Err(fault) = player.line(line, out) {
             player.run_calls(out)?;
@@ -112,12 +117,12 @@ struct Player {
 }
 
 impl Player {
-    // A player that has run no line, with a server of the built-in description.
-    fn new(alloc: Global, cache: usize) -> Result<Player, RunFault>
+    // A player that has run no line, with a server of this description.
+    fn new(alloc: Global, loaded: Loaded, cache: usize) -> Result<Player, RunFault>
         requires some { 1 ≤ cache }
         requires few { cache ≤ 1024 }
     {
-        let server = Server::new(alloc, tree_e(alloc)?, cache)?;
+        let server = Server::new(alloc, loaded, cache)?;
         Ok(Player {
             alloc,
             sessions: Sessions::new(alloc, server)?,
@@ -139,7 +144,7 @@ impl Player {
                 moment,
                 bytes,
             } => {
-                if bytes.may_name_files() {
+                if names_files(bytes) {
                     self.run_calls(out)?;
                 }
                 let bytes = bytes_of(self.alloc, self.sessions.server().tree(), bytes)?;
@@ -175,7 +180,18 @@ impl Player {
                 self.fault(conn, detached, out)?;
                 Ok(())
             }
+            Order::Show => {
+                self.run_calls(out)?;
+                self.show(out)?;
+                Ok(())
+            }
         }
+    }
+
+    // Prints the listing of the tree.
+    fn show<W: ByteOut>(&self, out: &mut W) -> Result<(), RunFault> {
+        listing(self.sessions.server().tree(), out)?;
+        Ok(())
     }
 
     // Runs the calls that wait, and prints their replies.
@@ -247,6 +263,16 @@ impl Player {
     }
 }
 
+// Whether a word may name a file, which it does by an `@`.
+fn names_files(words: Words<'_>) -> bool {
+    for word in words {
+        if word.contains(&b'@') {
+            return true;
+        }
+    }
+    false
+}
+
 // The bytes that words say, from left to right: hexadecimal digits, or the handle of a file.
 fn bytes_of(alloc: Global, tree: &Tree, words: Words<'_>) -> Result<Vec<u8>, LineFault> {
     let mut bytes = Vec::new(alloc);
@@ -261,7 +287,7 @@ fn bytes_of(alloc: Global, tree: &Tree, words: Words<'_>) -> Result<Vec<u8>, Lin
 
 // The handle of the file of this number.
 fn handle_of(tree: &Tree, digits: &[u8]) -> Result<[u8; 24], LineFault> {
-    let Some(file) = number(digits) else {
+    let Some(file) = decimal(digits, u64::MAX) else {
         return Err(LineFault::BadHex);
     };
     match tree.handle_of(file) {

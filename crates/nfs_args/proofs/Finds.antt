@@ -44,7 +44,7 @@ use Rattle.nfs_args.proofs.Unions.{finds_bare, finds_union, finds_last_if}
 pub finds_handle : Finds IsHandle handle_at
 finds_handle = finds_opaque 64
 
-finds_string : Finds IsString string_at
+pub finds_string : Finds IsString string_at
 finds_string = finds_opaque 4294967295
 
 finds_verifier : Finds IsVerifier verifier_at
@@ -80,7 +80,7 @@ stability_numbered Unstable = refl
 stability_numbered DataSync = refl
 stability_numbered FileSync = refl
 
-finds_stability : Finds (IsEnum stability_number) stability_at
+pub finds_stability : Finds (IsEnum stability_number) stability_at
 finds_stability = finds_enum stability_number stabilities stability_numbered
 
 same_length : (held content : List ℕ) (count : ℕ) → length held ≡ count → held ≡ content → eqb (length content) count ≡ true

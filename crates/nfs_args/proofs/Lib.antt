@@ -1,3 +1,8 @@
 pub mod Unions
 pub mod Finds
-pub mod FindsResults
+pub mod Once
+pub mod Chains
+pub mod OnceAnswers
+pub mod MountOnce
+pub mod Writes
+pub mod Lengths

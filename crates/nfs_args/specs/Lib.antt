@@ -2,3 +2,8 @@ pub mod Procedures
 pub mod Spelling
 pub mod Reading
 pub mod Results
+pub mod Chains
+pub mod Pages
+pub mod Answers
+pub mod MountAnswers
+pub mod Sizes

@@ -1,135 +1,106 @@
-//! The answers of the procedures of NFS behind their status (RFC 1813, section 3.3).
+//! The results of the procedures of NFS (RFC 1813, section 3.3).
 ghost use Rattle.std.specs.Prelude.{◌≡◌, ◌≤◌, length};
-ghost use Rattle.nfs_xdr.specs.Spelling.{opaque_text};
 ghost use Rattle.nfs_xdr.specs.Written.{Appends};
-ghost use Rattle.nfs_args.specs.Spelling.{IsHandle};
-ghost use Rattle.nfs_args.specs.Results.{IsFound, found_text, IsRights, rights_text, IsRenamed, renamed_text, IsLinked, linked_text, IsPathLimits, path_limits_text};
+ghost use Rattle.nfs_args.specs.Answers.{IsAnswerOf, answered, nfs_text, NfsFits};
 
-use crate::opaque::Opaque;
-use nfs_attrs::fattr::{Fattr, write_post_op_attr};
-use nfs_attrs::wcc::{Wcc, write_wcc};
+use crate::attributes::{write_change_result, write_get_attr_result};
+use crate::committed::{Committed, write_commit_result};
+use crate::entry::Entry;
+use crate::entry_plus::EntryPlus;
+use crate::failed::Failed;
+use crate::found::{Found, write_lookup_result};
+use crate::items::Items;
+use crate::link_path::{LinkPath, write_read_link_result};
+use crate::linked::{Linked, write_link_result};
+use crate::made::{Made, write_make_result};
+use crate::page::{Page, write_read_dir_plus_result, write_read_dir_result};
+use crate::path_limits::{PathLimits, write_path_conf_result};
+use crate::read_data::{ReadData, write_read_result};
+use crate::renamed::{Renamed, write_rename_result};
+use crate::rights::{Rights, write_access_result};
+use crate::room::{Room, write_fs_stat_result};
+use crate::server_limits::{ServerLimits, write_fs_info_result};
+use crate::written::{Written, write_write_result};
+use nfs_attrs::fattr::Fattr;
+use nfs_attrs::wcc::Wcc;
 use nfs_xdr::output::Output;
 
-/// The file that was found (RFC 1813, section 3.3.3, LOOKUP3resok).
+/// What a procedure of NFS answers, in the order of their numbers: what was asked for, or why not.
+/// NULL has no result. Handles, paths, names and data are lent.
 #[derive(Drop)]
-pub struct Found<'a> {
-    /// The file's handle, of at most 64 bytes.
-    pub file: Opaque<'a>,
-    /// The file's attributes.
-    pub attributes: Option<Fattr>,
-    /// The directory's attributes.
-    pub dir: Option<Fattr>,
+pub enum NfsAnswer<'a> {
+    /// The attributes of a file.
+    GetAttr(Result<Fattr, Failed<()>>),
+    /// The file whose attributes were set.
+    SetAttr(Result<Wcc, Failed<Wcc>>),
+    /// The file that was found.
+    Lookup(Result<Found<'a>, Failed<Option<Fattr>>>),
+    /// The rights that a caller has.
+    Access(Result<Rights, Failed<Option<Fattr>>>),
+    /// The path that a symbolic link stands for.
+    ReadLink(Result<LinkPath<'a>, Failed<Option<Fattr>>>),
+    /// The bytes that were read.
+    Read(Result<ReadData<'a>, Failed<Option<Fattr>>>),
+    /// The bytes that were written.
+    Write(Result<Written, Failed<Wcc>>),
+    /// The regular file that was made.
+    Create(Result<Made<'a>, Failed<Wcc>>),
+    /// The directory that was made.
+    MakeDir(Result<Made<'a>, Failed<Wcc>>),
+    /// The symbolic link that was made.
+    SymLink(Result<Made<'a>, Failed<Wcc>>),
+    /// The special file that was made.
+    MakeNode(Result<Made<'a>, Failed<Wcc>>),
+    /// The directory of the name that was taken away.
+    Remove(Result<Wcc, Failed<Wcc>>),
+    /// The directory of the name that was taken away.
+    RemoveDir(Result<Wcc, Failed<Wcc>>),
+    /// Both directories of the name that was changed.
+    Rename(Result<Renamed, Failed<Renamed>>),
+    /// The file that got a further name.
+    Link(Result<Linked, Failed<Linked>>),
+    /// Entries of a directory.
+    ReadDir(Result<Page<Items<'a, Entry<'a>>>, Failed<Option<Fattr>>>),
+    /// Entries of a directory with what their files are.
+    ReadDirPlus(Result<Page<Items<'a, EntryPlus<'a>>>, Failed<Option<Fattr>>>),
+    /// How much room a volume has.
+    FsStat(Result<Room, Failed<Option<Fattr>>>),
+    /// What the server bears.
+    FsInfo(Result<ServerLimits, Failed<Option<Fattr>>>),
+    /// What names may be.
+    PathConf(Result<PathLimits, Failed<Option<Fattr>>>),
+    /// The bytes that were made safe.
+    Commit(Result<Committed, Failed<Wcc>>),
 }
 
-/// The rights that a caller has (RFC 1813, section 3.3.4, ACCESS3resok).
-#[derive(Drop)]
-pub struct Rights {
-    /// The file's attributes.
-    pub attributes: Option<Fattr>,
-    /// One bit for each right that was asked for and is there.
-    pub rights: u32,
-}
-
-/// Both directories of a name that was changed (RFC 1813, section 3.3.14, RENAME3res).
-#[derive(Drop)]
-pub struct Renamed {
-    /// The directory that it was in.
-    pub from: Wcc,
-    /// The directory that it is in.
-    pub to: Wcc,
-}
-
-/// A file that got a further name (RFC 1813, section 3.3.15, LINK3res).
-#[derive(Drop)]
-pub struct Linked {
-    /// The file's attributes.
-    pub attributes: Option<Fattr>,
-    /// The directory of the name.
-    pub dir: Wcc,
-}
-
-/// What names may be (RFC 1813, section 3.3.20, PATHCONF3resok).
-#[derive(Drop)]
-pub struct PathLimits {
-    /// The named file's attributes.
-    pub attributes: Option<Fattr>,
-    /// How many names a file may have.
-    pub linkmax: u32,
-    /// How many bytes a name may have.
-    pub name_max: u32,
-    /// Whether a longer name is refused, and not cut.
-    pub no_trunc: bool,
-    /// Whether an owner may not give a file away.
-    pub chown_restricted: bool,
-    /// Whether names that differ only in case are one.
-    pub case_insensitive: bool,
-    /// Whether a name keeps its case.
-    pub case_preserving: bool,
-}
-
-/// Writes the file that was found.
-pub fn write_found(out: &mut Output, answer: &Found<'_>)
-    requires handle { length answer.now.file ≤ 64 }
-    requires room { length (found_text answer.now) ≤ out.old.room }
-    ensures text { Appends (found_text answer.now) out.old out.new }
-    ensures spelled { IsFound answer.now (found_text answer.now) }
+/// Writes a result: the status, and the arm that it has.
+pub fn write_nfs(out: &mut Output, answer: &NfsAnswer<'_>)
+    requires fits { NfsFits answer.now }
+    requires room { length (nfs_text answer.now) ≤ out.old.room }
+    ensures text { Appends (nfs_text answer.now) out.old out.new }
+    ensures spelled { IsAnswerOf (answered answer.now) answer.now (nfs_text answer.now) }
 {
-    write_handle(out, &answer.file);
-    write_post_op_attr(out, answer.attributes.as_ref());
-    write_post_op_attr(out, answer.dir.as_ref());
-}
-
-/// Writes the rights that a caller has.
-pub fn write_rights(out: &mut Output, answer: &Rights)
-    requires { length (rights_text answer.now) ≤ out.old.room }
-    ensures text { Appends (rights_text answer.now) out.old out.new }
-    ensures spelled { IsRights answer.now (rights_text answer.now) }
-{
-    write_post_op_attr(out, answer.attributes.as_ref());
-    out.u32(answer.rights);
-}
-
-/// Writes both directories of a name that was changed.
-pub fn write_renamed(out: &mut Output, answer: &Renamed)
-    requires { length (renamed_text answer.now) ≤ out.old.room }
-    ensures text { Appends (renamed_text answer.now) out.old out.new }
-    ensures spelled { IsRenamed answer.now (renamed_text answer.now) }
-{
-    write_wcc(out, &answer.from);
-    write_wcc(out, &answer.to);
-}
-
-/// Writes a file that got a further name.
-pub fn write_linked(out: &mut Output, answer: &Linked)
-    requires { length (linked_text answer.now) ≤ out.old.room }
-    ensures text { Appends (linked_text answer.now) out.old out.new }
-    ensures spelled { IsLinked answer.now (linked_text answer.now) }
-{
-    write_post_op_attr(out, answer.attributes.as_ref());
-    write_wcc(out, &answer.dir);
-}
-
-/// Writes what names may be.
-pub fn write_path_limits(out: &mut Output, answer: &PathLimits)
-    requires { length (path_limits_text answer.now) ≤ out.old.room }
-    ensures text { Appends (path_limits_text answer.now) out.old out.new }
-    ensures spelled { IsPathLimits answer.now (path_limits_text answer.now) }
-{
-    write_post_op_attr(out, answer.attributes.as_ref());
-    out.u32(answer.linkmax);
-    out.u32(answer.name_max);
-    out.boolean(answer.no_trunc);
-    out.boolean(answer.chown_restricted);
-    out.boolean(answer.case_insensitive);
-    out.boolean(answer.case_preserving);
-}
-
-// A handle: at most 64 bytes.
-fn write_handle(out: &mut Output, handle: &Opaque<'_>)
-    requires bound { length handle.now ≤ 64 }
-    requires room { length (opaque_text handle.now) ≤ out.old.room }
-    ensures text { Appends (opaque_text handle.now) out.old out.new }
-    ensures spelled { IsHandle handle.now (opaque_text handle.now) }
-{
-    out.opaque(handle.bytes());
+    match answer {
+        NfsAnswer::GetAttr(answer) => write_get_attr_result(out, answer),
+        NfsAnswer::SetAttr(answer) => write_change_result(out, answer),
+        NfsAnswer::Lookup(answer) => write_lookup_result(out, answer),
+        NfsAnswer::Access(answer) => write_access_result(out, answer),
+        NfsAnswer::ReadLink(answer) => write_read_link_result(out, answer),
+        NfsAnswer::Read(answer) => write_read_result(out, answer),
+        NfsAnswer::Write(answer) => write_write_result(out, answer),
+        NfsAnswer::Create(answer) => write_make_result(out, answer),
+        NfsAnswer::MakeDir(answer) => write_make_result(out, answer),
+        NfsAnswer::SymLink(answer) => write_make_result(out, answer),
+        NfsAnswer::MakeNode(answer) => write_make_result(out, answer),
+        NfsAnswer::Remove(answer) => write_change_result(out, answer),
+        NfsAnswer::RemoveDir(answer) => write_change_result(out, answer),
+        NfsAnswer::Rename(answer) => write_rename_result(out, answer),
+        NfsAnswer::Link(answer) => write_link_result(out, answer),
+        NfsAnswer::ReadDir(answer) => write_read_dir_result(out, answer),
+        NfsAnswer::ReadDirPlus(answer) => write_read_dir_plus_result(out, answer),
+        NfsAnswer::FsStat(answer) => write_fs_stat_result(out, answer),
+        NfsAnswer::FsInfo(answer) => write_fs_info_result(out, answer),
+        NfsAnswer::PathConf(answer) => write_path_conf_result(out, answer),
+        NfsAnswer::Commit(answer) => write_commit_result(out, answer),
+    }
 }

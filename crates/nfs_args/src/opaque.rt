@@ -1,13 +1,16 @@
 //! Bytes that are lent from a record: handles, names, paths and data.
-ghost use Rattle.std.specs.Prelude.{◌≡◌};
+ghost use Rattle.std.specs.Prelude.{◌≡◌, ◌≤◌, length};
+ghost use Rattle.nfs_xdr.specs.Spelling.{IsOptional, opaque_text, optional_text};
+ghost use Rattle.nfs_xdr.specs.Written.{Appends};
+ghost use Rattle.nfs_args.specs.Spelling.{IsHandle, IsString};
+ghost use Rattle.nfs_args.specs.Results.{StringFits, HandleFits};
 ghost use Rattle.nfs_args.specs.Reading.{Takes, handle_at, string_at, verifier_at};
 
+use crate::limits::MAX_HANDLE_BYTES;
 use nfs_xdr::fault::XdrFault;
 use nfs_xdr::input::Input;
+use nfs_xdr::output::Output;
 use std::marker::Model;
-
-/// The most bytes of a handle (RFC 1813, section 2.4, NFS3_FHSIZE).
-const MAX_HANDLE_BYTES: u32 = 64;
 
 /// How many bytes a verifier has (RFC 1813, section 2.4, NFS3_CREATEVERFSIZE and
 /// NFS3_COOKIEVERFSIZE).
@@ -47,11 +50,12 @@ impl<'a> Opaque<'a> {
 pub(crate) fn handle_of<'a>(input: &mut Input<'a>) -> Result<Opaque<'a>, XdrFault>
     ensures { Takes input.old input.new result (handle_at input.old) }
 {
-    let bytes = input.opaque(MAX_HANDLE_BYTES)?;
+    let bytes = input.opaque(MAX_HANDLE_BYTES as u32)?;
     Ok(Opaque { bytes })
 }
 
 // A name, a path or data, without a bound of its own.
+#[inline(always)]
 pub(crate) fn string_of<'a>(input: &mut Input<'a>) -> Result<Opaque<'a>, XdrFault>
     ensures { Takes input.old input.new result (string_at input.old) }
 {
@@ -65,4 +69,40 @@ pub(crate) fn verifier_of<'a>(input: &mut Input<'a>) -> Result<Opaque<'a>, XdrFa
 {
     let bytes = input.fixed(VERIFIER_BYTES)?;
     Ok(Opaque { bytes })
+}
+
+// A handle: at most 64 bytes.
+pub(crate) fn write_handle(out: &mut Output, handle: &Opaque<'_>)
+    requires bound { length handle.now ≤ 64 }
+    requires room { length (opaque_text handle.now) ≤ out.old.room }
+    ensures text { Appends (opaque_text handle.now) out.old out.new }
+    ensures spelled { IsHandle handle.now (opaque_text handle.now) }
+{
+    out.opaque(handle.bytes());
+}
+
+// A handle, or that there is none (RFC 1813, section 2.6, post_op_fh3).
+pub(crate) fn write_post_op_handle(out: &mut Output, handle: &Option<Opaque<'_>>)
+    requires bound { HandleFits handle.now }
+    requires room { length (optional_text opaque_text handle.now) ≤ out.old.room }
+    ensures text { Appends (optional_text opaque_text handle.now) out.old out.new }
+    ensures spelled { IsOptional IsHandle handle.now (optional_text opaque_text handle.now) }
+{
+    match handle {
+        None => out.u32(0),
+        Some(handle) => {
+            out.u32(1);
+            write_handle(out, handle);
+        }
+    }
+}
+
+// A name or a path.
+pub(crate) fn write_string(out: &mut Output, string: &Opaque<'_>)
+    requires fits { StringFits string.now }
+    requires room { length (opaque_text string.now) ≤ out.old.room }
+    ensures text { Appends (opaque_text string.now) out.old out.new }
+    ensures spelled { IsString string.now (opaque_text string.now) }
+{
+    out.opaque(string.bytes());
 }

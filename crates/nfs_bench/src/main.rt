@@ -2,6 +2,8 @@
 //! and prints what came of it; with the name of a measure it prints nanoseconds.
 #![tactic(auto)]
 
+mod arguments;
+mod described;
 mod framing;
 mod null_call;
 mod procedures;
@@ -25,6 +27,7 @@ fn run<R: Env + Clock + Print + AllocGlobal>(rt: &R) -> io::Result<()> {
             framing::fixed(rt)?;
             null_call::fixed(rt)?;
             procedures::fixed(rt)?;
+            arguments::fixed(rt)?;
             tree::fixed(rt)
         }
         Some(word) if word.as_str() == "framing" => framing::measure(rt),
@@ -33,6 +36,7 @@ fn run<R: Env + Clock + Print + AllocGlobal>(rt: &R) -> io::Result<()> {
         Some(word) if word.as_str() == "lookup-x" => procedures::measure_lookup(rt),
         Some(word) if word.as_str() == "read-4096" => procedures::measure_read(rt, 4_096),
         Some(word) if word.as_str() == "read-65536" => procedures::measure_read(rt, 65_536),
+        Some(word) if word.as_str() == "arguments" => arguments::measure(rt),
         Some(word) if word.as_str() == "tree-1000" => tree::measure(rt, 1),
         Some(word) if word.as_str() == "tree-100000" => tree::measure(rt, 100),
         Some(word) if word.as_str() == "write" => tree::measure_write(rt),

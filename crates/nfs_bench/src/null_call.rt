@@ -1,8 +1,9 @@
 //! NULL calls through the server.
 
+use crate::described::loaded;
 use nfs_attrs::moment::Moment;
-use nfs_server::event::{Addr, Event, Handled};
-use nfs_server::loaded::tree_e;
+use nfs_exports::addr::Addr;
+use nfs_server::event::{Event, Handled};
 use nfs_server::reply_buf::ReplyBuf;
 use nfs_server::server::Server;
 use std::io;
@@ -19,7 +20,7 @@ const CALL: [u8; 40] = [
 
 /// Does a few calls, and prints how many were answered and the bytes of their replies.
 pub(crate) fn fixed<R: Print + AllocGlobal>(rt: &R) -> io::Result<()> {
-    let mut server = Server::new(rt.alloc(), tree_e(rt.alloc())?, 128)?;
+    let mut server = Server::new(rt.alloc(), loaded(rt.alloc())?, 128)?;
     let mut reply = ReplyBuf::new(rt.alloc())?;
     let (calls, bytes) = call(&mut server, &mut reply, 3);
     println!(rt; "answered {calls} calls, {bytes} bytes")
@@ -27,7 +28,7 @@ pub(crate) fn fixed<R: Print + AllocGlobal>(rt: &R) -> io::Result<()> {
 
 /// Prints the nanoseconds of a call, in tenths, the least of five runs.
 pub(crate) fn measure<R: Clock + Print + AllocGlobal>(rt: &R) -> io::Result<()> {
-    let mut server = Server::new(rt.alloc(), tree_e(rt.alloc())?, 128)?;
+    let mut server = Server::new(rt.alloc(), loaded(rt.alloc())?, 128)?;
     let mut reply = ReplyBuf::new(rt.alloc())?;
     let mut least = u128::MAX;
     for _ in 0..5u8 {

@@ -1,11 +1,13 @@
 //! GETATTR, LOOKUP and READ through the server.
 
+use crate::described::loaded;
 use nfs_attrs::moment::Moment;
+use nfs_exports::addr::Addr;
 use nfs_handles::number::Number;
 use nfs_inodes::new_file::NewFile;
 use nfs_inodes::tree::Tree;
-use nfs_server::event::{Addr, Event, Handled};
-use nfs_server::loaded::{Loaded, tree_e};
+use nfs_load::loaded::Loaded;
+use nfs_server::event::{Event, Handled};
 use nfs_server::reply_buf::ReplyBuf;
 use nfs_server::server::Server;
 use std::alloc::{AllocError, Global};
@@ -37,8 +39,7 @@ const USER: [u8; 40] = [
     0, 0, 0, 0, 0, 0, 0, 0, 24,
 ];
 
-// The built-in directory `/pub`, a name in it behind its length, and the file that is made for
-// READ.
+// The directory `/pub`, a name in it behind its length, and the file that is made for READ.
 const PUB: u64 = 2;
 
 const X: [u8; 8] = [0, 0, 0, 1, b'x', 0, 0, 0];
@@ -87,26 +88,18 @@ pub(crate) fn measure_read<R: Clock + Print + AllocGlobal>(rt: &R, count: u32) -
     println!(rt; "read-{count} {}.{}", least / 10, least % 10)
 }
 
-// A server of the built-in description, with a file of 64 KiB in `/pub`.
+// A server of the description, with a file of 64 KiB in `/pub`.
 fn served(alloc: Global) -> io::Result<Server> {
-    let Loaded { mut tree, table } = tree_e(alloc)?;
+    let Loaded { mut tree, table } = loaded(alloc)?;
     let mut bytes = Vec::new(alloc);
     bytes.resize(65_536, 7)?;
-    make(&mut tree)?;
-    write(&mut tree, bytes.as_slice())?;
+    make(&mut tree, bytes)?;
     Ok(Server::new(alloc, Loaded { tree, table }, 128)?)
 }
 
-fn make(tree: &mut Tree) -> Result<(), AllocError> {
-    if tree.may_make(Number(PUB), b"large", 0) {
-        tree.make_file(Number(PUB), b"large", 0, &GIVEN, None, START)?;
-    }
-    Ok(())
-}
-
-fn write(tree: &mut Tree, bytes: &[u8]) -> Result<(), AllocError> {
-    if tree.may_write(Number(LARGE), 0, bytes.len()) {
-        tree.write_at(Number(LARGE), 0, bytes, START)?;
+fn make(tree: &mut Tree, bytes: Vec<u8>) -> Result<(), AllocError> {
+    if tree.may_make(Number(PUB), b"large", bytes.len()) {
+        tree.make_file(Number(PUB), b"large", bytes, &GIVEN, None, START)?;
     }
     Ok(())
 }

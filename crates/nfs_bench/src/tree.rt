@@ -86,13 +86,13 @@ fn grown(alloc: Global, thousands: u32) -> Result<Tree, AllocError> {
         tree.add_volume(b"/", 1_000_000, 1_000_000, &GIVEN, START)?;
     }
     for place in 0..thousands {
-        fill(&mut tree, place)?;
+        fill(alloc, &mut tree, place)?;
     }
     Ok(tree)
 }
 
 // One directory of a thousand files.
-fn fill(tree: &mut Tree, place: u32) -> Result<(), AllocError> {
+fn fill(alloc: Global, tree: &mut Tree, place: u32) -> Result<(), AllocError> {
     let name = letters(place);
     if !tree.may_make_dir(Number(1), &name) {
         return Ok(());
@@ -101,7 +101,7 @@ fn fill(tree: &mut Tree, place: u32) -> Result<(), AllocError> {
     for file in 0..FILES {
         let name = letters(file);
         if tree.may_make(dir, &name, 0) {
-            tree.make_file(dir, &name, 0, &GIVEN, None, START)?;
+            tree.make_file(dir, &name, Vec::new(alloc), &GIVEN, None, START)?;
         }
     }
     Ok(())

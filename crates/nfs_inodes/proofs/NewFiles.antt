@@ -5,10 +5,9 @@ use Rattle.nfs_attrs.specs.declared.moment.Moment.{Moment}
 use Rattle.nfs_inodes.specs.declared.new_file.NewFile.{NewFile}
 use Rattle.nfs_inodes.specs.Tree.{Tree, File, Kind, Regular, Directory, Link, Entry, on_some, is_directory, entries_in, path_in, parent_in, bytes_in, next_cookie_in}
 use Rattle.nfs_inodes.specs.Law.{Law, IsName, IsSound}
-use Rattle.nfs_inodes.specs.Changes.{after_make_file, after_make_dir, after_make_link, after_add_volume, new_file, zeros}
+use Rattle.nfs_inodes.specs.Changes.{after_make_file, after_make_dir, after_make_link, after_add_volume, new_file}
 use Rattle.nfs_inodes.specs.Changes as changes
 use Rattle.nfs_inodes.specs.Conditions.{MayMake, MayMakeDirectory, MayMakeLink, MayAddVolume, IsNew}
-use Rattle.nfs_inodes.proofs.Bytes.{length_zeros}
 use Rattle.nfs_inodes.proofs.Births.{law_with_new_volume, MayBeFounded}
 use Rattle.nfs_inodes.proofs.Operations.{law_with_named_file}
 
@@ -44,8 +43,8 @@ new_here t d size name k given f may kind volume mode fits fresh = record {
     low_bits : (m : ℕ) → m % 4096 < 4096
     low_bits m = omega arith
 
-pub fresh_file : (d size : ℕ) (bytes : List ℕ) → length bytes ≡ size → IsFresh d size (Regular bytes)
-fresh_file d size bytes e = record { empty = refl; bytes = e; path = omega arith; parent = λ y. cc; next_cookie = λ y. cc }
+pub fresh_file : (d : ℕ) (bytes : List ℕ) → IsFresh d (length bytes) (Regular bytes)
+fresh_file d bytes = record { empty = refl; bytes = refl; path = omega arith; parent = λ y. cc; next_cookie = λ y. cc }
 
 pub fresh_directory : (d : ℕ) → IsFresh d 0 (Directory d 3 [])
 fresh_directory d = record { empty = refl; bytes = refl; path = omega arith; parent = λ y. refl; next_cookie = λ y. omega arith }
@@ -82,10 +81,10 @@ may_be_founded t path max_bytes max_files tag given now f may fits is =
 
 -- ---- the law
 
-pub law_after_make_file : (t : Tree) (d size tag : ℕ) (name : List ℕ) (given : NewFile) (verifier : Option (List ℕ)) (now : Moment) → MayMake t d name size → tag < 2 ^ 32 → Law t → Law (after_make_file t d name size given verifier tag now)
-law_after_make_file t d size tag name given verifier now may fits law =
-    let f = new_file (changes.volume_of t d) (Regular (zeros size)) given verifier tag now in
-    law_with_named_file t d size name f now may law (new_here t d size name (Regular (zeros size)) given f may refl refl refl fits (fresh_file d size (zeros size) (length_zeros size))) impossible
+pub law_after_make_file : (t : Tree) (d tag : ℕ) (name bytes : List ℕ) (given : NewFile) (verifier : Option (List ℕ)) (now : Moment) → MayMake t d name (length bytes) → tag < 2 ^ 32 → Law t → Law (after_make_file t d name bytes given verifier tag now)
+law_after_make_file t d tag name bytes given verifier now may fits law =
+    let f = new_file (changes.volume_of t d) (Regular bytes) given verifier tag now in
+    law_with_named_file t d (length bytes) name f now may law (new_here t d (length bytes) name (Regular bytes) given f may refl refl refl fits (fresh_file d bytes)) impossible
 
 pub law_after_make_dir : (t : Tree) (d tag : ℕ) (name : List ℕ) (given : NewFile) (now : Moment) → MayMakeDirectory t d name → tag < 2 ^ 32 → Law t → Law (after_make_dir t d name given tag now)
 law_after_make_dir t d tag name given now may fits law =

@@ -51,9 +51,9 @@ volume_of t n = on_some (at n t.files) 0 (λ f. f.volume)
 abbrev pub with_named_file : Tree → ℕ → List ℕ → File → Moment → Tree
 with_named_file t d name f now = with_entry (with_new_file t f) d name t.next now
 
--- a regular file of so many zeros
-abbrev pub after_make_file : Tree → ℕ → List ℕ → ℕ → NewFile → Option (List ℕ) → ℕ → Moment → Tree
-after_make_file t d name size given verifier tag now = with_named_file t d name (new_file (volume_of t d) (Regular (zeros size)) given verifier tag now) now
+-- a regular file with these bytes
+abbrev pub after_make_file : Tree → ℕ → List ℕ → List ℕ → NewFile → Option (List ℕ) → ℕ → Moment → Tree
+after_make_file t d name bytes given verifier tag now = with_named_file t d name (new_file (volume_of t d) (Regular bytes) given verifier tag now) now
 
 -- a directory without entries
 abbrev pub after_make_dir : Tree → ℕ → List ℕ → NewFile → ℕ → Moment → Tree

@@ -13,6 +13,10 @@ pub record IsName (name : List ℕ) : Type 0 where
   pub no_dot : name ≢ 46 ∷ []
   pub no_dot_dot : name ≢ 46 ∷ 46 ∷ []
 
+-- no two entries have one name
+abbrev pub AreApart : List Entry → Type 0
+AreApart entries = AllPairs (λ e g. e.name ≢ g.name) entries
+
 -- what is true of one file alone
 pub record IsSound (f : File) : Type 0 where
   pub mode : f.mode < 4096

@@ -16,8 +16,8 @@ RootsAreReached = (t : Tree) → Law t → (n : ℕ) (f : File) → LivesAsDirec
 
 -- Each operation, where it may be done and with a tag that fits into a handle, leads from a lawful tree to such a one.
 pub record Leads (To : Tree → Tree → Type 0) : Type 0 where
-  pub files : (t : Tree) (d size tag : ℕ) (name : List ℕ) (given : NewFile) (verifier : Option (List ℕ)) (now : Moment)
-      → MayMake t d name size → tag < 2 ^ 32 → Law t → To t (after_make_file t d name size given verifier tag now)
+  pub files : (t : Tree) (d tag : ℕ) (name bytes : List ℕ) (given : NewFile) (verifier : Option (List ℕ)) (now : Moment)
+      → MayMake t d name (length bytes) → tag < 2 ^ 32 → Law t → To t (after_make_file t d name bytes given verifier tag now)
   pub directories : (t : Tree) (d tag : ℕ) (name : List ℕ) (given : NewFile) (now : Moment)
       → MayMakeDirectory t d name → tag < 2 ^ 32 → Law t → To t (after_make_dir t d name given tag now)
   pub links : (t : Tree) (d tag : ℕ) (name path : List ℕ) (given : NewFile) (now : Moment)

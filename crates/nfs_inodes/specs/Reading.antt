@@ -1,5 +1,5 @@
 -- What is read of the tree.
-use Rattle.std.specs.Prelude.{◌≡◌, ℕ, ◌+◌, Bool, List, [], ◌∷◌, ◌++◌, length, nat_lt, bytes_eq, Option, Some, None, option_map, slice_get, map, if◌then◌else◌}
+use Rattle.std.specs.Prelude.{◌≡◌, ℕ, ◌+◌, Bool, true, false, List, [], ◌∷◌, ◌++◌, length, nat_lt, bytes_eq, Option, Some, None, option_map, slice_get, map, if◌then◌else◌}
 use Rattle.std.specs.List.{find}
 use Rattle.nfs_attrs.specs.declared.fattr.Fattr.{Fattr}
 use Rattle.nfs_attrs.specs.declared.file_type.FileType.{FileType}
@@ -58,6 +58,14 @@ type_of (Regular bytes) = file_type.Regular
 type_of (Directory parent next_cookie entries) = file_type.Directory
 type_of (Link path) = file_type.SymbolicLink
 
+abbrev pub is_regular_type : FileType → Bool
+is_regular_type file_type.Regular = true
+is_regular_type other = false
+
+abbrev pub is_directory_type : FileType → Bool
+is_directory_type file_type.Directory = true
+is_directory_type other = false
+
 -- the bytes of a regular file, the bytes of a link's path, and 4096 for a directory
 abbrev pub size_of : Kind → ℕ
 size_of (Regular bytes) = length bytes
@@ -114,12 +122,20 @@ path_at t n = on_some (at n t.files) None (λ f. path_of f.kind)
 abbrev pub verifier_at : Tree → ℕ → Option (List ℕ)
 verifier_at t n = on_some (at n t.files) None (λ f. f.verifier)
 
--- ---- volumes
+-- ---- places
 
 -- the first place whose value passes
 abbrev pub place_where : {X : Type 0} → (X → Bool) → List X → Option ℕ
 place_where p [] = None
 place_where p (x ∷ xs) = if p x then Some 0 else option_map (λ n. n + 1) (place_where p xs)
+
+-- the place of a name among some entries
+abbrev pub place_of_name : List ℕ → List Entry → Option ℕ
+place_of_name name es = place_where (λ (e : Entry). bytes_eq e.name name) es
+
+-- the place of a name in what directory d lists
+abbrev pub place_under : Tree → ℕ → List ℕ → Option ℕ
+place_under t d name = place_of_name name (listing_at t d)
 
 -- the place of the volume of a path
 abbrev pub place_named : Tree → List ℕ → Option ℕ

@@ -1,16 +1,21 @@
 -- What readers lend, as values.
-use Rattle.std.specs.Prelude.{◌≡◌, ℕ, List, Some}
+use Rattle.std.specs.Prelude.{◌≡◌, ℕ, List, Some, map}
 use Rattle.nfs_inodes.specs.Tree.{Tree, Kind, Entry, Volume, bytes_in}
-use Rattle.nfs_inodes.specs.Storage.{kind_of}
+use Rattle.nfs_inodes.specs.Storage.{entry_of, kind_of}
 use Rattle.nfs_inodes.specs.Reading.{attributes_at, kind_at, numbered_files}
 use Rattle.nfs_handles.specs.Handles.{reading, number}
 use Rattle.nfs_handles.specs.declared.reading.Reading.TheVariants.{Live}
 use Rattle.nfs_inodes.specs.declared.directory.EntryView.{EntryView}
+use Rattle.nfs_inodes.specs.declared.directory.Entries.{Entries}
 use Rattle.nfs_inodes.specs.declared.view.FileView.{FileView}
 use Rattle.nfs_inodes.specs.declared.volumes.VolumeView.{VolumeView}
 
 abbrev pub entry_seen : EntryView → Entry
 entry_seen e = record { cookie = e.cookie; name = e.name.now; number = e.number.0 }
+
+-- those that are to come
+abbrev pub entries_left : Entries → List Entry
+entries_left it = map entry_of it.entries.now
 
 abbrev pub volume_seen : VolumeView → Volume
 volume_seen v = record { path = v.path.now; max_bytes = v.max_bytes; max_files = v.max_files; root = v.root.0 }

@@ -6,8 +6,8 @@ ghost use Rattle.nfs_inodes.specs.Changes.{put_bytes, zeros};
 
 use std::alloc::{AllocError, Global};
 
-/// So many zeros. Refused without memory.
-pub(crate) fn zeroed(alloc: Global, size: usize) -> Result<Vec<u8>, AllocError>
+/// The content of a new file of so many bytes: zeros. Refused without memory.
+pub fn zeroed(alloc: Global, size: usize) -> Result<Vec<u8>, AllocError>
     ensures { IfOk result (λ bytes. bytes.items ≡ zeros size) }
 {
     let mut bytes = Vec::new(alloc);

@@ -1,15 +1,23 @@
 //! Directories as they are read.
-ghost use Rattle.std.specs.Prelude.{◌≡◌, ℕ, map, option_map};
+ghost use Rattle.std.specs.Prelude.{◌≡◌, ◌<◌, ℕ, IfSome, bytes_eq, length, map, option_map};
+ghost use Rattle.std.specs.Iterator.{YieldsFirstBy, item_count};
+ghost use Rattle.nfs_inodes.specs.Tree.{entries_in};
+ghost use Rattle.nfs_inodes.specs.Law.{AreApart};
 ghost use Rattle.nfs_inodes.specs.Storage.{entry_of, kind_of};
 ghost use Rattle.nfs_inodes.specs.Reading.{listing, number_named, first_after, number_under};
+ghost use Rattle.nfs_inodes.specs.Reading.{place_of_name, place_under};
 ghost use Rattle.nfs_inodes.specs.Reading.{entry_after, next_cookie_at};
 ghost use Rattle.nfs_inodes.specs.Reading as spec;
-ghost use Rattle.nfs_inodes.specs.Views.{entry_seen};
+ghost use Rattle.nfs_inodes.specs.Views.{entries_left, entry_seen, kind_seen};
 
 use crate::stored_entry::StoredEntry;
 use crate::stored_file::Node;
 use crate::tree::Tree;
+use crate::view::FileView;
 use nfs_handles::number::Number;
+
+// The place of a directory's first entry, behind `.` and `..`.
+const FIRST_ENTRY: usize = 2;
 
 /// An entry of a directory (RFC 1813, section 3.3.16, entry3).
 #[derive(Clone, Copy, Debug)]
@@ -22,6 +30,40 @@ pub struct EntryView<'a> {
     pub number: Number,
 }
 
+/// Gives the entries of a directory in turn, by rising cookies, without `.` and `..`.
+#[derive(Drop)]
+pub struct Entries<'a> {
+    entries: &'a [StoredEntry],
+}
+
+impl<'a> Iterator for Entries<'a> {
+    type Item = EntryView<'a>;
+
+    ghost next_gives = { YieldsFirstBy entry_seen entries_left };
+
+    ghost remaining = { item_count entries_left };
+
+    fn next(&mut self) -> Option<EntryView<'a>> {
+        let (entry, rest) = self.entries.split_first()?;
+        self.entries = rest;
+        Some(entry_view(entry))
+    }
+}
+
+impl<'a> FileView<'a> {
+    /// The entries of this directory. None where it is no directory.
+    pub fn entries(&self) -> Entries<'a>
+        ensures { entries_left result ≡ entries_in (kind_seen self.now) }
+    {
+        match self.node {
+            Node::Directory { entries, .. } => Entries {
+                entries: entries.as_slice(),
+            },
+            _ => Entries { entries: &[] },
+        }
+    }
+}
+
 impl Tree {
     /// The file under a name in directory `dir`; `.` is the directory itself and `..` its parent
     /// (RFC 1813, section 3.3.3). `None` where there is no such name or no directory.
@@ -30,6 +72,20 @@ impl Tree {
     {
         match self.files.get(dir) {
             Some(stored_file) => under_name(&stored_file.node, dir, name),
+            None => None,
+        }
+    }
+
+    /// The file under a name, as `lookup` finds it, and its place in what the directory lists, from
+    /// 0: `.`, `..` and then the entries. The place `hint` is tried first: all of them are only walked
+    /// through where no entry of this name stands there. `None` as `lookup` answers it.
+    pub fn lookup_from(&self, dir: Number, name: &[u8], hint: usize) -> Option<(Number, usize)>
+        ensures number { option_map (λ found. found.0.0) result ≡ number_under self.now dir.0 name.now }
+        ensures place { option_map (λ found. found.1) result ≡ place_under self.now dir.0 name.now }
+    {
+        self.law();
+        match self.files.get(dir) {
+            Some(stored_file) => under_name_from(&stored_file.node, dir, name, hint),
             None => None,
         }
     }
@@ -91,8 +147,52 @@ pub(crate) fn named(entries: &[StoredEntry], name: &[u8]) -> Option<Number>
     ensures { option_map (λ n. n.0) result ≡ number_named name.now (map entry_of entries.now) }
 {
     for entry in entries {
-        if entry.name.as_slice() == name {
+        if is_named(entry, name) {
             return Some(Number(entry.number));
+        }
+    }
+    None
+}
+
+fn under_name_from(node: &Node, dir: Number, name: &[u8], hint: usize) -> Option<(Number, usize)>
+    requires { AreApart (entries_in (kind_of node.now)) }
+    ensures number { option_map (λ found. found.0.0) result ≡ number_named name.now (listing dir.0 (kind_of node.now)) }
+    ensures place { option_map (λ found. found.1) result ≡ place_of_name name.now (listing dir.0 (kind_of node.now)) }
+{
+    match node {
+        Node::Directory {
+            parent,
+            entries,
+            ..
+        } => {
+            if name == b".".as_slice() {
+                Some((dir, 0))
+            } else if name == b"..".as_slice() {
+                Some((Number(*parent), 1))
+            } else {
+                let hint = hint.saturating_sub(FIRST_ENTRY);
+                let (number, place) = named_from(entries.as_slice(), name, hint)?;
+                Some((number, place + FIRST_ENTRY))
+            }
+        }
+        _ => None,
+    }
+}
+
+fn named_from(entries: &[StoredEntry], name: &[u8], hint: usize) -> Option<(Number, usize)>
+    requires { AreApart (map entry_of entries.now) }
+    ensures number { option_map (λ found. found.0.0) result ≡ number_named name.now (map entry_of entries.now) }
+    ensures place { option_map (λ found. found.1) result ≡ place_of_name name.now (map entry_of entries.now) }
+    ensures inside { IfSome result (λ found. found.1 < length entries.now) }
+{
+    if let Some(entry) = entries.get(hint) {
+        if is_named(entry, name) {
+            return Some((Number(entry.number), hint));
+        }
+    }
+    for (place, entry) in entries.iter().enumerate() {
+        if is_named(entry, name) {
+            return Some((Number(entry.number), place));
         }
     }
     None
@@ -132,12 +232,24 @@ fn later(entries: &[StoredEntry], cookie: u64) -> Option<EntryView<'_>>
 {
     for entry in entries {
         if cookie < entry.cookie {
-            return Some(EntryView {
-                cookie: entry.cookie,
-                name: entry.name.as_slice(),
-                number: Number(entry.number),
-            });
+            return Some(entry_view(entry));
         }
     }
     None
+}
+
+fn entry_view(entry: &StoredEntry) -> EntryView<'_>
+    ensures { entry_seen result ≡ entry_of entry.now }
+{
+    EntryView {
+        cookie: entry.cookie,
+        name: entry.name.as_slice(),
+        number: Number(entry.number),
+    }
+}
+
+fn is_named(entry: &StoredEntry, name: &[u8]) -> bool
+    ensures { result ≡ bytes_eq entry.now.name.items name.now }
+{
+    entry.name.as_slice() == name
 }

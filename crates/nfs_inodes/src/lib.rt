@@ -3,7 +3,7 @@
 
 pub mod attributes;
 pub mod conditions;
-mod content;
+pub mod content;
 pub mod content_reader;
 pub mod directory;
 pub mod examples;

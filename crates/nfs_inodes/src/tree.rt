@@ -5,14 +5,14 @@ ghost use Rattle.nfs_inodes.specs.Tree.{Regular, Directory, Link};
 ghost use Rattle.nfs_inodes.specs.Law.{Law};
 ghost use Rattle.nfs_inodes.specs.Changes.{Makes, after_make_file, after_make_dir, after_make_link};
 ghost use Rattle.nfs_inodes.specs.Changes.{after_link, after_write_at, after_add_volume};
-ghost use Rattle.nfs_inodes.specs.Changes.{new_file, zeros, volume_of};
+ghost use Rattle.nfs_inodes.specs.Changes.{new_file, volume_of};
 ghost use Rattle.nfs_inodes.specs.Conditions.{MayMake, MayMakeDirectory, MayMakeLink, MayLink};
 ghost use Rattle.nfs_inodes.specs.Conditions.{MayWrite, Grows, MayAddVolume};
 ghost use Rattle.nfs_inodes.specs.Storage.{file_of, counted_volume_of};
 ghost use Rattle.nfs_inodes.specs.StepConditions.{MayAdd, with_stored_file, HasRoomFor};
 ghost use Rattle.nfs_inodes.specs.Counts.{with_totals};
 
-use crate::content::{copied, zeroed};
+use crate::content::copied;
 use crate::new_file::NewFile;
 use crate::stored_file::{Node, StoredFile};
 use crate::stored_files::{add, link, write};
@@ -73,23 +73,23 @@ impl Tree {
         self.files.next()
     }
 
-    /// A new regular file of `size` zeros, with an entry in directory `dir`. Refused without
-    /// memory, and then the tree is as before.
+    /// A new regular file with this content, which becomes its own, and an entry in directory
+    /// `dir`. Refused without memory, and then the tree is as before and the content is dropped.
     pub fn make_file(
         &mut self,
         dir: Number,
         name: &[u8],
-        size: usize,
+        content: Vec<u8>,
         given: &NewFile,
         verifier: Option<[u8; 8]>,
         now: Moment,
     ) -> Result<Number, AllocError>
-        requires { MayMake self.old dir.0 name.now size }
-        ensures ok { OnOk result (Makes (λ tag. after_make_file self.old dir.0 name.now size given.now verifier tag now) self.new) }
+        requires { MayMake self.old dir.0 name.now (length content.items) }
+        ensures ok { OnOk result (Makes (λ tag. after_make_file self.old dir.0 name.now content.items given.now verifier tag now)
+            self.new) }
         ensures number { IfOk result (λ n. n.0 ≡ self.old.next) }
         ensures err { OnErr result (self.new ≡ self.old) }
     {
-        let content = zeroed(self.alloc, size)?;
         let name = copied(self.alloc, name)?;
         let stored_file = StoredFile::new(
             self.place(dir),

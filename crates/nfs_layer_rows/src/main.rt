@@ -1,12 +1,14 @@
-//! Answers rows about what lies below records: items, credentials, framing, attributes, handles and
-//! the tree of files.
+//! Answers rows about what lies below records: items, credentials, framing, attributes, arguments,
+//! results, handles and the tree of files, which is at first that of the description `e.tree`.
 #![tactic(auto)]
 
+mod arguments;
 mod attributes;
 mod credentials;
 mod framing;
 mod handles;
 mod items;
+mod results;
 mod tree;
 mod views;
 
@@ -15,34 +17,34 @@ use crate::handles::Numbered;
 use crate::items::Written;
 use crate::tree::Served;
 use rows::sheet::{self, Answers};
-use std::alloc::{AllocError, Global};
-use std::io;
+use std::alloc::Global;
 use std::process::ExitCode;
 use std::rt::{Env, Files};
 use std::str::SplitWhitespace;
+use std::{fs, io};
 
 #[derive(Drop)]
-struct Asked {
+struct Asked<'a> {
     alloc: Global,
     written: Written,
     framing: Framing,
     numbered: Numbered,
-    served: Served,
+    served: Served<'a>,
 }
 
-impl Asked {
-    fn new(alloc: Global) -> Result<Asked, AllocError> {
-        Ok(Asked {
+impl<'a> Asked<'a> {
+    fn new(alloc: Global, example: &'a [u8]) -> Option<Asked<'a>> {
+        Some(Asked {
             alloc,
-            written: Written::new(alloc)?,
+            written: Written::new(alloc).ok()?,
             framing: Framing::new(alloc),
             numbered: Numbered::new(alloc),
-            served: Served::new(alloc)?,
+            served: Served::new(alloc, example)?,
         })
     }
 }
 
-impl Answers for Asked {
+impl<'a> Answers for Asked<'a> {
     fn answer(&mut self, verb: &str, words: &mut SplitWhitespace<'_>) -> Option<String> {
         match verb {
             "item" => items::item(self.alloc, words),
@@ -51,6 +53,8 @@ impl Answers for Asked {
             "reader" => items::reader(self.alloc, words),
             "cred" => credentials::answer(self.alloc, words),
             "frame" => self.framing.answer(words),
+            "args" => arguments::answer(self.alloc, words),
+            "result" => results::answer(self.alloc, words),
             "attr" => attributes::answer(self.alloc, words),
             "files" => self.numbered.answer(words),
             "tree" => self.served.answer(words),
@@ -71,6 +75,9 @@ fn main(rt: HostRuntime) -> ExitCode {
 }
 
 fn ask<R: Env + Files + Print + AllocGlobal>(rt: &R) -> io::Result<ExitCode> {
-    let mut asked = Asked::new(rt.alloc())?;
-    sheet::run(rt, &mut asked)
+    let example = fs::read(rt, "e.tree")?;
+    match Asked::new(rt.alloc(), example.as_slice()) {
+        Some(mut asked) => sheet::run(rt, &mut asked),
+        None => Err(io::Error::from(io::ErrorKind::InvalidData)),
+    }
 }

@@ -2,12 +2,13 @@
 
 use nfs_attrs::moment::Moment;
 use nfs_handles::number::Number;
+use nfs_inodes::content::zeroed;
 use nfs_inodes::new_file::NewFile;
 use nfs_inodes::tree::Tree;
-use nfs_server::loaded::tree_e;
+use nfs_load::description::load;
 use rows::answers::{digits, text, told};
 use rows::words::{bytes, name, number, size, word};
-use std::alloc::{AllocError, Global};
+use std::alloc::Global;
 use std::str::SplitWhitespace;
 
 // When everything is done.
@@ -30,17 +31,23 @@ const GIVEN: NewFile = NewFile {
 
 /// A tree that is read and changed.
 #[derive(Drop)]
-pub(crate) struct Served {
+pub(crate) struct Served<'a> {
     alloc: Global,
+    example: &'a [u8],
     tree: Tree,
 }
 
-impl Served {
-    /// The built-in tree.
-    pub(crate) fn new(alloc: Global) -> Result<Served, AllocError> {
-        Ok(Served {
+fn described(alloc: Global, description: &[u8]) -> Option<Tree> {
+    Some(load(alloc, description).ok()?.tree)
+}
+
+impl<'a> Served<'a> {
+    /// The tree of the example.
+    pub(crate) fn new(alloc: Global, example: &'a [u8]) -> Option<Served<'a>> {
+        Some(Served {
             alloc,
-            tree: tree_e(alloc)?.tree,
+            example,
+            tree: described(alloc, example)?,
         })
     }
 
@@ -53,7 +60,7 @@ impl Served {
     pub(crate) fn answer(&mut self, words: &mut SplitWhitespace<'_>) -> Option<String> {
         let verb = words.next()?;
         match verb {
-            "built-in" => self.tree = tree_e(self.alloc).ok()?.tree,
+            "example" => self.tree = described(self.alloc, self.example)?,
             "empty" => self.tree = Tree::new(self.alloc, [0; 8]),
             "make-file"
             | "make-dir"
@@ -197,7 +204,8 @@ fn make_file(alloc: Global, tree: &mut Tree, words: &mut SplitWhitespace<'_>) ->
     if !tree.may_make(dir, name.as_slice(), size) {
         return None;
     }
-    let made = tree.make_file(dir, name.as_slice(), size, &GIVEN, verifier, NOW);
+    let content = zeroed(alloc, size).ok()?;
+    let made = tree.make_file(dir, name.as_slice(), content, &GIVEN, verifier, NOW);
     made.ok().map(|number| number.0)
 }
 

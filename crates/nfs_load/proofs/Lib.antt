@@ -1,2 +1,6 @@
 pub mod Words
 pub mod Numbers
+pub mod Descriptions
+pub mod Contents
+pub mod Writes
+pub mod Entries

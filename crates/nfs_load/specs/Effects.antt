@@ -1,8 +1,10 @@
 -- What the lines of a description do to a tree, each by itself.
-use Rattle.std.specs.Prelude.{◌≡◌, ℕ, List, Option, Some, None, is_some, Result, Ok, Err, if◌then◌else◌}
+use Rattle.std.specs.Prelude.{◌≡◌, ℕ, List, length, Option, Some, None, is_some, Result, Ok, Err, if◌then◌else◌}
 use Rattle.nfs_attrs.specs.declared.moment.Moment.{Moment}
 use Rattle.nfs_inodes.specs.declared.new_file.NewFile.{NewFile}
 use Rattle.nfs_inodes.specs.Tree.{Tree}
+use Rattle.nfs_inodes.specs.Changes.{Makes, after_add_volume, after_make_dir, after_make_file, after_make_link, after_link}
+use Rattle.nfs_inodes.specs.Conditions.{MayAddVolume, MayMakeDirectory, MayMake, MayMakeLink, MayLink}
 use Rattle.nfs_inodes.specs.Reading.{attributes_at, place_named}
 use Rattle.nfs_load.specs.declared.cause.Cause.{Cause}
 use Rattle.nfs_load.specs.declared.cause.Cause.TheVariants.{VolumeTwice, NoTarget, Full}
@@ -10,9 +12,12 @@ use Rattle.nfs_load.specs.declared.refusal.Refusal.{Refusal}
 use Rattle.nfs_load.specs.declared.refusal.Refusal.TheVariants.{Fault, Memory}
 use Rattle.nfs_load.specs.declared.place.Place as kept
 use Rattle.nfs_load.specs.declared.statement.Given.{Given}
+use Rattle.nfs_load.specs.declared.statement.DirLine.{DirLine}
+use Rattle.nfs_load.specs.declared.statement.HardLine.{HardLine}
 use Rattle.nfs_handles.specs.declared.number.Number.{Number}
 use Rattle.nfs_load.specs.Fields.{◌>>=◌}
 use Rattle.nfs_load.specs.Places.{Place, file_at, free_place, is_directory, place_of}
+use Rattle.nfs_load.specs.Statements.{VolumeLine, FileLine, LinkLine}
 
 -- the time of everything that a description makes
 abbrev pub start : Moment
@@ -27,7 +32,7 @@ link_attributes uid gid = attributes (record { mode = 511; uid = uid; gid = gid 
 
 -- a line finds where it is done, or a cause; it is done where it may be, and else the cause is Full; a line that isn't done leaves the tree
 abbrev pub Does : {P : Type 0} → Tree → Result P Cause → (P → Type 0) → (P → Tree → Type 0) → Result Unit Refusal → Tree → Type 0
-Does {P} t found May Made (Ok x) new = (place : P) × (found ≡ Ok place) × Made place new
+Does {P} t found May Made (Ok x) new = (place : P) × (found ≡ Ok place) × May place × Made place new
 Does {P} t found May Made (Err (Fault Full)) new = (place : P) × (found ≡ Ok place) × (May place → ⊥) × (new ≡ t)
 Does {P} t found May Made (Err (Fault cause)) new = (found ≡ Err cause) × (new ≡ t)
 Does {P} t found May Made (Err Memory) new = new ≡ t
@@ -51,3 +56,31 @@ link_place t root path old = do
 abbrev pub links_found : Result (kept.Place × Number) Cause → Result (Place × ℕ) Cause
 links_found (Ok it) = Ok (place_of it.0, it.1.0)
 links_found (Err cause) = Err cause
+
+-- ---- the lines, in the volume of a root
+
+abbrev pub AddsVolume : Tree → VolumeLine → Result Unit Refusal → Tree → Type 0
+AddsVolume t line result new = Does t (free_path t line.path)
+    (λ path. MayAddVolume t path line.max_files)
+    (λ path. Makes (λ tag. after_add_volume t path line.max_bytes line.max_files (attributes line.given) tag start)) result new
+
+abbrev pub MakesDir : Tree → ℕ → DirLine → Result Unit Refusal → Tree → Type 0
+MakesDir t root line result new = Does t (free_place t root line.path)
+    (λ place. MayMakeDirectory t place.dir place.name)
+    (λ place. Makes (λ tag. after_make_dir t place.dir place.name (attributes line.given) tag start)) result new
+
+abbrev pub MakesFile : Tree → ℕ → FileLine → Result Unit Refusal → Tree → Type 0
+MakesFile t root line result new = Does t (free_place t root line.path)
+    (λ place. MayMake t place.dir place.name (length line.content))
+    (λ place. Makes (λ tag. after_make_file t place.dir place.name line.content (attributes line.given) None tag start)) result new
+
+abbrev pub MakesLink : Tree → ℕ → LinkLine → Result Unit Refusal → Tree → Type 0
+MakesLink t root line result new = Does t (free_place t root line.path)
+    (λ place. MayMakeLink t place.dir place.name line.target)
+    (λ place. Makes (λ tag. after_make_link t place.dir place.name line.target (link_attributes line.uid line.gid) tag start)) result new
+
+-- a further name of a file
+abbrev pub AddsName : Tree → ℕ → HardLine → Result Unit Refusal → Tree → Type 0
+AddsName t root line result new = Does t (link_place t root line.path line.old)
+    (λ it. MayLink t it.1 it.0.dir it.0.name)
+    (λ it u. u ≡ after_link t it.1 it.0.dir it.0.name start) result new

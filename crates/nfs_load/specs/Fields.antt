@@ -11,6 +11,7 @@ use Rattle.nfs_exports.specs.Patterns.{pattern_of}
 use Rattle.nfs_exports.specs.declared.options.Options.{Options}
 use Rattle.nfs_exports.specs.declared.options.OptionsFault.{OptionsFault}
 use Rattle.nfs_exports.specs.declared.pattern.Pattern.{Pattern}
+use Rattle.nfs_inodes.specs.Limits.{max_file_bytes, max_path_bytes}
 use Rattle.nfs_load.specs.declared.cause.Cause.{Cause}
 use Rattle.nfs_load.specs.declared.refusal.Refusal.{Refusal}
 use Rattle.nfs_load.specs.declared.refusal.Refusal.TheVariants.{Fault, Memory}
@@ -44,7 +45,7 @@ number_in min max field = at_least min (decimal_of max field)
 
 -- what a symbolic link holds: at most 1,024 bytes
 abbrev pub target_in : List ℕ → Result (List ℕ) Cause
-target_in field = if nat_le (length field) 1024 then Ok field else Err BadContent
+target_in field = if nat_le (length field) max_path_bytes then Ok field else Err BadContent
 
 abbrev pub found_pattern : Option Pattern → Result Pattern Cause
 found_pattern None = Err BadPattern
@@ -61,7 +62,7 @@ abbrev pub options_in : List ℕ → Result Options Cause
 options_in field = options_or_cause (parse_options field)
 
 abbrev pub within : Result (List ℕ) FromHexError → Result (List ℕ) Cause
-within (Ok content) = if nat_le (length content) 16777216 then Ok content else Err BadContent
+within (Ok content) = if nat_le (length content) max_file_bytes then Ok content else Err BadContent
 within (Err e) = Err BadContent
 
 -- two hexadecimal digits for each of at most 16,777,216 bytes, or `-` for none

@@ -4,3 +4,6 @@ pub mod Paths
 pub mod Statements
 pub mod Places
 pub mod Effects
+pub mod Errors
+pub mod Descriptions
+pub mod Listings

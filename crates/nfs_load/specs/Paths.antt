@@ -2,6 +2,7 @@
 use Rattle.std.specs.Prelude.{ℕ, Bool, not, ◌&&◌, ◌||◌, List, [], ◌∷◌, length, Option, Some, None, is_some, Result, Ok, Err, if◌then◌else◌, nat_eq, nat_lt, nat_le, bytes_eq, codes}
 use Rattle.std.specs.List.{list_all, list_any}
 use Rattle.nfs_text.specs.Pieces.{pieces}
+use Rattle.nfs_inodes.specs.Limits.{max_name_bytes, max_volume_path_bytes}
 use Rattle.nfs_load.specs.declared.cause.Cause.{Cause}
 use Rattle.nfs_load.specs.declared.cause.Cause.TheVariants.{BadPath, BadVolumePath}
 
@@ -11,7 +12,7 @@ has_percent name = list_any (λ byte. nat_eq byte 37) name
 
 -- 1 to 255 bytes, none `%`, neither `.` nor `..`
 abbrev pub is_name : List ℕ → Bool
-is_name name = (nat_lt 0 (length name) && nat_le (length name) 255) && ((not (bytes_eq name (codes ".")) && not (bytes_eq name (codes ".."))) && not (has_percent name))
+is_name name = (nat_lt 0 (length name) && nat_le (length name) max_name_bytes) && ((not (bytes_eq name (codes ".")) && not (bytes_eq name (codes ".."))) && not (has_percent name))
 
 -- what stands behind a path's first slash
 abbrev pub behind_slash : List ℕ → Option (List ℕ)
@@ -27,7 +28,7 @@ abbrev pub path_in : List ℕ → Result (List (List ℕ)) Cause
 path_in field = named_path (behind_slash field)
 
 abbrev pub is_volume_path : List ℕ → Bool
-is_volume_path field = bytes_eq field (codes "/") || (nat_le (length field) 255 && is_some (behind_slash field))
+is_volume_path field = bytes_eq field (codes "/") || (nat_le (length field) max_volume_path_bytes && is_some (behind_slash field))
 
 -- the slash alone, or a path of at most 255 bytes
 abbrev pub volume_path_in : List ℕ → Result (List ℕ) Cause

@@ -1,10 +1,8 @@
 -- Where a path leads in a tree, from a directory on.
-use Rattle.std.specs.Prelude.{ℕ, Bool, true, false, List, [], ◌∷◌, Option, Some, None, is_some, Result, Ok, Err, if◌then◌else◌}
+use Rattle.std.specs.Prelude.{ℕ, Bool, false, List, [], ◌∷◌, Option, Some, None, is_some, Result, Ok, Err, if◌then◌else◌}
 use Rattle.nfs_attrs.specs.declared.fattr.Fattr.{Fattr}
-use Rattle.nfs_attrs.specs.declared.file_type.FileType.{FileType}
-use Rattle.nfs_attrs.specs.declared.file_type.FileType.TheVariants.{Regular, Directory, BlockDevice, CharacterDevice, SymbolicLink, Socket, Fifo}
 use Rattle.nfs_inodes.specs.Tree.{Tree, on_some}
-use Rattle.nfs_inodes.specs.Reading.{attributes_at, number_under}
+use Rattle.nfs_inodes.specs.Reading.{attributes_at, is_directory_type, number_under}
 use Rattle.nfs_load.specs.declared.cause.Cause.{Cause}
 use Rattle.nfs_load.specs.declared.cause.Cause.TheVariants.{NoParent, NameTaken}
 use Rattle.nfs_load.specs.declared.place.Place as kept
@@ -13,15 +11,6 @@ use Rattle.nfs_load.specs.declared.place.Place as kept
 pub record Place : Type 0 where
   pub dir : ℕ
   pub name : List ℕ
-
-abbrev pub is_directory_type : FileType → Bool
-is_directory_type Regular = false
-is_directory_type Directory = true
-is_directory_type BlockDevice = false
-is_directory_type CharacterDevice = false
-is_directory_type SymbolicLink = false
-is_directory_type Socket = false
-is_directory_type Fifo = false
 
 -- whether a file with these attributes is a directory
 abbrev pub is_directory : Option Fattr → Bool

@@ -1,18 +1,14 @@
 //! What a line does to the tree.
 ghost use Rattle.std.specs.Prelude.{◌≡◌};
-ghost use Rattle.nfs_inodes.specs.Changes.{Makes, after_add_volume, after_link, after_make_dir};
-ghost use Rattle.nfs_inodes.specs.Changes.{after_make_link};
-ghost use Rattle.nfs_inodes.specs.Conditions.{MayAddVolume, MayLink, MayMakeDirectory};
-ghost use Rattle.nfs_inodes.specs.Conditions.{MayMakeLink};
-ghost use Rattle.nfs_load.specs.Places.{free_place};
-ghost use Rattle.nfs_load.specs.Effects.{Does, attributes, free_path, link_attributes, link_place, links_found};
-ghost use Rattle.nfs_load.specs.Effects.{start};
+ghost use Rattle.nfs_load.specs.Statements.{file_of, link_of, volume_of};
+ghost use Rattle.nfs_load.specs.Effects.{AddsName, AddsVolume, MakesDir, MakesFile, MakesLink};
+ghost use Rattle.nfs_load.specs.Effects.{attributes, link_place, links_found};
 
 use crate::cause::Cause;
 use crate::path::Path;
-use crate::place::{Place, find_file, find_free_place, holds_names};
+use crate::place::{Hints, Place, find_file, find_free_place, is_directory};
 use crate::refusal::Refusal;
-use crate::statement::{DirLine, Given, HardLine, LinkLine, VolumeLine};
+use crate::statement::{DirLine, FileLine, Given, HardLine, LinkLine, VolumeLine};
 use nfs_attrs::moment::Moment;
 use nfs_handles::number::Number;
 use nfs_inodes::new_file::NewFile;
@@ -30,8 +26,7 @@ const LINK_MODE: u32 = 0o777;
 /// A `volume` line: one volume more, with its root. The first of these: `VolumeTwice` where one of
 /// this path is there, `Full` where no more may be added, `Memory`.
 pub fn add_volume(tree: &mut Tree, line: &VolumeLine<'_>) -> Result<(), Refusal>
-    ensures { Does tree.old (free_path tree.old line.now.path.now) (λ path. MayAddVolume tree.old path line.now.max_files)
-        (λ path. Makes (λ tag. after_add_volume tree.old path line.now.max_bytes line.now.max_files (attributes line.now.given) tag start)) result tree.new }
+    ensures { AddsVolume tree.old (volume_of line.now) result tree.new }
 {
     if tree.volume_named(line.path).is_some() {
         return Err(Refusal::Fault(Cause::VolumeTwice));
@@ -46,11 +41,15 @@ pub fn add_volume(tree: &mut Tree, line: &VolumeLine<'_>) -> Result<(), Refusal>
 
 /// A `dir` line, in the volume of this root: a new directory. The first of these: `NoParent`,
 /// `NameTaken`, `Full` where no directory may be made there, `Memory`.
-pub fn make_dir(tree: &mut Tree, root: Number, line: &DirLine<'_>) -> Result<(), Refusal>
-    ensures { Does tree.old (free_place tree.old root.0 line.now.path) (λ place. MayMakeDirectory tree.old place.dir place.name)
-        (λ place. Makes (λ tag. after_make_dir tree.old place.dir place.name (attributes line.now.given) tag start)) result tree.new }
+pub fn make_dir(
+    tree: &mut Tree,
+    hints: &mut Hints,
+    root: Number,
+    line: &DirLine<'_>,
+) -> Result<(), Refusal>
+    ensures { MakesDir tree.old root.0 line.now result tree.new }
 {
-    let place = find_free_place(tree, root, &line.path)?;
+    let place = find_free_place(tree, hints, root, &line.path)?;
     if !tree.may_make_dir(place.dir, place.name) {
         return Err(Refusal::Fault(Cause::Full));
     }
@@ -58,13 +57,42 @@ pub fn make_dir(tree: &mut Tree, root: Number, line: &DirLine<'_>) -> Result<(),
     Ok(())
 }
 
+/// A `file` line, in the volume of this root: a new regular file, whose content becomes the
+/// line's. The first of these: `NoParent`, `NameTaken`, `Full` where no file of this content may be
+/// made there, `Memory`.
+pub fn make_file(
+    tree: &mut Tree,
+    hints: &mut Hints,
+    root: Number,
+    line: FileLine<'_>,
+) -> Result<(), Refusal>
+    ensures { MakesFile tree.old root.0 (file_of line.entry) result tree.new }
+{
+    let FileLine {
+        path,
+        given,
+        content,
+    } = line;
+    let place = find_free_place(tree, hints, root, &path)?;
+    if !tree.may_make(place.dir, place.name, content.len()) {
+        return Err(Refusal::Fault(Cause::Full));
+    }
+    let given = attributes_of(given);
+    tree.make_file(place.dir, place.name, content, &given, None, START)?;
+    Ok(())
+}
+
 /// A `link` line, in the volume of this root: a new symbolic link. The first of these: `NoParent`,
 /// `NameTaken`, `Full` where no link may be made there, `Memory`.
-pub fn make_link(tree: &mut Tree, root: Number, line: &LinkLine<'_>) -> Result<(), Refusal>
-    ensures { Does tree.old (free_place tree.old root.0 line.now.path) (λ place. MayMakeLink tree.old place.dir place.name line.now.target.now)
-        (λ place. Makes (λ tag. after_make_link tree.old place.dir place.name line.now.target.now (link_attributes line.now.uid line.now.gid) tag start)) result tree.new }
+pub fn make_link(
+    tree: &mut Tree,
+    hints: &mut Hints,
+    root: Number,
+    line: &LinkLine<'_>,
+) -> Result<(), Refusal>
+    ensures { MakesLink tree.old root.0 (link_of line.now) result tree.new }
 {
-    let place = find_free_place(tree, root, &line.path)?;
+    let place = find_free_place(tree, hints, root, &line.path)?;
     if !tree.may_make_link(place.dir, place.name, line.target) {
         return Err(Refusal::Fault(Cause::Full));
     }
@@ -80,11 +108,15 @@ pub fn make_link(tree: &mut Tree, root: Number, line: &LinkLine<'_>) -> Result<(
 /// A `hard` line, in the volume of this root: a further name of a file. The first of these:
 /// `NoParent`, `NameTaken`, `NoTarget` where the other path names no file or a directory, `Full`
 /// where no such name may be added, `Memory`.
-pub fn add_name(tree: &mut Tree, root: Number, line: &HardLine<'_>) -> Result<(), Refusal>
-    ensures { Does tree.old (link_place tree.old root.0 line.now.path line.now.old) (λ it. MayLink tree.old it.1 it.0.dir it.0.name)
-        (λ it new. new ≡ after_link tree.old it.1 it.0.dir it.0.name start) result tree.new }
+pub fn add_name(
+    tree: &mut Tree,
+    hints: &mut Hints,
+    root: Number,
+    line: &HardLine<'_>,
+) -> Result<(), Refusal>
+    ensures { AddsName tree.old root.0 line.now result tree.new }
 {
-    let (place, file) = find_link_place(tree, root, &line.path, &line.old)?;
+    let (place, file) = find_link_place(tree, hints, root, &line.path, &line.old)?;
     if !tree.may_link(file, place.dir, place.name) {
         return Err(Refusal::Fault(Cause::Full));
     }
@@ -95,17 +127,18 @@ pub fn add_name(tree: &mut Tree, root: Number, line: &HardLine<'_>) -> Result<()
 // A free place, and a file that is no directory.
 fn find_link_place<'a>(
     tree: &Tree,
+    hints: &mut Hints,
     root: Number,
     path: &Path<'a>,
     old: &Path<'_>,
 ) -> Result<(Place<'a>, Number), Cause>
     ensures { links_found result ≡ link_place tree.now root.0 path.now old.now }
 {
-    let place = find_free_place(tree, root, path)?;
-    let Some(file) = find_file(tree, root, old) else {
+    let place = find_free_place(tree, hints, root, path)?;
+    let Some(file) = find_file(tree, hints, root, old) else {
         return Err(Cause::NoTarget);
     };
-    if holds_names(tree, file) {
+    if is_directory(tree, file) {
         return Err(Cause::NoTarget);
     }
     Ok((place, file))

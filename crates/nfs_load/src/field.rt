@@ -3,7 +3,7 @@ ghost use Rattle.std.specs.Prelude.{◌≡◌};
 ghost use Rattle.nfs_load.specs.Fields.{content_in, key_in, mode_in, number_in, GivesIfRoom};
 
 use crate::cause::Cause;
-use crate::limits::{MAX_CONTENT_BYTES, MAX_MODE_DIGITS};
+use crate::limits::{MAX_CONTENT_DIGITS, MAX_MODE_DIGITS};
 use crate::refusal::Refusal;
 use nfs_text::number::decimal;
 use std::alloc::Global;
@@ -55,9 +55,12 @@ pub fn read_content(alloc: Global, field: &[u8]) -> Result<Vec<u8>, Refusal>
     if field == b"-".as_slice() {
         return Ok(Vec::new(alloc));
     }
+    if field.len() > MAX_CONTENT_DIGITS {
+        return Err(Refusal::Fault(Cause::BadContent));
+    }
     match hex::decode(alloc, field) {
-        Ok(content) if content.len() <= MAX_CONTENT_BYTES => Ok(content),
+        Ok(content) => Ok(content),
         Err(hex::FromHexError::OutOfMemory) => Err(Refusal::Memory),
-        _ => Err(Refusal::Fault(Cause::BadContent)),
+        Err(_) => Err(Refusal::Fault(Cause::BadContent)),
     }
 }

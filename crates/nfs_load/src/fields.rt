@@ -6,11 +6,12 @@ ghost use Rattle.nfs_load.specs.Paths.{path_in, volume_path_in};
 
 use crate::cause::Cause;
 use crate::field::{read_content, read_key, read_mode, read_number};
-use crate::limits::{MAX_ID, MAX_LINK_BYTES};
+use crate::limits::MAX_ID;
 use crate::path::{Path, read_path, read_volume_path};
 use crate::refusal::Refusal;
 use nfs_exports::options::{Options, parse_options};
 use nfs_exports::pattern::{Pattern, parse_pattern};
+use nfs_inodes::limits::MAX_PATH_BYTES;
 use nfs_text::words::Words;
 use std::alloc::Global;
 use std::marker::Model;
@@ -96,7 +97,7 @@ impl<'a> Fields<'a> {
         ensures { Takes (λ text. text.now) self.new result (by target_in self.old) }
     {
         let target = self.next()?;
-        if target.len() > MAX_LINK_BYTES {
+        if target.len() > MAX_PATH_BYTES {
             return Err(Cause::BadContent);
         }
         Ok(target)

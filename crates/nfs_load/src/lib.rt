@@ -1,12 +1,17 @@
-//! What a description of volumes, files and exports says: one line at a time.
+//! Descriptions of volumes, files and exports, and the listing of a tree.
 #![tactic(auto)]
 
 pub mod cause;
 pub mod changes;
+pub mod description;
 pub mod field;
 pub mod fields;
 pub mod limits;
 pub mod line;
+pub mod listing;
+mod listing_line;
+pub mod load_error;
+pub mod loaded;
 pub mod path;
 pub mod place;
 pub mod refusal;

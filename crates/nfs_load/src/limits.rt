@@ -1,13 +1,9 @@
-//! The limits of a description's fields.
+//! The limits of a description's fields, beside those of the tree.
+
+use nfs_inodes::limits::MAX_FILE_BYTES;
 
 /// The most bytes of a path.
 pub const MAX_PATH_BYTES: usize = 1_024;
-
-/// The most bytes of a name in a path.
-pub const MAX_NAME_BYTES: usize = 255;
-
-/// The most bytes of a volume's path.
-pub const MAX_VOLUME_PATH_BYTES: usize = 255;
 
 /// The most digits of a mode.
 pub const MAX_MODE_DIGITS: usize = 4;
@@ -21,8 +17,8 @@ pub const MAX_FILES: u64 = 1_000_000;
 /// The largest number of a user or a group.
 pub const MAX_ID: u64 = 4_294_967_295;
 
-/// The most bytes of a symbolic link's path.
-pub const MAX_LINK_BYTES: usize = 1_024;
+/// The most digits that say the bytes of a regular file, two for each.
+pub const MAX_CONTENT_DIGITS: usize = 2 * MAX_FILE_BYTES;
 
-/// The most bytes of a regular file.
-pub const MAX_CONTENT_BYTES: usize = 16_777_216;
+/// The room for a line of a listing: a name of 255 bytes at three digits each, and two numbers.
+pub const MAX_LINE_BYTES: usize = 1_024;

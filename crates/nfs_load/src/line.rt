@@ -1,6 +1,6 @@
 //! The lines of a description: which are looked at, and what each asks for.
-ghost use Rattle.std.specs.Prelude.{◌≡◌, length};
-ghost use Rattle.nfs_text.specs.Words.{words};
+ghost use Rattle.std.specs.Prelude.{◌≡◌, ◌<◌, ◌^◌, length};
+ghost use Rattle.nfs_text.specs.Words.{words_left};
 ghost use Rattle.nfs_load.specs.Lines as spec;
 ghost use Rattle.nfs_load.specs.Lines.{asked, keyword_named, shape};
 
@@ -55,7 +55,7 @@ pub fn read_line(line: &[u8]) -> Result<Option<Line<'_>>, Cause>
     let Some(keyword) = keyword_of(word) else {
         return Err(Cause::UnknownWord);
     };
-    if !takes(keyword, count_words(line) - 1) {
+    if !takes(keyword, count_words(fields)) {
         return Err(Cause::FieldCount);
     }
     Ok(Some(Line { keyword, fields }))
@@ -119,12 +119,14 @@ fn takes(keyword: Keyword, count: usize) -> bool
     }
 }
 
-fn count_words(line: &[u8]) -> usize
-    ensures { result ≡ length (words line.now) }
+// How many words are to come.
+fn count_words(words: Words<'_>) -> usize
+    requires { length (words_left words) < 2 ^ 64 }
+    ensures { result ≡ length (words_left words.entry) }
 {
-    let mut words = Words::new(line);
+    let mut left = words;
     let mut count = 0;
-    while words.next().is_some() {
+    while left.next().is_some() {
         count += 1;
     }
     count

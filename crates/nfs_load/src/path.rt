@@ -7,7 +7,8 @@ ghost use Rattle.nfs_load.specs.Paths as spec;
 ghost use Rattle.nfs_load.specs.Paths.{path_in, volume_path_in};
 
 use crate::cause::Cause;
-use crate::limits::{MAX_NAME_BYTES, MAX_PATH_BYTES, MAX_VOLUME_PATH_BYTES};
+use crate::limits::MAX_PATH_BYTES;
+use nfs_inodes::limits::{MAX_NAME_BYTES, MAX_VOLUME_PATH_BYTES};
 use nfs_text::pieces::Pieces;
 use std::marker::Model;
 

@@ -1,6 +1,9 @@
 //! Why a line is not done.
+ghost use Rattle.std.specs.Prelude.{◌≡◌};
+ghost use Rattle.nfs_load.specs.Errors.{told_at};
 
 use crate::cause::Cause;
+use crate::load_error::LoadError;
 use std::alloc::AllocError;
 use thiserror::Error;
 
@@ -13,6 +16,18 @@ pub enum Refusal {
     /// There is no memory for what it says.
     #[error("out of memory")]
     Memory,
+}
+
+impl Refusal {
+    /// The same for the line of this number.
+    pub fn at(self, line: u64) -> LoadError
+        ensures { result ≡ told_at line self }
+    {
+        match self {
+            Refusal::Fault(cause) => LoadError::Fault { line, cause },
+            Refusal::Memory => LoadError::Memory,
+        }
+    }
 }
 
 impl From<Cause> for Refusal {

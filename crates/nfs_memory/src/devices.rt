@@ -1,5 +1,9 @@
 //! Devices that take much, and devices that fail.
+use crate::described::loaded;
+use nfs_inodes::tree::Tree;
+use nfs_load::listing::{WriteFault, listing};
 use nfs_xdr::device::{ByteIn, ByteOut, Device};
+use nfs_xdr::stutter::Stutter;
 use std::alloc::{AllocError, Global};
 use std::io::{self, ErrorKind, Read, Write};
 use std::test::Fail;
@@ -59,4 +63,39 @@ fn calls() -> Option<(u32, u32)> {
 #[test]
 fn a_device_that_failed_is_not_called_again(rt: HostRuntime) {
     assert!(rt; calls() == Some((1, 1)));
+}
+
+// A listing to a device that takes 7 bytes a call and fails at call `last + 1`, and what it took.
+fn listed(alloc: Global, tree: &Tree, last: u32) -> (Result<(), WriteFault>, Vec<u8>) {
+    let inner = Device::new(Vec::new(alloc));
+    let mut out = Stutter::new(inner, 7, u64::from(last) + 1);
+    let done = listing(tree, &mut out);
+    (done, out.into_inner().into_inner())
+}
+
+// How often a listing failed, each time with its first bytes written, until it was written whole.
+fn broken_listings(alloc: Global) -> Result<Option<u32>, AllocError> {
+    let loaded = loaded(alloc)?;
+    let (_, whole) = listed(alloc, &loaded.tree, u32::MAX);
+    for last in 0..1_000 {
+        let (done, part) = listed(alloc, &loaded.tree, last);
+        if !whole.as_slice().starts_with(part.as_slice()) {
+            return Ok(None);
+        }
+        if done.is_ok() {
+            return Ok(if part.len() == whole.len() {
+                Some(last)
+            } else {
+                None
+            });
+        }
+    }
+    Ok(None)
+}
+
+#[test]
+fn a_listing_to_a_device_that_fails_is_cut(rt: HostRuntime) -> Result<(), Fail> {
+    let broken = broken_listings(rt.alloc())?;
+    assert!(rt; broken.is_some_and(|count| count > 0));
+    Ok(())
 }

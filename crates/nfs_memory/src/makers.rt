@@ -1,10 +1,10 @@
 //! What is made, and files that are numbered, without memory.
 use crate::ROUNDS;
+use crate::described::loaded;
 use ballast::Ballast;
 use nfs_handles::fault::PutFault;
 use nfs_handles::files::Files;
 use nfs_handles::number::Number;
-use nfs_server::loaded::tree_e;
 use nfs_server::reply_buf::ReplyBuf;
 use nfs_server::server::Server;
 use nfs_server::sessions::Sessions;
@@ -29,7 +29,7 @@ fn is_made(alloc: Global, maker: Maker) -> bool {
 }
 
 fn sessions(alloc: Global) -> Result<Sessions, AllocError> {
-    let server = Server::new(alloc, tree_e(alloc)?, 128)?;
+    let server = Server::new(alloc, loaded(alloc)?, 128)?;
     Sessions::new(alloc, server)
 }
 

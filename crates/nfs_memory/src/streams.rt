@@ -1,10 +1,10 @@
 //! Framers and connections without memory for a record.
 use crate::ROUNDS;
+use crate::described::loaded;
 use ballast::Ballast;
 use nfs_attrs::moment::Moment;
+use nfs_exports::addr::Addr;
 use nfs_rpc::framer::{Fed, FrameFault, Framer};
-use nfs_server::event::Addr;
-use nfs_server::loaded::tree_e;
 use nfs_server::server::Server;
 use nfs_server::sessions::{SessionFault, Sessions};
 use nfs_xdr::device::Device;
@@ -77,7 +77,7 @@ fn fed(
 
 // How often a connection ended until there was memory for the record.
 fn connections(alloc: Global) -> Result<Option<u32>, AllocError> {
-    let server = Server::new(alloc, tree_e(alloc)?, 128)?;
+    let server = Server::new(alloc, loaded(alloc)?, 128)?;
     let mut sessions = Sessions::new(alloc, server)?;
     let mut ballast = Ballast::new(alloc)?;
     for refused in 0..ROUNDS {

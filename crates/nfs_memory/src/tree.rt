@@ -1,13 +1,14 @@
 //! Each growth of the tree refused in turn.
 use crate::ROUNDS;
+use crate::described::loaded;
 use ballast::Ballast;
 use nfs_attrs::fattr::Fattr;
 use nfs_attrs::moment::Moment;
 use nfs_handles::number::Number;
+use nfs_inodes::content::zeroed;
 use nfs_inodes::new_file::NewFile;
 use nfs_inodes::tree::Tree;
 use nfs_inodes::volumes::Totals;
-use nfs_server::loaded::tree_e;
 use std::alloc::{AllocError, Global};
 use std::test::Fail;
 
@@ -50,11 +51,11 @@ fn look(tree: &Tree) -> Seen {
 }
 
 // One operation of each kind, by its number.
-fn operate(tree: &mut Tree, operation: u32) -> Result<(), AllocError> {
+fn operate(alloc: Global, tree: &mut Tree, operation: u32) -> Result<(), AllocError> {
     let dir = Number(2);
     match operation {
         0 if tree.may_make(dir, b"y", 100) => {
-            tree.make_file(dir, b"y", 100, &GIVEN, None, NOW)?;
+            tree.make_file(dir, b"y", zeroed(alloc, 100)?, &GIVEN, None, NOW)?;
         }
         1 if tree.may_make_dir(dir, b"y") => {
             tree.make_dir(dir, b"y", &GIVEN, NOW)?;
@@ -75,11 +76,11 @@ fn operate(tree: &mut Tree, operation: u32) -> Result<(), AllocError> {
 // How often the operation was refused until there was memory; none where it was refused and had
 // changed what is seen, or did nothing.
 fn refusals(alloc: Global, operation: u32) -> Result<Option<u32>, AllocError> {
-    let mut tree = tree_e(alloc)?.tree;
+    let mut tree = loaded(alloc)?.tree;
     let before = look(&tree);
     let mut ballast = Ballast::new(alloc)?;
     for refused in 0..ROUNDS {
-        if operate(&mut tree, operation).is_ok() {
+        if operate(alloc, &mut tree, operation).is_ok() {
             return Ok(if look(&tree) == before {
                 None
             } else {

@@ -1,19 +1,17 @@
 //! Calls, as whole records.
 
-use crate::description::{counted, export, make};
+use crate::description::{counted, push_counting, push_line};
 use crate::kept::Kept;
 use crate::record::{Record, record_of};
 use nfs_handles::number::Number;
 use nfs_inodes::tree::Tree;
+use nfs_load::description::load;
 use nfs_server::event::{Event, Handled};
-use nfs_server::exports::Table;
-use nfs_server::loaded::{Loaded, tree_e};
 use nfs_server::reply_buf::ReplyBuf;
 use nfs_server::server::Server;
 use rows::answers::{digits, text, then, told, with};
 use rows::words::{size, word};
-use std::alloc::{AllocError, Global};
-use std::mem;
+use std::alloc::Global;
 use std::str::SplitWhitespace;
 
 // What stands before the status: the reply's head is that of a call that is accepted and done.
@@ -22,23 +20,30 @@ const DONE: [u8; 20] = [0, 0, 0, 1, 0, 0, 0, 0, 0, 0, 0, 0, 0, 0, 0, 0, 0, 0, 0,
 // How many bytes stand before those that a READ brings.
 const BEFORE_DATA: usize = 128;
 
-/// A server that is asked, and the description that the next one serves.
+/// A server that is asked, and the lines of the description that the next one serves.
 #[derive(Drop)]
-pub(crate) struct Calls {
+pub(crate) struct Calls<'a> {
     alloc: Global,
-    loaded: Loaded,
+    example: &'a [u8],
+    lines: Vec<u8>,
     server: Server,
     reply: ReplyBuf,
 }
 
-impl Calls {
-    /// A server of the built-in description.
-    pub(crate) fn new(alloc: Global) -> Result<Calls, AllocError> {
-        Ok(Calls {
+fn server(alloc: Global, description: &[u8], cache: usize) -> Option<Server> {
+    let loaded = load(alloc, description).ok()?;
+    Server::new(alloc, loaded, cache.clamp(1, 1024)).ok()
+}
+
+impl<'a> Calls<'a> {
+    /// A server of the example.
+    pub(crate) fn new(alloc: Global, example: &'a [u8]) -> Option<Calls<'a>> {
+        Some(Calls {
             alloc,
-            loaded: tree_e(alloc)?,
-            server: Server::new(alloc, tree_e(alloc)?, 128)?,
-            reply: ReplyBuf::new(alloc)?,
+            example,
+            lines: Vec::new(alloc),
+            server: server(alloc, example, 128)?,
+            reply: ReplyBuf::new(alloc).ok()?,
         })
     }
 
@@ -52,9 +57,8 @@ impl Calls {
             "clear" => self.clear(),
             "run" => self.run(words),
             "kept" => self.kept(),
-            "bare" => self.bare(),
-            "export" => self.export(words),
-            "make" => self.make(words),
+            "line" => self.line(words),
+            "counting" => self.counting(words),
             "serve" => self.serve(words),
             _ => None,
         }
@@ -134,36 +138,34 @@ impl Calls {
         then(told(self.alloc, done)?, kept.text())
     }
 
-    // `kept`: whether the tree is that of the built-in description.
+    // `kept`: whether the tree is that of the example.
     fn kept(&self) -> Option<String> {
-        let built = tree_e(self.alloc).ok()?;
-        told(self.alloc, is_same(self.server.tree(), &built.tree))
+        let example = load(self.alloc, self.example).ok()?;
+        told(self.alloc, is_same(self.server.tree(), &example.tree))
     }
 
-    // `bare`: the built-in files are exported to nobody.
-    fn bare(&mut self) -> Option<String> {
-        self.loaded.table = Table::new(self.alloc);
+    // `line WORD..`: a line of the next description.
+    fn line(&mut self, words: &mut SplitWhitespace<'_>) -> Option<String> {
+        push_line(&mut self.lines, words)?;
         text(self.alloc, "done")
     }
 
-    // `export ..`: one export more.
-    fn export(&mut self, words: &mut SplitWhitespace<'_>) -> Option<String> {
-        self.loaded.table.add(export(words)?).ok()?;
+    // `counting PATH MODE UID GID SIZE`: the line of a file of so many bytes, which count.
+    fn counting(&mut self, words: &mut SplitWhitespace<'_>) -> Option<String> {
+        push_counting(self.alloc, &mut self.lines, words)?;
         text(self.alloc, "done")
     }
 
-    // `make ..`: one file more; its number.
-    fn make(&mut self, words: &mut SplitWhitespace<'_>) -> Option<String> {
-        let number = make(self.alloc, &mut self.loaded.tree, words)?;
-        told(self.alloc, number)
-    }
-
-    // `serve REPLIES`: a new server of what was described, which keeps so many replies; the reply
-    // that stands in its room. The next description begins as the built-in one.
+    // `serve REPLIES`: a new server of the description, or of the example where there is none,
+    // which keeps so many replies; the reply that stands in its room.
     fn serve(&mut self, words: &mut SplitWhitespace<'_>) -> Option<String> {
-        let cache = size(words)?.clamp(1, 1024);
-        let loaded = mem::replace(&mut self.loaded, tree_e(self.alloc).ok()?);
-        self.server = Server::new(self.alloc, loaded, cache).ok()?;
+        let cache = size(words)?;
+        self.server = if self.lines.is_empty() {
+            server(self.alloc, self.example, cache)?
+        } else {
+            server(self.alloc, self.lines.as_slice(), cache)?
+        };
+        self.lines.clear();
         self.reply = ReplyBuf::new(self.alloc).ok()?;
         digits(self.alloc, self.reply.bytes())
     }

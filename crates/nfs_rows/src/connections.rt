@@ -3,21 +3,22 @@
 use crate::kept::Kept;
 use crate::record::{bytes, moment, record_of};
 use nfs_attrs::moment::Moment;
-use nfs_server::event::Addr;
-use nfs_server::loaded::tree_e;
+use nfs_exports::addr::Addr;
+use nfs_load::description::load;
 use nfs_server::server::Server;
 use nfs_server::sessions::Sessions;
 use nfs_xdr::device::Device;
 use nfs_xdr::stutter::Stutter;
 use rows::answers::{digits, text, then, told};
 use rows::words::{address, number, size, word};
-use std::alloc::{AllocError, Global};
+use std::alloc::Global;
 use std::str::SplitWhitespace;
 
-/// A server of the built-in description, with its connection.
+/// A server of the example, with its connection.
 #[derive(Drop)]
-pub(crate) struct Connections {
+pub(crate) struct Connections<'a> {
     alloc: Global,
+    example: &'a [u8],
     sessions: Sessions,
 }
 
@@ -29,17 +30,18 @@ struct Stream {
     bytes: Vec<u8>,
 }
 
-fn sessions(alloc: Global) -> Result<Sessions, AllocError> {
-    let server = Server::new(alloc, tree_e(alloc)?, 128)?;
-    Sessions::new(alloc, server)
+fn sessions(alloc: Global, example: &[u8]) -> Option<Sessions> {
+    let server = Server::new(alloc, load(alloc, example).ok()?, 128).ok()?;
+    Sessions::new(alloc, server).ok()
 }
 
-impl Connections {
+impl<'a> Connections<'a> {
     /// A server without a connection.
-    pub(crate) fn new(alloc: Global) -> Result<Connections, AllocError> {
-        Ok(Connections {
+    pub(crate) fn new(alloc: Global, example: &'a [u8]) -> Option<Connections<'a>> {
+        Some(Connections {
             alloc,
-            sessions: sessions(alloc)?,
+            example,
+            sessions: sessions(alloc, example)?,
         })
     }
 
@@ -60,7 +62,7 @@ impl Connections {
 
     // `open`: a new server.
     fn open(&mut self) -> Option<String> {
-        self.sessions = sessions(self.alloc).ok()?;
+        self.sessions = sessions(self.alloc, self.example)?;
         text(self.alloc, "done")
     }
 

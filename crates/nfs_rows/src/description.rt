@@ -1,74 +1,37 @@
-//! What the rows add to the built-in description.
+//! Descriptions that the rows write.
 
-use nfs_attrs::moment::Moment;
-use nfs_handles::number::Number;
-use nfs_inodes::new_file::NewFile;
-use nfs_inodes::tree::Tree;
-use nfs_server::event::Addr;
-use nfs_server::exports::{Export, Options, Pattern, Squash};
-use rows::words::{address, name, number, size, word};
+use rows::answers::digits;
+use rows::words::size;
 use std::alloc::Global;
 use std::str::SplitWhitespace;
 
-const START: Moment = Moment {
-    seconds: 0,
-    nanos: 0,
-};
-
-/// `VOLUME ADDRESS BITS ACCESS SQUASH UID GID`, as in exports(5).
-pub(crate) fn export(words: &mut SplitWhitespace<'_>) -> Option<Export> {
-    let volume = size(words)?;
-    let address = Addr(address(words)?);
-    let bits = word(words)?;
-    let options = Options {
-        read_only: words.next()? == "ro",
-        squash: squash(words.next()?)?,
-        anonuid: word(words)?,
-        anongid: word(words)?,
-    };
-    Some(Export {
-        volume,
-        pattern: Pattern { address, bits },
-        options,
-    })
-}
-
-fn squash(word: &str) -> Option<Squash> {
-    match word {
-        "no_root_squash" => Some(Squash::No),
-        "root_squash" => Some(Squash::Root),
-        "all_squash" => Some(Squash::All),
-        _ => None,
+/// `WORD..`: adds a line of these words.
+pub(crate) fn push_line(text: &mut Vec<u8>, words: &mut SplitWhitespace<'_>) -> Option<()> {
+    for word in words {
+        push_word(text, word)?;
     }
+    text.push(b'\n').ok()
 }
 
-/// `DIRECTORY NAME MODE UID GID SIZE`: makes a file of so many bytes, which count from 0 to 250
-/// again and again, and answers its number.
-pub(crate) fn make(alloc: Global, tree: &mut Tree, words: &mut SplitWhitespace<'_>) -> Option<u64> {
-    let dir = Number(number(words)?);
-    let name = name(alloc, words)?;
-    let given = NewFile {
-        mode: word(words)?,
-        uid: word(words)?,
-        gid: word(words)?,
-        atime: START,
-        mtime: START,
-    };
+/// `PATH MODE UID GID SIZE`: adds the line of a file of so many bytes, which count from 0 to 250
+/// again and again.
+pub(crate) fn push_counting(
+    alloc: Global,
+    text: &mut Vec<u8>,
+    words: &mut SplitWhitespace<'_>,
+) -> Option<()> {
+    push_word(text, "file")?;
+    for _ in 0..4u32 {
+        push_word(text, words.next()?)?;
+    }
     let content = counting(alloc, size(words)?)?;
-    if !tree.may_make(dir, name.as_slice(), 0) {
-        return None;
-    }
-    let made = tree.make_file(dir, name.as_slice(), 0, &given, None, START);
-    let made = made.ok()?;
-    write(tree, made, content.as_slice())?;
-    Some(made.0)
+    push_word(text, digits(alloc, content.as_slice())?.as_str())?;
+    text.push(b'\n').ok()
 }
 
-fn write(tree: &mut Tree, number: Number, content: &[u8]) -> Option<()> {
-    if !tree.may_write(number, 0, content.len()) {
-        return None;
-    }
-    tree.write_at(number, 0, content, START).ok()
+fn push_word(text: &mut Vec<u8>, word: &str) -> Option<()> {
+    text.extend_from_slice(word.as_bytes()).ok()?;
+    text.push(b' ').ok()
 }
 
 // So many bytes, which count from 0 to 250 again and again.
@@ -80,7 +43,7 @@ fn counting(alloc: Global, len: usize) -> Option<Vec<u8>> {
     Some(bytes)
 }
 
-/// How many of the first bytes count on from the first one as a made file's do.
+/// How many of the first bytes count on from the first one as a counting file's do.
 pub(crate) fn counted(bytes: &[u8]) -> usize {
     let start = bytes.first().copied().unwrap_or(0);
     for (at, byte) in bytes.iter().enumerate() {

@@ -1,5 +1,5 @@
-//! Answers rows about records and connections: the calls of a server's built-in files, or of those
-//! that the rows describe.
+//! Answers rows about records and connections: the calls of a server of the description `e.tree`, or
+//! of one that the rows write.
 #![tactic(auto)]
 
 mod calls;
@@ -12,30 +12,30 @@ mod record;
 use crate::calls::Calls;
 use crate::connections::Connections;
 use rows::sheet::{self, Answers};
-use std::alloc::{AllocError, Global};
-use std::io;
+use std::alloc::Global;
 use std::process::ExitCode;
 use std::rt::{Env, Files};
 use std::str::SplitWhitespace;
+use std::{fs, io};
 
 #[derive(Drop)]
-struct Asked {
+struct Asked<'a> {
     alloc: Global,
-    calls: Calls,
-    connections: Connections,
+    calls: Calls<'a>,
+    connections: Connections<'a>,
 }
 
-impl Asked {
-    fn new(alloc: Global) -> Result<Asked, AllocError> {
-        Ok(Asked {
+impl<'a> Asked<'a> {
+    fn new(alloc: Global, example: &'a [u8]) -> Option<Asked<'a>> {
+        Some(Asked {
             alloc,
-            calls: Calls::new(alloc)?,
-            connections: Connections::new(alloc)?,
+            calls: Calls::new(alloc, example)?,
+            connections: Connections::new(alloc, example)?,
         })
     }
 }
 
-impl Answers for Asked {
+impl<'a> Answers for Asked<'a> {
     fn answer(&mut self, verb: &str, words: &mut SplitWhitespace<'_>) -> Option<String> {
         match verb {
             "head" => heads::head(self.alloc, words),
@@ -59,6 +59,9 @@ fn main(rt: HostRuntime) -> ExitCode {
 }
 
 fn ask<R: Env + Files + Print + AllocGlobal>(rt: &R) -> io::Result<ExitCode> {
-    let mut asked = Asked::new(rt.alloc())?;
-    sheet::run(rt, &mut asked)
+    let example = fs::read(rt, "e.tree")?;
+    match Asked::new(rt.alloc(), example.as_slice()) {
+        Some(mut asked) => sheet::run(rt, &mut asked),
+        None => Err(io::Error::from(io::ErrorKind::InvalidData)),
+    }
 }

@@ -1,8 +1,9 @@
 //! The records of questions.
 
 use nfs_attrs::moment::Moment;
+use nfs_exports::addr::Addr;
 use nfs_inodes::tree::Tree;
-use nfs_server::event::{Addr, Event};
+use nfs_server::event::Event;
 use rows::words::{address, push_bytes, word};
 use std::alloc::Global;
 use std::str::SplitWhitespace;

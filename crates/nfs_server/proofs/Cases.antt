@@ -15,8 +15,8 @@ use Rattle.nfs_inodes.specs.Reading.{numbered_files, attributes_of, attributes_a
 use Rattle.nfs_inodes.proofs.Lookups.{found_lives}
 use Rattle.nfs_inodes.proofs.Follows.{changes_follow, handles_are_for_good, lives_alike}
 use Rattle.nfs_rpc.specs.AuthSys.{Credential, caller}
-use Rattle.nfs_server.specs.declared.event.Addr.{Addr}
-use Rattle.nfs_server.specs.declared.exports.Export as exported
+use Rattle.nfs_exports.specs.declared.addr.Addr.{Addr}
+use Rattle.nfs_exports.specs.declared.table.Export as exported
 use Rattle.nfs_server.specs.declared.rpc_rules.RpcRule.TheVariants.{Version, Program, ProgramVersion, Procedure, Flavor, WeakCredential, Arguments, Credential as RpcCredential}
 use Rattle.nfs_server.specs.declared.rule.Rule.{Rule}
 use Rattle.nfs_server.specs.declared.rule.Rule.TheVariants.{BadHandle, StaleHandle, Export}
@@ -106,7 +106,7 @@ some_mapped : {A B : Type 0} (f : A → B) (o : Option A) → is_none o ≡ fals
 some_mapped f None e = absurd (true≢false e)
 some_mapped f (Some x) e = refl
 
-some_subject : (t : Tree) (exports : List exported.Export) (addr : Addr) (cred : Credential) (o : Option Fattr) → is_some o ≡ true
+some_subject : (t : Tree) (exports : List (List exported.Export)) (addr : Addr) (cred : Credential) (o : Option Fattr) → is_some o ≡ true
     → on_some o false (λ f. is_none (granted exports addr f)) ≡ false → IsSome (on_some o None (λ f. option_map (subject_with t cred f) (granted exports addr f)))
 some_subject t exports addr cred None some e = absurd (false≢true some)
 some_subject t exports addr cred (Some f) some e = some_mapped (subject_with t cred f) (granted exports addr f) e

@@ -13,8 +13,8 @@ use Rattle.nfs_attrs.specs.declared.fattr.Fattr.{Fattr}
 use Rattle.nfs_attrs.specs.Spelling.{post_op_attr_text}
 use Rattle.nfs_handles.specs.Handles.{handle_at}
 use Rattle.nfs_inodes.specs.Tree.{Tree, File, Kind, Regular, Directory, Link, at, on_some, bytes_in, nlink}
-use Rattle.nfs_inodes.specs.Reading.{IsFirstChunk, attributes_of, attributes_at, bytes_at, numbered_files, type_of, size_of}
-use Rattle.nfs_server.specs.Rules.{Subject, is_regular}
+use Rattle.nfs_inodes.specs.Reading.{IsFirstChunk, attributes_of, attributes_at, bytes_at, numbered_files, type_of, size_of, is_regular_type}
+use Rattle.nfs_server.specs.Rules.{Subject}
 use Rattle.nfs_server.specs.Results.{status_text, lookup_text, read_text}
 
 by_test : {P : Type 0} (b : Bool) → (b ≡ true → P) → (b ≡ false → P) → P
@@ -86,16 +86,16 @@ found_written s n handle f a b c d e named shown status item found dir =
 
 -- ---- the size of a regular file
 
-size_of_kind : (k : Kind) → is_regular (type_of k) ≡ true → size_of k ≡ length (bytes_in k)
+size_of_kind : (k : Kind) → is_regular_type (type_of k) ≡ true → size_of k ≡ length (bytes_in k)
 size_of_kind (Regular bytes) r = refl
 size_of_kind (Directory parent next_cookie entries) r = cc
 size_of_kind (Link path) r = cc
 
-size_in : (o : Option File) (n : ℕ) (links : File → ℕ) (f : Fattr) → option_map (λ file. attributes_of n file (links file)) o ≡ Some f → is_regular f.file_type ≡ true → f.size ≡ length (on_some o [] (λ file. bytes_in file.kind))
+size_in : (o : Option File) (n : ℕ) (links : File → ℕ) (f : Fattr) → option_map (λ file. attributes_of n file (links file)) o ≡ Some f → is_regular_type f.file_type ≡ true → f.size ≡ length (on_some o [] (λ file. bytes_in file.kind))
 size_in None n links f e r = cc
 size_in (Some file) n links f e r =
     let same : attributes_of n file (links file) ≡ f = same_some e in
-    sym (ap (λ (g : Fattr). g.size) same) ∙ size_of_kind file.kind (ap (λ (g : Fattr). is_regular g.file_type) same ∙ r)
+    sym (ap (λ (g : Fattr). g.size) same) ∙ size_of_kind file.kind (ap (λ (g : Fattr). is_regular_type g.file_type) same ∙ r)
 
-pub size_is : (t : Tree) (n : ℕ) (f : Fattr) → attributes_at t n ≡ Some f → is_regular f.file_type ≡ true → f.size ≡ length (bytes_at t n)
+pub size_is : (t : Tree) (n : ℕ) (f : Fattr) → attributes_at t n ≡ Some f → is_regular_type f.file_type ≡ true → f.size ≡ length (bytes_at t n)
 size_is t n f e r = size_in (at n t.files) n (λ file. nlink t.files n file) f e r

@@ -5,8 +5,8 @@ use Rattle.nfs_inodes.specs.Tree.{Tree}
 use Rattle.nfs_inodes.specs.Law.{Law}
 use Rattle.nfs_inodes.specs.Reading.{number_under, numbered_files}
 use Rattle.nfs_rpc.specs.Calls.{Call}
-use Rattle.nfs_server.specs.declared.event.Addr.{Addr}
-use Rattle.nfs_server.specs.declared.exports.Export.{Export}
+use Rattle.nfs_exports.specs.declared.addr.Addr.{Addr}
+use Rattle.nfs_exports.specs.declared.table.Export.{Export}
 use Rattle.nfs_server.specs.RpcRules.{is_null, rpc_failure_of}
 use Rattle.nfs_server.specs.Rules.{Request, subject, verdict}
 use Rattle.nfs_server.specs.Steps.{request_of}
@@ -17,7 +17,7 @@ CallsAskForSomething = (addr : Addr) (call : Call) (bytes : List ℕ) → rpc_fa
 
 -- Where no rule of a call fails, its handle names a file of the lawful tree that an export grants.
 abbrev pub GrantedHasSubject : Type 0
-GrantedHasSubject = (t : Tree) (exports : List Export) (r : Request) → Law t → verdict t exports r ≡ None → IsSome (subject t exports r)
+GrantedHasSubject = (t : Tree) (exports : List (List Export)) (r : Request) → Law t → verdict t exports r ≡ None → IsSome (subject t exports r)
 
 -- What a lawful tree finds under a name has a handle.
 abbrev pub FoundHasHandle : Type 0

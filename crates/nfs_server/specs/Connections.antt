@@ -4,7 +4,7 @@ use Rattle.nfs_rpc.specs.Progress.{Progress}
 use Rattle.nfs_rpc.specs.declared.framer.Stage.TheVariants.{Ready, Failed}
 use Rattle.nfs_rpc.specs.declared.framer.FrameFault.{FrameFault}
 use Rattle.nfs_rpc.specs.declared.framer.FrameFault.TheVariants as frame
-use Rattle.nfs_server.specs.declared.event.Addr.{Addr}
+use Rattle.nfs_exports.specs.declared.addr.Addr.{Addr}
 use Rattle.nfs_server.specs.declared.sessions.SessionFault.{SessionFault}
 use Rattle.nfs_server.specs.declared.sessions.SessionFault.TheVariants as fault
 use Rattle.nfs_server.specs.declared.sessions.Connection.{Connection}

@@ -1,6 +1,6 @@
 -- Events, answers, and what a server may choose.
 use Rattle.std.specs.Prelude.{ℕ, List, Option, None, Some}
-use Rattle.nfs_server.specs.declared.event.Addr.{Addr}
+use Rattle.nfs_exports.specs.declared.addr.Addr.{Addr}
 use Rattle.nfs_attrs.specs.declared.moment.Moment.{Moment}
 
 -- a record from an address at a moment

@@ -6,12 +6,12 @@ use Rattle.nfs_inodes.specs.Reading.{number_under}
 use Rattle.nfs_inodes.specs.Views.{IsSeen}
 use Rattle.nfs_inodes.specs.declared.view.FileView.{FileView}
 use Rattle.nfs_rpc.specs.AuthSys.{Credential, credential_of}
-use Rattle.nfs_server.specs.declared.event.Addr.{Addr}
-use Rattle.nfs_server.specs.declared.exports.Export.{Export}
+use Rattle.nfs_exports.specs.declared.addr.Addr.{Addr}
+use Rattle.nfs_exports.specs.declared.table.Export.{Export}
 use Rattle.nfs_server.specs.declared.rule.Rule.{Rule}
 use Rattle.nfs_server.specs.declared.subject.Subject as kept
 use Rattle.nfs_server.specs.Args.{Lookup, ReadFile}
-use Rattle.nfs_server.specs.Ids.{squash}
+use Rattle.nfs_exports.specs.Ids.{squash}
 use Rattle.nfs_server.specs.Rules.{Subject, subject_at, violates, violates_handle, handle_rules, rules_of}
 
 -- a subject as it is in memory
@@ -23,7 +23,7 @@ abbrev pub IsCurrent : kept.Subject → Type 0
 IsCurrent s = IsSeen s.tree.now s.file
 
 -- the first rule of the handle that fails, and else the subject
-abbrev pub Names : Tree → List Export → Addr → Credential → List ℕ → Result kept.Subject Rule → Type 0
+abbrev pub Names : Tree → List (List Export) → Addr → Credential → List ℕ → Result kept.Subject Rule → Type 0
 Names t exports addr cred handle (Ok s) = (find (violates_handle t exports addr handle) handle_rules ≡ None) × (subject_at t exports addr cred handle ≡ Some (subject_of s)) × IsCurrent s
 Names t exports addr cred handle (Err rule) = (find (violates_handle t exports addr handle) handle_rules ≡ Some rule) × (subject_at t exports addr cred handle ≡ None)
 

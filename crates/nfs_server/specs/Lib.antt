@@ -1,7 +1,4 @@
 pub mod Events
-pub mod Exports
-pub mod Built
-pub mod Ids
 pub mod Rights
 pub mod Args
 pub mod Rules

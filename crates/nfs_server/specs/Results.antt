@@ -7,7 +7,7 @@ use Rattle.nfs_attrs.specs.Spelling.{fattr_text, post_op_attr_text}
 use Rattle.nfs_handles.specs.Handles.{handle_at}
 use Rattle.nfs_inodes.specs.Tree.{Tree, on_some}
 use Rattle.nfs_inodes.specs.Reading.{attributes_at, bytes_at, number_under, numbered_files}
-use Rattle.nfs_server.specs.declared.exports.Export.{Export}
+use Rattle.nfs_exports.specs.declared.table.Export.{Export}
 use Rattle.nfs_server.specs.declared.rule.Rule.{Rule}
 use Rattle.nfs_server.specs.Args.{Args, GetAttr, Lookup, ReadFile}
 use Rattle.nfs_server.specs.Rules.{Request, Subject, subject, status_of, verdict}
@@ -45,7 +45,7 @@ result_of (Some rule) s args = status_text (status_of rule) ++ denied_text (opti
 result_of None s args = status_text 0 ++ on_some s [] (λ s. granted_text s args)
 
 -- the result of a call
-abbrev pub result_text : Tree → List Export → Request → List ℕ
+abbrev pub result_text : Tree → List (List Export) → Request → List ℕ
 result_text t exports r = result_of (verdict t exports r) (subject t exports r) r.args
 
 -- the status of the first rule that a call fails, and 0 where it fails none
@@ -54,4 +54,4 @@ status_in (Some rule) = status_of rule
 status_in None = 0
 
 abbrev pub ResultsTell : Type 0
-ResultsTell = (t : Tree) (exports : List Export) (r : Request) → take 4 (result_text t exports r) ≡ status_text (status_in (verdict t exports r))
+ResultsTell = (t : Tree) (exports : List (List Export)) (r : Request) → take 4 (result_text t exports r) ≡ status_text (status_in (verdict t exports r))

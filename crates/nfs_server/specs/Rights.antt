@@ -6,7 +6,7 @@ use Rattle.nfs_server.specs.declared.rights.Class.{Class}
 use Rattle.nfs_server.specs.declared.rights.Class.TheVariants.{Owner, Group, Others}
 use Rattle.nfs_server.specs.declared.rights.Right.{Right}
 use Rattle.nfs_server.specs.declared.rights.Right.TheVariants.{Read, Write, Execute}
-use Rattle.nfs_server.specs.Ids.{Ids}
+use Rattle.nfs_exports.specs.Ids.{Ids}
 
 -- the owner, else a member of the group, else one of the others
 abbrev pub class : Ids → Fattr → Class

@@ -7,18 +7,18 @@ use Rattle.nfs_rpc.specs.declared.call.RpcFault.{RpcFault}
 use Rattle.nfs_rpc.specs.declared.reply.Accept.TheVariants.{Success}
 use Rattle.nfs_inodes.specs.Tree.{Tree}
 use Rattle.nfs_server.specs.declared.rpc_rules.RpcRule.{RpcRule}
-use Rattle.nfs_server.specs.declared.event.Addr.{Addr}
-use Rattle.nfs_server.specs.declared.exports.Export.{Export}
+use Rattle.nfs_exports.specs.declared.addr.Addr.{Addr}
+use Rattle.nfs_exports.specs.declared.table.Export.{Export}
 use Rattle.nfs_server.specs.Args.{Args, args_in}
 use Rattle.nfs_server.specs.Rules.{Request}
 use Rattle.nfs_server.specs.Results.{result_text}
 use Rattle.nfs_server.specs.Events.{Event, Answer, Choice, Done, silence, replied}
 use Rattle.nfs_server.specs.RpcRules.{is_null, rpc_failure_of, rpc_reply}
 
--- what stays for a server's whole life: how many replies it keeps for repeats, and what is exported to whom
+-- what stays for a server's whole life: how many replies it keeps for repeats, and what is exported to whom, in a list for each volume
 pub record Setup : Type 0 where
   pub places : ℕ
-  pub exports : List Export
+  pub exports : List (List Export)
 
 -- what events may change
 pub record State : Type 0 where

@@ -4,10 +4,7 @@ ghost use Rattle.nfs_server.specs.Events.{Answer};
 ghost use Rattle.nfs_server.specs.Seen.{answer_of};
 
 use nfs_attrs::moment::Moment;
-
-/// An IPv4 address, the first of its four bytes the most significant.
-#[derive(Clone, Copy, Debug, PartialEq, Eq)]
-pub struct Addr(pub u32);
+use nfs_exports::addr::Addr;
 
 /// A whole record that comes from an address at a moment.
 #[derive(Clone, Copy)]

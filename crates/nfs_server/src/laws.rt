@@ -1,8 +1,4 @@
 //! Laws over the definitions alone.
-ghost use Rattle.std.specs.Prelude.{ℕ};
-ghost use Rattle.nfs_xdr.specs.Spelling.{SpellsOnce};
-ghost use Rattle.nfs_xdr.specs.Reading.{Finds};
-ghost use Rattle.nfs_server.specs.Args.{IsArgsOf, args_at};
 ghost use Rattle.nfs_server.specs.Cases.{CallsAskForSomething, GrantedHasSubject, FoundHasHandle};
 ghost use Rattle.nfs_server.specs.Forward.{RunsForward};
 ghost use Rattle.nfs_server.specs.Results.{ResultsTell};
@@ -17,13 +13,6 @@ pub fn runs_go_forward()
 /// where it fails none.
 pub fn results_tell_the_verdict()
     ensures { ResultsTell }
-{}
-
-/// The arguments of a procedure are found where they are spelled, all of them and nothing else; so
-/// none begin others of the same procedure.
-pub fn arguments_are_found()
-    ensures found { (proc : ℕ) → Finds (IsArgsOf proc) (args_at proc) }
-    ensures once { (proc : ℕ) → SpellsOnce (IsArgsOf proc) }
 {}
 
 /// No call comes to those cases of the definitions that stand for nothing: a call that fails no

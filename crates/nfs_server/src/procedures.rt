@@ -9,14 +9,14 @@ ghost use Rattle.nfs_server.specs.Rules.{violates, rules_of, status_of};
 ghost use Rattle.nfs_server.specs.Results.{status_text, denied_text, result_of, result_text};
 ghost use Rattle.nfs_server.specs.Judging.{subject_of, IsCurrent};
 
-use crate::args::NfsArgs;
-use crate::event::Addr;
-use crate::exports::Table;
 use crate::lookup::lookup;
 use crate::read::read;
 use crate::rule::Rule;
+use crate::served_args::ServedArgs;
 use crate::subject::Subject;
 use nfs_attrs::fattr::{Fattr, write_fattr, write_post_op_attr};
+use nfs_exports::addr::Addr;
+use nfs_exports::table::Table;
 use nfs_inodes::tree::Tree;
 use nfs_rpc::auth_sys::Cred;
 use nfs_xdr::output::Output;
@@ -30,7 +30,7 @@ pub fn perform(
     table: &Table,
     addr: Addr,
     cred: &Cred,
-    args: &NfsArgs<'_>,
+    args: &ServedArgs<'_>,
     out: &mut Output,
 )
     requires { MAX_RESULT_BYTES ≤ out.old.room }
@@ -43,26 +43,26 @@ pub fn perform(
 }
 
 // The rules after the handle's, and the result.
-fn judge(subject: &Subject<'_>, args: &NfsArgs<'_>, out: &mut Output)
+fn judge(subject: &Subject<'_>, args: &ServedArgs<'_>, out: &mut Output)
     requires current { IsCurrent subject.now }
     requires room { MAX_RESULT_BYTES ≤ out.old.room }
     ensures { Appends (result_of (find (violates (subject_of subject.now) (args_of args.now)) (rules_of (args_of args.now))) (Some (subject_of subject.now)) (args_of args.now)) out.old out.new }
 {
     match *args {
-        NfsArgs::GetAttr { .. } => write_attributes(out, &subject.file.attributes),
-        NfsArgs::Lookup { name, .. } => lookup(out, subject, name),
-        NfsArgs::Read { offset, count, .. } => read(out, subject, offset, count),
+        ServedArgs::GetAttr { .. } => write_attributes(out, &subject.file.attributes),
+        ServedArgs::Lookup { name, .. } => lookup(out, subject, name),
+        ServedArgs::Read { offset, count, .. } => read(out, subject, offset, count),
     }
 }
 
 // The first handle of a call.
-fn handle_of<'a>(args: &NfsArgs<'a>) -> &'a [u8]
+fn handle_of<'a>(args: &ServedArgs<'a>) -> &'a [u8]
     ensures { result.now ≡ handle_in (args_of args.now) }
 {
     match *args {
-        NfsArgs::GetAttr { file } => file,
-        NfsArgs::Lookup { dir, .. } => dir,
-        NfsArgs::Read { file, .. } => file,
+        ServedArgs::GetAttr { file } => file,
+        ServedArgs::Lookup { dir, .. } => dir,
+        ServedArgs::Read { file, .. } => file,
     }
 }
 
@@ -76,13 +76,13 @@ fn write_attributes(out: &mut Output, file: &Fattr)
 }
 
 // The result of a call that fails a rule of the handle.
-fn write_handle_failure(out: &mut Output, rule: Rule, args: &NfsArgs<'_>)
+fn write_handle_failure(out: &mut Output, rule: Rule, args: &ServedArgs<'_>)
     requires { 92 ≤ out.old.room }
     ensures { Appends (status_text (status_of rule) ++ denied_text None (args_of args.now)) out.old out.new }
 {
     match args {
-        NfsArgs::GetAttr { .. } => out.u32(rule.status()),
-        NfsArgs::Lookup { .. } | NfsArgs::Read { .. } => write_denied(out, rule, None),
+        ServedArgs::GetAttr { .. } => out.u32(rule.status()),
+        ServedArgs::Lookup { .. } | ServedArgs::Read { .. } => write_denied(out, rule, None),
     }
 }
 

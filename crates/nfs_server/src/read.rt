@@ -2,7 +2,7 @@
 ghost use Rattle.std.specs.Prelude.{◌≡◌, ◌+◌, ◌^◌, ◌<◌, ◌≤◌, [], ◌++◌, Some, true, length, take, drop};
 ghost use Rattle.nfs_xdr.specs.Written.{Appends};
 ghost use Rattle.nfs_inodes.specs.Views.{bytes_seen};
-ghost use Rattle.nfs_server.specs.Rules.{is_regular};
+ghost use Rattle.nfs_inodes.specs.Reading.{is_regular_type};
 ghost use Rattle.nfs_server.specs.Results.{status_text, read_text, read_bytes, result_of};
 ghost use Rattle.nfs_server.specs.Args.{ReadFile};
 ghost use Rattle.nfs_server.specs.Judging.{subject_of, IsCurrent};
@@ -58,7 +58,7 @@ fn read_failure(subject: &Subject<'_>) -> Option<Rule>
 // The result of a READ that is granted.
 fn write_data(out: &mut Output, subject: &Subject<'_>, offset: u64, count: u32)
     requires current { IsCurrent subject.now }
-    requires regular { is_regular subject.now.file.attributes.file_type ≡ true }
+    requires regular { is_regular_type subject.now.file.attributes.file_type ≡ true }
     requires room { MAX_RESULT_BYTES ≤ out.old.room }
     ensures { Appends (status_text 0 ++ read_text subject.now.file.attributes offset (read_bytes (subject_of subject.now) offset count)) out.old out.new }
 {

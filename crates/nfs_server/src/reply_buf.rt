@@ -9,11 +9,11 @@ ghost use Rattle.nfs_server.specs.RpcRules.{rpc_reply};
 ghost use Rattle.nfs_server.specs.Args.{args_of};
 ghost use Rattle.nfs_server.specs.Results.{result_text};
 
-use crate::args::NfsArgs;
-use crate::event::Addr;
-use crate::exports::Table;
 use crate::procedures::perform;
 use crate::rpc_rules::RpcRule;
+use crate::served_args::ServedArgs;
+use nfs_exports::addr::Addr;
+use nfs_exports::table::Table;
 use nfs_inodes::tree::Tree;
 use nfs_rpc::auth_sys::Cred;
 use nfs_rpc::record::seal_record;
@@ -113,7 +113,7 @@ impl ReplyBuf {
         table: &Table,
         addr: Addr,
         cred: &Cred,
-        args: &NfsArgs<'_>,
+        args: &ServedArgs<'_>,
     )
         ensures { self.new ≡ accepted_text xid Success ++ result_text tree.now table.now (record { addr = addr; cred = credential_of cred.now; args = args_of args.now }) }
     {

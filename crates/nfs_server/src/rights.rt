@@ -2,10 +2,10 @@
 ghost use Rattle.std.specs.Prelude.{◌≡◌, nat_eq};
 ghost use Rattle.std.specs.List.{list_any};
 ghost use Rattle.nfs_server.specs.Rights as spec;
-ghost use Rattle.nfs_server.specs.Ids.{ids_of};
+ghost use Rattle.nfs_exports.specs.Ids.{ids_of};
 
-use crate::ids::Ids;
 use nfs_attrs::fattr::Fattr;
+use nfs_exports::squash::Ids;
 
 /// Whose bits of a file's mode are looked at.
 #[derive(Clone, Copy, Debug, PartialEq, Eq)]

@@ -5,7 +5,6 @@ ghost use Rattle.nfs_server.specs.RpcRules.{is_nfs, is_null};
 ghost use Rattle.nfs_server.specs.RpcRules as spec;
 ghost use Rattle.nfs_server.specs.Admitting.{Admits, Identifies};
 
-use crate::args::{GETATTR, LOOKUP, NULL, READ};
 use nfs_rpc::auth_sys::Cred;
 use nfs_rpc::call::CallHead;
 
@@ -29,6 +28,15 @@ pub enum RpcRule {
     /// The arguments can be read.
     Arguments,
 }
+
+// The procedures that are served, by their numbers (RFC 1813, section 3.3).
+const NULL: u32 = 0;
+
+const GETATTR: u32 = 1;
+
+const LOOKUP: u32 = 3;
+
+const READ: u32 = 6;
 
 /// What a call is for that keeps the first four rules of RPC.
 #[derive(Clone, Copy, Debug, PartialEq, Eq)]

@@ -11,15 +11,17 @@ ghost use Rattle.nfs_server.specs.Fits.{Held, Past, Fits, after};
 ghost use Rattle.nfs_server.specs.Keeping.{Answers};
 ghost use Rattle.nfs_server.specs.Runs.{events_of, RunsThrough};
 
-use crate::args::read_nfs;
-use crate::event::{Addr, Event, Handled, Outcome, Sink};
-use crate::exports::Table;
-use crate::loaded::Loaded;
+use crate::event::{Event, Handled, Outcome, Sink};
 use crate::reply_buf::ReplyBuf;
 use crate::rpc_rules::{Admitted, RpcRule, admit, identify};
+use crate::served_args::read_served;
+use nfs_exports::addr::Addr;
+use nfs_exports::table::Table;
 use nfs_inodes::tree::Tree;
+use nfs_load::loaded::Loaded;
 use nfs_rpc::auth_sys::Cred;
 use nfs_rpc::call::{CallHead, read_call};
+use nfs_xdr::input::Input;
 use std::alloc::{AllocError, Global};
 use std::marker::Model;
 
@@ -104,7 +106,7 @@ impl Server {
         let mut cred = Cred::nobody();
         match identify(head, &mut cred) {
             Err(rule) => reply.refuse(rule, xid),
-            Ok(()) => match read_nfs(head.proc, head.args.rest()) {
+            Ok(()) => match read_served(head.proc, Input::new(head.args.rest())) {
                 Err(_) => reply.refuse(RpcRule::Arguments, xid),
                 Ok(args) => reply.perform(xid, &self.tree, &self.table, addr, &cred, &args),
             },

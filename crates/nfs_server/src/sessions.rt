@@ -5,10 +5,11 @@ ghost use Rattle.nfs_server.specs.Fits.{Past, Fits};
 ghost use Rattle.nfs_server.specs.Runs.{events_of, RunsThrough};
 ghost use Rattle.nfs_server.specs.Connections.{may_join, is_joined, has_ended, IsBetween};
 
-use crate::event::{Addr, Event, Handled, Sink};
+use crate::event::{Event, Handled, Sink};
 use crate::reply_buf::ReplyBuf;
 use crate::server::Server;
 use nfs_attrs::moment::Moment;
+use nfs_exports::addr::Addr;
 use nfs_rpc::framer::{FrameFault, Framer, Stage};
 use nfs_xdr::device::{ByteOut, write_all};
 use std::alloc::{AllocError, Global};

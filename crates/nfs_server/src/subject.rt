@@ -1,14 +1,15 @@
 //! The file that a call's handle names, and how its caller is judged there.
 ghost use Rattle.std.specs.Prelude.{◌≡◌, ◌-◌};
 ghost use Rattle.nfs_rpc.specs.AuthSys.{credential_of};
-ghost use Rattle.nfs_server.specs.Ids.{ids_of};
+ghost use Rattle.nfs_exports.specs.Ids.{ids_of};
 ghost use Rattle.nfs_server.specs.Judging.{subject_of, Names};
 
-use crate::event::Addr;
-use crate::exports::{Options, Table};
-use crate::ids::{Ids, squash};
 use crate::rule::Rule;
 use nfs_attrs::fattr::Fattr;
+use nfs_exports::addr::Addr;
+use nfs_exports::options::Options;
+use nfs_exports::squash::{Ids, squash};
+use nfs_exports::table::Table;
 use nfs_handles::reading::NoFile;
 use nfs_inodes::tree::Tree;
 use nfs_inodes::view::FileView;

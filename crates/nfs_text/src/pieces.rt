@@ -17,7 +17,7 @@ pub fn cut(text: &[u8], separator: u8) -> (&[u8], Option<&[u8]>)
 
 /// Gives the pieces of a text in turn: what stands before the first separator, between each two,
 /// and behind the last. A text without a separator is one piece, the empty text an empty one.
-#[derive(Drop)]
+#[derive(Clone, Copy)]
 pub struct Pieces<'a> {
     separator: u8,
     rest: Option<&'a [u8]>,

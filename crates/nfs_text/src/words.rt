@@ -6,7 +6,7 @@ ghost use Rattle.nfs_text.specs.Words.{words, words_left};
 use crate::pieces::Pieces;
 
 /// Gives the words of a line in turn: what stands between spaces, where something does.
-#[derive(Drop)]
+#[derive(Clone, Copy)]
 pub struct Words<'a> {
     pieces: Pieces<'a>,
 }

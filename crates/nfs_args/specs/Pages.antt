@@ -1,0 +1,70 @@
+-- Which bytes spell entries of a directory (RFC 1813, sections 3.3.16 and 3.3.17), and what is written.
+use Rattle.std.specs.Prelude.{ℕ, Bool, List, ◌++◌, Option}
+use Rattle.std.specs.Int.{w32, w64, to_be_bytes}
+use Rattle.nfs_xdr.specs.Spelling.{IsNumber, IsBoolean, IsOptional, ◌⨾◌, opaque_text, optional_text}
+use Rattle.nfs_attrs.specs.declared.fattr.Fattr.{Fattr}
+use Rattle.nfs_attrs.specs.Spelling.{IsPostOpAttr, post_op_attr_text}
+use Rattle.nfs_args.specs.Spelling.{IsHandle, IsString}
+use Rattle.nfs_args.specs.Chains.{IsChain, links_text, Each, AreSpelled}
+use Rattle.nfs_args.specs.Results.{boolean_text, StringFits, HandleFits}
+use Rattle.nfs_args.specs.declared.entry.Entry.{Entry}
+use Rattle.nfs_args.specs.declared.entry_plus.EntryPlus.{EntryPlus}
+use Rattle.nfs_args.specs.declared.page.Page.{Page}
+
+-- entry3
+abbrev pub IsEntry : Entry → List ℕ → Type 0
+IsEntry e = IsNumber w64 e.fileid ⨾ IsString e.name ⨾ IsNumber w64 e.cookie
+
+abbrev pub entry_text : Entry → List ℕ
+entry_text e = to_be_bytes w64 e.fileid ++ (opaque_text e.name ++ to_be_bytes w64 e.cookie)
+
+abbrev pub EntryFits : Entry → Type 0
+EntryFits e = StringFits e.name
+
+-- entryplus3
+abbrev pub IsEntryPlus : EntryPlus → List ℕ → Type 0
+IsEntryPlus e = IsNumber w64 e.fileid ⨾ IsString e.name ⨾ IsNumber w64 e.cookie ⨾ IsPostOpAttr e.attributes ⨾ IsOptional IsHandle e.file
+
+abbrev pub entry_plus_text : EntryPlus → List ℕ
+entry_plus_text e = to_be_bytes w64 e.fileid ++ (opaque_text e.name ++ (to_be_bytes w64 e.cookie ++ (post_op_attr_text e.attributes ++ optional_text opaque_text e.file)))
+
+abbrev pub EntryPlusFits : EntryPlus → Type 0
+EntryPlusFits e = StringFits e.name × HandleFits e.file
+
+-- ---- READDIR3resok and READDIRPLUS3resok, which differ in their entries
+
+abbrev pub IsPageOf : {A : Type 0} → (A → List ℕ → Type 0) → Page (List A) → List ℕ → Type 0
+IsPageOf Spells p = IsPostOpAttr p.attributes ⨾ IsNumber w64 p.verifier ⨾ IsChain Spells p.entries ⨾ IsBoolean p.eof
+
+abbrev pub page_head_text : Option Fattr → ℕ → List ℕ
+page_head_text attributes verifier = post_op_attr_text attributes ++ to_be_bytes w64 verifier
+
+abbrev pub page_end_text : Bool → List ℕ
+page_end_text eof = to_be_bytes w32 0 ++ boolean_text eof
+
+abbrev pub page_of_text : {A : Type 0} → (A → List ℕ) → Page (List A) → List ℕ
+page_of_text text p = page_head_text p.attributes p.verifier ++ (links_text text p.entries ++ page_end_text p.eof)
+
+-- the head, then any entries, each of them spelled, and then an end are a page
+abbrev pub BeginsPage : {A : Type 0} → (A → List ℕ → Type 0) → (A → List ℕ) → Option Fattr → ℕ → Type 0
+BeginsPage {A} Spells text attributes verifier =
+    (entries : List A) (eof : Bool) → AreSpelled Spells text entries
+    → IsPageOf Spells (record { attributes = attributes; verifier = verifier; entries = entries; eof = eof }) (page_head_text attributes verifier ++ (links_text text entries ++ page_end_text eof))
+
+abbrev pub IsPage : Page (List Entry) → List ℕ → Type 0
+IsPage = IsPageOf IsEntry
+
+abbrev pub page_text : Page (List Entry) → List ℕ
+page_text = page_of_text entry_text
+
+abbrev pub PageFits : Page (List Entry) → Type 0
+PageFits p = Each EntryFits p.entries
+
+abbrev pub IsPagePlus : Page (List EntryPlus) → List ℕ → Type 0
+IsPagePlus = IsPageOf IsEntryPlus
+
+abbrev pub page_plus_text : Page (List EntryPlus) → List ℕ
+page_plus_text = page_of_text entry_plus_text
+
+abbrev pub PagePlusFits : Page (List EntryPlus) → Type 0
+PagePlusFits p = Each EntryPlusFits p.entries

@@ -1,0 +1,51 @@
+//! Entries of a directory with what their files are.
+ghost use Rattle.std.specs.Prelude.{◌≡◌, ◌≤◌, length};
+ghost use Rattle.nfs_xdr.specs.Written.{Appends};
+ghost use Rattle.nfs_args.specs.Chains.{Each, AreSpelled, chained_text, links_text};
+ghost use Rattle.nfs_args.specs.Pages.{IsEntryPlus, entry_plus_text, EntryPlusFits};
+
+use crate::opaque::{Opaque, write_post_op_handle, write_string};
+use nfs_attrs::fattr::{Fattr, write_post_op_attr};
+use nfs_xdr::output::Output;
+
+/// An entry of a directory with what its file is (RFC 1813, section 3.3.17, entryplus3).
+#[derive(Drop)]
+pub struct EntryPlus<'a> {
+    /// The number of the file.
+    pub fileid: u64,
+    /// Its name, of fewer than 2^32 bytes.
+    pub name: Opaque<'a>,
+    /// What a client sends to go on behind this entry.
+    pub cookie: u64,
+    /// The file's attributes.
+    pub attributes: Option<Fattr>,
+    /// The file's handle, of at most 64 bytes.
+    pub file: Option<Opaque<'a>>,
+}
+
+/// Writes an entry of a chain: that there is one, and the entry.
+pub fn write_entry_plus(out: &mut Output, entry: &EntryPlus<'_>)
+    requires fits { EntryPlusFits entry.now }
+    requires room { length (chained_text entry_plus_text entry.now) ≤ out.old.room }
+    ensures text { Appends (chained_text entry_plus_text entry.now) out.old out.new }
+    ensures spelled { IsEntryPlus entry.now (entry_plus_text entry.now) }
+{
+    out.boolean(true);
+    out.u64(entry.fileid);
+    write_string(out, &entry.name);
+    out.u64(entry.cookie);
+    write_post_op_attr(out, entry.attributes.as_ref());
+    write_post_op_handle(out, &entry.file);
+}
+
+// Entries of a chain, without its end.
+pub(crate) fn write_entries_plus(out: &mut Output, entries: &[EntryPlus<'_>])
+    requires fits { Each EntryPlusFits entries.now }
+    requires room { length (links_text entry_plus_text entries.now) ≤ out.old.room }
+    ensures text { Appends (links_text entry_plus_text entries.now) out.old out.new }
+    ensures spelled { AreSpelled IsEntryPlus entry_plus_text entries.now }
+{
+    for entry in entries {
+        write_entry_plus(out, entry);
+    }
+}

@@ -1,0 +1,14 @@
+//! The most bytes of what a result holds.
+
+/// The most bytes of a handle (RFC 1813, section 2.4, NFS3_FHSIZE).
+pub const MAX_HANDLE_BYTES: usize = 64;
+
+/// The most bytes that a READ answers.
+pub const MAX_DATA_BYTES: usize = 65_536;
+
+/// The most bytes of the path of a symbolic link.
+pub const MAX_PATH_BYTES: usize = 1_024;
+
+/// The most bytes of what READDIR and READDIRPLUS answer behind their status: attributes, verifier,
+/// entries and what follows them (RFC 1813, section 3.3.16, `count`).
+pub const MAX_PAGE_BYTES: usize = 65_536;

@@ -1,0 +1,24 @@
+-- The digits of a content are twice as many as its bytes.
+use Rattle.std.proofs.Common.{ℕ, ◌≡◌, ◌<◌, ◌≤◌, false, List, [], length, Result, Ok, Err, cond, ap, ◌∙◌, refl, arith}
+use Rattle.std.specs.Prelude.{bytes_eq, codes}
+use Rattle.std.proofs.lemmas.Bool.{lt-leb, le-leb}
+use Rattle.hex.specs.Hex.{decode_of}
+use Rattle.hex.specs.declared.error.FromHexError.{FromHexError}
+use Rattle.hex.proofs.HexLemmas.{decode_of-ok}
+use Rattle.nfs_load.specs.declared.cause.Cause.TheVariants.{BadContent}
+use Rattle.nfs_load.specs.Fields.{content_in, within}
+
+too_large : (field : List ℕ) (decoded : Result (List ℕ) FromHexError) → decode_of field ≡ decoded → 33554432 < length field → within decoded ≡ Err BadContent
+too_large field (Ok content) e many =
+    let twice = (decode_of-ok field content e).2 in
+    ap (λ b. cond b (Ok content) (Err BadContent)) (lt-leb (length content) 16777216 (omega (arith, twice, many)))
+too_large field (Err fault) e many = refl
+
+pub none_of_many_digits : (field : List ℕ) → bytes_eq field (codes "-") ≡ false → 33554432 < length field → content_in field ≡ Err BadContent
+none_of_many_digits field digits many = ap (λ b. cond b (Ok []) (within (decode_of field))) digits ∙ too_large field (decode_of field) refl many
+
+pub content_of_digits : (field content : List ℕ) → bytes_eq field (codes "-") ≡ false → length field ≤ 33554432 → decode_of field ≡ Ok content → content_in field ≡ Ok content
+content_of_digits field content digits few e =
+    let twice = (decode_of-ok field content e).2 in
+    ap (λ b. cond b (Ok []) (within (decode_of field))) digits ∙ ap within e
+    ∙ ap (λ b. cond b (Ok content) (Err BadContent)) (le-leb (length content) 16777216 (omega (arith, twice, few)))

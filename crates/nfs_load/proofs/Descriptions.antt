@@ -1,0 +1,97 @@
+-- What a line does, put together from what its parts do.
+use Rattle.std.proofs.Common.{◌≡◌, ℕ, List, [], ◌∷◌, length, zero, suc, refl, Result, Ok, Err, IsErr, IsErrAnd, Bool, true, false, Option, ◌++◌, ◌≤◌, ap, sym, subst, append_assoc, ◌∙◌, arith}
+use Rattle.std.specs.Prelude.{◌==◌, if◌then◌else◌}
+use Rattle.std.specs.List.{onto_first}
+use Rattle.nfs_text.specs.Lines.{lines}
+use Rattle.nfs_load.specs.declared.loaded.Loaded.{Loaded}
+use Rattle.std.proofs.lemmas.Bool.{false≢true}
+use Rattle.nfs_exports.specs.Tables.{added}
+use Rattle.nfs_exports.specs.declared.table.Export.{Export}
+use Rattle.nfs_load.specs.declared.cause.Cause.{Cause}
+use Rattle.nfs_load.specs.declared.refusal.Refusal.{Refusal}
+use Rattle.nfs_load.specs.declared.refusal.Refusal.TheVariants.{Fault, Memory}
+use Rattle.nfs_load.specs.Descriptions.{IsFault, InRoot, LineDone, Then, Through, UnlessMemory}
+use Rattle.nfs_load.specs.Fields.{TakesIfRoom}
+use Rattle.nfs_load.specs.Statements.{Read}
+
+pub unless : (result : Result Unit Refusal) (P : Type 0) → P → UnlessMemory result P
+unless (Ok x) P p = p
+unless (Err (Fault cause)) P p = p
+unless (Err Memory) P p = tt
+
+pub unless_both : (result : Result Unit Refusal) (P Q : Type 0) → UnlessMemory result P → Q → UnlessMemory result (P × Q)
+unless_both (Ok x) P Q p q = (p, q)
+unless_both (Err (Fault cause)) P Q p q = (p, q)
+unless_both (Err Memory) P Q p q = tt
+
+pub fault_of : (result : Result Unit Refusal) (cause : Cause) → IsErr result × IsErrAnd result (λ r. r ≡ Fault cause) → IsFault cause result
+fault_of (Ok x) cause h = absurd (false≢true h.0)
+fault_of (Err r) cause h = ap Err h.1
+
+-- a refusal that is handed on
+pub handed_on : (Done : Result Unit Refusal → Type 0) (result : Result Unit Refusal) (e : Refusal)
+    → IsErr result × IsErrAnd result (λ r. r ≡ e) → Done (Err e) → UnlessMemory result (Done result)
+handed_on Done (Ok x) e h done = absurd (false≢true h.0)
+handed_on Done (Err r) e h done = unless (Err r) _ (subst (λ it. Done (Err it)) (sym h.1) done)
+
+-- no last volume
+pub root_fault : (root : Result ℕ Cause) (cause : Cause) (result : Result Unit Refusal) (Done : ℕ → Type 0)
+    → root ≡ Err cause → IsErr result × IsErrAnd result (λ r. r ≡ Fault cause) → UnlessMemory result (InRoot root result Done)
+root_fault root cause result Done e f = subst (λ r. UnlessMemory result (InRoot r result Done)) (sym e) (unless result _ (fault_of result cause f))
+
+-- fields with a cause
+pub then_fault : {A : Type 0} (read : Read A) (cause : Cause) (result : Result Unit Refusal) (Done : A → Type 0)
+    → read ≡ Err cause → IsErr result × IsErrAnd result (λ r. r ≡ Fault cause) → UnlessMemory result (Then read result Done)
+then_fault read cause result Done e f = subst (λ r. UnlessMemory result (Then r result Done)) (sym e) (unless result _ (fault_of result cause f))
+
+-- fields with a cause, in the last volume
+pub fields_fault : {A : Type 0} (root : Result ℕ Cause) (n : ℕ) (read : Read A) (cause : Cause) (result : Result Unit Refusal) (Done : ℕ → A → Type 0)
+    → root ≡ Ok n → read ≡ Err cause → IsErr result × IsErrAnd result (λ r. r ≡ Fault cause) → UnlessMemory result (InRoot root result (λ r. Then read result (Done r)))
+fields_fault root n read cause result Done e r f = subst (λ it. UnlessMemory result (InRoot it result (λ r. Then read result (Done r)))) (sym e) (then_fault read cause result (Done n) r f)
+
+-- the same, where there may be no memory for what they say
+pub fields_refused : {A X : Type 0} (view : X → A) (root : Result ℕ Cause) (n : ℕ) (read : Read A) (rest : List (List ℕ)) (refusal : Refusal) (result : Result Unit Refusal) (Done : ℕ → A → Type 0)
+    → root ≡ Ok n → TakesIfRoom view rest (Err refusal) read → IsErr result × IsErrAnd result (λ r. r ≡ refusal) → UnlessMemory result (InRoot root result (λ r. Then read result (Done r)))
+fields_refused view root n read rest (Fault cause) result Done e r f = fields_fault root n read cause result Done e r f
+fields_refused view root n read rest Memory (Ok x) Done e r f = absurd (false≢true f.0)
+fields_refused view root n read rest Memory (Err refusal) Done e r f = subst (λ it. UnlessMemory (Err it) (InRoot root (Err it) (λ r. Then read (Err it) (Done r)))) (sym f.1) tt
+
+-- a line that is done in the last volume
+pub line_done : {A : Type 0} (root : Result ℕ Cause) (n : ℕ) (read : Read A) (line : A) (rest : List (List ℕ)) (result : Result Unit Refusal) (Done : ℕ → A → Type 0)
+    → root ≡ Ok n → read ≡ Ok (line, rest) → UnlessMemory result (Done n line) → UnlessMemory result (InRoot root result (λ r. Then read result (Done r)))
+line_done root n read line rest result Done e r done =
+    subst (λ it. UnlessMemory result (InRoot it result (λ r. Then read result (Done r)))) (sym e) (subst (λ it. UnlessMemory result (Then it result (Done n))) (sym r) done)
+
+pub then_done : {A : Type 0} (read : Read A) (line : A) (rest : List (List ℕ)) (result : Result Unit Refusal) (Done : A → Type 0)
+    → read ≡ Ok (line, rest) → UnlessMemory result (Done line) → UnlessMemory result (Then read result Done)
+then_done read line rest result Done r done = subst (λ it. UnlessMemory result (Then it result Done)) (sym r) done
+
+pub length_added : (exports : List (List Export)) (volume : ℕ) (export : Export) → length (added exports volume export) ≡ length exports
+length_added [] volume export = refl
+length_added (first ∷ exports) zero export = refl
+length_added (first ∷ exports) (suc volume) export = ap suc (length_added exports volume export)
+
+-- ---- lines one after another
+
+pub through_more : (old : Option Loaded) (before : List (List ℕ)) (line : List ℕ) (between new : Option Loaded)
+    → Through old before between → LineDone between line (Ok tt) new → Through old (before ++ line ∷ []) new
+through_more old [] line between new same done = (new, subst (λ it. LineDone it line (Ok tt) new) (sym same) done, refl)
+through_more old (first ∷ before) line between new (next, first_done, rest) done = (next, first_done, through_more next before line between new rest done)
+
+-- one line more is behind
+pub cut_more : (all before left : List (List ℕ)) (line : List ℕ) (rest : List (List ℕ))
+    → all ≡ before ++ left → left ≡ line ∷ rest → all ≡ (before ++ line ∷ []) ++ rest
+cut_more all before left line rest e more = e ∙ ap (λ it. before ++ it) more ∙ sym (append_assoc before (line ∷ []) rest)
+
+-- each line but the last has its LF
+pub lines_few : (text : List ℕ) → length (lines text) ≤ length text
+lines_few [] = omega arith
+lines_few (byte ∷ rest) = more (byte == 10) (lines_few rest)
+  where
+    longer : (ls : List (List ℕ)) → length ls ≤ length rest → length (onto_first byte ls) ≤ suc (length rest)
+    longer [] few = omega arith
+    longer (line ∷ ls) few = omega (arith, few)
+
+    more : (is_end : Bool) → length (lines rest) ≤ length rest → length (if is_end then [] ∷ lines rest else onto_first byte (lines rest)) ≤ suc (length rest)
+    more true few = omega (arith, few)
+    more false few = longer (lines rest) few

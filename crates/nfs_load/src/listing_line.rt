@@ -1,0 +1,118 @@
+//! The lines of a listing, each put together before it is written.
+ghost use Rattle.std.specs.Prelude.{◌≡◌, false, ◌+◌, ◌*◌, ◌<◌, ◌≤◌, ◌++◌, decimal, length};
+ghost use Rattle.std.specs.Fmt.{digit_glyph};
+ghost use Rattle.arrayvec.specs.ArrayVec.{array_vec_len};
+ghost use Rattle.nfs_inodes.specs.Views.{entry_seen};
+ghost use Rattle.nfs_load.specs.Listings.{entry_line, file_line, name_byte, name_text, octal};
+ghost use Rattle.nfs_load.specs.Listings as spec;
+
+use crate::limits::MAX_LINE_BYTES;
+use arrayvec::ArrayVec;
+use itoa::Buffer;
+use nfs_attrs::fattr::Fattr;
+use nfs_attrs::file_type::FileType;
+use nfs_inodes::directory::EntryView;
+
+/// A line with its end.
+pub(crate) type Line = ArrayVec<u8, MAX_LINE_BYTES>;
+
+/// The line of a file.
+pub(crate) fn put_file(line: &mut Line, file: &Fattr)
+    ensures { line.new.items ≡ file_line file.now }
+{
+    line.clear();
+    put(line, type_word(file.file_type));
+    put_number(line, b" ", file.fileid);
+    put(line, b" mode=");
+    put_octal(line, file.mode);
+    put_number(line, b" uid=", u64::from(file.uid));
+    put_number(line, b" gid=", u64::from(file.gid));
+    put_number(line, b" nlink=", u64::from(file.nlink));
+    put_number(line, b" size=", file.size);
+    put(line, b"\n");
+}
+
+/// The line of an entry.
+pub(crate) fn put_entry(line: &mut Line, entry: &EntryView<'_>)
+    requires { length entry.now.name.now ≤ 255 }
+    ensures { line.new.items ≡ entry_line (entry_seen entry.now) }
+{
+    line.clear();
+    put_number(line, b" ", entry.cookie);
+    put(line, b" ");
+    put_name(line, entry.name);
+    put_number(line, b" ", entry.number.0);
+    put(line, b"\n");
+}
+
+fn type_word(file_type: FileType) -> &'static [u8]
+    ensures { result.now ≡ spec.type_word file_type }
+{
+    match file_type {
+        FileType::Directory => b"dir",
+        FileType::SymbolicLink => b"link",
+        _ => b"file",
+    }
+}
+
+fn put(line: &mut Line, bytes: &[u8])
+    requires { array_vec_len line.old + length bytes.now ≤ 1024 }
+    ensures items { line.new.items ≡ line.old.items ++ bytes.now }
+    ensures len { array_vec_len line.new ≡ array_vec_len line.old + length bytes.now }
+{
+    line.try_extend_from_slice(bytes).unwrap();
+}
+
+// What stands before a number, and the number.
+fn put_number(line: &mut Line, before: &[u8], number: u64)
+    requires { array_vec_len line.old + length before.now + 20 ≤ 1024 }
+    ensures items { line.new.items ≡ line.old.items ++ before.now ++ decimal number }
+    ensures len { array_vec_len line.new ≤ array_vec_len line.old + length before.now + 20 }
+{
+    put(line, before);
+    put(line, Buffer::new().format(number).as_bytes());
+}
+
+fn put_octal(line: &mut Line, mode: u32)
+    requires { array_vec_len line.old + 4 ≤ 1024 }
+    ensures items { line.new.items ≡ line.old.items ++ octal mode }
+    ensures len { array_vec_len line.new ≡ array_vec_len line.old + 4 }
+{
+    let digit = |place: u32| b'0' + (mode / place % 8) as u8;
+    put(line, &[digit(512), digit(64), digit(8), digit(1)]);
+}
+
+fn put_name(line: &mut Line, name: &[u8])
+    requires { array_vec_len line.old + 3 * length name.now ≤ 1024 }
+    ensures items { line.new.items ≡ line.old.items ++ name_text name.now }
+    ensures len { array_vec_len line.new ≤ array_vec_len line.old + 3 * length name.now }
+{
+    for byte in name {
+        put_byte(line, *byte);
+    }
+}
+
+// A byte of a name.
+fn put_byte(line: &mut Line, byte: u8)
+    requires { array_vec_len line.old + 3 ≤ 1024 }
+    ensures items { line.new.items ≡ line.old.items ++ name_byte byte }
+    ensures len { array_vec_len line.new ≤ array_vec_len line.old + 3 }
+{
+    if byte.is_ascii_graphic() && byte != b'%' {
+        put(line, &[byte]);
+    } else {
+        put(line, &[b'%', hex_digit(byte / 16), hex_digit(byte % 16)]);
+    }
+}
+
+// The digit for a value below 16.
+fn hex_digit(value: u8) -> u8
+    requires { value < 16 }
+    ensures { result ≡ digit_glyph false value }
+{
+    if value < 10 {
+        b'0' + value
+    } else {
+        b'a' + (value - 10)
+    }
+}

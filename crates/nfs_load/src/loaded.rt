@@ -1,0 +1,14 @@
+//! What a description holds.
+
+use nfs_exports::table::Table;
+use nfs_inodes::tree::Tree;
+
+/// A tree of files, and to whom its volumes are exported. The table has a list for each volume, in
+/// the order of the tree's.
+#[derive(Drop)]
+pub struct Loaded {
+    /// The tree of files.
+    pub tree: Tree,
+    /// What is exported to whom.
+    pub table: Table,
+}
