@@ -1,0 +1,149 @@
+-- The table of the rules: those of each procedure after the rules of its handles, in order.
+use Rattle.std.specs.Prelude.{ℕ, zero, suc, Bool, true, not, ◌&&◌, ◌||◌, List, [], ◌∷◌, ◌++◌, length, Option, Some, None, is_some, nat_eq, if◌then◌else◌}
+use Rattle.nfs_args.specs.declared.args.NfsArgs.{NfsArgs}
+use Rattle.nfs_args.specs.declared.args.NfsArgs.TheVariants as nfs
+use Rattle.nfs_args.specs.declared.create.Create.{Create}
+use Rattle.nfs_args.specs.declared.create.CreateHow.{CreateHow}
+use Rattle.nfs_args.specs.declared.create.CreateHow.TheVariants.{Unchecked, Guarded, Exclusive}
+use Rattle.nfs_args.specs.declared.link.Link.{Link}
+use Rattle.nfs_args.specs.declared.read_dir.ReadDir.{ReadDir}
+use Rattle.nfs_args.specs.declared.read_dir.ReadDirPlus.{ReadDirPlus}
+use Rattle.nfs_args.specs.declared.rename.Rename.{Rename}
+use Rattle.nfs_args.specs.declared.set_attr.SetAttr.{SetAttr}
+use Rattle.nfs_args.specs.declared.write.Write.{Write}
+use Rattle.nfs_attrs.specs.declared.fattr.Fattr.{Fattr}
+use Rattle.nfs_inodes.specs.Law.{parent_of}
+use Rattle.nfs_inodes.specs.Reading.{is_directory_type}
+use Rattle.nfs_inodes.specs.Tree.{Tree, on_some}
+use Rattle.nfs_rules.specs.Rights.{may}
+use Rattle.nfs_rules.specs.Subjects.{Subject}
+use Rattle.nfs_rules.specs.Tests.{Test, only_where, read_only, not_regular, not_link, not_directory, link_directory, read_right, write_right, search_right, directory_read, directory_write, guard, owner_mode, owner_uid, owner_gid, size_type, owner_time, time_right, too_big, end_of, growth, space, files, links, cookies, numbers, name_long, name_form, dot_name, dot_alone, dot_dot_alone, path_long, found, no_entry, exists, exists_other, is_directory, target_not_directory, is_empty, not_empty, entry_bytes, entry_plus_bytes, too_small}
+use Rattle.nfs_rules.specs.declared.rights.Right.TheVariants.{Execute}
+use Rattle.nfs_rules.specs.declared.rule.Rule.TheVariants as rule
+
+-- ---- SETATTR and WRITE
+
+abbrev pub set_attr_rules : Subject → SetAttr → List Test
+set_attr_rules s a =
+    read_only s ∷ guard s a.guard ∷ owner_mode s a.attributes ∷ owner_uid s a.attributes ∷ owner_gid s a.attributes
+    ∷ size_type s a.attributes ∷ only_where (is_some a.attributes.size) (write_right s) ∷ owner_time s a.attributes ∷ time_right s a.attributes
+    ∷ too_big a.attributes.size ∷ space s (growth s a.attributes.size) ∷ []
+
+abbrev pub write_rules : Subject → Write → List Test
+write_rules s a = read_only s ∷ not_regular s ∷ write_right s ∷ too_big (end_of a.offset (length a.content)) ∷ space s (growth s (end_of a.offset (length a.content))) ∷ []
+
+-- ---- reading
+
+abbrev pub lookup_rules : Subject → List ℕ → List Test
+lookup_rules s name = not_directory s ∷ search_right s ∷ name_long name ∷ name_form name ∷ no_entry s name ∷ []
+
+abbrev pub read_rules : Subject → List Test
+read_rules s = not_regular s ∷ read_right s ∷ []
+
+abbrev pub read_dir_rules : Subject → ReadDir → List Test
+read_dir_rules s a = not_directory s ∷ directory_read s ∷ too_small s a.cookie a.count entry_bytes ∷ []
+
+abbrev pub read_dir_plus_rules : Subject → ReadDirPlus → List Test
+read_dir_plus_rules s a = not_directory s ∷ directory_read s ∷ too_small s a.cookie a.maxcount (entry_plus_bytes (may s.ids s.file Execute)) ∷ []
+
+-- ---- new files
+
+-- a name that an entry may have, in a directory that is searched for it
+abbrev pub place_rules : Subject → List ℕ → List Test
+place_rules s name = read_only s ∷ not_directory s ∷ name_long name ∷ name_form name ∷ search_right s ∷ []
+
+abbrev pub size_in : CreateHow → Option ℕ
+size_in (Unchecked attributes) = attributes.size
+size_in (Guarded attributes) = attributes.size
+size_in (Exclusive verifier) = None
+
+-- CREATE of a name that is not there
+abbrev pub new_file_rules : Subject → Option ℕ → List Test
+new_file_rules s size = directory_write s ∷ files s ∷ too_big size ∷ space s size ∷ numbers s ∷ []
+
+-- CREATE of a file that is there, which may get a size
+abbrev pub present_file_rules : Subject → CreateHow → List Test
+present_file_rules s (Unchecked attributes) = only_where (is_some attributes.size) (write_right s) ∷ too_big attributes.size ∷ space s (growth s attributes.size) ∷ []
+present_file_rules s other = []
+
+abbrev pub create_rules : Subject → Create → List Test
+create_rules s a = place_rules s a.place.name ++ exists_other s a.place.name a.how
+    ∷ on_some (found s a.place.name) (new_file_rules s (size_in a.how)) (λ f. present_file_rules (record s { file = f }) a.how)
+
+abbrev pub make_dir_rules : Subject → List ℕ → List Test
+make_dir_rules s name = place_rules s name ++ exists s name ∷ directory_write s ∷ files s ∷ links s.file ∷ numbers s ∷ []
+
+abbrev pub sym_link_rules : Subject → List ℕ → List ℕ → List Test
+sym_link_rules s name path = place_rules s name ++ path_long path ∷ exists s name ∷ directory_write s ∷ files s ∷ numbers s ∷ []
+
+-- ---- entries
+
+abbrev pub remove_rules : Subject → List ℕ → List Test
+remove_rules s name = read_only s ∷ not_directory s ∷ dot_name name ∷ name_long name ∷ name_form name ∷ search_right s ∷ no_entry s name ∷ directory_write s
+    ∷ on_some (found s name) [] (λ f. is_directory f ∷ [])
+
+abbrev pub remove_dir_rules : Subject → List ℕ → List Test
+remove_dir_rules s name = read_only s ∷ not_directory s ∷ dot_alone name ∷ dot_dot_alone name ∷ name_long name ∷ name_form name ∷ search_right s ∷ no_entry s name ∷ directory_write s
+    ∷ on_some (found s name) [] (λ f. target_not_directory f ∷ not_empty s.tree f ∷ [])
+
+-- the file and the directory that takes the further name
+abbrev pub link_rules : Subject → Subject → List ℕ → List Test
+link_rules file dir name = read_only file ∷ link_directory file ∷ not_directory dir ∷ name_long name ∷ name_form name ∷ search_right dir ∷ exists dir name
+    ∷ directory_write dir ∷ links file.file ∷ cookies dir ∷ []
+
+-- whether file n is directory d or one above it, within so many steps to the parent
+abbrev pub is_above_within : ℕ → Tree → ℕ → ℕ → Bool
+is_above_within zero t n d = nat_eq d n
+is_above_within (suc steps) t n d = nat_eq d n || is_above_within steps t n (parent_of t.files d)
+
+abbrev pub is_above : Tree → ℕ → ℕ → Bool
+is_above t n d = is_above_within (length t.files) t n d
+
+abbrev pub into_itself : Subject → Fattr → Test
+into_itself to moved = (rule.IntoItself, is_directory_type moved.file_type && is_above to.tree moved.fileid to.file.fileid)
+
+-- two files of which neither is a directory, or two directories, of which the one that goes is empty
+abbrev pub replaces : Tree → Fattr → Fattr → Bool
+replaces t moved old = not (is_directory_type moved.file_type) && not (is_directory_type old.file_type)
+    || is_directory_type moved.file_type && is_directory_type old.file_type && is_empty t old
+
+abbrev pub incompatible : Subject → Fattr → Fattr → Test
+incompatible to moved old = (rule.Incompatible, not (replaces to.tree moved old))
+
+-- what RENAME does with what it found: what is moved, and what the new name names
+abbrev pub move_rules : Subject → Subject → Fattr → Option Fattr → List Test
+move_rules from to moved None = into_itself to moved ∷ only_where (is_directory_type moved.file_type && not (nat_eq from.file.fileid to.file.fileid)) (links to.file) ∷ cookies to ∷ []
+move_rules from to moved (Some old) = if nat_eq moved.fileid old.fileid then [] else (incompatible to moved old ∷ into_itself to moved ∷ cookies to ∷ [])
+
+abbrev pub rename_rules : Subject → Subject → Rename → List Test
+rename_rules from to a = read_only from ∷ not_directory from ∷ not_directory to ∷ dot_name a.from.name ∷ dot_name a.to.name
+    ∷ name_long a.from.name ∷ name_long a.to.name ∷ name_form a.from.name ∷ name_form a.to.name ∷ search_right from ∷ search_right to
+    ∷ no_entry from a.from.name ∷ directory_write from ∷ directory_write to
+    ∷ on_some (found from a.from.name) [] (λ moved. move_rules from to moved (found to a.to.name))
+
+-- ---- the table
+
+-- by the file of the first handle and that of the second; where there is only one, both are it
+abbrev pub rules_of : Subject → Subject → NfsArgs → List Test
+rules_of one two nfs.Null = []
+rules_of one two (nfs.GetAttr file) = []
+rules_of one two (nfs.SetAttr a) = set_attr_rules one a
+rules_of one two (nfs.Lookup a) = lookup_rules one a.name
+rules_of one two (nfs.Access a) = []
+rules_of one two (nfs.ReadLink file) = not_link one ∷ []
+rules_of one two (nfs.Read a) = read_rules one
+rules_of one two (nfs.Write a) = write_rules one a
+rules_of one two (nfs.Create a) = create_rules one a
+rules_of one two (nfs.MakeDir a) = make_dir_rules one a.place.name
+rules_of one two (nfs.SymLink a) = sym_link_rules one a.place.name a.path
+rules_of one two (nfs.MakeNode a) = (rule.NoMakeNode, true) ∷ []
+rules_of one two (nfs.Remove a) = remove_rules one a.name
+rules_of one two (nfs.RemoveDir a) = remove_dir_rules one a.name
+rules_of one two (nfs.Rename a) = rename_rules one two a
+rules_of one two (nfs.Link a) = link_rules one two a.place.name
+rules_of one two (nfs.ReadDir a) = read_dir_rules one a
+rules_of one two (nfs.ReadDirPlus a) = read_dir_plus_rules one a
+rules_of one two (nfs.FsStat file) = []
+rules_of one two (nfs.FsInfo file) = []
+rules_of one two (nfs.PathConf file) = []
+rules_of one two (nfs.Commit a) = not_regular one ∷ []

@@ -1,0 +1,74 @@
+//! The rules that look at a name or a path alone.
+ghost use Rattle.std.specs.Prelude.{◌≡◌, bytes_eq};
+ghost use Rattle.std.specs.List.{list_any};
+ghost use Rattle.nfs_inodes.specs.Reading.{dot, dot_dot};
+ghost use Rattle.nfs_rules.specs.Judging.{Tells};
+ghost use Rattle.nfs_rules.specs.Tests as test;
+
+use crate::rule::{Rule, ensure};
+use nfs_inodes::limits::{MAX_NAME_BYTES, MAX_PATH_BYTES};
+
+/// `NameLong`: a name has at most 255 bytes.
+pub fn name_long(name: &[u8]) -> Result<(), Rule>
+    ensures { Tells result (test.name_long name.now) }
+{
+    ensure(name.len() <= MAX_NAME_BYTES, Rule::NameLong)
+}
+
+/// `NameForm`: a name has a byte, and none that is 0 or `/`.
+pub fn name_form(name: &[u8]) -> Result<(), Rule>
+    ensures { Tells result (test.name_form name.now) }
+{
+    ensure(!name.is_empty() && !has_separator(name), Rule::NameForm)
+}
+
+/// `DotName`: a name is neither `.` nor `..`.
+pub fn dot_name(name: &[u8]) -> Result<(), Rule>
+    ensures { Tells result (test.dot_name name.now) }
+{
+    ensure(!is_dot(name) && !is_dot_dot(name), Rule::DotName)
+}
+
+/// `DotName` in RMDIR: a name isn't `.`.
+pub fn dot_alone(name: &[u8]) -> Result<(), Rule>
+    ensures { Tells result (test.dot_alone name.now) }
+{
+    ensure(!is_dot(name), Rule::DotName)
+}
+
+/// `DotDot`: a name isn't `..`.
+pub fn dot_dot_alone(name: &[u8]) -> Result<(), Rule>
+    ensures { Tells result (test.dot_dot_alone name.now) }
+{
+    ensure(!is_dot_dot(name), Rule::DotDot)
+}
+
+/// `PathLong`: a path has at most 1,024 bytes.
+pub fn path_long(path: &[u8]) -> Result<(), Rule>
+    ensures { Tells result (test.path_long path.now) }
+{
+    ensure(path.len() <= MAX_PATH_BYTES, Rule::PathLong)
+}
+
+fn is_dot(name: &[u8]) -> bool
+    ensures { result ≡ bytes_eq name.now dot }
+{
+    name == b".".as_slice()
+}
+
+fn is_dot_dot(name: &[u8]) -> bool
+    ensures { result ≡ bytes_eq name.now dot_dot }
+{
+    name == b"..".as_slice()
+}
+
+fn has_separator(name: &[u8]) -> bool
+    ensures { result ≡ list_any test.is_separator name.now }
+{
+    for byte in name {
+        if *byte == 0 || *byte == b'/' {
+            return true;
+        }
+    }
+    false
+}

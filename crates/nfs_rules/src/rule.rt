@@ -1,0 +1,201 @@
+//! The rules of the procedures, each with its name and its status.
+ghost use Rattle.std.specs.Prelude.{◌≡◌, not};
+ghost use Rattle.nfs_rules.specs.Judging.{Tells};
+ghost use Rattle.nfs_rules.specs.Rules.{name_of, status_of};
+
+/// A rule that a call has to keep. The comment of each says what holds where it is kept.
+#[derive(Clone, Copy, Debug, PartialEq, Eq)]
+pub enum Rule {
+    /// The handle is one that was given.
+    BadHandle,
+    /// The handle's file lives.
+    StaleHandle,
+    /// A pattern of the file's volume covers the address.
+    Export,
+    /// Both handles name files of one volume.
+    CrossVolume,
+    /// The volume is exported for writing.
+    ReadOnly,
+    /// The file is a regular one.
+    NotRegular,
+    /// The file is a symbolic link.
+    NotLink,
+    /// The file is a directory.
+    NotDirectory,
+    /// The file's attributes were changed last when the guard says.
+    Guard,
+    /// Who gives a mode owns the file.
+    OwnerMode,
+    /// The owner that is given is the present one, and its own giver; uid 0 gives any.
+    OwnerUid,
+    /// The group that is given is the present one or one of the giver's, who owns the file; uid 0
+    /// gives any.
+    OwnerGid,
+    /// The file to which a size is given is a regular one.
+    SizeType,
+    /// The caller may write the file, or owns it.
+    WriteRight,
+    /// The caller may read or execute the file, or owns it.
+    ReadRight,
+    /// Who gives a time owns the file.
+    OwnerTime,
+    /// Who asks for the server's time may write the file, or owns it.
+    TimeRight,
+    /// The file stays within the most bytes that one has.
+    TooBig,
+    /// The volume's bytes stay within its limit.
+    Space,
+    /// The caller may search the directory.
+    Search,
+    /// The caller may read the directory.
+    DirectoryRead,
+    /// The caller may write the directory.
+    DirectoryWrite,
+    /// The name has at most 255 bytes.
+    NameLong,
+    /// The name has a byte, and none that is 0 or `/`.
+    NameForm,
+    /// The name is neither `.` nor, but where a rule of its own looks at that, `..`.
+    DotName,
+    /// The name of the directory to be removed isn't `..`.
+    DotDot,
+    /// The path has at most 1,024 bytes.
+    PathLong,
+    /// There is a volume of the path.
+    MountPath,
+    /// There is an entry of the name.
+    NoEntry,
+    /// There is no entry of the name, or none that stands in the way.
+    Exists,
+    /// The file under the name is no directory.
+    IsDirectory,
+    /// The file under the name is a directory.
+    TargetNotDirectory,
+    /// The directory under the name has no entries.
+    NotEmpty,
+    /// What the new name names may be replaced by what the old one names.
+    Incompatible,
+    /// A directory goes neither into itself nor below itself.
+    IntoItself,
+    /// The file that is to have a further name is no directory.
+    LinkDirectory,
+    /// The volume may have a file more.
+    Files,
+    /// What gains a link may have one more.
+    Links,
+    /// There are numbers left for a new file and a new entry.
+    Numbers,
+    /// No special file is asked for.
+    NoMakeNode,
+    /// The first entry that is left fits into the answer.
+    TooSmall,
+}
+
+impl Rule {
+    /// The name by which audit lines speak of the rule: lower-case letters and hyphens.
+    pub fn name(self) -> &'static str
+        ensures { result.now ≡ name_of self }
+    {
+        match self {
+            Rule::BadHandle => "bad-handle",
+            Rule::StaleHandle => "stale-handle",
+            Rule::Export => "export",
+            Rule::CrossVolume => "cross-volume",
+            Rule::ReadOnly => "read-only",
+            Rule::NotRegular => "not-regular",
+            Rule::NotLink => "not-link",
+            Rule::NotDirectory => "not-dir",
+            Rule::Guard => "guard",
+            Rule::OwnerMode => "owner-mode",
+            Rule::OwnerUid => "owner-uid",
+            Rule::OwnerGid => "owner-gid",
+            Rule::SizeType => "size-type",
+            Rule::WriteRight => "write-right",
+            Rule::ReadRight => "read-right",
+            Rule::OwnerTime => "owner-time",
+            Rule::TimeRight => "time-right",
+            Rule::TooBig => "too-big",
+            Rule::Space => "space",
+            Rule::Search => "search",
+            Rule::DirectoryRead => "dir-read",
+            Rule::DirectoryWrite => "dir-write",
+            Rule::NameLong => "name-long",
+            Rule::NameForm => "name-form",
+            Rule::DotName => "dot-name",
+            Rule::DotDot => "dot-dot",
+            Rule::PathLong => "path-long",
+            Rule::MountPath => "mount-path",
+            Rule::NoEntry => "no-entry",
+            Rule::Exists => "exists",
+            Rule::IsDirectory => "is-dir",
+            Rule::TargetNotDirectory => "target-not-dir",
+            Rule::NotEmpty => "not-empty",
+            Rule::Incompatible => "incompatible",
+            Rule::IntoItself => "into-itself",
+            Rule::LinkDirectory => "link-dir",
+            Rule::Files => "files",
+            Rule::Links => "links",
+            Rule::Numbers => "numbers",
+            Rule::NoMakeNode => "no-mknod",
+            Rule::TooSmall => "too-small",
+        }
+    }
+
+    /// The status of a call that fails the rule (RFC 1813, section 2.6, nfsstat3; appendix I, section
+    /// 5.1.1, mountstat3).
+    pub fn status(self) -> u32
+        ensures { result ≡ status_of self }
+    {
+        match self {
+            Rule::BadHandle => 10_001,
+            Rule::StaleHandle => 70,
+            Rule::Export => 13,
+            Rule::CrossVolume => 18,
+            Rule::ReadOnly => 30,
+            Rule::NotRegular => 22,
+            Rule::NotLink => 22,
+            Rule::NotDirectory => 20,
+            Rule::Guard => 10_002,
+            Rule::OwnerMode => 1,
+            Rule::OwnerUid => 1,
+            Rule::OwnerGid => 1,
+            Rule::SizeType => 22,
+            Rule::WriteRight => 13,
+            Rule::ReadRight => 13,
+            Rule::OwnerTime => 1,
+            Rule::TimeRight => 13,
+            Rule::TooBig => 27,
+            Rule::Space => 28,
+            Rule::Search => 13,
+            Rule::DirectoryRead => 13,
+            Rule::DirectoryWrite => 13,
+            Rule::NameLong => 63,
+            Rule::NameForm => 13,
+            Rule::DotName => 22,
+            Rule::DotDot => 17,
+            Rule::PathLong => 63,
+            Rule::MountPath => 2,
+            Rule::NoEntry => 2,
+            Rule::Exists => 17,
+            Rule::IsDirectory => 21,
+            Rule::TargetNotDirectory => 20,
+            Rule::NotEmpty => 66,
+            Rule::Incompatible => 17,
+            Rule::IntoItself => 22,
+            Rule::LinkDirectory => 22,
+            Rule::Files => 28,
+            Rule::Links => 31,
+            Rule::Numbers => 28,
+            Rule::NoMakeNode => 10_004,
+            Rule::TooSmall => 10_005,
+        }
+    }
+}
+
+// The rule where it is not kept.
+#[inline(always)]
+pub(crate) fn ensure(kept: bool, rule: Rule) -> Result<(), Rule>
+    ensures { Tells result (rule, not kept) }
+{
+    if kept { Ok(()) } else { Err(rule) }
+}

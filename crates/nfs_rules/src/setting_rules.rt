@@ -1,0 +1,148 @@
+//! The rules that look at the attributes that SETATTR sets (RFC 1813, section 3.3.2). The owner of a
+//! file sets its mode and its times, gives it to a group of its own, and doesn't give it away; uid 0
+//! may all of this.
+ghost use Rattle.std.specs.Prelude.{◌≡◌, ◌||◌, nat_eq, is_some};
+ghost use Rattle.std.specs.List.{list_any};
+ghost use Rattle.nfs_exports.specs.Ids.{ids_of};
+ghost use Rattle.nfs_rules.specs.Judging.{Tells};
+ghost use Rattle.nfs_rules.specs.Tests as test;
+
+use crate::rights::{Right, is_among, owns};
+use crate::rule::{Rule, ensure};
+use crate::subject::Subject;
+use nfs_attrs::fattr::Fattr;
+use nfs_attrs::file_type::FileType;
+use nfs_attrs::moment::Moment;
+use nfs_attrs::sattr::Sattr;
+use nfs_attrs::time_setting::TimeSetting;
+use nfs_exports::squash::Ids;
+
+impl<'a> Subject<'a> {
+    /// `Guard`: the file's attributes were changed last when the guard says, if there is one.
+    pub fn guard(&self, ctime: Option<Moment>) -> Result<(), Rule>
+        ensures { Tells result (test.guard self.now ctime) }
+    {
+        match ctime {
+            None => Ok(()),
+            Some(moment) => {
+                ensure(same_moment(moment, self.file.attributes.ctime), Rule::Guard)
+            }
+        }
+    }
+
+    /// `OwnerMode`: who gives a mode owns the file.
+    pub fn owner_mode(&self, given: &Sattr) -> Result<(), Rule>
+        ensures { Tells result (test.owner_mode self.now given.now) }
+    {
+        match given.mode {
+            None => Ok(()),
+            Some(_) => ensure(owns(&self.ids, &self.file.attributes), Rule::OwnerMode),
+        }
+    }
+
+    /// `OwnerUid`: the owner that is given is the present one, who gives it.
+    pub fn owner_uid(&self, given: &Sattr) -> Result<(), Rule>
+        ensures { Tells result (test.owner_uid self.now given.now) }
+    {
+        match given.uid {
+            None => Ok(()),
+            Some(uid) => ensure(gives_uid(&self.ids, &self.file.attributes, uid), Rule::OwnerUid),
+        }
+    }
+
+    /// `OwnerGid`: the group that is given is the present one or one of the owner's, who gives it.
+    pub fn owner_gid(&self, given: &Sattr) -> Result<(), Rule>
+        ensures { Tells result (test.owner_gid self.now given.now) }
+    {
+        match given.gid {
+            None => Ok(()),
+            Some(gid) => ensure(gives_gid(&self.ids, &self.file.attributes, gid), Rule::OwnerGid),
+        }
+    }
+
+    /// `SizeType`: the file to which a size is given is a regular one.
+    pub fn size_type(&self, given: &Sattr) -> Result<(), Rule>
+        ensures { Tells result (test.size_type self.now given.now) }
+    {
+        match given.size {
+            None => Ok(()),
+            Some(_) => ensure(
+                self.file.attributes.file_type == FileType::Regular,
+                Rule::SizeType,
+            ),
+        }
+    }
+
+    /// `WriteRight`, where a size is given.
+    pub fn size_write_right(&self, size: Option<u64>) -> Result<(), Rule>
+        ensures { Tells result (test.only_where (is_some size) (test.write_right self.now)) }
+    {
+        match size {
+            None => Ok(()),
+            Some(_) => self.write_right(),
+        }
+    }
+
+    /// `OwnerTime`: who gives a time owns the file.
+    pub fn owner_time(&self, given: &Sattr) -> Result<(), Rule>
+        ensures { Tells result (test.owner_time self.now given.now) }
+    {
+        if !is_client_time(given.atime) && !is_client_time(given.mtime) {
+            return Ok(());
+        }
+        ensure(owns(&self.ids, &self.file.attributes), Rule::OwnerTime)
+    }
+
+    /// `TimeRight`: who asks for the server's time may write the file, or owns it.
+    pub fn time_right(&self, given: &Sattr) -> Result<(), Rule>
+        ensures { Tells result (test.time_right self.now given.now) }
+    {
+        if !is_server_time(given.atime) && !is_server_time(given.mtime) {
+            return Ok(());
+        }
+        ensure(self.owns_or_may(Right::Write), Rule::TimeRight)
+    }
+}
+
+fn same_moment(one: Moment, other: Moment) -> bool
+    ensures { result ≡ test.same_moment one other }
+{
+    one.seconds == other.seconds && one.nanos == other.nanos
+}
+
+fn gives_uid(ids: &Ids, file: &Fattr, uid: u32) -> bool
+    ensures { result ≡ test.gives_uid (ids_of ids.now) file.now uid }
+{
+    ids.uid == 0 || ids.uid == file.uid && uid == file.uid
+}
+
+fn gives_gid(ids: &Ids, file: &Fattr, gid: u32) -> bool
+    ensures { result ≡ test.gives_gid (ids_of ids.now) file.now gid }
+{
+    ids.uid == 0 || ids.uid == file.uid && (gid == file.gid || is_group(ids, gid))
+}
+
+// Whether the caller is in a group.
+fn is_group(ids: &Ids, gid: u32) -> bool
+    ensures { result ≡ (nat_eq gid ids.now.gid || list_any (nat_eq gid) (ids_of ids.now).gids) }
+{
+    gid == ids.gid || is_among(ids.gids.as_slice(), gid)
+}
+
+fn is_client_time(setting: TimeSetting) -> bool
+    ensures { result ≡ test.is_client_time setting }
+{
+    match setting {
+        TimeSetting::ClientTime(_) => true,
+        _ => false,
+    }
+}
+
+fn is_server_time(setting: TimeSetting) -> bool
+    ensures { result ≡ test.is_server_time setting }
+{
+    match setting {
+        TimeSetting::ServerTime => true,
+        _ => false,
+    }
+}

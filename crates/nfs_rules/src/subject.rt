@@ -1,0 +1,69 @@
+//! The file that a call is about, and how its caller is judged there.
+ghost use Rattle.std.specs.Prelude.{◌≡◌, Some};
+ghost use Rattle.nfs_exports.specs.Ids.{ids_of};
+ghost use Rattle.nfs_inodes.specs.Law.{Law};
+ghost use Rattle.nfs_inodes.specs.Reading.{attributes_at};
+ghost use Rattle.nfs_inodes.specs.Views.{IsSeen};
+
+use nfs_attrs::fattr::Fattr;
+use nfs_exports::options::Options;
+use nfs_exports::squash::Ids;
+use nfs_inodes::tree::Tree;
+use nfs_inodes::view::FileView;
+use std::marker::Model;
+
+/// A file of a tree, the options that the caller's address has at its volume, and the ids that these
+/// leave to the caller. The rules are its methods: each answers itself where the call fails it.
+#[derive(Drop)]
+pub struct Subject<'a> {
+    pub(crate) tree: &'a Tree,
+    pub(crate) file: FileView<'a>,
+    pub(crate) options: &'a Options,
+    pub(crate) ids: Ids,
+}
+
+impl<'a> Model for Subject<'a> {
+    ghost use Rattle.nfs_exports.specs.Ids.{ids_of};
+    ghost use Rattle.nfs_inodes.specs.Views.{IsSeen};
+    ghost use Rattle.nfs_rules.specs.Subjects as shown;
+
+    ghost Value = { shown.Subject };
+
+    ghost view = { λ a. record { tree = a.tree.now; file = a.file.attributes; options = a.options.now; ids = ids_of a.ids } };
+
+    ghost invariant = { λ a. IsSeen a.tree.now a.file };
+}
+
+impl<'a> Subject<'a> {
+    pub(crate) fn new(
+        tree: &'a Tree,
+        file: FileView<'a>,
+        options: &'a Options,
+        ids: Ids,
+    ) -> Subject<'a>
+        requires { IsSeen tree.now file }
+        ensures { result ≡ record { tree = tree.entry.now; file = file.entry.attributes; options = options.entry.now; ids = ids_of ids } }
+    {
+        Subject {
+            tree,
+            file,
+            options,
+            ids,
+        }
+    }
+
+    /// The attributes of the file.
+    pub fn file(&self) -> &Fattr
+        ensures { result.now ≡ self.now.file }
+    {
+        &self.file.attributes
+    }
+
+    /// The tree is a lawful one, and the file is there, for proofs.
+    pub fn law(&self)
+        ensures law { Law self.now.tree }
+        ensures file { attributes_at self.now.tree self.now.file.fileid ≡ Some self.now.file }
+    {
+        self.tree.law();
+    }
+}
