@@ -17,7 +17,7 @@ use Rattle.nfs_inodes.specs.Reading.{is_directory_type}
 use Rattle.nfs_inodes.specs.Tree.{Tree, on_some}
 use Rattle.nfs_rules.specs.Rights.{may}
 use Rattle.nfs_rules.specs.Subjects.{Subject}
-use Rattle.nfs_rules.specs.Tests.{Test, only_where, read_only, not_regular, not_link, not_directory, link_directory, read_right, write_right, search_right, directory_read, directory_write, guard, owner_mode, owner_uid, owner_gid, size_type, owner_time, time_right, too_big, end_of, growth, space, files, links, cookies, numbers, name_long, name_form, dot_name, dot_alone, dot_dot_alone, path_long, found, no_entry, exists, exists_other, is_directory, target_not_directory, is_empty, not_empty, entry_bytes, entry_plus_bytes, too_small}
+use Rattle.nfs_rules.specs.Tests.{Test, only_where, read_only, not_regular, not_link, not_directory, link_directory, read_right, write_right, search_right, directory_read, directory_write, guard, owner_mode, owner_uid, owner_gid, size_type, owner_time, time_right, too_big, end_of, growth, space, files, links, cookies, numbers, name_long, name_form, dot_name, dot_alone, dot_dot_alone, path_long, found, no_entry, exists, exists_other, is_directory, target_not_directory, is_empty, not_empty, plus_bytes, too_small}
 use Rattle.nfs_rules.specs.declared.rights.Right.TheVariants.{Execute}
 use Rattle.nfs_rules.specs.declared.rule.Rule.TheVariants as rule
 
@@ -41,10 +41,10 @@ abbrev pub read_rules : Subject → List Test
 read_rules s = not_regular s ∷ read_right s ∷ []
 
 abbrev pub read_dir_rules : Subject → ReadDir → List Test
-read_dir_rules s a = not_directory s ∷ directory_read s ∷ too_small s a.cookie a.count entry_bytes ∷ []
+read_dir_rules s a = not_directory s ∷ directory_read s ∷ too_small s a.cookie a.count 0 ∷ []
 
 abbrev pub read_dir_plus_rules : Subject → ReadDirPlus → List Test
-read_dir_plus_rules s a = not_directory s ∷ directory_read s ∷ too_small s a.cookie a.maxcount (entry_plus_bytes (may s.ids s.file Execute)) ∷ []
+read_dir_plus_rules s a = not_directory s ∷ directory_read s ∷ too_small s a.cookie a.maxcount (plus_bytes (may s.ids s.file Execute)) ∷ []
 
 -- ---- new files
 

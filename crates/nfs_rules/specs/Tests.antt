@@ -231,10 +231,11 @@ page_head_bytes = 104
 abbrev pub entry_bytes : Entry → ℕ
 entry_bytes e = 24 + length e.name + padding (length e.name)
 
--- READDIRPLUS: also its attributes and its handle, or that there are none
-abbrev pub entry_plus_bytes : Bool → Entry → ℕ
-entry_plus_bytes searchable e = entry_bytes e + (if searchable then 120 else 8)
+-- READDIRPLUS: beside that its attributes and its handle, or that there are none
+abbrev pub plus_bytes : Bool → ℕ
+plus_bytes searchable = if searchable then 120 else 8
 
-abbrev pub too_small : Subject → ℕ → ℕ → (Entry → ℕ) → Test
-too_small s cookie count bytes = (rule.TooSmall, nat_lt (min count max_page_bytes) page_head_bytes
-    || on_some (entry_after s.tree s.file.fileid cookie) false (λ e. nat_lt (min count max_page_bytes) (page_head_bytes + bytes e)))
+-- the page takes not so many bytes as its head has, or an entry is left and the first doesn't fit, with so many bytes beside it
+abbrev pub too_small : Subject → ℕ → ℕ → ℕ → Test
+too_small s cookie count beside = (rule.TooSmall, nat_lt (min count max_page_bytes) page_head_bytes
+    || on_some (entry_after s.tree s.file.fileid cookie) false (λ e. nat_lt (min count max_page_bytes) (page_head_bytes + entry_bytes e + beside)))

@@ -2,9 +2,12 @@
 #![tactic(auto)]
 
 pub mod caller;
+pub mod entry_rules;
 pub mod exported_file;
 pub mod file_rules;
+pub mod limit_rules;
 pub mod name_rules;
+pub mod page_rules;
 pub mod rights;
 pub mod rule;
 pub mod setting_rules;

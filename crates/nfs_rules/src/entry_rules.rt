@@ -1,0 +1,126 @@
+//! The rules that look at the entries of a directory, of which `.` and `..` are two.
+ghost use Rattle.std.specs.Prelude.{◌≡◌, false, bytes_eq, Some, IfSome, IfOk, option_map};
+ghost use Rattle.nfs_inodes.specs.Reading.{number_under, verifier_at};
+ghost use Rattle.nfs_inodes.specs.Tree.{on_some};
+ghost use Rattle.nfs_inodes.specs.Views.{IsSeen};
+ghost use Rattle.nfs_rules.specs.Judging.{Tells};
+ghost use Rattle.nfs_rules.specs.Tests as test;
+
+use crate::rule::{Rule, ensure};
+use crate::subject::Subject;
+use nfs_args::create::CreateHow;
+use nfs_attrs::fattr::Fattr;
+use nfs_attrs::file_type::FileType;
+use nfs_handles::number::Number;
+use nfs_inodes::view::FileView;
+
+// The cookie of `..`, behind which the other entries stand.
+const LAST_DOT_COOKIE: u64 = 2;
+
+impl<'a> Subject<'a> {
+    /// The file under a name in the directory.
+    pub fn found(&self, name: &[u8]) -> Option<FileView<'a>>
+        ensures found { option_map (λ f. f.attributes) result ≡ test.found self.now name.now }
+        ensures seen { IfSome result (λ f. IsSeen self.now.tree f) }
+        ensures number { IfSome result (λ f. number_under self.now.tree self.now.file.fileid name.now ≡ Some f.attributes.fileid) }
+    {
+        self.tree.find_in(&self.file, name)
+    }
+
+    /// `NoEntry`: there is an entry of the name, whose file is answered.
+    pub fn no_entry(&self, name: &[u8]) -> Result<FileView<'a>, Rule>
+        ensures rule { Tells result (test.no_entry self.now name.now) }
+        ensures found { IfOk result (λ f. test.found self.now name.now ≡ Some f.attributes) }
+        ensures seen { IfOk result (λ f. IsSeen self.now.tree f) }
+        ensures number { IfOk result (λ f. number_under self.now.tree self.now.file.fileid name.now ≡ Some f.attributes.fileid) }
+    {
+        match self.found(name) {
+            Some(file) => Ok(file),
+            None => Err(Rule::NoEntry),
+        }
+    }
+
+    /// `Exists`: there is no entry of the name.
+    pub fn exists(&self, name: &[u8]) -> Result<(), Rule>
+        ensures { Tells result (test.exists self.now name.now) }
+    {
+        ensure(self.found(name).is_none(), Rule::Exists)
+    }
+
+    /// `Exists` in CREATE: there is no entry of the name, or its file is one that CREATE takes, which is
+    /// answered then.
+    pub fn exists_other(
+        &self,
+        name: &[u8],
+        how: &CreateHow<'_>,
+    ) -> Result<Option<FileView<'a>>, Rule>
+        ensures rule { Tells result (test.exists_other self.now name.now how.now) }
+        ensures found { IfOk result (λ o. option_map (λ f. f.attributes) o ≡ test.found self.now name.now) }
+    {
+        match self.found(name) {
+            None => Ok(None),
+            Some(file) => {
+                if self.takes(how, &file.attributes) {
+                    Ok(Some(file))
+                } else {
+                    Err(Rule::Exists)
+                }
+            }
+        }
+    }
+
+    // Whether CREATE takes a file that is there.
+    fn takes(&self, how: &CreateHow<'_>, file: &Fattr) -> bool
+        ensures { result ≡ test.takes self.now.tree how.now file.now }
+    {
+        match how {
+            CreateHow::Unchecked(_) => file.file_type == FileType::Regular,
+            CreateHow::Guarded(_) => false,
+            CreateHow::Exclusive(verifier) => {
+                file.file_type == FileType::Regular && self.was_made_by(file, verifier.bytes())
+            }
+        }
+    }
+
+    fn was_made_by(&self, file: &Fattr, verifier: &[u8]) -> bool
+        ensures { result ≡ on_some (verifier_at self.now.tree file.now.fileid) false (bytes_eq verifier.now) }
+    {
+        match self.tree.verifier(Number(file.fileid)) {
+            Some(made_by) => verifier == made_by.as_slice(),
+            None => false,
+        }
+    }
+
+    /// `NotEmpty`: a directory lists nothing but `.` and `..`.
+    pub fn not_empty(&self, dir: &Fattr) -> Result<(), Rule>
+        ensures { Tells result (test.not_empty self.now.tree dir.now) }
+    {
+        ensure(self.is_empty(dir), Rule::NotEmpty)
+    }
+
+    pub(crate) fn is_empty(&self, dir: &Fattr) -> bool
+        ensures { result ≡ test.is_empty self.now.tree dir.now }
+    {
+        self.tree.entry_after(Number(dir.fileid), LAST_DOT_COOKIE).is_none()
+    }
+}
+
+/// `IsDirectory`: the file is no directory.
+pub fn is_directory(file: &Fattr) -> Result<(), Rule>
+    ensures { Tells result (test.is_directory file.now) }
+{
+    match file.file_type {
+        FileType::Directory => Err(Rule::IsDirectory),
+        _ => Ok(()),
+    }
+}
+
+/// `TargetNotDirectory`: the file is a directory.
+pub fn target_not_directory(file: &Fattr) -> Result<(), Rule>
+    ensures { Tells result (test.target_not_directory file.now) }
+{
+    match file.file_type {
+        FileType::Directory => Ok(()),
+        _ => Err(Rule::TargetNotDirectory),
+    }
+}

@@ -1,0 +1,123 @@
+//! The rules that look at limits: the bytes of a file and of its volume, the files of a volume, links,
+//! and the numbers that are left.
+ghost use Rattle.std.specs.Prelude.{◌≡◌, ◌+◌, ◌∷◌, [], false, not, nat_lt, nat_le};
+ghost use Rattle.nfs_inodes.specs.Reading.{next_cookie_at};
+ghost use Rattle.nfs_inodes.specs.Tree.{on_some};
+ghost use Rattle.nfs_rules.specs.Judging.{Tells, Judges};
+ghost use Rattle.nfs_rules.specs.Tests as test;
+
+use crate::exported_file::place_of;
+use crate::rule::{Rule, ensure};
+use crate::subject::Subject;
+use nfs_attrs::fattr::Fattr;
+use nfs_handles::number::Number;
+use nfs_inodes::limits::{MAX_FILE_BYTES, MAX_LINKS};
+
+impl<'a> Subject<'a> {
+    /// `TooBig` and `Space` where a file of this size takes the place of the one that is there; without
+    /// a size nothing is looked at.
+    pub fn size_limits(&self, size: Option<u64>) -> Result<(), Rule>
+        ensures { Judges result (test.too_big size ∷ test.space self.now (test.growth self.now size) ∷ []) }
+    {
+        too_big(size)?;
+        match size {
+            None => Ok(()),
+            Some(size) => self.space(Some(size.saturating_sub(self.file.attributes.size))),
+        }
+    }
+
+    /// `TooBig` and `Space` where so many bytes are put at an offset; no bytes are never too many.
+    pub fn write_limits(&self, offset: u64, count: usize) -> Result<(), Rule>
+        ensures { Judges result (test.too_big (test.end_of offset count) ∷ test.space self.now (test.growth self.now (test.end_of offset count)) ∷ []) }
+    {
+        if count == 0 {
+            return Ok(());
+        }
+        if offset > MAX_FILE_BYTES as u64 || count > MAX_FILE_BYTES - offset as usize {
+            return Err(Rule::TooBig);
+        }
+        let end = offset + count as u64;
+        self.space(Some(end.saturating_sub(self.file.attributes.size)))
+    }
+
+    /// `Space`: the volume takes so many bytes more, if any.
+    pub fn space(&self, more: Option<u64>) -> Result<(), Rule>
+        ensures { Tells result (test.space self.now more) }
+    {
+        match more {
+            None => Ok(()),
+            Some(bytes) => ensure(self.has_space(bytes), Rule::Space),
+        }
+    }
+
+    /// `Files`: the volume takes a file more.
+    pub fn files(&self) -> Result<(), Rule>
+        ensures { Tells result (test.files self.now) }
+    {
+        ensure(self.has_file_left(), Rule::Files)
+    }
+
+    /// `Numbers`: the directory has a cookie left for a further entry.
+    pub fn cookies(&self) -> Result<(), Rule>
+        ensures { Tells result (test.cookies self.now) }
+    {
+        ensure(self.has_cookie_left(), Rule::Numbers)
+    }
+
+    /// `Numbers`: there is a number left for a new file, and the directory has a cookie left for its
+    /// entry.
+    pub fn numbers(&self) -> Result<(), Rule>
+        ensures { Tells result (test.numbers self.now) }
+    {
+        let kept = self.tree.next_number() < u64::MAX && self.has_cookie_left();
+        ensure(kept, Rule::Numbers)
+    }
+
+    fn has_space(&self, bytes: u64) -> bool
+        ensures { result ≡ not (test.in_volume self.now (λ volume totals. nat_lt volume.max_bytes (totals.bytes + bytes))) }
+    {
+        let place = place_of(&self.file.attributes);
+        match (self.tree.volume(place), self.tree.totals(place)) {
+            (Some(volume), Some(totals)) => {
+                totals.bytes <= volume.max_bytes && bytes <= volume.max_bytes - totals.bytes
+            }
+            _ => true,
+        }
+    }
+
+    fn has_file_left(&self) -> bool
+        ensures { result ≡ not (test.in_volume self.now (λ volume totals. nat_le volume.max_files totals.files)) }
+    {
+        let place = place_of(&self.file.attributes);
+        match (self.tree.volume(place), self.tree.totals(place)) {
+            (Some(volume), Some(totals)) => totals.files < volume.max_files,
+            _ => true,
+        }
+    }
+
+    fn has_cookie_left(&self) -> bool
+        ensures { result ≡ not (on_some (next_cookie_at self.now.tree self.now.file.fileid) false (nat_le test.last_number)) }
+    {
+        match self.tree.next_cookie(Number(self.file.attributes.fileid)) {
+            Some(cookie) => cookie < u64::MAX,
+            None => true,
+        }
+    }
+}
+
+/// `TooBig`: a file has at most 16,777,216 bytes; without a size nothing is looked at.
+pub fn too_big(size: Option<u64>) -> Result<(), Rule>
+    ensures { Tells result (test.too_big size) }
+{
+    match size {
+        None => Ok(()),
+        Some(size) => ensure(size <= MAX_FILE_BYTES as u64, Rule::TooBig),
+    }
+}
+
+/// `Links`: a file has at most 1,000 links.
+pub fn links(file: &Fattr) -> Result<(), Rule>
+    ensures { Tells result (test.links file.now) }
+{
+    ensure(file.nlink < MAX_LINKS, Rule::Links)
+}
