@@ -19,6 +19,19 @@ pub struct Ids {
     pub gids: ArrayVec<u32, 16>,
 }
 
+impl Ids {
+    /// The same ids once more.
+    pub fn copied(&self) -> Ids
+        ensures { ids_of result ≡ ids_of self.now }
+    {
+        Ids {
+            uid: self.uid,
+            gid: self.gid,
+            gids: copied(&self.gids),
+        }
+    }
+}
+
 /// The ids that the options leave to a caller: the anonymous ones in place of those that are
 /// mapped.
 pub fn squash(options: &Options, cred: &Cred) -> Ids

@@ -48,10 +48,6 @@ read_dir_plus_rules s a = not_directory s ∷ directory_read s ∷ too_small s a
 
 -- ---- new files
 
--- a name that an entry may have, in a directory that is searched for it
-abbrev pub place_rules : Subject → List ℕ → List Test
-place_rules s name = read_only s ∷ not_directory s ∷ name_long name ∷ name_form name ∷ search_right s ∷ []
-
 abbrev pub size_in : CreateHow → Option ℕ
 size_in (Unchecked attributes) = attributes.size
 size_in (Guarded attributes) = attributes.size
@@ -67,14 +63,14 @@ present_file_rules s (Unchecked attributes) = only_where (is_some attributes.siz
 present_file_rules s other = []
 
 abbrev pub create_rules : Subject → Create → List Test
-create_rules s a = place_rules s a.place.name ++ exists_other s a.place.name a.how
+create_rules s a = read_only s ∷ not_directory s ∷ name_long a.place.name ∷ name_form a.place.name ∷ search_right s ∷ exists_other s a.place.name a.how
     ∷ on_some (found s a.place.name) (new_file_rules s (size_in a.how)) (λ f. present_file_rules (record s { file = f }) a.how)
 
 abbrev pub make_dir_rules : Subject → List ℕ → List Test
-make_dir_rules s name = place_rules s name ++ exists s name ∷ directory_write s ∷ files s ∷ links s.file ∷ numbers s ∷ []
+make_dir_rules s name = read_only s ∷ not_directory s ∷ name_long name ∷ name_form name ∷ search_right s ∷ exists s name ∷ directory_write s ∷ files s ∷ links s.file ∷ numbers s ∷ []
 
 abbrev pub sym_link_rules : Subject → List ℕ → List ℕ → List Test
-sym_link_rules s name path = place_rules s name ++ path_long path ∷ exists s name ∷ directory_write s ∷ files s ∷ numbers s ∷ []
+sym_link_rules s name path = read_only s ∷ not_directory s ∷ name_long name ∷ name_form name ∷ search_right s ∷ path_long path ∷ exists s name ∷ directory_write s ∷ files s ∷ numbers s ∷ []
 
 -- ---- entries
 

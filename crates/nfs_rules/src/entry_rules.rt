@@ -56,6 +56,7 @@ impl<'a> Subject<'a> {
     ) -> Result<Option<FileView<'a>>, Rule>
         ensures rule { Tells result (test.exists_other self.now name.now how.now) }
         ensures found { IfOk result (λ o. option_map (λ f. f.attributes) o ≡ test.found self.now name.now) }
+        ensures seen { IfOk result (λ o. IfSome o (λ f. IsSeen self.now.tree f)) }
     {
         match self.found(name) {
             None => Ok(None),

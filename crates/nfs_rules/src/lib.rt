@@ -12,3 +12,4 @@ pub mod rights;
 pub mod rule;
 pub mod setting_rules;
 pub mod subject;
+pub mod table;

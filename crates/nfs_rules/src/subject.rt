@@ -66,4 +66,12 @@ impl<'a> Subject<'a> {
     {
         self.tree.law();
     }
+
+    /// Another file of the tree in its place, which is of the same volume.
+    pub(crate) fn beside(&self, file: &FileView<'a>) -> Subject<'a>
+        requires { IsSeen self.now.tree file.now }
+        ensures { result ≡ record self.now { file = file.now.attributes } }
+    {
+        Subject::new(self.tree, *file, self.options, self.ids.copied())
+    }
 }
