@@ -18,3 +18,4 @@ pub mod Readers
 pub mod Example
 pub mod Climbs
 pub mod NewFiles
+pub mod Settings

@@ -165,7 +165,7 @@ carried t from name n to new_name now = with_entry (moved (without_entry t from 
 -- what the new name named is unlinked first; where both names name one file nothing changes
 abbrev pub after_rename : Tree → ℕ → List ℕ → ℕ → List ℕ → Moment → Tree
 after_rename t from name to new_name now = on_some (entry_at t from name) t (λ e.
-  on_some (entry_at t to new_name)
+    on_some (entry_at t to new_name)
     (carried t from name e.number to new_name now)
     (λ old. if nat_eq e.number old.number then t else carried (after_unlink t to new_name now) from name e.number to new_name now))
 
