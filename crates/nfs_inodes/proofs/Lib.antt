@@ -19,3 +19,5 @@ pub mod Example
 pub mod Climbs
 pub mod NewFiles
 pub mod Settings
+pub mod Losses
+pub mod Leavings
