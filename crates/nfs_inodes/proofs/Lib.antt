@@ -21,3 +21,4 @@ pub mod NewFiles
 pub mod Settings
 pub mod Losses
 pub mod Leavings
+pub mod Departures
