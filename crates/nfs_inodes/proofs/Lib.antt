@@ -22,3 +22,4 @@ pub mod Settings
 pub mod Losses
 pub mod Leavings
 pub mod Departures
+pub mod Unlinks
