@@ -23,3 +23,4 @@ pub mod Losses
 pub mod Leavings
 pub mod Departures
 pub mod Unlinks
+pub mod Moves
