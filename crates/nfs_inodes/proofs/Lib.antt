@@ -24,3 +24,4 @@ pub mod Leavings
 pub mod Departures
 pub mod Unlinks
 pub mod Moves
+pub mod Carries
