@@ -25,3 +25,4 @@ pub mod Departures
 pub mod Unlinks
 pub mod Moves
 pub mod Carries
+pub mod Renames
