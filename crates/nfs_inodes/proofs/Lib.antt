@@ -18,3 +18,11 @@ pub mod Readers
 pub mod Example
 pub mod Climbs
 pub mod NewFiles
+pub mod Settings
+pub mod Losses
+pub mod Leavings
+pub mod Departures
+pub mod Unlinks
+pub mod Moves
+pub mod Carries
+pub mod Renames

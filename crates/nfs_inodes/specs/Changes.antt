@@ -1,8 +1,10 @@
 -- What operations do to the tree.
-use Rattle.std.specs.Prelude.{◌≡◌, ℕ, ◌+◌, ◌-◌, ◌%◌, ◌<◌, ◌^◌, List, [], ◌∷◌, ◌++◌, length, take, drop, replicate, Option, None}
+use Rattle.std.specs.Prelude.{◌≡◌, ℕ, ◌+◌, ◌-◌, ◌%◌, ◌<◌, ◌^◌, not, nat_eq, List, [], ◌∷◌, ◌++◌, length, take, drop, replicate, filter, Option, None, if◌then◌else◌}
 use Rattle.nfs_attrs.specs.declared.moment.Moment.{Moment}
+use Rattle.nfs_inodes.specs.declared.given_attributes.GivenAttributes.{GivenAttributes}
 use Rattle.nfs_inodes.specs.declared.new_file.NewFile.{NewFile}
-use Rattle.nfs_inodes.specs.Tree.{Tree, File, Kind, Regular, Directory, Link, Volume, at, with_at, on_some, bytes_in}
+use Rattle.nfs_inodes.specs.Reading.{has_name, entry_at}
+use Rattle.nfs_inodes.specs.Tree.{Tree, File, Kind, Regular, Directory, Link, Entry, Volume, at, with_at, without_at, on_some, bytes_in, names_of}
 
 -- ---- the elementary changes
 
@@ -28,9 +30,47 @@ entered d name n now = record d { kind = kind_with_entry d.kind name n; mtime = 
 abbrev pub with_entry : Tree → ℕ → List ℕ → ℕ → Moment → Tree
 with_entry t d name n now = on_some (at d t.files) t (λ f. with_file t d (entered f name n now))
 
+-- the entries of other names
+abbrev pub entries_without : List ℕ → List Entry → List Entry
+entries_without name entries = filter (λ e. not (has_name name e)) entries
+
+abbrev pub kind_without_entry : Kind → List ℕ → Kind
+kind_without_entry (Regular bytes) name = Regular bytes
+kind_without_entry (Directory parent next_cookie entries) name = Directory parent next_cookie (entries_without name entries)
+kind_without_entry (Link path) name = Link path
+
+-- a directory that has lost the entry of this name, at this moment
+abbrev pub left : File → List ℕ → Moment → File
+left d name now = record d { kind = kind_without_entry d.kind name; mtime = now; ctime = now }
+
+-- directory d has no entry of this name
+abbrev pub without_entry : Tree → ℕ → List ℕ → Moment → Tree
+without_entry t d name now = on_some (at d t.files) t (λ f. with_file t d (left f name now))
+
+-- file n is gone; its number is not given again
+abbrev pub without_file : Tree → ℕ → Tree
+without_file t n = record t { files = without_at n t.files }
+
 -- the attributes of file n change at this moment
 abbrev pub touched : Tree → ℕ → Moment → Tree
 touched t n now = on_some (at n t.files) t (λ f. with_file t n (record f { ctime = now }))
+
+-- file n, which has lost an entry, leaves with its last
+abbrev pub released : Tree → ℕ → Moment → Tree
+released t n now = if nat_eq (names_of n t.files) 0 then without_file t n else touched t n now
+
+abbrev pub kind_with_parent : Kind → ℕ → Kind
+kind_with_parent (Regular bytes) d = Regular bytes
+kind_with_parent (Directory parent next_cookie entries) d = Directory d next_cookie entries
+kind_with_parent (Link path) d = Link path
+
+-- a file that comes into directory d, at this moment
+abbrev pub moved_to : File → ℕ → Moment → File
+moved_to f d now = record f { kind = kind_with_parent f.kind d; ctime = now }
+
+-- file n comes into directory d
+abbrev pub moved : Tree → ℕ → ℕ → Moment → Tree
+moved t n d now = on_some (at n t.files) t (λ f. with_file t n (moved_to f d now))
 
 -- ---- new files
 
@@ -84,6 +124,50 @@ file_with_bytes f offset bytes now = record f { kind = kind_with_bytes f.kind (p
 abbrev pub after_write_at : Tree → ℕ → ℕ → List ℕ → Moment → Tree
 after_write_at t n offset [] now = t
 after_write_at t n offset (byte ∷ bytes) now = on_some (at n t.files) t (λ f. with_file t n (file_with_bytes f offset (byte ∷ bytes) now))
+
+-- of some bytes the first so many, with zeros where there are fewer
+abbrev pub sized : List ℕ → ℕ → List ℕ
+sized old size = take size old ++ zeros (size - length old)
+
+-- a regular file of this size, at this moment
+abbrev pub resized_to : File → ℕ → Moment → File
+resized_to f size now = record f { kind = kind_with_bytes f.kind (sized (bytes_in f.kind) size); mtime = now; ctime = now }
+
+abbrev pub after_resize : Tree → ℕ → ℕ → Moment → Tree
+after_resize t n size now = on_some (at n t.files) t (λ f. with_file t n (resized_to f size now))
+
+-- a value that is given, or else the one that was
+abbrev pub or_else : {X : Type 0} → Option X → X → X
+or_else given was = on_some given was (λ x. x)
+
+-- a file with the attributes that are given, at this moment; of the mode the low 12 bits
+abbrev pub with_given : File → GivenAttributes → Moment → File
+with_given f given now = record f {
+  mode = on_some given.mode f.mode (λ mode. mode % 4096);
+  uid = or_else given.uid f.uid;
+  gid = or_else given.gid f.gid;
+  atime = or_else given.atime f.atime;
+  mtime = or_else given.mtime f.mtime;
+  ctime = now;
+}
+
+abbrev pub after_set : Tree → ℕ → GivenAttributes → Moment → Tree
+after_set t n given now = on_some (at n t.files) t (λ f. with_file t n (with_given f given now))
+
+-- directory d has no entry of this name, and the file that it named has one less
+abbrev pub after_unlink : Tree → ℕ → List ℕ → Moment → Tree
+after_unlink t d name now = on_some (entry_at t d name) t (λ e. released (without_entry t d name now) e.number now)
+
+-- file n loses its entry in one directory, and has a new one in another or the same
+abbrev pub carried : Tree → ℕ → List ℕ → ℕ → ℕ → List ℕ → Moment → Tree
+carried t from name n to new_name now = with_entry (moved (without_entry t from name now) n to now) to new_name n now
+
+-- what the new name named is unlinked first; where both names name one file nothing changes
+abbrev pub after_rename : Tree → ℕ → List ℕ → ℕ → List ℕ → Moment → Tree
+after_rename t from name to new_name now = on_some (entry_at t from name) t (λ e.
+    on_some (entry_at t to new_name)
+    (carried t from name e.number to new_name now)
+    (λ old. if nat_eq e.number old.number then t else carried (after_unlink t to new_name now) from name e.number to new_name now))
 
 -- one volume more, whose root is a new file
 abbrev pub with_new_volume : Tree → Volume → File → Tree

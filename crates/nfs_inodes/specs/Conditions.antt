@@ -1,8 +1,9 @@
 -- What has to hold before an operation, beside memory.
-use Rattle.std.specs.Prelude.{◌≡◌, ◌≢◌, ℕ, ◌+◌, ◌-◌, ◌<◌, ◌≤◌, ◌^◌, true, false, List, [], length, Some, All, slice_get}
+use Rattle.std.specs.Prelude.{◌≡◌, ◌≢◌, ◌⊎◌, ℕ, ◌+◌, ◌-◌, ◌<◌, ◌≤◌, ◌^◌, true, false, List, [], length, Some, None, All, slice_get}
 use Rattle.nfs_inodes.specs.Limits.{max_file_bytes, max_path_bytes, max_links, max_volumes, max_volume_path_bytes}
-use Rattle.nfs_inodes.specs.Tree.{Tree, File, Volume, is_directory, is_regular, parent_in, entries_in, next_cookie_in, bytes_in, names_of, nlink, bytes_of, files_of}
-use Rattle.nfs_inodes.specs.Law.{IsName, IsSound, Lives, LivesAsDirectory}
+use Rattle.nfs_inodes.specs.Reading.{entry_named, entry_at}
+use Rattle.nfs_inodes.specs.Tree.{Tree, File, Entry, Volume, is_directory, is_regular, parent_in, entries_in, next_cookie_in, bytes_in, names_of, nlink, bytes_of, files_of}
+use Rattle.nfs_inodes.specs.Law.{IsName, IsSound, Lives, LivesAsDirectory, climb}
 
 -- directory d takes an entry of this name
 pub record MayEnter (t : Tree) (d : ℕ) (name : List ℕ) : Type 0 where
@@ -57,6 +58,75 @@ pub record Grows (t : Tree) (n offset count : ℕ) : Type 0 where
   pub file : File
   pub at_file : Lives t n file
   pub beyond : length (bytes_in file.kind) < offset + count
+
+-- file n is regular, and it and its volume have room for so many bytes in all
+pub record MayResize (t : Tree) (n size : ℕ) : Type 0 where
+  pub file : File
+  pub at_file : Lives t n file
+  pub regular : is_regular file.kind ≡ true
+  pub large : size ≤ max_file_bytes
+  pub volume : Volume
+  pub at_volume : slice_get t.volumes file.volume ≡ Some volume
+  pub room : bytes_of file.volume t.files + (size - length (bytes_in file.kind)) ≤ volume.max_bytes
+
+-- directory d has an entry of this name, for a file that is no directory with entries
+pub record MayUnlink (t : Tree) (d : ℕ) (name : List ℕ) : Type 0 where
+  pub dir : File
+  pub at_dir : LivesAsDirectory t d dir
+  pub entry : Entry
+  pub found : entry_named name (entries_in dir.kind) ≡ Some entry
+  pub file : File
+  pub at_file : Lives t entry.number file
+  pub empty : entries_in file.kind ≡ []
+
+-- neither a directory nor any above it is n
+abbrev pub IsOff : Tree → ℕ → ℕ → Type 0
+IsOff t d n = (steps : ℕ) → climb steps t.files d ≢ n
+
+-- The entry of a name in directory from may go to a new name in directory to, which no entry there has.
+pub record MayCarry (t : Tree) (from : ℕ) (name : List ℕ) (to : ℕ) (new_name : List ℕ) : Type 0 where
+  pub source : File
+  pub at_source : LivesAsDirectory t from source
+  pub entry : Entry
+  pub found : entry_named name (entries_in source.kind) ≡ Some entry
+  pub file : File
+  pub at_file : Lives t entry.number file
+  pub target : File
+  pub at_target : LivesAsDirectory t to target
+  pub volume : file.volume ≡ target.volume
+  pub is_name : IsName new_name
+  pub fresh : All (λ e. e.name ≢ new_name) (entries_in target.kind)
+  pub cookie : next_cookie_in target.kind < 2 ^ 64 - 1
+  pub off : is_directory file.kind ≡ true → IsOff t to entry.number
+  pub links : is_directory file.kind ≡ true → (to ≡ from) ⊎ (nlink t.files to target < max_links)
+
+-- a name in directory d is not that of file n
+abbrev pub NamesOther : Tree → ℕ → List ℕ → ℕ → Type 0
+NamesOther t d name n = (old : Entry) → entry_at t d name ≡ Some old → old.number ≢ n
+
+-- a file may take the place of file n: both are directories, file n without entries, or neither is
+pub record MayReplace (t : Tree) (n : ℕ) (file : File) : Type 0 where
+  pub replaced : File
+  pub at_replaced : Lives t n replaced
+  pub alike : is_directory replaced.kind ≡ is_directory file.kind
+  pub empty : entries_in replaced.kind ≡ []
+
+-- The entry of a name in directory from may go to another name in directory to of the same volume. Where the new name names another file that one may be replaced; a directory goes neither into itself nor below itself; and a directory more is a link more for the one that takes it.
+pub record MayRename (t : Tree) (from : ℕ) (name : List ℕ) (to : ℕ) (new_name : List ℕ) : Type 0 where
+  pub source : File
+  pub at_source : LivesAsDirectory t from source
+  pub entry : Entry
+  pub found : entry_named name (entries_in source.kind) ≡ Some entry
+  pub file : File
+  pub at_file : Lives t entry.number file
+  pub target : File
+  pub at_target : LivesAsDirectory t to target
+  pub volume : file.volume ≡ target.volume
+  pub is_name : IsName new_name
+  pub cookie : NamesOther t to new_name entry.number → next_cookie_in target.kind < 2 ^ 64 - 1
+  pub replaced : (old : Entry) → entry_named new_name (entries_in target.kind) ≡ Some old → old.number ≢ entry.number → MayReplace t old.number file
+  pub off : NamesOther t to new_name entry.number → is_directory file.kind ≡ true → IsOff t to entry.number
+  pub links : entry_named new_name (entries_in target.kind) ≡ None → is_directory file.kind ≡ true → (to ≡ from) ⊎ (nlink t.files to target < max_links)
 
 -- a volume more, of a path that no volume has
 pub record MayAddVolume (t : Tree) (path : List ℕ) (max_files : ℕ) : Type 0 where

@@ -6,7 +6,7 @@ use Rattle.nfs_attrs.specs.declared.file_type.FileType.{FileType}
 use Rattle.nfs_attrs.specs.declared.file_type.FileType.TheVariants as file_type
 use Rattle.nfs_handles.specs.NumberedFiles.{NumberedFiles}
 use Rattle.nfs_inodes.specs.declared.volumes.Totals.{Totals}
-use Rattle.nfs_inodes.specs.Tree.{Tree, File, Kind, Entry, Volume, Regular, Directory, Link, at, on_some, bytes_in, nlink, bytes_of, files_of}
+use Rattle.nfs_inodes.specs.Tree.{Tree, File, Kind, Entry, Volume, Regular, Directory, Link, at, on_some, entries_in, bytes_in, nlink, bytes_of, files_of}
 
 -- ---- directories
 
@@ -26,9 +26,17 @@ listing d (Link path) = []
 abbrev pub listing_at : Tree → ℕ → List Entry
 listing_at t d = on_some (at d t.files) [] (λ f. listing d f.kind)
 
+-- whether an entry has a name
+abbrev pub has_name : List ℕ → Entry → Bool
+has_name name e = bytes_eq e.name name
+
+-- the entry of a name among some entries
+abbrev pub entry_named : List ℕ → List Entry → Option Entry
+entry_named name es = find (has_name name) es
+
 -- the number under a name among some entries
 abbrev pub number_named : List ℕ → List Entry → Option ℕ
-number_named name es = option_map (λ (e : Entry). e.number) (find (λ e. bytes_eq e.name name) es)
+number_named name es = option_map (λ (e : Entry). e.number) (entry_named name es)
 
 -- the first of some entries after a cookie
 abbrev pub first_after : ℕ → List Entry → Option Entry
@@ -37,6 +45,10 @@ first_after cookie es = find (λ e. nat_lt cookie e.cookie) es
 -- the number under a name in directory d
 abbrev pub number_under : Tree → ℕ → List ℕ → Option ℕ
 number_under t d name = number_named name (listing_at t d)
+
+-- the entry of a name in directory d, which is neither `.` nor `..`
+abbrev pub entry_at : Tree → ℕ → List ℕ → Option Entry
+entry_at t d name = on_some (at d t.files) None (λ f. entry_named name (entries_in f.kind))
 
 -- what directory d lists first after a cookie
 abbrev pub entry_after : Tree → ℕ → ℕ → Option Entry

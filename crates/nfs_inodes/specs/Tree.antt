@@ -1,6 +1,6 @@
 -- The tree of files (RFC 1813, section 2.6), however it is kept: files by their numbers, and what is counted of them.
 use Rattle.std.specs.Prelude.{ℕ, ◌+◌, Bool, true, false, List, [], length, sum_by, nat_eq, Option, Some, None, if◌then◌else◌}
-use Rattle.std.specs.Map.{lookup, set_value}
+use Rattle.std.specs.Map.{lookup, set_value, remove_entry}
 use Rattle.nfs_attrs.specs.declared.moment.Moment.{Moment}
 
 -- an entry of a directory
@@ -51,6 +51,10 @@ at n files = lookup (nat_eq n) files
 -- the same with another value under a number that has one
 abbrev pub with_at : {X : Type 0} → ℕ → X → List (ℕ × X) → List (ℕ × X)
 with_at n x files = set_value (nat_eq n) files x
+
+-- the same without the number
+abbrev pub without_at : {X : Type 0} → ℕ → List (ℕ × X) → List (ℕ × X)
+without_at n files = remove_entry (nat_eq n) files
 
 abbrev pub on_some : {X Y : Type 0} → Option X → Y → (X → Y) → Y
 on_some None y f = y

@@ -7,6 +7,7 @@ pub mod content;
 pub mod content_reader;
 pub mod directory;
 pub mod examples;
+pub mod given_attributes;
 pub mod handles;
 pub mod laws;
 pub mod limits;
