@@ -10,8 +10,10 @@ pub mod Operations
 pub mod Counts
 pub mod CountsMore
 pub mod StoredFiles
+pub mod Recounts
 pub mod Views
 pub mod Steps
+pub mod AttributeChanges
 pub mod Tests
 pub mod Lookups
 pub mod Readers

@@ -1,13 +1,14 @@
 //! A file as it is kept, and what is done to it alone.
 ghost use Rattle.std.specs.Prelude.{◌≡◌, ◌+◌, ◌<◌, ◌≤◌, ◌^◌, ◌*◌, OnOk, OnErr, length, IsTrue};
-ghost use Rattle.std.specs.Prelude.{if◌then◌else◌};
+ghost use Rattle.std.specs.Prelude.{◌%◌, if◌then◌else◌};
 ghost use Rattle.nfs_inodes.specs.Limits.{max_file_bytes, max_links};
 ghost use Rattle.nfs_inodes.specs.Tree.{is_directory, is_regular, next_cookie_in, bytes_in};
-ghost use Rattle.nfs_inodes.specs.Tree.{one_when};
-ghost use Rattle.nfs_inodes.specs.Changes.{entered, file_with_bytes, new_file};
+ghost use Rattle.nfs_inodes.specs.Tree.{one_when, on_some};
+ghost use Rattle.nfs_inodes.specs.Changes.{entered, file_with_bytes, new_file, with_given};
 ghost use Rattle.nfs_inodes.specs.Storage.{file_of, kind_of, HasRoom};
 
 use crate::content::put;
+use crate::given_attributes::GivenAttributes;
 use crate::new_file::NewFile;
 use crate::stored_entry::StoredEntry;
 use nfs_attrs::moment::Moment;
@@ -166,4 +167,27 @@ pub(crate) fn write_bytes(
     stored_file.mtime = now;
     stored_file.ctime = now;
     Ok(())
+}
+
+/// Sets the attributes that are given.
+pub(crate) fn set_attributes(stored_file: &mut StoredFile, given: &GivenAttributes, now: Moment)
+    ensures file { file_of 0 stored_file.new ≡ with_given (file_of 0 stored_file.old) given.now now }
+    ensures nlink { stored_file.new.nlink ≡ stored_file.old.nlink }
+{
+    stored_file.mode = mode_of(given.mode, stored_file.mode);
+    stored_file.uid = given.uid.unwrap_or(stored_file.uid);
+    stored_file.gid = given.gid.unwrap_or(stored_file.gid);
+    stored_file.atime = given.atime.unwrap_or(stored_file.atime);
+    stored_file.mtime = given.mtime.unwrap_or(stored_file.mtime);
+    stored_file.ctime = now;
+}
+
+// The low 12 bits of a mode that is given, or else the mode that was.
+fn mode_of(given: Option<u32>, was: u32) -> u32
+    ensures { result ≡ on_some given was (λ mode. mode % 4096) }
+{
+    match given {
+        Some(mode) => mode % 4096,
+        None => was,
+    }
 }

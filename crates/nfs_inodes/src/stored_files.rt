@@ -7,8 +7,10 @@ ghost use Rattle.nfs_inodes.specs.Storage.{HasRoom};
 ghost use Rattle.nfs_inodes.specs.StoredFiles.{TakesEntry, Revalues, SameFile, Enters, AddsFile};
 ghost use Rattle.nfs_inodes.specs.StoredFiles.{SameFiles, TakesLink, LinksFile, GainsLink};
 ghost use Rattle.nfs_inodes.specs.StoredFiles.{TakesBytes, TakesGrowth, WritesFile};
+ghost use Rattle.nfs_inodes.specs.StoredFiles.{IsThere, SetsAttributes};
 
-use crate::stored_file::{StoredFile, add_entry, reserve_entry, write_bytes};
+use crate::given_attributes::GivenAttributes;
+use crate::stored_file::{StoredFile, add_entry, reserve_entry, set_attributes, write_bytes};
 use nfs_attrs::moment::Moment;
 use nfs_handles::files::Files;
 use nfs_handles::number::Number;
@@ -89,6 +91,22 @@ pub(crate) fn write(
                 bytes: stored_file.size() - before,
             })
         }
+        None => unreachable!(),
+    }
+}
+
+/// Sets the attributes of a file that are given.
+pub(crate) fn set(
+    files: &mut Files<StoredFile>,
+    number: Number,
+    given: &GivenAttributes,
+    now: Moment,
+)
+    requires { IsThere files.old number.0 }
+    ensures { Revalues files.old number.0 (SetsAttributes given.now now) files.new }
+{
+    match files.get_mut(number) {
+        Some(stored_file) => set_attributes(stored_file, given, now),
         None => unreachable!(),
     }
 }

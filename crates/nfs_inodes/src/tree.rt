@@ -1,10 +1,10 @@
 //! The tree of files.
 ghost use Rattle.std.specs.Prelude.{◌≡◌, ◌+◌, ◌<◌, Option, Some, None, OnOk, OnErr, IfOk, length};
 ghost use Rattle.std.specs.Prelude.{[], ◌∷◌, ◌++◌, vec_len, vec_capacity, map};
-ghost use Rattle.nfs_inodes.specs.Tree.{Regular, Directory, Link};
-ghost use Rattle.nfs_inodes.specs.Law.{Law};
+ghost use Rattle.nfs_inodes.specs.Tree.{File, Regular, Directory, Link};
+ghost use Rattle.nfs_inodes.specs.Law.{Law, Lives};
 ghost use Rattle.nfs_inodes.specs.Changes.{Makes, after_make_file, after_make_dir, after_make_link};
-ghost use Rattle.nfs_inodes.specs.Changes.{after_link, after_write_at, after_add_volume};
+ghost use Rattle.nfs_inodes.specs.Changes.{after_link, after_write_at, after_set, after_add_volume};
 ghost use Rattle.nfs_inodes.specs.Changes.{new_file, volume_of};
 ghost use Rattle.nfs_inodes.specs.Conditions.{MayMake, MayMakeDirectory, MayMakeLink, MayLink};
 ghost use Rattle.nfs_inodes.specs.Conditions.{MayWrite, Grows, MayAddVolume};
@@ -13,9 +13,10 @@ ghost use Rattle.nfs_inodes.specs.StepConditions.{MayAdd, with_stored_file, HasR
 ghost use Rattle.nfs_inodes.specs.Counts.{with_totals};
 
 use crate::content::copied;
+use crate::given_attributes::GivenAttributes;
 use crate::new_file::NewFile;
 use crate::stored_file::{Node, StoredFile};
-use crate::stored_files::{add, link, write};
+use crate::stored_files::{add, link, set, write};
 use crate::stored_volume::StoredVolume;
 use nfs_attrs::moment::Moment;
 use nfs_handles::files::Files;
@@ -185,6 +186,14 @@ impl Tree {
         let growth = write(&mut self.files, number, offset, bytes, now)?;
         count(&mut self.volumes, growth.place, growth.bytes, 0);
         Ok(())
+    }
+
+    /// Sets the attributes of a file that are given (RFC 1813, section 3.3.2); its ctime is `now`.
+    pub fn set(&mut self, number: Number, given: &GivenAttributes, now: Moment)
+        requires { (f : File) × Lives self.old number.0 f }
+        ensures { self.new ≡ after_set self.old number.0 given.now now }
+    {
+        set(&mut self.files, number, given, now);
     }
 
     /// One volume more, of at most so many bytes and files, and its root, whose number is

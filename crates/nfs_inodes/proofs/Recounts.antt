@@ -1,0 +1,112 @@
+-- What is kept beside the tree, after one of its files has changed.
+use Rattle.std.proofs.Common.{◌≡◌, ◌≢◌, ℕ, ◌<◌, List, map, length, Some, sym, ap, subst, ◌∙◌, arith}
+use Rattle.std.specs.Prelude.{slice_get, ◌^◌}
+use Rattle.nfs_handles.specs.NumberedFiles.{NumberedFiles}
+use Rattle.nfs_inodes.specs.declared.stored_file.StoredFile.{StoredFile}
+use Rattle.nfs_inodes.specs.declared.stored_volume.StoredVolume.{StoredVolume}
+use Rattle.nfs_inodes.specs.Tree.{Tree, File, Volume, at, with_at, bytes_in, nlink, bytes_of}
+use Rattle.nfs_inodes.specs.Law.{Law, LawBut}
+use Rattle.nfs_inodes.specs.Changes.{with_file}
+use Rattle.nfs_inodes.specs.Counts.{CountedFile, CountedVolume, CountedTree, Agrees, IsCounted, files_in, tree_in}
+use Rattle.nfs_inodes.specs.Storage.{counted_file_of, counted_volume_of, counted_tree_of}
+use Rattle.nfs_inodes.specs.StoredFiles.{Revalues}
+use Rattle.nfs_inodes.proofs.Lists.{by_number}
+use Rattle.nfs_inodes.proofs.Maps.{shows_with, with_back, rising_bounds}
+use Rattle.nfs_inodes.proofs.Alike.{Alike, alike_itself, one_alike, nlink_alike, bytes_changed, count_changed}
+use Rattle.nfs_inodes.proofs.Counts.{shown}
+use Rattle.nfs_inodes.proofs.StoredFiles.{counted_file, with_value_is}
+
+abbrev pub AreLimits : Volume → Type 0
+AreLimits v = (v.max_bytes < 2 ^ 64) × (v.max_files < 2 ^ 64)
+
+-- what is kept agrees with the tree, where file x may be named by no entry
+pub record AgreesBut (x : ℕ) (k : CountedTree) : Type 0 where
+  pub law : LawBut x (tree_in k)
+  pub links : (n : ℕ) (h : CountedFile) → n ≢ x → at n k.files ≡ Some h → h.nlink ≡ nlink (files_in k.files) n h.file
+  pub totals : (place : ℕ) (c : CountedVolume) → slice_get k.volumes place ≡ Some c → IsCounted (files_in k.files) place c
+  pub limits : (place : ℕ) (c : CountedVolume) → slice_get k.volumes place ≡ Some c → AreLimits c.volume
+
+pub agrees_but_none : (k : CountedTree) → Agrees k → AgreesBut 0 k
+agrees_but_none k agrees = record { law = agrees.law; links = λ n h o e. agrees.links n h e; totals = agrees.totals; limits = agrees.limits }
+
+pub agrees_whole : (k : CountedTree) → AgreesBut 0 k → Agrees k
+agrees_whole k agrees = record {
+  law = agrees.law;
+  links = λ n h e. agrees.links n h (λ s. let b = (rising_bounds 0 k.next (tree_in k).files n h.file agrees.law.rising (shown k n h e)).0 in omega (arith, b, s)) e;
+  totals = agrees.totals;
+  limits = agrees.limits;
+}
+
+-- ---- file n has another value, and volumes other totals
+
+abbrev pub recounted : CountedTree → ℕ → CountedFile → List CountedVolume → CountedTree
+recounted k n w news = record { files = with_at n w k.files; next = k.next; key = k.key; volumes = news }
+
+abbrev pub volumes_in : List CountedVolume → List Volume
+volumes_in cs = map (λ c. c.volume) cs
+
+pub recounted_files : (k : CountedTree) (n : ℕ) (w : CountedFile) → files_in (with_at n w k.files) ≡ (with_file (tree_in k) n w.file).files
+recounted_files k n w = shows_with (λ (a : CountedFile). a.file) n w k.files
+
+pub view_recounted : (k : CountedTree) (n : ℕ) (w : CountedFile) (news : List CountedVolume) → volumes_in news ≡ volumes_in k.volumes → tree_in (recounted k n w news) ≡ with_file (tree_in k) n w.file
+view_recounted k n w news same = ap (λ vs. record { files = files_in (with_at n w k.files); next = k.next; key = k.key; volumes = vs }) same
+    ∙ ap (λ fs. record (tree_in k) { files = fs }) (recounted_files k n w)
+
+-- the links and totals that are kept are those of the tree with the other file, where file y may be named by no entry
+pub record Recounts (y : ℕ) (k : CountedTree) (n : ℕ) (f w : CountedFile) (news : List CountedVolume) : Type 0 where
+  pub at_file : at n k.files ≡ Some f
+  pub law : LawBut y (with_file (tree_in k) n w.file)
+  pub here : n ≢ y → w.nlink ≡ nlink (with_file (tree_in k) n w.file).files n w.file
+  pub others : (m : ℕ) (h : CountedFile) → m ≢ n → m ≢ y → at m k.files ≡ Some h → h.nlink ≡ nlink (with_file (tree_in k) n w.file).files m h.file
+  pub volumes : volumes_in news ≡ volumes_in k.volumes
+  pub totals : (place : ℕ) (c : CountedVolume) → slice_get news place ≡ Some c → IsCounted (with_file (tree_in k) n w.file).files place c × AreLimits c.volume
+
+pub agrees_recounted : (y : ℕ) (k : CountedTree) (n : ℕ) (f w : CountedFile) (news : List CountedVolume) → Recounts y k n f w news → AgreesBut y (recounted k n w news)
+agrees_recounted y k n f w news r =
+    let files = recounted_files k n w in
+    record {
+      law = subst (LawBut y) (sym (view_recounted k n w news r.volumes)) r.law;
+      links = λ m h o e. with_back n m f w h k.files r.at_file e
+          (λ s is. ap (λ (a : CountedFile). a.nlink) (sym is) ∙ r.here (λ q. o (s ∙ q)) ∙ ap (λ i. nlink (with_file (tree_in k) n w.file).files i w.file) (sym s)
+          ∙ ap (λ (a : CountedFile). nlink (with_file (tree_in k) n w.file).files m a.file) is ∙ ap (λ fs. nlink fs m h.file) (sym files))
+          (λ q was. r.others m h q o was ∙ ap (λ fs. nlink fs m h.file) (sym files));
+      totals = λ place c e. subst (λ fs. IsCounted fs place c) (sym files) (r.totals place c e).0;
+      limits = λ place c e. (r.totals place c e).1;
+    }
+
+-- ---- totals
+
+-- where files have the same bytes and volumes
+pub same_totals : (x : ℕ) (k : CountedTree) (n : ℕ) (f : CountedFile) (g : File) → AgreesBut x k → at n k.files ≡ Some f → g.volume ≡ f.file.volume → length (bytes_in g.kind) ≡ length (bytes_in f.file.kind) →
+    (place : ℕ) (c : CountedVolume) → slice_get k.volumes place ≡ Some c → IsCounted (with_file (tree_in k) n g).files place c × AreLimits c.volume
+same_totals x k n f g agrees at_file volume size place c e =
+    let was = agrees.totals place c e in
+    let bytes = bytes_changed (tree_in k) n f.file g (shown k n f at_file) volume place in
+    let same : bytes_of place (with_file (tree_in k) n g).files ≡ bytes_of place (tree_in k).files = by_number f.file.volume place (λ s. let b = bytes.0 s in omega (arith, b, size)) bytes.1 in
+    let files = count_changed (tree_in k) n f.file g (shown k n f at_file) volume place in
+    (record { bytes = was.bytes ∙ sym same; files = was.files ∙ sym files }, agrees.limits place c e)
+
+-- ---- a file that stays where it is
+
+-- file n has other bytes or attributes
+pub agrees_alike : (k : CountedTree) (n : ℕ) (f w : CountedFile) (news : List CountedVolume) → Agrees k → at n k.files ≡ Some f → Alike f.file w.file → w.nlink ≡ f.nlink → Law (with_file (tree_in k) n w.file) → volumes_in news ≡ volumes_in k.volumes →
+    ((place : ℕ) (c : CountedVolume) → slice_get news place ≡ Some c → IsCounted (with_file (tree_in k) n w.file).files place c × AreLimits c.volume) → Agrees (recounted k n w news)
+agrees_alike k n f w news agrees at_file alike links law volumes totals =
+    let like = one_alike (tree_in k) n f.file w.file agrees.law.rising agrees.law.numbers (shown k n f at_file) alike in
+    let u : Tree = with_file (tree_in k) n w.file in
+    agrees_whole (recounted k n w news) (agrees_recounted 0 k n f w news (record {
+      at_file = at_file;
+      law = law;
+      here = λ o. links ∙ agrees.links n f at_file ∙ sym (nlink_alike (tree_in k) u like n f.file w.file alike);
+      others = λ m h o p e. agrees.links m h e ∙ sym (nlink_alike (tree_in k) u like m h.file h.file (alike_itself h.file));
+      volumes = volumes;
+      totals = totals;
+    }))
+
+-- ---- what is kept
+
+-- a value changed in the files, and totals in the volumes
+pub kept_revalued : {From : StoredFile → StoredFile → Type 0} (a b : NumberedFiles StoredFile) (olds news : List StoredVolume) (n : ℕ) (r : Revalues a n From b) → counted_tree_of b news ≡ recounted (counted_tree_of a olds) n (counted_file_of r.was.tag r.value) (map counted_volume_of news)
+kept_revalued a b olds news n r =
+    ap (λ (u : NumberedFiles StoredFile). counted_tree_of u news) (r.new_is ∙ with_value_is a n r.was r.value r.at_was)
+    ∙ ap (λ fs. record { files = fs; next = a.next; key = a.key; volumes = map counted_volume_of news }) (shows_with counted_file n (record { tag = r.was.tag; value = r.value }) a.files)
