@@ -19,5 +19,6 @@ pub mod Lookups
 pub mod Readers
 pub mod Example
 pub mod Climbs
+pub mod Walks
 pub mod NewFiles
 pub mod Settings

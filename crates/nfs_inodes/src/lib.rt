@@ -1,6 +1,7 @@
 //! The tree of files: volumes, files by their numbers, and the entries that name them.
 #![tactic(auto)]
 
+pub mod ancestry;
 pub mod attributes;
 pub mod conditions;
 pub mod content;
