@@ -49,7 +49,7 @@ names_born t f empty m =
     let z : names_in m (entries_in f.kind) ≡ 0 = ap (names_in m) empty in omega (arith, s, z)
 
 -- sums of numbers that are equal for each element
-sum_in : {X : Type 0} (f g : X → ℕ) (xs : List X) → ((x : X) → Contains xs x → f x ≡ g x) → sum_by f xs ≡ sum_by g xs
+pub sum_in : {X : Type 0} (f g : X → ℕ) (xs : List X) → ((x : X) → Contains xs x → f x ≡ g x) → sum_by f xs ≡ sum_by g xs
 sum_in f g [] h = refl
 sum_in f g (x ∷ xs) h =
     let here = h x (Contains-append_left (x ∷ []) xs x (Contains-push [] x)) in

@@ -22,3 +22,7 @@ pub mod Climbs
 pub mod Walks
 pub mod NewFiles
 pub mod Settings
+pub mod Losses
+pub mod Leavings
+pub mod Departures
+pub mod Unlinks

@@ -1,7 +1,7 @@
 -- Cases of tests, options and lists with one value more.
-use Rattle.std.proofs.Common.{inl, inr, ◌≡◌, ◌≢◌, ◌⊎◌, ℕ, suc, zero, Bool, true, false, cond, List, [], ◌∷◌, ◌++◌, length, Option, Some, None, refl, ap, arith}
+use Rattle.std.proofs.Common.{inl, inr, ◌≡◌, ◌≢◌, ◌⊎◌, ℕ, suc, zero, Bool, true, false, cond, List, [], ◌∷◌, ◌++◌, length, Option, Some, None, refl, sym, ap, ◌∙◌, arith}
 use Rattle.std.proofs.lemmas.Bool.{cases_eq}
-use Rattle.std.specs.Prelude.{Contains, slice_get}
+use Rattle.std.specs.Prelude.{Contains, slice_get, find}
 
 pub by_test : {P : Type 0} (b : Bool) → (b ≡ true → P) → (b ≡ false → P) → P
 by_test true p q = p refl
@@ -34,6 +34,25 @@ none_from (Some x) h = absurd (h x refl)
 pub not_in_empty : {X : Type 0} (xs : List X) (x : X) → xs ≡ [] → Contains xs x → ⊥
 not_in_empty [] x e c = absurd (let l = c.1 in omega (arith, l))
 not_in_empty (y ∷ ys) x e c = cc
+
+-- ---- elements of a list
+
+pub in_head : {X : Type 0} (x : X) (xs : List X) → Contains (x ∷ xs) x
+in_head x xs = (0, omega arith, refl)
+
+pub in_tail : {X : Type 0} (x y : X) (xs : List X) → Contains xs y → Contains (x ∷ xs) y
+in_tail x y xs c = let l = c.1 in (suc c.0, omega (arith, l), c.2)
+
+pub head_or_tail : {X : Type 0} (x y : X) (xs : List X) → Contains (x ∷ xs) y → (x ≡ y) ⊎ Contains xs y
+head_or_tail x y xs (zero, l, e) = inl e
+head_or_tail x y xs (suc k, l, e) = inr (k, omega (arith, l), e)
+
+-- what is found is an element
+pub find_contains : {X : Type 0} (p : X → Bool) (xs : List X) (x : X) → find p xs ≡ Some x → Contains xs x
+find_contains p [] x e = absurd (not_both refl e)
+find_contains {X} p (y ∷ ys) x e = by_test (p y)
+    (λ t. (0, omega arith, same_some (sym (ap (λ b. cond b (Some y) (find p ys)) t) ∙ e)))
+    (λ f. let c = find_contains p ys x (sym (ap (λ b. cond b (Some y) (find p ys)) f) ∙ e) in let less = c.1 in (suc c.0, omega (arith, less), c.2))
 
 -- ---- a list with one value more
 

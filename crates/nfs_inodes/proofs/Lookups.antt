@@ -1,6 +1,6 @@
 -- What is found in a directory lives.
 use Rattle.std.proofs.Common.{◌≡◌, ℕ, ◌+◌, zero, suc, Bool, true, cond, List, [], ◌∷◌, bytes_eq, Option, Some, None, option_map, refl, sym, ap, ◌∙◌, arith}
-use Rattle.std.specs.Prelude.{Contains, slice_get}
+use Rattle.std.specs.Prelude.{slice_get}
 use Rattle.std.proofs.lemmas.Option.{slice_get_within, get_or_from_slice_get}
 use Rattle.std.proofs.lemmas.Slice.Eq.{bytes_eq-Decides}
 use Rattle.std.specs.List.{find}
@@ -8,15 +8,9 @@ use Rattle.nfs_inodes.specs.Tree.{Tree, File, Kind, Entry, Regular, Directory, L
 use Rattle.nfs_inodes.specs.Law.{Law, Lives, AreApart}
 use Rattle.nfs_inodes.specs.Laws.{LiveTogether}
 use Rattle.nfs_inodes.specs.Reading.{dot, dot_dot, number_under, place_of_name, listing, attributes_of, attributes_at}
-use Rattle.nfs_inodes.proofs.Lists.{by_test, if_true, if_false, same_some, not_both}
+use Rattle.nfs_inodes.proofs.Lists.{by_test, if_true, if_false, same_some, not_both, find_contains}
+use Rattle.nfs_inodes.proofs.Losses.{apart_behind}
 use Rattle.nfs_inodes.proofs.Views.{mapped}
-
--- what is found is an element
-find_contains : {X : Type 0} (p : X → Bool) (xs : List X) (x : X) → find p xs ≡ Some x → Contains xs x
-find_contains p [] x e = absurd (not_both refl e)
-find_contains {X} p (y ∷ ys) x e = by_test (p y)
-    (λ t. (0, omega arith, same_some (sym (ap (λ b. cond b (Some y) (find p ys)) t) ∙ e)))
-    (λ f. let c = find_contains p ys x (sym (ap (λ b. cond b (Some y) (find p ys)) f) ∙ e) in let less = c.1 in (suc c.0, omega (arith, less), c.2))
 
 module _ (t : Tree) (law : Law t) (d n : ℕ) (name : List ℕ) where
   abbrev is_named : Entry → Bool
@@ -73,9 +67,6 @@ clash name x xs i e apart at_i is y =
     apart 0 (suc i) e (omega arith) (let less = slice_get_within xs i e at_i in omega (arith, less))
     ((bytes_eq-Decides x.name name).0 y ∙ sym ((bytes_eq-Decides e.name name).0 is) ∙ ap (λ (e : Entry). e.name) (sym (get_or_from_slice_get xs i e e at_i)))
 
-behind : (x : Entry) (xs : List Entry) → AreApart (x ∷ xs) → AreApart xs
-behind x xs apart j k d less within = apart (suc j) (suc k) d (omega (arith, less)) (omega (arith, within))
-
 -- an entry of a name is the one that is found
 pub found_at : (name : List ℕ) (es : List Entry) (i : ℕ) (e : Entry) → AreApart es → slice_get es i ≡ Some e → bytes_eq e.name name ≡ true → find (λ e. bytes_eq e.name name) es ≡ Some e
 found_at name [] i e apart at_i is = absurd (not_both refl at_i)
@@ -85,7 +76,7 @@ found_at name (x ∷ xs) zero e apart at_i is =
 found_at name (x ∷ xs) (suc i) e apart at_i is =
     by_test (bytes_eq x.name name)
     (λ y. absurd (clash name x xs i e apart at_i is y))
-    (λ n. if_false (Some x) (find (λ e. bytes_eq e.name name) xs) n ∙ found_at name xs i e (behind x xs apart) at_i is)
+    (λ n. if_false (Some x) (find (λ e. bytes_eq e.name name) xs) n ∙ found_at name xs i e (apart_behind x xs apart) at_i is)
 
 -- and its place is the name's
 pub placed_at : (name : List ℕ) (es : List Entry) (i : ℕ) (e : Entry) → AreApart es → slice_get es i ≡ Some e → bytes_eq e.name name ≡ true → place_of_name name es ≡ Some i
@@ -95,4 +86,4 @@ placed_at name (x ∷ xs) zero e apart at_i is =
 placed_at name (x ∷ xs) (suc i) e apart at_i is =
     by_test (bytes_eq x.name name)
     (λ y. absurd (clash name x xs i e apart at_i is y))
-    (λ n. if_false (Some 0) (option_map (λ n. n + 1) (place_of_name name xs)) n ∙ ap (option_map (λ n. n + 1)) (placed_at name xs i e (behind x xs apart) at_i is) ∙ ap Some (omega arith))
+    (λ n. if_false (Some 0) (option_map (λ n. n + 1) (place_of_name name xs)) n ∙ ap (option_map (λ n. n + 1)) (placed_at name xs i e (apart_behind x xs apart) at_i is) ∙ ap Some (omega arith))

@@ -3,7 +3,7 @@ use Rattle.std.proofs.Common.{◌≡◌, ◌≢◌, ℕ, ◌+◌, ◌<◌, ◌�
 use Rattle.std.specs.Prelude.{nat_eq}
 use Rattle.std.proofs.lemmas.Bool.{eqb-true, eq-eqb}
 use Rattle.std.proofs.lemmas.List.Sums.{sum_by-cons, sum_by_push}
-use Rattle.nfs_inodes.specs.Tree.{at, with_at}
+use Rattle.nfs_inodes.specs.Tree.{at, with_at, without_at}
 use Rattle.nfs_inodes.specs.Law.{AreRising}
 use Rattle.nfs_inodes.proofs.Lists.{by_test, by_number, if_true, if_false, same_some, not_both, none_from}
 
@@ -50,6 +50,16 @@ module _ {X : Type 0} where
       (λ t. subst (λ l. AreRising low l next) (sym (if_true ((e.0, y) ∷ es) (e ∷ with_at n y es) t)) r)
       (λ f. subst (λ l. AreRising low l next) (sym (if_false ((e.0, y) ∷ es) (e ∷ with_at n y es) f)) (r.0, rising_with e.0 next n es y r.1))
 
+  pub rising_lower : (low high next : ℕ) (es : List (ℕ × X)) → low < high → AreRising high es next → AreRising low es next
+  rising_lower low high next [] l r = omega (arith, l, r)
+  rising_lower low high next (e ∷ es) l r = let a = r.0 in (omega (arith, l, a), r.1)
+
+  pub rising_without : (low next n : ℕ) (es : List (ℕ × X)) → AreRising low es next → AreRising low (without_at n es) next
+  rising_without low next n [] r = r
+  rising_without low next n (e ∷ es) r = by_test (nat_eq n e.0)
+      (λ t. subst (λ l. AreRising low l next) (sym (if_true es (e ∷ without_at n es) t)) (rising_lower low e.0 next es r.0 r.1))
+      (λ f. subst (λ l. AreRising low l next) (sym (if_false es (e ∷ without_at n es) f)) (r.0, rising_without e.0 next n es r.1))
+
   -- ---- look-ups after a change
 
   pub at_with_same : (n : ℕ) (x y : X) (es : List (ℕ × X)) → at n es ≡ Some x → at n (with_at n y es) ≡ Some y
@@ -75,6 +85,19 @@ module _ {X : Type 0} where
   at_push_other n m y [] h = at_after m (n, y) [] h
   at_push_other n m y (e ∷ es) h = ap (cond (nat_eq m e.0) (Some e.1)) (at_push_other n m y es h)
 
+  pub at_without_same : (low next n : ℕ) (es : List (ℕ × X)) → AreRising low es next → at n (without_at n es) ≡ None
+  at_without_same low next n [] r = refl
+  at_without_same low next n (e ∷ es) r = by_test (nat_eq n e.0)
+      (λ t. ap (at n) (if_true es (e ∷ without_at n es) t)
+      ∙ none_from (at n es) (λ x h. let b = (rising_bounds e.0 next es n x r.1 h).0 in let s = same_number n e.0 t in omega (arith, b, s)))
+      (λ f. ap (at n) (if_false es (e ∷ without_at n es) f) ∙ if_false _ _ f ∙ at_without_same e.0 next n es r.1)
+
+  pub at_without_other : (n m : ℕ) (es : List (ℕ × X)) → m ≢ n → at m (without_at n es) ≡ at m es
+  at_without_other n m [] h = refl
+  at_without_other n m (e ∷ es) h = by_test (nat_eq n e.0)
+      (λ t. ap (at m) (if_true es (e ∷ without_at n es) t) ∙ sym (at_after m e es (λ q. h (q ∙ sym (same_number n e.0 t)))))
+      (λ f. ap (at m) (if_false es (e ∷ without_at n es) f) ∙ ap (cond (nat_eq m e.0) (Some e.1)) (at_without_other n m es h))
+
   -- where a value after a change comes from
   pub with_back : {P : Type 0} (n m : ℕ) (x y z : X) (es : List (ℕ × X)) → at n es ≡ Some x → at m (with_at n y es) ≡ Some z → (m ≡ n → y ≡ z → P) → (m ≢ n → at m es ≡ Some z → P) → P
   with_back n m x y z es h e p q = by_number m n
@@ -85,6 +108,11 @@ module _ {X : Type 0} where
   push_back n m y z es h e p q = by_number m n
       (λ s. p s (same_some (sym (ap (λ k. at k (es ++ (n, y) ∷ [])) s ∙ at_push_same n y es h) ∙ e)))
       (λ o. q o (sym (at_push_other n m y es o) ∙ e))
+
+  pub without_back : (low next n m : ℕ) (z : X) (es : List (ℕ × X)) → AreRising low es next → at m (without_at n es) ≡ Some z → (m ≢ n) × (at m es ≡ Some z)
+  without_back low next n m z es r e = by_number m n
+      (λ s. absurd (not_both (at_without_same low next n es r) (ap (λ k. at k (without_at n es)) (sym s) ∙ e)))
+      (λ o. (o, sym (at_without_other n m es o) ∙ e))
 
   -- ---- sums
 
@@ -108,6 +136,17 @@ module _ {X : Type 0} where
 
     pub sum_push : (n : ℕ) (y : X) (es : List (ℕ × X)) → sum_over (es ++ (n, y) ∷ []) ≡ sum_over es + w y
     sum_push n y es = sum_by_push (λ (e : ℕ × X). w e.1) es (n, y)
+
+    pub sum_without : (n : ℕ) (x : X) (es : List (ℕ × X)) → at n es ≡ Some x → sum_over (without_at n es) + w x ≡ sum_over es
+    sum_without n x [] h = cc
+    sum_without n x (e ∷ es) h = by_test (nat_eq n e.0)
+        (λ t. let same : e.1 ≡ x = same_some (sym (if_true (Some e.1) _ t) ∙ h) in
+        let ws : w e.1 ≡ w x = ap w same in
+        let new : sum_over (without_at n (e ∷ es)) ≡ sum_over es = ap sum_over (if_true es (e ∷ without_at n es) t) in
+        let old = cons e es in omega (arith, ws, new, old))
+        (λ f. let rest : sum_over (without_at n es) + w x ≡ sum_over es = sum_without n x es (sym (if_false (Some e.1) _ f) ∙ h) in
+        let new : sum_over (without_at n (e ∷ es)) ≡ w e.1 + sum_over (without_at n es) = ap sum_over (if_false es (e ∷ without_at n es) f) ∙ cons e (without_at n es) in
+        let old = cons e es in omega (arith, rest, new, old))
 
     -- nothing is counted where nothing counts
     pub sum_zero : (low next : ℕ) (es : List (ℕ × X)) → AreRising low es next → ((n : ℕ) (x : X) → at n es ≡ Some x → w x ≡ 0) → sum_over es ≡ 0
@@ -151,3 +190,11 @@ module _ {X : Type 0} where
     pub shows_push : (n : ℕ) (y : X) (es : List (ℕ × X)) → shows (es ++ (n, y) ∷ []) ≡ shows es ++ (n, f y) ∷ []
     shows_push n y [] = refl
     shows_push n y (e ∷ es) = ap (λ l. (e.0, f e.1) ∷ l) (shows_push n y es)
+
+    without_step : (b : Bool) (e : ℕ × X) (es fs : List (ℕ × X)) → shows (cond b es (e ∷ fs)) ≡ cond b (shows es) ((e.0, f e.1) ∷ shows fs)
+    without_step true e es fs = refl
+    without_step false e es fs = refl
+
+    pub shows_without : (n : ℕ) (es : List (ℕ × X)) → shows (without_at n es) ≡ without_at n (shows es)
+    shows_without n [] = refl
+    shows_without n (e ∷ es) = without_step (nat_eq n e.0) e es (without_at n es) ∙ ap (λ l. cond (nat_eq n e.0) (shows es) ((e.0, f e.1) ∷ l)) (shows_without n es)
