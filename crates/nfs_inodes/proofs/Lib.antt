@@ -14,6 +14,7 @@ pub mod Recounts
 pub mod Views
 pub mod Steps
 pub mod AttributeChanges
+pub mod SizeChanges
 pub mod Tests
 pub mod Lookups
 pub mod Readers

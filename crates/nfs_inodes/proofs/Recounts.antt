@@ -1,19 +1,19 @@
 -- What is kept beside the tree, after one of its files has changed.
-use Rattle.std.proofs.Common.{◌≡◌, ◌≢◌, ℕ, ◌<◌, List, map, length, Some, sym, ap, subst, ◌∙◌, arith}
+use Rattle.std.proofs.Common.{◌≡◌, ◌≢◌, ℕ, zero, suc, ◌+◌, ◌<◌, List, [], ◌∷◌, map, length, Some, refl, sym, ap, subst, ◌∙◌, arith}
 use Rattle.std.specs.Prelude.{slice_get, ◌^◌}
 use Rattle.nfs_handles.specs.NumberedFiles.{NumberedFiles}
 use Rattle.nfs_inodes.specs.declared.stored_file.StoredFile.{StoredFile}
 use Rattle.nfs_inodes.specs.declared.stored_volume.StoredVolume.{StoredVolume}
-use Rattle.nfs_inodes.specs.Tree.{Tree, File, Volume, at, with_at, bytes_in, nlink, bytes_of}
+use Rattle.nfs_inodes.specs.Tree.{Tree, File, Volume, at, with_at, bytes_in, nlink, bytes_of, files_of}
 use Rattle.nfs_inodes.specs.Law.{Law, LawBut}
 use Rattle.nfs_inodes.specs.Changes.{with_file}
-use Rattle.nfs_inodes.specs.Counts.{CountedFile, CountedVolume, CountedTree, Agrees, IsCounted, files_in, tree_in}
+use Rattle.nfs_inodes.specs.Counts.{CountedFile, CountedVolume, CountedTree, Agrees, IsCounted, files_in, tree_in, with_totals}
 use Rattle.nfs_inodes.specs.Storage.{counted_file_of, counted_volume_of, counted_tree_of}
 use Rattle.nfs_inodes.specs.StoredFiles.{Revalues}
-use Rattle.nfs_inodes.proofs.Lists.{by_number}
+use Rattle.nfs_inodes.proofs.Lists.{by_number, same_some, same_tail, not_both}
 use Rattle.nfs_inodes.proofs.Maps.{shows_with, with_back, rising_bounds}
 use Rattle.nfs_inodes.proofs.Alike.{Alike, alike_itself, one_alike, nlink_alike, bytes_changed, count_changed}
-use Rattle.nfs_inodes.proofs.Counts.{shown}
+use Rattle.nfs_inodes.proofs.Counts.{shown, volumes_stay}
 use Rattle.nfs_inodes.proofs.StoredFiles.{counted_file, with_value_is}
 
 abbrev pub AreLimits : Volume → Type 0
@@ -85,6 +85,58 @@ same_totals x k n f g agrees at_file volume size place c e =
     let same : bytes_of place (with_file (tree_in k) n g).files ≡ bytes_of place (tree_in k).files = by_number f.file.volume place (λ s. let b = bytes.0 s in omega (arith, b, size)) bytes.1 in
     let files = count_changed (tree_in k) n f.file g (shown k n f at_file) volume place in
     (record { bytes = was.bytes ∙ sym same; files = was.files ∙ sym files }, agrees.limits place c e)
+
+-- a volume before and after a change of the totals at a place: so much more, and then so much less
+record Between (news olds : List CountedVolume) (place b n c m p : ℕ) (new : CountedVolume) : Type 0 where
+  old : CountedVolume
+  at_old : slice_get olds p ≡ Some old
+  volume : new.volume ≡ old.volume
+  here : p ≡ place → (new.bytes + b ≡ old.bytes + c) × (new.files + n ≡ old.files + m)
+  elsewhere : p ≢ place → (new.bytes ≡ old.bytes) × (new.files ≡ old.files)
+
+totals_between : (news olds : List CountedVolume) (place b n c m : ℕ) → with_totals news place b n ≡ with_totals olds place c m → (p : ℕ) (new : CountedVolume) → slice_get news p ≡ Some new → Between news olds place b n c m p new
+totals_between [] olds place b n c m same p new e = absurd (not_both refl e)
+totals_between (x ∷ xs) [] zero b n c m same p new e = cc
+totals_between (x ∷ xs) [] (suc place) b n c m same p new e = cc
+totals_between (x ∷ xs) (y ∷ ys) zero b n c m same zero new e =
+    let is : x ≡ new = same_some e in
+    let both : record { volume = x.volume; bytes = x.bytes + b; files = x.files + n } ≡ record { volume = y.volume; bytes = y.bytes + c; files = y.files + m } = same_some (ap (λ l. slice_get l 0) same) in
+    subst (Between (x ∷ xs) (y ∷ ys) zero b n c m zero) is (record {
+      old = y;
+      at_old = refl;
+      volume = ap (λ (k : CountedVolume). k.volume) both;
+      here = λ s. (ap (λ (k : CountedVolume). k.bytes) both, ap (λ (k : CountedVolume). k.files) both);
+      elsewhere = λ o. absurd (o refl);
+    })
+totals_between (x ∷ xs) (y ∷ ys) zero b n c m same (suc p) new e =
+    let rest : xs ≡ ys = same_tail same in
+    record { old = new; at_old = subst (λ l. slice_get l p ≡ Some new) rest e; volume = refl; here = λ s. absurd (let z : suc p ≡ 0 = s in omega (arith, z)); elsewhere = λ o. (refl, refl) }
+totals_between (x ∷ xs) (y ∷ ys) (suc place) b n c m same zero new e =
+    let is : x ≡ new = same_some e in
+    let head : x ≡ y = same_some (ap (λ l. slice_get l 0) same) in
+    record { old = new; at_old = ap Some (sym head ∙ is); volume = refl; here = λ s. absurd (let z : 0 ≡ suc place = s in omega (arith, z)); elsewhere = λ o. (refl, refl) }
+totals_between (x ∷ xs) (y ∷ ys) (suc place) b n c m same (suc p) new e =
+    let r = totals_between xs ys place b n c m (same_tail same) p new e in
+    record { old = r.old; at_old = r.at_old; volume = r.volume; here = λ s. r.here (let z : suc p ≡ suc place = s in omega (arith, z)); elsewhere = λ o. r.elsewhere (λ s. o (ap suc s)) }
+
+-- totals and limits after it, where the files have changed alike
+pub totals_moved : (x : ℕ) (k : CountedTree) (files : List (ℕ × File)) (news : List CountedVolume) (place b n c m : ℕ) → AgreesBut x k → with_totals news place b n ≡ with_totals k.volumes place c m →
+    ((p : ℕ) → (p ≡ place → (bytes_of p files + b ≡ bytes_of p (files_in k.files) + c) × (files_of p files + n ≡ files_of p (files_in k.files) + m)) × (p ≢ place → (bytes_of p files ≡ bytes_of p (files_in k.files)) × (files_of p files ≡ files_of p (files_in k.files)))) →
+    (p : ℕ) (new : CountedVolume) → slice_get news p ≡ Some new → IsCounted files p new × AreLimits new.volume
+totals_moved x k files news place b n c m agrees same sums p new e =
+    let r = totals_between news k.volumes place b n c m same p new e in
+    let t = agrees.totals p r.old r.at_old in
+    let bytes = t.bytes in let counts = t.files in
+    let told = sums p in (
+      by_number p place
+          (λ s. let y = told.0 s in let z = r.here s in let y0 = y.0 in let y1 = y.1 in let z0 = z.0 in let z1 = z.1 in record { bytes = omega (arith, bytes, y0, z0); files = omega (arith, counts, y1, z1) })
+          (λ o. let y = told.1 o in let z = r.elsewhere o in record { bytes = z.0 ∙ bytes ∙ sym y.0; files = z.1 ∙ counts ∙ sym y.1 }),
+      subst AreLimits (sym r.volume) (agrees.limits p r.old r.at_old),
+    )
+
+-- the volumes stay
+pub volumes_moved : (news olds : List CountedVolume) (place b n c m : ℕ) → with_totals news place b n ≡ with_totals olds place c m → volumes_in news ≡ volumes_in olds
+volumes_moved news olds place b n c m same = sym (volumes_stay news place b n) ∙ ap volumes_in same ∙ volumes_stay olds place c m
 
 -- ---- a file that stays where it is
 

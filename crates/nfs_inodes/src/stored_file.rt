@@ -4,10 +4,11 @@ ghost use Rattle.std.specs.Prelude.{◌%◌, if◌then◌else◌};
 ghost use Rattle.nfs_inodes.specs.Limits.{max_file_bytes, max_links};
 ghost use Rattle.nfs_inodes.specs.Tree.{is_directory, is_regular, next_cookie_in, bytes_in};
 ghost use Rattle.nfs_inodes.specs.Tree.{one_when, on_some};
-ghost use Rattle.nfs_inodes.specs.Changes.{entered, file_with_bytes, new_file, with_given};
+ghost use Rattle.nfs_inodes.specs.Changes.{entered, file_with_bytes, new_file};
+ghost use Rattle.nfs_inodes.specs.Changes.{resized_to, with_given};
 ghost use Rattle.nfs_inodes.specs.Storage.{file_of, kind_of, HasRoom};
 
-use crate::content::put;
+use crate::content::{put, resize};
 use crate::given_attributes::GivenAttributes;
 use crate::new_file::NewFile;
 use crate::stored_entry::StoredEntry;
@@ -162,6 +163,28 @@ pub(crate) fn write_bytes(
 {
     match &mut stored_file.node {
         Node::Regular(content) => put(content, offset, bytes)?,
+        _ => unreachable!(),
+    }
+    stored_file.mtime = now;
+    stored_file.ctime = now;
+    Ok(())
+}
+
+/// Gives a regular file this size, with zeros where it grows. Refused only without memory for what
+/// it grows by, and then it is as before.
+pub(crate) fn resize_bytes(
+    stored_file: &mut StoredFile,
+    size: usize,
+    now: Moment,
+) -> Result<(), AllocError>
+    requires { IsTrue (is_regular (file_of 0 stored_file.old).kind) }
+    ensures ok { OnOk result (file_of 0 stored_file.new ≡ resized_to (file_of 0 stored_file.old) size now) }
+    ensures err { OnErr result (file_of 0 stored_file.new ≡ file_of 0 stored_file.old) }
+    ensures full { OnErr result (length (bytes_in (file_of 0 stored_file.old).kind) < size) }
+    ensures nlink { stored_file.new.nlink ≡ stored_file.old.nlink }
+{
+    match &mut stored_file.node {
+        Node::Regular(content) => resize(content, size)?,
         _ => unreachable!(),
     }
     stored_file.mtime = now;
