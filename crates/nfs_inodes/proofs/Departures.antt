@@ -6,14 +6,14 @@ use Rattle.std.proofs.lemmas.List.Sums.{get_or-le-sum_by}
 use Rattle.nfs_attrs.specs.declared.moment.Moment.{Moment}
 use Rattle.nfs_inodes.specs.Tree.{Tree, File, Entry, Volume, at, on_some, one_when, entries_in, is_directory, parent_in, names_in, names_of, names_directory, subdirectories, nlink, bytes_for, one_for}
 use Rattle.nfs_inodes.specs.Law.{Law, LawBut, IsRoot, Lives, LivesAsDirectory, climb, parent_of}
-use Rattle.nfs_inodes.specs.Changes.{without_file, touched, released}
+use Rattle.nfs_inodes.specs.Changes.{with_file, without_file, touched, released}
 use Rattle.nfs_inodes.proofs.Lists.{by_test, by_number, if_true, if_false, same_some, not_both, not_in_empty}
-use Rattle.nfs_inodes.proofs.Maps.{rising_without, at_without_other, without_back, sum_without, sum_some}
+use Rattle.nfs_inodes.proofs.Maps.{rising_without, at_with_other, at_without_other, without_back, sum_without, sum_some}
 use Rattle.nfs_inodes.proofs.Numbers.{numbers_gone}
-use Rattle.nfs_inodes.proofs.Alike.{nlink_by}
+use Rattle.nfs_inodes.proofs.Alike.{nlink_by, nlink_alike, alike_itself, climb_alike, parent_changed, one_alike}
 use Rattle.nfs_inodes.proofs.Gains.{one_same}
 use Rattle.nfs_inodes.proofs.Births.{sum_in}
-use Rattle.nfs_inodes.proofs.Operations.{touched_is, law_touched}
+use Rattle.nfs_inodes.proofs.Operations.{touch_alike, touched_is, law_touched}
 
 -- a file that an entry names has a name
 pub named_by : (t : Tree) (d : ℕ) (f : File) (e : Entry) → Lives t d f → Contains (entries_in f.kind) e → 1 ≤ names_of e.number t.files
@@ -43,6 +43,12 @@ root_or_not (v ∷ vs) n = by_number v.root n
     behind : (v : Volume) (vs : List Volume) (n : ℕ) → v.root ≢ n → (IsRoot vs n → ⊥) → (place : ℕ) (w : Volume) → slice_get (v ∷ vs) place ≡ Some w → w.root ≡ n → ⊥
     behind v vs n o none zero w e s = o (ap (λ (k : Volume). k.root) (same_some e) ∙ s)
     behind v vs n o none (suc place) w e s = none (place, w, e, s)
+
+-- of the other files what they are, their ways and their links stay
+pub record LeavesOthers (n : ℕ) (old new : Tree) : Type 0 where
+  pub lives : (m : ℕ) (h : File) → m ≢ n → Lives old m h → Lives new m h
+  pub climbs : (steps m : ℕ) (h : File) → m ≢ n → LivesAsDirectory old m h → climb steps new.files m ≡ climb steps old.files m
+  pub links : (m : ℕ) (h : File) → m ≢ n → Lives old m h → nlink new.files m h ≡ nlink old.files m h
 
 -- ---- without the file
 
@@ -128,6 +134,9 @@ module _ (t : Tree) (n : ℕ) (law : LawBut n t) (may : MayBeRemoved t n) where
     count = λ place v e. let s = sum_without (one_for place) n may.file t.files may.at_file in let l = law.count place v e in omega (arith, s, l);
   }
 
+  pub others_without_file : LeavesOthers n t new
+  others_without_file = record { lives = stays; climbs = climb_gone; links = λ m h other at_m. nlink_gone m h at_m }
+
 -- ---- a file that has lost an entry
 
 -- where a file that is no directory has a name, none is without
@@ -176,3 +185,19 @@ law_released t n now law may = by_test (nat_eq (names_of n t.files) 0)
   where
     clash : {b : Bool} → b ≡ true → b ≡ false → ⊥
     clash y n = cc
+
+pub others_touched : (t : Tree) (n : ℕ) (now : Moment) (f : File) → LawBut n t → Lives t n f → LeavesOthers n t (with_file t n (record f { ctime = now }))
+others_touched t n now f law at_n =
+    let g : File = record f { ctime = now } in
+    record {
+      lives = λ m h other at_m. at_with_other n m g t.files other ∙ at_m;
+      climbs = λ steps m h other at_m. climb_alike t.files (with_file t n g).files (parent_changed t n f g at_n refl) steps m;
+      links = λ m h other at_m. nlink_alike t (with_file t n g) (one_alike t n f g law.rising law.numbers at_n (touch_alike f now)) m h h (alike_itself h);
+    }
+
+pub others_released : (t : Tree) (n : ℕ) (now : Moment) → LawBut n t → MayBeReleased t n → LeavesOthers n t (released t n now)
+others_released t n now law may = by_test (nat_eq (names_of n t.files) 0)
+    (λ y. subst (LeavesOthers n t) (sym (if_true (without_file t n) (touched t n now) y))
+    (others_without_file t n law (record { file = may.file; at_file = may.at_file; empty = may.empty; unnamed = eqb-true (names_of n t.files) 0 y; free = may.free })))
+    (λ z. subst (LeavesOthers n t) (sym (if_false (without_file t n) (touched t n now) z ∙ touched_is t n now may.file may.at_file))
+    (others_touched t n now may.file law may.at_file))

@@ -27,3 +27,6 @@ pub mod Losses
 pub mod Leavings
 pub mod Departures
 pub mod Unlinks
+pub mod Moves
+pub mod Carries
+pub mod Renames

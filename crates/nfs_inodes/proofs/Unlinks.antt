@@ -25,9 +25,9 @@ not_a_root t d f e law at_d in_f r =
     let same : names_of r.1.root t.files ≡ names_of e.number t.files = ap (λ k. names_of k t.files) r.3 in
     omega (arith, none, some, same)
 
--- what has no entries has none that names it
-pub names_another : (t : Tree) (d : ℕ) (name : List ℕ) (f file : File) (e : Entry) → Lives t d f → entry_named name (entries_in f.kind) ≡ Some e → Lives t e.number file → entries_in file.kind ≡ [] → e.number ≢ d
-names_another t d name f file e at_d found at_file empty s =
+-- a file without entries is none that has one
+pub empty_elsewhere : (t : Tree) (d n : ℕ) (name : List ℕ) (f file : File) (e : Entry) → Lives t d f → entry_named name (entries_in f.kind) ≡ Some e → Lives t n file → entries_in file.kind ≡ [] → n ≢ d
+empty_elsewhere t d n name f file e at_d found at_file empty s =
     let same : f ≡ file = same_some (sym at_d ∙ ap (λ k. at k t.files) (sym s) ∙ at_file) in
     not_both refl (sym (ap (entry_named name) (ap (λ (k : File). entries_in k.kind) same ∙ empty)) ∙ found)
 
@@ -43,7 +43,7 @@ module _ (t : Tree) (d : ℕ) (name : List ℕ) (now : Moment) (may : MayUnlink 
       ∙ ap (λ u. released u may.entry.number now) (left_is t d now name may.dir may.at_dir.0)
 
   pub other_file : may.entry.number ≢ d
-  other_file = names_another t d name may.dir may.file may.entry may.at_dir.0 may.found may.at_file may.empty
+  other_file = empty_elsewhere t d may.entry.number name may.dir may.file may.entry may.at_dir.0 may.found may.at_file may.empty
 
   pub may_be_released : Law t → MayBeReleased without may.entry.number
   may_be_released law =

@@ -83,6 +83,23 @@ pub record MayUnlink (t : Tree) (d : ℕ) (name : List ℕ) : Type 0 where
 abbrev pub IsOff : Tree → ℕ → ℕ → Type 0
 IsOff t d n = (steps : ℕ) → climb steps t.files d ≢ n
 
+-- The entry of a name in directory from may go to a new name in directory to, which no entry there has.
+pub record MayCarry (t : Tree) (from : ℕ) (name : List ℕ) (to : ℕ) (new_name : List ℕ) : Type 0 where
+  pub source : File
+  pub at_source : LivesAsDirectory t from source
+  pub entry : Entry
+  pub found : entry_named name (entries_in source.kind) ≡ Some entry
+  pub file : File
+  pub at_file : Lives t entry.number file
+  pub target : File
+  pub at_target : LivesAsDirectory t to target
+  pub volume : file.volume ≡ target.volume
+  pub is_name : IsName new_name
+  pub fresh : All (λ e. e.name ≢ new_name) (entries_in target.kind)
+  pub cookie : next_cookie_in target.kind < 2 ^ 64 - 1
+  pub off : is_directory file.kind ≡ true → IsOff t to entry.number
+  pub links : is_directory file.kind ≡ true → (to ≡ from) ⊎ (nlink t.files to target < max_links)
+
 -- a name in directory d is not that of file n
 abbrev pub NamesOther : Tree → ℕ → List ℕ → ℕ → Type 0
 NamesOther t d name n = (old : Entry) → entry_at t d name ≡ Some old → old.number ≢ n
