@@ -11,8 +11,10 @@ pub mod Counts
 pub mod CountsMore
 pub mod StoredFiles
 pub mod Recounts
+pub mod CountedRemovals
 pub mod Views
 pub mod Steps
+pub mod KeptRemovals
 pub mod AttributeChanges
 pub mod SizeChanges
 pub mod Tests

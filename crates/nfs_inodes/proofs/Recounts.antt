@@ -1,5 +1,5 @@
 -- What is kept beside the tree, after one of its files has changed.
-use Rattle.std.proofs.Common.{◌≡◌, ◌≢◌, ℕ, zero, suc, ◌+◌, ◌<◌, List, [], ◌∷◌, map, length, Some, refl, sym, ap, subst, ◌∙◌, arith}
+use Rattle.std.proofs.Common.{◌≡◌, ◌≢◌, ℕ, zero, suc, ◌+◌, ◌<◌, List, [], ◌∷◌, map, length, Some, refl, sym, ap, subst, ◌∙◌, arith, add-zero}
 use Rattle.std.specs.Prelude.{slice_get, ◌^◌}
 use Rattle.nfs_handles.specs.NumberedFiles.{NumberedFiles}
 use Rattle.nfs_inodes.specs.declared.stored_file.StoredFile.{StoredFile}
@@ -8,7 +8,7 @@ use Rattle.nfs_inodes.specs.Tree.{Tree, File, Volume, at, with_at, bytes_in, nli
 use Rattle.nfs_inodes.specs.Law.{Law, LawBut}
 use Rattle.nfs_inodes.specs.Changes.{with_file}
 use Rattle.nfs_inodes.specs.Counts.{CountedFile, CountedVolume, CountedTree, Agrees, IsCounted, files_in, tree_in, with_totals}
-use Rattle.nfs_inodes.specs.Storage.{counted_file_of, counted_volume_of, counted_tree_of}
+use Rattle.nfs_inodes.specs.Storage.{file_of, counted_file_of, counted_volume_of, counted_tree_of}
 use Rattle.nfs_inodes.specs.StoredFiles.{Revalues}
 use Rattle.nfs_inodes.proofs.Lists.{by_number, same_some, same_tail, not_both}
 use Rattle.nfs_inodes.proofs.Maps.{shows_with, with_back, rising_bounds}
@@ -162,3 +162,13 @@ pub kept_revalued : {From : StoredFile → StoredFile → Type 0} (a b : Numbere
 kept_revalued a b olds news n r =
     ap (λ (u : NumberedFiles StoredFile). counted_tree_of u news) (r.new_is ∙ with_value_is a n r.was r.value r.at_was)
     ∙ ap (λ fs. record { files = fs; next = a.next; key = a.key; volumes = map counted_volume_of news }) (shows_with counted_file n (record { tag = r.was.tag; value = r.value }) a.files)
+
+-- and the file that it is then
+pub kept_as : {From : StoredFile → StoredFile → Type 0} (a b : NumberedFiles StoredFile) (olds news : List StoredVolume) (n : ℕ) (r : Revalues a n From b) (g : File) → file_of r.was.tag r.value ≡ g → counted_tree_of b news ≡ recounted (counted_tree_of a olds) n (record { file = g; nlink = r.value.nlink }) (map counted_volume_of news)
+kept_as a b olds news n r g is = kept_revalued a b olds news n r ∙ ap (λ f. recounted (counted_tree_of a olds) n (record { file = f; nlink = r.value.nlink }) (map counted_volume_of news)) is
+
+-- no totals more
+pub totals_nothing : (cs : List CountedVolume) (place : ℕ) → with_totals cs place 0 0 ≡ cs
+totals_nothing [] place = refl
+totals_nothing (c ∷ cs) zero = ap (λ b. record { volume = c.volume; bytes = b; files = c.files + 0 } ∷ cs) (add-zero c.bytes) ∙ ap (λ n. record { volume = c.volume; bytes = c.bytes; files = n } ∷ cs) (add-zero c.files)
+totals_nothing (c ∷ cs) (suc place) = ap (λ l. c ∷ l) (totals_nothing cs place)

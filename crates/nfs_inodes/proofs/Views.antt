@@ -83,3 +83,15 @@ reset_totals (b ∷ bs) zero less more s e has =
     ap (λ n. record { volume = volume_of s; bytes = n; files = s.files + 0 } ∷ map counted_volume_of bs) sums
     ∙ ap (λ (s : StoredVolume). record { volume = volume_of s; bytes = s.bytes + more; files = s.files + 0 } ∷ map counted_volume_of bs) (sym same)
 reset_totals (b ∷ bs) (suc place) less more s e has = ap (λ l. counted_volume_of b ∷ l) (reset_totals bs place less more s e has)
+
+pub less_totals : (stored_volumes : List StoredVolume) (place bytes files : ℕ) (s : StoredVolume) → slice_get stored_volumes place ≡ Some s → bytes ≤ s.bytes → files ≤ s.files →
+    with_totals (map counted_volume_of (slice_set stored_volumes place (record s { bytes = s.bytes - bytes; files = s.files - files }))) place bytes files ≡ map counted_volume_of stored_volumes
+less_totals [] place bytes files s e has_bytes has_files = absurd (not_both refl e)
+less_totals (b ∷ bs) zero bytes files s e has_bytes has_files =
+    let same : b ≡ s = same_some e in
+    let sum : s.bytes - bytes + bytes ≡ s.bytes = omega (arith, has_bytes) in
+    let count : s.files - files + files ≡ s.files = omega (arith, has_files) in
+    ap (λ n. record { volume = volume_of s; bytes = n; files = s.files - files + files } ∷ map counted_volume_of bs) sum
+    ∙ ap (λ n. record { volume = volume_of s; bytes = s.bytes; files = n } ∷ map counted_volume_of bs) count
+    ∙ ap (λ s. counted_volume_of s ∷ map counted_volume_of bs) (sym same)
+less_totals (b ∷ bs) (suc place) bytes files s e has_bytes has_files = ap (λ l. counted_volume_of b ∷ l) (less_totals bs place bytes files s e has_bytes has_files)

@@ -14,6 +14,7 @@ pub mod laws;
 pub mod limits;
 pub mod name;
 pub mod new_file;
+pub mod removal;
 mod stored_entry;
 mod stored_file;
 mod stored_files;

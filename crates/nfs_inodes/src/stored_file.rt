@@ -1,12 +1,12 @@
 //! A file as it is kept, and what is done to it alone.
 ghost use Rattle.std.specs.Prelude.{◌≡◌, ◌+◌, ◌<◌, ◌≤◌, ◌^◌, ◌*◌, OnOk, OnErr, length, IsTrue};
-ghost use Rattle.std.specs.Prelude.{◌%◌, if◌then◌else◌};
+ghost use Rattle.std.specs.Prelude.{◌%◌, if◌then◌else◌, map, vec_len, vec_capacity};
 ghost use Rattle.nfs_inodes.specs.Limits.{max_file_bytes, max_links};
 ghost use Rattle.nfs_inodes.specs.Tree.{is_directory, is_regular, next_cookie_in, bytes_in};
 ghost use Rattle.nfs_inodes.specs.Tree.{one_when, on_some};
 ghost use Rattle.nfs_inodes.specs.Changes.{entered, file_with_bytes, new_file};
-ghost use Rattle.nfs_inodes.specs.Changes.{resized_to, with_given};
-ghost use Rattle.nfs_inodes.specs.Storage.{file_of, kind_of, HasRoom};
+ghost use Rattle.nfs_inodes.specs.Changes.{left, entries_without, resized_to, with_given};
+ghost use Rattle.nfs_inodes.specs.Storage.{entry_of, file_of, kind_of, HasRoom};
 
 use crate::content::{put, resize};
 use crate::given_attributes::GivenAttributes;
@@ -144,6 +144,37 @@ pub(crate) fn add_entry(
         }
         _ => unreachable!(),
     }
+}
+
+/// A directory without the entry of a name, and without the link of a subdirectory.
+pub(crate) fn remove_entry(
+    stored_file: &mut StoredFile,
+    name: &[u8],
+    subdirectory: bool,
+    now: Moment,
+)
+    requires { one_when subdirectory ≤ stored_file.old.nlink }
+    ensures file { file_of 0 stored_file.new ≡ left (file_of 0 stored_file.old) name.now now }
+    ensures nlink { stored_file.new.nlink + one_when subdirectory ≡ stored_file.old.nlink }
+    ensures room { HasRoom stored_file.old → HasRoom stored_file.new }
+{
+    if subdirectory {
+        stored_file.nlink -= 1;
+    }
+    match &mut stored_file.node {
+        Node::Directory { entries, .. } => remove_named(entries, name),
+        _ => {}
+    }
+    stored_file.mtime = now;
+    stored_file.ctime = now;
+}
+
+// The entries of other names, with room for one more where there was room.
+fn remove_named(entries: &mut Vec<StoredEntry>, name: &[u8])
+    ensures others { map entry_of entries.new.items ≡ entries_without name.now (map entry_of entries.old.items) }
+    ensures room { vec_len entries.old < vec_capacity entries.old → vec_len entries.new < vec_capacity entries.new }
+{
+    entries.retain(|entry| entry.name.as_slice() != name);
 }
 
 /// Puts bytes at an offset of a regular file, zeros in a gap before them. Refused only without
