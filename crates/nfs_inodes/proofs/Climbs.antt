@@ -12,7 +12,7 @@ use Rattle.nfs_inodes.proofs.Lists.{by_number, by_test, if_true, if_false, same_
 use Rattle.nfs_inodes.proofs.Maps.{at_here, at_after}
 
 module _ (files : List (ℕ × File)) where
-  climb_add : (a b m : ℕ) → climb (a + b) files m ≡ climb b files (climb a files m)
+  pub climb_add : (a b m : ℕ) → climb (a + b) files m ≡ climb b files (climb a files m)
   climb_add zero b m = let z : 0 + b ≡ b = omega arith in ap (λ k. climb k files m) z
   climb_add (suc a) b m = ap (λ k. climb k files m) (the_sum a b) ∙ climb_add a b (parent_of files m)
     where

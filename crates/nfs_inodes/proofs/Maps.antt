@@ -171,6 +171,10 @@ module _ {X : Type 0} where
     abbrev pub shows : List (ℕ × X) → List (ℕ × Y)
     shows es = map (λ e. (e.0, f e.1)) es
 
+    pub rising_shown : (low next : ℕ) (es : List (ℕ × X)) → AreRising low (shows es) next → AreRising low es next
+    rising_shown low next [] r = r
+    rising_shown low next (e ∷ es) r = (r.0, rising_shown e.0 next es r.1)
+
     option_step : (b : Bool) (x : X) (o : Option X) → cond b (Some (f x)) (option_map f o) ≡ option_map f (cond b (Some x) o)
     option_step true x o = refl
     option_step false x o = refl

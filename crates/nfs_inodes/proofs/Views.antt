@@ -1,5 +1,5 @@
 -- What clients see of what is kept: files by number, and the shares of volumes.
-use Rattle.std.proofs.Common.{◌≡◌, ℕ, zero, suc, ◌+◌, List, [], ◌∷◌, map, Option, Some, None, option_map, refl, sym, ap, subst, ◌∙◌}
+use Rattle.std.proofs.Common.{◌≡◌, ℕ, zero, suc, ◌+◌, ◌-◌, ◌≤◌, List, [], ◌∷◌, map, Option, Some, None, option_map, refl, sym, ap, subst, ◌∙◌, arith}
 use Rattle.std.specs.Prelude.{slice_get, slice_set}
 use Rattle.std.proofs.lemmas.Option.{slice_get-map}
 use Rattle.nfs_handles.specs.NumberedFiles.{NumberedFiles, TaggedFile, at, value_at}
@@ -73,3 +73,25 @@ set_totals [] place bytes files s e = absurd (not_both refl e)
 set_totals (b ∷ bs) zero bytes files s e = let same : b ≡ s = same_some e in
     ap (λ (s : StoredVolume). record { volume = volume_of s; bytes = s.bytes + bytes; files = s.files + files } ∷ map counted_volume_of bs) (sym same)
 set_totals (b ∷ bs) (suc place) bytes files s e = ap (λ l. counted_volume_of b ∷ l) (set_totals bs place bytes files s e)
+
+pub reset_totals : (stored_volumes : List StoredVolume) (place less more : ℕ) (s : StoredVolume) → slice_get stored_volumes place ≡ Some s → less ≤ s.bytes →
+    with_totals (map counted_volume_of (slice_set stored_volumes place (record s { bytes = s.bytes - less + more }))) place less 0 ≡ with_totals (map counted_volume_of stored_volumes) place more 0
+reset_totals [] place less more s e has = absurd (not_both refl e)
+reset_totals (b ∷ bs) zero less more s e has =
+    let same : b ≡ s = same_some e in
+    let sums : s.bytes - less + more + less ≡ s.bytes + more = omega (arith, has) in
+    ap (λ n. record { volume = volume_of s; bytes = n; files = s.files + 0 } ∷ map counted_volume_of bs) sums
+    ∙ ap (λ (s : StoredVolume). record { volume = volume_of s; bytes = s.bytes + more; files = s.files + 0 } ∷ map counted_volume_of bs) (sym same)
+reset_totals (b ∷ bs) (suc place) less more s e has = ap (λ l. counted_volume_of b ∷ l) (reset_totals bs place less more s e has)
+
+pub less_totals : (stored_volumes : List StoredVolume) (place bytes files : ℕ) (s : StoredVolume) → slice_get stored_volumes place ≡ Some s → bytes ≤ s.bytes → files ≤ s.files →
+    with_totals (map counted_volume_of (slice_set stored_volumes place (record s { bytes = s.bytes - bytes; files = s.files - files }))) place bytes files ≡ map counted_volume_of stored_volumes
+less_totals [] place bytes files s e has_bytes has_files = absurd (not_both refl e)
+less_totals (b ∷ bs) zero bytes files s e has_bytes has_files =
+    let same : b ≡ s = same_some e in
+    let sum : s.bytes - bytes + bytes ≡ s.bytes = omega (arith, has_bytes) in
+    let count : s.files - files + files ≡ s.files = omega (arith, has_files) in
+    ap (λ n. record { volume = volume_of s; bytes = n; files = s.files - files + files } ∷ map counted_volume_of bs) sum
+    ∙ ap (λ n. record { volume = volume_of s; bytes = s.bytes; files = n } ∷ map counted_volume_of bs) count
+    ∙ ap (λ s. counted_volume_of s ∷ map counted_volume_of bs) (sym same)
+less_totals (b ∷ bs) (suc place) bytes files s e has_bytes has_files = ap (λ l. counted_volume_of b ∷ l) (less_totals bs place bytes files s e has_bytes has_files)

@@ -8,6 +8,7 @@ pub mod Conditions
 pub mod Counts
 pub mod Storage
 pub mod StoredFiles
+pub mod Removals
 pub mod StepConditions
 pub mod Laws
 pub mod Example

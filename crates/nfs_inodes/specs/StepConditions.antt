@@ -32,6 +32,13 @@ pub record HasRoomFor (stored_volumes : List StoredVolume) (place bytes files : 
   pub bytes_fit : stored_volume.bytes + bytes < 2 ^ 64
   pub files_fit : stored_volume.files + files < 2 ^ 64
 
+-- the bytes in the totals of the volume at a place can become so many less and so many more
+pub record HasBytes (stored_volumes : List StoredVolume) (place less more : ℕ) : Type 0 where
+  pub stored_volume : StoredVolume
+  pub at_place : slice_get stored_volumes place ≡ Some stored_volume
+  pub has : less ≤ stored_volume.bytes
+  pub fits : stored_volume.bytes - less + more < 2 ^ 64
+
 -- a kept file is a directory that takes an entry of this name
 pub record TakesName (stored_file : StoredFile) (name : List ℕ) : Type 0 where
   pub directory : is_directory (kind_of stored_file.node) ≡ true

@@ -3,10 +3,11 @@ use Rattle.std.specs.Prelude.{◌≡◌, ℕ, ◌≢◌, ◌+◌, ◌-◌, ◌<�
 use Rattle.nfs_attrs.specs.declared.moment.Moment.{Moment}
 use Rattle.nfs_handles.specs.NumberedFiles.{NumberedFiles, TaggedFile, at, with_value}
 use Rattle.nfs_inodes.specs.Limits.{max_file_bytes, max_links}
+use Rattle.nfs_inodes.specs.declared.given_attributes.GivenAttributes.{GivenAttributes}
 use Rattle.nfs_inodes.specs.declared.stored_file.StoredFile.{StoredFile}
 use Rattle.nfs_inodes.specs.Tree.{with_at, one_when, is_directory, is_regular, bytes_in, next_cookie_in}
 use Rattle.nfs_inodes.specs.declared.stored_files.Growth.{Growth}
-use Rattle.nfs_inodes.specs.Changes.{entered, file_with_bytes}
+use Rattle.nfs_inodes.specs.Changes.{entered, file_with_bytes, resized_to, with_given}
 use Rattle.nfs_inodes.specs.Storage.{file_of, counted_file_of, counted_files}
 
 -- number d is that of a directory, which takes an entry more
@@ -108,3 +109,28 @@ pub record WritesFile (old : NumberedFiles StoredFile) (n offset : ℕ) (bytes :
   pub files : counted_files new.files ≡ with_at n (counted_file_of file.tag file_now) (counted_files old.files)
   pub next : new.next ≡ old.next
   pub key : new.key ≡ old.key
+
+-- number n is that of a regular file, which takes a size
+pub record TakesSize (files : NumberedFiles StoredFile) (n size : ℕ) : Type 0 where
+  pub file : TaggedFile StoredFile
+  pub at_file : at files n ≡ Some file
+  pub regular : is_regular (file_of 0 file.value).kind ≡ true
+  pub large : size ≤ max_file_bytes
+
+-- a file of another size
+pub record Resizes (was size : ℕ) (now : Moment) (old new : StoredFile) : Type 0 where
+  pub file : file_of 0 new ≡ resized_to (file_of 0 old) size now
+  pub nlink : new.nlink ≡ old.nlink
+  pub size_was : was ≡ length (bytes_in (file_of 0 old).kind)
+
+-- ---- attributes
+
+-- a file lives under number n
+pub record IsThere (files : NumberedFiles StoredFile) (n : ℕ) : Type 0 where
+  pub file : TaggedFile StoredFile
+  pub at_file : at files n ≡ Some file
+
+-- the same file with the attributes that are given
+pub record SetsAttributes (given : GivenAttributes) (now : Moment) (old new : StoredFile) : Type 0 where
+  pub file : file_of 0 new ≡ with_given (file_of 0 old) given now
+  pub nlink : new.nlink ≡ old.nlink

@@ -2,7 +2,7 @@
 ghost use Rattle.std.specs.Prelude.{◌≡◌, ◌+◌, ◌<◌, ◌≤◌, ◌++◌, OnOk, OnErr, IfOk, length, take};
 ghost use Rattle.std.specs.Prelude.{drop};
 ghost use Rattle.nfs_inodes.specs.Limits.{max_file_bytes};
-ghost use Rattle.nfs_inodes.specs.Changes.{put_bytes, zeros};
+ghost use Rattle.nfs_inodes.specs.Changes.{put_bytes, sized, zeros};
 
 use std::alloc::{AllocError, Global};
 
@@ -37,6 +37,21 @@ pub(crate) fn put(content: &mut Vec<u8>, offset: usize, bytes: &[u8]) -> Result<
     } else {
         put_beyond(content, offset, bytes)
     }
+}
+
+/// The first bytes of the content, so many, and zeros where there are fewer. Refused only without
+/// memory for what it grows by, and then the content is as before.
+pub(crate) fn resize(content: &mut Vec<u8>, size: usize) -> Result<(), AllocError>
+    ensures ok { OnOk result (content.new.items ≡ sized content.old.items size) }
+    ensures err { OnErr result (content.new.items ≡ content.old.items) }
+    ensures full { OnErr result (length content.old.items < size) }
+{
+    if size <= content.len() {
+        content.truncate(size);
+        return Ok(());
+    }
+    content.resize(size, 0)?;
+    Ok(())
 }
 
 // Bytes that begin inside the content or at its end: it grows by those that don't lie inside.

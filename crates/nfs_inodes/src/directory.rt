@@ -6,7 +6,7 @@ ghost use Rattle.nfs_inodes.specs.Law.{AreApart};
 ghost use Rattle.nfs_inodes.specs.Storage.{entry_of, kind_of};
 ghost use Rattle.nfs_inodes.specs.Reading.{listing, number_named, first_after, number_under};
 ghost use Rattle.nfs_inodes.specs.Reading.{place_of_name, place_under};
-ghost use Rattle.nfs_inodes.specs.Reading.{entry_after, next_cookie_at};
+ghost use Rattle.nfs_inodes.specs.Reading.{entry_at, entry_after, next_cookie_at};
 ghost use Rattle.nfs_inodes.specs.Reading as spec;
 ghost use Rattle.nfs_inodes.specs.Views.{entries_left, entry_seen, kind_seen};
 
@@ -102,6 +102,16 @@ impl Tree {
         }
     }
 
+    // The file that the entry of a name in directory `dir` names; `.` and `..` are no entries.
+    pub(crate) fn entry(&self, dir: Number, name: &[u8]) -> Option<Number>
+        ensures { option_map (λ n. n.0) result ≡ option_map (λ e. e.number) (entry_at self.now dir.0 name.now) }
+    {
+        match self.files.get(dir) {
+            Some(stored_file) => entry_named(&stored_file.node, name),
+            None => None,
+        }
+    }
+
     /// The cookie that the next entry of directory `dir` takes. `None` where there is none.
     pub fn next_cookie(&self, dir: Number) -> Option<u64>
         ensures { result ≡ next_cookie_at self.now dir.0 }
@@ -118,6 +128,15 @@ fn cookie_of_next(node: &Node) -> Option<u64>
 {
     match node {
         Node::Directory { next_cookie, .. } => Some(*next_cookie),
+        _ => None,
+    }
+}
+
+fn entry_named(node: &Node, name: &[u8]) -> Option<Number>
+    ensures { option_map (λ n. n.0) result ≡ number_named name.now (entries_in (kind_of node.now)) }
+{
+    match node {
+        Node::Directory { entries, .. } => named(entries.as_slice(), name),
         _ => None,
     }
 }

@@ -1,6 +1,7 @@
 //! The tree of files: volumes, files by their numbers, and the entries that name them.
 #![tactic(auto)]
 
+pub mod ancestry;
 pub mod attributes;
 pub mod conditions;
 pub mod content;
@@ -13,6 +14,7 @@ pub mod laws;
 pub mod limits;
 pub mod name;
 pub mod new_file;
+pub mod removal;
 mod stored_entry;
 mod stored_file;
 mod stored_files;

@@ -1,13 +1,15 @@
 //! A file as it is kept, and what is done to it alone.
 ghost use Rattle.std.specs.Prelude.{◌≡◌, ◌+◌, ◌<◌, ◌≤◌, ◌^◌, ◌*◌, OnOk, OnErr, length, IsTrue};
-ghost use Rattle.std.specs.Prelude.{if◌then◌else◌};
+ghost use Rattle.std.specs.Prelude.{◌%◌, if◌then◌else◌, map, vec_len, vec_capacity};
 ghost use Rattle.nfs_inodes.specs.Limits.{max_file_bytes, max_links};
 ghost use Rattle.nfs_inodes.specs.Tree.{is_directory, is_regular, next_cookie_in, bytes_in};
-ghost use Rattle.nfs_inodes.specs.Tree.{one_when};
+ghost use Rattle.nfs_inodes.specs.Tree.{one_when, on_some};
 ghost use Rattle.nfs_inodes.specs.Changes.{entered, file_with_bytes, new_file};
-ghost use Rattle.nfs_inodes.specs.Storage.{file_of, kind_of, HasRoom};
+ghost use Rattle.nfs_inodes.specs.Changes.{left, entries_without, resized_to, with_given};
+ghost use Rattle.nfs_inodes.specs.Storage.{entry_of, file_of, kind_of, HasRoom};
 
-use crate::content::put;
+use crate::content::{put, resize};
+use crate::given_attributes::GivenAttributes;
 use crate::new_file::NewFile;
 use crate::stored_entry::StoredEntry;
 use nfs_attrs::moment::Moment;
@@ -144,6 +146,37 @@ pub(crate) fn add_entry(
     }
 }
 
+/// A directory without the entry of a name, and without the link of a subdirectory.
+pub(crate) fn remove_entry(
+    stored_file: &mut StoredFile,
+    name: &[u8],
+    subdirectory: bool,
+    now: Moment,
+)
+    requires { one_when subdirectory ≤ stored_file.old.nlink }
+    ensures file { file_of 0 stored_file.new ≡ left (file_of 0 stored_file.old) name.now now }
+    ensures nlink { stored_file.new.nlink + one_when subdirectory ≡ stored_file.old.nlink }
+    ensures room { HasRoom stored_file.old → HasRoom stored_file.new }
+{
+    if subdirectory {
+        stored_file.nlink -= 1;
+    }
+    match &mut stored_file.node {
+        Node::Directory { entries, .. } => remove_named(entries, name),
+        _ => {}
+    }
+    stored_file.mtime = now;
+    stored_file.ctime = now;
+}
+
+// The entries of other names, with room for one more where there was room.
+fn remove_named(entries: &mut Vec<StoredEntry>, name: &[u8])
+    ensures others { map entry_of entries.new.items ≡ entries_without name.now (map entry_of entries.old.items) }
+    ensures room { vec_len entries.old < vec_capacity entries.old → vec_len entries.new < vec_capacity entries.new }
+{
+    entries.retain(|entry| entry.name.as_slice() != name);
+}
+
 /// Puts bytes at an offset of a regular file, zeros in a gap before them. Refused only without
 /// memory for what it grows by, and then it is as before.
 pub(crate) fn write_bytes(
@@ -166,4 +199,49 @@ pub(crate) fn write_bytes(
     stored_file.mtime = now;
     stored_file.ctime = now;
     Ok(())
+}
+
+/// Gives a regular file this size, with zeros where it grows. Refused only without memory for what
+/// it grows by, and then it is as before.
+pub(crate) fn resize_bytes(
+    stored_file: &mut StoredFile,
+    size: usize,
+    now: Moment,
+) -> Result<(), AllocError>
+    requires { IsTrue (is_regular (file_of 0 stored_file.old).kind) }
+    ensures ok { OnOk result (file_of 0 stored_file.new ≡ resized_to (file_of 0 stored_file.old) size now) }
+    ensures err { OnErr result (file_of 0 stored_file.new ≡ file_of 0 stored_file.old) }
+    ensures full { OnErr result (length (bytes_in (file_of 0 stored_file.old).kind) < size) }
+    ensures nlink { stored_file.new.nlink ≡ stored_file.old.nlink }
+{
+    match &mut stored_file.node {
+        Node::Regular(content) => resize(content, size)?,
+        _ => unreachable!(),
+    }
+    stored_file.mtime = now;
+    stored_file.ctime = now;
+    Ok(())
+}
+
+/// Sets the attributes that are given.
+pub(crate) fn set_attributes(stored_file: &mut StoredFile, given: &GivenAttributes, now: Moment)
+    ensures file { file_of 0 stored_file.new ≡ with_given (file_of 0 stored_file.old) given.now now }
+    ensures nlink { stored_file.new.nlink ≡ stored_file.old.nlink }
+{
+    stored_file.mode = mode_of(given.mode, stored_file.mode);
+    stored_file.uid = given.uid.unwrap_or(stored_file.uid);
+    stored_file.gid = given.gid.unwrap_or(stored_file.gid);
+    stored_file.atime = given.atime.unwrap_or(stored_file.atime);
+    stored_file.mtime = given.mtime.unwrap_or(stored_file.mtime);
+    stored_file.ctime = now;
+}
+
+// The low 12 bits of a mode that is given, or else the mode that was.
+fn mode_of(given: Option<u32>, was: u32) -> u32
+    ensures { result ≡ on_some given was (λ mode. mode % 4096) }
+{
+    match given {
+        Some(mode) => mode % 4096,
+        None => was,
+    }
 }

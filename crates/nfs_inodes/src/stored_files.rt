@@ -7,8 +7,13 @@ ghost use Rattle.nfs_inodes.specs.Storage.{HasRoom};
 ghost use Rattle.nfs_inodes.specs.StoredFiles.{TakesEntry, Revalues, SameFile, Enters, AddsFile};
 ghost use Rattle.nfs_inodes.specs.StoredFiles.{SameFiles, TakesLink, LinksFile, GainsLink};
 ghost use Rattle.nfs_inodes.specs.StoredFiles.{TakesBytes, TakesGrowth, WritesFile};
+ghost use Rattle.nfs_inodes.specs.StoredFiles.{IsThere, SetsAttributes};
+ghost use Rattle.nfs_inodes.specs.StoredFiles.{TakesSize, Resizes};
 
-use crate::stored_file::{StoredFile, add_entry, reserve_entry, write_bytes};
+use crate::given_attributes::GivenAttributes;
+use crate::stored_file::{
+    StoredFile, add_entry, reserve_entry, resize_bytes, set_attributes, write_bytes,
+};
 use nfs_attrs::moment::Moment;
 use nfs_handles::files::Files;
 use nfs_handles::number::Number;
@@ -89,6 +94,45 @@ pub(crate) fn write(
                 bytes: stored_file.size() - before,
             })
         }
+        None => unreachable!(),
+    }
+}
+
+/// Gives a regular file this size, and answers the size that it had. Refused only without memory
+/// for what it grows by, and then clients see no change.
+pub(crate) fn resize(
+    files: &mut Files<StoredFile>,
+    number: Number,
+    size: usize,
+    now: Moment,
+) -> Result<u64, AllocError>
+    requires { TakesSize files.old number.0 size }
+    ensures ok { IfOk result (λ was. Revalues files.old number.0 (Resizes was size now) files.new) }
+    ensures err { OnErr result (SameFiles files.old files.new) }
+    ensures full { OnErr result (TakesGrowth files.old number.0 size) }
+{
+    match files.get_mut(number) {
+        Some(stored_file) => {
+            let before = stored_file.size();
+            resize_bytes(stored_file, size, now)?;
+            Ok(before)
+        }
+        None => unreachable!(),
+    }
+}
+
+/// Sets the attributes of a file that are given.
+pub(crate) fn set(
+    files: &mut Files<StoredFile>,
+    number: Number,
+    given: &GivenAttributes,
+    now: Moment,
+)
+    requires { IsThere files.old number.0 }
+    ensures { Revalues files.old number.0 (SetsAttributes given.now now) files.new }
+{
+    match files.get_mut(number) {
+        Some(stored_file) => set_attributes(stored_file, given, now),
         None => unreachable!(),
     }
 }

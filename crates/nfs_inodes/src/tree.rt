@@ -1,21 +1,24 @@
 //! The tree of files.
 ghost use Rattle.std.specs.Prelude.{◌≡◌, ◌+◌, ◌<◌, Option, Some, None, OnOk, OnErr, IfOk, length};
 ghost use Rattle.std.specs.Prelude.{[], ◌∷◌, ◌++◌, vec_len, vec_capacity, map};
-ghost use Rattle.nfs_inodes.specs.Tree.{Regular, Directory, Link};
-ghost use Rattle.nfs_inodes.specs.Law.{Law};
+ghost use Rattle.nfs_inodes.specs.Tree.{File, Regular, Directory, Link};
+ghost use Rattle.nfs_inodes.specs.Law.{Law, Lives};
 ghost use Rattle.nfs_inodes.specs.Changes.{Makes, after_make_file, after_make_dir, after_make_link};
-ghost use Rattle.nfs_inodes.specs.Changes.{after_link, after_write_at, after_add_volume};
+ghost use Rattle.nfs_inodes.specs.Changes.{after_link, after_write_at, after_resize};
+ghost use Rattle.nfs_inodes.specs.Changes.{after_set, after_add_volume};
 ghost use Rattle.nfs_inodes.specs.Changes.{new_file, volume_of};
 ghost use Rattle.nfs_inodes.specs.Conditions.{MayMake, MayMakeDirectory, MayMakeLink, MayLink};
-ghost use Rattle.nfs_inodes.specs.Conditions.{MayWrite, Grows, MayAddVolume};
+ghost use Rattle.nfs_inodes.specs.Conditions.{MayWrite, Grows, MayResize, MayAddVolume};
 ghost use Rattle.nfs_inodes.specs.Storage.{file_of, counted_volume_of};
 ghost use Rattle.nfs_inodes.specs.StepConditions.{MayAdd, with_stored_file, HasRoomFor};
+ghost use Rattle.nfs_inodes.specs.StepConditions.{HasBytes};
 ghost use Rattle.nfs_inodes.specs.Counts.{with_totals};
 
 use crate::content::copied;
+use crate::given_attributes::GivenAttributes;
 use crate::new_file::NewFile;
 use crate::stored_file::{Node, StoredFile};
-use crate::stored_files::{add, link, write};
+use crate::stored_files::{add, link, resize, set, write};
 use crate::stored_volume::StoredVolume;
 use nfs_attrs::moment::Moment;
 use nfs_handles::files::Files;
@@ -187,6 +190,29 @@ impl Tree {
         Ok(())
     }
 
+    /// Gives a regular file this size: zeros where it grows, and what lies beyond is lost (RFC 1813,
+    /// section 3.3.2). Refused only without memory for what it grows by, and then the tree is as
+    /// before.
+    pub fn resize(&mut self, number: Number, size: usize, now: Moment) -> Result<(), AllocError>
+        requires { MayResize self.old number.0 size }
+        ensures ok { OnOk result (self.new ≡ after_resize self.old number.0 size now) }
+        ensures err { OnErr result (self.new ≡ self.old) }
+        ensures full { OnErr result (Grows self.old number.0 0 size) }
+    {
+        let place = self.place(number);
+        let before = resize(&mut self.files, number, size, now)?;
+        recount(&mut self.volumes, place, before, size as u64);
+        Ok(())
+    }
+
+    /// Sets the attributes of a file that are given (RFC 1813, section 3.3.2); its ctime is `now`.
+    pub fn set(&mut self, number: Number, given: &GivenAttributes, now: Moment)
+        requires { (f : File) × Lives self.old number.0 f }
+        ensures { self.new ≡ after_set self.old number.0 given.now now }
+    {
+        set(&mut self.files, number, given, now);
+    }
+
     /// One volume more, of at most so many bytes and files, and its root, whose number is
     /// answered. Refused without memory, and then the tree is as before.
     pub fn add_volume(
@@ -277,6 +303,17 @@ fn count(volumes: &mut Vec<StoredVolume>, place: usize, bytes: u64, files: u64)
             stored_volume.bytes += bytes;
             stored_volume.files += files;
         }
+        None => unreachable!(),
+    }
+}
+
+// So many bytes less and so many more in the volume at a place.
+fn recount(volumes: &mut Vec<StoredVolume>, place: usize, less: u64, more: u64)
+    requires { HasBytes volumes.old.items place less more }
+    ensures { with_totals (map counted_volume_of volumes.new.items) place less 0 ≡ with_totals (map counted_volume_of volumes.old.items) place more 0 }
+{
+    match volumes.get_mut(place) {
+        Some(stored_volume) => stored_volume.bytes = stored_volume.bytes - less + more,
         None => unreachable!(),
     }
 }

@@ -1,0 +1,355 @@
+-- An entry that goes, and its file, in what is kept.
+use Rattle.std.proofs.Common.{inl, inr, ◌≡◌, ◌≢◌, ◌⊎◌, ℕ, ◌+◌, ◌-◌, ◌<◌, ◌≤◌, Bool, true, false, List, [], ◌∷◌, map, length, Some, None, option_map, refl, sym, ap, subst, ◌∙◌, arith}
+use Rattle.std.specs.Prelude.{nat_eq, nat_le, ◌||◌, slice_get, filter, if◌then◌else◌}
+use Rattle.std.proofs.lemmas.Bool.{eq-eqb, leb-true, leb-false}
+use Rattle.nfs_attrs.specs.declared.moment.Moment.{Moment}
+use Rattle.nfs_handles.specs.NumberedFiles.{NumberedFiles, TaggedFile, value_at, with_value, without}
+use Rattle.nfs_handles.specs.NumberedFiles as numbered
+use Rattle.nfs_handles.specs.Changes.{Takes}
+use Rattle.nfs_inodes.specs.declared.stored_file.StoredFile.{StoredFile}
+use Rattle.nfs_inodes.specs.declared.stored_volume.StoredVolume.{StoredVolume}
+use Rattle.nfs_inodes.specs.declared.removal.Freed.{Freed}
+use Rattle.nfs_inodes.specs.Tree.{Tree, File, Entry, Volume, at, on_some, one_when, bytes_in, is_directory, names_of, nlink, bytes_for, one_for}
+use Rattle.nfs_inodes.specs.Law.{Lives}
+use Rattle.nfs_inodes.specs.Changes.{with_file, left, released, without_file, touched, after_unlink}
+use Rattle.nfs_inodes.specs.Conditions.{MayUnlink}
+use Rattle.nfs_inodes.specs.Reading.{entry_at}
+use Rattle.nfs_inodes.specs.Counts.{CountedFile, CountedTree, Agrees, tree_in, with_totals}
+use Rattle.nfs_inodes.specs.Storage.{file_of, kind_of, counted_volume_of, counted_tree_of, HasRoom}
+use Rattle.nfs_inodes.specs.StoredFiles.{Revalues, IsThere}
+use Rattle.nfs_inodes.specs.StepConditions.{retagged}
+use Rattle.nfs_inodes.specs.Removals.{HasRoomAt, LosesEntry, Leaves, LosesLink, Goes, Stays, is_last, HasEntries, HasTotals, Removes}
+use Rattle.nfs_inodes.proofs.Lists.{by_number, by_test, if_true, if_false, same_some, not_both}
+use Rattle.nfs_inodes.proofs.Maps.{at_with_other, at_without_other, apart_number, shows_without, sum_some}
+use Rattle.nfs_inodes.proofs.Alike.{bytes_here}
+use Rattle.nfs_inodes.proofs.Gains.{one_same}
+use Rattle.nfs_inodes.proofs.Operations.{touched_is}
+use Rattle.nfs_inodes.proofs.StoredFiles.{counted_file, at_counted_file, value_found, at_value_same, at_value_other}
+use Rattle.nfs_inodes.proofs.Recounts.{AgreesBut, recounted, view_recounted, kept_as, totals_nothing}
+use Rattle.nfs_inodes.proofs.Leavings.{names_apart, one_less, nlink_less_there}
+use Rattle.nfs_inodes.proofs.Departures.{MayBeReleased, MayBeRemoved}
+use Rattle.nfs_inodes.proofs.Unlinks.{entry_is, unlinked_is, other_file, may_be_released}
+use Rattle.nfs_inodes.proofs.CountedRemovals.{counted_left, agrees_left, counted_gone, agrees_gone, view_gone, counted_kept, agrees_kept}
+use Rattle.nfs_inodes.proofs.Views.{kept_at, lives}
+use Rattle.nfs_inodes.proofs.Steps.{stored_volume_of}
+
+-- ---- entries
+
+-- the entries that are kept show those of other names
+pub map_filter : {X Y : Type 0} (f : X → Y) (p : Y → Bool) (xs : List X) → map f (filter (λ x. p (f x)) xs) ≡ filter p (map f xs)
+map_filter f p [] = refl
+map_filter f p (x ∷ xs) = step (p (f x)) ∙ ap (λ l. if p (f x) then f x ∷ l else l) (map_filter f p xs)
+  where
+    step : (b : Bool) → map f (if b then x ∷ filter (λ x. p (f x)) xs else filter (λ x. p (f x)) xs) ≡ (if b then f x ∷ map f (filter (λ x. p (f x)) xs) else map f (filter (λ x. p (f x)) xs))
+    step true = refl
+    step false = refl
+
+-- ---- one kept file
+
+or_false : (a b : Bool) → (a || b) ≡ false → (a ≡ false) × (b ≡ false)
+or_false true b e = cc
+or_false false b e = (refl, e)
+
+or_true : {P : Type 0} (a b : Bool) → (a || b) ≡ true → (a ≡ true → P) → (a ≡ false → b ≡ true → P) → P
+or_true true b e p q = p refl
+or_true false b e p q = q refl e
+
+pub loses : (t : NumberedFiles StoredFile) (n : ℕ) (f : TaggedFile StoredFile) (i : StoredFile) (now : Moment) → numbered.at t n ≡ Some f → is_last f.value ≡ false → Some i ≡ value_at t n →
+    Stays t n now (record { place = i.volume; bytes = 0; files = 0 }) (with_value t n (record i { ctime = now; nlink = i.nlink - 1 }))
+loses t n f i now e more v =
+    let s = value_found t n f i e v in
+    let many : 1 < f.value.nlink = leb-false f.value.nlink 1 (or_false (is_directory (kind_of f.value.node)) (nat_le f.value.nlink 1) more).1 in
+    let links : i.nlink ≡ f.value.nlink = ap (λ (i : StoredFile). i.nlink) s in
+    record {
+      loses = record {
+        was = f;
+        at_was = e;
+        value = record i { ctime = now; nlink = i.nlink - 1 };
+        from = subst (λ (j : StoredFile). LosesLink now j (record i { ctime = now; nlink = i.nlink - 1 })) s (record { file = refl; nlink = omega (arith, many, links); room = λ h. h });
+        new_is = refl;
+      };
+      more = more;
+      place = ap (λ (i : StoredFile). i.volume) s;
+      bytes = refl;
+      files = refl;
+    }
+
+pub goes : (t u : NumberedFiles StoredFile) (n : ℕ) (i : StoredFile) (bytes : ℕ) → HasEntries true t n → Takes t n (Some i) u → bytes ≡ length (bytes_in (file_of 0 i).kind) → Goes t n (record { place = i.volume; bytes = bytes; files = 1 }) u
+goes t u n i bytes has takes size =
+    let s : i ≡ has.0.value = value_found t n has.0 i has.1 (sym takes.0) in
+    record {
+      file = has.0;
+      at_file = has.1;
+      last = has.2;
+      new_is = takes.1;
+      place = ap (λ (i : StoredFile). i.volume) s;
+      bytes = size ∙ ap (λ (i : StoredFile). length (bytes_in (file_of 0 i).kind)) s;
+      files = refl;
+    }
+
+pub not_taken : (t u : NumberedFiles StoredFile) (n : ℕ) → HasEntries true t n → Takes t n None u → ⊥
+not_taken t u n has takes = not_both takes.0 has.1
+
+-- what a test tells of the file that is there
+pub told_entries : (t : NumberedFiles StoredFile) (n : ℕ) (told b : Bool) → IsThere t n → told ≡ on_some (value_at t n) true is_last → told ≡ b → HasEntries b t n
+told_entries t n told b there is s = (there.file, there.at_file, sym (is ∙ ap (λ o. on_some (option_map (λ (f : TaggedFile StoredFile). f.value) o) true is_last) there.at_file) ∙ s)
+
+-- ---- room for an entry
+
+pub room_revalued : {From : StoredFile → StoredFile → Type 0} (a b : NumberedFiles StoredFile) (n : ℕ) (r : Revalues a n From b) → (HasRoom r.was.value → HasRoom r.value) → (d : ℕ) → HasRoomAt a d → HasRoomAt b d
+room_revalued a b n r more d has i e = by_number d n
+    (λ s. let is : r.value ≡ i = same_some (sym (ap (option_map (λ (f : TaggedFile StoredFile). f.value)) (ap (λ (u : NumberedFiles StoredFile). numbered.at u d) r.new_is ∙ ap (numbered.at (with_value a n r.value)) s ∙ at_value_same a n r.was r.value r.at_was)) ∙ e) in
+    subst HasRoom is (more (has r.was.value (ap (value_at a) s ∙ ap (option_map (λ (f : TaggedFile StoredFile). f.value)) r.at_was))))
+    (λ o. has i (ap (option_map (λ (f : TaggedFile StoredFile). f.value)) (sym (ap (λ (u : NumberedFiles StoredFile). numbered.at u d) r.new_is ∙ at_value_other a n d r.was r.value r.at_was o)) ∙ e))
+
+pub room_without : (a b : NumberedFiles StoredFile) (n : ℕ) → b ≡ without a n → (d : ℕ) → d ≢ n → HasRoomAt a d → HasRoomAt b d
+room_without a b n is d o has i e = has i (ap (option_map (λ (f : TaggedFile StoredFile). f.value)) (sym (ap (λ (u : NumberedFiles StoredFile). numbered.at u d) is ∙ at_without_other n d a.files o)) ∙ e)
+
+-- ---- an entry less
+
+module _ (a : NumberedFiles StoredFile) (olds : List StoredVolume) (d : ℕ) (name : List ℕ) (n : ℕ) (removes : Removes a olds d name n) where
+  abbrev t : Tree
+  t = tree_in (counted_tree_of a olds)
+
+  abbrev may : MayUnlink t d name
+  may = removes.may
+
+  abbrev k : CountedTree
+  k = counted_tree_of a olds
+
+  kept_dir : (f : TaggedFile StoredFile) × (numbered.at a d ≡ Some f) × (file_of f.tag f.value ≡ may.dir)
+  kept_dir = kept_at a olds t refl d may.dir may.at_dir.0
+
+  kept_file : (f : TaggedFile StoredFile) × (numbered.at a n ≡ Some f) × (file_of f.tag f.value ≡ may.file)
+  kept_file = kept_at a olds t refl n may.file (ap (λ k. at k t.files) removes.number ∙ may.at_file)
+
+  pub is_subdirectory : (b : Bool) → b ≡ on_some (value_at a n) false (λ f. is_directory (kind_of f.node)) → b ≡ is_directory may.file.kind
+  is_subdirectory b e = e ∙ ap (λ o. on_some (option_map (λ (f : TaggedFile StoredFile). f.value) o) false (λ f. is_directory (kind_of f.node))) kept_file.1 ∙ ap (λ (f : File). is_directory f.kind) kept_file.2
+
+  links_of_dir : (f : TaggedFile StoredFile) → numbered.at a d ≡ Some f → file_of f.tag f.value ≡ may.dir → f.value.nlink ≡ nlink t.files d may.dir
+  links_of_dir f e is = removes.agree.links d (counted_file f) (at_counted_file a d f e) ∙ ap (nlink t.files d) is
+
+  less_links : nlink (with_file t d (left may.dir name may.dir.ctime)).files d (left may.dir name may.dir.ctime) + one_when (is_directory may.file.kind) ≡ nlink t.files d may.dir
+  less_links = nlink_less_there t d may.dir.ctime name may.dir may.entry removes.agree.law.rising may.at_dir.0 (names_apart may.dir (removes.agree.law.sound d may.dir may.at_dir.0)) may.found may.file may.at_dir.1 may.at_file
+
+  pub loses_entry : (b : Bool) → b ≡ on_some (value_at a n) false (λ f. is_directory (kind_of f.node)) → LosesEntry a d (one_when b)
+  loses_entry b e =
+      let sub : one_when b ≡ one_when (is_directory may.file.kind) = ap one_when (is_subdirectory b e) in
+      let are = links_of_dir kept_dir.0 kept_dir.1 kept_dir.2 in
+      let less = less_links in
+      record { dir = kept_dir.0; at_dir = kept_dir.1; nlink = omega (arith, sub, are, less) }
+
+  other : n ≢ d
+  other s = other_file t d name may.dir.ctime may (sym removes.number ∙ s)
+
+  module _ (now : Moment) (b : NumberedFiles StoredFile) (sub : Bool) (is_sub : sub ≡ on_some (value_at a n) false (λ f. is_directory (kind_of f.node))) (leaves : Revalues a d (Leaves name (one_when sub) now) b) where
+    dir_was : file_of leaves.was.tag leaves.was.value ≡ may.dir
+    dir_was = same_some (sym (lives a olds d leaves.was leaves.at_was) ∙ may.at_dir.0)
+
+    -- what is kept without the entry
+    abbrev k1 : CountedTree
+    k1 = counted_left k d may.dir name now leaves.value.nlink
+
+    abbrev t1 : Tree
+    t1 = with_file t d (left may.dir name now)
+
+    counted_1 : counted_tree_of b olds ≡ k1
+    counted_1 = kept_as a b olds olds d leaves (left may.dir name now) (ap (λ (f : File). retagged f leaves.was.tag) leaves.from.file ∙ ap (λ (f : File). left f name now) dir_was)
+
+    view_1 : tree_in k1 ≡ t1
+    view_1 = view_recounted k d (record { file = left may.dir name now; nlink = leaves.value.nlink }) k.volumes refl
+
+    abbrev dir_held : CountedFile
+    dir_held = record { file = may.dir; nlink = leaves.was.value.nlink }
+
+    at_held : at d k.files ≡ Some dir_held
+    at_held = at_counted_file a d leaves.was leaves.at_was ∙ ap (λ (f : File). Some (held f)) dir_was
+      where
+        held : File → CountedFile
+        held f = record { file = f; nlink = leaves.was.value.nlink }
+
+    agrees_1 : AgreesBut n k1
+    agrees_1 = subst (λ m. AgreesBut m k1) (sym removes.number)
+        (agrees_left k d leaves.value.nlink now name dir_held may.entry may.file removes.agree at_held may.at_dir.1 may.found may.at_file
+        (ap (λ m. leaves.value.nlink + m) (ap one_when (sym (is_subdirectory sub is_sub))) ∙ leaves.from.nlink))
+
+    at_1 : numbered.at b n ≡ Some kept_file.0
+    at_1 = ap (λ (u : NumberedFiles StoredFile). numbered.at u n) leaves.new_is ∙ at_value_other a d n leaves.was leaves.value leaves.at_was other ∙ kept_file.1
+
+    pub is_there_still : IsThere b n
+    is_there_still = record { file = kept_file.0; at_file = at_1 }
+
+    releases : MayBeReleased t1 n
+    releases = subst (MayBeReleased t1) (sym removes.number) (may_be_released t d name now may removes.agree.law)
+
+    names_1 : names_of n t1.files + 1 ≡ names_of n t.files
+    names_1 = let told = (one_less t d now name may.dir may.entry removes.agree.law.rising may.at_dir.0 (names_apart may.dir (removes.agree.law.sound d may.dir may.at_dir.0)) may.found).names n in
+        let one = one_same n may.entry removes.number in omega (arith, told, one)
+
+    links_are : is_directory may.file.kind ≡ false → kept_file.0.value.nlink ≡ names_of n t.files
+    links_are z = removes.agree.links n (counted_file kept_file.0) (at_counted_file a n kept_file.0 kept_file.1) ∙ ap (nlink t.files n) kept_file.2 ∙ if_false _ _ z
+
+    unlinked_1 : after_unlink t d name now ≡ released t1 n now
+    unlinked_1 = unlinked_is t d name now may ∙ ap (λ m. released t1 m now) (sym removes.number)
+
+    at_t1 : Lives t1 n may.file
+    at_t1 = at_with_other d n (left may.dir name now) t.files other ∙ ap (λ m. at m t.files) removes.number ∙ may.at_file
+
+    -- what is kept of its file
+    abbrev held : CountedFile
+    held = record { file = may.file; nlink = kept_file.0.value.nlink }
+
+    at_k1 : at n k1.files ≡ Some held
+    at_k1 = at_with_other d n (record { file = left may.dir name now; nlink = leaves.value.nlink }) k.files other ∙ at_counted_file a n kept_file.0 kept_file.1 ∙ ap (λ (f : File). Some (with_links f)) kept_file.2
+      where
+        with_links : File → CountedFile
+        with_links f = record { file = f; nlink = kept_file.0.value.nlink }
+
+    volume_there : (v : Volume) × (slice_get t.volumes may.file.volume ≡ Some v)
+    volume_there = removes.agree.law.placed may.entry.number may.file may.at_file
+
+    has_totals : (place bytes files : ℕ) → place ≡ may.file.volume → bytes ≤ length (bytes_in may.file.kind) → files ≤ 1 → HasTotals olds place bytes files
+    has_totals place bytes files is_place few one =
+        let s = stored_volume_of a olds place volume_there.0 removes.agree (ap (slice_get t.volumes) is_place ∙ volume_there.1) in
+        let has = s.2 in let count = s.3 in
+        let all = sum_some (bytes_for place) may.entry.number may.file t.files may.at_file in
+        let its = bytes_here place may.file (sym is_place) in
+        let every = sum_some (one_for place) may.entry.number may.file t.files may.at_file in
+        let counted : one_for place may.file ≡ 1 = ap one_when (eq-eqb may.file.volume place (sym is_place)) in
+        record { stored_volume = s.0; at_place = s.1; has_bytes = omega (arith, has, all, its, few); has_files = omega (arith, count, every, counted, one) }
+
+    module _ (freed : Freed) (b2 : NumberedFiles StoredFile) where
+      gone_file : (g : Goes b n freed b2) → file_of g.file.tag g.file.value ≡ may.file
+      gone_file g = ap (λ (f : TaggedFile StoredFile). file_of f.tag f.value) (same_some (sym g.at_file ∙ at_1)) ∙ kept_file.2
+
+      gone_bytes : (g : Goes b n freed b2) → freed.bytes ≡ length (bytes_in may.file.kind)
+      gone_bytes g = g.bytes ∙ ap (λ (f : File). length (bytes_in f.kind)) (gone_file g)
+
+      gone_place : (g : Goes b n freed b2) → freed.place ≡ may.file.volume
+      gone_place g = g.place ∙ ap (λ (f : File). f.volume) (gone_file g)
+
+      kept_was : (s : Stays b n now freed b2) → s.loses.was ≡ kept_file.0
+      kept_was s = same_some (sym s.loses.at_was ∙ at_1)
+
+      kept_place : (s : Stays b n now freed b2) → freed.place ≡ may.file.volume
+      kept_place s = s.place ∙ ap (λ (f : TaggedFile StoredFile). f.value.volume) (kept_was s) ∙ ap (λ (f : File). f.volume) kept_file.2
+
+      pub totals_there : Goes b n freed b2 ⊎ Stays b n now freed b2 → HasTotals olds freed.place freed.bytes freed.files
+      totals_there which = elim which [
+        | inl g ↦ let bytes = gone_bytes g in let files = g.files in has_totals freed.place freed.bytes freed.files (gone_place g) (omega (arith, bytes)) (omega (arith, files))
+        | inr s ↦ let bytes = s.bytes in let files = s.files in has_totals freed.place freed.bytes freed.files (kept_place s) (omega (arith, bytes)) (omega (arith, files))
+      ]
+
+      pub room_after : Goes b n freed b2 ⊎ Stays b n now freed b2 → (e : ℕ) → e ≢ n → HasRoomAt a e → HasRoomAt b2 e
+      room_after which e o has =
+          let first = room_revalued a b d leaves leaves.from.room e has in
+          elim which [
+            | inl g ↦ room_without b b2 n g.new_is e o first
+            | inr s ↦ room_revalued b b2 n s.loses s.loses.from.room e first
+          ]
+
+      module _ (news : List StoredVolume) (counts : with_totals (map counted_volume_of news) freed.place freed.bytes freed.files ≡ map counted_volume_of olds) where
+        abbrev Done : Type 0
+        Done = Agrees (counted_tree_of b2 news) × (tree_in (counted_tree_of b2 news) ≡ after_unlink t d name now)
+
+        -- ---- it has gone
+
+        module _ (g : Goes b n freed b2) where
+          none_left : names_of n t1.files ≡ 0
+          none_left = by_test (is_directory may.file.kind)
+              (λ y. releases.unnamed (ap (λ (f : File). is_directory f.kind) (same_some (sym releases.at_file ∙ at_t1)) ∙ y))
+              (λ z. or_true (is_directory (kind_of g.file.value.node)) (nat_le g.file.value.nlink 1) g.last
+              (λ y. absurd (clash (sym (ap (λ (f : File). is_directory f.kind) (gone_file g)) ∙ y) z))
+              (λ f l. let few = leb-true g.file.value.nlink 1 l in
+              let links : g.file.value.nlink ≡ kept_file.0.value.nlink = ap (λ (f : TaggedFile StoredFile). f.value.nlink) (same_some (sym g.at_file ∙ at_1)) in
+              let are = links_are z in let less = names_1 in
+              omega (arith, few, links, are, less)))
+            where
+              clash : {b : Bool} → b ≡ true → b ≡ false → ⊥
+              clash y n = cc
+
+          given_back : with_totals (map counted_volume_of news) held.file.volume (length (bytes_in held.file.kind)) 1 ≡ k1.volumes
+          given_back = ap (λ p. with_totals (map counted_volume_of news) p (length (bytes_in may.file.kind)) 1) (sym (gone_place g))
+              ∙ ap (λ bytes. with_totals (map counted_volume_of news) freed.place bytes 1) (sym (gone_bytes g))
+              ∙ ap (with_totals (map counted_volume_of news) freed.place freed.bytes) (sym g.files)
+              ∙ counts
+
+          counted_gone_2 : counted_tree_of b2 news ≡ counted_gone k1 n (map counted_volume_of news)
+          counted_gone_2 = ap (λ (u : NumberedFiles StoredFile). counted_tree_of u news) g.new_is
+              ∙ ap (λ fs. record { files = fs; next = b.next; key = b.key; volumes = map counted_volume_of news }) (shows_without counted_file n b.files)
+              ∙ ap (λ k. counted_gone k n (map counted_volume_of news)) counted_1
+
+          removed : MayBeRemoved t1 n
+          removed = record { file = may.file; at_file = at_t1; empty = may.empty; unnamed = none_left; free = releases.free }
+
+          done_gone : Done
+          done_gone = (
+            subst Agrees (sym counted_gone_2) (agrees_gone k1 n held (map counted_volume_of news) at_k1 given_back agrees_1 (subst (λ u. MayBeRemoved u n) (sym view_1) removed)),
+            ap tree_in counted_gone_2 ∙ view_gone k1 n held (map counted_volume_of news) at_k1 given_back ∙ ap (λ u. without_file u n) view_1
+                ∙ sym (unlinked_1 ∙ if_true (without_file t1 n) (touched t1 n now) (eq-eqb (names_of n t1.files) 0 none_left)),
+          )
+
+        -- ---- it stays
+
+        module _ (s : Stays b n now freed b2) where
+          was_file : file_of s.loses.was.tag s.loses.was.value ≡ may.file
+          was_file = ap (λ (f : TaggedFile StoredFile). file_of f.tag f.value) (kept_was s) ∙ kept_file.2
+
+          tells : (is_directory (kind_of s.loses.was.value.node) ≡ false) × (nat_le s.loses.was.value.nlink 1 ≡ false)
+          tells = or_false (is_directory (kind_of s.loses.was.value.node)) (nat_le s.loses.was.value.nlink 1) s.more
+
+          is_file : is_directory may.file.kind ≡ false
+          is_file = sym (ap (λ (f : File). is_directory f.kind) was_file) ∙ tells.0
+
+          many : 1 < s.loses.was.value.nlink
+          many = leb-false s.loses.was.value.nlink 1 tells.1
+
+          links_1 : s.loses.value.nlink ≡ names_of n t1.files
+          links_1 =
+              let less = s.loses.from.nlink in
+              let links : s.loses.was.value.nlink ≡ kept_file.0.value.nlink = ap (λ (f : TaggedFile StoredFile). f.value.nlink) (kept_was s) in
+              let are = links_are is_file in let names = names_1 in
+              omega (arith, less, links, are, names)
+
+          some_left : nat_eq (names_of n t1.files) 0 ≡ false
+          some_left = apart_number (names_of n t1.files) 0 (λ z. let l = links_1 in let less = s.loses.from.nlink in let m = many in omega (arith, z, l, less, m))
+
+          same_volumes : map counted_volume_of news ≡ map counted_volume_of olds
+          same_volumes = sym (totals_nothing (map counted_volume_of news) freed.place)
+              ∙ ap (λ bytes. with_totals (map counted_volume_of news) freed.place bytes 0) (sym s.bytes)
+              ∙ ap (with_totals (map counted_volume_of news) freed.place freed.bytes) (sym s.files)
+              ∙ counts
+
+          abbrev now_held : CountedFile
+          now_held = record { file = record may.file { ctime = now }; nlink = s.loses.value.nlink }
+
+          counted_kept_2 : counted_tree_of b2 news ≡ counted_kept k1 n may.file now s.loses.value.nlink
+          counted_kept_2 = kept_as b b2 olds news n s.loses (record may.file { ctime = now }) (ap (λ (f : File). retagged f s.loses.was.tag) s.loses.from.file ∙ ap (λ (f : File). record f { ctime = now }) was_file)
+              ∙ ap (recounted (counted_tree_of b olds) n now_held) same_volumes
+              ∙ ap (λ k. recounted k n now_held k.volumes) counted_1
+
+          done_kept : Done
+          done_kept = (
+            subst Agrees (sym counted_kept_2) (agrees_kept k1 n s.loses.value.nlink now held agrees_1 at_k1 is_file (links_1 ∙ ap (λ (u : Tree). names_of n u.files) (sym view_1)) (let m = many in let less = s.loses.from.nlink in omega (arith, m, less))),
+            ap tree_in counted_kept_2 ∙ view_recounted k1 n now_held k1.volumes refl ∙ ap (λ u. with_file u n (record may.file { ctime = now })) view_1
+                ∙ sym (unlinked_1 ∙ if_false (without_file t1 n) (touched t1 n now) some_left ∙ touched_is t1 n now may.file at_t1),
+          )
+
+        pub done : Goes b n freed b2 ⊎ Stays b n now freed b2 → Done
+        done which = elim which [
+          | inl g ↦ done_gone g
+          | inr s ↦ done_kept s
+        ]
+
+-- ---- the tree's own
+
+-- the number is that of the entry
+abbrev IsNumber : ℕ → List ℕ → ℕ → Tree → Type 0
+IsNumber d name n t = (may : MayUnlink t d name) × (n ≡ may.entry.number)
+
+-- the entry that is found is the one that may be removed
+pub removes_found : (a : NumberedFiles StoredFile) (olds : List StoredVolume) (t : Tree) (d : ℕ) (name : List ℕ) (n : ℕ) → tree_in (counted_tree_of a olds) ≡ t → Agrees (counted_tree_of a olds) → MayUnlink t d name → Some n ≡ option_map (λ (e : Entry). e.number) (entry_at t d name) → Removes a olds d name n
+removes_found a olds t d name n view agree may found = record { agree = agree; may = here.0; number = here.1 }
+  where
+    here : IsNumber d name n (tree_in (counted_tree_of a olds))
+    here = subst (IsNumber d name n) (sym view) (may, same_some (found ∙ ap (option_map (λ (e : Entry). e.number)) (entry_is t d name may.dir may.at_dir.0 ∙ may.found)))

@@ -1,0 +1,24 @@
+use Rattle.nfs_inodes.proofs.KeptRemovals.{loses_entry, is_there_still, totals_there, done, room_after}
+use Rattle.nfs_inodes.proofs.removal.take_out.Goals as goal
+
+pub leave-requires : goal.leave-requires
+leave-requires c = loses_entry c.args.files.now c.args.volumes.now.items c.args.dir.0 c.args.name.now c.args.number.0 c.requires c.is_directory-subdirectory.result c.is_directory-subdirectory.ensures
+
+pub release-freed-requires : goal.release-freed-requires
+release-freed-requires c = is_there_still c.args.files.now c.args.volumes.now.items c.args.dir.0 c.args.name.now c.args.number.0 c.requires c.args.now c.leave.new.files c.is_directory-subdirectory.result c.is_directory-subdirectory.ensures c.leave.ensures
+
+pub discount-requires : goal.discount-requires
+discount-requires c = totals_there c.args.files.now c.args.volumes.now.items c.args.dir.0 c.args.name.now c.args.number.0 c.requires c.args.now c.leave.new.files c.is_directory-subdirectory.result c.is_directory-subdirectory.ensures c.leave.ensures
+    c.release-freed.result c.release-freed.new.files c.release-freed.ensures
+
+pub returns-clause-agree : goal.returns-clause-agree
+returns-clause-agree c = (done c.args.files.now c.args.volumes.now.items c.args.dir.0 c.args.name.now c.args.number.0 c.requires c.args.now c.leave.new.files c.is_directory-subdirectory.result c.is_directory-subdirectory.ensures c.leave.ensures
+    c.release-freed.result c.release-freed.new.files c.discount.new.volumes.items c.discount.ensures c.release-freed.ensures).0
+
+pub returns-clause-done : goal.returns-clause-done
+returns-clause-done c = (done c.args.files.now c.args.volumes.now.items c.args.dir.0 c.args.name.now c.args.number.0 c.requires c.args.now c.leave.new.files c.is_directory-subdirectory.result c.is_directory-subdirectory.ensures c.leave.ensures
+    c.release-freed.result c.release-freed.new.files c.discount.new.volumes.items c.discount.ensures c.release-freed.ensures).1
+
+pub returns-clause-room : goal.returns-clause-room
+returns-clause-room c = room_after c.args.files.now c.args.volumes.now.items c.args.dir.0 c.args.name.now c.args.number.0 c.requires c.args.now c.leave.new.files c.is_directory-subdirectory.result c.is_directory-subdirectory.ensures c.leave.ensures
+    c.release-freed.result c.release-freed.new.files c.release-freed.ensures

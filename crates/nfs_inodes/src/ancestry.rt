@@ -1,0 +1,53 @@
+//! The directories above a directory.
+ghost use Rattle.std.specs.Prelude.{◌≡◌, ℕ, true, false};
+ghost use Rattle.nfs_inodes.specs.Tree.{File, parent_in};
+ghost use Rattle.nfs_inodes.specs.Storage.{kind_of};
+ghost use Rattle.nfs_inodes.specs.Law.{LivesAsDirectory, climb, parent_of};
+ghost use Rattle.nfs_inodes.specs.Conditions.{IsOff};
+
+use crate::stored_file::Node;
+use crate::tree::Tree;
+use nfs_handles::number::Number;
+
+impl Tree {
+    /// Whether `above` is directory `dir` itself or above it. It takes as many steps as the
+    /// directory is deep.
+    pub fn is_below(&self, dir: Number, above: Number) -> bool
+        requires { (f : File) × LivesAsDirectory self.now dir.0 f }
+        ensures below { result ≡ true → (steps : ℕ) × (climb steps self.now.files dir.0 ≡ above.0) }
+        ensures off { result ≡ false → IsOff self.now dir.0 above.0 }
+    {
+        self.law();
+        let mut at = dir.0;
+        for step in 0..self.next_number() {
+            if at == above.0 {
+                return true;
+            }
+            let parent = self.parent(at);
+            if parent == at {
+                return false;
+            }
+            at = parent;
+        }
+        unreachable!()
+    }
+
+    // The parent of a directory; of a root the root itself.
+    fn parent(&self, dir: u64) -> u64
+        ensures { result ≡ parent_of self.now.files dir }
+    {
+        match self.files.get(Number(dir)) {
+            Some(stored_file) => parent_of(&stored_file.node),
+            None => 0,
+        }
+    }
+}
+
+fn parent_of(node: &Node) -> u64
+    ensures { result ≡ parent_in (kind_of node.now) }
+{
+    match node {
+        Node::Directory { parent, .. } => *parent,
+        _ => 0,
+    }
+}
