@@ -6,6 +6,7 @@ pub mod entry_rules;
 pub mod exported_file;
 pub mod file_rules;
 pub mod limit_rules;
+pub mod move_rules;
 pub mod name_rules;
 pub mod page_rules;
 pub mod rights;

@@ -9,11 +9,13 @@ ghost use Rattle.nfs_rules.specs.Tests.{found};
 
 use crate::entry_rules::{is_directory, target_not_directory};
 use crate::limit_rules::{links, too_big};
+use crate::move_rules::move_rules;
 use crate::name_rules::{dot_alone, dot_dot_alone, dot_name, name_form, name_long, path_long};
 use crate::rule::Rule;
 use crate::subject::Subject;
 use nfs_args::create::{Create, CreateHow};
 use nfs_args::read_dir::{ReadDir, ReadDirPlus};
+use nfs_args::rename::Rename;
 use nfs_args::set_attr::SetAttr;
 use nfs_args::write::Write;
 use nfs_inodes::view::FileView;
@@ -184,6 +186,32 @@ pub fn remove_dir_rules(dir: &Subject<'_>, name: &[u8]) -> Result<(), Rule>
     dir.directory_write()?;
     target_not_directory(&found.attributes)?;
     dir.not_empty(&found.attributes)
+}
+
+/// RENAME (RFC 1813, section 3.3.14): of the directories of the old name and of the new one.
+pub fn rename_rules(
+    from: &Subject<'_>,
+    to: &Subject<'_>,
+    args: &Rename<'_>,
+) -> Result<(), Rule>
+    ensures { Judges result (table.rename_rules from.now to.now args.now) }
+{
+    let (name, new_name) = (args.from.name.bytes(), args.to.name.bytes());
+    from.read_only()?;
+    from.not_directory()?;
+    to.not_directory()?;
+    dot_name(name)?;
+    dot_name(new_name)?;
+    name_long(name)?;
+    name_long(new_name)?;
+    name_form(name)?;
+    name_form(new_name)?;
+    from.search_right()?;
+    to.search_right()?;
+    let moved = from.no_entry(name)?;
+    from.directory_write()?;
+    to.directory_write()?;
+    move_rules(from, to, &moved.attributes, to.found(new_name))
 }
 
 /// LINK (RFC 1813, section 3.3.15): of the file and the directory that takes the further name.

@@ -1,0 +1,87 @@
+//! The rules that look at what RENAME moves, and at what it takes the place of.
+ghost use Rattle.std.specs.Prelude.{◌≡◌, ◌&&◌, not, true, nat_eq, is_some, option_map};
+ghost use Rattle.nfs_inodes.specs.Reading.{is_directory_type};
+ghost use Rattle.nfs_rules.specs.Judging.{Judges, Tells};
+ghost use Rattle.nfs_rules.specs.Table as table;
+ghost use Rattle.nfs_rules.specs.Tests as test;
+
+use crate::limit_rules::links;
+use crate::rule::{Rule, ensure};
+use crate::subject::Subject;
+use nfs_attrs::fattr::Fattr;
+use nfs_attrs::file_type::FileType;
+use nfs_handles::number::Number;
+use nfs_inodes::view::FileView;
+
+/// What is moved from one directory to another, where the new name names what is there, if something
+/// is. Where both names name one file no rule is looked at.
+pub(crate) fn move_rules(
+    from: &Subject<'_>,
+    to: &Subject<'_>,
+    moved: &Fattr,
+    old: Option<FileView<'_>>,
+) -> Result<(), Rule>
+    requires { is_directory_type to.now.file.file_type ≡ true }
+    ensures { Judges result (table.move_rules from.now to.now moved.now (option_map (λ f. f.attributes) old.entry)) }
+{
+    match old {
+        None => {
+            to.into_itself(moved)?;
+            from.subdirectory_links(to, moved)?;
+            to.cookies()
+        }
+        Some(old) => {
+            if moved.fileid == old.attributes.fileid {
+                return Ok(());
+            }
+            to.incompatible(moved, &old.attributes)?;
+            to.into_itself(moved)?;
+            to.cookies()
+        }
+    }
+}
+
+impl<'a> Subject<'a> {
+    /// `Incompatible`: what is there may be replaced by what is moved.
+    pub fn incompatible(&self, moved: &Fattr, old: &Fattr) -> Result<(), Rule>
+        ensures { Tells result (table.incompatible self.now moved.now old.now) }
+    {
+        let kept = if is_directory(moved) {
+            is_directory(old) && self.is_empty(old)
+        } else {
+            !is_directory(old)
+        };
+        ensure(kept, Rule::Incompatible)
+    }
+
+    /// `IntoItself`: what is moved is neither this directory nor above it.
+    pub fn into_itself(&self, moved: &Fattr) -> Result<(), Rule>
+        requires { is_directory_type self.now.file.file_type ≡ true }
+        ensures { Tells result (table.into_itself self.now moved.now) }
+    {
+        if !is_directory(moved) {
+            return Ok(());
+        }
+        let dir = Number(self.file.attributes.fileid);
+        ensure(!self.tree.is_below(dir, Number(moved.fileid)), Rule::IntoItself)
+    }
+
+    // `Links`, where a directory comes into another directory than this one, which gains a link.
+    fn subdirectory_links(&self, to: &Subject<'_>, moved: &Fattr) -> Result<(), Rule>
+        ensures { Tells result (test.only_where (is_directory_type moved.now.file_type && not (nat_eq self.now.file.fileid to.now.file.fileid)) (test.links to.now.file)) }
+    {
+        if !is_directory(moved) || self.file.attributes.fileid == to.file.attributes.fileid {
+            return Ok(());
+        }
+        links(to.file())
+    }
+}
+
+fn is_directory(file: &Fattr) -> bool
+    ensures { result ≡ is_directory_type file.now.file_type }
+{
+    match file.file_type {
+        FileType::Directory => true,
+        _ => false,
+    }
+}
