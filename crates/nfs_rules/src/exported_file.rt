@@ -70,6 +70,13 @@ impl<'a> ExportedFile<'a> {
         })
     }
 
+    /// The attributes of the file.
+    pub fn file(&self) -> &Fattr
+        ensures { result.now ≡ self.now.file }
+    {
+        &self.file.attributes
+    }
+
     /// The same with the ids by which the caller is judged.
     pub fn subject(&self) -> Subject<'a>
         ensures { result ≡ self.now }

@@ -7,7 +7,7 @@ ghost use Rattle.nfs_exports.specs.Ids.{ids_of};
 ghost use Rattle.nfs_rules.specs.Judging.{Tells};
 ghost use Rattle.nfs_rules.specs.Tests as test;
 
-use crate::rights::{Right, is_among, owns};
+use crate::rights::{Right, owns};
 use crate::rule::{Rule, ensure};
 use crate::subject::Subject;
 use nfs_attrs::fattr::Fattr;
@@ -56,7 +56,7 @@ impl<'a> Subject<'a> {
     {
         match given.gid {
             None => Ok(()),
-            Some(gid) => ensure(gives_gid(&self.ids, &self.file.attributes, gid), Rule::OwnerGid),
+            Some(gid) => ensure(gives_gid(self, gid), Rule::OwnerGid),
         }
     }
 
@@ -116,17 +116,12 @@ fn gives_uid(ids: &Ids, file: &Fattr, uid: u32) -> bool
     ids.uid == 0 || ids.uid == file.uid && uid == file.uid
 }
 
-fn gives_gid(ids: &Ids, file: &Fattr, gid: u32) -> bool
-    ensures { result ≡ test.gives_gid (ids_of ids.now) file.now gid }
+fn gives_gid(subject: &Subject<'_>, gid: u32) -> bool
+    ensures { result ≡ test.gives_gid subject.now.ids subject.now.file gid }
 {
-    ids.uid == 0 || ids.uid == file.uid && (gid == file.gid || is_group(ids, gid))
-}
-
-// Whether the caller is in a group.
-fn is_group(ids: &Ids, gid: u32) -> bool
-    ensures { result ≡ (nat_eq gid ids.now.gid || list_any (nat_eq gid) (ids_of ids.now).gids) }
-{
-    gid == ids.gid || is_among(ids.gids.as_slice(), gid)
+    let owner = subject.file().uid;
+    subject.uid() == 0
+        || subject.uid() == owner && (gid == subject.file().gid || subject.is_in_group(gid))
 }
 
 fn is_client_time(setting: TimeSetting) -> bool

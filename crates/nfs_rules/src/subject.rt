@@ -1,10 +1,12 @@
 //! The file that a call is about, and how its caller is judged there.
-ghost use Rattle.std.specs.Prelude.{◌≡◌, Some};
+ghost use Rattle.std.specs.Prelude.{◌≡◌, ◌||◌, nat_eq, Some};
+ghost use Rattle.std.specs.List.{list_any};
 ghost use Rattle.nfs_exports.specs.Ids.{ids_of};
 ghost use Rattle.nfs_inodes.specs.Law.{Law};
 ghost use Rattle.nfs_inodes.specs.Reading.{attributes_at};
 ghost use Rattle.nfs_inodes.specs.Views.{IsSeen};
 
+use crate::rights::is_among;
 use nfs_attrs::fattr::Fattr;
 use nfs_exports::options::Options;
 use nfs_exports::squash::Ids;
@@ -57,6 +59,27 @@ impl<'a> Subject<'a> {
         ensures { result.now ≡ self.now.file }
     {
         &self.file.attributes
+    }
+
+    /// The user by whom the caller is judged.
+    pub fn uid(&self) -> u32
+        ensures { result ≡ self.now.ids.uid }
+    {
+        self.ids.uid
+    }
+
+    /// The user's group.
+    pub fn gid(&self) -> u32
+        ensures { result ≡ self.now.ids.gid }
+    {
+        self.ids.gid
+    }
+
+    /// Whether the user is in a group.
+    pub fn is_in_group(&self, gid: u32) -> bool
+        ensures { result ≡ (nat_eq gid self.now.ids.gid || list_any (nat_eq gid) self.now.ids.gids) }
+    {
+        gid == self.ids.gid || is_among(self.ids.gids.as_slice(), gid)
     }
 
     /// The tree is a lawful one, and the file is there, for proofs.

@@ -1,0 +1,11 @@
+//! The procedures of NFS: each call is judged, done where no rule fails, and answered.
+#![tactic(auto)]
+
+pub mod denial;
+pub mod done;
+pub mod get_attr;
+pub mod limits;
+pub mod make_dir;
+pub mod new_files;
+pub mod plan;
+pub mod replies;

@@ -1,0 +1,74 @@
+//! MKDIR: a new directory (RFC 1813, section 3.3.9).
+ghost use Rattle.std.specs.Prelude.{◌≡◌, ◌≤◌};
+ghost use Rattle.nfs_args.specs.declared.args.NfsArgs.TheVariants as nfs;
+ghost use Rattle.nfs_procs.specs.Denials.{Decides};
+ghost use Rattle.nfs_procs.specs.Performing.{Performs};
+ghost use Rattle.nfs_procs.specs.Plans.{PlansDirectory};
+ghost use Rattle.nfs_procs.specs.Procedures as procedure;
+ghost use Rattle.nfs_rules.specs.Views.{caller_of};
+
+use crate::denial::Denial;
+use crate::done::Done;
+use crate::limits::MAX_RESULT_BYTES;
+use crate::new_files::new_file_of;
+use crate::plan::Plan;
+use crate::replies::{change, write_denied_change, write_new_file};
+use nfs_args::make_dir::MakeDir;
+use nfs_attrs::moment::Moment;
+use nfs_exports::table::Table;
+use nfs_handles::number::Number;
+use nfs_inodes::tree::Tree;
+use nfs_rules::caller::Caller;
+use nfs_rules::exported_file::ExportedFile;
+use nfs_rules::table::make_dir_rules;
+use nfs_xdr::output::Output;
+
+/// The mode of a directory where none is given.
+const DIRECTORY_MODE: u32 = 0o700;
+
+pub(crate) fn make_dir(
+    tree: &mut Tree,
+    table: &Table,
+    caller: Caller<'_>,
+    now: Moment,
+    args: &MakeDir<'_>,
+    out: &mut Output,
+) -> Done
+    requires { MAX_RESULT_BYTES ≤ out.old.room }
+    ensures { Performs (record { tree = tree.old; exports = table.now; caller = caller_of caller.entry; now = now; args = nfs.MakeDir args.now }) (procedure.make_dir args.now) result tree.new out.old out.new }
+{
+    let plan = match decide(tree, table, caller, now, args) {
+        Ok(plan) => plan,
+        Err(denial) => return write_denied_change(out, &denial),
+    };
+    let dir = Number(plan.dir.fileid);
+    let Ok(made) = tree.make_dir(dir, args.place.name.bytes(), &plan.given, now) else {
+        return Done::Memory;
+    };
+    out.u32(0);
+    write_new_file(out, tree, made, change(Some(plan.dir), tree.attributes(dir)));
+    Done::Granted
+}
+
+fn decide(
+    tree: &Tree,
+    table: &Table,
+    caller: Caller<'_>,
+    now: Moment,
+    args: &MakeDir<'_>,
+) -> Result<Plan, Denial>
+    ensures { Decides (record { tree = tree.now; exports = table.now; caller = caller_of caller.entry; now = now; args = nfs.MakeDir args.now }) args.now.place.dir (PlansDirectory tree.now now args.now) result }
+{
+    let dir = match ExportedFile::of(tree, table, caller, args.place.dir.bytes()) {
+        Ok(file) => file.subject(),
+        Err(rule) => return Err(Denial::of_handle(rule)),
+    };
+    dir.law();
+    match make_dir_rules(&dir, args.place.name.bytes()) {
+        Ok(()) => Ok(Plan {
+            dir: *dir.file(),
+            given: new_file_of(DIRECTORY_MODE, &dir, now, &args.attributes),
+        }),
+        Err(rule) => Err(Denial::of_rule(&dir, rule)),
+    }
+}

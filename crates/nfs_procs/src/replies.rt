@@ -1,0 +1,68 @@
+//! Parts of answers that several procedures have.
+ghost use Rattle.std.specs.Prelude.{◌≡◌, ◌≤◌, ◌++◌, Some, option_map};
+ghost use Rattle.std.specs.Int.{w32, to_be_bytes};
+ghost use Rattle.nfs_args.specs.Results.{made_text};
+ghost use Rattle.nfs_attrs.specs.Spelling.{wcc_text};
+ghost use Rattle.nfs_handles.specs.Handles.{handle_at};
+ghost use Rattle.nfs_inodes.specs.Reading.{attributes_at, numbered_files};
+ghost use Rattle.nfs_procs.specs.Doing as doing;
+ghost use Rattle.nfs_procs.specs.declared.done.Done.TheVariants as done;
+ghost use Rattle.nfs_rules.specs.Rules.{status_of};
+ghost use Rattle.nfs_xdr.specs.Written.{Appends};
+
+use crate::denial::Denial;
+use crate::done::Done;
+use nfs_args::made::{Made, write_made};
+use nfs_args::opaque::Opaque;
+use nfs_attrs::fattr::Fattr;
+use nfs_attrs::pre_attr::PreAttr;
+use nfs_attrs::wcc::{Wcc, write_wcc};
+use nfs_handles::number::Number;
+use nfs_inodes::tree::Tree;
+use nfs_xdr::output::Output;
+
+/// A file before and after a call.
+pub(crate) fn change(before: Option<Fattr>, after: Option<Fattr>) -> Wcc
+    ensures { result ≡ doing.change before after }
+{
+    let before = match before {
+        Some(file) => Some(PreAttr {
+            size: file.size,
+            mtime: file.mtime,
+            ctime: file.ctime,
+        }),
+        None => None,
+    };
+    Wcc { before, after }
+}
+
+/// The answer of a denied call that shows the file of its handle before and after.
+pub(crate) fn write_denied_change(out: &mut Output, denial: &Denial) -> Done
+    requires { 128 ≤ out.old.room }
+    ensures text { Appends (to_be_bytes w32 (status_of denial.now.rule) ++ wcc_text (doing.no_change denial.now.shown)) out.old out.new }
+    ensures done { result ≡ done.Denied denial.now.rule denial.now.uid }
+{
+    out.u32(denial.rule.status());
+    write_wcc(out, &change(denial.shown, denial.shown));
+    Done::Denied(denial.rule, denial.uid)
+}
+
+/// A new file and the directory of its name.
+pub(crate) fn write_new_file(out: &mut Output, tree: &Tree, file: Number, dir: Wcc)
+    requires { 320 ≤ out.old.room }
+    ensures { Appends (made_text (record { file = handle_at (numbered_files tree.now) file.0; attributes = attributes_at tree.now file.0; dir = dir })) out.old out.new }
+{
+    let handle = tree.handle_of(file.0);
+    let lent = match &handle {
+        Some(handle) => Some(Opaque::new(handle.as_slice())),
+        None => None,
+    };
+    write_made(
+        out,
+        &Made {
+            file: lent,
+            attributes: tree.attributes(file),
+            dir,
+        },
+    );
+}
