@@ -1,11 +1,13 @@
 -- What the walk from a directory to those above it tells.
-use Rattle.std.proofs.Common.{inl, inr, ◌≡◌, ◌≢◌, ℕ, zero, suc, ◌+◌, ◌-◌, ◌≤◌, true, false, length, sym, ap, ◌∙◌, arith}
+use Rattle.std.proofs.Common.{inl, inr, ◌≡◌, ◌≢◌, ℕ, zero, suc, ◌+◌, ◌-◌, ◌≤◌, true, false, length, Bool, Option, Some, None, option_map, refl, sym, ap, ◌∙◌, arith}
 use Rattle.std.specs.Prelude.{nat_eq, ◌||◌}
 use Rattle.std.proofs.lemmas.Bool.{eqb-true, eqb-false, or_parts, cases_lt}
-use Rattle.nfs_inodes.specs.Tree.{Tree, File, parent_in, on_some}
+use Rattle.nfs_attrs.specs.declared.fattr.Fattr.{Fattr}
+use Rattle.nfs_inodes.specs.Reading.{attributes_of, attributes_at, type_of, is_directory_type}
+use Rattle.nfs_inodes.specs.Tree.{Tree, File, Kind, Regular, Directory, Link, at, is_directory, nlink, parent_in, on_some}
 use Rattle.nfs_inodes.specs.Law.{Law, LivesAsDirectory, climb, parent_of}
 use Rattle.nfs_inodes.specs.Conditions.{IsOff}
-use Rattle.nfs_inodes.proofs.Lists.{by_test}
+use Rattle.nfs_inodes.proofs.Lists.{by_test, same_some, not_both}
 use Rattle.nfs_inodes.proofs.Climbs.{climb_add, reached_in_few}
 use Rattle.nfs_inodes.proofs.Walks.{climb_stuck, few_directories}
 use Rattle.nfs_rules.specs.Table.{is_above_within, is_above}
@@ -49,3 +51,21 @@ is_off t n d f law lives e steps s =
 -- so it is found wherever some steps lead to it
 pub is_found_above : (t : Tree) (n d : ℕ) (f : File) → Law t → LivesAsDirectory t d f → (steps : ℕ) → climb steps t.files d ≡ n → is_above t n d ≡ true
 is_found_above t n d f law lives steps s = by_test (is_above t n d) (λ y. y) (λ e. absurd (is_off t n d f law lives e steps s))
+
+-- a walk that tells whether some steps lead there
+pub walk_tells : (t : Tree) (n d : ℕ) (f : File) (b : Bool) → Law t → LivesAsDirectory t d f → (b ≡ true → (steps : ℕ) × (climb steps t.files d ≡ n)) → (b ≡ false → IsOff t d n) → b ≡ is_above t n d
+walk_tells t n d f true law lives up off = let u = up refl in sym (is_found_above t n d f law lives u.0 u.1)
+walk_tells t n d f false law lives up off = by_test (is_above t n d) (λ y. let u = climbs_to t n d y in absurd (off refl u.0 u.1)) (λ e. sym e)
+
+-- what is shown as a directory lives as one
+directory_kind : (k : Kind) → is_directory_type (type_of k) ≡ true → is_directory k ≡ true
+directory_kind (Regular bytes) e = e
+directory_kind (Directory parent next_cookie entries) e = refl
+directory_kind (Link path) e = e
+
+directory_in : (t : Tree) (n : ℕ) (a : Fattr) (o : Option File) → at n t.files ≡ o → option_map (λ f. attributes_of n f (nlink t.files n f)) o ≡ Some a → is_directory_type a.file_type ≡ true → (f : File) × LivesAsDirectory t n f
+directory_in t n a None there shown dir = absurd (not_both refl shown)
+directory_in t n a (Some f) there shown dir = (f, (there, directory_kind f.kind (ap (λ (b : Fattr). is_directory_type b.file_type) (same_some shown) ∙ dir)))
+
+pub lives_as_directory : (t : Tree) (n : ℕ) (a : Fattr) → attributes_at t n ≡ Some a → is_directory_type a.file_type ≡ true → (f : File) × LivesAsDirectory t n f
+lives_as_directory t n a shown dir = directory_in t n a (at n t.files) refl shown dir
