@@ -16,7 +16,7 @@ module _ (files : List (ℕ × File)) where
   climb_one : (j n : ℕ) → climb (j + 1) files n ≡ parent_of files (climb j files n)
   climb_one j n = climb_add files j 1 n
 
-  climb_stuck : (j n : ℕ) → parent_of files n ≡ n → climb j files n ≡ n
+  pub climb_stuck : (j n : ℕ) → parent_of files n ≡ n → climb j files n ≡ n
   climb_stuck zero n s = refl
   climb_stuck (suc j) n s = ap (climb j files) s ∙ climb_stuck j n s
 
@@ -42,7 +42,7 @@ module _ (files : List (ℕ × File)) where
 pub begins : (files : List (ℕ × File)) (dir above : ℕ) → Climbed files dir above dir 0
 begins files dir above = record { is = refl; apart = λ j l. absurd (omega (arith, l)); moves = λ j l. absurd (omega (arith, l)) }
 
-few_directories : (es : List (ℕ × File)) → length (directories es) ≤ length es
+pub few_directories : (es : List (ℕ × File)) → length (directories es) ≤ length es
 few_directories [] = omega arith
 few_directories (e ∷ es) = let rest = few_directories es in by_test (is_directory e.1.kind)
     (λ y. let l : length (directories (e ∷ es)) ≡ length (e ∷ directories es) = ap length (if_true (e ∷ directories es) (directories es) y) in omega (arith, rest, l))

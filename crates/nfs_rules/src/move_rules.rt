@@ -1,6 +1,6 @@
 //! The rules that look at what RENAME moves, and at what it takes the place of.
-ghost use Rattle.std.specs.Prelude.{◌≡◌, ◌&&◌, not, true, nat_eq, is_some, option_map};
-ghost use Rattle.nfs_inodes.specs.Reading.{is_directory_type};
+ghost use Rattle.std.specs.Prelude.{◌≡◌, ◌&&◌, not, true, nat_eq, Some, option_map};
+ghost use Rattle.nfs_inodes.specs.Reading.{attributes_at, is_directory_type};
 ghost use Rattle.nfs_rules.specs.Judging.{Judges, Tells};
 ghost use Rattle.nfs_rules.specs.Table as table;
 ghost use Rattle.nfs_rules.specs.Tests as test;
@@ -11,6 +11,7 @@ use crate::subject::Subject;
 use nfs_attrs::fattr::Fattr;
 use nfs_attrs::file_type::FileType;
 use nfs_handles::number::Number;
+use nfs_inodes::tree::Tree;
 use nfs_inodes::view::FileView;
 
 /// What is moved from one directory to another, where the new name names what is there, if something
@@ -62,8 +63,8 @@ impl<'a> Subject<'a> {
         if !is_directory(moved) {
             return Ok(());
         }
-        let dir = Number(self.file.attributes.fileid);
-        ensure(!self.tree.is_below(dir, Number(moved.fileid)), Rule::IntoItself)
+        let kept = !is_above(self.tree, moved, &self.file.attributes);
+        ensure(kept, Rule::IntoItself)
     }
 
     // `Links`, where a directory comes into another directory than this one, which gains a link.
@@ -84,4 +85,14 @@ fn is_directory(file: &Fattr) -> bool
         FileType::Directory => true,
         _ => false,
     }
+}
+
+// Whether a directory is another one, or above it.
+fn is_above(tree: &Tree, above: &Fattr, dir: &Fattr) -> bool
+    requires shown { attributes_at tree.now dir.now.fileid ≡ Some dir.now }
+    requires directory { is_directory_type dir.now.file_type ≡ true }
+    ensures { result ≡ table.is_above tree.now above.now.fileid dir.now.fileid }
+{
+    tree.law();
+    tree.is_below(Number(dir.fileid), Number(above.fileid))
 }

@@ -1,0 +1,30 @@
+-- Tests of which none is failed, and the first that is.
+use Rattle.std.proofs.Common.{◌≡◌, false, List, [], ◌∷◌, ◌++◌, Some, None, refl, sym, ◌∙◌}
+use Rattle.nfs_inodes.proofs.Lists.{by_test, if_true, if_false, not_both}
+use Rattle.nfs_rules.specs.Tests.{Test, first}
+use Rattle.nfs_rules.specs.declared.rule.Rule.{Rule}
+
+-- no test is failed
+abbrev pub ArePassed : List Test → Type 0
+ArePassed [] = Unit {0}
+ArePassed (t ∷ ts) = (t.1 ≡ false) × ArePassed ts
+
+pub are_passed : (ts : List Test) → first ts ≡ None → ArePassed ts
+are_passed [] e = tt
+are_passed (t ∷ ts) e = by_test t.1
+    (λ y. absurd (not_both e (if_true (Some t.0) (first ts) y)))
+    (λ n. (n, are_passed ts (sym (if_false (Some t.0) (first ts) n) ∙ e)))
+
+-- where the first tests are passed, those after them tell
+pub first_after_passed : (ts us : List Test) → first ts ≡ None → first (ts ++ us) ≡ first us
+first_after_passed [] us e = refl
+first_after_passed (t ∷ ts) us e = by_test t.1
+    (λ y. absurd (not_both e (if_true (Some t.0) (first ts) y)))
+    (λ n. if_false (Some t.0) (first (ts ++ us)) n ∙ first_after_passed ts us (sym (if_false (Some t.0) (first ts) n) ∙ e))
+
+-- and where one of them is failed, the others tell nothing
+pub first_of_failed : (ts us : List Test) (r : Rule) → first ts ≡ Some r → first (ts ++ us) ≡ Some r
+first_of_failed [] us r e = absurd (not_both refl e)
+first_of_failed (t ∷ ts) us r e = by_test t.1
+    (λ y. if_true (Some t.0) (first (ts ++ us)) y ∙ sym (if_true (Some t.0) (first ts) y) ∙ e)
+    (λ n. if_false (Some t.0) (first (ts ++ us)) n ∙ first_of_failed ts us r (sym (if_false (Some t.0) (first ts) n) ∙ e))
