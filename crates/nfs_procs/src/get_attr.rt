@@ -1,19 +1,24 @@
 //! GETATTR: the attributes of a file (RFC 1813, section 3.3.1).
-ghost use Rattle.std.specs.Prelude.{◌≡◌, ◌≤◌};
+ghost use Rattle.std.specs.Prelude.{◌≡◌, ◌≤◌, Ok, Err};
+ghost use Rattle.nfs_args.specs.Answers.{nfs_text};
+ghost use Rattle.nfs_args.specs.declared.answer.NfsAnswer.TheVariants as answer;
 ghost use Rattle.nfs_args.specs.declared.args.NfsArgs.TheVariants as nfs;
 ghost use Rattle.nfs_procs.specs.Performing.{Performs};
 ghost use Rattle.nfs_procs.specs.Procedures as procedure;
+ghost use Rattle.nfs_rules.specs.Rules.{status_of};
 ghost use Rattle.nfs_rules.specs.Views.{caller_of};
+ghost use Rattle.nfs_xdr.specs.Written.{Appends};
 
 use crate::done::Done;
 use crate::limits::MAX_RESULT_BYTES;
 use nfs_args::opaque::Opaque;
-use nfs_attrs::fattr::write_fattr;
+use nfs_attrs::fattr::{Fattr, write_fattr};
 use nfs_attrs::moment::Moment;
 use nfs_exports::table::Table;
 use nfs_inodes::tree::Tree;
 use nfs_rules::caller::Caller;
 use nfs_rules::exported_file::ExportedFile;
+use nfs_rules::rule::Rule;
 use nfs_xdr::output::Output;
 
 pub(crate) fn get_attr(
@@ -29,13 +34,27 @@ pub(crate) fn get_attr(
 {
     match ExportedFile::of(tree, table, caller, handle.bytes()) {
         Ok(file) => {
-            out.u32(0);
-            write_fattr(out, file.file());
+            write_granted(out, file.file());
             Done::Granted
         }
         Err(rule) => {
-            out.u32(rule.status());
+            write_denied(out, rule);
             Done::Denied(rule, None)
         }
     }
+}
+
+fn write_granted(out: &mut Output, file: &Fattr)
+    requires { 88 ≤ out.old.room }
+    ensures { Appends (nfs_text (answer.GetAttr (Ok file.now))) out.old out.new }
+{
+    out.u32(0);
+    write_fattr(out, file);
+}
+
+fn write_denied(out: &mut Output, rule: Rule)
+    requires { 4 ≤ out.old.room }
+    ensures { Appends (nfs_text (answer.GetAttr (Err (record { status = status_of rule; shown = tt })))) out.old out.new }
+{
+    out.u32(rule.status());
 }
