@@ -1,2 +1,6 @@
 pub mod Firsts
 pub mod Above
+pub mod SeenFiles
+pub mod Names
+pub mod Room
+pub mod NewFiles
