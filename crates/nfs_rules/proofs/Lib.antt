@@ -4,3 +4,4 @@ pub mod SeenFiles
 pub mod Names
 pub mod Room
 pub mod NewFiles
+pub mod Sizes
