@@ -5,3 +5,4 @@ pub mod Names
 pub mod Room
 pub mod NewFiles
 pub mod Sizes
+pub mod Removals

@@ -25,7 +25,7 @@ is_name name long form not_dot not_dot_dot =
     let some = eqb-false (length name) 0 parts.0 in
     record { some = omega (arith, some); few = ltb-false max_name_bytes (length name) long; bytes = no_separator name parts.1; no_dot = not_dot; no_dot_dot = not_dot_dot }
 
-other_bytes : (xs ys : List ℕ) → bytes_eq xs ys ≡ false → xs ≢ ys
+pub other_bytes : (xs ys : List ℕ) → bytes_eq xs ys ≡ false → xs ≢ ys
 other_bytes xs ys e s = true_and_false ((bytes_eq-Decides xs ys).1 s) e
 
 pub no_dots : (name : List ℕ) → (dot_name name).1 ≡ false → (name ≢ dot) × (name ≢ dot_dot)
