@@ -1,6 +1,7 @@
 -- Tests of which none is failed, and the first that is.
-use Rattle.std.proofs.Common.{◌≡◌, false, List, [], ◌∷◌, ◌++◌, Some, None, refl, sym, ◌∙◌}
-use Rattle.nfs_inodes.proofs.Lists.{by_test, if_true, if_false, not_both}
+use Rattle.std.proofs.Common.{◌≡◌, ℕ, zero, suc, false, List, [], ◌∷◌, ◌++◌, Some, None, refl, sym, ap, ◌∙◌}
+use Rattle.std.specs.Prelude.{slice_get}
+use Rattle.nfs_inodes.proofs.Lists.{by_test, if_true, if_false, same_some, not_both}
 use Rattle.nfs_rules.specs.Tests.{Test, first}
 use Rattle.nfs_rules.specs.declared.rule.Rule.{Rule}
 
@@ -14,6 +15,15 @@ are_passed [] e = tt
 are_passed (t ∷ ts) e = by_test t.1
     (λ y. absurd (not_both e (if_true (Some t.0) (first ts) y)))
     (λ n. (n, are_passed ts (sym (if_false (Some t.0) (first ts) n) ∙ e)))
+
+-- the test at a place among them
+pub passed_at : (ts : List Test) → first ts ≡ None → (place : ℕ) (t : Test) → slice_get ts place ≡ Some t → t.1 ≡ false
+passed_at ts none place t e = of ts (are_passed ts none) place t e
+  where
+    of : (ts : List Test) → ArePassed ts → (place : ℕ) (t : Test) → slice_get ts place ≡ Some t → t.1 ≡ false
+    of [] passed place t e = absurd (not_both refl e)
+    of (u ∷ us) passed zero t e = ap (λ (t : Test). t.1) (sym (same_some e)) ∙ passed.0
+    of (u ∷ us) passed (suc place) t e = of us passed.1 place t e
 
 -- where the first tests are passed, those after them tell
 pub first_after_passed : (ts us : List Test) → first ts ≡ None → first (ts ++ us) ≡ first us
