@@ -2,7 +2,7 @@ use Rattle.std.proofs.Common.{◌≡◌, Some, None, refl, sym, ap, subst, ◌�
 use Rattle.nfs_inodes.specs.Conditions.{MayMakeDirectory}
 use Rattle.nfs_args.specs.declared.args.NfsArgs.TheVariants as nfs
 use Rattle.nfs_procs.specs.Scenes.{Scene}
-use Rattle.nfs_rules.proofs.MakeConditions.{may_make_directory}
+use Rattle.nfs_rules.proofs.NewFiles.{may_make_directory}
 use Rattle.nfs_rules.specs.Subjects.{Subject}
 use Rattle.nfs_rules.specs.Table.{make_dir_rules}
 use Rattle.nfs_rules.specs.Tests.{first}
@@ -22,12 +22,12 @@ returns-in-Ok-make_dir_rules c =
     let some = sym c.in-Ok.ensures.subject ∙ ap Some (sym c.subject-dir.ensures) in
     let kept : first (make_dir_rules s c.args.args.now.place.name) ≡ None = subst (λ name. first (make_dir_rules s name) ≡ None) c.bytes-2.ensures c.in-Ok-make_dir_rules.ensures in
     let tree = subject_tree c.args.tree.now c.args.table.now (caller_of c.args.caller) c.bytes.result.now s some in
-    (s, (granted_by_rules scene c.args.args.now.place.dir c.bytes.result.now refl c.bytes.ensures s c.in-Ok.ensures.rules some kept, record {
+    (s, granted_by_rules scene c.args.args.now.place.dir c.bytes.result.now refl c.bytes.ensures s c.in-Ok.ensures.rules some kept, record {
       tree = tree;
       dir = c.file.ensures;
       given = c.new_file_of.ensures;
-      may = subst (λ t. MayMakeDirectory t s.file.fileid c.args.args.now.place.name) tree (may_make_directory s c.args.args.now.place.name c.law.ensures.law c.law.ensures.file kept);
-    }))
+      may = subst (λ t. MayMakeDirectory t s.file.fileid c.args.args.now.place.name) tree (may_make_directory s c.law.ensures.law c.law.ensures.file c.args.args.now.place.name kept);
+    })
 
 pub returns-in-Err-make_dir_rules : goal.returns-in-Err-make_dir_rules
 returns-in-Err-make_dir_rules c =
