@@ -14,16 +14,12 @@ use Rattle.nfs_procs.specs.Doing.{change}
 use Rattle.nfs_procs.specs.NewFiles.{new_file_of}
 use Rattle.nfs_procs.specs.Performing.{IsGranted, HasEffect}
 use Rattle.nfs_procs.specs.Plans.{PlansDirectory}
-use Rattle.nfs_procs.specs.Procedures.{make_dir, directory_mode}
+use Rattle.nfs_procs.specs.Changers.{make_dir, directory_mode, made_of}
 use Rattle.nfs_procs.specs.Scenes.{Scene}
 use Rattle.nfs_procs.specs.declared.plan.Plan.{Plan}
 use Rattle.nfs_rules.specs.Subjects.{Subject}
 use Rattle.nfs_xdr.proofs.Writing.{appends_then}
 use Rattle.nfs_xdr.specs.Written.{Written, Appends}
-
--- what is written of a new file, by its number and its directory
-abbrev pub made_of : Tree → ℕ → Subject → Made
-made_of new n dir = record { file = handle_at (numbered_files new) n; attributes = attributes_at new n; dir = change (Some dir.file) (attributes_at new dir.file.fileid) }
 
 pub made_directory : (c : Scene) (a : MakeDir) (s : Subject) (plan : Plan) (new : Tree) (n : ℕ) (dir : Wcc) (x y z : Written) → IsGranted c s s → PlansDirectory c.tree c.now a plan s
     → Makes (λ tag. after_make_dir c.tree plan.dir.fileid a.place.name plan.given tag c.now) new → n ≡ c.tree.next

@@ -5,7 +5,7 @@ use Rattle.nfs_attrs.specs.declared.moment.Moment.{Moment}
 use Rattle.nfs_inodes.specs.Conditions.{MayMakeDirectory}
 use Rattle.nfs_inodes.specs.Tree.{Tree}
 use Rattle.nfs_procs.specs.NewFiles.{new_file_of}
-use Rattle.nfs_procs.specs.Procedures.{directory_mode}
+use Rattle.nfs_procs.specs.Changers.{directory_mode}
 use Rattle.nfs_procs.specs.declared.plan.Plan.{Plan}
 use Rattle.nfs_rules.specs.Subjects.{Subject}
 

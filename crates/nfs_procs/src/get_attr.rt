@@ -4,7 +4,7 @@ ghost use Rattle.nfs_args.specs.Answers.{nfs_text};
 ghost use Rattle.nfs_args.specs.declared.answer.NfsAnswer.TheVariants as answer;
 ghost use Rattle.nfs_args.specs.declared.args.NfsArgs.TheVariants as nfs;
 ghost use Rattle.nfs_procs.specs.Performing.{Performs};
-ghost use Rattle.nfs_procs.specs.Procedures as procedure;
+ghost use Rattle.nfs_procs.specs.Readers as procedure;
 ghost use Rattle.nfs_rules.specs.Rules.{status_of};
 ghost use Rattle.nfs_rules.specs.Views.{caller_of};
 ghost use Rattle.nfs_xdr.specs.Written.{Appends};

@@ -4,7 +4,7 @@ ghost use Rattle.nfs_args.specs.declared.args.NfsArgs.TheVariants as nfs;
 ghost use Rattle.nfs_procs.specs.Denials.{Decides};
 ghost use Rattle.nfs_procs.specs.Performing.{Performs};
 ghost use Rattle.nfs_procs.specs.Plans.{PlansDirectory};
-ghost use Rattle.nfs_procs.specs.Procedures as procedure;
+ghost use Rattle.nfs_procs.specs.Changers as procedure;
 ghost use Rattle.nfs_rules.specs.Views.{caller_of};
 
 use crate::denial::Denial;

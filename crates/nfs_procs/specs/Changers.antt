@@ -1,0 +1,175 @@
+-- What the procedures that change the tree do and answer (RFC 1813, section 3.3).
+use Rattle.std.specs.Prelude.{ℕ, Bool, true, false, not, ◌&&◌, ◌||◌, List, length, Option, Some, None, Ok, Err, is_some, if◌then◌else◌}
+use Rattle.nfs_args.specs.declared.answer.NfsAnswer.TheVariants as answer
+use Rattle.nfs_args.specs.declared.create.Create.{Create}
+use Rattle.nfs_args.specs.declared.create.CreateHow.{CreateHow}
+use Rattle.nfs_args.specs.declared.create.CreateHow.TheVariants.{Unchecked, Guarded, Exclusive}
+use Rattle.nfs_args.specs.declared.dir_op.DirOp.{DirOp}
+use Rattle.nfs_args.specs.declared.link.Link.{Link}
+use Rattle.nfs_args.specs.declared.made.Made.{Made}
+use Rattle.nfs_args.specs.declared.make_dir.MakeDir.{MakeDir}
+use Rattle.nfs_args.specs.declared.rename.Rename.{Rename}
+use Rattle.nfs_args.specs.declared.set_attr.SetAttr.{SetAttr}
+use Rattle.nfs_args.specs.declared.sym_link.SymLink.{SymLink}
+use Rattle.nfs_args.specs.declared.write.Stability.TheVariants.{FileSync}
+use Rattle.nfs_args.specs.declared.write.Write.{Write}
+use Rattle.nfs_attrs.specs.declared.fattr.Fattr.{Fattr}
+use Rattle.nfs_attrs.specs.declared.moment.Moment.{Moment}
+use Rattle.nfs_attrs.specs.declared.sattr.Sattr.{Sattr}
+use Rattle.nfs_attrs.specs.declared.time_setting.TimeSetting.{TimeSetting}
+use Rattle.nfs_attrs.specs.declared.time_setting.TimeSetting.TheVariants.{Leave, ServerTime, ClientTime}
+use Rattle.nfs_attrs.specs.declared.wcc.Wcc.{Wcc}
+use Rattle.nfs_handles.specs.Handles.{handle_at}
+use Rattle.nfs_inodes.specs.Changes.{after_make_file, after_make_dir, after_make_link, after_link, after_write_at, after_resize, after_set, after_unlink, after_rename, zeros}
+use Rattle.nfs_inodes.specs.Reading.{attributes_at, numbered_files}
+use Rattle.nfs_inodes.specs.Tree.{Tree, on_some}
+use Rattle.nfs_inodes.specs.declared.given_attributes.GivenAttributes.{GivenAttributes}
+use Rattle.nfs_procs.specs.Doing.{Doing, change, no_change}
+use Rattle.nfs_procs.specs.NewFiles.{new_file_of}
+use Rattle.nfs_procs.specs.Readers.{verifier_of}
+use Rattle.nfs_rules.specs.Subjects.{Subject}
+use Rattle.nfs_rules.specs.Table.{size_in}
+use Rattle.nfs_rules.specs.Tests.{found}
+
+-- a file before and after a granted call
+abbrev pub changed : Tree → Subject → Wcc
+changed new s = change (Some s.file) (attributes_at new s.file.fileid)
+
+-- ---- SETATTR
+
+-- a time where one is set
+abbrev pub setting : Moment → TimeSetting → Option Moment
+setting now Leave = None
+setting now ServerTime = Some now
+setting now (ClientTime moment) = Some moment
+
+abbrev pub given_of : Moment → Sattr → GivenAttributes
+given_of now a = record { mode = a.mode; uid = a.uid; gid = a.gid; atime = setting now a.atime; mtime = setting now a.mtime }
+
+abbrev pub is_set : TimeSetting → Bool
+is_set Leave = false
+is_set other = true
+
+abbrev pub sets_something : Sattr → Bool
+sets_something a = is_some a.mode || is_some a.uid || is_some a.gid || is_some a.size || is_set a.atime || is_set a.mtime
+
+-- a size is set first, and with it the time of the content, unless that is given too
+abbrev pub after_settings : Tree → ℕ → Sattr → Moment → Tree
+after_settings t n a now = if sets_something a then after_set (on_some a.size t (λ size. after_resize t n size now)) n (given_of now a) now else t
+
+abbrev pub set_attr : SetAttr → Doing
+set_attr a = record {
+  takes_memory = is_some a.attributes.size;
+  effect = λ file same now tag. after_settings file.tree file.file.fileid a.attributes now;
+  granted = λ file same new. answer.SetAttr (Ok (changed new file));
+  denied = λ status seen. answer.SetAttr (Err (record { status = status; shown = no_change (seen a.file) }));
+}
+
+-- ---- WRITE: all of the data, which are safe at once
+
+abbrev pub write : Write → Doing
+write a = record {
+  takes_memory = true;
+  effect = λ file same now tag. after_write_at file.tree file.file.fileid a.offset a.content now;
+  granted = λ file same new. answer.Write (Ok (record { file = changed new file; count = length a.content; committed = FileSync; verifier = verifier_of file.tree }));
+  denied = λ status seen. answer.Write (Err (record { status = status; shown = no_change (seen a.file) }));
+}
+
+-- ---- new files
+
+-- a file that was made or taken, and the directory of its name
+abbrev pub made_of : Tree → ℕ → Subject → Made
+made_of new n dir = record { file = handle_at (numbered_files new) n; attributes = attributes_at new n; dir = changed new dir }
+
+-- the modes of a file and of a directory where none is given, 0600 and 0700, and that of each link, 0777
+abbrev pub file_mode : ℕ
+file_mode = 384
+
+abbrev pub directory_mode : ℕ
+directory_mode = 448
+
+abbrev pub link_mode : ℕ
+link_mode = 511
+
+-- nothing is given by an exclusive CREATE
+abbrev pub nothing_given : Sattr
+nothing_given = record { mode = None; uid = None; gid = None; size = None; atime = Leave; mtime = Leave }
+
+abbrev pub attributes_in : CreateHow → Sattr
+attributes_in (Unchecked attributes) = attributes
+attributes_in (Guarded attributes) = attributes
+attributes_in (Exclusive verifier) = nothing_given
+
+abbrev pub verifier_in : CreateHow → Option (List ℕ)
+verifier_in (Unchecked attributes) = None
+verifier_in (Guarded attributes) = None
+verifier_in (Exclusive verifier) = Some verifier
+
+-- a file that is there gets the size that an unchecked CREATE gives, and is else left as it is
+abbrev pub after_taking : Tree → Fattr → CreateHow → Moment → Tree
+after_taking t f (Unchecked attributes) now = on_some attributes.size t (λ size. after_resize t f.fileid size now)
+after_taking t f other now = t
+
+-- a new file has as many zeros as its size says
+abbrev pub after_creating : Subject → Create → Moment → ℕ → Tree
+after_creating dir a now tag = after_make_file dir.tree dir.file.fileid a.place.name (zeros (on_some (size_in a.how) 0 (λ size. size)))
+    (new_file_of file_mode dir.ids now (attributes_in a.how)) (verifier_in a.how) tag now
+
+abbrev pub create : Create → Doing
+create a = record {
+  takes_memory = true;
+  effect = λ dir same now tag. on_some (found dir a.place.name) (after_creating dir a now tag) (λ f. after_taking dir.tree f a.how now);
+  granted = λ dir same new. answer.Create (Ok (made_of new (on_some (found dir a.place.name) dir.tree.next (λ f. f.fileid)) dir));
+  denied = λ status seen. answer.Create (Err (record { status = status; shown = no_change (seen a.place.dir) }));
+}
+
+abbrev pub make_dir : MakeDir → Doing
+make_dir a = record {
+  takes_memory = true;
+  effect = λ dir same now tag. after_make_dir dir.tree dir.file.fileid a.place.name (new_file_of directory_mode dir.ids now a.attributes) tag now;
+  granted = λ dir same new. answer.MakeDir (Ok (made_of new dir.tree.next dir));
+  denied = λ status seen. answer.MakeDir (Err (record { status = status; shown = no_change (seen a.place.dir) }));
+}
+
+-- the mode that is given for a link is not looked at
+abbrev pub sym_link : SymLink → Doing
+sym_link a = record {
+  takes_memory = true;
+  effect = λ dir same now tag. after_make_link dir.tree dir.file.fileid a.place.name a.path (record (new_file_of link_mode dir.ids now a.attributes) { mode = link_mode }) tag now;
+  granted = λ dir same new. answer.SymLink (Ok (made_of new dir.tree.next dir));
+  denied = λ status seen. answer.SymLink (Err (record { status = status; shown = no_change (seen a.place.dir) }));
+}
+
+-- ---- names
+
+abbrev pub remove : DirOp → Doing
+remove a = record {
+  takes_memory = false;
+  effect = λ dir same now tag. after_unlink dir.tree dir.file.fileid a.name now;
+  granted = λ dir same new. answer.Remove (Ok (changed new dir));
+  denied = λ status seen. answer.Remove (Err (record { status = status; shown = no_change (seen a.dir) }));
+}
+
+abbrev pub remove_dir : DirOp → Doing
+remove_dir a = record {
+  takes_memory = false;
+  effect = λ dir same now tag. after_unlink dir.tree dir.file.fileid a.name now;
+  granted = λ dir same new. answer.RemoveDir (Ok (changed new dir));
+  denied = λ status seen. answer.RemoveDir (Err (record { status = status; shown = no_change (seen a.dir) }));
+}
+
+abbrev pub rename : Rename → Doing
+rename a = record {
+  takes_memory = true;
+  effect = λ from to now tag. after_rename from.tree from.file.fileid a.from.name to.file.fileid a.to.name now;
+  granted = λ from to new. answer.Rename (Ok (record { from = changed new from; to = changed new to }));
+  denied = λ status seen. answer.Rename (Err (record { status = status; shown = record { from = no_change (seen a.from.dir); to = no_change (seen a.to.dir) } }));
+}
+
+abbrev pub link : Link → Doing
+link a = record {
+  takes_memory = true;
+  effect = λ file dir now tag. after_link file.tree file.file.fileid dir.file.fileid a.place.name now;
+  granted = λ file dir new. answer.Link (Ok (record { attributes = attributes_at new file.file.fileid; dir = changed new dir }));
+  denied = λ status seen. answer.Link (Err (record { status = status; shown = record { attributes = seen a.file; dir = no_change (seen a.place.dir) } }));
+}

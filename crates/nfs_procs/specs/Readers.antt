@@ -1,0 +1,159 @@
+-- What the procedures that leave the tree as it is answer (RFC 1813, section 3.3).
+use Rattle.std.specs.Prelude.{ℕ, ◌+◌, ◌-◌, true, false, List, [], length, take, drop, min, Option, Some, None, Ok, Err, nat_le, slice_get}
+use Rattle.std.specs.Int.{w64, from_be_bytes}
+use Rattle.nfs_args.specs.declared.access.Access.{Access}
+use Rattle.nfs_args.specs.declared.answer.NfsAnswer.TheVariants as answer
+use Rattle.nfs_args.specs.declared.byte_range.ByteRange.{ByteRange}
+use Rattle.nfs_args.specs.declared.dir_op.DirOp.{DirOp}
+use Rattle.nfs_args.specs.declared.make_node.MakeNode.{MakeNode}
+use Rattle.nfs_args.specs.declared.room.Space.{Space}
+use Rattle.nfs_args.specs.declared.server_limits.Transfer.{Transfer}
+use Rattle.nfs_attrs.specs.declared.fattr.Fattr.{Fattr}
+use Rattle.nfs_handles.specs.Handles.{handle_at}
+use Rattle.nfs_inodes.specs.Limits.{max_file_bytes, max_name_bytes, max_links}
+use Rattle.nfs_inodes.specs.Reading.{bytes_at, numbered_files, path_at, totals_at}
+use Rattle.nfs_inodes.specs.Tree.{Tree, on_some}
+use Rattle.nfs_procs.specs.Doing.{Doing, unchanged, no_change}
+use Rattle.nfs_rules.specs.Rights.{access_bits}
+use Rattle.nfs_rules.specs.Rules.{status_of}
+use Rattle.nfs_rules.specs.Subjects.{Subject}
+use Rattle.nfs_rules.specs.Tests.{found}
+use Rattle.nfs_rules.specs.declared.rule.Rule.TheVariants.{NoMakeNode}
+
+-- the handle of a file that lives
+abbrev pub handle_in : Tree → Fattr → List ℕ
+handle_in t f = on_some (handle_at (numbered_files t) f.fileid) [] (λ handle. handle)
+
+-- GETATTR: the attributes of the file
+abbrev pub get_attr : Doing
+get_attr = record {
+  takes_memory = false;
+  effect = unchanged;
+  granted = λ file same new. answer.GetAttr (Ok file.file);
+  denied = λ status seen. answer.GetAttr (Err (record { status = status; shown = tt }));
+}
+
+-- LOOKUP: the file under the name
+abbrev pub lookup : DirOp → Doing
+lookup a = record {
+  takes_memory = false;
+  effect = unchanged;
+  granted = λ dir same new. answer.Lookup (Ok (record { file = on_some (found dir a.name) [] (handle_in dir.tree); attributes = found dir a.name; dir = Some dir.file }));
+  denied = λ status seen. answer.Lookup (Err (record { status = status; shown = seen a.dir }));
+}
+
+-- ACCESS: the bits that are asked for and granted
+abbrev pub access : Access → Doing
+access a = record {
+  takes_memory = false;
+  effect = unchanged;
+  granted = λ file same new. answer.Access (Ok (record { attributes = Some file.file; rights = access_bits file.options.read_only file.ids file.file a.rights }));
+  denied = λ status seen. answer.Access (Err (record { status = status; shown = seen a.file }));
+}
+
+-- READLINK: the link's path
+abbrev pub read_link : List ℕ → Doing
+read_link handle = record {
+  takes_memory = false;
+  effect = unchanged;
+  granted = λ file same new. answer.ReadLink (Ok (record { attributes = Some file.file; path = on_some (path_at file.tree file.file.fileid) [] (λ path. path) }));
+  denied = λ status seen. answer.ReadLink (Err (record { status = status; shown = seen handle }));
+}
+
+-- the most bytes of one READ or WRITE that the server speaks of
+abbrev pub max_transfer : ℕ
+max_transfer = 65536
+
+-- from the offset on as many as are asked for, at most 65,536, and as many as are there
+abbrev pub read_bytes : Subject → ByteRange → List ℕ
+read_bytes s a = take (min a.count max_transfer) (drop a.offset (bytes_at s.tree s.file.fileid))
+
+-- READ: the bytes, and whether they reach the end
+abbrev pub read : ByteRange → Doing
+read a = record {
+  takes_memory = false;
+  effect = unchanged;
+  granted = λ file same new. answer.Read (Ok (record { attributes = Some file.file; eof = nat_le file.file.size (a.offset + length (read_bytes file a)); content = read_bytes file a }));
+  denied = λ status seen. answer.Read (Err (record { status = status; shown = seen a.file }));
+}
+
+-- MKNOD is never granted
+abbrev pub make_node : MakeNode → Doing
+make_node a = record {
+  takes_memory = false;
+  effect = unchanged;
+  granted = λ dir same new. answer.MakeNode (Err (record { status = status_of NoMakeNode; shown = no_change (Some dir.file) }));
+  denied = λ status seen. answer.MakeNode (Err (record { status = status; shown = no_change (seen a.place.dir) }));
+}
+
+-- of so many, so many of which are used
+abbrev pub space_of : ℕ → ℕ → Space
+space_of total used = record { total = total; free = total - used; available = total - used }
+
+abbrev pub no_space : Space
+no_space = space_of 0 0
+
+-- FSSTAT: the room of the file's volume
+abbrev pub fs_stat : List ℕ → Doing
+fs_stat handle = record {
+  takes_memory = false;
+  effect = unchanged;
+  granted = λ file same new. answer.FsStat (Ok (record {
+    attributes = Some file.file;
+    bytes = on_some (slice_get file.tree.volumes (file.file.fsid - 1)) no_space (λ volume. on_some (totals_at file.tree (file.file.fsid - 1)) no_space (λ totals. space_of volume.max_bytes totals.bytes));
+    files = on_some (slice_get file.tree.volumes (file.file.fsid - 1)) no_space (λ volume. on_some (totals_at file.tree (file.file.fsid - 1)) no_space (λ totals. space_of volume.max_files totals.files));
+    invarsec = 0;
+  }));
+  denied = λ status seen. answer.FsStat (Err (record { status = status; shown = seen handle }));
+}
+
+-- at most 65,536 bytes at once, in multiples of 4,096
+abbrev pub transfer : Transfer
+transfer = record { max = max_transfer; preferred = max_transfer; multiple = 4096 }
+
+-- FSINFO: what the server bears; hard and symbolic links, the same for all files, and times that can be set
+abbrev pub fs_info : List ℕ → Doing
+fs_info handle = record {
+  takes_memory = false;
+  effect = unchanged;
+  granted = λ file same new. answer.FsInfo (Ok (record {
+    attributes = Some file.file;
+    read = transfer;
+    write = transfer;
+    read_dir = 8192;
+    max_file_size = max_file_bytes;
+    time_delta = record { seconds = 0; nanos = 1 };
+    properties = 27;
+  }));
+  denied = λ status seen. answer.FsInfo (Err (record { status = status; shown = seen handle }));
+}
+
+-- PATHCONF: what names may be
+abbrev pub path_conf : List ℕ → Doing
+path_conf handle = record {
+  takes_memory = false;
+  effect = unchanged;
+  granted = λ file same new. answer.PathConf (Ok (record {
+    attributes = Some file.file;
+    linkmax = max_links;
+    name_max = max_name_bytes;
+    no_trunc = true;
+    chown_restricted = true;
+    case_insensitive = false;
+    case_preserving = true;
+  }));
+  denied = λ status seen. answer.PathConf (Err (record { status = status; shown = seen handle }));
+}
+
+-- the key of the server, by which a client sees that the server began anew
+abbrev pub verifier_of : Tree → ℕ
+verifier_of t = from_be_bytes w64 t.key
+
+-- COMMIT: nothing is left to be made safe
+abbrev pub commit : ByteRange → Doing
+commit a = record {
+  takes_memory = false;
+  effect = unchanged;
+  granted = λ file same new. answer.Commit (Ok (record { file = no_change (Some file.file); verifier = verifier_of file.tree }));
+  denied = λ status seen. answer.Commit (Err (record { status = status; shown = no_change (seen a.file) }));
+}
