@@ -6,3 +6,5 @@ pub mod Room
 pub mod NewFiles
 pub mod Sizes
 pub mod Removals
+pub mod Links
+pub mod Renames
