@@ -1,5 +1,5 @@
 -- The law after a file is gone, and after it has lost an entry.
-use Rattle.std.proofs.Common.{inl, inr, ◌≡◌, ◌≢◌, ◌⊎◌, ℕ, zero, suc, ◌≤◌, Bool, true, false, get_or, List, [], ◌∷◌, Some, refl, sym, ap, subst, ◌∙◌, arith}
+use Rattle.std.proofs.Common.{inl, inr, ◌≡◌, ◌≢◌, ◌⊎◌, ℕ, zero, suc, ◌≤◌, true, false, get_or, List, [], ◌∷◌, Some, refl, sym, ap, subst, ◌∙◌, arith}
 use Rattle.std.specs.Prelude.{Contains, slice_get, nat_eq}
 use Rattle.std.proofs.lemmas.Bool.{eqb-true, eq-eqb}
 use Rattle.std.proofs.lemmas.List.Sums.{get_or-le-sum_by}
@@ -7,7 +7,7 @@ use Rattle.nfs_attrs.specs.declared.moment.Moment.{Moment}
 use Rattle.nfs_inodes.specs.Tree.{Tree, File, Entry, Volume, at, on_some, one_when, entries_in, is_directory, parent_in, names_in, names_of, names_directory, subdirectories, nlink, bytes_for, one_for}
 use Rattle.nfs_inodes.specs.Law.{Law, LawBut, IsRoot, Lives, LivesAsDirectory, climb, parent_of}
 use Rattle.nfs_inodes.specs.Changes.{with_file, without_file, touched, released}
-use Rattle.nfs_inodes.proofs.Lists.{by_test, by_number, if_true, if_false, same_some, not_both, not_in_empty}
+use Rattle.nfs_inodes.proofs.Lists.{by_test, by_number, if_true, if_false, true_and_false, same_some, not_both, not_in_empty}
 use Rattle.nfs_inodes.proofs.Maps.{rising_without, at_with_other, at_without_other, without_back, sum_without, sum_some}
 use Rattle.nfs_inodes.proofs.Numbers.{numbers_gone}
 use Rattle.nfs_inodes.proofs.Alike.{nlink_by, nlink_alike, alike_itself, climb_alike, parent_changed, one_alike}
@@ -142,7 +142,7 @@ module _ (t : Tree) (n : ℕ) (law : LawBut n t) (may : MayBeRemoved t n) where
 -- where a file that is no directory has a name, none is without
 pub law_whole : (t : Tree) (n : ℕ) (f : File) → LawBut n t → Lives t n f → is_directory f.kind ≡ false → 1 ≤ names_of n t.files → Law t
 law_whole t n f law at_n is_file some =
-    let file_only : (m : ℕ) (h : File) → m ≡ n → LivesAsDirectory t m h → ⊥ = λ m h s dir. clash (is_directory f.kind) (ap (λ (k : File). is_directory k.kind) (same_some (sym at_n ∙ ap (λ k. at k t.files) (sym s) ∙ dir.0)) ∙ dir.1) is_file in
+    let file_only : (m : ℕ) (h : File) → m ≡ n → LivesAsDirectory t m h → ⊥ = λ m h s dir. true_and_false (ap (λ (k : File). is_directory k.kind) (same_some (sym at_n ∙ ap (λ k. at k t.files) (sym s) ∙ dir.0)) ∙ dir.1) is_file in
     record {
       numbers = law.numbers;
       rising = law.rising;
@@ -162,9 +162,6 @@ law_whole t n f law at_n is_file some =
       bytes = law.bytes;
       count = law.count;
     }
-  where
-    clash : (b : Bool) → b ≡ true → b ≡ false → ⊥
-    clash b y n = cc
 
 -- a file that has no entries, and no name where it is a directory
 pub record MayBeReleased (t : Tree) (n : ℕ) : Type 0 where
@@ -178,13 +175,10 @@ pub law_released : (t : Tree) (n : ℕ) (now : Moment) → LawBut n t → MayBeR
 law_released t n now law may = by_test (nat_eq (names_of n t.files) 0)
     (λ y. subst Law (sym (if_true (without_file t n) (touched t n now) y))
     (law_without_file t n law (record { file = may.file; at_file = may.at_file; empty = may.empty; unnamed = eqb-true (names_of n t.files) 0 y; free = may.free })))
-    (λ z. let some : names_of n t.files ≢ 0 = λ s. clash (eq-eqb (names_of n t.files) 0 s) z in
+    (λ z. let some : names_of n t.files ≢ 0 = λ s. true_and_false (eq-eqb (names_of n t.files) 0 s) z in
     let is_file : is_directory may.file.kind ≡ false = by_test (is_directory may.file.kind) (λ d. absurd (some (may.unnamed d))) (λ f. f) in
     subst Law (sym (if_false (without_file t n) (touched t n now) z ∙ touched_is t n now may.file may.at_file))
     (law_touched t n now may.file (law_whole t n may.file law may.at_file is_file (omega (arith, some))) may.at_file))
-  where
-    clash : {b : Bool} → b ≡ true → b ≡ false → ⊥
-    clash y n = cc
 
 pub others_touched : (t : Tree) (n : ℕ) (now : Moment) (f : File) → LawBut n t → Lives t n f → LeavesOthers n t (with_file t n (record f { ctime = now }))
 others_touched t n now f law at_n =

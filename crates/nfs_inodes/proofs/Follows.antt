@@ -1,25 +1,31 @@
 -- Each operation as changes of the numbered files, and what handles keep through them.
 use Rattle.std.proofs.Common.{◌≡◌, ℕ, ◌-◌, ◌^◌, ◌<◌, List, [], ◌∷◌, ◌++◌, Option, Some, None, option_map, is_some, cond, refl, sym, ap, subst, ◌∙◌, arith}
-use Rattle.std.specs.Prelude.{length}
+use Rattle.std.specs.Prelude.{length, nat_eq}
 use Rattle.nfs_attrs.specs.declared.moment.Moment.{Moment}
 use Rattle.nfs_handles.specs.NumberedFiles.{TaggedFile, IsNumbered}
 use Rattle.nfs_handles.specs.Handles.{number}
 use Rattle.nfs_handles.specs.declared.reading.Reading.TheVariants.{Live, Stale}
-use Rattle.nfs_handles.specs.Runs.{Put, Changed}
+use Rattle.nfs_handles.specs.Runs.{Put, Changed, Taken}
 use Rattle.nfs_handles.proofs.Runs.{runs_keep, numbers_are_for_good}
 use Rattle.nfs_handles.proofs.Handles.{handles_name_one}
+use Rattle.nfs_inodes.specs.declared.given_attributes.GivenAttributes.{GivenAttributes}
 use Rattle.nfs_inodes.specs.declared.new_file.NewFile.{NewFile}
-use Rattle.nfs_inodes.specs.Tree.{Tree, File, Directory, at, on_some}
+use Rattle.nfs_inodes.specs.Tree.{Tree, File, Directory, Entry, at, on_some, entries_in, names_of}
 use Rattle.nfs_inodes.specs.Law.{Law, Lives}
-use Rattle.nfs_inodes.specs.Changes.{with_new_file, with_file, entered, file_with_bytes, with_entry, with_named_file, after_link, after_write_at, after_add_volume, new_file}
-use Rattle.nfs_inodes.specs.Conditions.{MayMake, MayLink, MayWrite, MayAddVolume}
-use Rattle.nfs_inodes.specs.Reading.{numbered_files}
+use Rattle.nfs_inodes.specs.Changes.{with_new_file, with_file, without_file, entered, left, moved_to, touched, released, carried, file_with_bytes, resized_to, with_given, with_entry, with_named_file, after_link, after_write_at, after_resize, after_set, after_unlink, after_rename, after_add_volume, new_file}
+use Rattle.nfs_inodes.specs.Conditions.{MayMake, MayLink, MayWrite, MayResize, MayUnlink, MayCarry, MayRename, MayAddVolume}
+use Rattle.nfs_inodes.specs.Reading.{numbered_files, entry_named}
 use Rattle.nfs_inodes.specs.Laws.{Follows, ChangesFollow, HandlesAreForGood}
+use Rattle.nfs_inodes.proofs.Lists.{by_test, by_number, if_true, if_false}
 use Rattle.nfs_inodes.proofs.Maps.{at_shows, at_with_other}
-use Rattle.nfs_inodes.proofs.Numbers.{numbered_born, numbered_changed}
+use Rattle.nfs_inodes.proofs.Numbers.{numbered_born, numbered_changed, numbered_gone}
 use Rattle.nfs_inodes.proofs.Births.{stays}
 use Rattle.nfs_inodes.proofs.Gains.{gained_is}
-use Rattle.nfs_inodes.proofs.Operations.{apart_kinds, linked_is}
+use Rattle.nfs_inodes.proofs.Operations.{apart_kinds, linked_is, touched_is}
+use Rattle.nfs_inodes.proofs.Settings.{resized_is, set_is}
+use Rattle.nfs_inodes.proofs.Unlinks.{unlinked_is, may_be_released, law_after_unlink}
+use Rattle.nfs_inodes.proofs.Carries.{first, second, carried_is, may_move, may_gain}
+use Rattle.nfs_inodes.proofs.Renames.{Ready, renamed_new, renamed_same, renamed_over, ready_new, ready_over, may_unlink}
 
 itself : (t : Tree) → Follows t t
 itself t = record { changes = []; run = refl }
@@ -56,6 +62,57 @@ follows_written t n offset [] now may law = itself t
 follows_written t n offset (b ∷ bs) now may law = subst (Follows t) (sym (ap (λ o. on_some o t (λ f. with_file t n (file_with_bytes f offset (b ∷ bs) now))) may.at_file))
     (follows_changed t n may.file (file_with_bytes may.file offset (b ∷ bs) now) may.at_file refl)
 
+follows_resized : (t : Tree) (n size : ℕ) (now : Moment) → MayResize t n size → Law t → Follows t (after_resize t n size now)
+follows_resized t n size now may law = subst (Follows t) (sym (resized_is t n size now may.file may.at_file))
+    (follows_changed t n may.file (resized_to may.file size now) may.at_file refl)
+
+follows_set : (t : Tree) (n : ℕ) (given : GivenAttributes) (now : Moment) (f : File) → Lives t n f → Law t → Follows t (after_set t n given now)
+follows_set t n given now f at_n law = subst (Follows t) (sym (set_is t n given now f at_n)) (follows_changed t n f (with_given f given now) at_n refl)
+
+follows_released : (t : Tree) (n : ℕ) (now : Moment) (f : File) → Lives t n f → Follows t (released t n now)
+follows_released t n now f at_n = by_test (nat_eq (names_of n t.files) 0)
+    (λ y. subst (Follows t) (sym (if_true (without_file t n) (touched t n now) y)) (record { changes = Taken n ∷ []; run = (tt, numbered_gone t n) }))
+    (λ z. subst (Follows t) (sym (if_false (without_file t n) (touched t n now) z ∙ touched_is t n now f at_n)) (follows_changed t n f (record f { ctime = now }) at_n refl))
+
+follows_unlinked : (t : Tree) (d : ℕ) (name : List ℕ) (now : Moment) → MayUnlink t d name → Law t → Follows t (after_unlink t d name now)
+follows_unlinked t d name now may law =
+    let u : Tree = with_file t d (left may.dir name now) in
+    let released_file = may_be_released t d name now may law in
+    subst (Follows t) (sym (unlinked_is t d name now may))
+    (joined t u (released u may.entry.number now) (follows_changed t d may.dir (left may.dir name now) may.at_dir.0 refl)
+    (follows_released u may.entry.number now released_file.file released_file.at_file))
+
+follows_carried : (t : Tree) (from : ℕ) (name : List ℕ) (to : ℕ) (new_name : List ℕ) (now : Moment) (may : MayCarry t from name to new_name) → Law t → Follows t (carried t from name may.entry.number to new_name now)
+follows_carried t from name to new_name now may law =
+    let n = may.entry.number in
+    let u : Tree = first t from name to new_name now law may in
+    let w : Tree = second t from name to new_name now law may in
+    let gain = may_gain t from name to new_name now law may in
+    subst (Follows t) (sym (carried_is t from name to new_name now law may))
+    (joined t w (with_entry w to new_name n now)
+    (joined t u w (follows_changed t from may.source (left may.source name now) may.at_source.0 refl)
+    (follows_changed u n may.file (moved_to may.file to now) (may_move t from name to new_name now law may).at_file refl))
+    (follows_gained w to n new_name now gain.dir gain.at_dir.0))
+
+follows_renamed : (t : Tree) (from : ℕ) (name : List ℕ) (to : ℕ) (new_name : List ℕ) (now : Moment) → MayRename t from name to new_name → Law t → Follows t (after_rename t from name to new_name now)
+follows_renamed t from name to new_name now may law = onto (entry_named new_name (entries_in may.target.kind)) refl
+  where
+    n : ℕ
+    n = may.entry.number
+
+    from_ready : (u : Tree) → Law u → Ready t from name to new_name now may u → Follows u (carried u from name n to new_name now)
+    from_ready u law ready = subst (λ (e : Entry). Follows u (carried u from name e.number to new_name now)) ready.1 (follows_carried u from name to new_name now ready.0 law)
+
+    onto : (o : Option Entry) → entry_named new_name (entries_in may.target.kind) ≡ o → Follows t (after_rename t from name to new_name now)
+    onto None is = subst (Follows t) (sym (renamed_new t from name to new_name now may is)) (from_ready t law (ready_new t from name to new_name now may is))
+    onto (Some old) is = by_number old.number n
+        (λ s. subst (Follows t) (sym (renamed_same t from name to new_name now may old is s)) (itself t))
+        (λ o. let u = after_unlink t to new_name now in
+        let unlink = may_unlink t from name to new_name now may law old is o in
+        subst (Follows t) (sym (renamed_over t from name to new_name now may old is o))
+        (joined t u (carried u from name n to new_name now) (follows_unlinked t to new_name now unlink law)
+        (from_ready u (law_after_unlink t to new_name now unlink law) (ready_over t from name to new_name now may law old is o))))
+
 follows_volume : (t : Tree) (max_bytes max_files tag : ℕ) (path : List ℕ) (given : NewFile) (now : Moment) → MayAddVolume t path max_files → tag < 2 ^ 32 → Law t → Follows t (after_add_volume t path max_bytes max_files given tag now)
 follows_volume t max_bytes max_files tag path given now may fits law =
     let f = follows_born t (new_file (length t.volumes) (Directory t.next 3 []) given None tag now) fits may.number in record { changes = f.changes; run = f.run }
@@ -70,6 +127,10 @@ changes_follow = record {
     links = λ t d tag name path given now may fits law. follows_made t d 0 name _ now may.make fits law;
     names = follows_linked;
     bytes = follows_written;
+    sizes = follows_resized;
+    attributes = follows_set;
+    removals = follows_unlinked;
+    renames = follows_renamed;
     volumes = follows_volume;
   };
 }

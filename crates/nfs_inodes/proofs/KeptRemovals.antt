@@ -19,7 +19,7 @@ use Rattle.nfs_inodes.specs.Storage.{file_of, kind_of, counted_volume_of, counte
 use Rattle.nfs_inodes.specs.StoredFiles.{Revalues, IsThere}
 use Rattle.nfs_inodes.specs.StepConditions.{retagged}
 use Rattle.nfs_inodes.specs.Removals.{HasRoomAt, LosesEntry, Leaves, LosesLink, Goes, Stays, is_last, HasEntries, HasTotals, Removes}
-use Rattle.nfs_inodes.proofs.Lists.{by_number, by_test, if_true, if_false, same_some, not_both}
+use Rattle.nfs_inodes.proofs.Lists.{by_number, by_test, if_true, if_false, same_some, not_both, true_and_false}
 use Rattle.nfs_inodes.proofs.Maps.{at_with_other, at_without_other, apart_number, shows_without, sum_some}
 use Rattle.nfs_inodes.proofs.Alike.{bytes_here}
 use Rattle.nfs_inodes.proofs.Gains.{one_same}
@@ -259,14 +259,11 @@ module _ (a : NumberedFiles StoredFile) (olds : List StoredVolume) (d : ℕ) (na
           none_left = by_test (is_directory may.file.kind)
               (λ y. releases.unnamed (ap (λ (f : File). is_directory f.kind) (same_some (sym releases.at_file ∙ at_t1)) ∙ y))
               (λ z. or_true (is_directory (kind_of g.file.value.node)) (nat_le g.file.value.nlink 1) g.last
-              (λ y. absurd (clash (sym (ap (λ (f : File). is_directory f.kind) (gone_file g)) ∙ y) z))
+              (λ y. absurd (true_and_false (sym (ap (λ (f : File). is_directory f.kind) (gone_file g)) ∙ y) z))
               (λ f l. let few = leb-true g.file.value.nlink 1 l in
               let links : g.file.value.nlink ≡ kept_file.0.value.nlink = ap (λ (f : TaggedFile StoredFile). f.value.nlink) (same_some (sym g.at_file ∙ at_1)) in
               let are = links_are z in let less = names_1 in
               omega (arith, few, links, are, less)))
-            where
-              clash : {b : Bool} → b ≡ true → b ≡ false → ⊥
-              clash y n = cc
 
           given_back : with_totals (map counted_volume_of news) held.file.volume (length (bytes_in held.file.kind)) 1 ≡ k1.volumes
           given_back = ap (λ p. with_totals (map counted_volume_of news) p (length (bytes_in may.file.kind)) 1) (sym (gone_place g))

@@ -8,7 +8,7 @@ use Rattle.nfs_inodes.specs.Law.{Law, LawBut, AreVolumes, AreApart, AreRising, L
 use Rattle.nfs_inodes.specs.Changes.{entries_without}
 use Rattle.nfs_inodes.specs.Reading.{numbered_files, has_name, entry_named}
 use Rattle.nfs_handles.specs.NumberedFiles.{IsNumbered}
-use Rattle.nfs_inodes.proofs.Lists.{by_test, if_true, if_false, same_some, not_both, none_from, in_head, in_tail, head_or_tail}
+use Rattle.nfs_inodes.proofs.Lists.{by_test, if_true, if_false, true_and_false, same_some, not_both, none_from, in_head, in_tail, head_or_tail}
 use Rattle.nfs_inodes.proofs.Alike.{Placed, climb_alike, not_root}
 use Rattle.nfs_inodes.proofs.Gains.{one_other, FitsAfter}
 use Rattle.nfs_inodes.proofs.Births.{live_some}
@@ -64,15 +64,12 @@ found_is name [] e0 e apart found c y = absurd (not_both refl found)
 found_is name (x ∷ xs) e0 e apart found c y = by_test (has_name name x)
     (λ t. elim (head_or_tail x e xs c) [
       | inl s ↦ sym (same_some (sym (if_true (Some x) (entry_named name xs) t) ∙ found)) ∙ s
-      | inr l ↦ absurd (clash y (none_behind name x xs apart t e l))
+      | inr l ↦ absurd (true_and_false y (none_behind name x xs apart t e l))
     ])
     (λ f. elim (head_or_tail x e xs c) [
-      | inl s ↦ absurd (clash (ap (has_name name) s ∙ y) f)
+      | inl s ↦ absurd (true_and_false (ap (has_name name) s ∙ y) f)
       | inr l ↦ found_is name xs e0 e (apart_behind x xs apart) (sym (if_false (Some x) (entry_named name xs) f) ∙ found) l y
     ])
-  where
-    clash : {b : Bool} → b ≡ true → b ≡ false → ⊥
-    clash y n = cc
 
 pub sum_less : (w : Entry → ℕ) (name : List ℕ) (es : List Entry) (e0 : Entry) → AreApart es → entry_named name es ≡ Some e0 → sum_by w (entries_without name es) + w e0 ≡ sum_by w es
 sum_less w name [] e0 apart found = absurd (not_both refl found)

@@ -1,12 +1,12 @@
 -- The law after each operation.
-use Rattle.std.proofs.Common.{◌≡◌, ◌≢◌, ℕ, ◌+◌, ◌<◌, ◌≤◌, Bool, true, false, List, [], ◌∷◌, refl, sym, ap, subst, ◌∙◌, arith}
+use Rattle.std.proofs.Common.{◌≡◌, ◌≢◌, ℕ, ◌+◌, ◌<◌, ◌≤◌, true, false, List, [], ◌∷◌, refl, sym, ap, subst, ◌∙◌, arith}
 use Rattle.std.specs.Prelude.{slice_get, length}
 use Rattle.nfs_attrs.specs.declared.moment.Moment.{Moment}
 use Rattle.nfs_inodes.specs.Tree.{Tree, File, Kind, Regular, Directory, Link, at, on_some, entries_in, bytes_in, is_directory, is_regular, names_of, subdirectories, nlink, bytes_of, files_of}
 use Rattle.nfs_inodes.specs.Law.{Law, IsSound, Lives, LivesAsDirectory}
 use Rattle.nfs_inodes.specs.Changes.{with_new_file, with_file, with_entry, with_named_file, touched, after_link, put_bytes, kind_with_bytes, file_with_bytes, after_write_at}
 use Rattle.nfs_inodes.specs.Conditions.{IsNew, MayMake, MayLink, MayWrite}
-use Rattle.nfs_inodes.proofs.Lists.{if_true, not_both, same_some}
+use Rattle.nfs_inodes.proofs.Lists.{if_true, true_and_false, not_both, same_some}
 use Rattle.nfs_inodes.proofs.Maps.{at_with_same, at_with_other}
 use Rattle.nfs_inodes.proofs.Alike.{Alike, law_with_file, room_same, one_alike}
 use Rattle.nfs_inodes.proofs.Gains.{MayGain, law_with_entry}
@@ -68,10 +68,9 @@ pub law_touched : (t : Tree) (n : ℕ) (now : Moment) (f : File) → Law t → L
 law_touched t n now f law e = law_with_file 0 t n f (record f { ctime = now }) law e (touch_alike f now) (touch_sound f now (law.sound n f e)) (room_same 0 t n f (record f { ctime = now }) law e refl)
 
 pub apart_kinds : (t : Tree) (n d : ℕ) (f g : File) → Lives t n f → is_directory f.kind ≡ false → LivesAsDirectory t d g → d ≢ n
-apart_kinds t n d f g e is_file dir s = clash f g (same_some (sym e ∙ sym (ap (λ k. at k t.files) s) ∙ dir.0)) is_file dir.1
-  where
-    clash : (f g : File) → f ≡ g → is_directory f.kind ≡ false → is_directory g.kind ≡ true → ⊥
-    clash f g s n y = let b : is_directory f.kind ≡ is_directory g.kind = ap (λ (k : File). is_directory k.kind) s in cc
+apart_kinds t n d f g e is_file dir s =
+    let same : f ≡ g = same_some (sym e ∙ sym (ap (λ k. at k t.files) s) ∙ dir.0) in
+    true_and_false (ap (λ (k : File). is_directory k.kind) same ∙ dir.1) is_file
 
 pub may_gain_linked : (t : Tree) (n d : ℕ) (name : List ℕ) (now : Moment) (may : MayLink t n d name) → Law t → MayGain 0 (with_file t n (record may.file { ctime = now })) d name n
 may_gain_linked t n d name now may law =
@@ -87,13 +86,10 @@ may_gain_linked t n d name now may law =
       at_file = at_with_same n may.file g t.files may.at_file;
       volume = may.volume;
       free = λ r. let l = law.roots r.0 r.1 r.2 in apart_kinds t n n may.file l.0 may.at_file may.not_directory (ap (λ k. at k t.files) (sym r.3) ∙ l.1.0, l.1.1) refl;
-      once = λ y. absurd (clash (is_directory may.file.kind) y may.not_directory);
+      once = λ y. absurd (true_and_false y may.not_directory);
       links = λ z. let same = like.names n in let few = may.links in omega (arith, same, few);
       only = λ m z o. z;
     }
-  where
-    clash : (b : Bool) → b ≡ true → b ≡ false → ⊥
-    clash b y n = cc
 
 pub linked_is : (t : Tree) (n d : ℕ) (name : List ℕ) (now : Moment) (f : File) → Lives t n f → after_link t n d name now ≡ with_entry (with_file t n (record f { ctime = now })) d name n now
 linked_is t n d name now f e = ap (λ (u : Tree). with_entry u d name n now) (touched_is t n now f e)

@@ -10,7 +10,7 @@ use Rattle.nfs_inodes.specs.Law.{Law, LivesAsDirectory, climb}
 use Rattle.nfs_inodes.specs.Changes.{with_file, entries_without, left, released, after_unlink, carried, after_rename}
 use Rattle.nfs_inodes.specs.Conditions.{MayUnlink, MayCarry, MayReplace, MayRename, NamesOther}
 use Rattle.nfs_inodes.specs.Reading.{has_name, entry_named, entry_at}
-use Rattle.nfs_inodes.proofs.Lists.{by_test, by_number, if_true, if_false, same_some, not_both, find_contains}
+use Rattle.nfs_inodes.proofs.Lists.{by_test, by_number, if_true, if_false, true_and_false, same_some, not_both, find_contains}
 use Rattle.nfs_inodes.proofs.Maps.{at_with_same, at_with_other, apart_number}
 use Rattle.nfs_inodes.proofs.Alike.{climb_alike, parent_changed}
 use Rattle.nfs_inodes.proofs.Operations.{apart_kinds}
@@ -23,10 +23,7 @@ use Rattle.nfs_inodes.proofs.Carries.{law_carried}
 -- ---- names among entries
 
 not_same_name : (name : List ℕ) (e : Entry) → has_name name e ≡ false → e.name ≢ name
-not_same_name name e f s = clash ((bytes_eq-Decides e.name name).1 s) f
-  where
-    clash : {b : Bool} → b ≡ true → b ≡ false → ⊥
-    clash y n = cc
+not_same_name name e f s = true_and_false ((bytes_eq-Decides e.name name).1 s) f
 
 -- where no entry is found none has the name
 pub none_named : (name : List ℕ) (es : List Entry) → entry_named name es ≡ None → All (λ e. e.name ≢ name) es

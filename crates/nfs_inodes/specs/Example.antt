@@ -1,11 +1,12 @@
--- A tree with two volumes and eight files, as an example.
-use Rattle.std.specs.Prelude.{◌≡◌, ℕ, List, [], ◌∷◌, Option, Some, None}
+-- A tree with two volumes and eight files, as an example, and what becomes of it.
+use Rattle.std.specs.Prelude.{◌≡◌, ℕ, List, [], ◌∷◌, Option, Some, None, option_map}
 use Rattle.nfs_attrs.specs.declared.fattr.Fattr.{Fattr}
 use Rattle.nfs_attrs.specs.declared.file_type.FileType.{FileType}
 use Rattle.nfs_attrs.specs.declared.file_type.FileType.TheVariants as file_type
 use Rattle.nfs_attrs.specs.declared.moment.Moment.{Moment}
 use Rattle.nfs_inodes.specs.Tree.{Tree, File, Kind, Entry, Regular, Directory}
-use Rattle.nfs_inodes.specs.Reading.{number_under, entry_after, next_cookie_at, attributes_at, totals_at, bytes_at, path_at, verifier_at, place_named}
+use Rattle.nfs_inodes.specs.Changes.{after_link, after_unlink, after_rename}
+use Rattle.nfs_inodes.specs.Reading.{dot_dot, number_under, entry_after, next_cookie_at, attributes_at, totals_at, bytes_at, path_at, verifier_at, place_named}
 
 abbrev pub start : Moment
 start = record { seconds = 0; nanos = 0 }
@@ -74,6 +75,64 @@ attributes type mode nlink uid gid size fsid fileid = Some (record {
   ctime = start;
 })
 
+abbrev pub later : Moment
+later = record { seconds = 5; nanos = 0 }
+
+abbrev pub name_g : List ℕ
+name_g = 0x67 ∷ []
+
+abbrev pub name_n : List ℕ
+name_n = 0x6e ∷ []
+
+abbrev pub name_own : List ℕ
+name_own = 0x6f ∷ 0x77 ∷ 0x6e ∷ []
+
+abbrev pub name_x : List ℕ
+name_x = 0x78 ∷ []
+
+-- the links of a file
+abbrev pub links_at : Tree → ℕ → Option ℕ
+links_at t n = option_map (λ (a : Fattr). a.nlink) (attributes_at t n)
+
+-- the only name of file 3 is removed
+abbrev pub tree_less : Tree
+tree_less = after_unlink tree_e 2 name_x later
+
+-- file 5 has a second name
+abbrev pub tree_linked : Tree
+tree_linked = after_link tree_e 5 2 name_g later
+
+-- directory 6 goes from directory 1 to directory 2
+abbrev pub tree_moved : Tree
+tree_moved = after_rename tree_e 1 name_own 2 name_own later
+
+-- file 3 takes the place of file 4
+abbrev pub tree_replaced : Tree
+tree_replaced = after_rename tree_e 2 name_x 2 name_n later
+
+-- what is read of it after an unlink and after a rename
+pub record ReadsOfChangedE : Type 0 where
+  pub unlinked_name : number_under tree_less 2 name_x ≡ None
+  pub unlinked_file : attributes_at tree_less 3 ≡ None
+  pub unlinked_totals : totals_at tree_less 0 ≡ Some (record { bytes = 7; files = 6 })
+  pub unlinked_cookie : next_cookie_at tree_less 2 ≡ Some 5
+  pub unlinked_directory : links_at (after_unlink tree_e 1 name_own later) 1 ≡ Some 3
+  pub unlinked_link : links_at (after_unlink tree_linked 1 name_g later) 5 ≡ Some 1
+  pub unlinked_nothing : after_unlink tree_e 2 name_own later ≡ tree_e
+  pub moved_from : number_under tree_moved 1 name_own ≡ None
+  pub moved_to : entry_after tree_moved 2 4 ≡ Some (entry 5 name_own 6)
+  pub moved_parent : number_under tree_moved 6 dot_dot ≡ Some 2
+  pub moved_links_from : links_at tree_moved 1 ≡ Some 3
+  pub moved_links_to : links_at tree_moved 2 ≡ Some 3
+  pub moved_links : links_at tree_moved 6 ≡ Some 2
+  pub moved_totals : totals_at tree_moved 0 ≡ Some (record { bytes = 12; files = 7 })
+  pub replaced_by : entry_after tree_replaced 2 2 ≡ Some (entry 5 name_n 3)
+  pub replaced_name : number_under tree_replaced 2 name_x ≡ None
+  pub replaced_file : attributes_at tree_replaced 4 ≡ None
+  pub replaced_totals : totals_at tree_replaced 0 ≡ Some (record { bytes = 7; files = 6 })
+  pub renamed_to_itself : after_rename tree_e 2 name_x 2 name_x later ≡ tree_e
+  pub renamed_to_link : after_rename tree_linked 1 name_g 2 name_g later ≡ tree_linked
+
 -- what is read of it
 pub record ReadsOfE : Type 0 where
   pub totals_a : totals_at tree_e 0 ≡ Some (record { bytes = 12; files = 7 })
@@ -105,3 +164,4 @@ pub record ReadsOfE : Type 0 where
   pub no_verifier : verifier_at tree_e 3 ≡ None
   pub named_b : place_named tree_e (0x2f ∷ 0x62 ∷ []) ≡ Some 1
   pub named_none : place_named tree_e (0x2f ∷ 0x63 ∷ []) ≡ None
+  pub changed : ReadsOfChangedE

@@ -4,11 +4,12 @@ use Rattle.nfs_attrs.specs.declared.moment.Moment.{Moment}
 use Rattle.nfs_handles.specs.Handles.{handle_at, reading, number}
 use Rattle.nfs_handles.specs.Runs.{Change, Runs}
 use Rattle.nfs_handles.specs.declared.reading.Reading.TheVariants.{Live, Stale}
+use Rattle.nfs_inodes.specs.declared.given_attributes.GivenAttributes.{GivenAttributes}
 use Rattle.nfs_inodes.specs.declared.new_file.NewFile.{NewFile}
 use Rattle.nfs_inodes.specs.Tree.{Tree, File, at}
 use Rattle.nfs_inodes.specs.Law.{Law, Lives, LivesAsDirectory, IsReached}
-use Rattle.nfs_inodes.specs.Changes.{after_make_file, after_make_dir, after_make_link, after_link, after_write_at, after_add_volume}
-use Rattle.nfs_inodes.specs.Conditions.{MayMake, MayMakeDirectory, MayMakeLink, MayLink, MayWrite, MayAddVolume}
+use Rattle.nfs_inodes.specs.Changes.{after_make_file, after_make_dir, after_make_link, after_link, after_write_at, after_resize, after_set, after_unlink, after_rename, after_add_volume}
+use Rattle.nfs_inodes.specs.Conditions.{MayMake, MayMakeDirectory, MayMakeLink, MayLink, MayWrite, MayResize, MayUnlink, MayRename, MayAddVolume}
 use Rattle.nfs_inodes.specs.Reading.{number_under, numbered_files}
 
 abbrev pub RootsAreReached : Type 0
@@ -26,6 +27,14 @@ pub record Leads (To : Tree → Tree → Type 0) : Type 0 where
       → MayLink t n d name → Law t → To t (after_link t n d name now)
   pub bytes : (t : Tree) (n offset : ℕ) (bytes : List ℕ) (now : Moment)
       → MayWrite t n offset (length bytes) → Law t → To t (after_write_at t n offset bytes now)
+  pub sizes : (t : Tree) (n size : ℕ) (now : Moment)
+      → MayResize t n size → Law t → To t (after_resize t n size now)
+  pub attributes : (t : Tree) (n : ℕ) (given : GivenAttributes) (now : Moment) (f : File)
+      → Lives t n f → Law t → To t (after_set t n given now)
+  pub removals : (t : Tree) (d : ℕ) (name : List ℕ) (now : Moment)
+      → MayUnlink t d name → Law t → To t (after_unlink t d name now)
+  pub renames : (t : Tree) (from : ℕ) (name : List ℕ) (to : ℕ) (new_name : List ℕ) (now : Moment)
+      → MayRename t from name to new_name → Law t → To t (after_rename t from name to new_name now)
   pub volumes : (t : Tree) (max_bytes max_files tag : ℕ) (path : List ℕ) (given : NewFile) (now : Moment)
       → MayAddVolume t path max_files → tag < 2 ^ 32 → Law t → To t (after_add_volume t path max_bytes max_files given tag now)
 
