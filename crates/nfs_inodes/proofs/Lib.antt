@@ -22,6 +22,7 @@ pub mod KeptRenames
 pub mod AttributeChanges
 pub mod SizeChanges
 pub mod Tests
+pub mod EntryTests
 pub mod Lookups
 pub mod Readers
 pub mod Example
