@@ -9,28 +9,27 @@ use Rattle.nfs_handles.specs.Changes.{Takes}
 use Rattle.nfs_inodes.specs.declared.stored_file.StoredFile.{StoredFile}
 use Rattle.nfs_inodes.specs.declared.stored_volume.StoredVolume.{StoredVolume}
 use Rattle.nfs_inodes.specs.declared.removal.Freed.{Freed}
-use Rattle.nfs_inodes.specs.Tree.{Tree, File, Entry, Volume, at, on_some, one_when, bytes_in, is_directory, names_of, nlink, bytes_for, one_for}
+use Rattle.nfs_inodes.specs.Tree.{Tree, File, Entry, Volume, at, on_some, one_when, bytes_in, is_directory, names_of, bytes_for, one_for}
 use Rattle.nfs_inodes.specs.Law.{Lives}
-use Rattle.nfs_inodes.specs.Changes.{with_file, left, released, without_file, touched, after_unlink}
+use Rattle.nfs_inodes.specs.Changes.{with_file, released, without_file, touched, after_unlink}
 use Rattle.nfs_inodes.specs.Conditions.{MayUnlink}
 use Rattle.nfs_inodes.specs.Reading.{entry_at}
 use Rattle.nfs_inodes.specs.Counts.{CountedFile, CountedTree, Agrees, tree_in, with_totals}
-use Rattle.nfs_inodes.specs.Storage.{file_of, kind_of, counted_volume_of, counted_tree_of, HasRoom}
+use Rattle.nfs_inodes.specs.Storage.{file_of, kind_of, counted_volume_of, counted_tree_of}
 use Rattle.nfs_inodes.specs.StoredFiles.{Revalues, IsThere}
 use Rattle.nfs_inodes.specs.StepConditions.{retagged}
-use Rattle.nfs_inodes.specs.Removals.{HasRoomAt, LosesEntry, Leaves, LosesLink, Goes, Stays, is_last, HasEntries, HasTotals, Removes}
-use Rattle.nfs_inodes.proofs.Lists.{by_number, by_test, if_true, if_false, same_some, not_both}
-use Rattle.nfs_inodes.proofs.Maps.{at_with_other, at_without_other, apart_number, shows_without, sum_some}
+use Rattle.nfs_inodes.specs.Removals.{HasRoomAt, Leaves, LosesLink, Goes, Stays, is_last, HasEntries, HasTotals, Removes}
+use Rattle.nfs_inodes.proofs.Lists.{by_test, if_true, if_false, same_some, not_both, true_and_false}
+use Rattle.nfs_inodes.proofs.Maps.{apart_number, shows_without, sum_some}
 use Rattle.nfs_inodes.proofs.Alike.{bytes_here}
-use Rattle.nfs_inodes.proofs.Gains.{one_same}
 use Rattle.nfs_inodes.proofs.Operations.{touched_is}
-use Rattle.nfs_inodes.proofs.StoredFiles.{counted_file, at_counted_file, value_found, at_value_same, at_value_other}
+use Rattle.nfs_inodes.proofs.StoredFiles.{counted_file, value_found}
 use Rattle.nfs_inodes.proofs.Recounts.{AgreesBut, recounted, view_recounted, kept_as, totals_nothing}
-use Rattle.nfs_inodes.proofs.Leavings.{names_apart, one_less, nlink_less_there}
 use Rattle.nfs_inodes.proofs.Departures.{MayBeReleased, MayBeRemoved}
+use Rattle.nfs_inodes.proofs.KeptLeavings as leavings
+use Rattle.nfs_inodes.proofs.KeptLeavings.{NamesFile, room_revalued, room_without}
 use Rattle.nfs_inodes.proofs.Unlinks.{entry_is, unlinked_is, other_file, may_be_released}
-use Rattle.nfs_inodes.proofs.CountedRemovals.{counted_left, agrees_left, counted_gone, agrees_gone, view_gone, counted_kept, agrees_kept}
-use Rattle.nfs_inodes.proofs.Views.{kept_at, lives}
+use Rattle.nfs_inodes.proofs.CountedRemovals.{counted_gone, agrees_gone, view_gone, counted_kept, agrees_kept}
 use Rattle.nfs_inodes.proofs.Steps.{stored_volume_of}
 
 -- ---- entries
@@ -94,18 +93,7 @@ not_taken t u n has takes = not_both takes.0 has.1
 pub told_entries : (t : NumberedFiles StoredFile) (n : ℕ) (told b : Bool) → IsThere t n → told ≡ on_some (value_at t n) true is_last → told ≡ b → HasEntries b t n
 told_entries t n told b there is s = (there.file, there.at_file, sym (is ∙ ap (λ o. on_some (option_map (λ (f : TaggedFile StoredFile). f.value) o) true is_last) there.at_file) ∙ s)
 
--- ---- room for an entry
-
-pub room_revalued : {From : StoredFile → StoredFile → Type 0} (a b : NumberedFiles StoredFile) (n : ℕ) (r : Revalues a n From b) → (HasRoom r.was.value → HasRoom r.value) → (d : ℕ) → HasRoomAt a d → HasRoomAt b d
-room_revalued a b n r more d has i e = by_number d n
-    (λ s. let is : r.value ≡ i = same_some (sym (ap (option_map (λ (f : TaggedFile StoredFile). f.value)) (ap (λ (u : NumberedFiles StoredFile). numbered.at u d) r.new_is ∙ ap (numbered.at (with_value a n r.value)) s ∙ at_value_same a n r.was r.value r.at_was)) ∙ e) in
-    subst HasRoom is (more (has r.was.value (ap (value_at a) s ∙ ap (option_map (λ (f : TaggedFile StoredFile). f.value)) r.at_was))))
-    (λ o. has i (ap (option_map (λ (f : TaggedFile StoredFile). f.value)) (sym (ap (λ (u : NumberedFiles StoredFile). numbered.at u d) r.new_is ∙ at_value_other a n d r.was r.value r.at_was o)) ∙ e))
-
-pub room_without : (a b : NumberedFiles StoredFile) (n : ℕ) → b ≡ without a n → (d : ℕ) → d ≢ n → HasRoomAt a d → HasRoomAt b d
-room_without a b n is d o has i e = has i (ap (option_map (λ (f : TaggedFile StoredFile). f.value)) (sym (ap (λ (u : NumberedFiles StoredFile). numbered.at u d) is ∙ at_without_other n d a.files o)) ∙ e)
-
--- ---- an entry less
+-- ---- the file of an entry that goes
 
 module _ (a : NumberedFiles StoredFile) (olds : List StoredVolume) (d : ℕ) (name : List ℕ) (n : ℕ) (removes : Removes a olds d name n) where
   abbrev t : Tree
@@ -114,96 +102,54 @@ module _ (a : NumberedFiles StoredFile) (olds : List StoredVolume) (d : ℕ) (na
   abbrev may : MayUnlink t d name
   may = removes.may
 
-  abbrev k : CountedTree
-  k = counted_tree_of a olds
+  abbrev pub names : NamesFile (tree_in (counted_tree_of a olds)) d name n
+  names = record { dir = removes.may.dir; at_dir = removes.may.at_dir; entry = removes.may.entry; found = removes.may.found; number = removes.number; file = removes.may.file; at_entry = removes.may.at_file }
 
-  kept_dir : (f : TaggedFile StoredFile) × (numbered.at a d ≡ Some f) × (file_of f.tag f.value ≡ may.dir)
-  kept_dir = kept_at a olds t refl d may.dir may.at_dir.0
+  abbrev kept_file : (f : TaggedFile StoredFile) × (numbered.at a n ≡ Some f) × (file_of f.tag f.value ≡ may.file)
+  kept_file = leavings.kept_file a olds d name n removes.agree names
 
-  kept_file : (f : TaggedFile StoredFile) × (numbered.at a n ≡ Some f) × (file_of f.tag f.value ≡ may.file)
-  kept_file = kept_at a olds t refl n may.file (ap (λ k. at k t.files) removes.number ∙ may.at_file)
-
-  pub is_subdirectory : (b : Bool) → b ≡ on_some (value_at a n) false (λ f. is_directory (kind_of f.node)) → b ≡ is_directory may.file.kind
-  is_subdirectory b e = e ∙ ap (λ o. on_some (option_map (λ (f : TaggedFile StoredFile). f.value) o) false (λ f. is_directory (kind_of f.node))) kept_file.1 ∙ ap (λ (f : File). is_directory f.kind) kept_file.2
-
-  links_of_dir : (f : TaggedFile StoredFile) → numbered.at a d ≡ Some f → file_of f.tag f.value ≡ may.dir → f.value.nlink ≡ nlink t.files d may.dir
-  links_of_dir f e is = removes.agree.links d (counted_file f) (at_counted_file a d f e) ∙ ap (nlink t.files d) is
-
-  less_links : nlink (with_file t d (left may.dir name may.dir.ctime)).files d (left may.dir name may.dir.ctime) + one_when (is_directory may.file.kind) ≡ nlink t.files d may.dir
-  less_links = nlink_less_there t d may.dir.ctime name may.dir may.entry removes.agree.law.rising may.at_dir.0 (names_apart may.dir (removes.agree.law.sound d may.dir may.at_dir.0)) may.found may.file may.at_dir.1 may.at_file
-
-  pub loses_entry : (b : Bool) → b ≡ on_some (value_at a n) false (λ f. is_directory (kind_of f.node)) → LosesEntry a d (one_when b)
-  loses_entry b e =
-      let sub : one_when b ≡ one_when (is_directory may.file.kind) = ap one_when (is_subdirectory b e) in
-      let are = links_of_dir kept_dir.0 kept_dir.1 kept_dir.2 in
-      let less = less_links in
-      record { dir = kept_dir.0; at_dir = kept_dir.1; nlink = omega (arith, sub, are, less) }
-
-  other : n ≢ d
+  pub other : n ≢ d
   other s = other_file t d name may.dir.ctime may (sym removes.number ∙ s)
 
   module _ (now : Moment) (b : NumberedFiles StoredFile) (sub : Bool) (is_sub : sub ≡ on_some (value_at a n) false (λ f. is_directory (kind_of f.node))) (leaves : Revalues a d (Leaves name (one_when sub) now) b) where
-    dir_was : file_of leaves.was.tag leaves.was.value ≡ may.dir
-    dir_was = same_some (sym (lives a olds d leaves.was leaves.at_was) ∙ may.at_dir.0)
-
-    -- what is kept without the entry
     abbrev k1 : CountedTree
-    k1 = counted_left k d may.dir name now leaves.value.nlink
+    k1 = leavings.k1 a olds d name n removes.agree names other now b sub is_sub leaves
 
     abbrev t1 : Tree
-    t1 = with_file t d (left may.dir name now)
+    t1 = leavings.t1 a olds d name n removes.agree names other now b sub is_sub leaves
 
     counted_1 : counted_tree_of b olds ≡ k1
-    counted_1 = kept_as a b olds olds d leaves (left may.dir name now) (ap (λ (f : File). retagged f leaves.was.tag) leaves.from.file ∙ ap (λ (f : File). left f name now) dir_was)
+    counted_1 = leavings.counted_1 a olds d name n removes.agree names other now b sub is_sub leaves
 
     view_1 : tree_in k1 ≡ t1
-    view_1 = view_recounted k d (record { file = left may.dir name now; nlink = leaves.value.nlink }) k.volumes refl
-
-    abbrev dir_held : CountedFile
-    dir_held = record { file = may.dir; nlink = leaves.was.value.nlink }
-
-    at_held : at d k.files ≡ Some dir_held
-    at_held = at_counted_file a d leaves.was leaves.at_was ∙ ap (λ (f : File). Some (held f)) dir_was
-      where
-        held : File → CountedFile
-        held f = record { file = f; nlink = leaves.was.value.nlink }
+    view_1 = leavings.view_1 a olds d name n removes.agree names other now b sub is_sub leaves
 
     agrees_1 : AgreesBut n k1
-    agrees_1 = subst (λ m. AgreesBut m k1) (sym removes.number)
-        (agrees_left k d leaves.value.nlink now name dir_held may.entry may.file removes.agree at_held may.at_dir.1 may.found may.at_file
-        (ap (λ m. leaves.value.nlink + m) (ap one_when (sym (is_subdirectory sub is_sub))) ∙ leaves.from.nlink))
+    agrees_1 = leavings.agrees_1 a olds d name n removes.agree names other now b sub is_sub leaves
 
     at_1 : numbered.at b n ≡ Some kept_file.0
-    at_1 = ap (λ (u : NumberedFiles StoredFile). numbered.at u n) leaves.new_is ∙ at_value_other a d n leaves.was leaves.value leaves.at_was other ∙ kept_file.1
+    at_1 = leavings.at_1 a olds d name n removes.agree names other now b sub is_sub leaves
 
-    pub is_there_still : IsThere b n
-    is_there_still = record { file = kept_file.0; at_file = at_1 }
+    names_1 : names_of n t1.files + 1 ≡ names_of n t.files
+    names_1 = leavings.names_1 a olds d name n removes.agree names other now b sub is_sub leaves
+
+    at_t1 : Lives t1 n may.file
+    at_t1 = leavings.at_t1 a olds d name n removes.agree names other now b sub is_sub leaves
+
+    abbrev held : CountedFile
+    held = leavings.held a olds d name n removes.agree names other now b sub is_sub leaves
+
+    at_k1 : at n k1.files ≡ Some held
+    at_k1 = leavings.at_k1 a olds d name n removes.agree names other now b sub is_sub leaves
 
     releases : MayBeReleased t1 n
     releases = subst (MayBeReleased t1) (sym removes.number) (may_be_released t d name now may removes.agree.law)
 
-    names_1 : names_of n t1.files + 1 ≡ names_of n t.files
-    names_1 = let told = (one_less t d now name may.dir may.entry removes.agree.law.rising may.at_dir.0 (names_apart may.dir (removes.agree.law.sound d may.dir may.at_dir.0)) may.found).names n in
-        let one = one_same n may.entry removes.number in omega (arith, told, one)
-
     links_are : is_directory may.file.kind ≡ false → kept_file.0.value.nlink ≡ names_of n t.files
-    links_are z = removes.agree.links n (counted_file kept_file.0) (at_counted_file a n kept_file.0 kept_file.1) ∙ ap (nlink t.files n) kept_file.2 ∙ if_false _ _ z
+    links_are z = leavings.links_of_file a olds d name n removes.agree names ∙ if_false _ _ z
 
     unlinked_1 : after_unlink t d name now ≡ released t1 n now
     unlinked_1 = unlinked_is t d name now may ∙ ap (λ m. released t1 m now) (sym removes.number)
-
-    at_t1 : Lives t1 n may.file
-    at_t1 = at_with_other d n (left may.dir name now) t.files other ∙ ap (λ m. at m t.files) removes.number ∙ may.at_file
-
-    -- what is kept of its file
-    abbrev held : CountedFile
-    held = record { file = may.file; nlink = kept_file.0.value.nlink }
-
-    at_k1 : at n k1.files ≡ Some held
-    at_k1 = at_with_other d n (record { file = left may.dir name now; nlink = leaves.value.nlink }) k.files other ∙ at_counted_file a n kept_file.0 kept_file.1 ∙ ap (λ (f : File). Some (with_links f)) kept_file.2
-      where
-        with_links : File → CountedFile
-        with_links f = record { file = f; nlink = kept_file.0.value.nlink }
 
     volume_there : (v : Volume) × (slice_get t.volumes may.file.volume ≡ Some v)
     volume_there = removes.agree.law.placed may.entry.number may.file may.at_file
@@ -259,14 +205,11 @@ module _ (a : NumberedFiles StoredFile) (olds : List StoredVolume) (d : ℕ) (na
           none_left = by_test (is_directory may.file.kind)
               (λ y. releases.unnamed (ap (λ (f : File). is_directory f.kind) (same_some (sym releases.at_file ∙ at_t1)) ∙ y))
               (λ z. or_true (is_directory (kind_of g.file.value.node)) (nat_le g.file.value.nlink 1) g.last
-              (λ y. absurd (clash (sym (ap (λ (f : File). is_directory f.kind) (gone_file g)) ∙ y) z))
+              (λ y. absurd (true_and_false (sym (ap (λ (f : File). is_directory f.kind) (gone_file g)) ∙ y) z))
               (λ f l. let few = leb-true g.file.value.nlink 1 l in
               let links : g.file.value.nlink ≡ kept_file.0.value.nlink = ap (λ (f : TaggedFile StoredFile). f.value.nlink) (same_some (sym g.at_file ∙ at_1)) in
               let are = links_are z in let less = names_1 in
               omega (arith, few, links, are, less)))
-            where
-              clash : {b : Bool} → b ≡ true → b ≡ false → ⊥
-              clash y n = cc
 
           given_back : with_totals (map counted_volume_of news) held.file.volume (length (bytes_in held.file.kind)) 1 ≡ k1.volumes
           given_back = ap (λ p. with_totals (map counted_volume_of news) p (length (bytes_in may.file.kind)) 1) (sym (gone_place g))

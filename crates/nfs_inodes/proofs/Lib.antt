@@ -12,12 +12,17 @@ pub mod CountsMore
 pub mod StoredFiles
 pub mod Recounts
 pub mod CountedRemovals
+pub mod CountedCarries
 pub mod Views
 pub mod Steps
+pub mod KeptLeavings
 pub mod KeptRemovals
+pub mod KeptCarries
+pub mod KeptRenames
 pub mod AttributeChanges
 pub mod SizeChanges
 pub mod Tests
+pub mod EntryTests
 pub mod Lookups
 pub mod Readers
 pub mod Example

@@ -23,11 +23,11 @@ by_number m n p q = elim (cases_eq m n) [
 pub same_some : {X : Type 0} {x y : X} → Some x ≡ Some y → x ≡ y
 same_some e = cc
 
-pub true_and_false : {b : Bool} → b ≡ true → b ≡ false → ⊥
-true_and_false y n = cc
-
 pub same_tail : {X : Type 0} {x y : X} {xs ys : List X} → x ∷ xs ≡ y ∷ ys → xs ≡ ys
 same_tail e = cc
+
+pub true_and_false : {b : Bool} → b ≡ true → b ≡ false → ⊥
+true_and_false y n = cc
 
 pub not_both : {X : Type 0} {o : Option X} {x : X} → o ≡ None → o ≡ Some x → ⊥
 not_both e f = cc

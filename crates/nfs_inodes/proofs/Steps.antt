@@ -9,7 +9,7 @@ use Rattle.nfs_handles.specs.NumberedFiles.{NumberedFiles}
 use Rattle.nfs_inodes.specs.declared.stored_file.StoredFile.{StoredFile}
 use Rattle.nfs_inodes.specs.declared.stored_volume.StoredVolume.{StoredVolume}
 use Rattle.nfs_inodes.specs.Tree.{Tree, File, Kind, Directory, Volume, on_some, is_directory, is_regular, bytes_in, next_cookie_in, nlink, bytes_of, files_of}
-use Rattle.nfs_inodes.specs.Law.{IsSound}
+use Rattle.nfs_inodes.specs.Law.{IsSound, LivesAsDirectory}
 use Rattle.nfs_inodes.specs.Changes.{with_named_file, Makes, entered, new_file, after_link, after_write_at, file_with_bytes, with_file, after_add_volume, with_new_volume}
 use Rattle.nfs_inodes.specs.Changes as changes
 use Rattle.nfs_inodes.specs.declared.new_file.NewFile.{NewFile}
@@ -31,7 +31,7 @@ use Rattle.nfs_inodes.proofs.NewFiles.{IsFresh, new_here, may_be_founded, imposs
 use Rattle.nfs_inodes.proofs.Births.{MayBeFounded}
 use Rattle.nfs_inodes.proofs.Views.{lives, kept_at, stored_volume_at, stored_volume_counted}
 
-counted_parts : (k l : CountedTree) → l.files ≡ k.files → l.next ≡ k.next → l.key ≡ k.key → l.volumes ≡ k.volumes → l ≡ k
+pub counted_parts : (k l : CountedTree) → l.files ≡ k.files → l.next ≡ k.next → l.key ≡ k.key → l.volumes ≡ k.volumes → l ≡ k
 counted_parts k l f n e v =
     ap (λ x. make x l.next l.key l.volumes) f ∙ ap (λ x. make k.files x l.key l.volumes) n ∙ ap (λ x. make k.files k.next x l.volumes) e ∙ ap (λ x. make k.files k.next k.key x) v
   where
@@ -39,23 +39,25 @@ counted_parts k l f n e v =
     make f n e v = record { files = f; next = n; key = e; volumes = v }
 
 -- directory d of the tree takes an entry
-pub takes_entry : (a : NumberedFiles StoredFile) (stored_volumes : List StoredVolume) (d : ℕ) (name : List ℕ) → Agrees (counted_tree_of a stored_volumes) → MayEnter (tree_in (counted_tree_of a stored_volumes)) d name → TakesEntry a d
-takes_entry a stored_volumes d name keeps enter =
+pub takes_entry_at : (a : NumberedFiles StoredFile) (stored_volumes : List StoredVolume) (d : ℕ) (dir : File) → Agrees (counted_tree_of a stored_volumes) → LivesAsDirectory (tree_in (counted_tree_of a stored_volumes)) d dir → next_cookie_in dir.kind < 18446744073709551615 → TakesEntry a d
+takes_entry_at a stored_volumes d dir keeps at_dir low =
     let t : Tree = tree_in (counted_tree_of a stored_volumes) in
-    let f = kept_at a stored_volumes t refl d enter.dir enter.at_dir.0 in
-    let few = keeps.law.links d enter.dir enter.at_dir.0 in
+    let f = kept_at a stored_volumes t refl d dir at_dir.0 in
+    let few = keeps.law.links d dir at_dir.0 in
     let are = keeps.links d (counted_file f.0) (at_counted_file a d f.0 f.1) in
-    let same : nlink t.files d (file_of f.0.tag f.0.value) ≡ nlink t.files d enter.dir = ap (nlink t.files d) f.2 in
-    let low = enter.cookie in
-    let cookies : next_cookie_in (file_of f.0.tag f.0.value).kind ≡ next_cookie_in enter.dir.kind = ap (λ (f : File). next_cookie_in f.kind) f.2 in
+    let same : nlink t.files d (file_of f.0.tag f.0.value) ≡ nlink t.files d dir = ap (nlink t.files d) f.2 in
+    let cookies : next_cookie_in (file_of f.0.tag f.0.value).kind ≡ next_cookie_in dir.kind = ap (λ (f : File). next_cookie_in f.kind) f.2 in
     record {
       dir = f.0;
       at_dir = f.1;
-      is_dir = ap (λ (f : File). is_directory f.kind) f.2 ∙ enter.at_dir.1;
+      is_dir = ap (λ (f : File). is_directory f.kind) f.2 ∙ at_dir.1;
       next_cookie = omega (arith, low, cookies);
       nlink = omega (arith, few, are, same);
-      below = (rising_bounds 0 a.next t.files d enter.dir keeps.law.rising enter.at_dir.0).1;
+      below = (rising_bounds 0 a.next t.files d dir keeps.law.rising at_dir.0).1;
     }
+
+pub takes_entry : (a : NumberedFiles StoredFile) (stored_volumes : List StoredVolume) (d : ℕ) (name : List ℕ) → Agrees (counted_tree_of a stored_volumes) → MayEnter (tree_in (counted_tree_of a stored_volumes)) d name → TakesEntry a d
+takes_entry a stored_volumes d name keeps enter = takes_entry_at a stored_volumes d enter.dir keeps enter.at_dir enter.cookie
 
 -- the share of a volume of the tree, and what it counts
 pub stored_volume_of : (a : NumberedFiles StoredFile) (stored_volumes : List StoredVolume) (place : ℕ) (v : Volume) → Agrees (counted_tree_of a stored_volumes) → slice_get (tree_in (counted_tree_of a stored_volumes)).volumes place ≡ Some v →

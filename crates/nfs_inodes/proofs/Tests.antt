@@ -13,12 +13,12 @@ use Rattle.nfs_inodes.specs.declared.stored_file.Node.TheVariants as node
 use Rattle.nfs_inodes.specs.declared.stored_volume.StoredVolume.{StoredVolume}
 use Rattle.nfs_inodes.specs.Tree.{Tree, File, Kind, Directory, Entry, Volume, entries_in, bytes_in, next_cookie_in, is_directory, is_regular, nlink, names_of, bytes_of, files_of}
 use Rattle.nfs_inodes.specs.Law.{Law, IsName, Lives}
-use Rattle.nfs_inodes.specs.Conditions.{MayEnter, MayMake, MayMakeDirectory, MayLink, MayWrite}
+use Rattle.nfs_inodes.specs.Conditions.{MayEnter, MayMake, MayMakeDirectory, MayLink, MayWrite, MayResize}
 use Rattle.nfs_inodes.specs.Counts.{CountedVolume, Agrees, tree_in}
 use Rattle.nfs_inodes.specs.Storage.{file_of, kind_of, entry_of, counted_tree_of, counted_volume_of, volume_of}
 use Rattle.nfs_inodes.specs.StepConditions.{TakesName, TakesFile, MayGainLink, HasSpaceIn, HasRoomIn}
 use Rattle.nfs_inodes.specs.Reading.{place_where}
-use Rattle.nfs_inodes.proofs.Lists.{same_some, not_both, if_false}
+use Rattle.nfs_inodes.proofs.Lists.{by_number, same_some, not_both, if_false}
 use Rattle.nfs_inodes.proofs.Views.{filed, lives_there, none_there, stored_volume_at, stored_volume_counted}
 use Rattle.nfs_inodes.proofs.StoredFiles.{counted_file, at_counted_file}
 
@@ -89,11 +89,11 @@ takes_name g i parent next_cookie entries es name o b is same below is_name sear
 
 module _ (a : NumberedFiles StoredFile) (stored_volumes : List StoredVolume) (t : Tree) (view : tree_in (counted_tree_of a stored_volumes) ≡ t) where
   -- a kept file in the tree
-  shown_there : (n : ℕ) (i : StoredFile) → Some i ≡ value_at a n → (tag : ℕ) × Lives t n (file_of tag i)
+  pub shown_there : (n : ℕ) (i : StoredFile) → Some i ≡ value_at a n → (tag : ℕ) × Lives t n (file_of tag i)
   shown_there n i e = let k = filed a n i e in (k.0.tag, lives_there a stored_volumes t view n k.0 k.1 ∙ ap (λ i. Some (file_of k.0.tag i)) k.2)
 
   -- and what is there under its number is like it
-  like_there : (n : ℕ) (i : StoredFile) → Some i ≡ value_at a n → (f : File) → Lives t n f → (i.volume ≡ f.volume) × (kind_of i.node ≡ f.kind)
+  pub like_there : (n : ℕ) (i : StoredFile) → Some i ≡ value_at a n → (f : File) → Lives t n f → (i.volume ≡ f.volume) × (kind_of i.node ≡ f.kind)
   like_there n i e f at_n = let s = shown_there n i e in let same : file_of s.0 i ≡ f = same_some (sym s.1 ∙ at_n) in
       (ap (λ (f : File). f.volume) same, ap (λ (f : File). f.kind) same)
 
@@ -140,7 +140,7 @@ module _ (a : NumberedFiles StoredFile) (stored_volumes : List StoredVolume) (t 
   may_make_none d size name e may = none_lives d e may.enter.dir may.enter.at_dir.0
 
   module _ (keeps : Agrees (counted_tree_of a stored_volumes)) where
-    links_there : (n : ℕ) (i : StoredFile) → Some i ≡ value_at a n → (f : File) → Lives t n f → i.nlink ≡ nlink t.files n f
+    pub links_there : (n : ℕ) (i : StoredFile) → Some i ≡ value_at a n → (f : File) → Lives t n f → i.nlink ≡ nlink t.files n f
     links_there n i e f at_n =
         let k = filed a n i e in
         let kept = keeps.links n (counted_file k.0) (at_counted_file a n k.0 k.1) in
@@ -261,3 +261,26 @@ module _ (a : NumberedFiles StoredFile) (stored_volumes : List StoredVolume) (t 
       let s = shown_there n i e in
       let v = (subst Law view keeps.law).placed n (file_of s.0 i) s.1 in
       record { file = file_of s.0 i; at_file = s.1; regular = regular; large = λ more. absurd (omega (arith, more)); volume = v.0; at_volume = v.1; room = λ more. absurd (omega (arith, more)) }
+
+  -- ---- tests of a size
+
+  pub resizes_there : (n size grown : ℕ) (i : StoredFile) (b : Bool) → Some i ≡ value_at a n → is_regular (kind_of i.node) ≡ true → (0 < size → 0 + size ≤ 16777216) → grown ≡ size - length (bytes_in (kind_of i.node)) → Decides b (HasSpaceIn t i.volume grown) → Decides b (MayResize t n size)
+  resizes_there n size grown i b e regular large is space = Decides-like b
+      (λ (space : HasSpaceIn t i.volume grown). let s = shown_there n i e in let room = space.bytes in record {
+        file = file_of s.0 i;
+        at_file = s.1;
+        regular = regular;
+        large = by_number size 0 (λ s. omega (arith, s)) (λ o. let l = large (omega (arith, o)) in omega (arith, l));
+        volume = space.volume;
+        at_volume = space.at_volume;
+        room = omega (arith, room, is);
+      })
+      (λ (may : MayResize t n size). let like = like_there n i e may.file may.at_file in
+      let room = may.room in
+      let long : length (bytes_in (kind_of i.node)) ≡ length (bytes_in may.file.kind) = ap (λ k. length (bytes_in k)) like.1 in
+      let total : bytes_of i.volume t.files ≡ bytes_of may.file.volume t.files = ap (λ p. bytes_of p t.files) like.0 in
+      record { volume = may.volume; at_volume = ap (slice_get t.volumes) like.0 ∙ may.at_volume; bytes = omega (arith, room, is, long, total) })
+      space
+
+  pub resized_to : (n size : ℕ) (i : StoredFile) → Some i ≡ value_at a n → MayResize t n size → (is_regular (kind_of i.node) ≡ true) × (0 < size → 0 + size ≤ 16777216)
+  resized_to n size i e may = let large = may.large in (ap is_regular (like_there n i e may.file may.at_file).1 ∙ may.regular, λ some. omega (arith, large))

@@ -104,6 +104,10 @@ pub record MayCarry (t : Tree) (from : ℕ) (name : List ℕ) (to : ℕ) (new_na
 abbrev pub NamesOther : Tree → ℕ → List ℕ → ℕ → Type 0
 NamesOther t d name n = (old : Entry) → entry_at t d name ≡ Some old → old.number ≢ n
 
+-- two names are not those of one file
+abbrev pub NameApart : Tree → ℕ → List ℕ → ℕ → List ℕ → Type 0
+NameApart t from name to new_name = (e : Entry) → entry_at t from name ≡ Some e → NamesOther t to new_name e.number
+
 -- a file may take the place of file n: both are directories, file n without entries, or neither is
 pub record MayReplace (t : Tree) (n : ℕ) (file : File) : Type 0 where
   pub replaced : File

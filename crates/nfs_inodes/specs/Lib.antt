@@ -9,6 +9,7 @@ pub mod Counts
 pub mod Storage
 pub mod StoredFiles
 pub mod Removals
+pub mod Renamings
 pub mod StepConditions
 pub mod Laws
 pub mod Example

@@ -50,6 +50,10 @@ number_under t d name = number_named name (listing_at t d)
 abbrev pub entry_at : Tree → ℕ → List ℕ → Option Entry
 entry_at t d name = on_some (at d t.files) None (λ f. entry_named name (entries_in f.kind))
 
+-- the entries of directory d; of another file none
+abbrev pub entries_at : Tree → ℕ → List Entry
+entries_at t d = on_some (at d t.files) [] (λ f. entries_in f.kind)
+
 -- what directory d lists first after a cookie
 abbrev pub entry_after : Tree → ℕ → ℕ → Option Entry
 entry_after t d cookie = first_after cookie (listing_at t d)

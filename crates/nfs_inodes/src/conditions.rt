@@ -1,10 +1,13 @@
 //! What may be done: tests for the conditions of the tree's operations.
-ghost use Rattle.std.specs.Prelude.{◌↔◌, ◌+◌, ◌<◌, ◌≤◌, IsTrue};
+ghost use Rattle.std.specs.Prelude.{◌↔◌, ◌≡◌, ◌+◌, ◌<◌, ◌≤◌, IsTrue, []};
 ghost use Rattle.nfs_inodes.specs.Limits.{max_links};
 ghost use Rattle.nfs_inodes.specs.StepConditions.{TakesName, TakesFile, TakesLinkIn, TakesCount};
 ghost use Rattle.nfs_inodes.specs.StepConditions.{MayGainLink, HasRoomIn, HasSpaceIn};
 ghost use Rattle.nfs_inodes.specs.Conditions.{MayMake, MayMakeDirectory, MayMakeLink, MayLink};
-ghost use Rattle.nfs_inodes.specs.Conditions.{MayWrite, MayAddVolume};
+ghost use Rattle.nfs_inodes.specs.Conditions.{MayWrite, MayResize, MayUnlink, MayAddVolume};
+ghost use Rattle.nfs_inodes.specs.Reading.{entries_at};
+ghost use Rattle.nfs_inodes.specs.Storage.{kind_of};
+ghost use Rattle.nfs_inodes.specs.Tree.{entries_in};
 
 use crate::directory::named;
 use crate::limits::{
@@ -101,6 +104,44 @@ impl Tree {
         }
     }
 
+    /// Whether the file `number` is regular and may have this size.
+    pub fn may_resize(&self, number: Number, size: usize) -> bool
+        ensures { IsTrue result ↔ MayResize self.now number.0 size }
+    {
+        match self.files.get(number) {
+            Some(stored_file) => {
+                if !takes_bytes(stored_file, 0, size) {
+                    return false;
+                }
+                let growth = (size as u64).saturating_sub(stored_file.size());
+                self.has_space(stored_file.volume, growth)
+            }
+            None => false,
+        }
+    }
+
+    /// Whether directory `dir` has an entry of this name that may go: for a file, or for a directory
+    /// without entries.
+    pub fn may_unlink(&self, dir: Number, name: &[u8]) -> bool
+        ensures { IsTrue result ↔ MayUnlink self.now dir.0 name.now }
+    {
+        self.law();
+        match self.entry(dir, name) {
+            Some(number) => self.is_empty(number),
+            None => false,
+        }
+    }
+
+    /// Whether a file has no entries: so is each that is no directory, and what doesn't live.
+    pub fn is_empty(&self, number: Number) -> bool
+        ensures { IsTrue result ↔ (entries_at self.now number.0 ≡ []) }
+    {
+        match self.files.get(number) {
+            Some(stored_file) => has_no_entries(&stored_file.node),
+            None => true,
+        }
+    }
+
     // Whether a kept file is a directory that takes a new file of so many bytes under this name.
     fn takes_file(&self, stored_file: &StoredFile, name: &[u8], size: usize) -> bool
         ensures { IsTrue result ↔ TakesFile self.now stored_file.now name.now size }
@@ -182,6 +223,15 @@ fn takes_bytes(stored_file: &StoredFile, offset: usize, count: usize) -> bool
     match &stored_file.node {
         Node::Regular(_) => true,
         _ => false,
+    }
+}
+
+fn has_no_entries(node: &Node) -> bool
+    ensures { IsTrue result ↔ (entries_in (kind_of node.now) ≡ []) }
+{
+    match node {
+        Node::Directory { entries, .. } => entries.is_empty(),
+        _ => true,
     }
 }
 

@@ -15,6 +15,7 @@ pub mod limits;
 pub mod name;
 pub mod new_file;
 pub mod removal;
+pub mod renaming;
 mod stored_entry;
 mod stored_file;
 mod stored_files;

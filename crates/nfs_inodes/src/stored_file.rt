@@ -5,7 +5,8 @@ ghost use Rattle.nfs_inodes.specs.Limits.{max_file_bytes, max_links};
 ghost use Rattle.nfs_inodes.specs.Tree.{is_directory, is_regular, next_cookie_in, bytes_in};
 ghost use Rattle.nfs_inodes.specs.Tree.{one_when, on_some};
 ghost use Rattle.nfs_inodes.specs.Changes.{entered, file_with_bytes, new_file};
-ghost use Rattle.nfs_inodes.specs.Changes.{left, entries_without, resized_to, with_given};
+ghost use Rattle.nfs_inodes.specs.Changes.{left, entries_without, moved_to, resized_to};
+ghost use Rattle.nfs_inodes.specs.Changes.{with_given};
 ghost use Rattle.nfs_inodes.specs.Storage.{entry_of, file_of, kind_of, HasRoom};
 
 use crate::content::{put, resize};
@@ -166,6 +167,19 @@ pub(crate) fn remove_entry(
         _ => {}
     }
     stored_file.mtime = now;
+    stored_file.ctime = now;
+}
+
+/// A file that comes into directory `dir`, which is then a directory's parent.
+pub(crate) fn set_parent(stored_file: &mut StoredFile, dir: u64, now: Moment)
+    ensures file { file_of 0 stored_file.new ≡ moved_to (file_of 0 stored_file.old) dir now }
+    ensures nlink { stored_file.new.nlink ≡ stored_file.old.nlink }
+    ensures room { HasRoom stored_file.old → HasRoom stored_file.new }
+{
+    match &mut stored_file.node {
+        Node::Directory { parent, .. } => *parent = dir,
+        _ => {}
+    }
     stored_file.ctime = now;
 }
 

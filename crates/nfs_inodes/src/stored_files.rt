@@ -151,8 +151,8 @@ fn gain_link(files: &mut Files<StoredFile>, number: Number, dir: Number, now: Mo
     }
 }
 
-// Room in a directory for one entry more.
-fn reserve(files: &mut Files<StoredFile>, dir: Number) -> Result<(), AllocError>
+/// Room in a directory for one entry more. Refused without memory, and then clients see no change.
+pub(crate) fn reserve(files: &mut Files<StoredFile>, dir: Number) -> Result<(), AllocError>
     requires { TakesEntry files.old dir.0 }
     ensures same { Revalues files.old dir.0 SameFile files.new }
     ensures ok { OnOk result ((stored_file : StoredFile) → value_at files.new dir.0 ≡ Some stored_file → HasRoom stored_file) }
@@ -163,8 +163,8 @@ fn reserve(files: &mut Files<StoredFile>, dir: Number) -> Result<(), AllocError>
     }
 }
 
-// One entry more in a directory, which has room for it.
-fn enter(
+/// One entry more in a directory, which has room for it.
+pub(crate) fn enter(
     files: &mut Files<StoredFile>,
     dir: Number,
     name: Vec<u8>,

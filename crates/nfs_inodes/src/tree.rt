@@ -29,7 +29,7 @@ use std::marker::Model;
 /// The tree of files: volumes, each a tree of directories, and files by their numbers.
 #[derive(Drop)]
 pub struct Tree {
-    alloc: Global,
+    pub(crate) alloc: Global,
     pub(crate) files: Files<StoredFile>,
     pub(crate) volumes: Vec<StoredVolume>,
 }
@@ -310,7 +310,8 @@ fn count(volumes: &mut Vec<StoredVolume>, place: usize, bytes: u64, files: u64)
 // So many bytes less and so many more in the volume at a place.
 fn recount(volumes: &mut Vec<StoredVolume>, place: usize, less: u64, more: u64)
     requires { HasBytes volumes.old.items place less more }
-    ensures { with_totals (map counted_volume_of volumes.new.items) place less 0 ≡ with_totals (map counted_volume_of volumes.old.items) place more 0 }
+    ensures { with_totals (map counted_volume_of volumes.new.items) place less 0
+        ≡ with_totals (map counted_volume_of volumes.old.items) place more 0 }
 {
     match volumes.get_mut(place) {
         Some(stored_volume) => stored_volume.bytes = stored_volume.bytes - less + more,

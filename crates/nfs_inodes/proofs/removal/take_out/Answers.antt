@@ -1,11 +1,12 @@
-use Rattle.nfs_inodes.proofs.KeptRemovals.{loses_entry, is_there_still, totals_there, done, room_after}
+use Rattle.nfs_inodes.proofs.KeptLeavings.{loses_entry, is_there_still}
+use Rattle.nfs_inodes.proofs.KeptRemovals.{names, other, totals_there, done, room_after}
 use Rattle.nfs_inodes.proofs.removal.take_out.Goals as goal
 
 pub leave-requires : goal.leave-requires
-leave-requires c = loses_entry c.args.files.now c.args.volumes.now.items c.args.dir.0 c.args.name.now c.args.number.0 c.requires c.is_directory-subdirectory.result c.is_directory-subdirectory.ensures
+leave-requires c = loses_entry c.args.files.now c.args.volumes.now.items c.args.dir.0 c.args.name.now c.args.number.0 c.requires.agree (names c.args.files.now c.args.volumes.now.items c.args.dir.0 c.args.name.now c.args.number.0 c.requires) c.is_directory-subdirectory.result c.is_directory-subdirectory.ensures
 
 pub release-freed-requires : goal.release-freed-requires
-release-freed-requires c = is_there_still c.args.files.now c.args.volumes.now.items c.args.dir.0 c.args.name.now c.args.number.0 c.requires c.args.now c.leave.new.files c.is_directory-subdirectory.result c.is_directory-subdirectory.ensures c.leave.ensures
+release-freed-requires c = is_there_still c.args.files.now c.args.volumes.now.items c.args.dir.0 c.args.name.now c.args.number.0 c.requires.agree (names c.args.files.now c.args.volumes.now.items c.args.dir.0 c.args.name.now c.args.number.0 c.requires) (other c.args.files.now c.args.volumes.now.items c.args.dir.0 c.args.name.now c.args.number.0 c.requires) c.args.now c.leave.new.files c.is_directory-subdirectory.result c.is_directory-subdirectory.ensures c.leave.ensures
 
 pub discount-requires : goal.discount-requires
 discount-requires c = totals_there c.args.files.now c.args.volumes.now.items c.args.dir.0 c.args.name.now c.args.number.0 c.requires c.args.now c.leave.new.files c.is_directory-subdirectory.result c.is_directory-subdirectory.ensures c.leave.ensures

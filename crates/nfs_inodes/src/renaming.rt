@@ -1,0 +1,125 @@
+//! Entries that go from one name to another.
+ghost use Rattle.std.specs.Prelude.{◌≡◌, ◌↔◌, IsTrue, List, OnOk, OnErr, Some};
+ghost use Rattle.nfs_inodes.specs.declared.stored_volume.StoredVolume.{StoredVolume};
+ghost use Rattle.nfs_inodes.specs.Changes.{after_rename, carried};
+ghost use Rattle.nfs_inodes.specs.Conditions.{MayRename, NameApart};
+ghost use Rattle.nfs_inodes.specs.Counts.{Agrees, tree_in};
+ghost use Rattle.nfs_inodes.specs.Storage.{counted_tree_of};
+ghost use Rattle.nfs_inodes.specs.StoredFiles.{Revalues, IsThere};
+ghost use Rattle.nfs_inodes.specs.Renamings.{MovesTo, Carries, HasCarried, Renames};
+
+use crate::content::copied;
+use crate::removal::{is_directory, leave, take_out};
+use crate::stored_file::{StoredFile, set_parent};
+use crate::stored_files::{enter, reserve};
+use crate::stored_volume::StoredVolume;
+use crate::tree::Tree;
+use nfs_attrs::moment::Moment;
+use nfs_handles::files::Files;
+use nfs_handles::number::Number;
+use std::alloc::AllocError;
+
+impl Tree {
+    /// The entry of a name in directory `from` goes to another name in directory `to`, in place of
+    /// what that named (RFC 1813, section 3.3.14). Where both names name one file nothing changes.
+    /// Refused only without memory, and then the tree is as before.
+    pub fn rename(
+        &mut self,
+        from: Number,
+        name: &[u8],
+        to: Number,
+        new_name: &[u8],
+        now: Moment,
+    ) -> Result<(), AllocError>
+        requires { MayRename self.old from.0 name.now to.0 new_name.now }
+        ensures ok { OnOk result (self.new ≡ after_rename self.old from.0 name.now to.0 new_name.now now) }
+        ensures err { OnErr result (self.new ≡ self.old) }
+        ensures apart { OnErr result (NameApart self.old from.0 name.now to.0 new_name.now) }
+    {
+        let number = match self.entry(from, name) {
+            Some(number) => number,
+            None => unreachable!(),
+        };
+        let replaced = self.entry(to, new_name);
+        if is_number(replaced, number) {
+            return Ok(());
+        }
+        let new_name = copied(self.alloc, new_name)?;
+        reserve(&mut self.files, to)?;
+        let route = Route { number, from, to };
+        move_entry(
+            &mut self.files,
+            &mut self.volumes,
+            route,
+            name,
+            new_name,
+            replaced,
+            now,
+        );
+        Ok(())
+    }
+}
+
+/// A file, the directory that its entry leaves, and the one that it comes into.
+#[derive(Clone, Copy)]
+pub(crate) struct Route {
+    pub(crate) number: Number,
+    pub(crate) from: Number,
+    pub(crate) to: Number,
+}
+
+fn is_number(found: Option<Number>, number: Number) -> bool
+    ensures { IsTrue result ↔ (found ≡ Some number) }
+{
+    match found {
+        Some(found) => found.0 == number.0,
+        None => false,
+    }
+}
+
+// The entry of a name goes to another, in place of that of the file `replaced`, for which there is
+// room.
+fn move_entry(
+    files: &mut Files<StoredFile>,
+    volumes: &mut Vec<StoredVolume>,
+    route: Route,
+    name: &[u8],
+    new_name: Vec<u8>,
+    replaced: Option<Number>,
+    now: Moment,
+)
+    requires { Renames files.old volumes.old.items route name.now new_name.items replaced }
+    ensures agree { Agrees (counted_tree_of files.new volumes.new.items) }
+    ensures done { tree_in (counted_tree_of files.new volumes.new.items)
+        ≡ after_rename (tree_in (counted_tree_of files.old volumes.old.items)) route.from.0 name.now route.to.0 new_name.items now }
+{
+    if let Some(old) = replaced {
+        take_out(files, volumes, route.to, new_name.as_slice(), old, now);
+        carry(files, route, name, new_name, now);
+        return;
+    }
+    carry(files, route, name, new_name, now);
+}
+
+// The entry of a name goes to another that is free, for which there is room.
+fn carry(files: &mut Files<StoredFile>, route: Route, name: &[u8], new_name: Vec<u8>, now: Moment)
+    requires { (stored_volumes : List StoredVolume) × Carries files.old stored_volumes route name.now new_name.items }
+    ensures { (stored_volumes : List StoredVolume) → Carries files.old stored_volumes route name.now new_name.items
+        → HasCarried files.old files.new stored_volumes route name.now new_name.items now }
+{
+    let subdirectory = is_directory(files, route.number);
+    leave(files, route.from, name, subdirectory, now);
+    move_to(files, route.number, route.to, now);
+    enter(files, route.to, new_name, route.number.0, subdirectory, now);
+}
+
+// A file comes into directory `dir`.
+fn move_to(files: &mut Files<StoredFile>, number: Number, dir: Number, now: Moment)
+    requires { IsThere files.old number.0 }
+    ensures { Revalues files.old number.0 (MovesTo dir.0 now) files.new }
+{
+    match files.get_mut(number) {
+        Some(stored_file) => set_parent(stored_file, dir.0, now),
+        None => unreachable!(),
+    }
+}
