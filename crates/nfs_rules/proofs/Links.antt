@@ -40,6 +40,9 @@ module _ (t : Tree) (law : Law t) (one two : Subject) (seen_one : attributes_at 
         links = subst (λ n. n < max_links) names (leb-false max_links one.file.nlink (passed 8 (links one.file) refl));
       }
 
-  pub may_link : one.tree ≡ t → two.tree ≡ t → (name : List ℕ) → first (link_rules one two name) ≡ None → MayLink t one.file.fileid two.file.fileid name
-  may_link tree_one tree_two name none = may_link_over name
-      (subst (λ u. first (link_rules (over u one) (over t two) name) ≡ None) tree_one (subst (λ u. first (link_rules one (over u two) name) ≡ None) tree_two none))
+-- LINK
+pub may_link : (t : Tree) → Law t → (one two : Subject) → one.tree ≡ t → two.tree ≡ t → attributes_at one.tree one.file.fileid ≡ Some one.file → attributes_at two.tree two.file.fileid ≡ Some two.file → one.file.fsid ≡ two.file.fsid
+    → (name : List ℕ) → first (link_rules one two name) ≡ None → MayLink t one.file.fileid two.file.fileid name
+may_link t law one two tree_one tree_two seen_one seen_two same name none =
+    may_link_over t law one two (subst (λ u. attributes_at u one.file.fileid ≡ Some one.file) tree_one seen_one) (subst (λ u. attributes_at u two.file.fileid ≡ Some two.file) tree_two seen_two) same name
+    (subst (λ u. first (link_rules (over u one) (over t two) name) ≡ None) tree_one (subst (λ u. first (link_rules one (over u two) name) ≡ None) tree_two none))

@@ -5,8 +5,8 @@ use Rattle.std.proofs.lemmas.Bool.{not-false, leb-false}
 use Rattle.nfs_args.specs.declared.rename.Rename.{Rename}
 use Rattle.nfs_attrs.specs.declared.fattr.Fattr.{Fattr}
 use Rattle.nfs_inodes.specs.Limits.{max_links}
-use Rattle.nfs_inodes.specs.Tree.{Tree, File, Entry, at, on_some, entries_in, next_cookie_in, is_directory, nlink}
-use Rattle.nfs_inodes.specs.Law.{Law, LivesAsDirectory}
+use Rattle.nfs_inodes.specs.Tree.{Tree, File, Entry, on_some, entries_in, next_cookie_in, is_directory, nlink}
+use Rattle.nfs_inodes.specs.Law.{Law, IsName, Lives, LivesAsDirectory}
 use Rattle.nfs_inodes.specs.Conditions.{IsOff, NamesOther, MayReplace, MayRename}
 use Rattle.nfs_inodes.specs.Reading.{attributes_at, entry_at, entry_named, has_name, is_directory_type}
 use Rattle.nfs_inodes.proofs.Lists.{by_test, by_number, not_both, same_some, find_contains}
@@ -45,6 +45,29 @@ abbrev rules_before : Subject → Subject → Rename → List Test → List Test
 rules_before from to a others = read_only from ∷ not_directory from ∷ not_directory to ∷ dot_name a.from.name ∷ dot_name a.to.name
     ∷ name_long a.from.name ∷ name_long a.to.name ∷ name_form a.from.name ∷ name_form a.to.name ∷ search_right from ∷ search_right to
     ∷ no_entry from a.from.name ∷ directory_write from ∷ directory_write to ∷ others
+
+-- the entry of a name in a directory, and the file that it names, of which the attributes are seen
+record IsNamed (t : Tree) (dir : File) (name : List ℕ) (f : Fattr) : Type 0 where
+  entry : Entry
+  found : entry_named name (entries_in dir.kind) ≡ Some entry
+  number : entry.number ≡ f.fileid
+  file : File
+  at_file : Lives t entry.number file
+  volume : file.volume ≡ dir.volume
+  kind : is_directory_type f.file_type ≡ is_directory file.kind
+
+is_named : (t : Tree) → Law t → (d : ℕ) (dir : File) → Lives t d dir → (name : List ℕ) (f : Fattr) → attributes_at t f.fileid ≡ Some f → (entry : Entry) → entry_named name (entries_in dir.kind) ≡ Some entry → entry.number ≡ f.fileid → IsNamed t dir name f
+is_named t law d dir at_dir name f seen entry found number =
+    let lives = law.entries d dir entry at_dir (find_contains (has_name name) (entries_in dir.kind) entry found) in
+    record {
+      entry = entry;
+      found = found;
+      number = number;
+      file = lives.0;
+      at_file = lives.1;
+      volume = lives.2;
+      kind = seen_directory t f seen lives.0 (subst (λ n. Lives t n lives.0) number lives.1);
+    }
 
 -- what a rename asks of the new name, of file n
 record MayMove (t : Tree) (from to : ℕ) (new_name : List ℕ) (file target : File) (n : ℕ) : Type 0 where
@@ -134,39 +157,59 @@ module _ (t : Tree) (law : Law t) (one two : Subject) (seen_one : attributes_at 
 
   -- ---- both names
 
-  module _ (same : one.file.fsid ≡ two.file.fsid) where
-    may_rename_over : first (rename_rules from to a) ≡ None → MayRename t one.file.fileid a.from.name two.file.fileid a.to.name
-    may_rename_over none =
-        let passed = passed_at (rename_rules from to a) none in
-        let moved = some_from_is_none (found from a.from.name) (passed 11 (no_entry from a.from.name) refl) in
-        let seen = found_seen from a.from.name moved.0 moved.1 in
-        let source = lives_as_directory from law seen_one (passed 1 (not_directory from) refl) in
-        let target = lives_as_directory to law seen_two (passed 2 (not_directory to) refl) in
-        let dots = no_dots a.from.name (passed 3 (dot_name a.from.name) refl) in
-        let new_dots = no_dots a.to.name (passed 4 (dot_name a.to.name) refl) in
-        let entry = present_name t one.file.fileid source.0 source.1 a.from.name moved.0.fileid seen.0 dots.0 dots.1 in
-        let lives = law.entries one.file.fileid source.0 entry.0 source.1.0 (find_contains (has_name a.from.name) (entries_in source.0.kind) entry.0 entry.1) in
-        let kind = seen_directory t moved.0 seen.1 lives.0 (ap (λ n. at n t.files) (sym entry.2) ∙ lives.1) in
-        let move = subst (MayMove t one.file.fileid two.file.fileid a.to.name lives.0 target.0) (sym entry.2)
-        (may_move moved.0 lives.0 kind target.0 target.1 (found to a.to.name) refl
-        (subst (λ o. first (rules_before from to a (on_some o [] (λ m. move_rules from to m (found to a.to.name)))) ≡ None) moved.1 none)) in
-        record {
-          source = source.0;
-          at_source = source.1;
-          entry = entry.0;
-          found = entry.1;
-          file = lives.0;
-          at_file = lives.1;
-          target = target.0;
-          at_target = target.1;
-          volume = lives.2 ∙ same_place t law one two seen_one seen_two same source.0 target.0 source.1.0 target.1.0;
-          is_name = is_name a.to.name (passed 6 (name_long a.to.name) refl) (passed 8 (name_form a.to.name) refl) new_dots.0 new_dots.1;
-          cookie = move.cookie;
-          replaced = move.replaced;
-          off = move.off;
-          links = move.links;
-        }
+  module _ (source target : File) (at_source : LivesAsDirectory t one.file.fileid source) (at_target : LivesAsDirectory t two.file.fileid target) (moved : Fattr) (is_moved : found from a.from.name ≡ Some moved) (none : first (rename_rules from to a) ≡ None) where
+    -- what is found under the old name
+    found_named : IsNamed t source a.from.name moved
+    found_named =
+        let seen = found_seen from a.from.name moved is_moved in
+        let dots = no_dots a.from.name (passed_at (rename_rules from to a) none 3 (dot_name a.from.name) refl) in
+        let entry = present_name t one.file.fileid source at_source a.from.name moved.fileid seen.0 dots.0 dots.1 in
+        is_named t law one.file.fileid source at_source.0 a.from.name moved seen.1 entry.0 entry.1 entry.2
 
-    pub may_rename : one.tree ≡ t → two.tree ≡ t → first (rename_rules one two a) ≡ None → MayRename t one.file.fileid a.from.name two.file.fileid a.to.name
-    may_rename tree_one tree_two none = may_rename_over
-        (subst (λ u. first (rename_rules (over u one) (over t two) a) ≡ None) tree_one (subst (λ u. first (rename_rules one (over u two) a) ≡ None) tree_two none))
+    may_move_there : (n : ℕ) (file : File) → n ≡ moved.fileid → is_directory_type moved.file_type ≡ is_directory file.kind → MayMove t one.file.fileid two.file.fileid a.to.name file target n
+    may_move_there n file number kind = subst (MayMove t one.file.fileid two.file.fileid a.to.name file target) (sym number)
+        (may_move moved file kind target at_target (found to a.to.name) refl
+        (subst (λ o. first (rules_before from to a (on_some o [] (λ m. move_rules from to m (found to a.to.name)))) ≡ None) is_moved none))
+
+    new_name : IsName a.to.name
+    new_name =
+        let passed = passed_at (rename_rules from to a) none in
+        let dots = no_dots a.to.name (passed 4 (dot_name a.to.name) refl) in
+        is_name a.to.name (passed 6 (name_long a.to.name) refl) (passed 8 (name_form a.to.name) refl) dots.0 dots.1
+
+    may_rename_found : (old : IsNamed t source a.from.name moved) → MayMove t one.file.fileid two.file.fileid a.to.name old.file target old.entry.number → source.volume ≡ target.volume → MayRename t one.file.fileid a.from.name two.file.fileid a.to.name
+    may_rename_found old move same = record {
+      source = source;
+      at_source = at_source;
+      entry = old.entry;
+      found = old.found;
+      file = old.file;
+      at_file = old.at_file;
+      target = target;
+      at_target = at_target;
+      volume = old.volume ∙ same;
+      is_name = new_name;
+      cookie = move.cookie;
+      replaced = move.replaced;
+      off = move.off;
+      links = move.links;
+    }
+
+    may_rename_named : IsNamed t source a.from.name moved → source.volume ≡ target.volume → MayRename t one.file.fileid a.from.name two.file.fileid a.to.name
+    may_rename_named old same = may_rename_found old (may_move_there old.entry.number old.file old.number old.kind) same
+
+  may_rename_over : one.file.fsid ≡ two.file.fsid → first (rename_rules from to a) ≡ None → MayRename t one.file.fileid a.from.name two.file.fileid a.to.name
+  may_rename_over same none =
+      let passed = passed_at (rename_rules from to a) none in
+      let moved = some_from_is_none (found from a.from.name) (passed 11 (no_entry from a.from.name) refl) in
+      let source = lives_as_directory from law seen_one (passed 1 (not_directory from) refl) in
+      let target = lives_as_directory to law seen_two (passed 2 (not_directory to) refl) in
+      may_rename_named source.0 target.0 source.1 target.1 moved.0 moved.1 none (found_named source.0 target.0 source.1 target.1 moved.0 moved.1 none)
+      (same_place t law one two seen_one seen_two same source.0 target.0 source.1.0 target.1.0)
+
+-- RENAME
+pub may_rename : (t : Tree) → Law t → (one two : Subject) → one.tree ≡ t → two.tree ≡ t → attributes_at one.tree one.file.fileid ≡ Some one.file → attributes_at two.tree two.file.fileid ≡ Some two.file → one.file.fsid ≡ two.file.fsid
+    → (a : Rename) → first (rename_rules one two a) ≡ None → MayRename t one.file.fileid a.from.name two.file.fileid a.to.name
+may_rename t law one two tree_one tree_two seen_one seen_two same a none =
+    may_rename_over t law one two (subst (λ u. attributes_at u one.file.fileid ≡ Some one.file) tree_one seen_one) (subst (λ u. attributes_at u two.file.fileid ≡ Some two.file) tree_two seen_two) a same
+    (subst (λ u. first (rename_rules (over u one) (over t two) a) ≡ None) tree_one (subst (λ u. first (rename_rules one (over u two) a) ≡ None) tree_two none))
