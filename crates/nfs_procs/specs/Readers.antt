@@ -6,13 +6,17 @@ use Rattle.nfs_args.specs.declared.answer.NfsAnswer.TheVariants as answer
 use Rattle.nfs_args.specs.declared.byte_range.ByteRange.{ByteRange}
 use Rattle.nfs_args.specs.declared.dir_op.DirOp.{DirOp}
 use Rattle.nfs_args.specs.declared.make_node.MakeNode.{MakeNode}
+use Rattle.nfs_args.specs.declared.path_limits.PathLimits.{PathLimits}
+use Rattle.nfs_args.specs.declared.room.Room.{Room}
 use Rattle.nfs_args.specs.declared.room.Space.{Space}
+use Rattle.nfs_args.specs.declared.server_limits.ServerLimits.{ServerLimits}
 use Rattle.nfs_args.specs.declared.server_limits.Transfer.{Transfer}
 use Rattle.nfs_attrs.specs.declared.fattr.Fattr.{Fattr}
 use Rattle.nfs_handles.specs.Handles.{handle_at}
 use Rattle.nfs_inodes.specs.Limits.{max_file_bytes, max_name_bytes, max_links}
 use Rattle.nfs_inodes.specs.Reading.{bytes_at, numbered_files, path_at, totals_at}
-use Rattle.nfs_inodes.specs.Tree.{Tree, on_some}
+use Rattle.nfs_inodes.specs.Tree.{Tree, Volume, on_some}
+use Rattle.nfs_inodes.specs.declared.volumes.Totals.{Totals}
 use Rattle.nfs_procs.specs.Doing.{Doing, unchanged, no_change}
 use Rattle.nfs_rules.specs.Rights.{access_bits}
 use Rattle.nfs_rules.specs.Rules.{status_of}
@@ -93,17 +97,18 @@ space_of total used = record { total = total; free = total - used; available = t
 abbrev pub no_space : Space
 no_space = space_of 0 0
 
+-- of the bytes and the files that a volume may have, those that its files have
+abbrev pub room_in : Option Volume → Option Totals → Fattr → Room
+room_in (Some volume) (Some totals) f = record { attributes = Some f; bytes = space_of volume.max_bytes totals.bytes; files = space_of volume.max_files totals.files; invarsec = 0 }
+room_in (Some volume) None f = record { attributes = Some f; bytes = no_space; files = no_space; invarsec = 0 }
+room_in None totals f = record { attributes = Some f; bytes = no_space; files = no_space; invarsec = 0 }
+
 -- FSSTAT: the room of the file's volume
 abbrev pub fs_stat : List ℕ → Doing
 fs_stat handle = record {
   takes_memory = false;
   effect = unchanged;
-  granted = λ file same new. answer.FsStat (Ok (record {
-    attributes = Some file.file;
-    bytes = on_some (slice_get file.tree.volumes (file.file.fsid - 1)) no_space (λ volume. on_some (totals_at file.tree (file.file.fsid - 1)) no_space (λ totals. space_of volume.max_bytes totals.bytes));
-    files = on_some (slice_get file.tree.volumes (file.file.fsid - 1)) no_space (λ volume. on_some (totals_at file.tree (file.file.fsid - 1)) no_space (λ totals. space_of volume.max_files totals.files));
-    invarsec = 0;
-  }));
+  granted = λ file same new. answer.FsStat (Ok (room_in (slice_get file.tree.volumes (file.file.fsid - 1)) (totals_at file.tree (file.file.fsid - 1)) file.file));
   denied = λ status seen. answer.FsStat (Err (record { status = status; shown = seen handle }));
 }
 
@@ -111,37 +116,29 @@ fs_stat handle = record {
 abbrev pub transfer : Transfer
 transfer = record { max = max_transfer; preferred = max_transfer; multiple = 4096 }
 
--- FSINFO: what the server bears; hard and symbolic links, the same for all files, and times that can be set
+-- hard and symbolic links, the same for all files, and times that can be set
+abbrev pub server_limits : Fattr → ServerLimits
+server_limits f = record { attributes = Some f; read = transfer; write = transfer; read_dir = 8192; max_file_size = max_file_bytes; time_delta = record { seconds = 0; nanos = 1 }; properties = 27 }
+
+-- FSINFO: what the server bears
 abbrev pub fs_info : List ℕ → Doing
 fs_info handle = record {
   takes_memory = false;
   effect = unchanged;
-  granted = λ file same new. answer.FsInfo (Ok (record {
-    attributes = Some file.file;
-    read = transfer;
-    write = transfer;
-    read_dir = 8192;
-    max_file_size = max_file_bytes;
-    time_delta = record { seconds = 0; nanos = 1 };
-    properties = 27;
-  }));
+  granted = λ file same new. answer.FsInfo (Ok (server_limits file.file));
   denied = λ status seen. answer.FsInfo (Err (record { status = status; shown = seen handle }));
 }
+
+-- names are told apart by case, too long ones are refused, and only uid 0 gives files away
+abbrev pub path_limits : Fattr → PathLimits
+path_limits f = record { attributes = Some f; linkmax = max_links; name_max = max_name_bytes; no_trunc = true; chown_restricted = true; case_insensitive = false; case_preserving = true }
 
 -- PATHCONF: what names may be
 abbrev pub path_conf : List ℕ → Doing
 path_conf handle = record {
   takes_memory = false;
   effect = unchanged;
-  granted = λ file same new. answer.PathConf (Ok (record {
-    attributes = Some file.file;
-    linkmax = max_links;
-    name_max = max_name_bytes;
-    no_trunc = true;
-    chown_restricted = true;
-    case_insensitive = false;
-    case_preserving = true;
-  }));
+  granted = λ file same new. answer.PathConf (Ok (path_limits file.file));
   denied = λ status seen. answer.PathConf (Err (record { status = status; shown = seen handle }));
 }
 

@@ -1,11 +1,15 @@
 //! The procedures of NFS: each call is judged, done where no rule fails, and answered.
 #![tactic(auto)]
 
+pub mod access;
 pub mod denial;
 pub mod done;
+pub mod fs_info;
+pub mod fs_stat;
 pub mod get_attr;
 pub mod limits;
 pub mod make_dir;
 pub mod new_files;
+pub mod path_conf;
 pub mod plan;
 pub mod replies;

@@ -1,4 +1,13 @@
-//! The bound of results.
+//! The bounds of results.
 
 /// How many bytes the largest result has, a READ of 65,536 bytes.
 pub const MAX_RESULT_BYTES: usize = 65_640;
+
+/// The most bytes of one READ, and the most of a WRITE that the server speaks of.
+pub const MAX_TRANSFER: u32 = 65_536;
+
+/// What the bytes of a READ or a WRITE had better be a multiple of.
+pub const TRANSFER_MULTIPLE: u32 = 4_096;
+
+/// The best length of a page of a directory.
+pub const PREFERRED_PAGE: u32 = 8_192;

@@ -2,7 +2,7 @@
 ghost use Rattle.std.specs.Prelude.{◌≡◌, ◌≤◌, ◌++◌, Some, option_map};
 ghost use Rattle.std.specs.Int.{w32, to_be_bytes};
 ghost use Rattle.nfs_args.specs.Results.{made_text};
-ghost use Rattle.nfs_attrs.specs.Spelling.{wcc_text};
+ghost use Rattle.nfs_attrs.specs.Spelling.{post_op_attr_text, wcc_text};
 ghost use Rattle.nfs_handles.specs.Handles.{handle_at};
 ghost use Rattle.nfs_inodes.specs.Reading.{attributes_at, numbered_files};
 ghost use Rattle.nfs_procs.specs.Doing as doing;
@@ -14,7 +14,7 @@ use crate::denial::Denial;
 use crate::done::Done;
 use nfs_args::made::{Made, write_made};
 use nfs_args::opaque::Opaque;
-use nfs_attrs::fattr::Fattr;
+use nfs_attrs::fattr::{Fattr, write_post_op_attr};
 use nfs_attrs::pre_attr::PreAttr;
 use nfs_attrs::wcc::{Wcc, write_wcc};
 use nfs_handles::number::Number;
@@ -44,6 +44,17 @@ pub(crate) fn write_denied_change(out: &mut Output, denial: &Denial) -> Done
 {
     out.u32(denial.rule.status());
     write_wcc(out, &change(denial.shown, denial.shown));
+    Done::Denied(denial.rule, denial.uid)
+}
+
+/// The answer of a denied call that shows the attributes of the file of its handle.
+pub(crate) fn write_denied_attributes(out: &mut Output, denial: &Denial) -> Done
+    requires { 92 ≤ out.old.room }
+    ensures text { Appends (to_be_bytes w32 (status_of denial.now.rule) ++ post_op_attr_text denial.now.shown) out.old out.new }
+    ensures done { result ≡ done.Denied denial.now.rule denial.now.uid }
+{
+    out.u32(denial.rule.status());
+    write_post_op_attr(out, denial.shown.as_ref());
     Done::Denied(denial.rule, denial.uid)
 }
 

@@ -5,8 +5,9 @@ ghost use Rattle.nfs_exports.specs.Ids.{ids_of};
 ghost use Rattle.nfs_inodes.specs.Law.{Law};
 ghost use Rattle.nfs_inodes.specs.Reading.{attributes_at};
 ghost use Rattle.nfs_inodes.specs.Views.{IsSeen};
+ghost use Rattle.nfs_rules.specs.Rights as rights;
 
-use crate::rights::is_among;
+use crate::rights::{access_bits, is_among};
 use nfs_attrs::fattr::Fattr;
 use nfs_exports::options::Options;
 use nfs_exports::squash::Ids;
@@ -80,6 +81,13 @@ impl<'a> Subject<'a> {
         ensures { result ≡ (nat_eq gid self.now.ids.gid || list_any (nat_eq gid) self.now.ids.gids) }
     {
         gid == self.ids.gid || is_among(self.ids.gids.as_slice(), gid)
+    }
+
+    /// Of the bits that ACCESS asks for those that are granted.
+    pub fn access_bits(&self, asked: u32) -> u32
+        ensures { result ≡ rights.access_bits self.now.options.read_only self.now.ids self.now.file asked }
+    {
+        access_bits(self.options, &self.ids, &self.file.attributes, asked)
     }
 
     /// The tree is a lawful one, and the file is there, for proofs.

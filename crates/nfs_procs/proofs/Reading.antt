@@ -1,0 +1,55 @@
+-- Calls that leave the tree as it is.
+use Rattle.std.proofs.Common.{◌≡◌, ℕ, List, [], ◌∷◌, Option, Some, None, refl, sym, ap, subst, arith, ◌∙◌}
+use Rattle.nfs_args.specs.Answers.{nfs_text}
+use Rattle.nfs_attrs.specs.declared.fattr.Fattr.{Fattr}
+use Rattle.nfs_attrs.specs.declared.moment.Moment.{Moment}
+use Rattle.nfs_inodes.specs.Tree.{Tree}
+use Rattle.nfs_procs.proofs.Judged.{denied_by_handle, granted_by_rules, subject_tree}
+use Rattle.nfs_procs.specs.Denials.{IsDenied}
+use Rattle.nfs_procs.specs.Doing.{Doing, unchanged}
+use Rattle.nfs_procs.specs.Performing.{IsGranted, HasEffect, HasFailed, Performs}
+use Rattle.nfs_procs.specs.Scenes.{Scene, seen_in}
+use Rattle.nfs_procs.specs.declared.denial.Denial.{Denial}
+use Rattle.nfs_procs.specs.declared.done.Done.{Done}
+use Rattle.nfs_procs.specs.declared.done.Done.TheVariants.{Denied}
+use Rattle.nfs_rules.specs.Rules.{status_of}
+use Rattle.nfs_rules.specs.Subjects.{Subject, subject_at}
+use Rattle.nfs_rules.specs.Table.{rules_of}
+use Rattle.nfs_rules.specs.Tests.{first}
+use Rattle.nfs_rules.specs.Verdicts.{handle_rules, handles_in}
+use Rattle.nfs_rules.specs.declared.rule.Rule.{Rule}
+use Rattle.nfs_xdr.specs.Written.{Written, Appends}
+
+-- where it is granted, what was written is of its subject
+pub reads : (c : Scene) (doing : Doing) (s : Subject) (x y : Written) → doing.effect ≡ unchanged → IsGranted c s s → s.tree ≡ c.tree → Appends (nfs_text (doing.granted s s c.tree)) x y → HasEffect c doing c.tree x y
+reads c doing s x y same granted tree written = record {
+  one = s;
+  two = s;
+  granted = granted;
+  tag = 0;
+  fits = omega arith;
+  new_is = sym tree ∙ ap (λ (e : Subject → Subject → Moment → ℕ → Tree). e s s c.now 0) (sym same);
+  written = written;
+}
+
+-- where it is denied, what was written shows the file of its handle
+pub denies : (c : Scene) (doing : Doing) (h : List ℕ) (denial : Denial) (done : Done) (text : Option Fattr → List ℕ) (x y : Written) → IsDenied c h denial
+    → nfs_text (doing.denied (status_of denial.rule) (seen_in c)) ≡ text (seen_in c h) → Appends (text denial.shown) x y → done ≡ Denied denial.rule denial.uid → Performs c doing done c.tree x y
+denies c doing h denial done text x y denied tells written is = subst (λ d. Performs c doing d c.tree x y) (sym is) (record {
+  verdict = denied.verdict;
+  uid_is = denied.uid;
+  new_is = refl;
+  written = subst (λ t. Appends t x y) (sym tells) (subst (λ f. Appends (text f) x y) denied.shown written);
+})
+
+-- Of a call with one handle and no rules after its own.
+module _ (c : Scene) (doing : Doing) (h b : List ℕ) (one : handles_in c.args ≡ h ∷ []) (same : b ≡ h) where
+  pub reads_freely : (s : Subject) (x y : Written) → doing.effect ≡ unchanged → rules_of s s c.args ≡ [] → first (handle_rules c.tree c.exports c.caller b) ≡ None → Some s ≡ subject_at c.tree c.exports c.caller b
+      → Appends (nfs_text (doing.granted s s c.tree)) x y → HasEffect c doing c.tree x y
+  reads_freely s x y unchanging none passed some written = reads c doing s x y unchanging
+      (granted_by_rules c h b one same s passed (sym some) (ap first none))
+      (subject_tree c.tree c.exports c.caller b s (sym some)) written
+
+  pub denies_handle : (rule : Rule) (denial : Denial) (done : Done) (text : Option Fattr → List ℕ) (x y : Written) → first (handle_rules c.tree c.exports c.caller b) ≡ Some rule → None ≡ subject_at c.tree c.exports c.caller b
+      → denial ≡ record { rule = rule; uid = None; shown = None } → nfs_text (doing.denied (status_of denial.rule) (seen_in c)) ≡ text (seen_in c h) → Appends (text denial.shown) x y → done ≡ Denied denial.rule denial.uid → Performs c doing done c.tree x y
+  denies_handle rule denial done text x y failed none is tells written made = denies c doing h denial done text x y (denied_by_handle c h b one same rule denial failed (sym none) is) tells written made

@@ -1,0 +1,84 @@
+//! FSINFO: what the server bears (RFC 1813, section 3.3.19).
+ghost use Rattle.std.specs.Prelude.{◌≡◌, ◌≤◌, Ok};
+ghost use Rattle.nfs_args.specs.Answers.{nfs_text};
+ghost use Rattle.nfs_args.specs.declared.answer.NfsAnswer.TheVariants as answer;
+ghost use Rattle.nfs_args.specs.declared.args.NfsArgs.TheVariants as nfs;
+ghost use Rattle.nfs_procs.specs.Performing.{Performs};
+ghost use Rattle.nfs_procs.specs.Readers as procedure;
+ghost use Rattle.nfs_rules.specs.Views.{caller_of};
+ghost use Rattle.nfs_xdr.specs.Written.{Appends};
+
+use crate::denial::Denial;
+use crate::done::Done;
+use crate::limits::MAX_RESULT_BYTES;
+use crate::limits::{MAX_TRANSFER, PREFERRED_PAGE, TRANSFER_MULTIPLE};
+use crate::replies::write_denied_attributes;
+use nfs_args::opaque::Opaque;
+use nfs_args::server_limits::{ServerLimits, Transfer, write_server_limits};
+use nfs_attrs::fattr::Fattr;
+use nfs_attrs::moment::Moment;
+use nfs_exports::table::Table;
+use nfs_inodes::limits::MAX_FILE_BYTES;
+use nfs_inodes::tree::Tree;
+use nfs_rules::caller::Caller;
+use nfs_rules::exported_file::ExportedFile;
+use nfs_xdr::output::Output;
+
+pub(crate) fn fs_info(
+    tree: &Tree,
+    table: &Table,
+    caller: Caller<'_>,
+    now: Moment,
+    handle: &Opaque<'_>,
+    out: &mut Output,
+) -> Done
+    requires { MAX_RESULT_BYTES ≤ out.old.room }
+    ensures { Performs (record { tree = tree.now; exports = table.now; caller = caller_of caller.entry; now = now; args = nfs.FsInfo handle.now }) (procedure.fs_info handle.now) result tree.now out.old out.new }
+{
+    match ExportedFile::of(tree, table, caller, handle.bytes()) {
+        Ok(file) => {
+            write_granted(out, file.file());
+            Done::Granted
+        }
+        Err(rule) => write_denied_attributes(out, &Denial::of_handle(rule)),
+    }
+}
+
+// Hard and symbolic links, the same limits for all files, and times that can be set: FSF3_LINK,
+// FSF3_SYMLINK, FSF3_HOMOGENEOUS and FSF3_CANSETTIME.
+const PROPERTIES: u32 = 0x1b;
+
+fn write_granted(out: &mut Output, file: &Fattr)
+    requires { 256 ≤ out.old.room }
+    ensures { Appends (nfs_text (answer.FsInfo (Ok (procedure.server_limits file.now)))) out.old out.new }
+{
+    out.u32(0);
+    write_server_limits(out, &server_limits(file));
+}
+
+fn server_limits(file: &Fattr) -> ServerLimits
+    ensures { result ≡ procedure.server_limits file.now }
+{
+    ServerLimits {
+        attributes: Some(*file),
+        read: transfer(),
+        write: transfer(),
+        read_dir: PREFERRED_PAGE,
+        max_file_size: MAX_FILE_BYTES as u64,
+        time_delta: Moment {
+            seconds: 0,
+            nanos: 1,
+        },
+        properties: PROPERTIES,
+    }
+}
+
+fn transfer() -> Transfer
+    ensures { result ≡ procedure.transfer }
+{
+    Transfer {
+        max: MAX_TRANSFER,
+        preferred: MAX_TRANSFER,
+        multiple: TRANSFER_MULTIPLE,
+    }
+}

@@ -1,0 +1,91 @@
+//! FSSTAT: the room of a volume (RFC 1813, section 3.3.18).
+ghost use Rattle.std.specs.Prelude.{◌≡◌, ◌-◌, ◌≤◌, Ok, slice_get, option_map};
+ghost use Rattle.nfs_args.specs.Answers.{nfs_text};
+ghost use Rattle.nfs_args.specs.declared.answer.NfsAnswer.TheVariants as answer;
+ghost use Rattle.nfs_args.specs.declared.args.NfsArgs.TheVariants as nfs;
+ghost use Rattle.nfs_inodes.specs.Reading.{totals_at};
+ghost use Rattle.nfs_inodes.specs.Views.{volume_seen};
+ghost use Rattle.nfs_procs.specs.Performing.{Performs};
+ghost use Rattle.nfs_procs.specs.Readers as procedure;
+ghost use Rattle.nfs_rules.specs.Views.{caller_of};
+ghost use Rattle.nfs_xdr.specs.Written.{Appends};
+
+use crate::denial::Denial;
+use crate::done::Done;
+use crate::limits::MAX_RESULT_BYTES;
+use crate::replies::write_denied_attributes;
+use nfs_args::opaque::Opaque;
+use nfs_args::room::{Room, Space, write_room};
+use nfs_attrs::fattr::Fattr;
+use nfs_attrs::moment::Moment;
+use nfs_exports::table::Table;
+use nfs_inodes::tree::Tree;
+use nfs_inodes::volumes::{Totals, VolumeView};
+use nfs_rules::caller::Caller;
+use nfs_rules::exported_file::ExportedFile;
+use nfs_xdr::output::Output;
+
+pub(crate) fn fs_stat(
+    tree: &Tree,
+    table: &Table,
+    caller: Caller<'_>,
+    now: Moment,
+    handle: &Opaque<'_>,
+    out: &mut Output,
+) -> Done
+    requires { MAX_RESULT_BYTES ≤ out.old.room }
+    ensures { Performs (record { tree = tree.now; exports = table.now; caller = caller_of caller.entry; now = now; args = nfs.FsStat handle.now }) (procedure.fs_stat handle.now) result tree.now out.old out.new }
+{
+    match ExportedFile::of(tree, table, caller, handle.bytes()) {
+        Ok(file) => {
+            write_granted(out, tree, file.file());
+            Done::Granted
+        }
+        Err(rule) => write_denied_attributes(out, &Denial::of_handle(rule)),
+    }
+}
+
+fn write_granted(out: &mut Output, tree: &Tree, file: &Fattr)
+    requires { 256 ≤ out.old.room }
+    ensures { Appends (nfs_text (answer.FsStat (Ok (procedure.room_in (slice_get tree.now.volumes (file.now.fsid - 1)) (totals_at tree.now (file.now.fsid - 1)) file.now)))) out.old out.new }
+{
+    out.u32(0);
+    write_room(out, &room_of(tree, file));
+}
+
+fn room_of(tree: &Tree, file: &Fattr) -> Room
+    ensures { result ≡ procedure.room_in (slice_get tree.now.volumes (file.now.fsid - 1)) (totals_at tree.now (file.now.fsid - 1)) file.now }
+{
+    let place = file.fsid.saturating_sub(1) as usize;
+    room_in(tree.volume(place), tree.totals(place), file)
+}
+
+fn room_in(volume: Option<VolumeView<'_>>, totals: Option<Totals>, file: &Fattr) -> Room
+    ensures { result ≡ procedure.room_in (option_map volume_seen volume.entry) totals file.now }
+{
+    let (bytes, files) = match (volume, totals) {
+        (Some(volume), Some(totals)) => (
+            space_of(volume.max_bytes, totals.bytes),
+            space_of(volume.max_files, totals.files),
+        ),
+        _ => (space_of(0, 0), space_of(0, 0)),
+    };
+    Room {
+        attributes: Some(*file),
+        bytes,
+        files,
+        invarsec: 0,
+    }
+}
+
+// Of so many, so many of which are used.
+fn space_of(total: u64, used: u64) -> Space
+    ensures { result ≡ procedure.space_of total used }
+{
+    let free = total.saturating_sub(used);
+    Space {
+        total,
+        free,
+        available: free,
+    }
+}

@@ -1,0 +1,66 @@
+//! PATHCONF: what names may be (RFC 1813, section 3.3.20).
+ghost use Rattle.std.specs.Prelude.{◌≡◌, ◌≤◌, Ok};
+ghost use Rattle.nfs_args.specs.Answers.{nfs_text};
+ghost use Rattle.nfs_args.specs.declared.answer.NfsAnswer.TheVariants as answer;
+ghost use Rattle.nfs_args.specs.declared.args.NfsArgs.TheVariants as nfs;
+ghost use Rattle.nfs_procs.specs.Performing.{Performs};
+ghost use Rattle.nfs_procs.specs.Readers as procedure;
+ghost use Rattle.nfs_rules.specs.Views.{caller_of};
+ghost use Rattle.nfs_xdr.specs.Written.{Appends};
+
+use crate::denial::Denial;
+use crate::done::Done;
+use crate::limits::MAX_RESULT_BYTES;
+use crate::replies::write_denied_attributes;
+use nfs_args::opaque::Opaque;
+use nfs_args::path_limits::{PathLimits, write_path_limits};
+use nfs_attrs::fattr::Fattr;
+use nfs_attrs::moment::Moment;
+use nfs_exports::table::Table;
+use nfs_inodes::limits::{MAX_LINKS, MAX_NAME_BYTES};
+use nfs_inodes::tree::Tree;
+use nfs_rules::caller::Caller;
+use nfs_rules::exported_file::ExportedFile;
+use nfs_xdr::output::Output;
+
+pub(crate) fn path_conf(
+    tree: &Tree,
+    table: &Table,
+    caller: Caller<'_>,
+    now: Moment,
+    handle: &Opaque<'_>,
+    out: &mut Output,
+) -> Done
+    requires { MAX_RESULT_BYTES ≤ out.old.room }
+    ensures { Performs (record { tree = tree.now; exports = table.now; caller = caller_of caller.entry; now = now; args = nfs.PathConf handle.now }) (procedure.path_conf handle.now) result tree.now out.old out.new }
+{
+    match ExportedFile::of(tree, table, caller, handle.bytes()) {
+        Ok(file) => {
+            write_granted(out, file.file());
+            Done::Granted
+        }
+        Err(rule) => write_denied_attributes(out, &Denial::of_handle(rule)),
+    }
+}
+
+fn write_granted(out: &mut Output, file: &Fattr)
+    requires { 256 ≤ out.old.room }
+    ensures { Appends (nfs_text (answer.PathConf (Ok (procedure.path_limits file.now)))) out.old out.new }
+{
+    out.u32(0);
+    write_path_limits(out, &path_limits(file));
+}
+
+fn path_limits(file: &Fattr) -> PathLimits
+    ensures { result ≡ procedure.path_limits file.now }
+{
+    PathLimits {
+        attributes: Some(*file),
+        linkmax: MAX_LINKS,
+        name_max: MAX_NAME_BYTES as u32,
+        no_trunc: true,
+        chown_restricted: true,
+        case_insensitive: false,
+        case_preserving: true,
+    }
+}
