@@ -1,9 +1,12 @@
 -- Calls that leave the tree as it is.
-use Rattle.std.proofs.Common.{◌≡◌, ℕ, List, [], ◌∷◌, Option, Some, None, refl, sym, ap, subst, arith, ◌∙◌}
+use Rattle.std.proofs.Common.{◌≡◌, ◌≤◌, ℕ, List, length, [], ◌∷◌, Option, Some, None, refl, sym, ap, subst, arith, ◌∙◌}
 use Rattle.nfs_args.specs.Answers.{nfs_text}
 use Rattle.nfs_attrs.specs.declared.fattr.Fattr.{Fattr}
 use Rattle.nfs_attrs.specs.declared.moment.Moment.{Moment}
-use Rattle.nfs_inodes.specs.Tree.{Tree}
+use Rattle.nfs_inodes.proofs.Lists.{same_some, not_both}
+use Rattle.nfs_inodes.specs.Law.{Law}
+use Rattle.nfs_inodes.specs.Reading.{path_at, path_of}
+use Rattle.nfs_inodes.specs.Tree.{Tree, File, Kind, Regular, Directory, Link, at, on_some, path_in}
 use Rattle.nfs_procs.proofs.Judged.{denied_by_handle, granted_by_rules, subject_tree}
 use Rattle.nfs_procs.specs.Denials.{IsDenied}
 use Rattle.nfs_procs.specs.Doing.{Doing, unchanged}
@@ -53,3 +56,17 @@ module _ (c : Scene) (doing : Doing) (h b : List ℕ) (one : handles_in c.args �
   pub denies_handle : (rule : Rule) (denial : Denial) (done : Done) (text : Option Fattr → List ℕ) (x y : Written) → first (handle_rules c.tree c.exports c.caller b) ≡ Some rule → None ≡ subject_at c.tree c.exports c.caller b
       → denial ≡ record { rule = rule; uid = None; shown = None } → nfs_text (doing.denied (status_of denial.rule) (seen_in c)) ≡ text (seen_in c h) → Appends (text denial.shown) x y → done ≡ Denied denial.rule denial.uid → Performs c doing done c.tree x y
   denies_handle rule denial done text x y failed none is tells written made = denies c doing h denial done text x y (denied_by_handle c h b one same rule denial failed (sym none) is) tells written made
+
+-- ---- the path of a link
+
+kind_path : (k : Kind) (p : List ℕ) → path_of k ≡ Some p → path_in k ≡ p
+kind_path (Regular bytes) p e = absurd (not_both refl e)
+kind_path (Directory parent next_cookie entries) p e = absurd (not_both refl e)
+kind_path (Link path) p e = same_some e
+
+path_bound_in : (t : Tree) (n : ℕ) (p : List ℕ) (o : Option File) → Law t → at n t.files ≡ o → on_some o None (λ f. path_of f.kind) ≡ Some p → length p ≤ 1024
+path_bound_in t n p None law there e = absurd (not_both refl e)
+path_bound_in t n p (Some f) law there e = subst (λ path. length path ≤ 1024) (kind_path f.kind p e) (law.sound n f there).path
+
+pub path_bound : (t : Tree) (n : ℕ) (p : List ℕ) → Law t → path_at t n ≡ Some p → length p ≤ 1024
+path_bound t n p law e = path_bound_in t n p (at n t.files) law refl e

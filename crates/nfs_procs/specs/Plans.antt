@@ -15,3 +15,8 @@ pub record PlansDirectory (t : Tree) (now : Moment) (a : MakeDir) (plan : Plan) 
   pub dir : plan.dir ≡ s.file
   pub given : plan.given ≡ new_file_of directory_mode s.ids now a.attributes
   pub may : MayMakeDirectory t s.file.fileid a.place.name
+
+-- a call that leaves the tree as it is: its subject
+pub record PlansReading (t : Tree) (plan s : Subject) : Type 0 where
+  pub subject : plan ≡ s
+  pub tree : s.tree ≡ t

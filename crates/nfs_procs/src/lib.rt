@@ -2,6 +2,7 @@
 #![tactic(auto)]
 
 pub mod access;
+pub mod commit;
 pub mod denial;
 pub mod done;
 pub mod fs_info;
@@ -12,4 +13,5 @@ pub mod make_dir;
 pub mod new_files;
 pub mod path_conf;
 pub mod plan;
+pub mod read_link;
 pub mod replies;

@@ -6,6 +6,7 @@ ghost use Rattle.nfs_attrs.specs.Spelling.{post_op_attr_text, wcc_text};
 ghost use Rattle.nfs_handles.specs.Handles.{handle_at};
 ghost use Rattle.nfs_inodes.specs.Reading.{attributes_at, numbered_files};
 ghost use Rattle.nfs_procs.specs.Doing as doing;
+ghost use Rattle.nfs_procs.specs.Readers as readers;
 ghost use Rattle.nfs_procs.specs.declared.done.Done.TheVariants as done;
 ghost use Rattle.nfs_rules.specs.Rules.{status_of};
 ghost use Rattle.nfs_xdr.specs.Written.{Appends};
@@ -34,6 +35,13 @@ pub(crate) fn change(before: Option<Fattr>, after: Option<Fattr>) -> Wcc
         None => None,
     };
     Wcc { before, after }
+}
+
+/// The key of the server, by which a client sees that the server began anew.
+pub(crate) fn verifier_of(tree: &Tree) -> u64
+    ensures { result ≡ readers.verifier_of tree.now }
+{
+    u64::from_be_bytes(tree.key())
 }
 
 /// The answer of a denied call that shows the file of its handle before and after.

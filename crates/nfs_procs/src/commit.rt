@@ -1,0 +1,80 @@
+//! COMMIT: bytes made safe, as all are at once (RFC 1813, section 3.3.21).
+ghost use Rattle.std.specs.Prelude.{◌≡◌, ◌≤◌, Some, Ok};
+ghost use Rattle.nfs_args.specs.Answers.{nfs_text};
+ghost use Rattle.nfs_args.specs.declared.answer.NfsAnswer.TheVariants as answer;
+ghost use Rattle.nfs_args.specs.declared.args.NfsArgs.TheVariants as nfs;
+ghost use Rattle.nfs_procs.specs.Denials.{Decides};
+ghost use Rattle.nfs_procs.specs.Doing.{no_change};
+ghost use Rattle.nfs_procs.specs.Performing.{Performs};
+ghost use Rattle.nfs_procs.specs.Plans.{PlansReading};
+ghost use Rattle.nfs_procs.specs.Readers as procedure;
+ghost use Rattle.nfs_rules.specs.Views.{caller_of};
+ghost use Rattle.nfs_xdr.specs.Written.{Appends};
+
+use crate::denial::Denial;
+use crate::done::Done;
+use crate::limits::MAX_RESULT_BYTES;
+use crate::replies::{change, verifier_of, write_denied_change};
+use nfs_args::byte_range::ByteRange;
+use nfs_args::committed::{Committed, write_committed};
+use nfs_attrs::fattr::Fattr;
+use nfs_attrs::moment::Moment;
+use nfs_exports::table::Table;
+use nfs_inodes::tree::Tree;
+use nfs_rules::caller::Caller;
+use nfs_rules::exported_file::ExportedFile;
+use nfs_rules::subject::Subject;
+use nfs_xdr::output::Output;
+
+pub(crate) fn commit(
+    tree: &Tree,
+    table: &Table,
+    caller: Caller<'_>,
+    now: Moment,
+    args: &ByteRange<'_>,
+    out: &mut Output,
+) -> Done
+    requires { MAX_RESULT_BYTES ≤ out.old.room }
+    ensures { Performs (record { tree = tree.now; exports = table.now; caller = caller_of caller.entry; now = now; args = nfs.Commit args.now }) (procedure.commit args.now) result tree.now out.old out.new }
+{
+    match decide(tree, table, caller, now, args) {
+        Ok(file) => {
+            write_granted(out, tree, file.file());
+            Done::Granted
+        }
+        Err(denial) => write_denied_change(out, &denial),
+    }
+}
+
+fn decide<'a>(
+    tree: &'a Tree,
+    table: &'a Table,
+    caller: Caller<'a>,
+    now: Moment,
+    args: &ByteRange<'_>,
+) -> Result<Subject<'a>, Denial>
+    ensures { Decides (record { tree = tree.entry.now; exports = table.entry.now; caller = caller_of caller.entry; now = now; args = nfs.Commit args.now }) args.now.file (PlansReading tree.entry.now) result }
+{
+    let file = match ExportedFile::of(tree, table, caller, args.file.bytes()) {
+        Ok(file) => file.subject(),
+        Err(rule) => return Err(Denial::of_handle(rule)),
+    };
+    match file.not_regular() {
+        Ok(()) => Ok(file),
+        Err(rule) => Err(Denial::of_rule(&file, rule)),
+    }
+}
+
+fn write_granted(out: &mut Output, tree: &Tree, file: &Fattr)
+    requires { 256 ≤ out.old.room }
+    ensures { Appends (nfs_text (answer.Commit (Ok (record { file = no_change (Some file.now); verifier = procedure.verifier_of tree.now })))) out.old out.new }
+{
+    out.u32(0);
+    write_committed(
+        out,
+        &Committed {
+            file: change(Some(*file), Some(*file)),
+            verifier: verifier_of(tree),
+        },
+    );
+}

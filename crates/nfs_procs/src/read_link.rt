@@ -1,0 +1,95 @@
+//! READLINK: the path of a symbolic link (RFC 1813, section 3.3.5).
+ghost use Rattle.std.specs.Prelude.{◌≡◌, ◌≤◌, [], length, Some, Ok};
+ghost use Rattle.nfs_args.specs.Answers.{nfs_text};
+ghost use Rattle.nfs_args.specs.declared.answer.NfsAnswer.TheVariants as answer;
+ghost use Rattle.nfs_args.specs.declared.args.NfsArgs.TheVariants as nfs;
+ghost use Rattle.nfs_inodes.specs.Reading.{path_at};
+ghost use Rattle.nfs_inodes.specs.Tree.{on_some};
+ghost use Rattle.nfs_procs.specs.Denials.{Decides};
+ghost use Rattle.nfs_procs.specs.Performing.{Performs};
+ghost use Rattle.nfs_procs.specs.Plans.{PlansReading};
+ghost use Rattle.nfs_procs.specs.Readers as procedure;
+ghost use Rattle.nfs_rules.specs.Views.{caller_of};
+ghost use Rattle.nfs_xdr.specs.Written.{Appends};
+
+use crate::denial::Denial;
+use crate::done::Done;
+use crate::limits::MAX_RESULT_BYTES;
+use crate::replies::write_denied_attributes;
+use nfs_args::link_path::{LinkPath, write_link_path};
+use nfs_args::opaque::Opaque;
+use nfs_attrs::fattr::Fattr;
+use nfs_attrs::moment::Moment;
+use nfs_exports::table::Table;
+use nfs_handles::number::Number;
+use nfs_inodes::tree::Tree;
+use nfs_rules::caller::Caller;
+use nfs_rules::exported_file::ExportedFile;
+use nfs_rules::subject::Subject;
+use nfs_xdr::output::Output;
+
+pub(crate) fn read_link(
+    tree: &Tree,
+    table: &Table,
+    caller: Caller<'_>,
+    now: Moment,
+    handle: &Opaque<'_>,
+    out: &mut Output,
+) -> Done
+    requires { MAX_RESULT_BYTES ≤ out.old.room }
+    ensures { Performs (record { tree = tree.now; exports = table.now; caller = caller_of caller.entry; now = now; args = nfs.ReadLink handle.now }) (procedure.read_link handle.now) result tree.now out.old out.new }
+{
+    match decide(tree, table, caller, now, handle) {
+        Ok(file) => {
+            write_granted(out, tree, file.file());
+            Done::Granted
+        }
+        Err(denial) => write_denied_attributes(out, &denial),
+    }
+}
+
+fn decide<'a>(
+    tree: &'a Tree,
+    table: &'a Table,
+    caller: Caller<'a>,
+    now: Moment,
+    handle: &Opaque<'_>,
+) -> Result<Subject<'a>, Denial>
+    ensures { Decides (record { tree = tree.entry.now; exports = table.entry.now; caller = caller_of caller.entry; now = now; args = nfs.ReadLink handle.now }) handle.now (PlansReading tree.entry.now) result }
+{
+    let file = match ExportedFile::of(tree, table, caller, handle.bytes()) {
+        Ok(file) => file.subject(),
+        Err(rule) => return Err(Denial::of_handle(rule)),
+    };
+    match file.not_link() {
+        Ok(()) => Ok(file),
+        Err(rule) => Err(Denial::of_rule(&file, rule)),
+    }
+}
+
+fn write_granted(out: &mut Output, tree: &Tree, file: &Fattr)
+    requires { 1160 ≤ out.old.room }
+    ensures { Appends (nfs_text (answer.ReadLink (Ok (record { attributes = Some file.now; path = on_some (path_at tree.now file.now.fileid) [] (λ path. path) })))) out.old out.new }
+{
+    let path = path_of(tree, Number(file.fileid));
+    out.u32(0);
+    write_link_path(
+        out,
+        &LinkPath {
+            attributes: Some(*file),
+            path: Opaque::new(path),
+        },
+    );
+}
+
+// The path of a link; of another file none.
+fn path_of(tree: &Tree, number: Number) -> &[u8]
+    ensures path { result.now ≡ on_some (path_at tree.entry.now number.0) [] (λ path. path) }
+    ensures bound { length result.now ≤ 1024 }
+{
+    tree.law();
+    match tree.link_path(number) {
+        Some(path) => path,
+        None => &[],
+    }
+}
