@@ -1,3 +1,4 @@
 pub mod Judged
 pub mod Reading
+pub mod Data
 pub mod MakeDir

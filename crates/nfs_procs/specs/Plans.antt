@@ -1,13 +1,17 @@
 -- What is planned of procedures that change the tree, once their rules are kept.
-use Rattle.std.specs.Prelude.{◌≡◌, ℕ}
+use Rattle.std.specs.Prelude.{◌≡◌, ℕ, true, List, Some}
 use Rattle.nfs_args.specs.declared.make_dir.MakeDir.{MakeDir}
 use Rattle.nfs_attrs.specs.declared.moment.Moment.{Moment}
 use Rattle.nfs_inodes.specs.Conditions.{MayMakeDirectory}
+use Rattle.nfs_inodes.specs.Reading.{is_regular_type}
 use Rattle.nfs_inodes.specs.Tree.{Tree}
+use Rattle.nfs_inodes.specs.Views.{IsSeen}
+use Rattle.nfs_inodes.specs.declared.view.FileView.{FileView}
 use Rattle.nfs_procs.specs.NewFiles.{new_file_of}
 use Rattle.nfs_procs.specs.Changers.{directory_mode}
 use Rattle.nfs_procs.specs.declared.plan.Plan.{Plan}
 use Rattle.nfs_rules.specs.Subjects.{Subject}
+use Rattle.nfs_rules.specs.Tests.{found}
 
 -- a new directory
 pub record PlansDirectory (t : Tree) (now : Moment) (a : MakeDir) (plan : Plan) (s : Subject) : Type 0 where
@@ -20,3 +24,16 @@ pub record PlansDirectory (t : Tree) (now : Moment) (a : MakeDir) (plan : Plan) 
 pub record PlansReading (t : Tree) (plan s : Subject) : Type 0 where
   pub subject : plan ≡ s
   pub tree : s.tree ≡ t
+
+-- a file that was found under a name in a directory
+pub record PlansFound (t : Tree) (name : List ℕ) (plan : Subject × FileView) (s : Subject) : Type 0 where
+  pub subject : plan.0 ≡ s
+  pub tree : s.tree ≡ t
+  pub found : found s name ≡ Some plan.1.attributes
+  pub seen : IsSeen t plan.1
+
+-- a regular file that is read
+pub record PlansData (t : Tree) (plan s : Subject) : Type 0 where
+  pub subject : plan ≡ s
+  pub tree : s.tree ≡ t
+  pub regular : is_regular_type s.file.file_type ≡ true

@@ -7,6 +7,7 @@ use Rattle.nfs_args.specs.declared.byte_range.ByteRange.{ByteRange}
 use Rattle.nfs_args.specs.declared.dir_op.DirOp.{DirOp}
 use Rattle.nfs_args.specs.declared.make_node.MakeNode.{MakeNode}
 use Rattle.nfs_args.specs.declared.path_limits.PathLimits.{PathLimits}
+use Rattle.nfs_args.specs.declared.read_data.ReadData.{ReadData}
 use Rattle.nfs_args.specs.declared.room.Room.{Room}
 use Rattle.nfs_args.specs.declared.room.Space.{Space}
 use Rattle.nfs_args.specs.declared.server_limits.ServerLimits.{ServerLimits}
@@ -72,12 +73,16 @@ max_transfer = 65536
 abbrev pub read_bytes : Subject → ByteRange → List ℕ
 read_bytes s a = take (min a.count max_transfer) (drop a.offset (bytes_at s.tree s.file.fileid))
 
--- READ: the bytes, and whether they reach the end
+-- some bytes from an offset on, and whether they reach the end
+abbrev pub data_of : Fattr → ℕ → List ℕ → ReadData
+data_of f offset bytes = record { attributes = Some f; eof = nat_le f.size (offset + length bytes); content = bytes }
+
+-- READ
 abbrev pub read : ByteRange → Doing
 read a = record {
   takes_memory = false;
   effect = unchanged;
-  granted = λ file same new. answer.Read (Ok (record { attributes = Some file.file; eof = nat_le file.file.size (a.offset + length (read_bytes file a)); content = read_bytes file a }));
+  granted = λ file same new. answer.Read (Ok (data_of file.file a.offset (read_bytes file a)));
   denied = λ status seen. answer.Read (Err (record { status = status; shown = seen a.file }));
 }
 

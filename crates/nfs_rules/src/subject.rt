@@ -62,6 +62,14 @@ impl<'a> Subject<'a> {
         &self.file.attributes
     }
 
+    /// The file, with what is read of it.
+    pub fn view(&self) -> &FileView<'a>
+        ensures attributes { result.now.attributes ≡ self.now.file }
+        ensures seen { IsSeen self.now.tree result.now }
+    {
+        &self.file
+    }
+
     /// The user by whom the caller is judged.
     pub fn uid(&self) -> u32
         ensures { result ≡ self.now.ids.uid }

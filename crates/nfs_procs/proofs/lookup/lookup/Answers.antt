@@ -1,0 +1,24 @@
+use Rattle.std.proofs.Common.{◌≡◌, [], Some, Ok, refl, sym, ap, subst, ◌∙◌}
+use Rattle.nfs_args.specs.Answers.{nfs_text}
+use Rattle.nfs_args.specs.declared.answer.NfsAnswer.TheVariants as answer
+use Rattle.nfs_args.specs.declared.args.NfsArgs.TheVariants as nfs
+use Rattle.nfs_attrs.specs.declared.fattr.Fattr.{Fattr}
+use Rattle.nfs_inodes.specs.Tree.{on_some}
+use Rattle.nfs_procs.proofs.Reading.{reads}
+use Rattle.nfs_procs.specs.Readers as procedure
+use Rattle.nfs_procs.specs.Scenes.{Scene}
+use Rattle.nfs_rules.specs.Subjects.{Subject}
+use Rattle.nfs_rules.specs.Views.{caller_of}
+use Rattle.nfs_xdr.specs.Written.{Appends}
+use Rattle.nfs_procs.proofs.lookup.lookup.Goals as goal
+
+pub returns-in-Ok : goal.returns-in-Ok
+returns-in-Ok c =
+    let scene : Scene = record { tree = c.args.tree.now; exports = c.args.table.now; caller = caller_of c.args.caller; now = c.args.now; args = nfs.Lookup c.args.args.now } in
+    let s = c.in-Ok.ensures.0 in
+    let plans = c.in-Ok.ensures.2 in
+    reads scene (procedure.lookup c.args.args.now) s _ _ refl c.in-Ok.ensures.1 plans.tree
+    (subst (λ o. Appends (nfs_text (answer.Lookup (Ok (record { file = on_some o [] (procedure.handle_in s.tree); attributes = o; dir = Some s.file })))) c.args.out.now c.write_granted.new.out) (sym plans.found)
+    (subst (λ t. Appends (nfs_text (answer.Lookup (Ok (record { file = procedure.handle_in t c.in-Ok.file.attributes; attributes = Some c.in-Ok.file.attributes; dir = Some s.file })))) c.args.out.now c.write_granted.new.out) (sym plans.tree)
+    (subst (λ (f : Fattr). Appends (nfs_text (answer.Lookup (Ok (record { file = procedure.handle_in c.args.tree.now c.in-Ok.file.attributes; attributes = Some c.in-Ok.file.attributes; dir = Some f })))) c.args.out.now c.write_granted.new.out)
+    (c.file.ensures ∙ ap (λ (u : Subject). u.file) plans.subject) c.write_granted.ensures)))

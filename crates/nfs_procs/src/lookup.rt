@@ -1,0 +1,86 @@
+//! LOOKUP: the file under a name (RFC 1813, section 3.3.3).
+ghost use Rattle.std.specs.Prelude.{◌≡◌, ◌≤◌, Some, Ok};
+ghost use Rattle.nfs_args.specs.Answers.{nfs_text};
+ghost use Rattle.nfs_args.specs.declared.answer.NfsAnswer.TheVariants as answer;
+ghost use Rattle.nfs_args.specs.declared.args.NfsArgs.TheVariants as nfs;
+ghost use Rattle.nfs_inodes.specs.Views.{IsSeen};
+ghost use Rattle.nfs_procs.specs.Denials.{Decides};
+ghost use Rattle.nfs_procs.specs.Performing.{Performs};
+ghost use Rattle.nfs_procs.specs.Plans.{PlansFound};
+ghost use Rattle.nfs_procs.specs.Readers as procedure;
+ghost use Rattle.nfs_rules.specs.Views.{caller_of};
+ghost use Rattle.nfs_xdr.specs.Written.{Appends};
+
+use crate::denial::Denial;
+use crate::done::Done;
+use crate::limits::MAX_RESULT_BYTES;
+use crate::replies::write_denied_attributes;
+use nfs_args::dir_op::DirOp;
+use nfs_args::found::{Found, write_found};
+use nfs_args::opaque::Opaque;
+use nfs_attrs::fattr::Fattr;
+use nfs_attrs::moment::Moment;
+use nfs_exports::table::Table;
+use nfs_inodes::tree::Tree;
+use nfs_inodes::view::FileView;
+use nfs_rules::caller::Caller;
+use nfs_rules::exported_file::ExportedFile;
+use nfs_rules::subject::Subject;
+use nfs_rules::table::lookup_rules;
+use nfs_xdr::output::Output;
+
+pub(crate) fn lookup(
+    tree: &Tree,
+    table: &Table,
+    caller: Caller<'_>,
+    now: Moment,
+    args: &DirOp<'_>,
+    out: &mut Output,
+) -> Done
+    requires { MAX_RESULT_BYTES ≤ out.old.room }
+    ensures { Performs (record { tree = tree.now; exports = table.now; caller = caller_of caller.entry; now = now; args = nfs.Lookup args.now }) (procedure.lookup args.now) result tree.now out.old out.new }
+{
+    match decide(tree, table, caller, now, args) {
+        Ok((dir, file)) => {
+            write_granted(out, tree, &file, dir.file());
+            Done::Granted
+        }
+        Err(denial) => write_denied_attributes(out, &denial),
+    }
+}
+
+fn decide<'a>(
+    tree: &'a Tree,
+    table: &'a Table,
+    caller: Caller<'a>,
+    now: Moment,
+    args: &DirOp<'_>,
+) -> Result<(Subject<'a>, FileView<'a>), Denial>
+    ensures { Decides (record { tree = tree.entry.now; exports = table.entry.now; caller = caller_of caller.entry; now = now; args = nfs.Lookup args.now }) args.now.dir (PlansFound tree.entry.now args.now.name) result }
+{
+    let dir = match ExportedFile::of(tree, table, caller, args.dir.bytes()) {
+        Ok(file) => file.subject(),
+        Err(rule) => return Err(Denial::of_handle(rule)),
+    };
+    match lookup_rules(&dir, args.name.bytes()) {
+        Ok(file) => Ok((dir, file)),
+        Err(rule) => Err(Denial::of_rule(&dir, rule)),
+    }
+}
+
+fn write_granted(out: &mut Output, tree: &Tree, file: &FileView<'_>, dir: &Fattr)
+    requires seen { IsSeen tree.now file.now }
+    requires room { 256 ≤ out.old.room }
+    ensures { Appends (nfs_text (answer.Lookup (Ok (record { file = procedure.handle_in tree.now file.now.attributes; attributes = Some file.now.attributes; dir = Some dir.now })))) out.old out.new }
+{
+    let handle = tree.handle(file);
+    out.u32(0);
+    write_found(
+        out,
+        &Found {
+            file: Opaque::new(&handle),
+            attributes: Some(file.attributes),
+            dir: Some(*dir),
+        },
+    );
+}

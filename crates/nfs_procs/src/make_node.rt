@@ -1,0 +1,50 @@
+//! MKNOD: no special file is made (RFC 1813, section 3.3.11).
+ghost use Rattle.std.specs.Prelude.{◌≡◌, ◌≤◌};
+ghost use Rattle.nfs_args.specs.declared.args.NfsArgs.TheVariants as nfs;
+ghost use Rattle.nfs_procs.specs.Denials.{IsDenied};
+ghost use Rattle.nfs_procs.specs.Performing.{Performs};
+ghost use Rattle.nfs_procs.specs.Readers as procedure;
+ghost use Rattle.nfs_rules.specs.Views.{caller_of};
+
+use crate::denial::Denial;
+use crate::done::Done;
+use crate::limits::MAX_RESULT_BYTES;
+use crate::replies::write_denied_change;
+use nfs_args::make_node::MakeNode;
+use nfs_attrs::moment::Moment;
+use nfs_exports::table::Table;
+use nfs_inodes::tree::Tree;
+use nfs_rules::caller::Caller;
+use nfs_rules::exported_file::ExportedFile;
+use nfs_rules::rule::Rule;
+use nfs_xdr::output::Output;
+
+pub(crate) fn make_node(
+    tree: &Tree,
+    table: &Table,
+    caller: Caller<'_>,
+    now: Moment,
+    args: &MakeNode<'_>,
+    out: &mut Output,
+) -> Done
+    requires { MAX_RESULT_BYTES ≤ out.old.room }
+    ensures { Performs (record { tree = tree.now; exports = table.now; caller = caller_of caller.entry; now = now; args = nfs.MakeNode args.now }) (procedure.make_node args.now) result tree.now out.old out.new }
+{
+    let denial = deny(tree, table, caller, now, args);
+    write_denied_change(out, &denial)
+}
+
+fn deny(
+    tree: &Tree,
+    table: &Table,
+    caller: Caller<'_>,
+    now: Moment,
+    args: &MakeNode<'_>,
+) -> Denial
+    ensures { IsDenied (record { tree = tree.now; exports = table.now; caller = caller_of caller.entry; now = now; args = nfs.MakeNode args.now }) args.now.place.dir result }
+{
+    match ExportedFile::of(tree, table, caller, args.place.dir.bytes()) {
+        Ok(dir) => Denial::of_rule(&dir.subject(), Rule::NoMakeNode),
+        Err(rule) => Denial::of_handle(rule),
+    }
+}
