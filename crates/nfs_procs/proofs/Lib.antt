@@ -2,3 +2,4 @@ pub mod Judged
 pub mod Reading
 pub mod Data
 pub mod MakeDir
+pub mod Removing

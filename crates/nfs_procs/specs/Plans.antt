@@ -1,8 +1,9 @@
 -- What is planned of procedures that change the tree, once their rules are kept.
 use Rattle.std.specs.Prelude.{◌≡◌, ℕ, true, List, Some}
 use Rattle.nfs_args.specs.declared.make_dir.MakeDir.{MakeDir}
+use Rattle.nfs_attrs.specs.declared.fattr.Fattr.{Fattr}
 use Rattle.nfs_attrs.specs.declared.moment.Moment.{Moment}
-use Rattle.nfs_inodes.specs.Conditions.{MayMakeDirectory}
+use Rattle.nfs_inodes.specs.Conditions.{MayMakeDirectory, MayUnlink}
 use Rattle.nfs_inodes.specs.Reading.{is_regular_type}
 use Rattle.nfs_inodes.specs.Tree.{Tree}
 use Rattle.nfs_inodes.specs.Views.{IsSeen}
@@ -37,3 +38,9 @@ pub record PlansData (t : Tree) (plan s : Subject) : Type 0 where
   pub subject : plan ≡ s
   pub tree : s.tree ≡ t
   pub regular : is_regular_type s.file.file_type ≡ true
+
+-- an entry that is taken away: its directory
+pub record PlansRemoval (t : Tree) (name : List ℕ) (plan : Fattr) (s : Subject) : Type 0 where
+  pub tree : s.tree ≡ t
+  pub dir : plan ≡ s.file
+  pub may : MayUnlink t plan.fileid name

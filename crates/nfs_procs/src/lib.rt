@@ -17,4 +17,7 @@ pub mod path_conf;
 pub mod plan;
 pub mod read;
 pub mod read_link;
+pub mod removal;
+pub mod remove;
+pub mod remove_dir;
 pub mod replies;

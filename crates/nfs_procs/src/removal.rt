@@ -1,0 +1,36 @@
+//! Names that are taken away.
+ghost use Rattle.std.specs.Prelude.{◌≡◌, ◌≤◌, ◌++◌, Some};
+ghost use Rattle.std.specs.Int.{w32, to_be_bytes};
+ghost use Rattle.nfs_attrs.specs.Spelling.{wcc_text};
+ghost use Rattle.nfs_inodes.specs.Changes.{after_unlink};
+ghost use Rattle.nfs_inodes.specs.Conditions.{MayUnlink};
+ghost use Rattle.nfs_inodes.specs.Reading.{attributes_at};
+ghost use Rattle.nfs_procs.specs.Doing as doing;
+ghost use Rattle.nfs_xdr.specs.Written.{Appends};
+
+use crate::replies::change;
+use nfs_attrs::fattr::Fattr;
+use nfs_attrs::moment::Moment;
+use nfs_attrs::wcc::write_wcc;
+use nfs_handles::number::Number;
+use nfs_inodes::tree::Tree;
+use nfs_xdr::output::Output;
+
+/// Takes the entry of a name out of a directory, and answers what it was and what it is.
+pub(crate) fn remove_entry(
+    tree: &mut Tree,
+    dir: &Fattr,
+    name: &[u8],
+    now: Moment,
+    out: &mut Output,
+)
+    requires may { MayUnlink tree.old dir.now.fileid name.now }
+    requires room { 128 ≤ out.old.room }
+    ensures tree { tree.new ≡ after_unlink tree.old dir.now.fileid name.now now }
+    ensures text { Appends (to_be_bytes w32 0 ++ wcc_text (doing.change (Some dir.now) (attributes_at tree.new dir.now.fileid))) out.old out.new }
+{
+    let number = Number(dir.fileid);
+    tree.unlink(number, name, now);
+    out.u32(0);
+    write_wcc(out, &change(Some(*dir), tree.attributes(number)));
+}
