@@ -8,3 +8,4 @@ pub mod Sizes
 pub mod Removals
 pub mod Links
 pub mod Renames
+pub mod Pairs

@@ -1,5 +1,5 @@
 -- The first rule that a call fails: of the rules of its handles, and then of those of its procedure.
-use Rattle.std.specs.Prelude.{ℕ, Bool, true, false, not, List, [], ◌∷◌, ◌++◌, Option, Some, None, option_map, is_none, nat_eq, if◌then◌else◌}
+use Rattle.std.specs.Prelude.{ℕ, Bool, true, false, not, List, [], ◌∷◌, ◌++◌, Option, Some, None, option_map, is_none, Result, Ok, Err, nat_eq, if◌then◌else◌}
 use Rattle.nfs_args.specs.declared.args.NfsArgs.{NfsArgs}
 use Rattle.nfs_args.specs.declared.args.NfsArgs.TheVariants as nfs
 use Rattle.nfs_exports.specs.declared.table.Export.{Export}
@@ -78,3 +78,9 @@ subjects_at t exports caller (one ∷ two ∷ others) = on_some (subject_at t ex
 abbrev pub verdict : Tree → List (List Export) → Caller → NfsArgs → Option Rule
 verdict t exports caller args = first (handles_rules t exports caller (handles_in args)
     ++ on_some (subjects_at t exports caller (handles_in args)) [] (λ s. rules_of s.0 s.1 args))
+
+-- what two handles name, or the first of their rules that fails
+abbrev pub both : Result Subject Rule → Result Subject Rule → Result (Subject × Subject) Rule
+both (Err rule) two = Err rule
+both (Ok s) (Err rule) = Err rule
+both (Ok s) (Ok u) = if nat_eq s.file.fsid u.file.fsid then Ok (s, u) else Err rule.CrossVolume

@@ -4,6 +4,7 @@
 pub mod caller;
 pub mod entry_rules;
 pub mod exported_file;
+pub mod exported_pair;
 pub mod file_rules;
 pub mod limit_rules;
 pub mod move_rules;
