@@ -17,7 +17,7 @@ use Rattle.nfs_rules.specs.Verdicts.{handle_rules, handles_rules, handles_in, su
 use Rattle.nfs_rules.specs.declared.rule.Rule.{Rule}
 
 -- the rules after those of the handles, by what the handles name
-abbrev rules_after : Scene → Option (Subject × Subject) → List Test
+abbrev pub rules_after : Scene → Option (Subject × Subject) → List Test
 rules_after c subjects = on_some subjects [] (λ s. rules_of s.0 s.1 c.args)
 
 -- Of a call with one handle, whose bytes are also known by another name.

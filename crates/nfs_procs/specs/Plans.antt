@@ -1,9 +1,10 @@
 -- What is planned of procedures that change the tree, once their rules are kept.
 use Rattle.std.specs.Prelude.{◌≡◌, ℕ, true, List, Some}
 use Rattle.nfs_args.specs.declared.make_dir.MakeDir.{MakeDir}
+use Rattle.nfs_args.specs.declared.rename.Rename.{Rename}
 use Rattle.nfs_attrs.specs.declared.fattr.Fattr.{Fattr}
 use Rattle.nfs_attrs.specs.declared.moment.Moment.{Moment}
-use Rattle.nfs_inodes.specs.Conditions.{MayMakeDirectory, MayUnlink}
+use Rattle.nfs_inodes.specs.Conditions.{MayMakeDirectory, MayLink, MayRename, MayUnlink}
 use Rattle.nfs_inodes.specs.Reading.{is_regular_type}
 use Rattle.nfs_inodes.specs.Tree.{Tree}
 use Rattle.nfs_inodes.specs.Views.{IsSeen}
@@ -44,3 +45,17 @@ pub record PlansRemoval (t : Tree) (name : List ℕ) (plan : Fattr) (s : Subject
   pub tree : s.tree ≡ t
   pub dir : plan ≡ s.file
   pub may : MayUnlink t plan.fileid name
+
+-- a further name: the file, and the directory of the name
+pub record PlansLink (t : Tree) (name : List ℕ) (plan : Fattr × Fattr) (file dir : Subject) : Type 0 where
+  pub tree : file.tree ≡ t
+  pub file_is : plan.0 ≡ file.file
+  pub dir_is : plan.1 ≡ dir.file
+  pub may : MayLink t plan.0.fileid plan.1.fileid name
+
+-- a name that is changed: both directories
+pub record PlansRename (t : Tree) (a : Rename) (plan : Fattr × Fattr) (from to : Subject) : Type 0 where
+  pub tree : from.tree ≡ t
+  pub from_is : plan.0 ≡ from.file
+  pub to_is : plan.1 ≡ to.file
+  pub may : MayRename t plan.0.fileid a.from.name plan.1.fileid a.to.name

@@ -39,3 +39,16 @@ impl Denial {
         }
     }
 }
+
+/// Why a call with two handles is denied, and what its answer shows all the same.
+#[derive(Clone, Copy)]
+pub struct PairDenial {
+    /// The first rule that fails.
+    pub rule: Rule,
+    /// The uid by which the caller is judged, where the rules of both handles are kept.
+    pub uid: Option<u32>,
+    /// The attributes of what the first handle names, where its rules are kept.
+    pub one: Option<Fattr>,
+    /// Those of what the second names.
+    pub two: Option<Fattr>,
+}

@@ -1,0 +1,110 @@
+//! LINK: a further name for a file (RFC 1813, section 3.3.15).
+ghost use Rattle.std.specs.Prelude.{◌≡◌, ◌≤◌, ◌++◌};
+ghost use Rattle.std.specs.Int.{w32, to_be_bytes};
+ghost use Rattle.nfs_args.specs.Results.{linked_text};
+ghost use Rattle.nfs_args.specs.declared.args.NfsArgs.TheVariants as nfs;
+ghost use Rattle.nfs_procs.specs.Changers as procedure;
+ghost use Rattle.nfs_procs.specs.Denials.{DecidesPair};
+ghost use Rattle.nfs_procs.specs.Doing as doing;
+ghost use Rattle.nfs_procs.specs.Performing.{Performs};
+ghost use Rattle.nfs_procs.specs.Plans.{PlansLink};
+ghost use Rattle.nfs_procs.specs.declared.done.Done.TheVariants as done;
+ghost use Rattle.nfs_rules.specs.Rules.{status_of};
+ghost use Rattle.nfs_rules.specs.Views.{caller_of};
+ghost use Rattle.nfs_xdr.specs.Written.{Appends};
+
+use crate::denial::PairDenial;
+use crate::done::Done;
+use crate::limits::MAX_RESULT_BYTES;
+use crate::replies::change;
+use nfs_args::link::Link;
+use nfs_args::linked::{Linked, write_linked};
+use nfs_attrs::fattr::Fattr;
+use nfs_attrs::moment::Moment;
+use nfs_exports::table::Table;
+use nfs_handles::number::Number;
+use nfs_inodes::tree::Tree;
+use nfs_rules::caller::Caller;
+use nfs_rules::exported_file::ExportedFile;
+use nfs_rules::exported_pair::{both, shown};
+use nfs_rules::table::link_rules;
+use nfs_xdr::output::Output;
+
+pub(crate) fn link(
+    tree: &mut Tree,
+    table: &Table,
+    caller: Caller<'_>,
+    now: Moment,
+    args: &Link<'_>,
+    out: &mut Output,
+) -> Done
+    requires { MAX_RESULT_BYTES ≤ out.old.room }
+    ensures { Performs (record { tree = tree.old; exports = table.now; caller = caller_of caller.entry; now = now; args = nfs.Link args.now }) (procedure.link args.now) result tree.new out.old out.new }
+{
+    let (file, dir) = match decide(tree, table, caller, now, args) {
+        Ok(plan) => plan,
+        Err(denial) => return write_denied(out, &denial),
+    };
+    let number = Number(file.fileid);
+    let place = Number(dir.fileid);
+    let Ok(()) = tree.link(number, place, args.place.name.bytes(), now) else {
+        return Done::Memory;
+    };
+    let attributes = tree.attributes(number);
+    let dir = change(Some(dir), tree.attributes(place));
+    out.u32(0);
+    write_linked(out, &Linked { attributes, dir });
+    Done::Granted
+}
+
+fn decide(
+    tree: &Tree,
+    table: &Table,
+    caller: Caller<'_>,
+    now: Moment,
+    args: &Link<'_>,
+) -> Result<(Fattr, Fattr), PairDenial>
+    ensures { DecidesPair (record { tree = tree.now; exports = table.now; caller = caller_of caller.entry; now = now; args = nfs.Link args.now }) args.now.file args.now.place.dir (PlansLink tree.now args.now.place.name) result }
+{
+    let file = ExportedFile::of(tree, table, caller, args.file.bytes());
+    let dir = ExportedFile::of(tree, table, caller, args.place.dir.bytes());
+    let (one, two) = (shown(&file), shown(&dir));
+    let (file, dir) = match both(file, dir) {
+        Ok(subjects) => subjects,
+        Err(rule) => {
+            return Err(PairDenial {
+                rule,
+                uid: None,
+                one,
+                two,
+            });
+        }
+    };
+    file.law();
+    dir.law();
+    match link_rules(&file, &dir, args.place.name.bytes()) {
+        Ok(()) => Ok((*file.file(), *dir.file())),
+        Err(rule) => Err(PairDenial {
+            rule,
+            uid: Some(file.uid()),
+            one,
+            two,
+        }),
+    }
+}
+
+fn write_denied(out: &mut Output, denial: &PairDenial) -> Done
+    requires { 256 ≤ out.old.room }
+    ensures text { Appends (to_be_bytes w32 (status_of denial.now.rule) ++ linked_text (record { attributes = denial.now.one; dir = doing.no_change denial.now.two })) out.old out.new }
+    ensures done { result ≡ done.Denied denial.now.rule denial.now.uid }
+{
+    out.u32(denial.rule.status());
+    write_linked(
+        out,
+        &Linked {
+            attributes: denial.one,
+            dir: change(denial.two, denial.two),
+        },
+    );
+    Done::Denied(denial.rule, denial.uid)
+}

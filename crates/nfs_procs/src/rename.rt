@@ -1,0 +1,110 @@
+//! RENAME: a name is changed (RFC 1813, section 3.3.14).
+ghost use Rattle.std.specs.Prelude.{◌≡◌, ◌≤◌, ◌++◌};
+ghost use Rattle.std.specs.Int.{w32, to_be_bytes};
+ghost use Rattle.nfs_args.specs.Results.{renamed_text};
+ghost use Rattle.nfs_args.specs.declared.args.NfsArgs.TheVariants as nfs;
+ghost use Rattle.nfs_procs.specs.Changers as procedure;
+ghost use Rattle.nfs_procs.specs.Denials.{DecidesPair};
+ghost use Rattle.nfs_procs.specs.Doing as doing;
+ghost use Rattle.nfs_procs.specs.Performing.{Performs};
+ghost use Rattle.nfs_procs.specs.Plans.{PlansRename};
+ghost use Rattle.nfs_procs.specs.declared.done.Done.TheVariants as done;
+ghost use Rattle.nfs_rules.specs.Rules.{status_of};
+ghost use Rattle.nfs_rules.specs.Views.{caller_of};
+ghost use Rattle.nfs_xdr.specs.Written.{Appends};
+
+use crate::denial::PairDenial;
+use crate::done::Done;
+use crate::limits::MAX_RESULT_BYTES;
+use crate::replies::change;
+use nfs_args::rename::Rename;
+use nfs_args::renamed::{Renamed, write_renamed};
+use nfs_attrs::fattr::Fattr;
+use nfs_attrs::moment::Moment;
+use nfs_exports::table::Table;
+use nfs_handles::number::Number;
+use nfs_inodes::tree::Tree;
+use nfs_rules::caller::Caller;
+use nfs_rules::exported_file::ExportedFile;
+use nfs_rules::exported_pair::{both, shown};
+use nfs_rules::table::rename_rules;
+use nfs_xdr::output::Output;
+
+pub(crate) fn rename(
+    tree: &mut Tree,
+    table: &Table,
+    caller: Caller<'_>,
+    now: Moment,
+    args: &Rename<'_>,
+    out: &mut Output,
+) -> Done
+    requires { MAX_RESULT_BYTES ≤ out.old.room }
+    ensures { Performs (record { tree = tree.old; exports = table.now; caller = caller_of caller.entry; now = now; args = nfs.Rename args.now }) (procedure.rename args.now) result tree.new out.old out.new }
+{
+    let (from, to) = match decide(tree, table, caller, now, args) {
+        Ok(plan) => plan,
+        Err(denial) => return write_denied(out, &denial),
+    };
+    let (one, two) = (Number(from.fileid), Number(to.fileid));
+    let (name, new_name) = (args.from.name.bytes(), args.to.name.bytes());
+    let Ok(()) = tree.rename(one, name, two, new_name, now) else {
+        return Done::Memory;
+    };
+    let from = change(Some(from), tree.attributes(one));
+    let to = change(Some(to), tree.attributes(two));
+    out.u32(0);
+    write_renamed(out, &Renamed { from, to });
+    Done::Granted
+}
+
+fn decide(
+    tree: &Tree,
+    table: &Table,
+    caller: Caller<'_>,
+    now: Moment,
+    args: &Rename<'_>,
+) -> Result<(Fattr, Fattr), PairDenial>
+    ensures { DecidesPair (record { tree = tree.now; exports = table.now; caller = caller_of caller.entry; now = now; args = nfs.Rename args.now }) args.now.from.dir args.now.to.dir (PlansRename tree.now args.now) result }
+{
+    let from = ExportedFile::of(tree, table, caller, args.from.dir.bytes());
+    let to = ExportedFile::of(tree, table, caller, args.to.dir.bytes());
+    let (one, two) = (shown(&from), shown(&to));
+    let (from, to) = match both(from, to) {
+        Ok(subjects) => subjects,
+        Err(rule) => {
+            return Err(PairDenial {
+                rule,
+                uid: None,
+                one,
+                two,
+            });
+        }
+    };
+    from.law();
+    to.law();
+    match rename_rules(&from, &to, args) {
+        Ok(()) => Ok((*from.file(), *to.file())),
+        Err(rule) => Err(PairDenial {
+            rule,
+            uid: Some(from.uid()),
+            one,
+            two,
+        }),
+    }
+}
+
+fn write_denied(out: &mut Output, denial: &PairDenial) -> Done
+    requires { 256 ≤ out.old.room }
+    ensures text { Appends (to_be_bytes w32 (status_of denial.now.rule) ++ renamed_text (record { from = doing.no_change denial.now.one; to = doing.no_change denial.now.two })) out.old out.new }
+    ensures done { result ≡ done.Denied denial.now.rule denial.now.uid }
+{
+    out.u32(denial.rule.status());
+    write_renamed(
+        out,
+        &Renamed {
+            from: change(denial.one, denial.one),
+            to: change(denial.two, denial.two),
+        },
+    );
+    Done::Denied(denial.rule, denial.uid)
+}
