@@ -1,2 +1,4 @@
 pub mod Judged
+pub mod Made
 pub mod MakeDir
+pub mod SymLink

@@ -1,11 +1,12 @@
 -- What is planned of procedures that change the tree, once their rules are kept.
-use Rattle.std.specs.Prelude.{◌≡◌, ℕ}
+use Rattle.std.specs.Prelude.{◌≡◌}
 use Rattle.nfs_args.specs.declared.make_dir.MakeDir.{MakeDir}
+use Rattle.nfs_args.specs.declared.sym_link.SymLink.{SymLink}
 use Rattle.nfs_attrs.specs.declared.moment.Moment.{Moment}
-use Rattle.nfs_inodes.specs.Conditions.{MayMakeDirectory}
+use Rattle.nfs_inodes.specs.Conditions.{MayMakeDirectory, MayMakeLink}
 use Rattle.nfs_inodes.specs.Tree.{Tree}
 use Rattle.nfs_procs.specs.NewFiles.{new_file_of}
-use Rattle.nfs_procs.specs.Changers.{directory_mode}
+use Rattle.nfs_procs.specs.Changers.{directory_mode, link_mode}
 use Rattle.nfs_procs.specs.declared.plan.Plan.{Plan}
 use Rattle.nfs_rules.specs.Subjects.{Subject}
 
@@ -15,3 +16,10 @@ pub record PlansDirectory (t : Tree) (now : Moment) (a : MakeDir) (plan : Plan) 
   pub dir : plan.dir ≡ s.file
   pub given : plan.given ≡ new_file_of directory_mode s.ids now a.attributes
   pub may : MayMakeDirectory t s.file.fileid a.place.name
+
+-- a new link
+pub record PlansLink (t : Tree) (now : Moment) (a : SymLink) (plan : Plan) (s : Subject) : Type 0 where
+  pub tree : s.tree ≡ t
+  pub dir : plan.dir ≡ s.file
+  pub given : plan.given ≡ record (new_file_of link_mode s.ids now a.attributes) { mode = link_mode }
+  pub may : MayMakeLink t s.file.fileid a.place.name a.path

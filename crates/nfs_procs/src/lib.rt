@@ -9,3 +9,4 @@ pub mod make_dir;
 pub mod new_files;
 pub mod plan;
 pub mod replies;
+pub mod sym_link;
