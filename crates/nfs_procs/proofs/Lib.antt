@@ -2,3 +2,4 @@ pub mod Judged
 pub mod Made
 pub mod MakeDir
 pub mod SymLink
+pub mod WrittenBytes

@@ -1,9 +1,11 @@
 -- What is planned of procedures that change the tree, once their rules are kept.
-use Rattle.std.specs.Prelude.{◌≡◌}
+use Rattle.std.specs.Prelude.{◌≡◌, length}
 use Rattle.nfs_args.specs.declared.make_dir.MakeDir.{MakeDir}
 use Rattle.nfs_args.specs.declared.sym_link.SymLink.{SymLink}
+use Rattle.nfs_args.specs.declared.write.Write.{Write}
+use Rattle.nfs_attrs.specs.declared.fattr.Fattr.{Fattr}
 use Rattle.nfs_attrs.specs.declared.moment.Moment.{Moment}
-use Rattle.nfs_inodes.specs.Conditions.{MayMakeDirectory, MayMakeLink}
+use Rattle.nfs_inodes.specs.Conditions.{MayMakeDirectory, MayMakeLink, MayWrite}
 use Rattle.nfs_inodes.specs.Tree.{Tree}
 use Rattle.nfs_procs.specs.NewFiles.{new_file_of}
 use Rattle.nfs_procs.specs.Changers.{directory_mode, link_mode}
@@ -23,3 +25,9 @@ pub record PlansLink (t : Tree) (now : Moment) (a : SymLink) (plan : Plan) (s : 
   pub dir : plan.dir ≡ s.file
   pub given : plan.given ≡ record (new_file_of link_mode s.ids now a.attributes) { mode = link_mode }
   pub may : MayMakeLink t s.file.fileid a.place.name a.path
+
+-- bytes for a file that is there
+pub record PlansBytes (t : Tree) (a : Write) (file : Fattr) (s : Subject) : Type 0 where
+  pub tree : s.tree ≡ t
+  pub same : file ≡ s.file
+  pub may : MayWrite t s.file.fileid a.offset (length a.content)

@@ -10,3 +10,4 @@ pub mod new_files;
 pub mod plan;
 pub mod replies;
 pub mod sym_link;
+pub mod write;
