@@ -3,3 +3,4 @@ pub mod Made
 pub mod MakeDir
 pub mod SymLink
 pub mod WrittenBytes
+pub mod GivenSettings

@@ -9,5 +9,7 @@ pub mod make_dir;
 pub mod new_files;
 pub mod plan;
 pub mod replies;
+pub mod set_attr;
+pub mod settings;
 pub mod sym_link;
 pub mod write;
