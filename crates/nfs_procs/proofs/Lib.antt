@@ -5,3 +5,7 @@ pub mod Data
 pub mod MakeDir
 pub mod Removing
 pub mod Linking
+pub mod Made
+pub mod SymLink
+pub mod WrittenBytes
+pub mod GivenSettings

@@ -1,20 +1,19 @@
 -- A directory is made.
-use Rattle.std.proofs.Common.{◌≡◌, ℕ, Some, Ok, refl, sym, ap, subst, ◌∙◌}
+use Rattle.std.proofs.Common.{◌≡◌, ℕ, Some, sym, ap, subst, ◌∙◌}
 use Rattle.std.specs.Int.{w32, to_be_bytes}
 use Rattle.nfs_args.specs.Results.{made_text}
-use Rattle.nfs_args.specs.declared.made.Made.{Made}
 use Rattle.nfs_args.specs.declared.make_dir.MakeDir.{MakeDir}
 use Rattle.nfs_attrs.specs.declared.fattr.Fattr.{Fattr}
 use Rattle.nfs_attrs.specs.declared.wcc.Wcc.{Wcc}
-use Rattle.nfs_handles.specs.Handles.{handle_at}
 use Rattle.nfs_inodes.specs.Changes.{Makes, after_make_dir}
-use Rattle.nfs_inodes.specs.Reading.{attributes_at, numbered_files}
+use Rattle.nfs_inodes.specs.Reading.{attributes_at}
 use Rattle.nfs_inodes.specs.Tree.{Tree}
+use Rattle.nfs_procs.proofs.Made.{shown_of, shows_made}
 use Rattle.nfs_procs.specs.Doing.{change}
 use Rattle.nfs_procs.specs.NewFiles.{new_file_of}
 use Rattle.nfs_procs.specs.Performing.{IsGranted, HasEffect}
 use Rattle.nfs_procs.specs.Plans.{PlansDirectory}
-use Rattle.nfs_procs.specs.Changers.{make_dir, directory_mode, made_of}
+use Rattle.nfs_procs.specs.Changers.{make_dir, directory_mode}
 use Rattle.nfs_procs.specs.Scenes.{Scene}
 use Rattle.nfs_procs.specs.declared.plan.Plan.{Plan}
 use Rattle.nfs_rules.specs.Subjects.{Subject}
@@ -24,7 +23,7 @@ use Rattle.nfs_xdr.specs.Written.{Written, Appends}
 pub made_directory : (c : Scene) (a : MakeDir) (s : Subject) (plan : Plan) (new : Tree) (n : ℕ) (dir : Wcc) (x y z : Written) → IsGranted c s s → PlansDirectory c.tree c.now a plan s
     → Makes (λ tag. after_make_dir c.tree plan.dir.fileid a.place.name plan.given tag c.now) new → n ≡ c.tree.next
     → dir ≡ change (Some plan.dir) (attributes_at new plan.dir.fileid)
-    → Appends (to_be_bytes w32 0) x y → Appends (made_text (record { file = handle_at (numbered_files new) n; attributes = attributes_at new n; dir = dir })) y z
+    → Appends (to_be_bytes w32 0) x y → Appends (made_text (shown_of new n dir)) y z
     → HasEffect c (make_dir a) new x z
 made_directory c a s plan new n dir x y z granted plans makes number shown status made = record {
   one = s;
@@ -36,9 +35,5 @@ made_directory c a s plan new n dir x y z granted plans makes number shown statu
       ∙ ap (λ (d : Fattr). after_make_dir c.tree d.fileid a.place.name plan.given makes.tag c.now) plans.dir
       ∙ ap (λ g. after_make_dir c.tree s.file.fileid a.place.name g makes.tag c.now) plans.given
       ∙ ap (λ t. after_make_dir t s.file.fileid a.place.name (new_file_of directory_mode s.ids c.now a.attributes) makes.tag c.now) (sym plans.tree);
-  written = appends_then _ _ x y z status (subst (λ m. Appends (made_text m) y z) same made);
+  written = appends_then _ _ x y z status (subst (λ m. Appends (made_text m) y z) (shows_made new n s.tree.next s plan.dir dir plans.dir (number ∙ ap (λ (t : Tree). t.next) (sym plans.tree)) shown) made);
 }
-  where
-    same : record { file = handle_at (numbered_files new) n; attributes = attributes_at new n; dir = dir } ≡ made_of new s.tree.next s
-    same = ap (λ d. record { file = handle_at (numbered_files new) n; attributes = attributes_at new n; dir = d }) (shown ∙ ap (λ (d : Fattr). change (Some d) (attributes_at new d.fileid)) plans.dir)
-        ∙ ap (λ m. made_of new m s) (number ∙ ap (λ (t : Tree). t.next) (sym plans.tree))

@@ -23,3 +23,7 @@ pub mod remove;
 pub mod remove_dir;
 pub mod rename;
 pub mod replies;
+pub mod set_attr;
+pub mod settings;
+pub mod sym_link;
+pub mod write;

@@ -66,6 +66,15 @@ pub(crate) fn write_denied_attributes(out: &mut Output, denial: &Denial) -> Done
     Done::Denied(denial.rule, denial.uid)
 }
 
+/// The answer of a granted call that shows a file before and after.
+pub(crate) fn write_granted_change(out: &mut Output, file: Wcc)
+    requires { 128 ≤ out.old.room }
+    ensures { Appends (to_be_bytes w32 0 ++ wcc_text file) out.old out.new }
+{
+    out.u32(0);
+    write_wcc(out, &file);
+}
+
 /// A new file and the directory of its name.
 pub(crate) fn write_new_file(out: &mut Output, tree: &Tree, file: Number, dir: Wcc)
     requires { 320 ≤ out.old.room }

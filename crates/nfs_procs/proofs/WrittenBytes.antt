@@ -1,0 +1,47 @@
+-- Bytes are written.
+use Rattle.std.proofs.Common.{◌≡◌, ℕ, refl, sym, ap, subst, ◌∙◌, arith}
+use Rattle.std.specs.Prelude.{Some, Ok, length}
+use Rattle.nfs_args.specs.Answers.{nfs_text}
+use Rattle.nfs_args.specs.declared.answer.NfsAnswer.TheVariants as answer
+use Rattle.nfs_args.specs.declared.write.Stability.TheVariants.{FileSync}
+use Rattle.nfs_args.specs.declared.write.Write.{Write}
+use Rattle.nfs_args.specs.declared.written.Written.{Written}
+use Rattle.nfs_attrs.specs.declared.fattr.Fattr.{Fattr}
+use Rattle.nfs_attrs.specs.declared.wcc.Wcc.{Wcc}
+use Rattle.nfs_inodes.specs.Changes.{after_write_at}
+use Rattle.nfs_inodes.specs.Reading.{attributes_at}
+use Rattle.nfs_inodes.specs.Tree.{Tree}
+use Rattle.nfs_procs.specs.Changers.{write, changed}
+use Rattle.nfs_procs.specs.Doing.{change}
+use Rattle.nfs_procs.specs.Performing.{IsGranted, HasEffect}
+use Rattle.nfs_procs.specs.Plans.{PlansBytes}
+use Rattle.nfs_procs.specs.Readers.{verifier_of}
+use Rattle.nfs_procs.specs.Scenes.{Scene}
+use Rattle.nfs_rules.specs.Subjects.{Subject}
+use Rattle.nfs_xdr.specs.Written.{Appends}
+use Rattle.nfs_xdr.specs.Written as output
+
+-- what is answered of it
+abbrev pub answer_of : Wcc → ℕ → ℕ → Written
+answer_of file count verifier = record { file = file; count = count; committed = FileSync; verifier = verifier }
+
+pub wrote : (c : Scene) (a : Write) (s : Subject) (file : Fattr) (new : Tree) (shown : Wcc) (count verifier : ℕ) (x y : output.Written) → IsGranted c s s → PlansBytes c.tree a file s
+    → new ≡ after_write_at c.tree file.fileid a.offset a.content c.now
+    → shown ≡ change (Some file) (attributes_at new file.fileid) → count ≡ length a.content → verifier ≡ verifier_of c.tree
+    → Appends (nfs_text (answer.Write (Ok (answer_of shown count verifier)))) x y → HasEffect c (write a) new x y
+wrote c a s file new shown count verifier x y granted plans is shows counts verifies written = record {
+  one = s;
+  two = s;
+  granted = granted;
+  tag = 0;
+  fits = omega arith;
+  new_is = is
+      ∙ ap (λ (f : Fattr). after_write_at c.tree f.fileid a.offset a.content c.now) plans.same
+      ∙ ap (λ t. after_write_at t s.file.fileid a.offset a.content c.now) (sym plans.tree);
+  written = subst (λ w. Appends (nfs_text (answer.Write (Ok w))) x y) same written;
+}
+  where
+    same : answer_of shown count verifier ≡ answer_of (changed new s) (length a.content) (verifier_of s.tree)
+    same = ap (λ w. answer_of w count verifier) (shows ∙ ap (λ (f : Fattr). change (Some f) (attributes_at new f.fileid)) plans.same)
+        ∙ ap (λ n. answer_of (changed new s) n verifier) counts
+        ∙ ap (answer_of (changed new s) (length a.content)) (verifies ∙ ap verifier_of (sym plans.tree))

@@ -1,0 +1,89 @@
+//! SYMLINK: a new symbolic link (RFC 1813, section 3.3.10).
+ghost use Rattle.std.specs.Prelude.{◌≡◌, ◌≤◌};
+ghost use Rattle.nfs_args.specs.declared.args.NfsArgs.TheVariants as nfs;
+ghost use Rattle.nfs_procs.specs.Denials.{Decides};
+ghost use Rattle.nfs_procs.specs.Performing.{Performs};
+ghost use Rattle.nfs_procs.specs.Plans.{PlansSymLink};
+ghost use Rattle.nfs_procs.specs.Changers as procedure;
+ghost use Rattle.nfs_rules.specs.Views.{caller_of};
+
+use crate::denial::Denial;
+use crate::done::Done;
+use crate::limits::MAX_RESULT_BYTES;
+use crate::new_files::new_file_of;
+use crate::plan::Plan;
+use crate::replies::{change, write_denied_change, write_new_file};
+use nfs_args::sym_link::SymLink;
+use nfs_attrs::moment::Moment;
+use nfs_exports::table::Table;
+use nfs_handles::number::Number;
+use nfs_inodes::new_file::NewFile;
+use nfs_inodes::tree::Tree;
+use nfs_rules::caller::Caller;
+use nfs_rules::exported_file::ExportedFile;
+use nfs_rules::table::sym_link_rules;
+use nfs_xdr::output::Output;
+
+/// The mode of each link; one that is given is not looked at.
+const LINK_MODE: u32 = 0o777;
+
+pub(crate) fn sym_link(
+    tree: &mut Tree,
+    table: &Table,
+    caller: Caller<'_>,
+    now: Moment,
+    args: &SymLink<'_>,
+    out: &mut Output,
+) -> Done
+    requires { MAX_RESULT_BYTES ≤ out.old.room }
+    ensures { Performs (record { tree = tree.old; exports = table.now; caller = caller_of caller.entry; now = now; args = nfs.SymLink args.now }) (procedure.sym_link args.now) result tree.new out.old out.new }
+{
+    let plan = match decide(tree, table, caller, now, args) {
+        Ok(plan) => plan,
+        Err(denial) => return write_denied_change(out, &denial),
+    };
+    let dir = Number(plan.dir.fileid);
+    let Ok(made) = tree.make_link(
+        dir,
+        args.place.name.bytes(),
+        args.path.bytes(),
+        &plan.given,
+        now,
+    ) else {
+        return Done::Memory;
+    };
+    out.u32(0);
+    write_new_file(
+        out,
+        tree,
+        made,
+        change(Some(plan.dir), tree.attributes(dir)),
+    );
+    Done::Granted
+}
+
+fn decide(
+    tree: &Tree,
+    table: &Table,
+    caller: Caller<'_>,
+    now: Moment,
+    args: &SymLink<'_>,
+) -> Result<Plan, Denial>
+    ensures { Decides (record { tree = tree.now; exports = table.now; caller = caller_of caller.entry; now = now; args = nfs.SymLink args.now }) args.now.place.dir (PlansSymLink tree.now now args.now) result }
+{
+    let dir = match ExportedFile::of(tree, table, caller, args.place.dir.bytes()) {
+        Ok(file) => file.subject(),
+        Err(rule) => return Err(Denial::of_handle(rule)),
+    };
+    dir.law();
+    match sym_link_rules(&dir, args.place.name.bytes(), args.path.bytes()) {
+        Ok(()) => Ok(Plan {
+            dir: *dir.file(),
+            given: NewFile {
+                mode: LINK_MODE,
+                ..new_file_of(LINK_MODE, &dir, now, &args.attributes)
+            },
+        }),
+        Err(rule) => Err(Denial::of_rule(&dir, rule)),
+    }
+}
