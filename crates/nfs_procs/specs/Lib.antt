@@ -4,5 +4,6 @@ pub mod Doing
 pub mod Readers
 pub mod Changers
 pub mod Performing
+pub mod Procedures
 pub mod Denials
 pub mod Plans
