@@ -138,7 +138,8 @@ impl Tree {
         }
     }
 
-    /// Whether a file has no entries: so is each that is no directory, and what doesn't live.
+    /// Whether a file has no entries, as none has that is no directory; so too where none lives under
+    /// the number.
     pub fn is_empty(&self, number: Number) -> bool
         ensures { IsTrue result ↔ (entries_at self.now number.0 ≡ []) }
     {
