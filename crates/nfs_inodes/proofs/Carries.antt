@@ -1,16 +1,17 @@
 -- The law after a file has lost an entry in one directory and gained one in another or the same.
-use Rattle.std.proofs.Common.{inl, inr, ◌≡◌, ◌≢◌, ℕ, zero, suc, ◌+◌, ◌<◌, true, List, refl, sym, ap, subst, ◌∙◌, arith}
+use Rattle.std.proofs.Common.{inl, inr, ◌≡◌, ◌≢◌, ℕ, ◌+◌, ◌<◌, true, List, refl, sym, ap, subst, ◌∙◌, arith}
 use Rattle.std.specs.Prelude.{Contains, All, not}
 use Rattle.std.proofs.lemmas.List.Elements.{All-filter}
 use Rattle.nfs_attrs.specs.declared.moment.Moment.{Moment}
 use Rattle.nfs_inodes.specs.Tree.{Tree, File, Entry, at, on_some, one_when, entries_in, is_directory, parent_in, next_cookie_in, names_of, subdirectories, nlink}
-use Rattle.nfs_inodes.specs.Law.{Law, LawBut, IsRoot, AreApart, Lives, LivesAsDirectory, climb, parent_of}
+use Rattle.nfs_inodes.specs.Law.{Law, LawBut, IsRoot, AreApart, Lives, LivesAsDirectory, parent_of}
 use Rattle.nfs_inodes.specs.Changes.{with_file, left, moved_to, moved, with_entry, carried}
 use Rattle.nfs_inodes.specs.Conditions.{MayCarry}
 use Rattle.nfs_inodes.specs.Reading.{has_name}
 use Rattle.nfs_inodes.proofs.Lists.{by_test, by_number, if_true, if_false, same_some, find_contains}
 use Rattle.nfs_inodes.proofs.Maps.{at_with_same, at_with_other}
 use Rattle.nfs_inodes.proofs.Alike.{climb_alike, parent_changed}
+use Rattle.nfs_inodes.proofs.Climbs.{climb_stuck}
 use Rattle.nfs_inodes.proofs.Gains.{MayGain, one_same, law_with_entry}
 use Rattle.nfs_inodes.proofs.Births.{live_some}
 use Rattle.nfs_inodes.proofs.Operations.{apart_kinds}
@@ -18,18 +19,13 @@ use Rattle.nfs_inodes.proofs.Leavings.{left_placed, left_entries, left_cookie, l
 use Rattle.nfs_inodes.proofs.Unlinks.{not_a_root}
 use Rattle.nfs_inodes.proofs.Moves.{MayMove, moved_parent, moved_is, has_moved, names_moved, nlink_moved, law_moved}
 
--- where a directory is its own parent, steps to it lead nowhere else
-climb_stuck : (t : Tree) (n : ℕ) → parent_of t.files n ≡ n → (k : ℕ) → climb k t.files n ≡ n
-climb_stuck t n up zero = refl
-climb_stuck t n up (suc k) = ap (climb k t.files) up ∙ climb_stuck t n up k
-
 -- no entry names its own directory
 pub not_itself : (t : Tree) (d : ℕ) (f : File) (e : Entry) → Law t → LivesAsDirectory t d f → Contains (entries_in f.kind) e → e.number ≢ d
 not_itself t d f e law at_d in_f s =
     let up : parent_in f.kind ≡ d = law.parents d f e f at_d.0 in_f (ap (λ k. at k t.files) s ∙ at_d.0, at_d.1) in
     let is_up : parent_of t.files d ≡ d = ap (λ o. on_some o 0 (λ k. parent_in k.kind)) at_d.0 ∙ up in
     let r = law.reached d f at_d in
-    not_a_root t d f e law at_d.0 in_f (f.volume, r.1, r.2, sym r.3 ∙ climb_stuck t d is_up r.0 ∙ sym s)
+    not_a_root t d f e law at_d.0 in_f (f.volume, r.1, r.2, sym r.3 ∙ climb_stuck t.files r.0 d is_up ∙ sym s)
 
 -- directory to, once directory from has lost the entry
 pub record TargetNow (t u : Tree) (to : ℕ) (new_name : List ℕ) (target file : File) : Type 0 where

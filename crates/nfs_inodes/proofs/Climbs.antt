@@ -19,6 +19,11 @@ module _ (files : List (ℕ × File)) where
       the_sum : (a b : ℕ) → suc a + b ≡ suc (a + b)
       the_sum a b = omega arith
 
+  -- where a directory is its own parent, steps to it lead nowhere else
+  pub climb_stuck : (k n : ℕ) → parent_of files n ≡ n → climb k files n ≡ n
+  climb_stuck zero n up = refl
+  climb_stuck (suc k) n up = ap (climb k files) up ∙ climb_stuck k n up
+
   -- the numbers on the way
   abbrev pub way : ℕ → ℕ → List ℕ
   way zero m = []

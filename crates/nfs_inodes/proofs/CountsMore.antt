@@ -1,28 +1,22 @@
--- What is kept beside the tree, after a link, after bytes and after a new volume.
-use Rattle.std.proofs.Common.{inl, inr, ◌≡◌, ◌≢◌, ℕ, zero, ◌+◌, ◌-◌, ◌<◌, false, List, [], ◌∷◌, ◌++◌, map, Some, refl, sym, ap, subst, ◌∙◌, arith}
+-- What is kept beside the tree, after a link and after a new volume.
+use Rattle.std.proofs.Common.{inl, inr, ◌≡◌, ◌≢◌, ℕ, zero, ◌+◌, ◌<◌, false, List, [], ◌∷◌, ◌++◌, map, Some, refl, sym, ap, subst, ◌∙◌, arith}
 use Rattle.std.specs.Prelude.{slice_get, length, nat_eq, ◌^◌, if◌then◌else◌}
 use Rattle.std.proofs.lemmas.Bool.{eq-eqb}
 use Rattle.std.proofs.lemmas.Option.{slice_get_within}
 use Rattle.std.proofs.lemmas.List.{map-append, length-map}
 use Rattle.nfs_attrs.specs.declared.moment.Moment.{Moment}
-use Rattle.nfs_inodes.specs.Tree.{Tree, File, Volume, at, with_at, one_when, bytes_in, is_directory, is_regular, nlink, bytes_of, files_of}
+use Rattle.nfs_inodes.specs.Tree.{Tree, File, Volume, at, with_at, one_when, bytes_in, is_directory, nlink, bytes_of, files_of}
 use Rattle.nfs_inodes.specs.Law.{Law, AreRising, Lives, LivesAsDirectory}
-use Rattle.nfs_inodes.specs.Changes.{with_new_file, with_file, entered, after_link, file_with_bytes, with_new_volume}
-use Rattle.nfs_inodes.specs.Conditions.{MayLink, MayWrite}
-use Rattle.nfs_inodes.specs.Counts.{CountedFile, CountedVolume, CountedTree, Agrees, IsCounted, files_in, tree_in, with_totals}
+use Rattle.nfs_inodes.specs.Changes.{with_new_file, with_file, entered, after_link, with_new_volume}
+use Rattle.nfs_inodes.specs.Conditions.{MayLink}
+use Rattle.nfs_inodes.specs.Counts.{CountedFile, CountedVolume, CountedTree, Agrees, IsCounted, files_in, tree_in}
 use Rattle.nfs_inodes.proofs.Lists.{by_number, by_test, if_true, same_some, get_push}
 use Rattle.nfs_inodes.proofs.Maps.{shows_with, shows_push, with_back, push_back, at_with_other, at_with_same, rising_with}
-use Rattle.nfs_inodes.proofs.Alike.{Alike, alike_itself, bytes_changed, count_changed, nlink_alike, one_alike}
+use Rattle.nfs_inodes.proofs.Alike.{alike_itself, bytes_changed, count_changed, nlink_alike, one_alike}
 use Rattle.nfs_inodes.proofs.Gains.{entered_placed, entered_bytes, gained_is, nlink_there, nlink_elsewhere, one_other}
 use Rattle.nfs_inodes.proofs.Births.{nlink_born, nlink_new, bytes_born, files_born, law_with_new_volume, MayBeFounded, no_bytes_yet, no_files_yet}
-use Rattle.nfs_inodes.proofs.Operations.{law_after_link, law_with_bytes, linked_is, touch_alike, apart_kinds, overwritten_alike, overwritten_bytes}
-use Rattle.nfs_inodes.proofs.Bytes.{length_put}
-use Rattle.nfs_inodes.proofs.Counts.{shown, totals_after, volumes_stay, free_number}
-
--- ---- nothing that is shown changes
-
-abbrev pub counted_after_none : CountedTree → ℕ → CountedFile → CountedTree
-counted_after_none k n w = record { files = with_at n w k.files; next = k.next; key = k.key; volumes = k.volumes }
+use Rattle.nfs_inodes.proofs.Operations.{law_after_link, linked_is, touch_alike, apart_kinds}
+use Rattle.nfs_inodes.proofs.Counts.{shown, free_number}
 
 -- ---- a link
 
@@ -134,66 +128,6 @@ module _ (k : CountedTree) (n d : ℕ) (name : List ℕ) (now : Moment) (f g p w
         subst (λ fs. IsCounted fs place c) (sym files_linked) (record { bytes = r.bytes ∙ sym s.0; files = r.files ∙ sym s.1 });
     limits = keeps.limits;
   }
-
--- ---- bytes
-
-abbrev pub counted_after_write : CountedTree → ℕ → CountedFile → ℕ → ℕ → CountedTree
-counted_after_write k n w place grown = record { files = with_at n w k.files; next = k.next; key = k.key; volumes = with_totals k.volumes place grown 0 }
-
--- what is kept of file n
-pub record CountsBytes (k : CountedTree) (n offset : ℕ) (bytes : List ℕ) (now : Moment) (f w : CountedFile) : Type 0 where
-  pub may : MayWrite (tree_in k) n offset (length bytes)
-  pub some : 0 < length bytes
-  pub at_file : at n k.files ≡ Some f
-  pub file_with_bytes : w.file ≡ file_with_bytes f.file offset bytes now
-  pub same_links : w.nlink ≡ f.nlink
-
-module _ (k : CountedTree) (n offset : ℕ) (bytes : List ℕ) (now : Moment) (f w : CountedFile) (place : ℕ) (keeps : Agrees k) (has : CountsBytes k n offset bytes now f w) (is_place : place ≡ f.file.volume) where
-  the_file : has.may.file ≡ f.file
-  the_file = same_some (sym has.may.at_file ∙ shown k n f has.at_file)
-
-  abbrev g : File
-  g = file_with_bytes f.file offset bytes now
-
-  abbrev grown : ℕ
-  grown = offset + length bytes - length (bytes_in f.file.kind)
-
-  files_written : files_in (with_at n w k.files) ≡ (with_file (tree_in k) n g).files
-  files_written = shows_with (λ (a : CountedFile). a.file) n w k.files ∙ ap (λ a. with_at n a (tree_in k).files) has.file_with_bytes
-
-  pub view_after_write : tree_in (counted_after_write k n w place grown) ≡ with_file (tree_in k) n g
-  view_after_write = ap (λ vs. record { files = files_in (with_at n w k.files); next = k.next; key = k.key; volumes = vs }) (volumes_stay k.volumes place grown 0)
-      ∙ ap (λ fs. record (tree_in k) { files = fs }) files_written
-
-  like_g : Alike f.file g
-  like_g = overwritten_alike f.file offset bytes now
-
-  links_written : (m : ℕ) (h : CountedFile) → at m (with_at n w k.files) ≡ Some h → h.nlink ≡ nlink (with_file (tree_in k) n g).files m h.file
-  links_written m h e =
-      let like = one_alike (tree_in k) n f.file g keeps.law.rising keeps.law.numbers (shown k n f has.at_file) like_g in
-      let after : List (ℕ × File) = (with_file (tree_in k) n g).files in
-      with_back n m f w h k.files has.at_file e
-      (λ s is. let its : h.file ≡ g = ap (λ (a : CountedFile). a.file) (sym is) ∙ has.file_with_bytes in
-      let same : nlink after m h.file ≡ nlink (tree_in k).files n f.file = ap (λ i. nlink after i h.file) s ∙ ap (nlink after n) its ∙ nlink_alike (tree_in k) (with_file (tree_in k) n g) like n f.file g like_g in
-      ap (λ (a : CountedFile). a.nlink) (sym is) ∙ has.same_links ∙ keeps.links n f has.at_file ∙ sym same)
-      (λ o was. keeps.links m h was ∙ sym (nlink_alike (tree_in k) (with_file (tree_in k) n g) like m h.file h.file (alike_itself h.file)))
-
-  pub agree_after_write : Agrees (counted_after_write k n w place grown)
-  agree_after_write =
-      let regular = ap (λ (a : File). is_regular a.kind) (sym the_file) ∙ has.may.regular in
-      let long : length (bytes_in g.kind) ≡ length (bytes_in f.file.kind) + grown = ap length (overwritten_bytes f.file.kind offset bytes regular) ∙ length_put (bytes_in f.file.kind) bytes offset in
-      let after = totals_after k (with_file (tree_in k) n g).files place grown 0 keeps (λ q.
-      let told = bytes_changed (tree_in k) n f.file g (shown k n f has.at_file) like_g.placed.volume q in
-      let counted = count_changed (tree_in k) n f.file g (shown k n f has.at_file) like_g.placed.volume q in (
-        (λ s. let y = told.0 (sym is_place ∙ sym s) in (omega (arith, y, long), omega (arith, counted))),
-        (λ o. (told.1 (λ s. o (sym s ∙ sym is_place)), counted)),
-      )) in
-      record {
-        law = subst Law (sym (view_after_write ∙ ap (λ (a : File). with_file (tree_in k) n (file_with_bytes a offset bytes now)) (sym the_file))) (law_with_bytes (tree_in k) n offset bytes now has.may has.some keeps.law);
-        links = λ m h e. links_written m h e ∙ ap (λ fs. nlink fs m h.file) (sym files_written);
-        totals = λ q c e. subst (λ fs. IsCounted fs q c) (sym files_written) (after q c e).0;
-        limits = λ q c e. (after q c e).1;
-      }
 
 -- ---- a volume
 

@@ -20,6 +20,7 @@ pub mod KeptRemovals
 pub mod KeptCarries
 pub mod KeptRenames
 pub mod AttributeChanges
+pub mod ByteChanges
 pub mod SizeChanges
 pub mod Tests
 pub mod EntryTests

@@ -7,7 +7,7 @@ use Rattle.nfs_inodes.specs.declared.stored_file.StoredFile.{StoredFile}
 use Rattle.nfs_inodes.specs.declared.stored_volume.StoredVolume.{StoredVolume}
 use Rattle.nfs_inodes.specs.Tree.{Tree, File, bytes_in, bytes_of, bytes_for, is_regular, on_some}
 use Rattle.nfs_inodes.specs.Law.{Law, Lives}
-use Rattle.nfs_inodes.specs.Changes.{with_file, resized_to, after_resize}
+use Rattle.nfs_inodes.specs.Changes.{with_file, file_with_bytes, after_write_at, resized_to, after_resize}
 use Rattle.nfs_inodes.specs.Changes as changes
 use Rattle.nfs_inodes.specs.Conditions.{MayResize, Grows}
 use Rattle.nfs_inodes.specs.Counts.{CountedFile, CountedVolume, Agrees, IsCounted, tree_in, with_totals}

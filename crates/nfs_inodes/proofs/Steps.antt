@@ -1,23 +1,21 @@
 -- A new file, in what is kept.
-use Rattle.std.proofs.Common.{◌≡◌, ℕ, ◌+◌, ◌-◌, ◌<◌, Bool, true, false, List, [], ◌∷◌, ◌++◌, map, length, Option, Some, None, refl, sym, ap, subst, ◌∙◌, arith}
+use Rattle.std.proofs.Common.{◌≡◌, ℕ, ◌<◌, Bool, true, List, [], ◌∷◌, ◌++◌, map, length, Option, Some, None, refl, sym, ap, subst, ◌∙◌, arith}
 use Rattle.std.proofs.Common.{Fits, w64}
-use Rattle.std.specs.Bool.{◌==◌}
 use Rattle.nfs_inodes.specs.declared.stored_entry.StoredEntry.{StoredEntry}
 use Rattle.std.specs.Prelude.{slice_get, if◌then◌else◌}
 use Rattle.nfs_attrs.specs.declared.moment.Moment.{Moment}
 use Rattle.nfs_handles.specs.NumberedFiles.{NumberedFiles}
 use Rattle.nfs_inodes.specs.declared.stored_file.StoredFile.{StoredFile}
 use Rattle.nfs_inodes.specs.declared.stored_volume.StoredVolume.{StoredVolume}
-use Rattle.nfs_inodes.specs.Tree.{Tree, File, Kind, Directory, Volume, on_some, is_directory, is_regular, bytes_in, next_cookie_in, nlink, bytes_of, files_of}
+use Rattle.nfs_inodes.specs.Tree.{Tree, File, Kind, Directory, Volume, is_directory, bytes_in, next_cookie_in, nlink, bytes_of, files_of}
 use Rattle.nfs_inodes.specs.Law.{IsSound, LivesAsDirectory}
 use Rattle.nfs_inodes.specs.Changes.{with_named_file, Makes, entered, new_file, after_link, after_write_at, file_with_bytes, with_file, after_add_volume, with_new_volume}
 use Rattle.nfs_inodes.specs.Changes as changes
 use Rattle.nfs_inodes.specs.declared.new_file.NewFile.{NewFile}
-use Rattle.nfs_inodes.specs.Conditions.{MayEnter, MayMake, MayLink, MayWrite, MayAddVolume, IsNew}
+use Rattle.nfs_inodes.specs.Conditions.{MayEnter, MayMake, MayLink, MayAddVolume, IsNew}
 use Rattle.nfs_inodes.specs.Counts.{CountedFile, CountedVolume, CountedTree, Agrees, tree_in, with_totals}
 use Rattle.nfs_inodes.specs.Storage.{file_of, entry_of, counted_file_of, counted_files, counted_volume_of, counted_tree_of}
-use Rattle.nfs_inodes.specs.StoredFiles.{TakesEntry, AddsFile, TakesLink, LinksFile, TakesBytes, WritesFile}
-use Rattle.nfs_inodes.specs.declared.stored_files.Growth.{Growth}
+use Rattle.nfs_inodes.specs.StoredFiles.{TakesEntry, AddsFile, TakesLink, LinksFile}
 use Rattle.nfs_inodes.specs.StepConditions.{MayAdd, HasRoomFor, retagged}
 use Rattle.nfs_inodes.proofs.Lists.{same_some}
 use Rattle.nfs_handles.specs.Changes.{Adds}
@@ -25,9 +23,9 @@ use Rattle.std.proofs.lemmas.List.{map-append, length-map}
 use Rattle.nfs_inodes.proofs.Maps.{rising_bounds, shows_push}
 use Rattle.nfs_inodes.proofs.StoredFiles.{counted_file, at_counted_file}
 use Rattle.nfs_inodes.proofs.Counts.{CountsNewFile, counted_after_make, view_after_make, agree_after_make}
-use Rattle.nfs_inodes.proofs.CountsMore.{counted_after_link, CountsLink, view_after_link, agree_after_link, counted_after_write, CountsBytes, view_after_write, agree_after_write, counted_after_add_volume, view_after_add_volume, agree_after_add_volume}
+use Rattle.nfs_inodes.proofs.CountsMore.{counted_after_link, CountsLink, view_after_link, agree_after_link, counted_after_add_volume, view_after_add_volume, agree_after_add_volume}
 use Rattle.nfs_inodes.proofs.Operations.{apart_kinds}
-use Rattle.nfs_inodes.proofs.NewFiles.{IsFresh, new_here, may_be_founded, impossible}
+use Rattle.nfs_inodes.proofs.NewFiles.{IsFresh, new_here, may_be_founded}
 use Rattle.nfs_inodes.proofs.Births.{MayBeFounded}
 use Rattle.nfs_inodes.proofs.Views.{lives, kept_at, stored_volume_at, stored_volume_counted}
 
@@ -204,59 +202,6 @@ module _ (a : NumberedFiles StoredFile) (stored_volumes : List StoredVolume) (n 
     pub stored_view_after_link : tree_in (counted_tree_of b stored_volumes) ≡ after_link (tree_in (counted_tree_of a stored_volumes)) n d name now
     stored_view_after_link = ap tree_in linked_kept ∙ view_after_link (counted_tree_of a stored_volumes) n d name now file_then file_since dir_then dir_since keeps has_link
 
--- ---- bytes
-
-module _ (a : NumberedFiles StoredFile) (stored_volumes : List StoredVolume) (n offset : ℕ) (bytes : List ℕ) (keeps : Agrees (counted_tree_of a stored_volumes)) (may : MayWrite (tree_in (counted_tree_of a stored_volumes)) n offset (length bytes)) (some : 0 < length bytes) where
-  pub takes_bytes : TakesBytes a n offset (length bytes)
-  takes_bytes =
-      let f = kept_at a stored_volumes (tree_in (counted_tree_of a stored_volumes)) refl n may.file may.at_file in
-      record { file = f.0; at_file = f.1; regular = ap (λ (f : File). is_regular f.kind) f.2 ∙ may.regular; large = may.large some }
-
-  module _ (now : Moment) (growth : Growth) (b : NumberedFiles StoredFile) (writes : WritesFile a n offset bytes now growth b) where
-    the_file : file_of writes.file.tag writes.file.value ≡ may.file
-    the_file = same_some (sym (lives a stored_volumes n writes.file writes.at_file) ∙ may.at_file)
-
-    home : growth.place ≡ may.file.volume
-    home = writes.place ∙ ap (λ (f : File). f.volume) the_file
-
-    pub room_to_grow : HasRoomFor stored_volumes growth.place growth.bytes 0
-    room_to_grow =
-        let t : Tree = tree_in (counted_tree_of a stored_volumes) in
-        let s = stored_volume_of a stored_volumes growth.place may.volume keeps (ap (slice_get t.volumes) home ∙ may.at_volume) in
-        let has = s.2 in let files = s.3 in let wide = s.4 in let wide_files = s.5 in
-        let room = may.room some in let grown = writes.grown in
-        let long : length (bytes_in (file_of 0 writes.file.value).kind) ≡ length (bytes_in may.file.kind) = ap (λ (f : File). length (bytes_in f.kind)) the_file in
-        let same : bytes_of growth.place t.files ≡ bytes_of may.file.volume t.files = ap (λ k. bytes_of k t.files) home in
-        let v = keeps.law.count growth.place may.volume (ap (slice_get t.volumes) home ∙ may.at_volume) in
-        record { stored_volume = s.0; at_place = s.1; bytes_fit = omega (arith, has, wide, room, grown, long, same); files_fit = omega (arith, files, wide_files, v) }
-
-    module _ (news : List StoredVolume) (counts : map counted_volume_of news ≡ with_totals (map counted_volume_of stored_volumes) growth.place growth.bytes 0) where
-      abbrev then_held : CountedFile
-      then_held = counted_file writes.file
-
-      abbrev since_held : CountedFile
-      since_held = counted_file_of writes.file.tag writes.file_now
-
-      abbrev size_grown : ℕ
-      size_grown = offset + length bytes - length (bytes_in (file_of 0 writes.file.value).kind)
-
-      written_kept : counted_tree_of b news ≡ counted_after_write (counted_tree_of a stored_volumes) n since_held growth.place size_grown
-      written_kept = counted_parts (counted_after_write (counted_tree_of a stored_volumes) n since_held growth.place size_grown) (counted_tree_of b news) writes.files writes.next writes.key
-          (counts ∙ ap (λ g. with_totals (map counted_volume_of stored_volumes) growth.place g 0) writes.grown)
-
-      has_bytes : CountsBytes (counted_tree_of a stored_volumes) n offset bytes now then_held since_held
-      has_bytes = record { may = may; some = some; at_file = at_counted_file a n writes.file writes.at_file; file_with_bytes = ap (λ (f : File). retagged f writes.file.tag) writes.file_with_bytes; same_links = writes.nlink }
-
-      pub stored_agree_after_write : Agrees (counted_tree_of b news)
-      stored_agree_after_write = subst Agrees (sym written_kept) (agree_after_write (counted_tree_of a stored_volumes) n offset bytes now then_held since_held growth.place keeps has_bytes writes.place)
-
-      pub stored_view_after_write : tree_in (counted_tree_of b news) ≡ after_write_at (tree_in (counted_tree_of a stored_volumes)) n offset bytes now
-      stored_view_after_write = ap tree_in written_kept ∙ view_after_write (counted_tree_of a stored_volumes) n offset bytes now then_held since_held growth.place keeps has_bytes writes.place ∙ sym (by_bytes bytes some)
-        where
-          by_bytes : (bs : List ℕ) → 0 < length bs → after_write_at (tree_in (counted_tree_of a stored_volumes)) n offset bs now ≡ with_file (tree_in (counted_tree_of a stored_volumes)) n (file_with_bytes then_held.file offset bs now)
-          by_bytes [] some = absurd (omega (arith, some))
-          by_bytes (x ∷ xs) some = ap (λ o. on_some o (tree_in (counted_tree_of a stored_volumes)) (λ f. with_file (tree_in (counted_tree_of a stored_volumes)) n (file_with_bytes f offset (x ∷ xs) now))) (lives a stored_volumes n writes.file writes.at_file)
-
 -- ---- a volume
 
 pub unchanged : (a b : NumberedFiles StoredFile) (stored_volumes news : List StoredVolume) → b ≡ a → news ≡ stored_volumes → Agrees (counted_tree_of a stored_volumes) → Agrees (counted_tree_of b news)
@@ -270,10 +215,6 @@ root_file f place places next number given now entries a b e is =
     is ∙ ap (λ es. new_file place (Directory next 3 (map entry_of es)) given None 0 now) e
     ∙ ap (λ n. new_file place (Directory n 3 []) given None 0 now) b
     ∙ ap (λ n. new_file n (Directory number 3 []) given None 0 now) a
-
-pub some_bytes : (bytes : List ℕ) → false ≡ (length bytes == 0) → 0 < length bytes
-some_bytes [] e = impossible e
-some_bytes (b ∷ bs) e = omega arith
 
 pub bounded : {n : ℕ} → Fits w64 n → n < 18446744073709551616
 bounded f = f.fits

@@ -12,7 +12,7 @@ use Rattle.nfs_inodes.specs.Changes.{entered, file_with_bytes}
 use Rattle.nfs_inodes.specs.Tree.{File, with_at, one_when, is_directory, is_regular, bytes_in, next_cookie_in}
 use Rattle.nfs_inodes.specs.Counts.{CountedFile}
 use Rattle.nfs_inodes.specs.Storage.{file_of, counted_file_of, counted_files, HasRoom}
-use Rattle.nfs_inodes.specs.StoredFiles.{TakesEntry, Revalues, SameFile, SameFiles, Enters, AddsFile, TakesLink, GainsLink, LinksFile, TakesBytes, WritesFile}
+use Rattle.nfs_inodes.specs.StoredFiles.{TakesEntry, Revalues, SameFile, SameFiles, Enters, AddsFile, TakesLink, GainsLink, LinksFile, TakesBytes, Writes}
 use Rattle.nfs_inodes.specs.declared.stored_files.Growth.{Growth}
 use Rattle.nfs_inodes.proofs.Lists.{same_some}
 use Rattle.nfs_inodes.proofs.Bytes.{length_put}
@@ -230,22 +230,16 @@ unwritten t n f i w e v file nlink = let s = value_found t n f i e v in
     same_files t (with_value t n w) n (record { was = f; at_was = e; value = w; from = record { file = file ∙ ap (file_of 0) s; nlink = nlink ∙ ap (λ (i : StoredFile). i.nlink) s }; new_is = refl })
 
 pub wrote : (t : NumberedFiles StoredFile) (n offset : ℕ) (bytes : List ℕ) (now : Moment) (takes : TakesBytes t n offset (length bytes)) (i w : StoredFile) (growth : Growth) → Some i ≡ value_at t n → file_of 0 w ≡ file_with_bytes (file_of 0 i) offset bytes now → w.nlink ≡ i.nlink →
-    growth.place ≡ w.volume → growth.bytes ≡ length (bytes_in (file_of 0 w).kind) - length (bytes_in (file_of 0 i).kind) → WritesFile t n offset bytes now growth (with_value t n w)
+    growth.place ≡ w.volume → growth.bytes ≡ length (bytes_in (file_of 0 w).kind) - length (bytes_in (file_of 0 i).kind) → Revalues t n (Writes offset bytes growth now) (with_value t n w)
 wrote t n offset bytes now takes i w growth v file nlink place grown =
     let s = value_found t n takes.file i takes.at_file v in
     let regular : is_regular (file_of 0 i).kind ≡ true = ap (λ i. is_regular (file_of 0 i).kind) s ∙ takes.regular in
     let long : length (bytes_in (file_of 0 w).kind) ≡ length (bytes_in (file_of 0 i).kind) + (offset + length bytes - length (bytes_in (file_of 0 i).kind)) =
     ap (λ (f : File). length (bytes_in f.kind)) file ∙ ap length (overwritten_bytes (file_of 0 i).kind offset bytes regular) ∙ length_put (bytes_in (file_of 0 i).kind) bytes offset in
-    let same : length (bytes_in (file_of 0 i).kind) ≡ length (bytes_in (file_of 0 takes.file.value).kind) = ap (λ i. length (bytes_in (file_of 0 i).kind)) s in
     record {
-      file = takes.file;
-      at_file = takes.at_file;
-      file_now = w;
-      file_with_bytes = file ∙ ap (λ i. file_with_bytes (file_of 0 i) offset bytes now) s;
-      nlink = nlink ∙ ap (λ (i : StoredFile). i.nlink) s;
-      place = place ∙ ap (λ (f : File). f.volume) file ∙ ap (λ (i : StoredFile). i.volume) s;
-      grown = omega (arith, grown, long, same);
-      files = helds_value t n takes.file w takes.at_file;
-      next = (next_value t n takes.file w takes.at_file).0;
-      key = (next_value t n takes.file w takes.at_file).1;
+      was = takes.file;
+      at_was = takes.at_file;
+      value = w;
+      from = subst (λ (i : StoredFile). Writes offset bytes growth now i w) s (record { file = file; nlink = nlink; place = place ∙ ap (λ (f : File). f.volume) file; grown = omega (arith, grown, long) });
+      new_is = refl;
     }

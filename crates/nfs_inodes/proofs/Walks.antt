@@ -1,10 +1,10 @@
 -- A walk from a directory to its parents.
-use Rattle.std.proofs.Common.{inl, inr, ◌≡◌, ◌≢◌, ℕ, zero, suc, ◌+◌, ◌-◌, ◌<◌, ◌≤◌, List, [], ◌∷◌, length, refl, sym, ap, subst, ◌∙◌, arith}
+use Rattle.std.proofs.Common.{inl, inr, ◌≡◌, ◌≢◌, ℕ, ◌+◌, ◌-◌, ◌<◌, ◌≤◌, List, [], ◌∷◌, length, refl, sym, ap, subst, ◌∙◌, arith}
 use Rattle.std.proofs.lemmas.Bool.{cases_lt}
 use Rattle.nfs_inodes.specs.Tree.{Tree, File, is_directory, parent_in, on_some}
 use Rattle.nfs_inodes.specs.Law.{Law, LivesAsDirectory, AreRising, climb, parent_of, directories}
 use Rattle.nfs_inodes.proofs.Lists.{by_number, by_test, if_true, if_false}
-use Rattle.nfs_inodes.proofs.Climbs.{climb_add, reached_in_few}
+use Rattle.nfs_inodes.proofs.Climbs.{climb_add, climb_stuck, reached_in_few}
 
 -- so many steps have led from a directory to a number, each to another one, and none from the number that is looked for
 pub record Climbed (files : List (ℕ × File)) (dir above here steps : ℕ) : Type 0 where
@@ -15,10 +15,6 @@ pub record Climbed (files : List (ℕ × File)) (dir above here steps : ℕ) : T
 module _ (files : List (ℕ × File)) where
   climb_one : (j n : ℕ) → climb (j + 1) files n ≡ parent_of files (climb j files n)
   climb_one j n = climb_add files j 1 n
-
-  pub climb_stuck : (j n : ℕ) → parent_of files n ≡ n → climb j files n ≡ n
-  climb_stuck zero n s = refl
-  climb_stuck (suc j) n s = ap (climb j files) s ∙ climb_stuck j n s
 
   module _ (dir above here steps : ℕ) (walk : Climbed files dir above here steps) (other : here ≢ above) where
     earlier : (P : ℕ → Type 0) → ((j : ℕ) → j < steps → P j) → P steps → (j : ℕ) → j < steps + 1 → P j
@@ -36,13 +32,13 @@ module _ (files : List (ℕ × File)) where
       | inl l ↦ walk.apart j l s
       | inr l ↦
           let all : steps + (j - steps) ≡ j = omega (arith, l) in
-          other (sym (climb_stuck (j - steps) here stuck) ∙ ap (climb (j - steps) files) walk.is ∙ sym (climb_add files steps (j - steps) dir) ∙ ap (λ k. climb k files dir) all ∙ s)
+          other (sym (climb_stuck files (j - steps) here stuck) ∙ ap (climb (j - steps) files) walk.is ∙ sym (climb_add files steps (j - steps) dir) ∙ ap (λ k. climb k files dir) all ∙ s)
     ]
 
 pub begins : (files : List (ℕ × File)) (dir above : ℕ) → Climbed files dir above dir 0
 begins files dir above = record { is = refl; apart = λ j l. absurd (omega (arith, l)); moves = λ j l. absurd (omega (arith, l)) }
 
-pub few_directories : (es : List (ℕ × File)) → length (directories es) ≤ length es
+few_directories : (es : List (ℕ × File)) → length (directories es) ≤ length es
 few_directories [] = omega arith
 few_directories (e ∷ es) = let rest = few_directories es in by_test (is_directory e.1.kind)
     (λ y. let l : length (directories (e ∷ es)) ≡ length (e ∷ directories es) = ap length (if_true (e ∷ directories es) (directories es) y) in omega (arith, rest, l))

@@ -97,18 +97,12 @@ pub record TakesGrowth (files : NumberedFiles StoredFile) (n end : ℕ) : Type 0
   pub at_file : at files n ≡ Some file
   pub beyond : length (bytes_in (file_of 0 file.value).kind) < end
 
--- file n has these bytes at the offset, and has grown by so many
-pub record WritesFile (old : NumberedFiles StoredFile) (n offset : ℕ) (bytes : List ℕ) (now : Moment) (growth : Growth) (new : NumberedFiles StoredFile) : Type 0 where
-  pub file : TaggedFile StoredFile
-  pub at_file : at old n ≡ Some file
-  pub file_now : StoredFile
-  pub file_with_bytes : file_of 0 file_now ≡ file_with_bytes (file_of 0 file.value) offset bytes now
-  pub nlink : file_now.nlink ≡ file.value.nlink
-  pub place : growth.place ≡ file.value.volume
-  pub grown : growth.bytes ≡ offset + length bytes - length (bytes_in (file_of 0 file.value).kind)
-  pub files : counted_files new.files ≡ with_at n (counted_file_of file.tag file_now) (counted_files old.files)
-  pub next : new.next ≡ old.next
-  pub key : new.key ≡ old.key
+-- a file with these bytes at the offset, which has grown by so many
+pub record Writes (offset : ℕ) (bytes : List ℕ) (growth : Growth) (now : Moment) (old new : StoredFile) : Type 0 where
+  pub file : file_of 0 new ≡ file_with_bytes (file_of 0 old) offset bytes now
+  pub nlink : new.nlink ≡ old.nlink
+  pub place : growth.place ≡ old.volume
+  pub grown : growth.bytes ≡ offset + length bytes - length (bytes_in (file_of 0 old).kind)
 
 -- number n is that of a regular file, which takes a size
 pub record TakesSize (files : NumberedFiles StoredFile) (n size : ℕ) : Type 0 where

@@ -10,8 +10,8 @@ use crate::tree::Tree;
 use nfs_handles::number::Number;
 
 impl Tree {
-    /// Whether `above` is directory `dir` itself or above it. It takes as many steps as the
-    /// directory is deep.
+    /// Whether `above` is directory `dir` itself or above it, where a rename may not put it (RFC
+    /// 1813, section 3.3.14). It takes as many steps as the directory is deep.
     pub fn is_below(&self, dir: Number, above: Number) -> bool
         requires { (f : File) × LivesAsDirectory self.now dir.0 f }
         ensures below { result ≡ true → (steps : ℕ) × (climb steps self.now.files dir.0 ≡ above.0) }

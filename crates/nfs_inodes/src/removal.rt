@@ -18,8 +18,8 @@ use nfs_handles::files::Files;
 use nfs_handles::number::Number;
 
 impl Tree {
-    /// Takes the entry of a name out of directory `dir`, for a file or for a directory without
-    /// entries, which leaves with its last (RFC 1813, sections 3.3.12 and 3.3.13).
+    /// The entry of a name leaves directory `dir`, and with its last entry what it named: a file, or
+    /// a directory without entries (RFC 1813, sections 3.3.12 and 3.3.13).
     pub fn unlink(&mut self, dir: Number, name: &[u8], now: Moment)
         requires { MayUnlink self.old dir.0 name.now }
         ensures { self.new ≡ after_unlink self.old dir.0 name.now now }

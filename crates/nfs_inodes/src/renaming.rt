@@ -68,6 +68,7 @@ pub(crate) struct Route {
     pub(crate) to: Number,
 }
 
+// Whether a file was found, and it is this one.
 fn is_number(found: Option<Number>, number: Number) -> bool
     ensures { IsTrue result ↔ (found ≡ Some number) }
 {

@@ -6,7 +6,7 @@ ghost use Rattle.nfs_inodes.specs.Tree.{one_when};
 ghost use Rattle.nfs_inodes.specs.Storage.{HasRoom};
 ghost use Rattle.nfs_inodes.specs.StoredFiles.{TakesEntry, Revalues, SameFile, Enters, AddsFile};
 ghost use Rattle.nfs_inodes.specs.StoredFiles.{SameFiles, TakesLink, LinksFile, GainsLink};
-ghost use Rattle.nfs_inodes.specs.StoredFiles.{TakesBytes, TakesGrowth, WritesFile};
+ghost use Rattle.nfs_inodes.specs.StoredFiles.{TakesBytes, TakesGrowth, Writes};
 ghost use Rattle.nfs_inodes.specs.StoredFiles.{IsThere, SetsAttributes};
 ghost use Rattle.nfs_inodes.specs.StoredFiles.{TakesSize, Resizes};
 
@@ -81,7 +81,7 @@ pub(crate) fn write(
     now: Moment,
 ) -> Result<Growth, AllocError>
     requires { TakesBytes files.old number.0 offset (length bytes.now) }
-    ensures ok { IfOk result (λ growth. WritesFile files.old number.0 offset bytes.now now growth files.new) }
+    ensures ok { IfOk result (λ growth. Revalues files.old number.0 (Writes offset bytes.now growth now) files.new) }
     ensures err { OnErr result (SameFiles files.old files.new) }
     ensures full { OnErr result (TakesGrowth files.old number.0 (offset + length bytes.now)) }
 {

@@ -15,6 +15,7 @@ pub mod make_dir;
 pub mod make_node;
 pub mod new_files;
 pub mod path_conf;
+pub mod perform;
 pub mod plan;
 pub mod read;
 pub mod read_link;

@@ -5,7 +5,7 @@ use Rattle.nfs_inodes.specs.Conditions.{MayWrite}
 use Rattle.nfs_inodes.specs.Storage.{file_of}
 use Rattle.nfs_inodes.proofs.StoredFiles.{on_err}
 use Rattle.nfs_inodes.proofs.Views.{lives_there}
-use Rattle.nfs_inodes.proofs.Steps.{takes_bytes, room_to_grow, stored_agree_after_write, stored_view_after_write, some_bytes}
+use Rattle.nfs_inodes.proofs.ByteChanges.{takes_bytes, room_to_grow, stored_agree_after_write, stored_view_after_write, some_bytes}
 use Rattle.nfs_inodes.proofs.tree.Tree.write_at.Goals as goal
 
 pub write-requires : goal.write-requires
