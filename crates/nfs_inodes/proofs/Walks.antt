@@ -38,7 +38,7 @@ module _ (files : List (ℕ × File)) where
 pub begins : (files : List (ℕ × File)) (dir above : ℕ) → Climbed files dir above dir 0
 begins files dir above = record { is = refl; apart = λ j l. absurd (omega (arith, l)); moves = λ j l. absurd (omega (arith, l)) }
 
-few_directories : (es : List (ℕ × File)) → length (directories es) ≤ length es
+pub few_directories : (es : List (ℕ × File)) → length (directories es) ≤ length es
 few_directories [] = omega arith
 few_directories (e ∷ es) = let rest = few_directories es in by_test (is_directory e.1.kind)
     (λ y. let l : length (directories (e ∷ es)) ≡ length (e ∷ directories es) = ap length (if_true (e ∷ directories es) (directories es) y) in omega (arith, rest, l))

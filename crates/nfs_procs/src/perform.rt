@@ -5,6 +5,7 @@ ghost use Rattle.nfs_rules.specs.Views.{caller_of};
 
 use crate::access::access;
 use crate::commit::commit;
+use crate::create::create;
 use crate::done::Done;
 use crate::fs_info::fs_info;
 use crate::fs_stat::fs_stat;
@@ -46,7 +47,7 @@ pub fn perform(
     ensures { PerformsAs (record { tree = tree.old; exports = table.now; caller = caller_of caller.entry; now = now; args = args.now }) (doing_of args.now) result tree.new out.old out.new }
 {
     match args {
-        NfsArgs::Null | NfsArgs::Create(_) | NfsArgs::ReadDir(_) | NfsArgs::ReadDirPlus(_) => None,
+        NfsArgs::Null | NfsArgs::ReadDir(_) | NfsArgs::ReadDirPlus(_) => None,
         NfsArgs::GetAttr(file) => Some(get_attr(tree, table, caller, now, file, out)),
         NfsArgs::SetAttr(args) => Some(set_attr(tree, table, caller, now, args, out)),
         NfsArgs::Lookup(args) => Some(lookup(tree, table, caller, now, args, out)),
@@ -54,6 +55,7 @@ pub fn perform(
         NfsArgs::ReadLink(file) => Some(read_link(tree, table, caller, now, file, out)),
         NfsArgs::Read(args) => Some(read(tree, table, caller, now, args, out)),
         NfsArgs::Write(args) => Some(write(tree, table, caller, now, args, out)),
+        NfsArgs::Create(args) => Some(create(tree, table, caller, now, args, out)),
         NfsArgs::MakeDir(args) => Some(make_dir(tree, table, caller, now, args, out)),
         NfsArgs::SymLink(args) => Some(sym_link(tree, table, caller, now, args, out)),
         NfsArgs::MakeNode(args) => Some(make_node(tree, table, caller, now, args, out)),
