@@ -4,3 +4,4 @@ pub mod MakeDir
 pub mod SymLink
 pub mod WrittenBytes
 pub mod GivenSettings
+pub mod Creations

@@ -1,6 +1,8 @@
 //! The procedures of NFS: each call is judged, done where no rule fails, and answered.
 #![tactic(auto)]
 
+pub mod create;
+pub mod creation;
 pub mod denial;
 pub mod done;
 pub mod get_attr;
