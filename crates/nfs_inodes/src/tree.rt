@@ -76,6 +76,11 @@ impl Tree {
         self.files.next()
     }
 
+    /// Where the tree's memory comes from, and that of contents that become its own.
+    pub fn allocator(&self) -> Global {
+        self.alloc
+    }
+
     /// A new regular file with this content, which becomes its own, and an entry in directory
     /// `dir`. Refused without memory, and then the tree is as before and the content is dropped.
     pub fn make_file(

@@ -206,7 +206,9 @@ fn create(alloc: Global, args: &Create<'_>) -> Option<String> {
     match &args.how {
         CreateHow::Unchecked(attributes) => with(alloc, place, "UNCHECKED", *attributes),
         CreateHow::Guarded(attributes) => with(alloc, place, "GUARDED", *attributes),
-        CreateHow::Exclusive(verifier) => with_bytes(alloc, place, "EXCLUSIVE", verifier),
+        CreateHow::Exclusive(verifier) => {
+            with_bytes(alloc, place, "EXCLUSIVE", &Opaque::new(verifier.as_slice()))
+        }
     }
 }
 

@@ -9,3 +9,4 @@ pub mod Made
 pub mod SymLink
 pub mod WrittenBytes
 pub mod GivenSettings
+pub mod Creations

@@ -106,9 +106,9 @@ verifier_in (Guarded attributes) = None
 verifier_in (Exclusive verifier) = Some verifier
 
 -- a file that is there gets the size that an unchecked CREATE gives, and is else left as it is
-abbrev pub after_taking : Tree → Fattr → CreateHow → Moment → Tree
-after_taking t f (Unchecked attributes) now = on_some attributes.size t (λ size. after_resize t f.fileid size now)
-after_taking t f other now = t
+abbrev pub after_taking : Tree → ℕ → CreateHow → Moment → Tree
+after_taking t n (Unchecked attributes) now = on_some attributes.size t (λ size. after_resize t n size now)
+after_taking t n other now = t
 
 -- a new file has as many zeros as its size says
 abbrev pub after_creating : Subject → Create → Moment → ℕ → Tree
@@ -118,7 +118,7 @@ after_creating dir a now tag = after_make_file dir.tree dir.file.fileid a.place.
 abbrev pub create : Create → Doing
 create a = record {
   takes_memory = true;
-  effect = λ dir same now tag. on_some (found dir a.place.name) (after_creating dir a now tag) (λ f. after_taking dir.tree f a.how now);
+  effect = λ dir same now tag. on_some (found dir a.place.name) (after_creating dir a now tag) (λ f. after_taking dir.tree f.fileid a.how now);
   granted = λ dir same new. answer.Create (Ok (made_of new (on_some (found dir a.place.name) dir.tree.next (λ f. f.fileid)) dir));
   denied = λ status seen. answer.Create (Err (record { status = status; shown = no_change (seen a.place.dir) }));
 }

@@ -1,5 +1,8 @@
 -- What is planned of procedures that change the tree, once their rules are kept.
-use Rattle.std.specs.Prelude.{◌≡◌, ℕ, true, List, length, Option, Some}
+use Rattle.std.specs.Prelude.{◌≡◌, ℕ, true, List, length, Option, Some, None}
+use Rattle.nfs_args.specs.declared.create.Create.{Create}
+use Rattle.nfs_args.specs.declared.create.CreateHow.{CreateHow}
+use Rattle.nfs_args.specs.declared.create.CreateHow.TheVariants.{Unchecked}
 use Rattle.nfs_args.specs.declared.make_dir.MakeDir.{MakeDir}
 use Rattle.nfs_args.specs.declared.rename.Rename.{Rename}
 use Rattle.nfs_args.specs.declared.set_attr.SetAttr.{SetAttr}
@@ -7,16 +10,19 @@ use Rattle.nfs_args.specs.declared.sym_link.SymLink.{SymLink}
 use Rattle.nfs_args.specs.declared.write.Write.{Write}
 use Rattle.nfs_attrs.specs.declared.fattr.Fattr.{Fattr}
 use Rattle.nfs_attrs.specs.declared.moment.Moment.{Moment}
-use Rattle.nfs_inodes.specs.Conditions.{MayLink, MayMakeDirectory, MayMakeLink, MayRename, MayResize, MayUnlink, MayWrite}
+use Rattle.nfs_inodes.specs.Changes.{after_make_file, zeros}
+use Rattle.nfs_inodes.specs.Conditions.{MayLink, MayMake, MayMakeDirectory, MayMakeLink, MayRename, MayResize, MayUnlink, MayWrite}
 use Rattle.nfs_inodes.specs.Law.{Lives}
 use Rattle.nfs_inodes.specs.Reading.{is_regular_type}
-use Rattle.nfs_inodes.specs.Tree.{Tree, File}
+use Rattle.nfs_inodes.specs.Tree.{Tree, File, on_some}
 use Rattle.nfs_inodes.specs.Views.{IsSeen}
 use Rattle.nfs_inodes.specs.declared.view.FileView.{FileView}
 use Rattle.nfs_procs.specs.NewFiles.{new_file_of}
-use Rattle.nfs_procs.specs.Changers.{directory_mode, link_mode}
+use Rattle.nfs_procs.specs.Changers.{file_mode, directory_mode, link_mode, attributes_in, verifier_in, after_taking}
 use Rattle.nfs_procs.specs.declared.plan.Plan.{Plan}
+use Rattle.nfs_procs.specs.declared.plan.FilePlan.{FilePlan}
 use Rattle.nfs_rules.specs.Subjects.{Subject}
+use Rattle.nfs_rules.specs.Table.{size_in}
 use Rattle.nfs_rules.specs.Tests.{found}
 
 -- a new directory
@@ -87,3 +93,31 @@ pub record PlansSettings (t : Tree) (a : SetAttr) (file : Fattr) (s : Subject) :
   pub same : file ≡ s.file
   pub lives : (f : File) × Lives t s.file.fileid f
   pub may : MayTakeSize t s.file.fileid a.attributes.size
+
+-- a file that is there may be taken
+abbrev pub MayTake : Tree → ℕ → CreateHow → Type 0
+MayTake t n (Unchecked attributes) = MayTakeSize t n attributes.size
+MayTake t n other = Unit {0}
+
+-- a file may be made in directory d, or that which is there may be taken
+abbrev pub MayMakeOrTake : Tree → ℕ → Create → Option Fattr → Type 0
+MayMakeOrTake t d a None = MayMake t d a.place.name (on_some (size_in a.how) 0 (λ size. size))
+MayMakeOrTake t d a (Some f) = MayTake t f.fileid a.how
+
+abbrev pub after_making : Tree → FilePlan → Create → Moment → ℕ → Tree
+after_making t plan a now tag = after_make_file t plan.dir.fileid a.place.name (zeros (on_some (size_in a.how) 0 (λ size. size))) plan.given (verifier_in a.how) tag now
+
+abbrev pub after_making_or_taking : Tree → FilePlan → Create → Moment → ℕ → Tree
+after_making_or_taking t plan a now tag = on_some plan.present (after_making t plan a now tag) (λ f. after_taking t f.fileid a.how now)
+
+-- the number of the file that is there, or of a new one
+abbrev pub number_of : Tree → Option Fattr → ℕ
+number_of t present = on_some present t.next (λ f. f.fileid)
+
+-- a regular file
+pub record PlansFile (t : Tree) (now : Moment) (a : Create) (plan : FilePlan) (s : Subject) : Type 0 where
+  pub tree : s.tree ≡ t
+  pub dir : plan.dir ≡ s.file
+  pub present : plan.present ≡ found s a.place.name
+  pub given : plan.given ≡ new_file_of file_mode s.ids now (attributes_in a.how)
+  pub may : MayMakeOrTake t plan.dir.fileid a plan.present

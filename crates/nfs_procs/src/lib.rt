@@ -3,6 +3,8 @@
 
 pub mod access;
 pub mod commit;
+pub mod create;
+pub mod creation;
 pub mod denial;
 pub mod done;
 pub mod fs_info;

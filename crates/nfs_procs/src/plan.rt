@@ -10,3 +10,14 @@ pub struct Plan {
     /// What the file is like.
     pub given: NewFile,
 }
+
+/// A regular file: the directory of its name, and the file that is there, or what a new one is like.
+#[derive(Clone, Copy)]
+pub struct FilePlan {
+    /// The directory before the call.
+    pub dir: Fattr,
+    /// The file that is taken, if there is one, before the call.
+    pub present: Option<Fattr>,
+    /// What a new file is like.
+    pub given: NewFile,
+}

@@ -52,7 +52,7 @@ impl<'a> Subject<'a> {
     pub fn exists_other(
         &self,
         name: &[u8],
-        how: &CreateHow<'_>,
+        how: &CreateHow,
     ) -> Result<Option<FileView<'a>>, Rule>
         ensures rule { Tells result (test.exists_other self.now name.now how.now) }
         ensures found { IfOk result (λ o. option_map (λ f. f.attributes) o ≡ test.found self.now name.now) }
@@ -71,14 +71,14 @@ impl<'a> Subject<'a> {
     }
 
     // Whether CREATE takes a file that is there.
-    fn takes(&self, how: &CreateHow<'_>, file: &Fattr) -> bool
+    fn takes(&self, how: &CreateHow, file: &Fattr) -> bool
         ensures { result ≡ test.takes self.now.tree how.now file.now }
     {
         match how {
             CreateHow::Unchecked(_) => file.file_type == FileType::Regular,
             CreateHow::Guarded(_) => false,
             CreateHow::Exclusive(verifier) => {
-                file.file_type == FileType::Regular && self.was_made_by(file, verifier.bytes())
+                file.file_type == FileType::Regular && self.was_made_by(file, verifier.as_slice())
             }
         }
     }

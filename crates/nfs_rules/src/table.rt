@@ -103,7 +103,7 @@ fn new_file_rules(dir: &Subject<'_>, size: Option<u64>) -> Result<(), Rule>
 }
 
 // CREATE of a file that is there, which may get a size.
-fn present_file_rules(file: &Subject<'_>, how: &CreateHow<'_>) -> Result<(), Rule>
+fn present_file_rules(file: &Subject<'_>, how: &CreateHow) -> Result<(), Rule>
     ensures { Judges result (table.present_file_rules file.now how.now) }
 {
     match how {
@@ -115,7 +115,7 @@ fn present_file_rules(file: &Subject<'_>, how: &CreateHow<'_>) -> Result<(), Rul
     }
 }
 
-fn size_in(how: &CreateHow<'_>) -> Option<u64>
+fn size_in(how: &CreateHow) -> Option<u64>
     ensures { result ≡ table.size_in how.now }
 {
     match how {

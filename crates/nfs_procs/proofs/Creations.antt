@@ -1,0 +1,65 @@
+-- Regular files are made, or taken where they are there.
+use Rattle.std.proofs.Common.{◌≡◌, ℕ, Option, Some, None, refl, sym, ap, subst, ◌∙◌}
+use Rattle.std.specs.Int.{w32, to_be_bytes}
+use Rattle.nfs_args.specs.Results.{made_text}
+use Rattle.nfs_args.specs.declared.create.Create.{Create}
+use Rattle.nfs_args.specs.declared.create.CreateHow.{CreateHow}
+use Rattle.nfs_args.specs.declared.create.CreateHow.TheVariants.{Unchecked, Guarded, Exclusive}
+use Rattle.nfs_attrs.specs.declared.fattr.Fattr.{Fattr}
+use Rattle.nfs_attrs.specs.declared.wcc.Wcc.{Wcc}
+use Rattle.nfs_inodes.specs.Changes.{Makes}
+use Rattle.nfs_inodes.specs.Law.{Law}
+use Rattle.nfs_inodes.specs.Reading.{attributes_at}
+use Rattle.nfs_inodes.specs.Tree.{Tree}
+use Rattle.nfs_inodes.specs.declared.new_file.NewFile.{NewFile}
+use Rattle.nfs_procs.proofs.Made.{shown_of, shows_made}
+use Rattle.nfs_procs.specs.Changers.{create, attributes_in, file_mode}
+use Rattle.nfs_procs.specs.Doing.{change}
+use Rattle.nfs_procs.specs.NewFiles.{new_file_of}
+use Rattle.nfs_procs.specs.Performing.{IsGranted, HasEffect}
+use Rattle.nfs_procs.specs.Plans.{MayTake, MayMakeOrTake, PlansFile, after_making_or_taking, number_of}
+use Rattle.nfs_procs.specs.Scenes.{Scene}
+use Rattle.nfs_procs.specs.declared.plan.FilePlan.{FilePlan}
+use Rattle.nfs_rules.proofs.NewFiles.{may_make_file}
+use Rattle.nfs_rules.proofs.Sizes.{may_resize_present}
+use Rattle.nfs_rules.specs.Subjects.{Subject}
+use Rattle.nfs_rules.specs.Table.{create_rules}
+use Rattle.nfs_rules.specs.Tests.{first, found}
+use Rattle.nfs_xdr.proofs.Writing.{appends_then}
+use Rattle.nfs_xdr.specs.Written.{Written, Appends}
+
+-- where no rule is failed
+pub may_make_or_take : (s : Subject) → Law s.tree → attributes_at s.tree s.file.fileid ≡ Some s.file → (a : Create) → first (create_rules s a) ≡ None
+    → (present : Option Fattr) → present ≡ found s a.place.name → MayMakeOrTake s.tree s.file.fileid a present
+may_make_or_take s law seen a none None is = may_make_file s law seen a none (sym is)
+may_make_or_take s law seen a none (Some f) is = may_take a.how refl
+  where
+    may_take : (how : CreateHow) → a.how ≡ how → MayTake s.tree f.fileid how
+    may_take (Unchecked attributes) e = λ n size. may_resize_present s law a none f (sym is) attributes e n size
+    may_take (Guarded attributes) e = tt
+    may_take (Exclusive verifier) e = tt
+
+abbrev planned : Fattr → Option Fattr → NewFile → FilePlan
+planned dir present given = record { dir = dir; present = present; given = given }
+
+pub created : (c : Scene) (a : Create) (s : Subject) (plan : FilePlan) (new : Tree) (n : ℕ) (dir : Wcc) (x y z : Written) → IsGranted c s s → PlansFile c.tree c.now a plan s
+    → Makes (after_making_or_taking c.tree plan a c.now) new → n ≡ number_of c.tree plan.present
+    → dir ≡ change (Some plan.dir) (attributes_at new plan.dir.fileid)
+    → Appends (to_be_bytes w32 0) x y → Appends (made_text (shown_of new n dir)) y z
+    → HasEffect c (create a) new x z
+created c a s plan new n dir x y z granted plans makes number shown status made = record {
+  one = s;
+  two = s;
+  granted = granted;
+  tag = makes.tag;
+  fits = makes.fits;
+  new_is = makes.new_is
+      ∙ ap (λ d. after_making_or_taking c.tree (planned d plan.present plan.given) a c.now makes.tag) plans.dir
+      ∙ ap (λ present. after_making_or_taking c.tree (planned s.file present plan.given) a c.now makes.tag) plans.present
+      ∙ ap (λ given. after_making_or_taking c.tree (planned s.file (found s a.place.name) given) a c.now makes.tag) plans.given
+      ∙ ap (λ t. after_making_or_taking t (planned s.file (found s a.place.name) (new_file_of file_mode s.ids c.now (attributes_in a.how))) a c.now makes.tag) (sym plans.tree);
+  written = appends_then _ _ x y z status (subst (λ m. Appends (made_text m) y z) (shows_made new n (number_of s.tree (found s a.place.name)) s plan.dir dir plans.dir numbered shown) made);
+}
+  where
+    numbered : n ≡ number_of s.tree (found s a.place.name)
+    numbered = number ∙ ap (number_of c.tree) plans.present ∙ ap (λ t. number_of t (found s a.place.name)) (sym plans.tree)

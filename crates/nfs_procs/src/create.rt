@@ -1,0 +1,105 @@
+//! CREATE: a regular file that is made, or taken where it is there (RFC 1813, section 3.3.8).
+ghost use Rattle.std.specs.Prelude.{◌≡◌, ◌≤◌, option_map};
+ghost use Rattle.nfs_args.specs.declared.args.NfsArgs.TheVariants as nfs;
+ghost use Rattle.nfs_procs.specs.Changers as procedure;
+ghost use Rattle.nfs_procs.specs.Denials.{Decides};
+ghost use Rattle.nfs_procs.specs.Performing.{Performs};
+ghost use Rattle.nfs_procs.specs.Plans.{PlansFile};
+ghost use Rattle.nfs_rules.specs.Views.{caller_of};
+
+use crate::creation::make_or_take;
+use crate::denial::Denial;
+use crate::done::Done;
+use crate::limits::MAX_RESULT_BYTES;
+use crate::new_files::new_file_of;
+use crate::plan::FilePlan;
+use crate::replies::{change, write_denied_change, write_new_file};
+use nfs_args::create::{Create, CreateHow};
+use nfs_attrs::fattr::Fattr;
+use nfs_attrs::moment::Moment;
+use nfs_attrs::sattr::Sattr;
+use nfs_attrs::time_setting::TimeSetting;
+use nfs_exports::table::Table;
+use nfs_handles::number::Number;
+use nfs_inodes::tree::Tree;
+use nfs_inodes::view::FileView;
+use nfs_rules::caller::Caller;
+use nfs_rules::exported_file::ExportedFile;
+use nfs_rules::table::create_rules;
+use nfs_xdr::output::Output;
+
+/// The mode of a file where none is given.
+const FILE_MODE: u32 = 0o600;
+
+pub(crate) fn create(
+    tree: &mut Tree,
+    table: &Table,
+    caller: Caller<'_>,
+    now: Moment,
+    args: &Create<'_>,
+    out: &mut Output,
+) -> Done
+    requires { MAX_RESULT_BYTES ≤ out.old.room }
+    ensures { Performs (record { tree = tree.old; exports = table.now; caller = caller_of caller.entry; now = now; args = nfs.Create args.now }) (procedure.create args.now) result tree.new out.old out.new }
+{
+    let plan = match decide(tree, table, caller, now, args) {
+        Ok(plan) => plan,
+        Err(denial) => return write_denied_change(out, &denial),
+    };
+    let Ok(file) = make_or_take(tree, &plan, args, now) else {
+        return Done::Memory;
+    };
+    let dir = change(Some(plan.dir), tree.attributes(Number(plan.dir.fileid)));
+    out.u32(0);
+    write_new_file(out, tree, file, dir);
+    Done::Granted
+}
+
+fn decide(
+    tree: &Tree,
+    table: &Table,
+    caller: Caller<'_>,
+    now: Moment,
+    args: &Create<'_>,
+) -> Result<FilePlan, Denial>
+    ensures { Decides (record { tree = tree.now; exports = table.now; caller = caller_of caller.entry; now = now; args = nfs.Create args.now }) args.now.place.dir (PlansFile tree.now now args.now) result }
+{
+    let dir = match ExportedFile::of(tree, table, caller, args.place.dir.bytes()) {
+        Ok(file) => file.subject(),
+        Err(rule) => return Err(Denial::of_handle(rule)),
+    };
+    dir.law();
+    match create_rules(&dir, args) {
+        Ok(present) => Ok(FilePlan {
+            dir: *dir.file(),
+            present: attributes_of(&present),
+            given: new_file_of(FILE_MODE, &dir, now, &given_in(&args.how)),
+        }),
+        Err(rule) => Err(Denial::of_rule(&dir, rule)),
+    }
+}
+
+fn attributes_of(file: &Option<FileView<'_>>) -> Option<Fattr>
+    ensures { result ≡ option_map (λ f. f.attributes) file.now }
+{
+    match file {
+        Some(file) => Some(file.attributes),
+        None => None,
+    }
+}
+
+fn given_in(how: &CreateHow) -> Sattr
+    ensures { result ≡ procedure.attributes_in how.now }
+{
+    match how {
+        CreateHow::Unchecked(given) | CreateHow::Guarded(given) => *given,
+        CreateHow::Exclusive(_) => Sattr {
+            mode: None,
+            uid: None,
+            gid: None,
+            size: None,
+            atime: TimeSetting::Leave,
+            mtime: TimeSetting::Leave,
+        },
+    }
+}

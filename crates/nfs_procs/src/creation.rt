@@ -1,0 +1,94 @@
+//! Regular files that are made, or taken where they are there.
+ghost use Rattle.std.specs.Prelude.{◌≡◌, OnOk, OnErr, IfOk};
+ghost use Rattle.nfs_inodes.specs.Changes.{Makes};
+ghost use Rattle.nfs_inodes.specs.Conditions.{MayMake};
+ghost use Rattle.nfs_inodes.specs.Tree.{on_some};
+ghost use Rattle.nfs_procs.specs.Changers as changers;
+ghost use Rattle.nfs_procs.specs.Plans.{MayTake, MayMakeOrTake, after_making, after_making_or_taking};
+ghost use Rattle.nfs_procs.specs.Plans.{number_of};
+ghost use Rattle.nfs_rules.specs.Table.{size_in};
+
+use crate::plan::FilePlan;
+use crate::settings::set_size;
+use nfs_args::create::{Create, CreateHow};
+use nfs_attrs::moment::Moment;
+use nfs_handles::number::Number;
+use nfs_inodes::content::zeroed;
+use nfs_inodes::tree::Tree;
+use std::alloc::AllocError;
+
+/// The file that is taken, or else a new one. Refused without memory, and then the tree is as
+/// before.
+pub(crate) fn make_or_take(
+    tree: &mut Tree,
+    plan: &FilePlan,
+    args: &Create<'_>,
+    now: Moment,
+) -> Result<Number, AllocError>
+    requires { MayMakeOrTake tree.old plan.now.dir.fileid args.now plan.now.present }
+    ensures ok { OnOk result (Makes (after_making_or_taking tree.old plan.now args.now now) tree.new) }
+    ensures number { IfOk result (λ n. n.0 ≡ number_of tree.old plan.now.present) }
+    ensures err { OnErr result (tree.new ≡ tree.old) }
+{
+    match plan.present {
+        None => make(tree, plan, args, now),
+        Some(file) => {
+            let number = Number(file.fileid);
+            take(tree, number, &args.how, now)?;
+            Ok(number)
+        }
+    }
+}
+
+// A new file, of zeros.
+fn make(
+    tree: &mut Tree,
+    plan: &FilePlan,
+    args: &Create<'_>,
+    now: Moment,
+) -> Result<Number, AllocError>
+    requires { MayMake tree.old plan.now.dir.fileid args.now.place.name (on_some (size_in args.now.how) 0 (λ size. size)) }
+    ensures ok { OnOk result (Makes (after_making tree.old plan.now args.now now) tree.new) }
+    ensures number { IfOk result (λ n. n.0 ≡ tree.old.next) }
+    ensures err { OnErr result (tree.new ≡ tree.old) }
+{
+    let content = zeroed(tree.allocator(), size_of(&args.how) as usize)?;
+    tree.make_file(
+        Number(plan.dir.fileid),
+        args.place.name.bytes(),
+        content,
+        &plan.given,
+        verifier_in(&args.how),
+        now,
+    )
+}
+
+// A file that is there, which gets the size that is given.
+fn take(tree: &mut Tree, number: Number, how: &CreateHow, now: Moment) -> Result<(), AllocError>
+    requires { MayTake tree.old number.0 how.now }
+    ensures ok { OnOk result (tree.new ≡ changers.after_taking tree.old number.0 how.now now) }
+    ensures err { OnErr result (tree.new ≡ tree.old) }
+{
+    match how {
+        CreateHow::Unchecked(given) => set_size(tree, number, given.size, now),
+        CreateHow::Guarded(_) | CreateHow::Exclusive(_) => Ok(()),
+    }
+}
+
+fn size_of(how: &CreateHow) -> u64
+    ensures { result ≡ on_some (size_in how.now) 0 (λ size. size) }
+{
+    match how {
+        CreateHow::Unchecked(given) | CreateHow::Guarded(given) => given.size.unwrap_or(0),
+        CreateHow::Exclusive(_) => 0,
+    }
+}
+
+fn verifier_in(how: &CreateHow) -> Option<[u8; 8]>
+    ensures { result ≡ changers.verifier_in how.now }
+{
+    match how {
+        CreateHow::Unchecked(_) | CreateHow::Guarded(_) => None,
+        CreateHow::Exclusive(verifier) => Some(*verifier),
+    }
+}
