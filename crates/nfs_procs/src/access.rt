@@ -5,7 +5,7 @@ ghost use Rattle.nfs_args.specs.declared.answer.NfsAnswer.TheVariants as answer;
 ghost use Rattle.nfs_args.specs.declared.args.NfsArgs.TheVariants as nfs;
 ghost use Rattle.nfs_procs.specs.Performing.{Performs};
 ghost use Rattle.nfs_procs.specs.Readers as procedure;
-ghost use Rattle.nfs_rules.specs.Views.{caller_of};
+ghost use Rattle.nfs_procs.specs.Scenes.{scene};
 ghost use Rattle.nfs_xdr.specs.Written.{Appends};
 
 use crate::denial::Denial;
@@ -31,7 +31,8 @@ pub(crate) fn access(
     out: &mut Output,
 ) -> Done
     requires { MAX_RESULT_BYTES ≤ out.old.room }
-    ensures { Performs (record { tree = tree.now; exports = table.now; caller = caller_of caller.entry; now = now; args = nfs.Access args.now }) (procedure.access args.now) result tree.now out.old out.new }
+    ensures { Performs (scene tree.now table.now caller.entry now (nfs.Access args.now))
+        (procedure.access args.now) result tree.now out.old out.new }
 {
     match ExportedFile::of(tree, table, caller, args.file.bytes()) {
         Ok(file) => {

@@ -8,7 +8,7 @@ ghost use Rattle.nfs_procs.specs.Doing.{no_change};
 ghost use Rattle.nfs_procs.specs.Performing.{Performs};
 ghost use Rattle.nfs_procs.specs.Plans.{PlansReading};
 ghost use Rattle.nfs_procs.specs.Readers as procedure;
-ghost use Rattle.nfs_rules.specs.Views.{caller_of};
+ghost use Rattle.nfs_procs.specs.Scenes.{scene};
 ghost use Rattle.nfs_xdr.specs.Written.{Appends};
 
 use crate::denial::Denial;
@@ -35,7 +35,8 @@ pub(crate) fn commit(
     out: &mut Output,
 ) -> Done
     requires { MAX_RESULT_BYTES ≤ out.old.room }
-    ensures { Performs (record { tree = tree.now; exports = table.now; caller = caller_of caller.entry; now = now; args = nfs.Commit args.now }) (procedure.commit args.now) result tree.now out.old out.new }
+    ensures { Performs (scene tree.now table.now caller.entry now (nfs.Commit args.now))
+        (procedure.commit args.now) result tree.now out.old out.new }
 {
     match decide(tree, table, caller, now, args) {
         Ok(file) => {
@@ -53,7 +54,8 @@ fn decide<'a>(
     now: Moment,
     args: &ByteRange<'_>,
 ) -> Result<Subject<'a>, Denial>
-    ensures { Decides (record { tree = tree.entry.now; exports = table.entry.now; caller = caller_of caller.entry; now = now; args = nfs.Commit args.now }) args.now.file (PlansReading tree.entry.now) result }
+    ensures { Decides (scene tree.entry.now table.entry.now caller.entry now (nfs.Commit args.now)) args.now.file
+        (PlansReading tree.entry.now) result }
 {
     let file = match ExportedFile::of(tree, table, caller, args.file.bytes()) {
         Ok(file) => file.subject(),
@@ -67,7 +69,8 @@ fn decide<'a>(
 
 fn write_granted(out: &mut Output, tree: &Tree, file: &Fattr)
     requires { 256 ≤ out.old.room }
-    ensures { Appends (nfs_text (answer.Commit (Ok (record { file = no_change (Some file.now); verifier = procedure.verifier_of tree.now })))) out.old out.new }
+    ensures { Appends (nfs_text (answer.Commit (Ok
+        (record { file = no_change (Some file.now); verifier = procedure.verifier_of tree.now })))) out.old out.new }
 {
     out.u32(0);
     write_committed(

@@ -5,7 +5,7 @@ ghost use Rattle.nfs_args.specs.declared.answer.NfsAnswer.TheVariants as answer;
 ghost use Rattle.nfs_args.specs.declared.args.NfsArgs.TheVariants as nfs;
 ghost use Rattle.nfs_procs.specs.Performing.{Performs};
 ghost use Rattle.nfs_procs.specs.Readers as procedure;
-ghost use Rattle.nfs_rules.specs.Views.{caller_of};
+ghost use Rattle.nfs_procs.specs.Scenes.{scene};
 ghost use Rattle.nfs_xdr.specs.Written.{Appends};
 
 use crate::denial::Denial;
@@ -33,7 +33,8 @@ pub(crate) fn fs_info(
     out: &mut Output,
 ) -> Done
     requires { MAX_RESULT_BYTES ≤ out.old.room }
-    ensures { Performs (record { tree = tree.now; exports = table.now; caller = caller_of caller.entry; now = now; args = nfs.FsInfo handle.now }) (procedure.fs_info handle.now) result tree.now out.old out.new }
+    ensures { Performs (scene tree.now table.now caller.entry now (nfs.FsInfo handle.now))
+        (procedure.fs_info handle.now) result tree.now out.old out.new }
 {
     match ExportedFile::of(tree, table, caller, handle.bytes()) {
         Ok(file) => {

@@ -7,7 +7,7 @@ ghost use Rattle.nfs_inodes.specs.Reading.{totals_at};
 ghost use Rattle.nfs_inodes.specs.Views.{volume_seen};
 ghost use Rattle.nfs_procs.specs.Performing.{Performs};
 ghost use Rattle.nfs_procs.specs.Readers as procedure;
-ghost use Rattle.nfs_rules.specs.Views.{caller_of};
+ghost use Rattle.nfs_procs.specs.Scenes.{scene};
 ghost use Rattle.nfs_xdr.specs.Written.{Appends};
 
 use crate::denial::Denial;
@@ -34,7 +34,8 @@ pub(crate) fn fs_stat(
     out: &mut Output,
 ) -> Done
     requires { MAX_RESULT_BYTES ≤ out.old.room }
-    ensures { Performs (record { tree = tree.now; exports = table.now; caller = caller_of caller.entry; now = now; args = nfs.FsStat handle.now }) (procedure.fs_stat handle.now) result tree.now out.old out.new }
+    ensures { Performs (scene tree.now table.now caller.entry now (nfs.FsStat handle.now))
+        (procedure.fs_stat handle.now) result tree.now out.old out.new }
 {
     match ExportedFile::of(tree, table, caller, handle.bytes()) {
         Ok(file) => {
@@ -47,14 +48,17 @@ pub(crate) fn fs_stat(
 
 fn write_granted(out: &mut Output, tree: &Tree, file: &Fattr)
     requires { 256 ≤ out.old.room }
-    ensures { Appends (nfs_text (answer.FsStat (Ok (procedure.room_in (slice_get tree.now.volumes (file.now.fsid - 1)) (totals_at tree.now (file.now.fsid - 1)) file.now)))) out.old out.new }
+    ensures { Appends (nfs_text (answer.FsStat (Ok
+        (procedure.room_in (slice_get tree.now.volumes (file.now.fsid - 1)) (totals_at tree.now (file.now.fsid - 1)) file.now)))) out.old
+        out.new }
 {
     out.u32(0);
     write_room(out, &room_of(tree, file));
 }
 
 fn room_of(tree: &Tree, file: &Fattr) -> Room
-    ensures { result ≡ procedure.room_in (slice_get tree.now.volumes (file.now.fsid - 1)) (totals_at tree.now (file.now.fsid - 1)) file.now }
+    ensures { result ≡ procedure.room_in (slice_get tree.now.volumes (file.now.fsid - 1)) (totals_at tree.now (file.now.fsid - 1))
+        file.now }
 {
     let place = file.fsid.saturating_sub(1) as usize;
     room_in(tree.volume(place), tree.totals(place), file)

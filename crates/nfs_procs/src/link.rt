@@ -8,9 +8,9 @@ ghost use Rattle.nfs_procs.specs.Denials.{DecidesPair};
 ghost use Rattle.nfs_procs.specs.Doing as doing;
 ghost use Rattle.nfs_procs.specs.Performing.{Performs};
 ghost use Rattle.nfs_procs.specs.Plans.{PlansLink};
+ghost use Rattle.nfs_procs.specs.Scenes.{scene};
 ghost use Rattle.nfs_procs.specs.declared.done.Done.TheVariants as done;
 ghost use Rattle.nfs_rules.specs.Rules.{status_of};
-ghost use Rattle.nfs_rules.specs.Views.{caller_of};
 ghost use Rattle.nfs_xdr.specs.Written.{Appends};
 
 use crate::denial::PairDenial;
@@ -39,7 +39,8 @@ pub(crate) fn link(
     out: &mut Output,
 ) -> Done
     requires { MAX_RESULT_BYTES ≤ out.old.room }
-    ensures { Performs (record { tree = tree.old; exports = table.now; caller = caller_of caller.entry; now = now; args = nfs.Link args.now }) (procedure.link args.now) result tree.new out.old out.new }
+    ensures { Performs (scene tree.old table.now caller.entry now (nfs.Link args.now))
+        (procedure.link args.now) result tree.new out.old out.new }
 {
     let (file, dir) = match decide(tree, table, caller, now, args) {
         Ok(plan) => plan,
@@ -64,7 +65,8 @@ fn decide(
     now: Moment,
     args: &Link<'_>,
 ) -> Result<(Fattr, Fattr), PairDenial>
-    ensures { DecidesPair (record { tree = tree.now; exports = table.now; caller = caller_of caller.entry; now = now; args = nfs.Link args.now }) args.now.file args.now.place.dir (PlansLink tree.now args.now.place.name) result }
+    ensures { DecidesPair (scene tree.now table.now caller.entry now (nfs.Link args.now)) args.now.file args.now.place.dir
+        (PlansLink tree.now args.now.place.name) result }
 {
     let file = ExportedFile::of(tree, table, caller, args.file.bytes());
     let dir = ExportedFile::of(tree, table, caller, args.place.dir.bytes());
@@ -95,7 +97,8 @@ fn decide(
 
 fn write_denied(out: &mut Output, denial: &PairDenial) -> Done
     requires { 256 ≤ out.old.room }
-    ensures text { Appends (to_be_bytes w32 (status_of denial.now.rule) ++ linked_text (record { attributes = denial.now.one; dir = doing.no_change denial.now.two })) out.old out.new }
+    ensures text { Appends (to_be_bytes w32 (status_of denial.now.rule) ++ linked_text
+        (record { attributes = denial.now.one; dir = doing.no_change denial.now.two })) out.old out.new }
     ensures done { result ≡ done.Denied denial.now.rule denial.now.uid }
 {
     out.u32(denial.rule.status());

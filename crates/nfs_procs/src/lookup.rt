@@ -8,7 +8,7 @@ ghost use Rattle.nfs_procs.specs.Denials.{Decides};
 ghost use Rattle.nfs_procs.specs.Performing.{Performs};
 ghost use Rattle.nfs_procs.specs.Plans.{PlansFound};
 ghost use Rattle.nfs_procs.specs.Readers as procedure;
-ghost use Rattle.nfs_rules.specs.Views.{caller_of};
+ghost use Rattle.nfs_procs.specs.Scenes.{scene};
 ghost use Rattle.nfs_xdr.specs.Written.{Appends};
 
 use crate::denial::Denial;
@@ -38,7 +38,8 @@ pub(crate) fn lookup(
     out: &mut Output,
 ) -> Done
     requires { MAX_RESULT_BYTES ≤ out.old.room }
-    ensures { Performs (record { tree = tree.now; exports = table.now; caller = caller_of caller.entry; now = now; args = nfs.Lookup args.now }) (procedure.lookup args.now) result tree.now out.old out.new }
+    ensures { Performs (scene tree.now table.now caller.entry now (nfs.Lookup args.now))
+        (procedure.lookup args.now) result tree.now out.old out.new }
 {
     match decide(tree, table, caller, now, args) {
         Ok((dir, file)) => {
@@ -56,7 +57,8 @@ fn decide<'a>(
     now: Moment,
     args: &DirOp<'_>,
 ) -> Result<(Subject<'a>, FileView<'a>), Denial>
-    ensures { Decides (record { tree = tree.entry.now; exports = table.entry.now; caller = caller_of caller.entry; now = now; args = nfs.Lookup args.now }) args.now.dir (PlansFound tree.entry.now args.now.name) result }
+    ensures { Decides (scene tree.entry.now table.entry.now caller.entry now (nfs.Lookup args.now)) args.now.dir
+        (PlansFound tree.entry.now args.now.name) result }
 {
     let dir = match ExportedFile::of(tree, table, caller, args.dir.bytes()) {
         Ok(file) => file.subject(),
@@ -71,7 +73,9 @@ fn decide<'a>(
 fn write_granted(out: &mut Output, tree: &Tree, file: &FileView<'_>, dir: &Fattr)
     requires seen { IsSeen tree.now file.now }
     requires room { 256 ≤ out.old.room }
-    ensures { Appends (nfs_text (answer.Lookup (Ok (record { file = procedure.handle_in tree.now file.now.attributes; attributes = Some file.now.attributes; dir = Some dir.now })))) out.old out.new }
+    ensures { Appends (nfs_text (answer.Lookup (Ok
+        (record { file = procedure.handle_in tree.now file.now.attributes; attributes = Some file.now.attributes; dir = Some
+        dir.now })))) out.old out.new }
 {
     let handle = tree.handle(file);
     out.u32(0);

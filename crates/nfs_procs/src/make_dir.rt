@@ -5,7 +5,7 @@ ghost use Rattle.nfs_procs.specs.Denials.{Decides};
 ghost use Rattle.nfs_procs.specs.Performing.{Performs};
 ghost use Rattle.nfs_procs.specs.Plans.{PlansDirectory};
 ghost use Rattle.nfs_procs.specs.Changers as procedure;
-ghost use Rattle.nfs_rules.specs.Views.{caller_of};
+ghost use Rattle.nfs_procs.specs.Scenes.{scene};
 
 use crate::denial::Denial;
 use crate::done::Done;
@@ -35,7 +35,8 @@ pub(crate) fn make_dir(
     out: &mut Output,
 ) -> Done
     requires { MAX_RESULT_BYTES ≤ out.old.room }
-    ensures { Performs (record { tree = tree.old; exports = table.now; caller = caller_of caller.entry; now = now; args = nfs.MakeDir args.now }) (procedure.make_dir args.now) result tree.new out.old out.new }
+    ensures { Performs (scene tree.old table.now caller.entry now (nfs.MakeDir args.now))
+        (procedure.make_dir args.now) result tree.new out.old out.new }
 {
     let plan = match decide(tree, table, caller, now, args) {
         Ok(plan) => plan,
@@ -57,7 +58,8 @@ fn decide(
     now: Moment,
     args: &MakeDir<'_>,
 ) -> Result<Plan, Denial>
-    ensures { Decides (record { tree = tree.now; exports = table.now; caller = caller_of caller.entry; now = now; args = nfs.MakeDir args.now }) args.now.place.dir (PlansDirectory tree.now now args.now) result }
+    ensures { Decides (scene tree.now table.now caller.entry now (nfs.MakeDir args.now)) args.now.place.dir
+        (PlansDirectory tree.now now args.now) result }
 {
     let dir = match ExportedFile::of(tree, table, caller, args.place.dir.bytes()) {
         Ok(file) => file.subject(),

@@ -4,7 +4,7 @@ ghost use Rattle.nfs_args.specs.declared.args.NfsArgs.TheVariants as nfs;
 ghost use Rattle.nfs_procs.specs.Denials.{IsDenied};
 ghost use Rattle.nfs_procs.specs.Performing.{Performs};
 ghost use Rattle.nfs_procs.specs.Readers as procedure;
-ghost use Rattle.nfs_rules.specs.Views.{caller_of};
+ghost use Rattle.nfs_procs.specs.Scenes.{scene};
 
 use crate::denial::Denial;
 use crate::done::Done;
@@ -28,7 +28,8 @@ pub(crate) fn make_node(
     out: &mut Output,
 ) -> Done
     requires { MAX_RESULT_BYTES ≤ out.old.room }
-    ensures { Performs (record { tree = tree.now; exports = table.now; caller = caller_of caller.entry; now = now; args = nfs.MakeNode args.now }) (procedure.make_node args.now) result tree.now out.old out.new }
+    ensures { Performs (scene tree.now table.now caller.entry now (nfs.MakeNode args.now))
+        (procedure.make_node args.now) result tree.now out.old out.new }
 {
     let denial = deny(tree, table, caller, now, args);
     write_denied_change(out, &denial)
@@ -41,7 +42,7 @@ fn deny(
     now: Moment,
     args: &MakeNode<'_>,
 ) -> Denial
-    ensures { IsDenied (record { tree = tree.now; exports = table.now; caller = caller_of caller.entry; now = now; args = nfs.MakeNode args.now }) args.now.place.dir result }
+    ensures { IsDenied (scene tree.now table.now caller.entry now (nfs.MakeNode args.now)) args.now.place.dir result }
 {
     match ExportedFile::of(tree, table, caller, args.place.dir.bytes()) {
         Ok(dir) => Denial::of_rule(&dir.subject(), Rule::NoMakeNode),

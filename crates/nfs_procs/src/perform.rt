@@ -1,7 +1,7 @@
 //! The procedures of NFS, each by the module of its name.
 ghost use Rattle.std.specs.Prelude.{◌≡◌, ◌≤◌};
 ghost use Rattle.nfs_procs.specs.Procedures.{PerformsAs, doing_of};
-ghost use Rattle.nfs_rules.specs.Views.{caller_of};
+ghost use Rattle.nfs_procs.specs.Scenes.{scene};
 
 use crate::access::access;
 use crate::commit::commit;
@@ -44,7 +44,7 @@ pub fn perform(
     out: &mut Output,
 ) -> Option<Done>
     requires { MAX_RESULT_BYTES ≤ out.old.room }
-    ensures { PerformsAs (record { tree = tree.old; exports = table.now; caller = caller_of caller.entry; now = now; args = args.now }) (doing_of args.now) result tree.new out.old out.new }
+    ensures { PerformsAs (scene tree.old table.now caller.entry now args.now) (doing_of args.now) result tree.new out.old out.new }
 {
     match args {
         NfsArgs::Null | NfsArgs::ReadDir(_) | NfsArgs::ReadDirPlus(_) => None,

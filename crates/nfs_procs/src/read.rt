@@ -9,7 +9,7 @@ ghost use Rattle.nfs_inodes.specs.Views.{IsSeen, bytes_seen};
 ghost use Rattle.nfs_procs.specs.Performing.{Performs};
 ghost use Rattle.nfs_procs.specs.Plans.{PlansData};
 ghost use Rattle.nfs_procs.specs.Readers as procedure;
-ghost use Rattle.nfs_rules.specs.Views.{caller_of};
+ghost use Rattle.nfs_procs.specs.Scenes.{scene};
 ghost use Rattle.nfs_xdr.specs.Written.{Appends};
 
 use crate::denial::Denial;
@@ -37,7 +37,8 @@ pub(crate) fn read(
     out: &mut Output,
 ) -> Done
     requires { MAX_RESULT_BYTES ≤ out.old.room }
-    ensures { Performs (record { tree = tree.now; exports = table.now; caller = caller_of caller.entry; now = now; args = nfs.Read args.now }) (procedure.read args.now) result tree.now out.old out.new }
+    ensures { Performs (scene tree.now table.now caller.entry now (nfs.Read args.now))
+        (procedure.read args.now) result tree.now out.old out.new }
 {
     match decide(tree, table, caller, now, args) {
         Ok(file) => {
@@ -55,7 +56,8 @@ fn decide<'a>(
     now: Moment,
     args: &ByteRange<'_>,
 ) -> Result<Subject<'a>, Denial>
-    ensures { Decides (record { tree = tree.entry.now; exports = table.entry.now; caller = caller_of caller.entry; now = now; args = nfs.Read args.now }) args.now.file (PlansData tree.entry.now) result }
+    ensures { Decides (scene tree.entry.now table.entry.now caller.entry now (nfs.Read args.now)) args.now.file
+        (PlansData tree.entry.now) result }
 {
     let file = match ExportedFile::of(tree, table, caller, args.file.bytes()) {
         Ok(file) => file.subject(),
@@ -72,7 +74,9 @@ fn write_data(out: &mut Output, tree: &Tree, file: &FileView<'_>, offset: u64, c
     requires seen { IsSeen tree.now file.now }
     requires regular { is_regular_type file.now.attributes.file_type ≡ true }
     requires room { MAX_RESULT_BYTES ≤ out.old.room }
-    ensures { Appends (nfs_text (answer.Read (Ok (procedure.data_of file.now.attributes offset (take (min count procedure.max_transfer) (drop offset (bytes_at tree.now file.now.attributes.fileid))))))) out.old out.new }
+    ensures { Appends (nfs_text (answer.Read (Ok
+        (procedure.data_of file.now.attributes offset (take (min count procedure.max_transfer)
+        (drop offset (bytes_at tree.now file.now.attributes.fileid))))))) out.old out.new }
 {
     let left = file.attributes.size.saturating_sub(offset);
     let len = left.min(u64::from(count.min(MAX_TRANSFER)));

@@ -9,7 +9,7 @@ ghost use Rattle.nfs_procs.specs.Denials.{Decides};
 ghost use Rattle.nfs_procs.specs.Performing.{Performs};
 ghost use Rattle.nfs_procs.specs.Plans.{PlansReading};
 ghost use Rattle.nfs_procs.specs.Readers as procedure;
-ghost use Rattle.nfs_rules.specs.Views.{caller_of};
+ghost use Rattle.nfs_procs.specs.Scenes.{scene};
 ghost use Rattle.nfs_xdr.specs.Written.{Appends};
 
 use crate::denial::Denial;
@@ -37,7 +37,8 @@ pub(crate) fn read_link(
     out: &mut Output,
 ) -> Done
     requires { MAX_RESULT_BYTES ≤ out.old.room }
-    ensures { Performs (record { tree = tree.now; exports = table.now; caller = caller_of caller.entry; now = now; args = nfs.ReadLink handle.now }) (procedure.read_link handle.now) result tree.now out.old out.new }
+    ensures { Performs (scene tree.now table.now caller.entry now (nfs.ReadLink handle.now))
+        (procedure.read_link handle.now) result tree.now out.old out.new }
 {
     match decide(tree, table, caller, now, handle) {
         Ok(file) => {
@@ -55,7 +56,8 @@ fn decide<'a>(
     now: Moment,
     handle: &Opaque<'_>,
 ) -> Result<Subject<'a>, Denial>
-    ensures { Decides (record { tree = tree.entry.now; exports = table.entry.now; caller = caller_of caller.entry; now = now; args = nfs.ReadLink handle.now }) handle.now (PlansReading tree.entry.now) result }
+    ensures { Decides (scene tree.entry.now table.entry.now caller.entry now (nfs.ReadLink handle.now)) handle.now
+        (PlansReading tree.entry.now) result }
 {
     let file = match ExportedFile::of(tree, table, caller, handle.bytes()) {
         Ok(file) => file.subject(),
@@ -69,7 +71,8 @@ fn decide<'a>(
 
 fn write_granted(out: &mut Output, tree: &Tree, file: &Fattr)
     requires { 1160 ≤ out.old.room }
-    ensures { Appends (nfs_text (answer.ReadLink (Ok (record { attributes = Some file.now; path = on_some (path_at tree.now file.now.fileid) [] (λ path. path) })))) out.old out.new }
+    ensures { Appends (nfs_text (answer.ReadLink (Ok
+        (record { attributes = Some file.now; path = on_some (path_at tree.now file.now.fileid) [] (λ path. path) })))) out.old out.new }
 {
     let path = path_of(tree, Number(file.fileid));
     out.u32(0);

@@ -27,7 +27,8 @@ pub(crate) fn remove_entry(
     requires may { MayUnlink tree.old dir.now.fileid name.now }
     requires room { 128 ≤ out.old.room }
     ensures tree { tree.new ≡ after_unlink tree.old dir.now.fileid name.now now }
-    ensures text { Appends (to_be_bytes w32 0 ++ wcc_text (doing.change (Some dir.now) (attributes_at tree.new dir.now.fileid))) out.old out.new }
+    ensures text { Appends (to_be_bytes w32 0 ++ wcc_text (doing.change (Some dir.now) (attributes_at tree.new dir.now.fileid))) out.old
+        out.new }
 {
     let number = Number(dir.fileid);
     tree.unlink(number, name, now);

@@ -5,7 +5,7 @@ ghost use Rattle.nfs_procs.specs.Changers as procedure;
 ghost use Rattle.nfs_procs.specs.Denials.{Decides};
 ghost use Rattle.nfs_procs.specs.Performing.{Performs};
 ghost use Rattle.nfs_procs.specs.Plans.{PlansRemoval};
-ghost use Rattle.nfs_rules.specs.Views.{caller_of};
+ghost use Rattle.nfs_procs.specs.Scenes.{scene};
 
 use crate::denial::Denial;
 use crate::done::Done;
@@ -31,7 +31,8 @@ pub(crate) fn remove_dir(
     out: &mut Output,
 ) -> Done
     requires { MAX_RESULT_BYTES ≤ out.old.room }
-    ensures { Performs (record { tree = tree.old; exports = table.now; caller = caller_of caller.entry; now = now; args = nfs.RemoveDir args.now }) (procedure.remove_dir args.now) result tree.new out.old out.new }
+    ensures { Performs (scene tree.old table.now caller.entry now (nfs.RemoveDir args.now))
+        (procedure.remove_dir args.now) result tree.new out.old out.new }
 {
     match decide(tree, table, caller, now, args) {
         Ok(dir) => {
@@ -49,7 +50,8 @@ fn decide(
     now: Moment,
     args: &DirOp<'_>,
 ) -> Result<Fattr, Denial>
-    ensures { Decides (record { tree = tree.now; exports = table.now; caller = caller_of caller.entry; now = now; args = nfs.RemoveDir args.now }) args.now.dir (PlansRemoval tree.now args.now.name) result }
+    ensures { Decides (scene tree.now table.now caller.entry now (nfs.RemoveDir args.now)) args.now.dir
+        (PlansRemoval tree.now args.now.name) result }
 {
     let dir = match ExportedFile::of(tree, table, caller, args.dir.bytes()) {
         Ok(file) => file.subject(),

@@ -8,9 +8,9 @@ ghost use Rattle.nfs_procs.specs.Denials.{DecidesPair};
 ghost use Rattle.nfs_procs.specs.Doing as doing;
 ghost use Rattle.nfs_procs.specs.Performing.{Performs};
 ghost use Rattle.nfs_procs.specs.Plans.{PlansRename};
+ghost use Rattle.nfs_procs.specs.Scenes.{scene};
 ghost use Rattle.nfs_procs.specs.declared.done.Done.TheVariants as done;
 ghost use Rattle.nfs_rules.specs.Rules.{status_of};
-ghost use Rattle.nfs_rules.specs.Views.{caller_of};
 ghost use Rattle.nfs_xdr.specs.Written.{Appends};
 
 use crate::denial::PairDenial;
@@ -39,7 +39,8 @@ pub(crate) fn rename(
     out: &mut Output,
 ) -> Done
     requires { MAX_RESULT_BYTES ≤ out.old.room }
-    ensures { Performs (record { tree = tree.old; exports = table.now; caller = caller_of caller.entry; now = now; args = nfs.Rename args.now }) (procedure.rename args.now) result tree.new out.old out.new }
+    ensures { Performs (scene tree.old table.now caller.entry now (nfs.Rename args.now))
+        (procedure.rename args.now) result tree.new out.old out.new }
 {
     let (from, to) = match decide(tree, table, caller, now, args) {
         Ok(plan) => plan,
@@ -64,7 +65,8 @@ fn decide(
     now: Moment,
     args: &Rename<'_>,
 ) -> Result<(Fattr, Fattr), PairDenial>
-    ensures { DecidesPair (record { tree = tree.now; exports = table.now; caller = caller_of caller.entry; now = now; args = nfs.Rename args.now }) args.now.from.dir args.now.to.dir (PlansRename tree.now args.now) result }
+    ensures { DecidesPair (scene tree.now table.now caller.entry now (nfs.Rename args.now)) args.now.from.dir args.now.to.dir
+        (PlansRename tree.now args.now) result }
 {
     let from = ExportedFile::of(tree, table, caller, args.from.dir.bytes());
     let to = ExportedFile::of(tree, table, caller, args.to.dir.bytes());
@@ -95,7 +97,8 @@ fn decide(
 
 fn write_denied(out: &mut Output, denial: &PairDenial) -> Done
     requires { 256 ≤ out.old.room }
-    ensures text { Appends (to_be_bytes w32 (status_of denial.now.rule) ++ renamed_text (record { from = doing.no_change denial.now.one; to = doing.no_change denial.now.two })) out.old out.new }
+    ensures text { Appends (to_be_bytes w32 (status_of denial.now.rule) ++ renamed_text
+        (record { from = doing.no_change denial.now.one; to = doing.no_change denial.now.two })) out.old out.new }
     ensures done { result ≡ done.Denied denial.now.rule denial.now.uid }
 {
     out.u32(denial.rule.status());

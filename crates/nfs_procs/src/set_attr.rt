@@ -5,7 +5,7 @@ ghost use Rattle.nfs_procs.specs.Denials.{Decides};
 ghost use Rattle.nfs_procs.specs.Performing.{Performs};
 ghost use Rattle.nfs_procs.specs.Plans.{PlansSettings};
 ghost use Rattle.nfs_procs.specs.Changers as procedure;
-ghost use Rattle.nfs_rules.specs.Views.{caller_of};
+ghost use Rattle.nfs_procs.specs.Scenes.{scene};
 
 use crate::denial::Denial;
 use crate::done::Done;
@@ -32,7 +32,8 @@ pub(crate) fn set_attr(
     out: &mut Output,
 ) -> Done
     requires { MAX_RESULT_BYTES ≤ out.old.room }
-    ensures { Performs (record { tree = tree.old; exports = table.now; caller = caller_of caller.entry; now = now; args = nfs.SetAttr args.now }) (procedure.set_attr args.now) result tree.new out.old out.new }
+    ensures { Performs (scene tree.old table.now caller.entry now (nfs.SetAttr args.now))
+        (procedure.set_attr args.now) result tree.new out.old out.new }
 {
     let file = match decide(tree, table, caller, now, args) {
         Ok(file) => file,
@@ -54,7 +55,8 @@ fn decide(
     now: Moment,
     args: &SetAttr<'_>,
 ) -> Result<Fattr, Denial>
-    ensures { Decides (record { tree = tree.now; exports = table.now; caller = caller_of caller.entry; now = now; args = nfs.SetAttr args.now }) args.now.file (PlansSettings tree.now args.now) result }
+    ensures { Decides (scene tree.now table.now caller.entry now (nfs.SetAttr args.now)) args.now.file
+        (PlansSettings tree.now args.now) result }
 {
     let file = match ExportedFile::of(tree, table, caller, args.file.bytes()) {
         Ok(file) => file.subject(),

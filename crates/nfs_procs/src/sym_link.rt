@@ -5,7 +5,7 @@ ghost use Rattle.nfs_procs.specs.Denials.{Decides};
 ghost use Rattle.nfs_procs.specs.Performing.{Performs};
 ghost use Rattle.nfs_procs.specs.Plans.{PlansSymLink};
 ghost use Rattle.nfs_procs.specs.Changers as procedure;
-ghost use Rattle.nfs_rules.specs.Views.{caller_of};
+ghost use Rattle.nfs_procs.specs.Scenes.{scene};
 
 use crate::denial::Denial;
 use crate::done::Done;
@@ -36,7 +36,8 @@ pub(crate) fn sym_link(
     out: &mut Output,
 ) -> Done
     requires { MAX_RESULT_BYTES ≤ out.old.room }
-    ensures { Performs (record { tree = tree.old; exports = table.now; caller = caller_of caller.entry; now = now; args = nfs.SymLink args.now }) (procedure.sym_link args.now) result tree.new out.old out.new }
+    ensures { Performs (scene tree.old table.now caller.entry now (nfs.SymLink args.now))
+        (procedure.sym_link args.now) result tree.new out.old out.new }
 {
     let plan = match decide(tree, table, caller, now, args) {
         Ok(plan) => plan,
@@ -69,7 +70,8 @@ fn decide(
     now: Moment,
     args: &SymLink<'_>,
 ) -> Result<Plan, Denial>
-    ensures { Decides (record { tree = tree.now; exports = table.now; caller = caller_of caller.entry; now = now; args = nfs.SymLink args.now }) args.now.place.dir (PlansSymLink tree.now now args.now) result }
+    ensures { Decides (scene tree.now table.now caller.entry now (nfs.SymLink args.now)) args.now.place.dir
+        (PlansSymLink tree.now now args.now) result }
 {
     let dir = match ExportedFile::of(tree, table, caller, args.place.dir.bytes()) {
         Ok(file) => file.subject(),

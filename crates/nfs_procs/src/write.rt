@@ -8,7 +8,7 @@ ghost use Rattle.nfs_procs.specs.Denials.{Decides};
 ghost use Rattle.nfs_procs.specs.Performing.{Performs};
 ghost use Rattle.nfs_procs.specs.Plans.{PlansBytes};
 ghost use Rattle.nfs_procs.specs.Changers as procedure;
-ghost use Rattle.nfs_rules.specs.Views.{caller_of};
+ghost use Rattle.nfs_procs.specs.Scenes.{scene};
 ghost use Rattle.nfs_xdr.specs.Written.{Appends};
 
 use crate::denial::Denial;
@@ -37,7 +37,8 @@ pub(crate) fn write(
     out: &mut Output,
 ) -> Done
     requires { MAX_RESULT_BYTES ≤ out.old.room }
-    ensures { Performs (record { tree = tree.old; exports = table.now; caller = caller_of caller.entry; now = now; args = nfs.Write args.now }) (procedure.write args.now) result tree.new out.old out.new }
+    ensures { Performs (scene tree.old table.now caller.entry now (nfs.Write args.now))
+        (procedure.write args.now) result tree.new out.old out.new }
 {
     let file = match decide(tree, table, caller, now, args) {
         Ok(file) => file,
@@ -66,7 +67,7 @@ fn decide(
     now: Moment,
     args: &Write<'_>,
 ) -> Result<Fattr, Denial>
-    ensures { Decides (record { tree = tree.now; exports = table.now; caller = caller_of caller.entry; now = now; args = nfs.Write args.now }) args.now.file (PlansBytes tree.now args.now) result }
+    ensures { Decides (scene tree.now table.now caller.entry now (nfs.Write args.now)) args.now.file (PlansBytes tree.now args.now) result }
 {
     let file = match ExportedFile::of(tree, table, caller, args.file.bytes()) {
         Ok(file) => file.subject(),
@@ -82,7 +83,8 @@ fn decide(
 fn write_granted(out: &mut Output, file: Wcc, count: usize, verifier: u64)
     requires room { 140 ≤ out.old.room }
     requires count { count < 2 ^ 32 }
-    ensures { Appends (nfs_text (answer.Write (Ok (record { file = file; count = count; committed = FileSync; verifier = verifier })))) out.old out.new }
+    ensures { Appends (nfs_text (answer.Write (Ok
+        (record { file = file; count = count; committed = FileSync; verifier = verifier })))) out.old out.new }
 {
     out.u32(0);
     write_written(
