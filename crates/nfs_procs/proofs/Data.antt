@@ -74,5 +74,6 @@ size_in None n links f e r = cc
 size_in (Some file) n links f e r =
     let same : attributes_of n file (links file) ≡ f = same_some e in
     sym (ap (λ (g : Fattr). g.size) same) ∙ size_of_kind file.kind (ap (λ (g : Fattr). is_regular_type g.file_type) same ∙ r)
+
 pub size_is : (t : Tree) (n : ℕ) (f : Fattr) → attributes_at t n ≡ Some f → is_regular_type f.file_type ≡ true → f.size ≡ length (bytes_at t n)
 size_is t n f e r = size_in (at n t.files) n (λ file. nlink t.files n file) f e r

@@ -1,5 +1,5 @@
 -- A file has a further name, or another one.
-use Rattle.std.proofs.Common.{◌≡◌, ℕ, List, ◌++◌, Option, Some, Ok, refl, sym, ap, subst, arith, ◌∙◌}
+use Rattle.std.proofs.Common.{◌≡◌, ℕ, List, Option, Some, sym, ap, subst, arith, ◌∙◌}
 use Rattle.std.specs.Int.{w32, to_be_bytes}
 use Rattle.nfs_args.specs.Results.{linked_text, renamed_text}
 use Rattle.nfs_args.specs.declared.link.Link.{Link}

@@ -1,9 +1,8 @@
 -- What the rules of two handles, and those after them, tell of a call.
-use Rattle.std.proofs.Common.{◌≡◌, ℕ, List, [], ◌∷◌, ◌++◌, Option, Some, None, option_map, refl, sym, ap, subst, ◌∙◌}
+use Rattle.std.proofs.Common.{◌≡◌, ℕ, List, [], ◌∷◌, ◌++◌, Some, None, option_map, sym, ap, subst, ◌∙◌}
 use Rattle.std.specs.Prelude.{Result, Ok, Err, nat_eq}
 use Rattle.std.proofs.lemmas.Bool.{eqb-true}
 use Rattle.nfs_inodes.proofs.Lists.{by_test, if_true, if_false}
-use Rattle.nfs_attrs.specs.declared.fattr.Fattr.{Fattr}
 use Rattle.nfs_procs.proofs.Judged.{rules_after}
 use Rattle.nfs_procs.specs.Denials.{IsDeniedPair}
 use Rattle.nfs_procs.specs.Performing.{IsGranted}
@@ -24,7 +23,6 @@ use Rattle.nfs_rules.specs.declared.rule.Rule.TheVariants.{CrossVolume}
 module _ (c : Scene) (h k b d : List ℕ) (two : handles_in c.args ≡ h ∷ k ∷ []) (same : b ≡ h) (same_too : d ≡ k)
     (r q : Result Subject Rule) (judged : Judges r (handle_rules c.tree c.exports c.caller b)) (told : ok_of r ≡ subject_at c.tree c.exports c.caller b)
     (judged_too : Judges q (handle_rules c.tree c.exports c.caller d)) (told_too : ok_of q ≡ subject_at c.tree c.exports c.caller d) where
-
   handles : handles_in c.args ≡ b ∷ d ∷ []
   handles = two ∙ ap (λ x. x ∷ k ∷ []) (sym same) ∙ ap (λ x. b ∷ x ∷ []) (sym same_too)
 

@@ -10,7 +10,7 @@ use Rattle.nfs_inodes.specs.Tree.{Tree, File, Kind, Regular, Directory, Link, at
 use Rattle.nfs_procs.proofs.Judged.{denied_by_handle, granted_by_rules, subject_tree}
 use Rattle.nfs_procs.specs.Denials.{IsDenied}
 use Rattle.nfs_procs.specs.Doing.{Doing, unchanged}
-use Rattle.nfs_procs.specs.Performing.{IsGranted, HasEffect, HasFailed, Performs}
+use Rattle.nfs_procs.specs.Performing.{IsGranted, HasEffect, Performs}
 use Rattle.nfs_procs.specs.Scenes.{Scene, seen_in}
 use Rattle.nfs_procs.specs.declared.denial.Denial.{Denial}
 use Rattle.nfs_procs.specs.declared.done.Done.{Done}

@@ -1,5 +1,5 @@
 -- Calls that are denied before anything is done.
-use Rattle.std.specs.Prelude.{◌≡◌, ℕ, List, Some, None, option_map, Result, Ok, Err}
+use Rattle.std.specs.Prelude.{◌≡◌, ℕ, List, Some, option_map, Result, Ok, Err}
 use Rattle.nfs_procs.specs.Performing.{IsGranted}
 use Rattle.nfs_procs.specs.Scenes.{Scene, verdict_in, subjects_in, seen_in}
 use Rattle.nfs_procs.specs.declared.denial.Denial.{Denial}

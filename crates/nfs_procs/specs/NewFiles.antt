@@ -1,5 +1,5 @@
 -- What new files are like (RFC 1813, section 2.6, sattr3).
-use Rattle.std.specs.Prelude.{ℕ, Bool, ◌||◌, Option, Some, None, nat_eq, if◌then◌else◌}
+use Rattle.std.specs.Prelude.{ℕ, ◌||◌, Option, nat_eq, if◌then◌else◌}
 use Rattle.std.specs.List.{list_any}
 use Rattle.nfs_attrs.specs.declared.moment.Moment.{Moment}
 use Rattle.nfs_attrs.specs.declared.sattr.Sattr.{Sattr}

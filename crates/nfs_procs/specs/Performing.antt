@@ -1,5 +1,5 @@
 -- What becomes of a call.
-use Rattle.std.specs.Prelude.{◌≡◌, ℕ, ◌<◌, ◌^◌, true, List, Option, Some, None, option_map}
+use Rattle.std.specs.Prelude.{◌≡◌, ℕ, ◌<◌, ◌^◌, true, Option, Some, None, option_map}
 use Rattle.nfs_args.specs.Answers.{nfs_text}
 use Rattle.nfs_inodes.specs.Tree.{Tree}
 use Rattle.nfs_procs.specs.Doing.{Doing}

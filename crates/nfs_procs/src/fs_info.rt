@@ -10,8 +10,7 @@ ghost use Rattle.nfs_xdr.specs.Written.{Appends};
 
 use crate::denial::Denial;
 use crate::done::Done;
-use crate::limits::MAX_RESULT_BYTES;
-use crate::limits::{MAX_TRANSFER, PREFERRED_PAGE, TRANSFER_MULTIPLE};
+use crate::limits::{MAX_RESULT_BYTES, MAX_TRANSFER, PREFERRED_PAGE, TRANSFER_MULTIPLE};
 use crate::replies::write_denied_attributes;
 use nfs_args::opaque::Opaque;
 use nfs_args::server_limits::{ServerLimits, Transfer, write_server_limits};

@@ -47,7 +47,12 @@ pub(crate) fn make_dir(
         return Done::Memory;
     };
     out.u32(0);
-    write_new_file(out, tree, made, change(Some(plan.dir), tree.attributes(dir)));
+    write_new_file(
+        out,
+        tree,
+        made,
+        change(Some(plan.dir), tree.attributes(dir)),
+    );
     Done::Granted
 }
 

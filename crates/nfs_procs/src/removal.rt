@@ -17,13 +17,7 @@ use nfs_inodes::tree::Tree;
 use nfs_xdr::output::Output;
 
 /// Takes the entry of a name out of a directory, and answers what it was and what it is.
-pub(crate) fn remove_entry(
-    tree: &mut Tree,
-    dir: &Fattr,
-    name: &[u8],
-    now: Moment,
-    out: &mut Output,
-)
+pub(crate) fn remove_entry(tree: &mut Tree, dir: &Fattr, name: &[u8], now: Moment, out: &mut Output)
     requires may { MayUnlink tree.old dir.now.fileid name.now }
     requires room { 128 ≤ out.old.room }
     ensures tree { tree.new ≡ after_unlink tree.old dir.now.fileid name.now now }

@@ -1,5 +1,5 @@
 -- What two handles tell of a call.
-use Rattle.std.proofs.Common.{◌≡◌, ℕ, Bool, true, false, not, List, [], ◌∷◌, ◌++◌, Option, Some, None, option_map, refl, sym, ap, subst, ◌∙◌}
+use Rattle.std.proofs.Common.{◌≡◌, ℕ, false, not, List, [], ◌∷◌, ◌++◌, Option, Some, None, option_map, refl, sym, ap, subst, ◌∙◌}
 use Rattle.std.specs.Prelude.{Result, Ok, Err, nat_eq, if◌then◌else◌}
 use Rattle.nfs_attrs.specs.declared.fattr.Fattr.{Fattr}
 use Rattle.nfs_exports.specs.declared.options.Options.{Options}
@@ -56,8 +56,8 @@ module _ (t : Tree) (exports : List (List Export)) (caller : Caller) (h k : List
       ∙ ap (λ o. on_some o None (λ s. on_some (subject_at t exports caller k) None (λ u. if nat_eq s.file.fsid u.file.fsid then Some (s, u) else None))) some
   both_told (Ok s) (Ok u) some some_too =
       let here : (if nat_eq s.file.fsid u.file.fsid then Some (s, u) else None) ≡ subjects_at t exports caller (h ∷ k ∷ []) =
-          ap (λ o. on_some o None (λ (v : Subject). if nat_eq s.file.fsid v.file.fsid then Some (s, v) else None)) some_too
-          ∙ ap (λ o. on_some o None (λ (w : Subject). on_some (subject_at t exports caller k) None (λ u. if nat_eq w.file.fsid u.file.fsid then Some (w, u) else None))) some in
+      ap (λ o. on_some o None (λ (v : Subject). if nat_eq s.file.fsid v.file.fsid then Some (s, v) else None)) some_too
+      ∙ ap (λ o. on_some o None (λ (w : Subject). on_some (subject_at t exports caller k) None (λ u. if nat_eq w.file.fsid u.file.fsid then Some (w, u) else None))) some in
       by_test (nat_eq s.file.fsid u.file.fsid)
       (λ y. ap ok_of (if_true (Ok (s, u)) (Err rule.CrossVolume) y) ∙ sym (if_true (Some (s, u)) None y) ∙ here)
       (λ n. ap ok_of (if_false (Ok (s, u)) (Err rule.CrossVolume) n) ∙ sym (if_false (Some (s, u)) None n) ∙ here)

@@ -1,11 +1,10 @@
 -- The table of the rules: those of each procedure after the rules of its handles, in order.
-use Rattle.std.specs.Prelude.{ℕ, zero, suc, Bool, true, not, ◌&&◌, ◌||◌, List, [], ◌∷◌, ◌++◌, length, Option, Some, None, is_some, nat_eq, if◌then◌else◌}
+use Rattle.std.specs.Prelude.{ℕ, zero, suc, Bool, true, not, ◌&&◌, ◌||◌, List, [], ◌∷◌, length, Option, Some, None, is_some, nat_eq, if◌then◌else◌}
 use Rattle.nfs_args.specs.declared.args.NfsArgs.{NfsArgs}
 use Rattle.nfs_args.specs.declared.args.NfsArgs.TheVariants as nfs
 use Rattle.nfs_args.specs.declared.create.Create.{Create}
 use Rattle.nfs_args.specs.declared.create.CreateHow.{CreateHow}
 use Rattle.nfs_args.specs.declared.create.CreateHow.TheVariants.{Unchecked, Guarded, Exclusive}
-use Rattle.nfs_args.specs.declared.link.Link.{Link}
 use Rattle.nfs_args.specs.declared.read_dir.ReadDir.{ReadDir}
 use Rattle.nfs_args.specs.declared.read_dir.ReadDirPlus.{ReadDirPlus}
 use Rattle.nfs_args.specs.declared.rename.Rename.{Rename}

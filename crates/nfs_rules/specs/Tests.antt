@@ -1,5 +1,5 @@
 -- The rules, each as a test of what a call looks at. None looks at the bytes of a regular file but at how many they are.
-use Rattle.std.specs.Prelude.{◌≡◌, ℕ, ◌+◌, ◌-◌, ◌^◌, Bool, true, false, not, ◌&&◌, ◌||◌, List, [], ◌∷◌, length, min, Option, Some, None, option_map, is_some, is_none, nat_eq, nat_lt, nat_le, bytes_eq, slice_get, if◌then◌else◌}
+use Rattle.std.specs.Prelude.{ℕ, ◌+◌, ◌-◌, ◌^◌, Bool, true, false, not, ◌&&◌, ◌||◌, List, [], ◌∷◌, length, min, Option, Some, None, option_map, is_some, is_none, nat_eq, nat_lt, nat_le, bytes_eq, slice_get, if◌then◌else◌}
 use Rattle.std.specs.List.{list_any}
 use Rattle.nfs_args.specs.declared.create.CreateHow.{CreateHow}
 use Rattle.nfs_args.specs.declared.create.CreateHow.TheVariants.{Unchecked, Guarded, Exclusive}
@@ -237,5 +237,8 @@ plus_bytes searchable = if searchable then 120 else 8
 
 -- the page takes not so many bytes as its head has, or an entry is left and the first doesn't fit, with so many bytes beside it
 abbrev pub too_small : Subject → ℕ → ℕ → ℕ → Test
-too_small s cookie count beside = (rule.TooSmall, nat_lt (min count max_page_bytes) page_head_bytes
-    || on_some (entry_after s.tree s.file.fileid cookie) false (λ e. nat_lt (min count max_page_bytes) (page_head_bytes + entry_bytes e + beside)))
+too_small s cookie count beside = (
+  rule.TooSmall,
+  nat_lt (min count max_page_bytes) page_head_bytes
+      || on_some (entry_after s.tree s.file.fileid cookie) false (λ e. nat_lt (min count max_page_bytes) (page_head_bytes + entry_bytes e + beside)),
+)

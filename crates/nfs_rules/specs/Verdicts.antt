@@ -5,7 +5,7 @@ use Rattle.nfs_args.specs.declared.args.NfsArgs.TheVariants as nfs
 use Rattle.nfs_exports.specs.declared.table.Export.{Export}
 use Rattle.nfs_handles.specs.Handles.{reading}
 use Rattle.nfs_handles.specs.declared.reading.Reading.{Reading}
-use Rattle.nfs_handles.specs.declared.reading.Reading.TheVariants.{Live, Stale, Bad}
+use Rattle.nfs_handles.specs.declared.reading.Reading.TheVariants.{Stale, Bad}
 use Rattle.nfs_inodes.specs.Reading.{numbered_files}
 use Rattle.nfs_inodes.specs.Tree.{Tree, on_some}
 use Rattle.nfs_rules.specs.Subjects.{Caller, Subject, named, granted, subject_at}

@@ -49,11 +49,7 @@ impl<'a> Subject<'a> {
 
     /// `Exists` in CREATE: there is no entry of the name, or its file is one that CREATE takes, which is
     /// answered then.
-    pub fn exists_other(
-        &self,
-        name: &[u8],
-        how: &CreateHow,
-    ) -> Result<Option<FileView<'a>>, Rule>
+    pub fn exists_other(&self, name: &[u8], how: &CreateHow) -> Result<Option<FileView<'a>>, Rule>
         ensures rule { Tells result (test.exists_other self.now name.now how.now) }
         ensures found { IfOk result (λ o. option_map (λ f. f.attributes) o ≡ test.found self.now name.now) }
         ensures seen { IfOk result (λ o. IfSome o (λ f. IsSeen self.now.tree f)) }
@@ -102,7 +98,9 @@ impl<'a> Subject<'a> {
     pub(crate) fn is_empty(&self, dir: &Fattr) -> bool
         ensures { result ≡ test.is_empty self.now.tree dir.now }
     {
-        self.tree.entry_after(Number(dir.fileid), LAST_DOT_COOKIE).is_none()
+        self.tree
+            .entry_after(Number(dir.fileid), LAST_DOT_COOKIE)
+            .is_none()
     }
 }
 

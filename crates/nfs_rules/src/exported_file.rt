@@ -81,7 +81,12 @@ impl<'a> ExportedFile<'a> {
     pub fn subject(&self) -> Subject<'a>
         ensures { result ≡ self.now }
     {
-        Subject::new(self.tree, self.file, self.options, squash(self.options, self.cred))
+        Subject::new(
+            self.tree,
+            self.file,
+            self.options,
+            squash(self.options, self.cred),
+        )
     }
 }
 

@@ -100,13 +100,19 @@ impl<'a> Subject<'a> {
     pub fn directory_read(&self) -> Result<(), Rule>
         ensures { Tells result (test.directory_read self.now) }
     {
-        ensure(may(&self.ids, &self.file.attributes, Right::Read), Rule::DirectoryRead)
+        ensure(
+            may(&self.ids, &self.file.attributes, Right::Read),
+            Rule::DirectoryRead,
+        )
     }
 
     /// `DirectoryWrite`: the caller may write the directory.
     pub fn directory_write(&self) -> Result<(), Rule>
         ensures { Tells result (test.directory_write self.now) }
     {
-        ensure(may(&self.ids, &self.file.attributes, Right::Write), Rule::DirectoryWrite)
+        ensure(
+            may(&self.ids, &self.file.attributes, Right::Write),
+            Rule::DirectoryWrite,
+        )
     }
 }

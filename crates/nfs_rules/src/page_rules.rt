@@ -19,6 +19,7 @@ const PAGE_HEAD_BYTES: usize = 104;
 
 // What READDIRPLUS says of an entry's file: its attributes and its handle, or that there are none.
 const SHOWN_BYTES: usize = 120;
+
 const HIDDEN_BYTES: usize = 8;
 
 impl<'a> Subject<'a> {
@@ -35,7 +36,11 @@ impl<'a> Subject<'a> {
     pub fn too_small_plus(&self, cookie: u64, count: u32) -> Result<(), Rule>
         ensures { Tells result (test.too_small self.now cookie count (test.plus_bytes (may self.now.ids self.now.file Right.Execute))) }
     {
-        let beside = if self.may_search() { SHOWN_BYTES } else { HIDDEN_BYTES };
+        let beside = if self.may_search() {
+            SHOWN_BYTES
+        } else {
+            HIDDEN_BYTES
+        };
         ensure(self.first_fits(cookie, count, beside), Rule::TooSmall)
     }
 
@@ -47,7 +52,10 @@ impl<'a> Subject<'a> {
         if bound < PAGE_HEAD_BYTES {
             return false;
         }
-        match self.tree.entry_after(Number(self.file.attributes.fileid), cookie) {
+        match self
+            .tree
+            .entry_after(Number(self.file.attributes.fileid), cookie)
+        {
             Some(entry) => PAGE_HEAD_BYTES + entry_bytes(entry.name) + beside <= bound,
             None => true,
         }

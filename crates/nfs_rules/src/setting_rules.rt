@@ -24,9 +24,7 @@ impl<'a> Subject<'a> {
     {
         match ctime {
             None => Ok(()),
-            Some(moment) => {
-                ensure(same_moment(moment, self.file.attributes.ctime), Rule::Guard)
-            }
+            Some(moment) => { ensure(same_moment(moment, self.file.attributes.ctime), Rule::Guard) }
         }
     }
 
@@ -46,7 +44,10 @@ impl<'a> Subject<'a> {
     {
         match given.uid {
             None => Ok(()),
-            Some(uid) => ensure(gives_uid(&self.ids, &self.file.attributes, uid), Rule::OwnerUid),
+            Some(uid) => ensure(
+                gives_uid(&self.ids, &self.file.attributes, uid),
+                Rule::OwnerUid,
+            ),
         }
     }
 

@@ -70,10 +70,7 @@ pub fn write_rules(file: &Subject<'_>, args: &Write<'_>) -> Result<(), Rule>
 }
 
 /// CREATE (RFC 1813, section 3.3.8), and the file that is there, if one is taken.
-pub fn create_rules<'a>(
-    dir: &Subject<'a>,
-    args: &Create<'_>,
-) -> Result<Option<FileView<'a>>, Rule>
+pub fn create_rules<'a>(dir: &Subject<'a>, args: &Create<'_>) -> Result<Option<FileView<'a>>, Rule>
     ensures rules { Judges result (table.create_rules dir.now args.now) }
     ensures found { IfOk result (λ o. option_map (λ f. f.attributes) o ≡ found dir.now args.now.place.name) }
 {
@@ -189,11 +186,7 @@ pub fn remove_dir_rules(dir: &Subject<'_>, name: &[u8]) -> Result<(), Rule>
 }
 
 /// RENAME (RFC 1813, section 3.3.14): of the directories of the old name and of the new one.
-pub fn rename_rules(
-    from: &Subject<'_>,
-    to: &Subject<'_>,
-    args: &Rename<'_>,
-) -> Result<(), Rule>
+pub fn rename_rules(from: &Subject<'_>, to: &Subject<'_>, args: &Rename<'_>) -> Result<(), Rule>
     ensures { Judges result (table.rename_rules from.now to.now args.now) }
 {
     let (name, new_name) = (args.from.name.bytes(), args.to.name.bytes());

@@ -20,13 +20,16 @@ returns-in-Ok-lookup_rules c =
     let s : Subject = c.subject-dir.result in
     let some = sym c.in-Ok.ensures.subject ∙ ap Some (sym c.subject-dir.ensures) in
     let kept : first (lookup_rules s c.args.args.now.name) ≡ None = subst (λ name. first (lookup_rules s name) ≡ None) c.bytes-2.ensures c.in-Ok-lookup_rules.ensures.rules in
-    let tree = subject_tree c.args.tree.now c.args.table.now (caller_of c.args.caller) c.bytes.result.now s some in
-    (s, granted_by_rules scene c.args.args.now.dir c.bytes.result.now refl c.bytes.ensures s c.in-Ok.ensures.rules some kept, record {
-      subject = refl;
-      tree = tree;
-      found = subst (λ name. found s name ≡ Some c.in-Ok-lookup_rules.file.attributes) c.bytes-2.ensures c.in-Ok-lookup_rules.ensures.found;
-      seen = subst (λ t. IsSeen t c.in-Ok-lookup_rules.file) tree c.in-Ok-lookup_rules.ensures.seen;
-    })
+    let tree = subject_tree c.args.tree.now c.args.table.now (caller_of c.args.caller) c.bytes.result.now s some in (
+      s,
+      granted_by_rules scene c.args.args.now.dir c.bytes.result.now refl c.bytes.ensures s c.in-Ok.ensures.rules some kept,
+      record {
+        subject = refl;
+        tree = tree;
+        found = subst (λ name. found s name ≡ Some c.in-Ok-lookup_rules.file.attributes) c.bytes-2.ensures c.in-Ok-lookup_rules.ensures.found;
+        seen = subst (λ t. IsSeen t c.in-Ok-lookup_rules.file) tree c.in-Ok-lookup_rules.ensures.seen;
+      },
+    )
 
 pub returns-in-Err-lookup_rules : goal.returns-in-Err-lookup_rules
 returns-in-Err-lookup_rules c =

@@ -21,13 +21,16 @@ returns-in-Ok-make_dir_rules c =
     let s : Subject = c.subject-dir.result in
     let some = sym c.in-Ok.ensures.subject ∙ ap Some (sym c.subject-dir.ensures) in
     let kept : first (make_dir_rules s c.args.args.now.place.name) ≡ None = subst (λ name. first (make_dir_rules s name) ≡ None) c.bytes-2.ensures c.in-Ok-make_dir_rules.ensures in
-    let tree = subject_tree c.args.tree.now c.args.table.now (caller_of c.args.caller) c.bytes.result.now s some in
-    (s, granted_by_rules scene c.args.args.now.place.dir c.bytes.result.now refl c.bytes.ensures s c.in-Ok.ensures.rules some kept, record {
-      tree = tree;
-      dir = c.file.ensures;
-      given = c.new_file_of.ensures;
-      may = subst (λ t. MayMakeDirectory t s.file.fileid c.args.args.now.place.name) tree (may_make_directory s c.law.ensures.law c.law.ensures.file c.args.args.now.place.name kept);
-    })
+    let tree = subject_tree c.args.tree.now c.args.table.now (caller_of c.args.caller) c.bytes.result.now s some in (
+      s,
+      granted_by_rules scene c.args.args.now.place.dir c.bytes.result.now refl c.bytes.ensures s c.in-Ok.ensures.rules some kept,
+      record {
+        tree = tree;
+        dir = c.file.ensures;
+        given = c.new_file_of.ensures;
+        may = subst (λ t. MayMakeDirectory t s.file.fileid c.args.args.now.place.name) tree (may_make_directory s c.law.ensures.law c.law.ensures.file c.args.args.now.place.name kept);
+      },
+    )
 
 pub returns-in-Err-make_dir_rules : goal.returns-in-Err-make_dir_rules
 returns-in-Err-make_dir_rules c =

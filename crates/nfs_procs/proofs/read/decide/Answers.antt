@@ -1,4 +1,4 @@
-use Rattle.std.proofs.Common.{◌≡◌, Bool, true, false, not, Some, None, refl, sym, ap, subst, ◌∙◌}
+use Rattle.std.proofs.Common.{◌≡◌, Bool, true, false, not, Some, None, refl, sym, ap, ◌∙◌}
 use Rattle.nfs_args.specs.declared.args.NfsArgs.TheVariants as nfs
 use Rattle.nfs_inodes.specs.Reading.{is_regular_type}
 use Rattle.nfs_rules.proofs.Firsts.{are_passed}
@@ -25,12 +25,15 @@ returns-in-Ok-read_rules c =
     let s : Subject = c.subject-file.result in
     let some = sym c.in-Ok.ensures.subject ∙ ap Some (sym c.subject-file.ensures) in
     let kept : first (read_rules s) ≡ None = c.in-Ok-read_rules.ensures in
-    let tree = subject_tree c.args.tree.now c.args.table.now (caller_of c.args.caller) c.bytes.result.now s some in
-    (s, granted_by_rules scene c.args.args.now.file c.bytes.result.now refl c.bytes.ensures s c.in-Ok.ensures.rules some kept, record {
-      subject = refl;
-      tree = tree;
-      regular = regular_of (is_regular_type s.file.file_type) (are_passed (read_rules s) kept).0;
-    })
+    let tree = subject_tree c.args.tree.now c.args.table.now (caller_of c.args.caller) c.bytes.result.now s some in (
+      s,
+      granted_by_rules scene c.args.args.now.file c.bytes.result.now refl c.bytes.ensures s c.in-Ok.ensures.rules some kept,
+      record {
+        subject = refl;
+        tree = tree;
+        regular = regular_of (is_regular_type s.file.file_type) (are_passed (read_rules s) kept).0;
+      },
+    )
 
 pub returns-in-Err-read_rules : goal.returns-in-Err-read_rules
 returns-in-Err-read_rules c =

@@ -22,13 +22,16 @@ returns-in-Ok-remove_dir_rules c =
     let s : Subject = c.subject-dir.result in
     let some = sym c.in-Ok.ensures.subject ∙ ap Some (sym c.subject-dir.ensures) in
     let kept : first (remove_dir_rules s c.args.args.now.name) ≡ None = subst (λ name. first (remove_dir_rules s name) ≡ None) c.bytes-2.ensures c.in-Ok-remove_dir_rules.ensures in
-    let tree = subject_tree c.args.tree.now c.args.table.now (caller_of c.args.caller) c.bytes.result.now s some in
-    (s, granted_by_rules scene c.args.args.now.dir c.bytes.result.now refl c.bytes.ensures s c.in-Ok.ensures.rules some kept, record {
-      tree = tree;
-      dir = c.file.ensures;
-      may = subst (λ n. MayUnlink c.args.tree.now n c.args.args.now.name) (ap (λ (f : Fattr). f.fileid) (sym c.file.ensures))
-          (subst (λ t. MayUnlink t s.file.fileid c.args.args.now.name) tree (may_remove_directory s c.law.ensures.law c.law.ensures.file c.args.args.now.name kept));
-    })
+    let tree = subject_tree c.args.tree.now c.args.table.now (caller_of c.args.caller) c.bytes.result.now s some in (
+      s,
+      granted_by_rules scene c.args.args.now.dir c.bytes.result.now refl c.bytes.ensures s c.in-Ok.ensures.rules some kept,
+      record {
+        tree = tree;
+        dir = c.file.ensures;
+        may = subst (λ n. MayUnlink c.args.tree.now n c.args.args.now.name) (ap (λ (f : Fattr). f.fileid) (sym c.file.ensures))
+            (subst (λ t. MayUnlink t s.file.fileid c.args.args.now.name) tree (may_remove_directory s c.law.ensures.law c.law.ensures.file c.args.args.now.name kept));
+      },
+    )
 
 pub returns-in-Err-remove_dir_rules : goal.returns-in-Err-remove_dir_rules
 returns-in-Err-remove_dir_rules c =

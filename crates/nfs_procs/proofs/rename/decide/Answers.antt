@@ -1,16 +1,15 @@
-use Rattle.std.proofs.Common.{◌≡◌, Option, Some, None, option_map, Ok, Err, refl, sym, ap, subst, ◌∙◌}
+use Rattle.std.proofs.Common.{◌≡◌, Option, Some, None, refl, sym, ap, subst, ◌∙◌}
 use Rattle.nfs_args.specs.declared.args.NfsArgs.TheVariants as nfs
 use Rattle.nfs_attrs.specs.declared.fattr.Fattr.{Fattr}
-use Rattle.nfs_inodes.specs.Conditions.{MayLink, MayRename}
+use Rattle.nfs_inodes.specs.Conditions.{MayRename}
 use Rattle.nfs_inodes.specs.Law.{Law}
 use Rattle.nfs_procs.proofs.Judged.{subject_tree}
 use Rattle.nfs_procs.proofs.Pairs.{pair_denied_by_handles, pair_denied_by_rule, pair_granted, are_both}
 use Rattle.nfs_procs.specs.Scenes.{Scene}
 use Rattle.nfs_procs.specs.declared.denial.PairDenial.{PairDenial}
-use Rattle.nfs_rules.proofs.Links.{may_link}
 use Rattle.nfs_rules.proofs.Renames.{may_rename}
 use Rattle.nfs_rules.specs.Subjects.{Subject}
-use Rattle.nfs_rules.specs.Table.{link_rules, rename_rules}
+use Rattle.nfs_rules.specs.Table.{rename_rules}
 use Rattle.nfs_rules.specs.Tests.{first}
 use Rattle.nfs_rules.specs.Views.{caller_of, ok_of}
 use Rattle.nfs_procs.proofs.rename.decide.Goals as goal
@@ -36,16 +35,20 @@ returns-in-Ok-rename_rules c =
     let both = are_both c.of-from.result c.of-to.result s u some in
     let kept : first (rename_rules s u c.args.args.now) ≡ None = c.in-Ok-rename_rules.ensures in
     let tree_one = subject_tree c.args.tree.now c.args.table.now (caller_of c.args.caller) c.bytes.result.now s (sym c.of-from.ensures.subject ∙ ap ok_of both.one) in
-    let tree_two = subject_tree c.args.tree.now c.args.table.now (caller_of c.args.caller) c.bytes-2.result.now u (sym c.of-to.ensures.subject ∙ ap ok_of both.two) in
-    (s, u, pair_granted scene c.args.args.now.from.dir c.args.args.now.to.dir c.bytes.result.now c.bytes-2.result.now refl c.bytes.ensures c.bytes-2.ensures c.of-from.result c.of-to.result
-      c.of-from.ensures.rules c.of-from.ensures.subject c.of-to.ensures.rules c.of-to.ensures.subject s u some kept, record {
-      tree = tree_one;
-      from_is = c.file.ensures;
-      to_is = c.file-in-Ok-rename_rules.ensures;
-      may = subst (λ n. MayRename c.args.tree.now n c.args.args.now.from.name c.file-in-Ok-rename_rules.result.now.fileid c.args.args.now.to.name) (ap (λ (f : Fattr). f.fileid) (sym c.file.ensures))
-          (subst (λ n. MayRename c.args.tree.now s.file.fileid c.args.args.now.from.name n c.args.args.now.to.name) (ap (λ (f : Fattr). f.fileid) (sym c.file-in-Ok-rename_rules.ensures))
-          (may_rename c.args.tree.now (subst Law tree_one c.law.ensures.law) s u tree_one tree_two c.law.ensures.file c.law-2.ensures.file both.volume c.args.args.now kept));
-    })
+    let tree_two = subject_tree c.args.tree.now c.args.table.now (caller_of c.args.caller) c.bytes-2.result.now u (sym c.of-to.ensures.subject ∙ ap ok_of both.two) in (
+      s,
+      u,
+      pair_granted scene c.args.args.now.from.dir c.args.args.now.to.dir c.bytes.result.now c.bytes-2.result.now refl c.bytes.ensures c.bytes-2.ensures c.of-from.result c.of-to.result
+          c.of-from.ensures.rules c.of-from.ensures.subject c.of-to.ensures.rules c.of-to.ensures.subject s u some kept,
+      record {
+        tree = tree_one;
+        from_is = c.file.ensures;
+        to_is = c.file-in-Ok-rename_rules.ensures;
+        may = subst (λ n. MayRename c.args.tree.now n c.args.args.now.from.name c.file-in-Ok-rename_rules.result.now.fileid c.args.args.now.to.name) (ap (λ (f : Fattr). f.fileid) (sym c.file.ensures))
+            (subst (λ n. MayRename c.args.tree.now s.file.fileid c.args.args.now.from.name n c.args.args.now.to.name) (ap (λ (f : Fattr). f.fileid) (sym c.file-in-Ok-rename_rules.ensures))
+            (may_rename c.args.tree.now (subst Law tree_one c.law.ensures.law) s u tree_one tree_two c.law.ensures.file c.law-2.ensures.file both.volume c.args.args.now kept));
+      },
+    )
 
 pub returns-in-Err-rename_rules : goal.returns-in-Err-rename_rules
 returns-in-Err-rename_rules c =

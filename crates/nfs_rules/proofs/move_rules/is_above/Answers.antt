@@ -1,4 +1,3 @@
-use Rattle.std.proofs.Common.{◌≡◌}
 use Rattle.nfs_rules.proofs.Above.{walk_tells, lives_as_directory}
 use Rattle.nfs_rules.proofs.move_rules.is_above.Goals as goal
 
