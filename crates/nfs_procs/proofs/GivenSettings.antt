@@ -1,5 +1,5 @@
 -- Attributes are set.
-use Rattle.std.proofs.Common.{◌≡◌, ℕ, Option, Some, None, Ok, refl, sym, ap, subst, ◌∙◌, arith}
+use Rattle.std.proofs.Common.{◌≡◌, ℕ, Option, Some, None, Ok, sym, ap, subst, ◌∙◌, arith}
 use Rattle.nfs_args.specs.Answers.{nfs_text}
 use Rattle.nfs_args.specs.declared.answer.NfsAnswer.TheVariants as answer
 use Rattle.nfs_args.specs.declared.set_attr.SetAttr.{SetAttr}
@@ -12,7 +12,7 @@ use Rattle.nfs_inodes.specs.Changes.{after_resize, resized_to}
 use Rattle.nfs_inodes.specs.Law.{Lives}
 use Rattle.nfs_inodes.specs.Reading.{attributes_at}
 use Rattle.nfs_inodes.specs.Tree.{Tree, File, on_some}
-use Rattle.nfs_procs.specs.Changers.{set_attr, after_settings, changed}
+use Rattle.nfs_procs.specs.Changers.{set_attr, after_settings}
 use Rattle.nfs_procs.specs.Doing.{change}
 use Rattle.nfs_procs.specs.Performing.{IsGranted, HasEffect}
 use Rattle.nfs_procs.specs.Plans.{PlansSettings}

@@ -25,15 +25,18 @@ returns-in-Ok-create_rules c =
     let some = sym c.in-Ok.ensures.subject ∙ ap Some (sym c.subject-dir.ensures) in
     let kept = c.in-Ok-create_rules.ensures.rules in
     let tree = subject_tree c.args.tree.now c.args.table.now (caller_of c.args.caller) c.bytes.result.now s some in
-    let present = c.attributes_of.ensures ∙ c.in-Ok-create_rules.ensures.found in
-    (s, granted_by_rules scene a.place.dir c.bytes.result.now refl c.bytes.ensures s c.in-Ok.ensures.rules some kept, record {
-      tree = tree;
-      dir = c.file.ensures;
-      present = present;
-      given = c.new_file_of.ensures ∙ ap (new_file_of file_mode s.ids c.args.now) c.given_in.ensures;
-      may = subst (λ (f : Fattr). MayMakeOrTake c.args.tree.now f.fileid a c.attributes_of.result) (sym c.file.ensures)
-          (subst (λ t. MayMakeOrTake t s.file.fileid a c.attributes_of.result) tree (may_make_or_take s c.law.ensures.law c.law.ensures.file a kept c.attributes_of.result present));
-    })
+    let present = c.attributes_of.ensures ∙ c.in-Ok-create_rules.ensures.found in (
+      s,
+      granted_by_rules scene a.place.dir c.bytes.result.now refl c.bytes.ensures s c.in-Ok.ensures.rules some kept,
+      record {
+        tree = tree;
+        dir = c.file.ensures;
+        present = present;
+        given = c.new_file_of.ensures ∙ ap (new_file_of file_mode s.ids c.args.now) c.given_in.ensures;
+        may = subst (λ (f : Fattr). MayMakeOrTake c.args.tree.now f.fileid a c.attributes_of.result) (sym c.file.ensures)
+            (subst (λ t. MayMakeOrTake t s.file.fileid a c.attributes_of.result) tree (may_make_or_take s c.law.ensures.law c.law.ensures.file a kept c.attributes_of.result present));
+      },
+    )
 
 pub returns-in-Err-create_rules : goal.returns-in-Err-create_rules
 returns-in-Err-create_rules c =
