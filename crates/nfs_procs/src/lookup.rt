@@ -74,8 +74,11 @@ fn write_granted(out: &mut Output, tree: &Tree, file: &FileView<'_>, dir: &Fattr
     requires seen { IsSeen tree.now file.now }
     requires room { 256 ≤ out.old.room }
     ensures { Appends (nfs_text (answer.Lookup (Ok
-        (record { file = procedure.handle_in tree.now file.now.attributes; attributes = Some file.now.attributes; dir = Some
-        dir.now })))) out.old out.new }
+        (record {
+          file = procedure.handle_in tree.now file.now.attributes;
+          attributes = Some file.now.attributes;
+          dir = Some dir.now;
+        })))) out.old out.new }
 {
     let handle = tree.handle(file);
     out.u32(0);

@@ -35,13 +35,7 @@ pub(crate) fn make_node(
     write_denied_change(out, &denial)
 }
 
-fn deny(
-    tree: &Tree,
-    table: &Table,
-    caller: Caller<'_>,
-    now: Moment,
-    args: &MakeNode<'_>,
-) -> Denial
+fn deny(tree: &Tree, table: &Table, caller: Caller<'_>, now: Moment, args: &MakeNode<'_>) -> Denial
     ensures { IsDenied (scene tree.now table.now caller.entry now (nfs.MakeNode args.now)) args.now.place.dir result }
 {
     match ExportedFile::of(tree, table, caller, args.place.dir.bytes()) {

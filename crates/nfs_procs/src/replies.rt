@@ -78,8 +78,11 @@ pub(crate) fn write_granted_change(out: &mut Output, file: Wcc)
 /// A new file and the directory of its name.
 pub(crate) fn write_new_file(out: &mut Output, tree: &Tree, file: Number, dir: Wcc)
     requires { 320 ≤ out.old.room }
-    ensures { Appends (made_text (record { file = handle_at (numbered_files tree.now) file.0; attributes = attributes_at tree.now file.0;
-        dir = dir })) out.old out.new }
+    ensures { Appends (made_text (record {
+      file = handle_at (numbered_files tree.now) file.0;
+      attributes = attributes_at tree.now file.0;
+      dir = dir;
+    })) out.old out.new }
 {
     let handle = tree.handle_of(file.0);
     let lent = match &handle {

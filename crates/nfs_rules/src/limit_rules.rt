@@ -29,7 +29,7 @@ impl<'a> Subject<'a> {
     /// `TooBig` and `Space` where so many bytes are put at an offset; no bytes are never too many.
     pub fn write_limits(&self, offset: u64, count: usize) -> Result<(), Rule>
         ensures { Judges result (test.too_big (test.end_of offset count) ∷ test.space self.now
-        (test.growth self.now (test.end_of offset count)) ∷ []) }
+            (test.growth self.now (test.end_of offset count)) ∷ []) }
     {
         if count == 0 {
             return Ok(());

@@ -70,7 +70,7 @@ impl<'a> Subject<'a> {
     // `Links`, where a directory comes into another directory than this one, which gains a link.
     fn subdirectory_links(&self, to: &Subject<'_>, moved: &Fattr) -> Result<(), Rule>
         ensures { Tells result (test.only_where (is_directory_type moved.now.file_type && not
-        (nat_eq self.now.file.fileid to.now.file.fileid)) (test.links to.now.file)) }
+            (nat_eq self.now.file.fileid to.now.file.fileid)) (test.links to.now.file)) }
     {
         if !is_directory(moved) || self.file.attributes.fileid == to.file.attributes.fileid {
             return Ok(());
