@@ -3,6 +3,7 @@
 #![tactic(auto)]
 
 mod arguments;
+mod changes;
 mod described;
 mod framing;
 mod null_call;
@@ -28,7 +29,8 @@ fn run<R: Env + Clock + Print + AllocGlobal>(rt: &R) -> io::Result<()> {
             null_call::fixed(rt)?;
             procedures::fixed(rt)?;
             arguments::fixed(rt)?;
-            tree::fixed(rt)
+            tree::fixed(rt)?;
+            changes::fixed(rt)
         }
         Some(word) if word.as_str() == "framing" => framing::measure(rt),
         Some(word) if word.as_str() == "null" => null_call::measure(rt),
@@ -39,6 +41,8 @@ fn run<R: Env + Clock + Print + AllocGlobal>(rt: &R) -> io::Result<()> {
         Some(word) if word.as_str() == "arguments" => arguments::measure(rt),
         Some(word) if word.as_str() == "tree-1000" => tree::measure(rt, 1),
         Some(word) if word.as_str() == "tree-100000" => tree::measure(rt, 100),
+        Some(word) if word.as_str() == "changes-1000" => changes::measure(rt, 1),
+        Some(word) if word.as_str() == "changes-100000" => changes::measure(rt, 100),
         Some(word) if word.as_str() == "write" => tree::measure_write(rt),
         Some(word) if word.as_str() == "hold-0" => tree::hold(rt, 0),
         Some(word) if word.as_str() == "hold-100000" => tree::hold(rt, 100),

@@ -9,14 +9,17 @@ use std::io;
 use std::rt::Clock;
 use std::time::Instant;
 
-const ROUNDS: u32 = 1_000_000;
+/// How often a reading is measured.
+pub(crate) const ROUNDS: u32 = 1_000_000;
 
-const START: Moment = Moment {
+/// When everything is done.
+pub(crate) const START: Moment = Moment {
     seconds: 0,
     nanos: 0,
 };
 
-const GIVEN: NewFile = NewFile {
+/// What a new file is given.
+pub(crate) const GIVEN: NewFile = NewFile {
     mode: 0o755,
     uid: 0,
     gid: 0,
@@ -79,8 +82,8 @@ pub(crate) fn hold<R: Print + AllocGlobal>(rt: &R, thousands: u32) -> io::Result
     println!(rt; "held {}", tree.next_number().saturating_sub(1))
 }
 
-// A volume with so many directories of a thousand empty files each.
-fn grown(alloc: Global, thousands: u32) -> Result<Tree, AllocError> {
+/// A volume with so many directories of a thousand empty files each.
+pub(crate) fn grown(alloc: Global, thousands: u32) -> Result<Tree, AllocError> {
     let mut tree = Tree::new(alloc, [0; 8]);
     if tree.may_add_volume(b"/", 1_000_000) {
         tree.add_volume(b"/", 1_000_000, 1_000_000, &GIVEN, START)?;
@@ -107,8 +110,8 @@ fn fill(alloc: Global, tree: &mut Tree, place: u32) -> Result<(), AllocError> {
     Ok(())
 }
 
-// A name of four letters for a number below 65,536.
-fn letters(number: u32) -> [u8; 4] {
+/// A name of four letters for a number below 65,536.
+pub(crate) fn letters(number: u32) -> [u8; 4] {
     let letter = |shift: u32| b'a' + (number >> shift & 15) as u8;
     [letter(12), letter(8), letter(4), letter(0)]
 }

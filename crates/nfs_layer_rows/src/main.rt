@@ -4,6 +4,7 @@
 
 mod arguments;
 mod attributes;
+mod counts;
 mod credentials;
 mod framing;
 mod handles;
@@ -11,6 +12,7 @@ mod items;
 mod results;
 mod tree;
 mod views;
+mod walk;
 
 use crate::framing::Framing;
 use crate::handles::Numbered;
@@ -59,6 +61,7 @@ impl<'a> Answers for Asked<'a> {
             "files" => self.numbered.answer(words),
             "tree" => self.served.answer(words),
             "view" => views::answer(self.alloc, self.served.tree(), words),
+            "walk" => walk::answer(self.alloc, words),
             _ => None,
         }
     }

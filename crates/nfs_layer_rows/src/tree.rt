@@ -3,6 +3,7 @@
 use nfs_attrs::moment::Moment;
 use nfs_handles::number::Number;
 use nfs_inodes::content::zeroed;
+use nfs_inodes::given_attributes::GivenAttributes;
 use nfs_inodes::new_file::NewFile;
 use nfs_inodes::tree::Tree;
 use nfs_load::description::load;
@@ -11,14 +12,14 @@ use rows::words::{bytes, name, number, size, word};
 use std::alloc::Global;
 use std::str::SplitWhitespace;
 
-// When everything is done.
-const NOW: Moment = Moment {
+/// When everything is done.
+pub(crate) const NOW: Moment = Moment {
     seconds: 100,
     nanos: 0,
 };
 
-// What a new file is given.
-const GIVEN: NewFile = NewFile {
+/// What a new file is given.
+pub(crate) const GIVEN: NewFile = NewFile {
     mode: 0o100_644,
     uid: 9,
     gid: 8,
@@ -68,8 +69,14 @@ impl<'a> Served<'a> {
             | "make-dirs"
             | "link"
             | "write"
+            | "resize"
+            | "set-mode"
+            | "unlink"
+            | "rename"
             | "add-volume" => return self.change(verb, words),
-            "may-make" | "may-write" => return may(self.alloc, &self.tree, verb, words),
+            "may-make" | "may-write" | "may-resize" | "may-unlink" | "may-rename" => {
+                return may(self.alloc, &self.tree, verb, words);
+            }
             "volumes" | "next" | "totals" | "place" | "limits" => {
                 return volumes(self.alloc, &self.tree, verb, words);
             }
@@ -87,6 +94,10 @@ impl<'a> Served<'a> {
             "make-link" => make_link(self.alloc, &mut self.tree, words),
             "link" => link(self.alloc, &mut self.tree, words),
             "write" => write(self.alloc, &mut self.tree, words),
+            "resize" => resize(&mut self.tree, words),
+            "set-mode" => set_mode(&mut self.tree, words),
+            "unlink" => unlink(self.alloc, &mut self.tree, words),
+            "rename" => rename(self.alloc, &mut self.tree, words),
             _ => add_volume(self.alloc, &mut self.tree, words),
         };
         told(self.alloc, done)
@@ -97,6 +108,9 @@ impl<'a> Served<'a> {
 fn read(alloc: Global, tree: &Tree, verb: &str, words: &mut SplitWhitespace<'_>) -> Option<String> {
     match verb {
         "attributes" => told(alloc, tree.attributes(Number(number(words)?))),
+        "links" => told(alloc, links(tree, Number(number(words)?))),
+        "below" => told(alloc, below(tree, number(words)?, number(words)?)),
+        "is-empty" => told(alloc, tree.is_empty(Number(number(words)?))),
         "lookup" => lookup(alloc, tree, words),
         "entry" => entry(alloc, tree, words),
         "cookie" => told(alloc, tree.next_cookie(Number(number(words)?))),
@@ -108,6 +122,19 @@ fn read(alloc: Global, tree: &Tree, verb: &str, words: &mut SplitWhitespace<'_>)
         "named" => named(alloc, tree, words),
         _ => None,
     }
+}
+
+// How many links a file has.
+fn links(tree: &Tree, number: Number) -> Option<u32> {
+    Some(tree.attributes(number)?.nlink)
+}
+
+// Whether a file is a directory or above it; `None` where that is no directory.
+fn below(tree: &Tree, dir: u64, above: u64) -> Option<bool> {
+    if tree.next_cookie(Number(dir)).is_none() {
+        return None;
+    }
+    Some(tree.is_below(Number(dir), Number(above)))
 }
 
 // The file of a name in a directory.
@@ -185,14 +212,42 @@ fn volumes(
     }
 }
 
-// `may-make DIRECTORY NAME SIZE` and `may-write NUMBER OFFSET COUNT`.
+// `may-make DIRECTORY NAME SIZE`, `may-write NUMBER OFFSET COUNT`, `may-resize NUMBER SIZE`,
+// `may-unlink DIRECTORY NAME` and `may-rename DIRECTORY NAME DIRECTORY NAME`.
 fn may(alloc: Global, tree: &Tree, verb: &str, words: &mut SplitWhitespace<'_>) -> Option<String> {
     let file = Number(number(words)?);
-    if verb == "may-write" {
-        return told(alloc, tree.may_write(file, size(words)?, size(words)?));
+    match verb {
+        "may-write" => told(alloc, tree.may_write(file, size(words)?, size(words)?)),
+        "may-resize" => told(alloc, tree.may_resize(file, size(words)?)),
+        "may-make" => may_make(alloc, tree, file, words),
+        "may-unlink" => told(alloc, tree.may_unlink(file, name(alloc, words)?.as_slice())),
+        _ => may_rename(alloc, tree, file, words),
     }
+}
+
+fn may_make(
+    alloc: Global,
+    tree: &Tree,
+    dir: Number,
+    words: &mut SplitWhitespace<'_>,
+) -> Option<String> {
     let name = name(alloc, words)?;
-    told(alloc, tree.may_make(file, name.as_slice(), size(words)?))
+    told(alloc, tree.may_make(dir, name.as_slice(), size(words)?))
+}
+
+fn may_rename(
+    alloc: Global,
+    tree: &Tree,
+    from: Number,
+    words: &mut SplitWhitespace<'_>,
+) -> Option<String> {
+    let old_name = name(alloc, words)?;
+    let to = Number(number(words)?);
+    let new_name = name(alloc, words)?;
+    told(
+        alloc,
+        tree.may_rename(from, old_name.as_slice(), to, new_name.as_slice()),
+    )
 }
 
 // `make-file DIRECTORY NAME SIZE [VERIFIER]`.
@@ -216,7 +271,8 @@ fn make_dir(alloc: Global, tree: &mut Tree, words: &mut SplitWhitespace<'_>) -> 
     directory(tree, dir, name.as_slice())
 }
 
-fn directory(tree: &mut Tree, dir: Number, name: &[u8]) -> Option<u64> {
+/// Makes a directory, where it may be made: its number.
+pub(crate) fn directory(tree: &mut Tree, dir: Number, name: &[u8]) -> Option<u64> {
     if !tree.may_make_dir(dir, name) {
         return None;
     }
@@ -271,6 +327,62 @@ fn write(alloc: Global, tree: &mut Tree, words: &mut SplitWhitespace<'_>) -> Opt
     }
     tree.write_at(file, offset, content.as_slice(), NOW).ok()?;
     Some(file.0)
+}
+
+// `resize NUMBER SIZE`: the number.
+fn resize(tree: &mut Tree, words: &mut SplitWhitespace<'_>) -> Option<u64> {
+    let file = Number(number(words)?);
+    let size = size(words)?;
+    if !tree.may_resize(file, size) {
+        return None;
+    }
+    tree.resize(file, size, NOW).ok()?;
+    Some(file.0)
+}
+
+// `set-mode NUMBER MODE`, the mode decimal: the number.
+fn set_mode(tree: &mut Tree, words: &mut SplitWhitespace<'_>) -> Option<u64> {
+    let file = Number(number(words)?);
+    let given = mode_alone(word(words)?);
+    if tree.attributes(file).is_none() {
+        return None;
+    }
+    tree.set(file, &given, NOW);
+    Some(file.0)
+}
+
+fn mode_alone(mode: u32) -> GivenAttributes {
+    GivenAttributes {
+        mode: Some(mode),
+        uid: None,
+        gid: None,
+        atime: None,
+        mtime: None,
+    }
+}
+
+// `unlink DIRECTORY NAME`: the directory's number.
+fn unlink(alloc: Global, tree: &mut Tree, words: &mut SplitWhitespace<'_>) -> Option<u64> {
+    let dir = Number(number(words)?);
+    let name = name(alloc, words)?;
+    if !tree.may_unlink(dir, name.as_slice()) {
+        return None;
+    }
+    tree.unlink(dir, name.as_slice(), NOW);
+    Some(dir.0)
+}
+
+// `rename DIRECTORY NAME DIRECTORY NAME`: the number of the second directory.
+fn rename(alloc: Global, tree: &mut Tree, words: &mut SplitWhitespace<'_>) -> Option<u64> {
+    let from = Number(number(words)?);
+    let old_name = name(alloc, words)?;
+    let to = Number(number(words)?);
+    let new_name = name(alloc, words)?;
+    if !tree.may_rename(from, old_name.as_slice(), to, new_name.as_slice()) {
+        return None;
+    }
+    let done = tree.rename(from, old_name.as_slice(), to, new_name.as_slice(), NOW);
+    done.ok().map(|_| to.0)
 }
 
 // `add-volume PATH FILES`: a volume of at most so many files, and no bytes.
