@@ -1,13 +1,15 @@
 -- Which pasts fit a server. The server stores none: a past is the caller's.
-use Rattle.std.specs.Prelude.{List, ◌∷◌}
+use Rattle.std.specs.Prelude.{List, ◌∷◌, Option}
 use Rattle.nfs_inodes.specs.Law.{Law}
 use Rattle.nfs_server.specs.Events.{Event, Answer, Choice, Done}
 use Rattle.nfs_server.specs.Steps.{Setup, State, IsRun}
+use Rattle.nfs_server.specs.declared.audit_line.AuditLine.{AuditLine}
 
--- what a server holds
+-- what a server holds: beside its setup and state, the line of its last call, where that was denied
 pub record Held : Type 0 where
   pub setup : Setup
   pub state : State
+  pub line : Option AuditLine
 
 -- an opening state, and the events since with their choices and answers, the newest first
 pub record Past : Type 0 where

@@ -5,9 +5,5 @@ use Rattle.nfs_server.specs.Events.{Event, Answer, Choice}
 use Rattle.nfs_server.specs.Steps.{Called}
 use Rattle.nfs_server.specs.Fits.{Held}
 
--- the choices that the server made, as its answer shows them
-abbrev pub choice_of : Held → Event → Answer → Choice
-choice_of old event answer = record {}
-
 abbrev pub Answers : Held → Event → Answer → Held → Type 0
-Answers old event answer new = (new.setup ≡ old.setup) × Called (head_at event.bytes) old.setup old.state event.addr answer new.state
+Answers old event answer new = (choice : Choice) × (new.setup ≡ old.setup) × Called (head_at event.bytes) old.setup old.state event choice answer new.state
