@@ -4,3 +4,4 @@ pub mod Forward
 pub mod Cases
 pub mod Joined
 pub mod Performed
+pub mod Judged

@@ -52,7 +52,7 @@ reply_text old begun headed written sealed first text long begun_is headed_is wr
 
 -- ---- the steps
 
-abbrev no_choice : Choice
+abbrev pub no_choice : Choice
 no_choice = record { tag = 0; fits = omega arith; has_memory = true }
 
 pub nothing_done : (c : Scene) (o : Option Doing) (came : Option Done) (new : Tree) (before after : Written) (call : Call) (reply : List ℕ) → came ≡ None → PerformsAs c o came new before after

@@ -1,13 +1,14 @@
 //! A server, which takes one whole record at a time.
-ghost use Rattle.std.specs.Prelude.{◌≡◌, ℕ, ◌≤◌, List, [], ◌∷◌, ◌++◌, true, false, length, IfOk, Bool, None};
+ghost use Rattle.std.specs.Prelude.{◌≡◌, ℕ, ◌≤◌, List, [], ◌∷◌, ◌++◌, true, false, length, IfOk, Bool, None, Some};
 ghost use Rattle.std.specs.List.{find};
+ghost use Rattle.nfs_rpc.specs.AuthSys.{caller, credential_of};
 ghost use Rattle.nfs_rpc.specs.Calls.{call_of};
 ghost use Rattle.nfs_server.specs.Events.{Choice, Done};
 ghost use Rattle.nfs_server.specs.declared.rpc_rules.RpcRule.TheVariants.{Arguments};
 ghost use Rattle.nfs_server.specs.Requests.{is_null, request_of};
 ghost use Rattle.nfs_server.specs.AuditLines.{line_of};
 ghost use Rattle.nfs_server.specs.declared.audit_line.Reason.TheVariants.{Rpc};
-ghost use Rattle.nfs_server.specs.RpcRules.{fails_rpc, caller_rules, is_nfs, rpc_reply};
+ghost use Rattle.nfs_server.specs.RpcRules.{fails_rpc, caller_rules, is_nfs, rpc_failure_of, rpc_reply};
 ghost use Rattle.nfs_server.specs.Seen.{event_of, answer_of, answered, told};
 ghost use Rattle.nfs_server.specs.Steps.{Step, Judged};
 ghost use Rattle.nfs_server.specs.Fits.{Held, Past, Fits, after};
@@ -102,15 +103,29 @@ impl Server {
             self.line = None;
             return Handled::NoReply;
         };
-        self.line = match admit(&head) {
-            Err(rule) => Some(refuse(reply, &head, &event, rule)),
+        self.line = self.respond(&head, &event, reply);
+        Handled::Answered
+    }
+
+    // The reply to a call, and its line where it is denied.
+    fn respond(
+        &mut self,
+        head: &CallHead<'_>,
+        event: &Event<'_>,
+        reply: &mut ReplyBuf,
+    ) -> Option<AuditLine>
+        ensures setup { self.new.setup ≡ self.old.setup }
+        ensures judged { (choice : Choice) × Judged (rpc_failure_of (call_of head.now) head.now.args) (request_of event.now.addr (call_of head.now) head.now.args)
+            self.old.setup self.old.state (event_of event.now) (call_of head.now) choice (told reply.new result) self.new.state }
+    {
+        match admit(head) {
+            Err(rule) => Some(refuse(reply, head, event, rule)),
             Ok(Admitted::Null) => {
                 reply.succeed(head.xid);
                 None
             }
-            Ok(Admitted::Nfs) => self.answer_nfs(&head, &event, reply),
-        };
-        Handled::Answered
+            Ok(Admitted::Nfs) => self.answer_nfs(head, event, reply),
+        }
     }
 
     // The reply to a call of NFS other than NULL, and its line where it is denied.
@@ -128,24 +143,38 @@ impl Server {
             self.old.setup self.old.state (event_of event.now) (call_of head.now) choice (told reply.new result) self.new.state }
     {
         let mut cred = Cred::nobody();
-        if let Err(rule) = identify(head, &mut cred) {
-            return Some(refuse(reply, head, event, rule));
+        match identify(head, &mut cred) {
+            Err(rule) => Some(refuse(reply, head, event, rule)),
+            Ok(()) => self.answer_caller(head, event, &cred, reply),
         }
-        let Ok(args) = read_args(head.proc, Input::new(head.args.rest())) else {
-            return Some(refuse(reply, head, event, RpcRule::Arguments));
-        };
-        let caller = Caller {
-            addr: event.addr,
-            cred: &cred,
-        };
-        reply.perform(
-            head,
-            &mut self.tree,
-            &self.table,
-            caller,
-            event.moment,
-            &args,
-        )
+    }
+
+    // The same, where it is known who calls.
+    fn answer_caller(
+        &mut self,
+        head: &CallHead<'_>,
+        event: &Event<'_>,
+        cred: &Cred,
+        reply: &mut ReplyBuf,
+    ) -> Option<AuditLine>
+        requires null { is_null (call_of head.now) ≡ false }
+        requires known { find (fails_rpc (call_of head.now) head.now.args) caller_rules ≡ None }
+        requires cred { caller (call_of head.now).cred.body ≡ Some (credential_of cred.now) }
+        ensures setup { self.new.setup ≡ self.old.setup }
+        ensures judged { (choice : Choice) × Judged (find (fails_rpc (call_of head.now) head.now.args) (caller_rules ++ Arguments ∷ [])) (request_of event.now.addr (call_of head.now) head.now.args)
+            self.old.setup self.old.state (event_of event.now) (call_of head.now) choice (told reply.new result) self.new.state }
+    {
+        match read_args(head.proc, Input::new(head.args.rest())) {
+            Err(_) => Some(refuse(reply, head, event, RpcRule::Arguments)),
+            Ok(args) => {
+                let caller = Caller {
+                    addr: event.addr,
+                    cred,
+                };
+                let (tree, table) = (&mut self.tree, &self.table);
+                reply.perform(head, tree, table, caller, event.moment, &args)
+            }
+        }
     }
 
     /// Takes events one after another, and hands each outcome to the sink, until a take answers
@@ -164,7 +193,7 @@ impl Server {
         for event in events {
             let handled = self.handle(*event, reply);
             done += 1;
-            if !sink.take(outcome_of(handled, reply, self.line)) {
+            if !sink.take(outcome_of(handled, reply, self.last_audit())) {
                 break;
             }
         }
