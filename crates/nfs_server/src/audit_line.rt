@@ -94,7 +94,7 @@ fn put_rule(line: &mut Line, rule: Rule)
     ensures len { array_vec_len line.new ≤ array_vec_len line.old + 50 }
 {
     put(line, b" rule=");
-    put(line, rule.name().as_bytes());
+    put_text(line, rule.name());
     put_number(line, b" status=", u64::from(rule.status()));
 }
 
@@ -107,7 +107,15 @@ fn put_words(line: &mut Line, rule: &str, status: &str)
     ensures len { array_vec_len line.new ≤ array_vec_len line.old + 60 }
 {
     put(line, b" uid=- rule=");
-    put(line, rule.as_bytes());
+    put_text(line, rule);
     put(line, b" status=");
-    put(line, status.as_bytes());
+    put_text(line, status);
+}
+
+fn put_text(line: &mut Line, text: &str)
+    requires { array_vec_len line.old + length text.now ≤ 1024 }
+    ensures items { line.new.items ≡ line.old.items ++ text.now }
+    ensures len { array_vec_len line.new ≡ array_vec_len line.old + length text.now }
+{
+    put(line, text.as_bytes());
 }
