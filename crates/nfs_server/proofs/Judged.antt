@@ -1,5 +1,5 @@
 -- Calls, from their rules of RPC to what they ask for.
-use Rattle.std.proofs.Common.{◌≡◌, ℕ, Bool, true, false, cond, not, ◌&&◌, ◌||◌, List, [], ◌∷◌, ◌++◌, Option, Some, None, is_none, refl, sym, ap, subst, ◌∙◌, append-nil}
+use Rattle.std.proofs.Common.{◌≡◌, ℕ, Bool, true, false, cond, not, ◌&&◌, ◌||◌, List, [], ◌∷◌, ◌++◌, Some, None, is_none, refl, sym, ap, subst, ◌∙◌, append-nil}
 use Rattle.std.specs.Prelude.{nat_eq}
 use Rattle.std.specs.List.{find}
 use Rattle.std.specs.Option.{option_or}
@@ -15,7 +15,7 @@ use Rattle.nfs_server.specs.Events.{Event, Answer, Choice, granted, denied}
 use Rattle.nfs_server.specs.Requests.{args_in, asked, is_null, request_of}
 use Rattle.nfs_server.specs.RpcRules.{AUTH_NONE, AUTH_SYS, caller_rules, fails_rpc, head_rules, is_nfs, rpc_reply}
 use Rattle.nfs_server.specs.Seen.{told}
-use Rattle.nfs_server.specs.Steps.{Judged, Performed, Requested, Setup, State, success}
+use Rattle.nfs_server.specs.Steps.{Judged, Performed, Requested, Setup, State}
 use Rattle.nfs_server.specs.declared.audit_line.AuditLine.{AuditLine}
 use Rattle.nfs_server.specs.declared.audit_line.Reason.TheVariants as reason
 use Rattle.nfs_server.specs.declared.rpc_rules.RpcRule.{RpcRule}
@@ -61,9 +61,11 @@ module _ (setup : Setup) (old : State) (event : Event) (call : Call) (bytes : Li
   -- a rule fails
   pub denied_by : (rules later : List RpcRule) (rule : RpcRule) (reply : List ℕ) (line : AuditLine) → find (fails_rpc call bytes) rules ≡ Some rule → reply ≡ rpc_reply rule call.xid → line ≡ line_of event.addr call (reason.Rpc rule)
       → Answered (rules ++ later) (told reply (Some line)) old
-  denied_by rules later rule reply line found reply_is line_is =
-      (no_choice, subst (λ v. Judged v (request_of event.addr call bytes) setup old event call no_choice (told reply (Some line)) old) (sym (find_before (fails_rpc call bytes) rule rules later found))
-      (ap (λ r. denied r line) reply_is ∙ ap (denied (rpc_reply rule call.xid)) line_is, refl))
+  denied_by rules later rule reply line found reply_is line_is = (
+    no_choice,
+    subst (λ v. Judged v (request_of event.addr call bytes) setup old event call no_choice (told reply (Some line)) old) (sym (find_before (fails_rpc call bytes) rule rules later found))
+        (ap (λ r. denied r line) reply_is ∙ ap (denied (rpc_reply rule call.xid)) line_is, refl),
+  )
 
   -- the arguments can't be read
   pub denied_unread : (reply : List ℕ) (line : AuditLine) → is_null call ≡ false → find (fails_rpc call bytes) caller_rules ≡ None → args_in call.proc bytes ≡ None → reply ≡ rpc_reply Arguments call.xid → line ≡ line_of event.addr call (reason.Rpc Arguments)
@@ -77,9 +79,11 @@ module _ (setup : Setup) (old : State) (event : Event) (call : Call) (bytes : Li
       → (choice : Choice) × Performed (doing_of args) (record { tree = old.tree; exports = setup.exports; caller = record { addr = event.addr; cred = cred }; now = event.moment; args = args }) call choice answer new.tree
       → Answered call_rules answer new
   requested cred args answer new other known cred_is args_is performed =
-      let none = find_behind (fails_rpc call bytes) caller_rules (Arguments ∷ []) known ∙ unfailing call bytes args other args_is in
-      (performed.0, subst (λ v. Judged v (request_of event.addr call bytes) setup old event call performed.0 answer new) (sym none)
-      (subst (λ r. Requested r setup old event call performed.0 answer new) (sym (asked_for event call bytes cred args other cred_is args_is)) performed.1))
+      let none = find_behind (fails_rpc call bytes) caller_rules (Arguments ∷ []) known ∙ unfailing call bytes args other args_is in (
+        performed.0,
+        subst (λ v. Judged v (request_of event.addr call bytes) setup old event call performed.0 answer new) (sym none)
+            (subst (λ r. Requested r setup old event call performed.0 answer new) (sym (asked_for event call bytes cred args other cred_is args_is)) performed.1),
+      )
 
   -- the rules of the head are kept
   pub admitted : (answer : Answer) (new : State) → find (fails_rpc call bytes) head_rules ≡ None → Answered call_rules answer new → Answered (head_rules ++ call_rules) answer new
@@ -96,6 +100,8 @@ module _ (setup : Setup) (old : State) (event : Event) (call : Call) (bytes : Li
   pub null_done : (reply : List ℕ) → find (fails_rpc call bytes) head_rules ≡ None → is_null call ≡ true → reply ≡ accepted_text call.xid Success → Answered (head_rules ++ call_rules) (told reply None) old
   null_done reply kept null reply_is =
       let asks : request_of event.addr call bytes ≡ None = ap (λ b. cond b None (asked event.addr (caller call.cred.body) (args_in call.proc bytes))) null in
-      let none = find_behind (fails_rpc call bytes) head_rules call_rules kept ∙ null_passes null in
-      (no_choice, subst (λ v. Judged v (request_of event.addr call bytes) setup old event call no_choice (told reply None) old) (sym none)
-      (subst (λ r. Requested r setup old event call no_choice (told reply None) old) (sym asks) (ap granted (reply_is ∙ sym (append-nil (accepted_text call.xid Success))), refl)))
+      let none = find_behind (fails_rpc call bytes) head_rules call_rules kept ∙ null_passes null in (
+        no_choice,
+        subst (λ v. Judged v (request_of event.addr call bytes) setup old event call no_choice (told reply None) old) (sym none)
+            (subst (λ r. Requested r setup old event call no_choice (told reply None) old) (sym asks) (ap granted (reply_is ∙ sym (append-nil (accepted_text call.xid Success))), refl)),
+      )

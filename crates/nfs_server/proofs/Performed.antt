@@ -1,5 +1,5 @@
 -- What became of a call of NFS is a step of the server.
-use Rattle.std.proofs.Common.{◌≡◌, ℕ, ◌+◌, ◌-◌, ◌<◌, ◌≤◌, ◌^◌, true, false, List, [], ◌++◌, length, take, drop, Option, Some, None, option_map, refl, sym, ap, subst, ◌∙◌, append_assoc, append-nil, arith}
+use Rattle.std.proofs.Common.{◌≡◌, ℕ, ◌+◌, ◌-◌, ◌≤◌, true, false, List, [], ◌++◌, length, take, drop, Option, Some, None, sym, ap, subst, ◌∙◌, append_assoc, append-nil, arith}
 use Rattle.std.proofs.Math.Seq.{drop-append_seam}
 use Rattle.std.proofs.lemmas.List.{length-append, length-take-le}
 use Rattle.nfs_args.specs.Answers.{nfs_text}
@@ -7,13 +7,13 @@ use Rattle.nfs_inodes.specs.Tree.{Tree}
 use Rattle.nfs_procs.specs.Doing.{Doing}
 use Rattle.nfs_procs.specs.Performing.{HasEffect, HasFailed, HasNoMemory}
 use Rattle.nfs_procs.specs.Procedures.{PerformsAs}
-use Rattle.nfs_procs.specs.Scenes.{Scene, verdict_in, subjects_in, seen_in}
+use Rattle.nfs_procs.specs.Scenes.{Scene, seen_in}
 use Rattle.nfs_procs.specs.declared.done.Done.{Done}
 use Rattle.nfs_procs.specs.declared.done.Done.TheVariants.{Granted, Denied, Memory}
 use Rattle.nfs_rpc.specs.Calls.{Call}
 use Rattle.nfs_rpc.specs.Records.{header}
 use Rattle.nfs_rpc.specs.Replies.{accepted_text}
-use Rattle.nfs_rpc.specs.declared.reply.Accept.TheVariants.{Success, SystemErr}
+use Rattle.nfs_rpc.specs.declared.reply.Accept.TheVariants.{SystemErr}
 use Rattle.nfs_rules.specs.Rules.{status_of}
 use Rattle.nfs_rules.specs.declared.rule.Rule.{Rule}
 use Rattle.nfs_server.specs.AuditLines.{line_of}
@@ -69,9 +69,11 @@ pub granted_done : (c : Scene) (o : Option Doing) (came : Option Done) (new : Tr
 granted_done c None came new before after call reply e performs wrote = absurd (subst (λ d. PerformsAs c None d new before after) e performs)
 granted_done c (Some doing) came new before after call reply e performs wrote =
     let h : HasEffect c doing new before after = subst (λ d. PerformsAs c (Some doing) d new before after) e performs in
-    let choice : Choice = record { tag = h.tag; fits = h.fits; has_memory = true } in
-    (choice, subst (λ v. Decided v true c doing call h.tag (told reply None) new) (sym h.granted.verdict)
-    (record { one = h.one; two = h.two; subjects = h.granted.subjects; new_is = h.new_is; answer_is = ap granted (wrote _ h.written.bytes) }))
+    let choice : Choice = record { tag = h.tag; fits = h.fits; has_memory = true } in (
+      choice,
+      subst (λ v. Decided v true c doing call h.tag (told reply None) new) (sym h.granted.verdict)
+          (record { one = h.one; two = h.two; subjects = h.granted.subjects; new_is = h.new_is; answer_is = ap granted (wrote _ h.written.bytes) }),
+    )
 
 pub denied_done : (c : Scene) (o : Option Doing) (came : Option Done) (new : Tree) (before after : Written) (call : Call) (reply : List ℕ) (line : AuditLine) (rule : Rule) (uid : Option ℕ) → came ≡ Some (Denied rule uid) → PerformsAs c o came new before after
     → ((text : List ℕ) → after.bytes ≡ before.bytes ++ text → reply ≡ success call text) → line ≡ line_of c.caller.addr call (reason.Rule rule uid)
@@ -79,12 +81,14 @@ pub denied_done : (c : Scene) (o : Option Doing) (came : Option Done) (new : Tre
 denied_done c None came new before after call reply line rule uid e performs wrote line_is = absurd (subst (λ d. PerformsAs c None d new before after) e performs)
 denied_done c (Some doing) came new before after call reply line rule uid e performs wrote line_is =
     let h : HasFailed c doing rule uid new before after = subst (λ d. PerformsAs c (Some doing) d new before after) e performs in
-    let text = nfs_text (doing.denied (status_of rule) (seen_in c)) in
-    (no_choice, subst (λ v. Decided v true c doing call 0 (told reply (Some line)) new) (sym h.verdict)
-    (record {
-      new_is = h.new_is;
-      answer_is = ap (λ r. denied r line) (wrote text h.written.bytes) ∙ ap (denied (success call text)) (line_is ∙ ap (λ u. line_of c.caller.addr call (reason.Rule rule u)) h.uid_is);
-    }))
+    let text = nfs_text (doing.denied (status_of rule) (seen_in c)) in (
+      no_choice,
+      subst (λ v. Decided v true c doing call 0 (told reply (Some line)) new) (sym h.verdict)
+          (record {
+            new_is = h.new_is;
+            answer_is = ap (λ r. denied r line) (wrote text h.written.bytes) ∙ ap (denied (success call text)) (line_is ∙ ap (λ u. line_of c.caller.addr call (reason.Rule rule u)) h.uid_is);
+          }),
+    )
 
 pub refused_done : (c : Scene) (o : Option Doing) (came : Option Done) (new : Tree) (before after : Written) (call : Call) (reply : List ℕ) (line : AuditLine) → came ≡ Some Memory → PerformsAs c o came new before after
     → reply ≡ accepted_text call.xid SystemErr → line ≡ line_of c.caller.addr call reason.Memory
@@ -92,6 +96,8 @@ pub refused_done : (c : Scene) (o : Option Doing) (came : Option Done) (new : Tr
 refused_done c None came new before after call reply line e performs reply_is line_is = absurd (subst (λ d. PerformsAs c None d new before after) e performs)
 refused_done c (Some doing) came new before after call reply line e performs reply_is line_is =
     let h : HasNoMemory c doing new before after = subst (λ d. PerformsAs c (Some doing) d new before after) e performs in
-    let choice : Choice = record { tag = 0; fits = omega arith; has_memory = false } in
-    (choice, subst (λ v. Decided v false c doing call 0 (told reply (Some line)) new) (sym h.verdict)
-    (record { takes = h.takes; new_is = h.new_is; answer_is = ap (λ r. denied r line) reply_is ∙ ap (denied (accepted_text call.xid SystemErr)) line_is }))
+    let choice : Choice = record { tag = 0; fits = omega arith; has_memory = false } in (
+      choice,
+      subst (λ v. Decided v false c doing call 0 (told reply (Some line)) new) (sym h.verdict)
+          (record { takes = h.takes; new_is = h.new_is; answer_is = ap (λ r. denied r line) reply_is ∙ ap (denied (accepted_text call.xid SystemErr)) line_is }),
+    )

@@ -1,5 +1,5 @@
 -- The line that an auditor reads of a call that was denied.
-use Rattle.std.specs.Prelude.{ℕ, List, ◌++◌, Option, Some, None, codes, decimal}
+use Rattle.std.specs.Prelude.{ℕ, List, ◌++◌, Some, None, codes, decimal}
 use Rattle.nfs_exports.specs.Addresses.{addr_text}
 use Rattle.nfs_exports.specs.declared.addr.Addr.{Addr}
 use Rattle.nfs_rpc.specs.Calls.{Call}

@@ -1,5 +1,5 @@
 -- What a call of NFS asks for, and who asks (RFC 1813, section 3.3).
-use Rattle.std.specs.Prelude.{ℕ, Bool, List, Option, Some, None, Result, Ok, Err, nat_eq, if◌then◌else◌}
+use Rattle.std.specs.Prelude.{ℕ, Bool, List, Option, Some, None, Ok, Err, nat_eq, if◌then◌else◌}
 use Rattle.nfs_args.specs.Procedures.{procedure_number, procedures}
 use Rattle.nfs_args.specs.Reading.{args_at}
 use Rattle.nfs_args.specs.declared.args.NfsArgs.{NfsArgs}

@@ -202,12 +202,7 @@ impl Server {
 }
 
 // The reply to a call that fails a rule of RPC, and its line.
-fn refuse(
-    reply: &mut ReplyBuf,
-    head: &CallHead<'_>,
-    event: &Event<'_>,
-    rule: RpcRule,
-) -> AuditLine
+fn refuse(reply: &mut ReplyBuf, head: &CallHead<'_>, event: &Event<'_>, rule: RpcRule) -> AuditLine
     ensures reply { reply.new ≡ rpc_reply rule head.now.xid }
     ensures line { result ≡ line_of event.now.addr (call_of head.now) (Rpc rule) }
 {
@@ -224,6 +219,9 @@ fn outcome_of(handled: Handled, reply: &ReplyBuf, line: Option<AuditLine>) -> Ou
             reply: Some(reply.bytes()),
             line,
         },
-        Handled::NoReply => Outcome { reply: None, line: None },
+        Handled::NoReply => Outcome {
+            reply: None,
+            line: None,
+        },
     }
 }

@@ -1,4 +1,4 @@
-use Rattle.std.proofs.Common.{[], Some, ap, ◌∙◌, sym, append-nil, arith, rules}
+use Rattle.std.proofs.Common.{[], Some, ap, ◌∙◌, sym, append-nil, rules}
 use Rattle.nfs_rpc.specs.Calls.{call_of}
 use Rattle.nfs_server.proofs.Performed.{reply_text, denied_done, granted_done, nothing_done, refused_done}
 use Rattle.nfs_server.proofs.reply_buf.ReplyBuf.perform.Goals as goal

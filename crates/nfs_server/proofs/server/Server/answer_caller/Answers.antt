@@ -24,5 +24,5 @@ returns-in-Ok-clause-judged c =
     let bytes = c.args.head.now.args in
     let inside = c.self.inside in
     subst (λ (h : Held). (choice : Choice) × Judged (find (fails_rpc call bytes) (caller_rules ++ Arguments ∷ [])) (request_of event.addr call bytes) h.setup h.state event call choice (told c.perform.new.self c.perform.result) (record { tree = c.perform.new.tree })) c.self.view_is
-        (requested (record { places = inside.cache; exports = inside.table }) (record { tree = inside.tree }) event call bytes (credential_of c.args.cred.now) c.in-Ok.args _ _ c.requires.null c.requires.known c.requires.cred
-            (sym (c.read_args.ensures ∙ ap (args_in c.args.head.now.proc) (c.new.ensures ∙ c.rest.ensures.all)) ∙ ap result_ok c.in-Ok.is) c.perform.ensures)
+    (requested (record { places = inside.cache; exports = inside.table }) (record { tree = inside.tree }) event call bytes (credential_of c.args.cred.now) c.in-Ok.args _ _ c.requires.null c.requires.known c.requires.cred
+    (sym (c.read_args.ensures ∙ ap (args_in c.args.head.now.proc) (c.new.ensures ∙ c.rest.ensures.all)) ∙ ap result_ok c.in-Ok.is) c.perform.ensures)
