@@ -6,10 +6,9 @@ ghost use Rattle.nfs_rpc.specs.Calls.{call_of};
 ghost use Rattle.nfs_rpc.specs.Records.{header};
 ghost use Rattle.nfs_rpc.specs.Replies.{accepted_text};
 ghost use Rattle.nfs_rpc.specs.declared.reply.Accept.TheVariants.{Success};
-ghost use Rattle.nfs_server.specs.Events.{Choice};
 ghost use Rattle.nfs_server.specs.RpcRules.{rpc_reply};
 ghost use Rattle.nfs_server.specs.Seen.{told};
-ghost use Rattle.nfs_server.specs.Steps.{Performed};
+ghost use Rattle.nfs_server.specs.Keeping.{AnswersCall};
 
 use crate::audit_line::{AuditLine, Reason};
 use crate::rpc_rules::RpcRule;
@@ -122,7 +121,7 @@ impl ReplyBuf {
         now: Moment,
         args: &NfsArgs<'_>,
     ) -> Option<AuditLine>
-        ensures { (choice : Choice) × Performed (doing_of args.now) (scene tree.old table.now caller.entry now args.now) (call_of head.now) choice (told self.new result) tree.new }
+        ensures { AnswersCall (scene tree.old table.now caller.entry now args.now) (call_of head.now) (told self.new result) tree.new }
     {
         begin(&mut self.out);
         write_accepted(&mut self.out, head.xid, Accept::Success);

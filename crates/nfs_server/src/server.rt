@@ -3,16 +3,15 @@ ghost use Rattle.std.specs.Prelude.{◌≡◌, ℕ, ◌≤◌, List, [], ◌∷�
 ghost use Rattle.std.specs.List.{find};
 ghost use Rattle.nfs_rpc.specs.AuthSys.{caller, credential_of};
 ghost use Rattle.nfs_rpc.specs.Calls.{call_of};
-ghost use Rattle.nfs_server.specs.Events.{Choice, Done};
+ghost use Rattle.nfs_server.specs.Events.{Choice};
 ghost use Rattle.nfs_server.specs.declared.rpc_rules.RpcRule.TheVariants.{Arguments};
-ghost use Rattle.nfs_server.specs.Requests.{is_null, request_of};
+ghost use Rattle.nfs_server.specs.Requests.{is_null};
 ghost use Rattle.nfs_server.specs.AuditLines.{line_of};
 ghost use Rattle.nfs_server.specs.declared.audit_line.Reason.TheVariants.{Rpc};
-ghost use Rattle.nfs_server.specs.RpcRules.{fails_rpc, caller_rules, is_nfs, rpc_failure_of, rpc_reply};
+ghost use Rattle.nfs_server.specs.RpcRules.{fails_rpc, caller_rules, is_nfs, rpc_reply, rpc_rules};
 ghost use Rattle.nfs_server.specs.Seen.{event_of, answer_of, answered, told};
-ghost use Rattle.nfs_server.specs.Steps.{Step, Judged};
-ghost use Rattle.nfs_server.specs.Fits.{Held, Past, Fits, after};
-ghost use Rattle.nfs_server.specs.Keeping.{Answers};
+ghost use Rattle.nfs_server.specs.Fits.{Held, Past, Fits, GoesOn};
+ghost use Rattle.nfs_server.specs.Keeping.{Answers, AnswersBy};
 ghost use Rattle.nfs_server.specs.Runs.{events_of, RunsThrough};
 
 use crate::arguments::read_args;
@@ -86,8 +85,7 @@ impl Server {
     pub fn handle(&mut self, event: Event<'_>, reply: &mut ReplyBuf) -> Handled
         ensures setup { self.new.setup ≡ self.old.setup }
         ensures step { (past : Past) → Fits past self.old → (choice : Choice)
-            × Step self.old.setup past.done self.old.state (event_of event.entry) choice (answered result reply.new self.new.line) self.new.state
-            × Fits (after past (event_of event.entry) choice (answered result reply.new self.new.line)) self.new }
+            × GoesOn past self.old (event_of event.entry) choice (answered result reply.new self.new.line) self.new }
         ensures silent { result ≡ Handled.NoReply → (reply.new ≡ []) × (self.new.line ≡ None) }
     {
         self.answer(event, reply)
@@ -115,8 +113,8 @@ impl Server {
         reply: &mut ReplyBuf,
     ) -> Option<AuditLine>
         ensures setup { self.new.setup ≡ self.old.setup }
-        ensures judged { (choice : Choice) × Judged (rpc_failure_of (call_of head.now) head.now.args) (request_of event.now.addr (call_of head.now) head.now.args)
-            self.old.setup self.old.state (event_of event.now) (call_of head.now) choice (told reply.new result) self.new.state }
+        ensures judged { AnswersBy rpc_rules self.old (event_of event.now) (call_of head.now) head.now.args
+            (told reply.new result) self.new }
     {
         match admit(head) {
             Err(rule) => Some(refuse(reply, head, event, rule)),
@@ -139,8 +137,8 @@ impl Server {
         requires nfs { is_nfs (call_of head.now) ≡ true }
         requires null { is_null (call_of head.now) ≡ false }
         ensures setup { self.new.setup ≡ self.old.setup }
-        ensures judged { (choice : Choice) × Judged (find (fails_rpc (call_of head.now) head.now.args) (caller_rules ++ Arguments ∷ [])) (request_of event.now.addr (call_of head.now) head.now.args)
-            self.old.setup self.old.state (event_of event.now) (call_of head.now) choice (told reply.new result) self.new.state }
+        ensures judged { AnswersBy (caller_rules ++ Arguments ∷ []) self.old (event_of event.now) (call_of head.now) head.now.args
+            (told reply.new result) self.new }
     {
         let mut cred = Cred::nobody();
         match identify(head, &mut cred) {
@@ -161,8 +159,8 @@ impl Server {
         requires known { find (fails_rpc (call_of head.now) head.now.args) caller_rules ≡ None }
         requires cred { caller (call_of head.now).cred.body ≡ Some (credential_of cred.now) }
         ensures setup { self.new.setup ≡ self.old.setup }
-        ensures judged { (choice : Choice) × Judged (find (fails_rpc (call_of head.now) head.now.args) (caller_rules ++ Arguments ∷ [])) (request_of event.now.addr (call_of head.now) head.now.args)
-            self.old.setup self.old.state (event_of event.now) (call_of head.now) choice (told reply.new result) self.new.state }
+        ensures judged { AnswersBy (caller_rules ++ Arguments ∷ []) self.old (event_of event.now) (call_of head.now) head.now.args
+            (told reply.new result) self.new }
     {
         match read_args(head.proc, Input::new(head.args.rest())) {
             Err(_) => Some(refuse(reply, head, event, RpcRule::Arguments)),
@@ -186,7 +184,8 @@ impl Server {
         sink: &mut S,
     ) -> usize
         ensures bound { result ≤ length events.now }
-        ensures run { (past : Past) → Fits past self.old → RunsThrough S.takes past (events_of events.now) result sink.old sink.new self.new }
+        ensures run { (past : Past) → Fits past self.old
+            → RunsThrough S.takes past (events_of events.now) result sink.old sink.new self.new }
         ensures setup { self.new.setup ≡ self.old.setup }
     {
         let mut done = 0;

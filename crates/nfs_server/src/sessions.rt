@@ -115,7 +115,8 @@ impl Sessions {
     /// `Server::run` on the server, which leaves the connection.
     pub fn run<S: Sink>(&mut self, events: &[Event<'_>], sink: &mut S) -> usize
         ensures bound { result ≤ length events.now }
-        ensures run { (past : Past) → Fits past self.old.server → RunsThrough S.takes past (events_of events.now) result sink.old sink.new self.new.server }
+        ensures run { (past : Past) → Fits past self.old.server
+            → RunsThrough S.takes past (events_of events.now) result sink.old sink.new self.new.server }
         ensures setup { self.new.server.setup ≡ self.old.server.setup }
         ensures joined { self.new.joined ≡ self.old.joined }
     {
@@ -190,10 +191,12 @@ impl Sessions {
     ) -> Result<u64, SessionFault>
         ensures unknown { IsErrOf result SessionFault.UnknownConnection ↔ (is_joined conn self.old.joined ≡ false) }
         ensures ended { IsErrOf result SessionFault.Ended ↔ (has_ended conn self.old.joined ≡ true) }
-        ensures stays { is_joined conn self.old.joined ≡ false ⊎ has_ended conn self.old.joined ≡ true → (self.new ≡ self.old) × (replies.new ≡ replies.old) × (audit.new ≡ audit.old) }
+        ensures stays { is_joined conn self.old.joined ≡ false ⊎ has_ended conn self.old.joined ≡ true →
+            (self.new ≡ self.old) × (replies.new ≡ replies.old) × (audit.new ≡ audit.old) }
         ensures ok { OnOk result (IfSome self.new.joined (λ j. (j.number ≡ conn) × (j.ended ≡ false))) }
         ensures some { IsSome self.old.joined → IsSome self.new.joined }
-        ensures same { IfSome self.old.joined (λ old. IfSome self.new.joined (λ new. (new.addr ≡ old.addr) × (new.progress.limit ≡ old.progress.limit))) }
+        ensures same { IfSome self.old.joined (λ old.
+            IfSome self.new.joined (λ new. (new.addr ≡ old.addr) × (new.progress.limit ≡ old.progress.limit))) }
         ensures fault { OnErr result ((self.new ≡ self.old) ⊎ (has_ended conn self.new.joined ≡ true)) }
         ensures setup { self.new.server.setup ≡ self.old.server.setup }
     {
@@ -226,7 +229,8 @@ fn feed_one<W: ByteOut, A: ByteOut>(
 ) -> Result<u64, SessionFault>
     requires { connection.old.ended ≡ false → IsBetween connection.old.framer }
     ensures ended { IsErrOf result SessionFault.Ended ↔ (connection.old.ended ≡ true) }
-    ensures stays { connection.old.ended ≡ true → (server.new ≡ server.old) × (connection.new ≡ connection.old) × (replies.new ≡ replies.old) × (audit.new ≡ audit.old) }
+    ensures stays { connection.old.ended ≡ true →
+        (server.new ≡ server.old) × (connection.new ≡ connection.old) × (replies.new ≡ replies.old) × (audit.new ≡ audit.old) }
     ensures number { connection.new.number ≡ connection.old.number }
     ensures addr { connection.new.addr ≡ connection.old.addr }
     ensures limit { connection.new.framer.limit ≡ connection.old.framer.limit }
