@@ -28,7 +28,7 @@ const GIVEN: NewFile = NewFile {
 // What the tests see of a tree: directory 2 with the cookie of its next entry, file 3 and its
 // length, the first volume's totals, the volumes and the next number.
 #[derive(Clone, Copy, Debug, PartialEq)]
-struct Seen {
+pub(crate) struct Seen {
     directory: Option<Fattr>,
     cookie: Option<u64>,
     file: Option<Fattr>,
@@ -38,7 +38,7 @@ struct Seen {
     number: u64,
 }
 
-fn look(tree: &Tree) -> Seen {
+pub(crate) fn look(tree: &Tree) -> Seen {
     Seen {
         directory: tree.attributes(Number(2)),
         cookie: tree.next_cookie(Number(2)),
@@ -68,6 +68,8 @@ fn operate(alloc: Global, tree: &mut Tree, operation: u32) -> Result<(), AllocEr
         5 if tree.may_add_volume(b"/c", 1) => {
             tree.add_volume(b"/c", 1, 1, &GIVEN, NOW)?;
         }
+        6 if tree.may_resize(Number(3), 1_000) => tree.resize(Number(3), 1_000, NOW)?,
+        7 if tree.may_rename(dir, b"x", dir, b"y") => tree.rename(dir, b"x", dir, b"y", NOW)?,
         _ => (),
     }
     Ok(())
@@ -96,7 +98,7 @@ fn refusals(alloc: Global, operation: u32) -> Result<Option<u32>, AllocError> {
 
 #[test]
 fn refused_operations_leave_the_tree(rt: HostRuntime) -> Result<(), Fail> {
-    for operation in 0..6 {
+    for operation in 0..8 {
         let refused = refusals(rt.alloc(), operation)?;
         assert!(rt; refused.is_some_and(|count| count > 0));
     }

@@ -1,0 +1,128 @@
+//! Each growth of a call that changes the tree refused in turn.
+use crate::ROUNDS;
+use crate::described::loaded;
+use crate::tree::look;
+use ballast::Ballast;
+use nfs_attrs::moment::Moment;
+use nfs_exports::addr::Addr;
+use nfs_server::audit_line::{AuditLine, Reason};
+use nfs_server::event::Event;
+use nfs_server::reply_buf::ReplyBuf;
+use nfs_server::server::Server;
+use std::alloc::{AllocError, Global};
+use std::test::Fail;
+
+// A call of user 1 with the number 42, but for its procedure and its arguments.
+const HEAD: &[u8] = b"\0\0\0\x2a\0\0\0\0\0\0\0\x02\0\x01\x86\xa3\0\0\0\x03";
+
+const CREDENTIAL: &[u8] =
+    b"\0\0\0\x01\0\0\0\x14\0\0\0\0\0\0\0\0\0\0\0\x01\0\0\0\x01\0\0\0\0\0\0\0\0\0\0\0\0";
+
+// Its reply where there is no memory.
+const SYSTEM_ERR: &[u8] = b"\0\0\0\x2a\0\0\0\x01\0\0\0\0\0\0\0\0\0\0\0\0\0\0\0\x05";
+
+// What stands between that and a status, of a call that is done.
+const SUCCESS: &[u8] = b"\0\0\0\x2a\0\0\0\x01\0\0\0\0\0\0\0\0\0\0\0\0\0\0\0\0\0\0\0\0";
+
+const DIRECTORY: &[u8] =
+    b"\0\0\0\x18NFS3\x01\x02\x03\x04\x05\x06\x07\x08\0\0\0\0\0\0\0\0\0\0\0\x02";
+
+const FILE: &[u8] = b"\0\0\0\x18NFS3\x01\x02\x03\x04\x05\x06\x07\x08\0\0\0\0\0\0\0\0\0\0\0\x03";
+
+const NEW_NAME: &[u8] = b"\0\0\0\x01y\0\0\0";
+
+const NO_SETTINGS: &[u8] = b"\0\0\0\0\0\0\0\0\0\0\0\0\0\0\0\0\0\0\0\0\0\0\0\0";
+
+const SIZE_OF_1000: &[u8] =
+    b"\0\0\0\0\0\0\0\0\0\0\0\0\0\0\0\x01\0\0\0\0\0\0\x03\xe8\0\0\0\0\0\0\0\0";
+
+// The procedures that may take memory, each with its arguments in parts: SETATTR of a size, WRITE
+// behind the end, CREATE, MKDIR, SYMLINK, RENAME and LINK.
+const CALLS: [(u32, [&[u8]; 4]); 7] = [
+    (2, [FILE, SIZE_OF_1000, b"\0\0\0\0", b""]),
+    (
+        7,
+        [
+            FILE,
+            b"\0\0\0\0\0\0\0\x64\0\0\0\x03\0\0\0\x02",
+            b"\0\0\0\x03end\0",
+            b"",
+        ],
+    ),
+    (8, [DIRECTORY, NEW_NAME, b"\0\0\0\x01", SIZE_OF_1000]),
+    (9, [DIRECTORY, NEW_NAME, NO_SETTINGS, b""]),
+    (10, [DIRECTORY, NEW_NAME, NO_SETTINGS, b"\0\0\0\x02to\0\0"]),
+    (14, [DIRECTORY, b"\0\0\0\x01x\0\0\0", DIRECTORY, NEW_NAME]),
+    (15, [FILE, DIRECTORY, NEW_NAME, b""]),
+];
+
+fn record(alloc: Global, procedure: u32, args: &[&[u8]; 4]) -> Result<Vec<u8>, AllocError> {
+    let mut record = Vec::new(alloc);
+    record.extend_from_slice(HEAD)?;
+    record.extend_from_slice(&procedure.to_be_bytes())?;
+    record.extend_from_slice(CREDENTIAL)?;
+    for part in args {
+        record.extend_from_slice(part)?;
+    }
+    Ok(record)
+}
+
+// Whether the last call was refused for want of memory, in its reply and its line.
+fn is_refused(server: &Server, reply: &ReplyBuf, addr: Addr, procedure: u32) -> bool {
+    let line = AuditLine {
+        addr,
+        xid: 42,
+        program: 100_003,
+        procedure,
+        reason: Reason::Memory,
+    };
+    reply.bytes() == SYSTEM_ERR && server.last_audit() == Some(line)
+}
+
+// How often the call was refused until there was memory; none where it was refused and had changed
+// what is seen, or was denied.
+fn refusals(alloc: Global, procedure: u32, args: &[&[u8]; 4]) -> Result<Option<u32>, AllocError> {
+    let mut server = Server::new(alloc, loaded(alloc)?, 128)?;
+    let mut reply = ReplyBuf::new(alloc)?;
+    let record = record(alloc, procedure, args)?;
+    let event = Event {
+        addr: Addr(0x0a00_0001),
+        moment: Moment {
+            seconds: 100,
+            nanos: 0,
+        },
+        bytes: record.as_slice(),
+    };
+    let before = look(server.tree());
+    let mut ballast = Ballast::new(alloc)?;
+    for refused in 0..ROUNDS {
+        server.handle(event, &mut reply);
+        if !is_refused(&server, &reply, event.addr, procedure) {
+            return Ok(if reply.bytes().starts_with(SUCCESS) {
+                Some(refused)
+            } else {
+                None
+            });
+        }
+        if look(server.tree()) != before || !ballast.lighten() {
+            break;
+        }
+    }
+    Ok(None)
+}
+
+// Whether each call of the table was refused at least once, and then done.
+fn all_are_refused_first(alloc: Global, calls: &[(u32, [&[u8]; 4])]) -> Result<bool, AllocError> {
+    for (procedure, args) in calls {
+        if !refusals(alloc, *procedure, args)?.is_some_and(|count| count > 0) {
+            return Ok(false);
+        }
+    }
+    Ok(true)
+}
+
+#[test]
+fn refused_calls_leave_the_tree(rt: HostRuntime) -> Result<(), Fail> {
+    assert!(rt; all_are_refused_first(rt.alloc(), &CALLS)?);
+    Ok(())
+}
