@@ -67,9 +67,9 @@ module _ (passes : List Entry → Bool) (narrows : Narrows passes) (text : List 
   )
 
 -- with one entry more, which was written
-pub walked_on : (passes : List Entry → Bool) (bytes : Entry → ℕ) (text : List Entry → List ℕ) (one : Entry → List ℕ) (bound : ℕ) (left : List Entry) (old : Written) (listed : Listed) (room given : ℕ) (mid : Written)
+abbrev pub walked_on : (passes : List Entry → Bool) (bytes : Entry → ℕ) (text : List Entry → List ℕ) (one : Entry → List ℕ) (bound : ℕ) (left : List Entry) (old : Written) (listed : Listed) (room given : ℕ) (mid : Written)
     → (w : IsWalked passes bytes text bound left old listed room given mid) → (x : Entry) (next : Listed) → left_of listed ≡ x ∷ left_of next → text (w.entries ++ x ∷ []) ≡ text w.entries ++ one x → passes (w.entries ++ x ∷ []) ≡ true
-    → (room_now : ℕ) → room_now + bytes x ≡ room → (new : Written) → Appends (one x) mid new → new.room + bytes x ≡ mid.room → IsWalked passes bytes text bound left old next room_now (given + 1) new
+    → (room_now : ℕ) → room_now + bytes x ≡ room → (new : Written) → Appends (one x) mid new → mid.room ≤ new.room + bytes x → IsWalked passes bytes text bound left old next room_now (given + 1) new
 walked_on passes bytes text one bound left old listed room given mid w x next steps more fit room_now less new after appended = record {
   entries = w.entries ++ x ∷ [];
   left_are = w.left_are ∙ ap (λ l. w.entries ++ l) steps ∙ sym (append_assoc w.entries (x ∷ []) (left_of next));

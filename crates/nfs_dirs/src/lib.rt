@@ -5,5 +5,6 @@
 pub mod answer;
 pub mod limits;
 pub mod read_dir;
+pub mod read_dir_plus;
 
 mod listed;

@@ -25,7 +25,7 @@ loop-entry-preserved c = let w = c.loop-entry.invariant in
     walked_on (fits c.args.count) entry_bytes entries_text (λ e. chained_text entry_text (entry_told e)) (min c.args.count max_page_bytes) (left_after c.args.tree.now c.args.dir.now.attributes.fileid c.args.cookie) c.args.out.now c.loop-entry.listed
     c.loop-entry.room c.loop-entry.given c.loop-entry.out w (entry_seen c.in-Some.entry) c.next.new.self c.in-Some.ensures (links_push entry_text entry_told w.entries (entry_seen c.in-Some.entry))
     (fits_more c.args.count c.loop-entry.room w.entries (entry_seen c.in-Some.entry) w.room_is (omega (arith, c.if-room-bytes.false, c.entry_bytes-bytes.ensures.bytes)))
-    (c.loop-entry.room - c.entry_bytes-bytes.result) (omega (arith, c.if-room-bytes.false, c.entry_bytes-bytes.ensures.bytes)) c.put.new.out c.put.ensures.text c.put.ensures.room
+    (c.loop-entry.room - c.entry_bytes-bytes.result) (omega (arith, c.if-room-bytes.false, c.entry_bytes-bytes.ensures.bytes)) c.put.new.out c.put.ensures.text (omega (arith, c.put.ensures.room))
 
 pub returns : goal.returns
 returns c = let w = c.loop-entry.invariant in
