@@ -1,3 +1,4 @@
 pub mod Prefixes
 pub mod Walks
 pub mod Sizes
+pub mod Joins

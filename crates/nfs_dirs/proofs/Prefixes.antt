@@ -1,7 +1,7 @@
 -- The longest prefix that passes a test, where a shorter one passes as well.
 use Rattle.std.proofs.Common.{◌≡◌, ℕ, zero, suc, ◌+◌, ◌<◌, ◌≤◌, Bool, true, false, not, List, [], ◌∷◌, ◌++◌, length, take, ◌⊎◌, inl, inr, refl, sym, ap, ◌∙◌, arith}
 use Rattle.std.specs.Prelude.{nat_le, if◌then◌else◌}
-use Rattle.std.proofs.Math.Seq.{take-append_seam, take-append-add, take-length}
+use Rattle.std.proofs.Math.Seq.{take-append_seam, take-append-add}
 use Rattle.std.proofs.lemmas.Bool.{true≢false, leb-true, leb-false}
 use Rattle.std.proofs.lemmas.List.{length-append}
 use Rattle.nfs_inodes.specs.Tree.{Entry}
@@ -39,9 +39,11 @@ most_is p (suc k) i lower le at_i stop = by_test (λ below. most_is p k i lower 
     top : p (suc k) ≡ true → (i + 1 ≤ suc k) ⊎ (suc k < i + 1) → suc k ≡ i
     top e (inl below) = absurd (true≢false (sym (lower (i + 1) (suc k) below e) ∙ stop (omega (arith, below))))
     top e (inr above) = omega (arith, above, le)
+
     deeper : (i ≤ k → most p k ≡ i) → p (suc k) ≡ false → (i ≤ k) ⊎ (k < i) → most p k ≡ i
     deeper found e (inl below) = found below
     deeper found e (inr above) = absurd (true≢false (sym (lower (suc k) i above at_i) ∙ e))
+
     by_test : (i ≤ k → most p k ≡ i) → (b : Bool) → p (suc k) ≡ b → most p (suc k) ≡ i
     by_test found true e = ap (λ b. if b then suc k else most p k) e ∙ top e (le_or_lt (i + 1) (suc k))
     by_test found false e = ap (λ b. if b then suc k else most p k) e ∙ deeper found e (le_or_lt i k)

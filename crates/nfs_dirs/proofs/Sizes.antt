@@ -1,14 +1,13 @@
 -- The sizes of entries, and what fits by them.
 use Rattle.std.proofs.Common.{◌≡◌, ℕ, Bool, ◌+◌, ◌<◌, ◌≤◌, true, false, List, [], ◌∷◌, ◌++◌, length, map, min, ◌⊎◌, inl, inr, refl, sym, ap, ◌∙◌, append-nil, arith}
 use Rattle.std.specs.Prelude.{sum_by, nat_le, nat_lt, ◌&&◌, ◌||◌}
-use Rattle.std.proofs.lemmas.Bool.{le-leb, leb-true, leb-false, lt-leb, ltb-true, ltb-false, and_parts, false≢true}
+use Rattle.std.proofs.lemmas.Bool.{le-leb, leb-true, lt-leb, ltb-true, ltb-false, and_parts, false≢true}
 use Rattle.std.proofs.lemmas.Grind.{flat_map-append}
 use Rattle.std.proofs.lemmas.List.{map-append, length-append}
 use Rattle.std.proofs.lemmas.List.Sums.{sum_by-append, sum_by-cons, sum_by_push}
 use Rattle.nfs_inodes.specs.Tree.{Entry}
 use Rattle.nfs_args.specs.Chains.{chained_text, links_text}
-use Rattle.nfs_args.specs.Pages.{entry_text}
-use Rattle.nfs_dirs.specs.Pages.{max_page_bytes, page_head_bytes, entry_bytes, entry_told, entries_text, fits, plus_bytes, fits_plus}
+use Rattle.nfs_dirs.specs.Pages.{max_page_bytes, page_head_bytes, entry_bytes, fits, plus_bytes, fits_plus}
 use Rattle.nfs_dirs.proofs.Prefixes.{Narrows}
 
 pub links_push : {A : Type 0} (text : A → List ℕ) (told : Entry → A) (es : List Entry) (x : Entry) → links_text text (map told (es ++ x ∷ [])) ≡ links_text text (map told es) ++ chained_text text (told x)

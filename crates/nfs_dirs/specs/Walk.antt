@@ -1,5 +1,5 @@
 -- The walk through a directory: what is still to be listed, and where a page ends before that.
-use Rattle.std.specs.Prelude.{◌≡◌, ℕ, ◌<◌, Bool, false, List, [], ◌∷◌, ◌++◌, nat_lt, Option, Some, None, Result, Ok, Err}
+use Rattle.std.specs.Prelude.{◌≡◌, ℕ, ◌<◌, false, List, [], ◌∷◌, ◌++◌, nat_lt, Option, Some, None, Result, Ok, Err}
 use Rattle.std.specs.List.{filter}
 use Rattle.nfs_xdr.specs.Written.{Written, Appends}
 use Rattle.nfs_args.specs.Pages.{page_end_text}

@@ -3,8 +3,8 @@
 #![tactic(auto)]
 
 pub mod answer;
+pub mod laws;
 pub mod limits;
+mod listed;
 pub mod read_dir;
 pub mod read_dir_plus;
-
-mod listed;

@@ -1,4 +1,4 @@
-use Rattle.std.proofs.Common.{◌≡◌, ◌+◌, ◌-◌, true, ◌≤◌, ℕ, min, length, List, ◌∷◌, ◌++◌, refl, sym, ap, ◌∙◌, arith}
+use Rattle.std.proofs.Common.{◌-◌, true, min, ◌++◌, refl, ap, ◌∙◌, arith}
 use Rattle.nfs_args.specs.Chains.{chained_text}
 use Rattle.nfs_args.specs.Pages.{entry_text}
 use Rattle.nfs_inodes.specs.Views.{entry_seen}
