@@ -1,8 +1,10 @@
 //! Pages of READDIRPLUS (RFC 1813, section 3.3.17).
-ghost use Rattle.std.specs.Prelude.{◌≡◌, ◌+◌, ◌≤◌, ◌&&◌, nat_lt};
+ghost use Rattle.std.specs.Prelude.{◌≡◌, ◌+◌, ◌≤◌, ◌&&◌, nat_lt, None, if◌then◌else◌};
 ghost use Rattle.nfs_xdr.specs.Written.{Appends};
 ghost use Rattle.nfs_args.specs.Chains.{chained_text};
 ghost use Rattle.nfs_args.specs.Pages.{entry_plus_text};
+ghost use Rattle.nfs_handles.specs.Handles.{handle_at};
+ghost use Rattle.nfs_inodes.specs.Reading.{attributes_at, numbered_files};
 ghost use Rattle.nfs_inodes.specs.Views.{entry_seen, IsSeen};
 ghost use Rattle.nfs_dirs.specs.Pages.{max_page_bytes, page_front_bytes, entry_bytes, plus_bytes, entry_plus_told, entries_plus_text, fits_plus, left_after, Answers};
 
@@ -12,6 +14,8 @@ use crate::listed::Listed;
 use nfs_args::entry_plus::{EntryPlus, write_entry_plus};
 use nfs_args::opaque::Opaque;
 use nfs_args::page::write_page_end;
+use nfs_attrs::fattr::Fattr;
+use nfs_handles::number::Number;
 use nfs_inodes::directory::EntryView;
 use nfs_inodes::tree::Tree;
 use nfs_inodes::view::FileView;
@@ -76,24 +80,35 @@ fn put(tree: &Tree, searchable: bool, entry: &EntryView<'_>, out: &mut Output)
     ensures text { Appends (chained_text entry_plus_text (entry_plus_told tree.now searchable (entry_seen entry.now))) out.old out.new }
     ensures room { out.old.room ≤ out.new.room + (entry_bytes (entry_seen entry.now) + plus_bytes searchable) }
 {
-    let handle = if searchable {
-        tree.handle_of(entry.number.0)
-    } else {
-        None
-    };
+    let handle = handle_shown(tree, searchable, entry.number);
     let entry = EntryPlus {
         fileid: entry.number.0,
         name: Opaque::new(entry.name),
         cookie: entry.cookie,
-        attributes: if searchable {
-            tree.attributes(entry.number)
-        } else {
-            None
-        },
+        attributes: attributes_shown(tree, searchable, entry.number),
         file: match &handle {
             Some(handle) => Some(Opaque::new(handle)),
             None => None,
         },
     };
     write_entry_plus(out, &entry);
+}
+
+fn attributes_shown(tree: &Tree, searchable: bool, number: Number) -> Option<Fattr>
+    ensures { result ≡ (if searchable then attributes_at tree.now number.0 else None) }
+{
+    if !searchable {
+        return None;
+    }
+    tree.attributes(number)
+}
+
+fn handle_shown(tree: &Tree, searchable: bool, number: Number) -> Option<[u8; 24]>
+    ensures { result ≡ (if searchable then handle_at (numbered_files tree.now) number.0 else None) }
+{
+    if searchable {
+        tree.handle_of(number.0)
+    } else {
+        None
+    }
 }
