@@ -2,3 +2,4 @@ pub mod Prefixes
 pub mod Walks
 pub mod Sizes
 pub mod Joins
+pub mod Firsts

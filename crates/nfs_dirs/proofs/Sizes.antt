@@ -7,7 +7,8 @@ use Rattle.std.proofs.lemmas.List.{map-append, length-append}
 use Rattle.std.proofs.lemmas.List.Sums.{sum_by-append, sum_by-cons, sum_by_push}
 use Rattle.nfs_inodes.specs.Tree.{Entry}
 use Rattle.nfs_args.specs.Chains.{chained_text, links_text}
-use Rattle.nfs_dirs.specs.Pages.{max_page_bytes, page_head_bytes, entry_bytes, fits, plus_bytes, fits_plus}
+use Rattle.nfs_args.specs.Sizes.{max_page}
+use Rattle.nfs_dirs.specs.Pages.{page_head_bytes, entry_bytes, fits, plus_bytes, fits_plus}
 use Rattle.nfs_dirs.proofs.Prefixes.{Narrows}
 
 pub links_push : {A : Type 0} (text : A → List ℕ) (told : Entry → A) (es : List Entry) (x : Entry) → links_text text (map told (es ++ x ∷ [])) ≡ links_text text (map told es) ++ chained_text text (told x)
@@ -25,17 +26,17 @@ few_entries (x ∷ es) = let sum = sum_by-cons entry_bytes x es in let more = fe
 
 pub narrows_fits : (count : ℕ) → Narrows (fits count)
 narrows_fits count es more e = let sum = sum_by-append entry_bytes es more in
-    let le = leb-true (page_head_bytes + sum_by entry_bytes (es ++ more)) (min count max_page_bytes) e in
-    le-leb (page_head_bytes + sum_by entry_bytes es) (min count max_page_bytes) (omega (arith, sum, le))
+    let le = leb-true (page_head_bytes + sum_by entry_bytes (es ++ more)) (min count max_page) e in
+    le-leb (page_head_bytes + sum_by entry_bytes es) (min count max_page) (omega (arith, sum, le))
 
-module _ (count room : ℕ) (es : List Entry) (x : Entry) (room_is : room + (page_head_bytes + sum_by entry_bytes es) ≡ min count max_page_bytes) where
+module _ (count room : ℕ) (es : List Entry) (x : Entry) (room_is : room + (page_head_bytes + sum_by entry_bytes es) ≡ min count max_page) where
   pub fits_more : entry_bytes x ≤ room → fits count (es ++ x ∷ []) ≡ true
   fits_more le = let sum = sum_by_push entry_bytes es x in
-      le-leb (page_head_bytes + sum_by entry_bytes (es ++ x ∷ [])) (min count max_page_bytes) (omega (arith, sum, le, room_is))
+      le-leb (page_head_bytes + sum_by entry_bytes (es ++ x ∷ [])) (min count max_page) (omega (arith, sum, le, room_is))
 
   pub fits_no_more : room < entry_bytes x → fits count (es ++ x ∷ []) ≡ false
   fits_no_more less = let sum = sum_by_push entry_bytes es x in
-      lt-leb (page_head_bytes + sum_by entry_bytes (es ++ x ∷ [])) (min count max_page_bytes) (omega (arith, sum, less, room_is))
+      lt-leb (page_head_bytes + sum_by entry_bytes (es ++ x ∷ [])) (min count max_page) (omega (arith, sum, less, room_is))
 
 -- ---- READDIRPLUS
 
@@ -43,7 +44,7 @@ either : (p q : Bool) → (p || q) ≡ true → (p ≡ true) ⊎ (q ≡ true)
 either true q e = inl refl
 either false q e = inr e
 
-with_both : (p q : Bool) → p ≡ true → q ≡ true → (p && q) ≡ true
+pub with_both : (p q : Bool) → p ≡ true → q ≡ true → (p && q) ≡ true
 with_both true q e f = f
 with_both false q e f = absurd (false≢true e)
 
@@ -83,18 +84,18 @@ narrows_named dircount es more e = by_either (either (nat_le (length (es ++ more
     by_either (inr small) = let le = leb-true (sum_by entry_bytes (es ++ more)) dircount small in let sum = sum_by-append entry_bytes es more in
         with_second (nat_le (length es) 1) (nat_le (sum_by entry_bytes es) dircount) (le-leb (sum_by entry_bytes es) dircount (omega (arith, le, sum)))
 
-narrows_room : (maxcount : ℕ) (searchable : Bool) → Narrows (λ es. nat_le (page_head_bytes + sum_by (all_bytes searchable) es) (min maxcount max_page_bytes))
+narrows_room : (maxcount : ℕ) (searchable : Bool) → Narrows (λ es. nat_le (page_head_bytes + sum_by (all_bytes searchable) es) (min maxcount max_page))
 narrows_room maxcount searchable es more e = let sum = sum_by-append (all_bytes searchable) es more in
-    let le = leb-true (page_head_bytes + sum_by (all_bytes searchable) (es ++ more)) (min maxcount max_page_bytes) e in
-    le-leb (page_head_bytes + sum_by (all_bytes searchable) es) (min maxcount max_page_bytes) (omega (arith, sum, le))
+    let le = leb-true (page_head_bytes + sum_by (all_bytes searchable) (es ++ more)) (min maxcount max_page) e in
+    le-leb (page_head_bytes + sum_by (all_bytes searchable) es) (min maxcount max_page) (omega (arith, sum, le))
 
 pub narrows_fits_plus : (dircount maxcount : ℕ) (searchable : Bool) → Narrows (fits_plus dircount maxcount searchable)
 narrows_fits_plus dircount maxcount searchable es more e =
-    let parts = and_parts (nat_le (page_head_bytes + sum_by (all_bytes searchable) (es ++ more)) (min maxcount max_page_bytes)) (few_named dircount (es ++ more)) e in
-    with_both (nat_le (page_head_bytes + sum_by (all_bytes searchable) es) (min maxcount max_page_bytes)) (few_named dircount es) (narrows_room maxcount searchable es more parts.0) (narrows_named dircount es more parts.1)
+    let parts = and_parts (nat_le (page_head_bytes + sum_by (all_bytes searchable) (es ++ more)) (min maxcount max_page)) (few_named dircount (es ++ more)) e in
+    with_both (nat_le (page_head_bytes + sum_by (all_bytes searchable) es) (min maxcount max_page)) (few_named dircount es) (narrows_room maxcount searchable es more parts.0) (narrows_named dircount es more parts.1)
 
-pub fits_none : (dircount maxcount : ℕ) (searchable : Bool) → page_head_bytes ≤ min maxcount max_page_bytes → fits_plus dircount maxcount searchable [] ≡ true
-fits_none dircount maxcount searchable le = with_both (nat_le (page_head_bytes + sum_by (all_bytes searchable) []) (min maxcount max_page_bytes)) (few_named dircount []) (le-leb (page_head_bytes + sum_by (all_bytes searchable) []) (min maxcount max_page_bytes) le) refl
+pub fits_none : (dircount maxcount : ℕ) (searchable : Bool) → page_head_bytes ≤ min maxcount max_page → fits_plus dircount maxcount searchable [] ≡ true
+fits_none dircount maxcount searchable le = with_both (nat_le (page_head_bytes + sum_by (all_bytes searchable) []) (min maxcount max_page)) (few_named dircount []) (le-leb (page_head_bytes + sum_by (all_bytes searchable) []) (min maxcount max_page) le) refl
 
 pub few_entries_plus : (searchable : Bool) (es : List Entry) → length es ≤ sum_by (all_bytes searchable) es
 few_entries_plus searchable [] = omega arith
@@ -104,13 +105,13 @@ pub named_within : (searchable : Bool) (es : List Entry) → sum_by entry_bytes 
 named_within searchable [] = omega arith
 named_within searchable (x ∷ es) = let sum = sum_by-cons (all_bytes searchable) x es in let some = sum_by-cons entry_bytes x es in let more = named_within searchable es in omega (arith, sum, some, more)
 
-module _ (dircount maxcount : ℕ) (searchable : Bool) (room : ℕ) (es : List Entry) (x : Entry) (room_is : room + (page_head_bytes + sum_by (all_bytes searchable) es) ≡ min maxcount max_page_bytes) where
+module _ (dircount maxcount : ℕ) (searchable : Bool) (room : ℕ) (es : List Entry) (x : Entry) (room_is : room + (page_head_bytes + sum_by (all_bytes searchable) es) ≡ min maxcount max_page) where
   abbrev room_test : Bool
-  room_test = nat_le (page_head_bytes + sum_by (all_bytes searchable) (es ++ x ∷ [])) (min maxcount max_page_bytes)
+  room_test = nat_le (page_head_bytes + sum_by (all_bytes searchable) (es ++ x ∷ [])) (min maxcount max_page)
 
   pub no_room : room < all_bytes searchable x → fits_plus dircount maxcount searchable (es ++ x ∷ []) ≡ false
   no_room less = let sum = sum_by_push (all_bytes searchable) es x in
-      without_first room_test (few_named dircount (es ++ x ∷ [])) (lt-leb (page_head_bytes + sum_by (all_bytes searchable) (es ++ x ∷ [])) (min maxcount max_page_bytes) (omega (arith, sum, less, room_is)))
+      without_first room_test (few_named dircount (es ++ x ∷ [])) (lt-leb (page_head_bytes + sum_by (all_bytes searchable) (es ++ x ∷ [])) (min maxcount max_page) (omega (arith, sum, less, room_is)))
 
   pub above_named : (given named : ℕ) → given ≡ length es → named ≡ sum_by entry_bytes es + entry_bytes x → (nat_lt 0 given && nat_lt dircount named) ≡ true → fits_plus dircount maxcount searchable (es ++ x ∷ []) ≡ false
   above_named given named count names above =
@@ -127,7 +128,7 @@ module _ (dircount maxcount : ℕ) (searchable : Bool) (room : ℕ) (es : List E
   pub fits_plus_more : (given named : ℕ) → given ≡ length es → named ≡ sum_by entry_bytes es + entry_bytes x → all_bytes searchable x ≤ room → (nat_lt 0 given && nat_lt dircount named) ≡ false → fits_plus dircount maxcount searchable (es ++ x ∷ []) ≡ true
   fits_plus_more given named count names le below =
       let sum = sum_by_push (all_bytes searchable) es x in
-      with_both room_test (few_named dircount (es ++ x ∷ [])) (le-leb (page_head_bytes + sum_by (all_bytes searchable) (es ++ x ∷ [])) (min maxcount max_page_bytes) (omega (arith, sum, le, room_is)))
+      with_both room_test (few_named dircount (es ++ x ∷ [])) (le-leb (page_head_bytes + sum_by (all_bytes searchable) (es ++ x ∷ [])) (min maxcount max_page) (omega (arith, sum, le, room_is)))
       (by_given (nat_lt 0 given) refl)
     where
       by_given : (t : Bool) → nat_lt 0 given ≡ t → few_named dircount (es ++ x ∷ []) ≡ true

@@ -7,6 +7,7 @@ use Rattle.nfs_handles.specs.Handles.{handle_at}
 use Rattle.nfs_inodes.specs.Tree.{Tree, Entry}
 use Rattle.nfs_inodes.specs.Reading.{listing_at, attributes_at, numbered_files}
 use Rattle.nfs_args.specs.Chains.{links_text}
+use Rattle.nfs_args.specs.Sizes.{max_page}
 use Rattle.nfs_args.specs.Pages.{entry_text, entry_plus_text, page_end_text}
 use Rattle.nfs_args.specs.declared.entry.Entry as told
 use Rattle.nfs_args.specs.declared.entry_plus.EntryPlus as told_plus
@@ -14,10 +15,6 @@ use Rattle.nfs_dirs.specs.declared.answer.Page.{Page}
 use Rattle.nfs_dirs.specs.declared.answer.TooSmall.{TooSmall}
 
 -- ---- sizes
-
--- the most bytes of a page
-abbrev pub max_page_bytes : ℕ
-max_page_bytes = 65536
 
 -- the bytes of a page beside its entries: the directory's attributes, a verifier, and two words behind the entries
 abbrev pub page_head_bytes : ℕ
@@ -39,12 +36,12 @@ plus_bytes searchable = if searchable then 120 else 8
 
 -- READDIR: the page with these entries has at most so many bytes
 abbrev pub fits : ℕ → List Entry → Bool
-fits count es = nat_le (page_head_bytes + sum_by entry_bytes es) (min count max_page_bytes)
+fits count es = nat_le (page_head_bytes + sum_by entry_bytes es) (min count max_page)
 
 -- READDIRPLUS: so too, and of two or more entries all numbers, names and cookies have at most so many
 abbrev pub fits_plus : ℕ → ℕ → Bool → List Entry → Bool
 fits_plus dircount maxcount searchable es =
-    nat_le (page_head_bytes + sum_by (λ e. entry_bytes e + plus_bytes searchable) es) (min maxcount max_page_bytes)
+    nat_le (page_head_bytes + sum_by (λ e. entry_bytes e + plus_bytes searchable) es) (min maxcount max_page)
     && (nat_le (length es) 1 || nat_le (sum_by entry_bytes es) dircount)
 
 -- the greatest number up to n that passes, or 0

@@ -3,9 +3,6 @@ ghost use Rattle.std.specs.Prelude.{◌≡◌, ◌+◌, ◌≤◌, length};
 ghost use Rattle.nfs_xdr.specs.Spelling.{padding};
 ghost use Rattle.nfs_dirs.specs.Pages.{plus_bytes};
 
-/// The most bytes of a page.
-pub const MAX_PAGE_BYTES: u32 = 65_536;
-
 /// What a page has beside its entries: the directory's attributes, a verifier, and two words behind
 /// the entries.
 pub const PAGE_HEAD_BYTES: usize = 104;
@@ -25,7 +22,8 @@ pub fn entry_bytes(name: &[u8]) -> usize
 
 /// What READDIRPLUS says beside that, where the caller may search the directory or may not.
 pub fn plus_bytes(searchable: bool) -> usize
-    ensures { result ≡ plus_bytes searchable }
+    ensures bytes { result ≡ plus_bytes searchable }
+    ensures bound { result ≤ 120 }
 {
     if searchable {
         SHOWN_BYTES

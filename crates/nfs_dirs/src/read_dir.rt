@@ -4,12 +4,14 @@ ghost use Rattle.nfs_xdr.specs.Written.{Appends};
 ghost use Rattle.nfs_args.specs.Chains.{chained_text};
 ghost use Rattle.nfs_args.specs.Pages.{entry_text};
 ghost use Rattle.nfs_inodes.specs.Views.{entry_seen, IsSeen};
-ghost use Rattle.nfs_dirs.specs.Pages.{max_page_bytes, page_front_bytes, entry_bytes, entry_told, entries_text, fits, left_after, Answers};
+ghost use Rattle.nfs_args.specs.Sizes.{max_page};
+ghost use Rattle.nfs_dirs.specs.Pages.{page_front_bytes, entry_bytes, entry_told, entries_text, fits, left_after, Answers};
 
 use crate::answer::{Page, TooSmall, cut_off};
-use crate::limits::{MAX_PAGE_BYTES, PAGE_HEAD_BYTES, entry_bytes};
+use crate::limits::{PAGE_HEAD_BYTES, entry_bytes};
 use crate::listed::Listed;
 use nfs_args::entry::{Entry, write_entry};
+use nfs_args::limits::MAX_PAGE_BYTES;
 use nfs_args::opaque::Opaque;
 use nfs_args::page::write_page_end;
 use nfs_inodes::directory::EntryView;
@@ -28,10 +30,10 @@ pub fn page(
     out: &mut Output,
 ) -> Result<Page, TooSmall>
     requires seen { IsSeen tree.now dir.now }
-    requires room { max_page_bytes ≤ out.old.room + page_front_bytes }
+    requires room { max_page ≤ out.old.room + page_front_bytes }
     ensures { Answers (fits count) entries_text (left_after tree.now dir.now.attributes.fileid cookie) result out.old out.new }
 {
-    let bound = count.min(MAX_PAGE_BYTES) as usize;
+    let bound = (count as usize).min(MAX_PAGE_BYTES);
     if bound < PAGE_HEAD_BYTES {
         return Err(TooSmall);
     }
@@ -54,7 +56,7 @@ pub fn page(
 // Writes an entry.
 fn put(out: &mut Output, entry: &EntryView<'_>)
     requires room { entry_bytes (entry_seen entry.now) ≤ out.old.room }
-    requires bound { entry_bytes (entry_seen entry.now) ≤ max_page_bytes }
+    requires bound { entry_bytes (entry_seen entry.now) ≤ max_page }
     ensures text { Appends (chained_text entry_text (entry_told (entry_seen entry.now))) out.old out.new }
     ensures room { out.new.room + entry_bytes (entry_seen entry.now) ≡ out.old.room }
 {

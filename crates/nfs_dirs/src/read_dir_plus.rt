@@ -6,12 +6,14 @@ ghost use Rattle.nfs_args.specs.Pages.{entry_plus_text};
 ghost use Rattle.nfs_handles.specs.Handles.{handle_at};
 ghost use Rattle.nfs_inodes.specs.Reading.{attributes_at, numbered_files};
 ghost use Rattle.nfs_inodes.specs.Views.{entry_seen, IsSeen};
-ghost use Rattle.nfs_dirs.specs.Pages.{max_page_bytes, page_front_bytes, entry_bytes, plus_bytes, entry_plus_told, entries_plus_text, fits_plus, left_after, Answers};
+ghost use Rattle.nfs_args.specs.Sizes.{max_page};
+ghost use Rattle.nfs_dirs.specs.Pages.{page_front_bytes, entry_bytes, plus_bytes, entry_plus_told, entries_plus_text, fits_plus, left_after, Answers};
 
 use crate::answer::{Page, TooSmall, cut_off};
-use crate::limits::{MAX_PAGE_BYTES, PAGE_HEAD_BYTES, entry_bytes, plus_bytes};
+use crate::limits::{PAGE_HEAD_BYTES, entry_bytes, plus_bytes};
 use crate::listed::Listed;
 use nfs_args::entry_plus::{EntryPlus, write_entry_plus};
+use nfs_args::limits::MAX_PAGE_BYTES;
 use nfs_args::opaque::Opaque;
 use nfs_args::page::write_page_end;
 use nfs_attrs::fattr::Fattr;
@@ -36,10 +38,10 @@ pub fn page_plus(
     out: &mut Output,
 ) -> Result<Page, TooSmall>
     requires seen { IsSeen tree.now dir.now }
-    requires room { max_page_bytes ≤ out.old.room + page_front_bytes }
+    requires room { max_page ≤ out.old.room + page_front_bytes }
     ensures { Answers (fits_plus dircount maxcount searchable) (entries_plus_text tree.now searchable) (left_after tree.now dir.now.attributes.fileid cookie) result out.old out.new }
 {
-    let bound = maxcount.min(MAX_PAGE_BYTES) as usize;
+    let bound = (maxcount as usize).min(MAX_PAGE_BYTES);
     if bound < PAGE_HEAD_BYTES {
         return Err(TooSmall);
     }
@@ -76,7 +78,7 @@ fn is_above(given: usize, named: usize, dircount: u32) -> bool
 // Writes an entry.
 fn put(tree: &Tree, searchable: bool, entry: &EntryView<'_>, out: &mut Output)
     requires room { entry_bytes (entry_seen entry.now) + plus_bytes searchable ≤ out.old.room }
-    requires bound { entry_bytes (entry_seen entry.now) ≤ max_page_bytes }
+    requires bound { entry_bytes (entry_seen entry.now) ≤ max_page }
     ensures text { Appends (chained_text entry_plus_text (entry_plus_told tree.now searchable (entry_seen entry.now))) out.old out.new }
     ensures room { out.old.room ≤ out.new.room + (entry_bytes (entry_seen entry.now) + plus_bytes searchable) }
 {

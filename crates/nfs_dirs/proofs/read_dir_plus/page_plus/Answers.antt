@@ -3,7 +3,8 @@ use Rattle.std.proofs.lemmas.List.Sums.{sum_by_push}
 use Rattle.nfs_args.specs.Chains.{chained_text}
 use Rattle.nfs_args.specs.Pages.{entry_plus_text}
 use Rattle.nfs_inodes.specs.Views.{entry_seen}
-use Rattle.nfs_dirs.specs.Pages.{max_page_bytes, entry_bytes, entry_plus_told, entries_plus_text, fits_plus, left_after}
+use Rattle.nfs_args.specs.Sizes.{max_page}
+use Rattle.nfs_dirs.specs.Pages.{entry_bytes, entry_plus_told, entries_plus_text, fits_plus, left_after}
 use Rattle.nfs_dirs.specs.Walk.{left_of}
 use Rattle.nfs_dirs.proofs.Walks.{nothing_written, walk_cut_off, walk_ended, walked_on}
 use Rattle.nfs_dirs.proofs.Sizes.{all_bytes, few_entries_plus, named_within, narrows_fits_plus, fits_none, fits_plus_more, no_room, above_named, links_push}
@@ -54,7 +55,7 @@ pub loop-entry-preserved : goal.loop-entry-preserved
 loop-entry-preserved c = let w = c.loop-entry.invariant.0 in
     let sum = sum_by_push entry_bytes w.entries (entry_seen c.in-Some.entry) in (
       walked_on (fits_plus c.args.dircount c.args.maxcount c.args.searchable) (all_bytes c.args.searchable) (entries_plus_text c.args.tree.now c.args.searchable) (λ e. chained_text entry_plus_text (entry_plus_told c.args.tree.now c.args.searchable e))
-          (min c.args.maxcount max_page_bytes) (left_after c.args.tree.now c.args.dir.now.attributes.fileid c.args.cookie) c.args.out.now c.loop-entry.listed c.loop-entry.room c.loop-entry.given c.loop-entry.out w
+          (min c.args.maxcount max_page) (left_after c.args.tree.now c.args.dir.now.attributes.fileid c.args.cookie) c.args.out.now c.loop-entry.listed c.loop-entry.room c.loop-entry.given c.loop-entry.out w
           (entry_seen c.in-Some.entry) c.next.new.self c.in-Some.ensures (links_push entry_plus_text (entry_plus_told c.args.tree.now c.args.searchable) w.entries (entry_seen c.in-Some.entry))
           (fits_plus_more c.args.dircount c.args.maxcount c.args.searchable c.loop-entry.room w.entries (entry_seen c.in-Some.entry) w.room_is c.loop-entry.given (c.loop-entry.named + c.entry_bytes-bytes.result) w.given_is
           (omega (arith, c.loop-entry.invariant.1, c.entry_bytes-bytes.ensures.bytes)) (omega (arith, c.if-room-bytes.false, c.entry_bytes-bytes.ensures.bytes, c.plus_bytes-beside.ensures)) (sym c.is_above.ensures ∙ c.if-is_above.false))
