@@ -32,6 +32,9 @@ pub struct Sattr {
 /// Reads which attributes are to be set. The first fault from left to right: `Short` where the
 /// bytes end, `BadBool` where it is not said whether a number is given, `BadEnum` where it is not
 /// said how a time is to be set.
+// Inlined with all that it calls: settings that are handed over in memory are copied in wider words
+// than they were written in, which costs more than all of their reading.
+#[inline(always)]
 pub fn read_sattr(input: &mut Input<'_>) -> Result<Sattr, XdrFault>
     ensures exact { Gives (λ s. s) input.old input.new result (sattr_at input.old) }
     ensures reads { Reads (λ s. s) IsSattr input.old input.new result }
@@ -41,6 +44,7 @@ pub fn read_sattr(input: &mut Input<'_>) -> Result<Sattr, XdrFault>
     Ok(settings)
 }
 
+#[inline(always)]
 fn sattr_of(bytes: &[u8]) -> Result<(Sattr, Input<'_>), XdrFault>
     ensures { result ≡ sattr_at bytes.now }
 {
@@ -62,6 +66,7 @@ fn sattr_of(bytes: &[u8]) -> Result<(Sattr, Input<'_>), XdrFault>
     Ok((settings, input))
 }
 
+#[inline(always)]
 fn read_word(input: &mut Input<'_>) -> Result<Option<u32>, XdrFault>
     ensures { Gives (λ o. o) input.old input.new result (optional_at (number_at w32) input.old) }
 {
@@ -75,6 +80,7 @@ fn read_word(input: &mut Input<'_>) -> Result<Option<u32>, XdrFault>
     Ok(Some(n))
 }
 
+#[inline(always)]
 fn read_hyper(input: &mut Input<'_>) -> Result<Option<u64>, XdrFault>
     ensures { Gives (λ o. o) input.old input.new result (optional_at (number_at w64) input.old) }
 {

@@ -23,6 +23,7 @@ pub enum TimeSetting {
 
 /// Reads how a time is to be set. The first fault from left to right: `Short` where the bytes
 /// end, `BadEnum` at a number above 2.
+#[inline(always)]
 pub fn read_time_setting(input: &mut Input<'_>) -> Result<TimeSetting, XdrFault>
     ensures exact { Gives (λ s. s) input.old input.new result (time_setting_at input.old) }
     ensures reads { Reads (λ s. s) IsTimeSetting input.old input.new result }
@@ -32,6 +33,7 @@ pub fn read_time_setting(input: &mut Input<'_>) -> Result<TimeSetting, XdrFault>
     Ok(setting)
 }
 
+#[inline(always)]
 fn time_setting_of(bytes: &[u8]) -> Result<(TimeSetting, Input<'_>), XdrFault>
     ensures { result ≡ time_setting_at bytes.now }
 {

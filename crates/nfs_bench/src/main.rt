@@ -2,6 +2,7 @@
 //! and prints what came of it; with the name of a measure it prints nanoseconds.
 #![tactic(auto)]
 
+mod answers;
 mod arguments;
 mod changes;
 mod described;
@@ -29,6 +30,7 @@ fn run<R: Env + Clock + Print + AllocGlobal>(rt: &R) -> io::Result<()> {
             null_call::fixed(rt)?;
             procedures::fixed(rt)?;
             arguments::fixed(rt)?;
+            answers::each(rt, false)?;
             tree::fixed(rt)?;
             changes::fixed(rt)
         }
@@ -39,6 +41,7 @@ fn run<R: Env + Clock + Print + AllocGlobal>(rt: &R) -> io::Result<()> {
         Some(word) if word.as_str() == "read-4096" => procedures::measure_read(rt, 4_096),
         Some(word) if word.as_str() == "read-65536" => procedures::measure_read(rt, 65_536),
         Some(word) if word.as_str() == "arguments" => arguments::measure(rt),
+        Some(word) if word.as_str() == "answers" => answers::each(rt, true),
         Some(word) if word.as_str() == "tree-1000" => tree::measure(rt, 1),
         Some(word) if word.as_str() == "tree-100000" => tree::measure(rt, 100),
         Some(word) if word.as_str() == "changes-1000" => changes::measure(rt, 1),

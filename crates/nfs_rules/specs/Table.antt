@@ -11,12 +11,13 @@ use Rattle.nfs_args.specs.declared.rename.Rename.{Rename}
 use Rattle.nfs_args.specs.declared.set_attr.SetAttr.{SetAttr}
 use Rattle.nfs_args.specs.declared.write.Write.{Write}
 use Rattle.nfs_attrs.specs.declared.fattr.Fattr.{Fattr}
+use Rattle.nfs_dirs.specs.Pages.{plus_bytes}
 use Rattle.nfs_inodes.specs.Law.{parent_of}
 use Rattle.nfs_inodes.specs.Reading.{is_directory_type}
 use Rattle.nfs_inodes.specs.Tree.{Tree, on_some}
 use Rattle.nfs_rules.specs.Rights.{may}
 use Rattle.nfs_rules.specs.Subjects.{Subject}
-use Rattle.nfs_rules.specs.Tests.{Test, only_where, read_only, not_regular, not_link, not_directory, link_directory, read_right, write_right, search_right, directory_read, directory_write, guard, owner_mode, owner_uid, owner_gid, size_type, owner_time, time_right, too_big, end_of, growth, space, files, links, cookies, numbers, name_long, name_form, dot_name, dot_alone, dot_dot_alone, path_long, found, no_entry, exists, exists_other, is_directory, target_not_directory, is_empty, not_empty, plus_bytes, too_small}
+use Rattle.nfs_rules.specs.Tests.{Test, only_where, read_only, not_regular, not_link, not_directory, link_directory, read_right, write_right, search_right, directory_read, directory_write, guard, owner_mode, owner_uid, owner_gid, size_type, owner_time, time_right, too_big, end_of, growth, space, files, links, cookies, numbers, name_long, name_form, dot_name, dot_alone, dot_dot_alone, path_long, found, no_entry, exists, exists_other, is_directory, target_not_directory, is_empty, not_empty, too_small}
 use Rattle.nfs_rules.specs.declared.rights.Right.TheVariants.{Execute}
 use Rattle.nfs_rules.specs.declared.rule.Rule.TheVariants as rule
 

@@ -1,6 +1,7 @@
 -- The rules, each as a test of what a call looks at. None looks at the bytes of a regular file but at how many they are.
 use Rattle.std.specs.Prelude.{ℕ, ◌+◌, ◌-◌, ◌^◌, Bool, true, false, not, ◌&&◌, ◌||◌, List, [], ◌∷◌, length, min, Option, Some, None, option_map, is_some, is_none, nat_eq, nat_lt, nat_le, bytes_eq, slice_get, if◌then◌else◌}
 use Rattle.std.specs.List.{list_any}
+use Rattle.nfs_args.specs.Sizes.{max_page}
 use Rattle.nfs_args.specs.declared.create.CreateHow.{CreateHow}
 use Rattle.nfs_args.specs.declared.create.CreateHow.TheVariants.{Unchecked, Guarded, Exclusive}
 use Rattle.nfs_attrs.specs.declared.fattr.Fattr.{Fattr}
@@ -10,10 +11,11 @@ use Rattle.nfs_attrs.specs.declared.moment.Moment.{Moment}
 use Rattle.nfs_attrs.specs.declared.sattr.Sattr.{Sattr}
 use Rattle.nfs_attrs.specs.declared.time_setting.TimeSetting.{TimeSetting}
 use Rattle.nfs_attrs.specs.declared.time_setting.TimeSetting.TheVariants.{ClientTime, ServerTime}
+use Rattle.nfs_dirs.specs.Pages.{page_head_bytes, entry_bytes}
 use Rattle.nfs_exports.specs.Ids.{Ids}
 use Rattle.nfs_inodes.specs.Limits.{max_file_bytes, max_name_bytes, max_path_bytes, max_links}
 use Rattle.nfs_inodes.specs.Reading.{attributes_at, dot, dot_dot, entry_after, is_directory_type, is_regular_type, next_cookie_at, number_under, totals_at, verifier_at}
-use Rattle.nfs_inodes.specs.Tree.{Tree, Entry, Volume, on_some}
+use Rattle.nfs_inodes.specs.Tree.{Tree, Volume, on_some}
 use Rattle.nfs_inodes.specs.declared.volumes.Totals.{Totals}
 use Rattle.nfs_rules.specs.Rights.{may, owns}
 use Rattle.nfs_rules.specs.Subjects.{Subject}
@@ -21,7 +23,6 @@ use Rattle.nfs_rules.specs.declared.rights.Right.{Right}
 use Rattle.nfs_rules.specs.declared.rights.Right.TheVariants.{Read, Write, Execute}
 use Rattle.nfs_rules.specs.declared.rule.Rule.{Rule}
 use Rattle.nfs_rules.specs.declared.rule.Rule.TheVariants as rule
-use Rattle.nfs_xdr.specs.Spelling.{padding}
 
 -- a rule, and whether the call fails it
 abbrev pub Test : Type 0
@@ -219,26 +220,10 @@ not_empty t f = (rule.NotEmpty, not (is_empty t f))
 
 -- ---- pages of a directory
 
--- the most bytes of a page
-abbrev pub max_page_bytes : ℕ
-max_page_bytes = 65536
-
--- the bytes of a page beside its entries: the status, the directory's attributes, a verifier, and two words behind the entries
-abbrev pub page_head_bytes : ℕ
-page_head_bytes = 104
-
--- READDIR: an entry's word, its number, its name with its length, and its cookie
-abbrev pub entry_bytes : Entry → ℕ
-entry_bytes e = 24 + length e.name + padding (length e.name)
-
--- READDIRPLUS: beside that its attributes and its handle, or that there are none
-abbrev pub plus_bytes : Bool → ℕ
-plus_bytes searchable = if searchable then 120 else 8
-
 -- the page takes not so many bytes as its head has, or an entry is left and the first doesn't fit, with so many bytes beside it
 abbrev pub too_small : Subject → ℕ → ℕ → ℕ → Test
 too_small s cookie count beside = (
   rule.TooSmall,
-  nat_lt (min count max_page_bytes) page_head_bytes
-      || on_some (entry_after s.tree s.file.fileid cookie) false (λ e. nat_lt (min count max_page_bytes) (page_head_bytes + entry_bytes e + beside)),
+  nat_lt (min count max_page) page_head_bytes
+      || on_some (entry_after s.tree s.file.fileid cookie) false (λ e. nat_lt (min count max_page) (page_head_bytes + entry_bytes e + beside)),
 )

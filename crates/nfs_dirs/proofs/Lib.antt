@@ -1,0 +1,5 @@
+pub mod Prefixes
+pub mod Walks
+pub mod Sizes
+pub mod Joins
+pub mod Firsts

@@ -1,0 +1,54 @@
+//! What a directory lists, from a cookie on.
+ghost use Rattle.std.specs.Prelude.{◌≡◌, [], ◌∷◌, Option, Some, None};
+ghost use Rattle.nfs_inodes.specs.Views.{entry_seen, IsSeen};
+ghost use Rattle.nfs_dirs.specs.Pages.{left_after};
+ghost use Rattle.nfs_dirs.specs.Walk.{left_of, Steps};
+
+use nfs_inodes::directory::{Entries, EntryView};
+use nfs_inodes::tree::Tree;
+use nfs_inodes::view::FileView;
+
+/// What a directory lists behind a cookie, in turn: `.`, `..` and its entries.
+#[derive(Drop)]
+pub(crate) struct Listed<'a> {
+    cookie: u64,
+    dot: Option<EntryView<'a>>,
+    dot_dot: Option<EntryView<'a>>,
+    entries: Entries<'a>,
+}
+
+impl<'a> Listed<'a> {
+    pub(crate) fn new(tree: &'a Tree, dir: &FileView<'a>, cookie: u64) -> Listed<'a>
+        requires { IsSeen tree.now dir.now }
+        ensures { left_of result ≡ left_after tree.entry.now dir.now.attributes.fileid cookie }
+    {
+        Listed {
+            cookie,
+            dot: tree.entry_after(dir.number(), 0),
+            dot_dot: tree.entry_after(dir.number(), 1),
+            entries: dir.entries(),
+        }
+    }
+
+    /// The next entry, if there is one.
+    pub(crate) fn next(&mut self) -> Option<EntryView<'a>>
+        ensures { Steps result self.old self.new }
+    {
+        if let Some(entry) = self.dot.take() {
+            if self.cookie < entry.cookie {
+                return Some(entry);
+            }
+        }
+        if let Some(entry) = self.dot_dot.take() {
+            if self.cookie < entry.cookie {
+                return Some(entry);
+            }
+        }
+        while let Some(entry) = self.entries.next() {
+            if self.cookie < entry.cookie {
+                return Some(entry);
+            }
+        }
+        None
+    }
+}
