@@ -18,6 +18,17 @@ pub(crate) fn agrees(tree: &Tree) -> bool {
     totals_agree(tree)
 }
 
+/// The links of all files.
+pub(crate) fn links(tree: &Tree) -> u64 {
+    let mut links = 0u64;
+    for number in 0..tree.next_number() {
+        if let Some(file) = tree.attributes(Number(number)) {
+            links = links.saturating_add(u64::from(file.nlink));
+        }
+    }
+    links
+}
+
 // Whether a file has the names and links that are counted, and a directory its root above it.
 // What doesn't live has no names.
 fn is_kept(tree: &Tree, number: Number, directories: u64) -> bool {

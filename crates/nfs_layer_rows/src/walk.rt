@@ -1,11 +1,10 @@
 //! A long random walk of operations on a tree.
 
-use crate::counts::agrees;
+use crate::counts::{agrees, links};
 use crate::tree::{GIVEN, NOW, directory};
 use nfs_handles::number::Number;
 use nfs_inodes::content::zeroed;
 use nfs_inodes::tree::Tree;
-use rows::answers::text;
 use rows::words::number;
 use std::alloc::Global;
 use std::str::SplitWhitespace;
@@ -18,24 +17,14 @@ struct Walk {
     done: u64,
 }
 
-/// `walk SEED STEPS`: whether the tree agrees with what is counted afresh after so many steps;
-/// `idle` where fewer than a sixteenth of them were done.
+/// `walk SEED STEPS`: whether the tree agrees with what is counted afresh after so many steps, how
+/// many of them were done, the links of all files, the next number, and what each volume has.
 pub(crate) fn answer(alloc: Global, words: &mut SplitWhitespace<'_>) -> Option<String> {
     let seed = number(words)?;
     let steps = number(words)?;
     let mut walk = Walk::new(alloc, seed)?;
     walk.run(steps);
-    if walk.done < steps / 16 {
-        return text(alloc, "idle");
-    }
-    text(
-        alloc,
-        if agrees(&walk.tree) {
-            "agrees"
-        } else {
-            "differs"
-        },
-    )
+    walk.told()
 }
 
 // A volume of few bytes and files, so that some steps are refused.
@@ -68,6 +57,19 @@ impl Walk {
                 self.done = self.done.saturating_add(1);
             }
         }
+    }
+
+    fn told(&self) -> Option<String> {
+        let verdict = if agrees(&self.tree) {
+            "agrees"
+        } else {
+            "differs"
+        };
+        let (done, links, next) = (self.done, links(&self.tree), self.tree.next_number());
+        let (large, small) = (self.tree.totals(0), self.tree.totals(1));
+        format!(in self.alloc;
+            "{verdict} done {done} links {links} next {next} {large:?} {small:?}"
+        ).ok()
     }
 
     // The next number of xorshift (G. Marsaglia, Xorshift RNGs, 2003), of which the high half.

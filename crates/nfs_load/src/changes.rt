@@ -2,7 +2,7 @@
 ghost use Rattle.std.specs.Prelude.{◌≡◌};
 ghost use Rattle.nfs_load.specs.Statements.{file_of, link_of, volume_of};
 ghost use Rattle.nfs_load.specs.Effects.{AddsName, AddsVolume, MakesDir, MakesFile, MakesLink};
-ghost use Rattle.nfs_load.specs.Effects.{attributes, link_place, links_found};
+ghost use Rattle.nfs_load.specs.Effects.{attributes, link_attributes, link_place, links_found};
 
 use crate::cause::Cause;
 use crate::path::Path;
@@ -96,11 +96,7 @@ pub fn make_link(
     if !tree.may_make_link(place.dir, place.name, line.target) {
         return Err(Refusal::Fault(Cause::Full));
     }
-    let given = attributes_of(Given {
-        mode: LINK_MODE,
-        uid: line.uid,
-        gid: line.gid,
-    });
+    let given = attributes_of_link(line.uid, line.gid);
     tree.make_link(place.dir, place.name, line.target, &given, START)?;
     Ok(())
 }
@@ -155,4 +151,15 @@ fn attributes_of(given: Given) -> NewFile
         atime: START,
         mtime: START,
     }
+}
+
+// The attributes of a new symbolic link.
+fn attributes_of_link(uid: u32, gid: u32) -> NewFile
+    ensures { result ≡ link_attributes uid gid }
+{
+    attributes_of(Given {
+        mode: LINK_MODE,
+        uid,
+        gid,
+    })
 }
