@@ -4,6 +4,7 @@
 
 mod answers;
 mod arguments;
+mod calls;
 mod changes;
 mod described;
 mod framing;
@@ -29,6 +30,7 @@ fn run<R: Env + Clock + Print + AllocGlobal>(rt: &R) -> io::Result<()> {
             framing::fixed(rt)?;
             null_call::fixed(rt)?;
             procedures::fixed(rt)?;
+            calls::fixed(rt)?;
             arguments::fixed(rt)?;
             answers::each(rt, false)?;
             tree::fixed(rt)?;
@@ -49,6 +51,7 @@ fn run<R: Env + Clock + Print + AllocGlobal>(rt: &R) -> io::Result<()> {
         Some(word) if word.as_str() == "write" => tree::measure_write(rt),
         Some(word) if word.as_str() == "hold-0" => tree::hold(rt, 0),
         Some(word) if word.as_str() == "hold-100000" => tree::hold(rt, 100),
+        Some(word) if calls::MEASURES.contains(&word.as_str()) => calls::measure(rt, word.as_str()),
         Some(_) => println!(rt; "no such measure"),
     }
 }

@@ -88,8 +88,8 @@ pub(crate) fn measure_read<R: Clock + Print + AllocGlobal>(rt: &R, count: u32) -
     println!(rt; "read-{count} {}.{}", least / 10, least % 10)
 }
 
-// A server of the description, with a file of 64 KiB in `/pub`.
-fn served(alloc: Global) -> io::Result<Server> {
+/// A server of the description, with a file of 64 KiB in `/pub`.
+pub(crate) fn served(alloc: Global) -> io::Result<Server> {
     let Loaded { mut tree, table } = loaded(alloc)?;
     let mut bytes = Vec::new(alloc);
     bytes.resize(65_536, 7)?;
@@ -118,8 +118,8 @@ fn read(alloc: Global, tree: &Tree, count: u32) -> io::Result<Vec<u8>> {
     record(alloc, tree, 6, LARGE, &[0, 0, 0, 0, 0, 0, 0, 0, a, b, c, d])
 }
 
-// A call by the handle of a file, with what stands behind it.
-fn record(
+/// A call by the handle of a file, with what stands behind it.
+pub(crate) fn record(
     alloc: Global,
     tree: &Tree,
     procedure: u8,
@@ -169,8 +169,8 @@ fn call(server: &mut Server, reply: &mut ReplyBuf, record: &mut [u8], rounds: u3
     (calls, bytes)
 }
 
-// Gives a call its number.
-fn number(record: &mut [u8], xid: u32) {
+/// Gives a call its number.
+pub(crate) fn number(record: &mut [u8], xid: u32) {
     if record.len() >= 4 {
         record[..4].copy_from_slice(&xid.to_be_bytes());
     }
