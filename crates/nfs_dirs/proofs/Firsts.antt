@@ -1,6 +1,6 @@
 -- Where a page is too small: the first entry that is left doesn't fit.
-use Rattle.std.proofs.Common.{◌≡◌, ℕ, ◌+◌, Bool, true, false, cond, not, length, min, List, [], ◌∷◌, take, Option, Some, None, refl, sym, ap, ◌∙◌, arith}
-use Rattle.std.specs.Prelude.{◌&&◌, ◌||◌, nat_le, nat_lt, sum_by, if◌then◌else◌}
+use Rattle.std.proofs.Common.{◌≡◌, ℕ, ◌+◌, Bool, true, false, cond, not, length, min, List, [], ◌∷◌, take, Option, Some, None, refl, ap, ◌∙◌, arith}
+use Rattle.std.specs.Prelude.{◌||◌, nat_le, nat_lt, sum_by}
 use Rattle.std.specs.List.{find, filter}
 use Rattle.std.proofs.lemmas.Bool.{le-leb, ltb-false, or_parts}
 use Rattle.std.proofs.lemmas.List.Sums.{sum_by-cons}

@@ -1,15 +1,18 @@
 -- What is planned of procedures that change the tree, once their rules are kept.
-use Rattle.std.specs.Prelude.{◌≡◌, ℕ, true, List, length, Option, Some, None}
+use Rattle.std.specs.Prelude.{◌≡◌, ℕ, true, false, List, length, Option, Some, None}
 use Rattle.nfs_args.specs.declared.create.Create.{Create}
 use Rattle.nfs_args.specs.declared.create.CreateHow.{CreateHow}
 use Rattle.nfs_args.specs.declared.create.CreateHow.TheVariants.{Unchecked}
 use Rattle.nfs_args.specs.declared.make_dir.MakeDir.{MakeDir}
+use Rattle.nfs_args.specs.declared.read_dir.ReadDir.{ReadDir}
+use Rattle.nfs_args.specs.declared.read_dir.ReadDirPlus.{ReadDirPlus}
 use Rattle.nfs_args.specs.declared.rename.Rename.{Rename}
 use Rattle.nfs_args.specs.declared.set_attr.SetAttr.{SetAttr}
 use Rattle.nfs_args.specs.declared.sym_link.SymLink.{SymLink}
 use Rattle.nfs_args.specs.declared.write.Write.{Write}
 use Rattle.nfs_attrs.specs.declared.fattr.Fattr.{Fattr}
 use Rattle.nfs_attrs.specs.declared.moment.Moment.{Moment}
+use Rattle.nfs_dirs.specs.Pages.{fits, fits_plus, is_too_small, left_after}
 use Rattle.nfs_inodes.specs.Changes.{after_make_file, zeros}
 use Rattle.nfs_inodes.specs.Conditions.{MayLink, MayMake, MayMakeDirectory, MayMakeLink, MayRename, MayResize, MayUnlink, MayWrite}
 use Rattle.nfs_inodes.specs.Law.{Lives}
@@ -21,9 +24,11 @@ use Rattle.nfs_procs.specs.NewFiles.{new_file_of}
 use Rattle.nfs_procs.specs.Changers.{file_mode, directory_mode, link_mode, attributes_in, verifier_in, after_taking}
 use Rattle.nfs_procs.specs.declared.plan.Plan.{Plan}
 use Rattle.nfs_procs.specs.declared.plan.FilePlan.{FilePlan}
+use Rattle.nfs_rules.specs.Rights.{may}
 use Rattle.nfs_rules.specs.Subjects.{Subject}
 use Rattle.nfs_rules.specs.Table.{size_in}
 use Rattle.nfs_rules.specs.Tests.{found}
+use Rattle.nfs_rules.specs.declared.rights.Right.TheVariants.{Execute}
 
 -- a new directory
 pub record PlansDirectory (t : Tree) (now : Moment) (a : MakeDir) (plan : Plan) (s : Subject) : Type 0 where
@@ -49,6 +54,17 @@ pub record PlansData (t : Tree) (plan s : Subject) : Type 0 where
   pub subject : plan ≡ s
   pub tree : s.tree ≡ t
   pub regular : is_regular_type s.file.file_type ≡ true
+
+-- a directory that is listed: at least the first entry that is left fits
+pub record PlansPage (t : Tree) (a : ReadDir) (plan s : Subject) : Type 0 where
+  pub subject : plan ≡ s
+  pub tree : s.tree ≡ t
+  pub large : is_too_small (fits a.count) (left_after s.tree s.file.fileid a.cookie) ≡ false
+
+pub record PlansPagePlus (t : Tree) (a : ReadDirPlus) (plan s : Subject) : Type 0 where
+  pub subject : plan ≡ s
+  pub tree : s.tree ≡ t
+  pub large : is_too_small (fits_plus a.dircount a.maxcount (may s.ids s.file Execute)) (left_after s.tree s.file.fileid a.cookie) ≡ false
 
 -- an entry that is taken away: its directory
 pub record PlansRemoval (t : Tree) (name : List ℕ) (plan : Fattr) (s : Subject) : Type 0 where

@@ -6,12 +6,12 @@ use Rattle.nfs_inodes.specs.Tree.{Tree}
 use Rattle.nfs_procs.specs.Changers.{set_attr, write, create, make_dir, sym_link, remove, remove_dir, rename, link}
 use Rattle.nfs_procs.specs.Doing.{Doing}
 use Rattle.nfs_procs.specs.Performing.{Performs}
-use Rattle.nfs_procs.specs.Readers.{get_attr, lookup, access, read_link, read, make_node, fs_stat, fs_info, path_conf, commit}
+use Rattle.nfs_procs.specs.Readers.{get_attr, lookup, access, read_link, read, read_dir, read_dir_plus, make_node, fs_stat, fs_info, path_conf, commit}
 use Rattle.nfs_procs.specs.Scenes.{Scene}
 use Rattle.nfs_procs.specs.declared.done.Done.{Done}
 use Rattle.nfs_xdr.specs.Written.{Written}
 
--- none for NULL, and for those that list directories
+-- none for NULL
 abbrev pub doing_of : NfsArgs → Option Doing
 doing_of nfs.Null = None
 doing_of (nfs.GetAttr file) = Some get_attr
@@ -29,8 +29,8 @@ doing_of (nfs.Remove a) = Some (remove a)
 doing_of (nfs.RemoveDir a) = Some (remove_dir a)
 doing_of (nfs.Rename a) = Some (rename a)
 doing_of (nfs.Link a) = Some (link a)
-doing_of (nfs.ReadDir a) = None
-doing_of (nfs.ReadDirPlus a) = None
+doing_of (nfs.ReadDir a) = Some (read_dir a)
+doing_of (nfs.ReadDirPlus a) = Some (read_dir_plus a)
 doing_of (nfs.FsStat file) = Some (fs_stat file)
 doing_of (nfs.FsInfo file) = Some (fs_info file)
 doing_of (nfs.PathConf file) = Some (path_conf file)

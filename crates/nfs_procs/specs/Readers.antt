@@ -1,28 +1,35 @@
 -- What the procedures that leave the tree as it is answer (RFC 1813, section 3.3).
-use Rattle.std.specs.Prelude.{ℕ, ◌+◌, ◌-◌, true, false, List, [], length, take, drop, min, Option, Some, None, Ok, Err, nat_le, slice_get}
+use Rattle.std.specs.Prelude.{ℕ, ◌+◌, ◌-◌, Bool, true, false, List, [], length, map, take, drop, min, Option, Some, None, Ok, Err, nat_le, slice_get}
 use Rattle.std.specs.Int.{w64, from_be_bytes}
 use Rattle.nfs_args.specs.declared.access.Access.{Access}
 use Rattle.nfs_args.specs.declared.answer.NfsAnswer.TheVariants as answer
 use Rattle.nfs_args.specs.declared.byte_range.ByteRange.{ByteRange}
 use Rattle.nfs_args.specs.declared.dir_op.DirOp.{DirOp}
+use Rattle.nfs_args.specs.declared.entry.Entry.{Entry}
+use Rattle.nfs_args.specs.declared.entry_plus.EntryPlus.{EntryPlus}
 use Rattle.nfs_args.specs.declared.make_node.MakeNode.{MakeNode}
+use Rattle.nfs_args.specs.declared.page.Page.{Page}
 use Rattle.nfs_args.specs.declared.path_limits.PathLimits.{PathLimits}
 use Rattle.nfs_args.specs.declared.read_data.ReadData.{ReadData}
+use Rattle.nfs_args.specs.declared.read_dir.ReadDir.{ReadDir}
+use Rattle.nfs_args.specs.declared.read_dir.ReadDirPlus.{ReadDirPlus}
 use Rattle.nfs_args.specs.declared.room.Room.{Room}
 use Rattle.nfs_args.specs.declared.room.Space.{Space}
 use Rattle.nfs_args.specs.declared.server_limits.ServerLimits.{ServerLimits}
 use Rattle.nfs_args.specs.declared.server_limits.Transfer.{Transfer}
 use Rattle.nfs_attrs.specs.declared.fattr.Fattr.{Fattr}
+use Rattle.nfs_dirs.specs.Pages.{fits, fits_plus, chosen, is_end, left_after, entry_told, entry_plus_told}
 use Rattle.nfs_handles.specs.Handles.{handle_at}
 use Rattle.nfs_inodes.specs.Limits.{max_file_bytes, max_name_bytes, max_links}
 use Rattle.nfs_inodes.specs.Reading.{bytes_at, numbered_files, path_at, totals_at}
 use Rattle.nfs_inodes.specs.Tree.{Tree, Volume, on_some}
 use Rattle.nfs_inodes.specs.declared.volumes.Totals.{Totals}
 use Rattle.nfs_procs.specs.Doing.{Doing, unchanged, no_change}
-use Rattle.nfs_rules.specs.Rights.{access_bits}
+use Rattle.nfs_rules.specs.Rights.{access_bits, may}
 use Rattle.nfs_rules.specs.Rules.{status_of}
 use Rattle.nfs_rules.specs.Subjects.{Subject}
 use Rattle.nfs_rules.specs.Tests.{found}
+use Rattle.nfs_rules.specs.declared.rights.Right.TheVariants.{Execute}
 use Rattle.nfs_rules.specs.declared.rule.Rule.TheVariants.{NoMakeNode}
 
 -- the handle of a file that lives
@@ -84,6 +91,42 @@ read a = record {
   effect = unchanged;
   granted = λ file same new. answer.Read (Ok (data_of file.file a.offset (read_bytes file a)));
   denied = λ status seen. answer.Read (Err (record { status = status; shown = seen a.file }));
+}
+
+-- a page of a directory behind a cookie; the verifier of cookies is 0, since they are never used again
+abbrev pub page_at : Tree → Fattr → ℕ → ℕ → Page (List Entry)
+page_at t f cookie count = record {
+  attributes = Some f;
+  verifier = 0;
+  entries = map entry_told (chosen (fits count) (left_after t f.fileid cookie));
+  eof = is_end (fits count) (left_after t f.fileid cookie);
+}
+
+-- READDIR
+abbrev pub read_dir : ReadDir → Doing
+read_dir a = record {
+  takes_memory = false;
+  effect = unchanged;
+  granted = λ dir same new. answer.ReadDir (Ok (page_at dir.tree dir.file a.cookie a.count));
+  denied = λ status seen. answer.ReadDir (Err (record { status = status; shown = seen a.dir }));
+}
+
+-- the same with what the files are, where the directory is searchable
+abbrev pub page_plus_at : Tree → Fattr → Bool → ℕ → ℕ → ℕ → Page (List EntryPlus)
+page_plus_at t f searchable cookie dircount maxcount = record {
+  attributes = Some f;
+  verifier = 0;
+  entries = map (entry_plus_told t searchable) (chosen (fits_plus dircount maxcount searchable) (left_after t f.fileid cookie));
+  eof = is_end (fits_plus dircount maxcount searchable) (left_after t f.fileid cookie);
+}
+
+-- READDIRPLUS
+abbrev pub read_dir_plus : ReadDirPlus → Doing
+read_dir_plus a = record {
+  takes_memory = false;
+  effect = unchanged;
+  granted = λ dir same new. answer.ReadDirPlus (Ok (page_plus_at dir.tree dir.file (may dir.ids dir.file Execute) a.cookie a.dircount a.maxcount));
+  denied = λ status seen. answer.ReadDirPlus (Err (record { status = status; shown = seen a.dir }));
 }
 
 -- MKNOD is never granted

@@ -20,6 +20,8 @@ pub mod path_conf;
 pub mod perform;
 pub mod plan;
 pub mod read;
+pub mod read_dir;
+pub mod read_dir_plus;
 pub mod read_link;
 pub mod removal;
 pub mod remove;

@@ -11,3 +11,7 @@ pub const TRANSFER_MULTIPLE: u32 = 4_096;
 
 /// The best length of a page of a directory.
 pub const PREFERRED_PAGE: u32 = 8_192;
+
+/// The verifier of cookies (RFC 1813, section 3.3.16, cookieverf): always the same, since no cookie is
+/// used again.
+pub const COOKIE_VERIFIER: u64 = 0;

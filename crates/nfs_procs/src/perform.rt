@@ -17,6 +17,8 @@ use crate::make_dir::make_dir;
 use crate::make_node::make_node;
 use crate::path_conf::path_conf;
 use crate::read::read;
+use crate::read_dir::read_dir;
+use crate::read_dir_plus::read_dir_plus;
 use crate::read_link::read_link;
 use crate::remove::remove;
 use crate::remove_dir::remove_dir;
@@ -33,8 +35,7 @@ use nfs_xdr::output::Output;
 
 /// Does what a call asks for where no rule of it fails, and writes its result: what was asked for, or
 /// the status of the first rule that fails, and then the tree is as before. At `Memory` the tree is as
-/// before and nothing is written. `None` for NULL, which has no result, and for the procedures that
-/// list directories.
+/// before and nothing is written. `None` for NULL, which has no result.
 pub fn perform(
     tree: &mut Tree,
     table: &Table,
@@ -47,7 +48,7 @@ pub fn perform(
     ensures { PerformsAs (scene tree.old table.now caller.entry now args.now) (doing_of args.now) result tree.new out.old out.new }
 {
     match args {
-        NfsArgs::Null | NfsArgs::ReadDir(_) | NfsArgs::ReadDirPlus(_) => None,
+        NfsArgs::Null => None,
         NfsArgs::GetAttr(file) => Some(get_attr(tree, table, caller, now, file, out)),
         NfsArgs::SetAttr(args) => Some(set_attr(tree, table, caller, now, args, out)),
         NfsArgs::Lookup(args) => Some(lookup(tree, table, caller, now, args, out)),
@@ -63,6 +64,8 @@ pub fn perform(
         NfsArgs::RemoveDir(args) => Some(remove_dir(tree, table, caller, now, args, out)),
         NfsArgs::Rename(args) => Some(rename(tree, table, caller, now, args, out)),
         NfsArgs::Link(args) => Some(link(tree, table, caller, now, args, out)),
+        NfsArgs::ReadDir(args) => Some(read_dir(tree, table, caller, now, args, out)),
+        NfsArgs::ReadDirPlus(args) => Some(read_dir_plus(tree, table, caller, now, args, out)),
         NfsArgs::FsStat(file) => Some(fs_stat(tree, table, caller, now, file, out)),
         NfsArgs::FsInfo(file) => Some(fs_info(tree, table, caller, now, file, out)),
         NfsArgs::PathConf(file) => Some(path_conf(tree, table, caller, now, file, out)),
