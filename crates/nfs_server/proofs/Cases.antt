@@ -57,7 +57,7 @@ calls_ask addr call bytes none other =
     let g = others_not p WeakCredential (Arguments ∷ []) f in
     let unread = is_none (caller call.cred.body) in
     let unspelled = is_none (args_in call.proc bytes) in
-    let both = taken (is_null call) (is_nfs call) (nat_eq call.cred.flavor AUTH_NONE) (nat_eq call.cred.flavor AUTH_SYS) (nat_le call.proc 21 && not (nat_eq call.proc 16 || nat_eq call.proc 17)) unread unspelled other
+    let both = taken (is_null call) (is_nfs call) (nat_eq call.cred.flavor AUTH_NONE) (nat_eq call.cred.flavor AUTH_SYS) (nat_le call.proc 21) unread unspelled other
     (first_not p Procedure (caller_rules ++ Arguments ∷ []) c)
     (first_not p Flavor (RpcCredential ∷ WeakCredential ∷ Arguments ∷ []) d)
     (first_not p RpcCredential (WeakCredential ∷ Arguments ∷ []) e)

@@ -22,9 +22,9 @@ AUTH_NONE = 0
 abbrev pub AUTH_SYS : ℕ
 AUTH_SYS = 1
 
--- NULL, and of NFS those up to 21 but READDIR and READDIRPLUS
+-- NULL, and of NFS those up to 21
 abbrev pub has_procedure : ℕ → ℕ → Bool
-has_procedure prog proc = nat_eq proc 0 || nat_eq prog NFS && (nat_le proc 21 && not (nat_eq proc 16 || nat_eq proc 17))
+has_procedure prog proc = nat_eq proc 0 || nat_eq prog NFS && nat_le proc 21
 
 abbrev pub is_nfs : Call → Bool
 is_nfs call = nat_eq call.prog NFS

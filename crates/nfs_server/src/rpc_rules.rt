@@ -66,15 +66,10 @@ impl RpcRule {
     }
 }
 
-// Procedures by their numbers (RFC 1813, section 3.3): one of both programs, two of NFS that aren't
-// served, and its last.
+// Procedures by their numbers (RFC 1813, section 3.3): that of both programs, and the last of NFS.
 const NULL: u32 = 0;
 
-const READDIR: u32 = 16;
-
-const READDIRPLUS: u32 = 17;
-
-const LAST_PROCEDURE: u32 = 21;
+const COMMIT: u32 = 21;
 
 /// What a call is for that keeps the first four rules of RPC.
 #[derive(Clone, Copy, Debug, PartialEq, Eq)]
@@ -151,9 +146,5 @@ pub fn identify(head: &CallHead<'_>, cred: &mut Cred) -> Result<(), RpcRule>
 fn has_procedure(prog: u32, proc: u32) -> bool
     ensures { result ≡ spec.has_procedure prog proc }
 {
-    match proc {
-        NULL => true,
-        READDIR | READDIRPLUS => false,
-        _ => prog == NFS_PROGRAM && proc <= LAST_PROCEDURE,
-    }
+    proc == NULL || prog == NFS_PROGRAM && proc <= COMMIT
 }
