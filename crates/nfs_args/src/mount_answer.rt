@@ -74,6 +74,5 @@ fn write_volume(out: &mut Output, handle: &Opaque<'_>)
     ensures spelled { IsVolume handle.now (volume_text handle.now) }
 {
     write_handle(out, handle);
-    out.u32(1);
-    out.u32(AUTH_SYS);
+    out.numbers([1, AUTH_SYS]);
 }

@@ -6,7 +6,7 @@ ghost use Rattle.nfs_args.specs.Results.{IsSpace, space_text, IsRoom, room_text,
 
 use crate::failed::{Failed, write_failed_attributes};
 use nfs_attrs::fattr::{Fattr, write_post_op_attr};
-use nfs_xdr::output::Output;
+use nfs_xdr::output::{Output, halves};
 
 /// How many bytes or how many files.
 #[derive(Drop)]
@@ -49,9 +49,17 @@ fn write_space(out: &mut Output, space: &Space)
     ensures text { Appends (space_text space.now) out.old out.new }
     ensures spelled { IsSpace space.now (space_text space.now) }
 {
-    out.u64(space.total);
-    out.u64(space.free);
-    out.u64(space.available);
+    let (total_high, total_low) = halves(space.total);
+    let (free_high, free_low) = halves(space.free);
+    let (available_high, available_low) = halves(space.available);
+    out.numbers([
+        total_high,
+        total_low,
+        free_high,
+        free_low,
+        available_high,
+        available_low,
+    ]);
 }
 
 // The result of FSSTAT.

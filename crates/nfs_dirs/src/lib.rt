@@ -3,6 +3,7 @@
 #![tactic(auto)]
 
 pub mod answer;
+pub mod examples;
 pub mod laws;
 pub mod limits;
 mod listed;
