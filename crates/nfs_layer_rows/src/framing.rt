@@ -39,7 +39,8 @@ impl Framing {
 
     // A new framer, of records of at most so many bytes.
     fn limit(&mut self, words: &mut SplitWhitespace<'_>) -> Option<String> {
-        self.framer = Framer::new(self.alloc, size(words)?);
+        let limit = size(words)?;
+        self.framer = Framer::new(self.alloc, limit);
         text(self.alloc, "done")
     }
 

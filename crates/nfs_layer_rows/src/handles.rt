@@ -45,7 +45,8 @@ impl Numbered {
     }
 
     fn begin(&mut self, words: &mut SplitWhitespace<'_>) -> Option<String> {
-        self.files = Files::new(self.alloc, KEY, number(words)?.max(1));
+        let first = number(words)?.max(1);
+        self.files = Files::new(self.alloc, KEY, first);
         text(self.alloc, "done")
     }
 
