@@ -2,11 +2,14 @@
 ghost use Rattle.std.specs.Prelude.{[], ◌∷◌, ◌++◌, OnOk};
 ghost use Rattle.hex.specs.Hex.{encode_lower};
 ghost use Rattle.nfs_xdr.specs.Known.{Grows};
+ghost use Rattle.nfs_server.specs.AuditLines.{line_text};
 ghost use Rattle.nfs_server.specs.Events.{Answer};
 
 use crate::fault::RunFault;
 use crate::hexadecimal::push_digits;
+use nfs_server::audit_line::AuditLine;
 use nfs_server::event::{Outcome, Sink};
+use nfs_text::line::Line;
 use nfs_xdr::device::{ByteOut, write_all};
 use std::alloc::Global;
 
@@ -50,6 +53,22 @@ impl Printer {
         self.end(out)
     }
 
+    /// Prints the line of a call that was denied.
+    pub(crate) fn audit<W: ByteOut>(
+        &mut self,
+        out: &mut W,
+        denied: &AuditLine,
+    ) -> Result<(), RunFault>
+        ensures { OnOk result (Grows (W.contents out.old) (line_text denied.now) (W.contents out.new)) }
+    {
+        let mut line = Line::new();
+        denied.put(&mut line);
+        match write_all(out, line.as_slice()) {
+            Ok(()) => Ok(()),
+            Err(_) => Err(RunFault::Write),
+        }
+    }
+
     // Prints the line that was made.
     fn end<W: ByteOut>(&mut self, out: &mut W) -> Result<(), RunFault>
         ensures { OnOk result (Grows (W.contents out.old) (self.old.line.items ++ 10 ∷ []) (W.contents out.new)) }
@@ -62,7 +81,7 @@ impl Printer {
     }
 }
 
-/// Prints the replies of a run, and ends it at a fault.
+/// Prints what a run brings, the audit line of a call before its reply, and ends it at a fault.
 pub struct Replies<'a, W: ByteOut> {
     /// Where they are printed.
     pub out: &'a mut W,
@@ -72,14 +91,23 @@ pub struct Replies<'a, W: ByteOut> {
     pub fault: Option<RunFault>,
 }
 
+impl<W: ByteOut> Replies<'_, W> {
+    fn print(&mut self, outcome: &Outcome<'_>) -> Result<(), RunFault> {
+        if let Some(denied) = &outcome.line {
+            self.printer.audit(self.out, denied)?;
+        }
+        match outcome.reply {
+            Some(reply) => self.printer.bytes(self.out, "reply ", reply),
+            None => Ok(()),
+        }
+    }
+}
+
 impl<W: ByteOut> Sink for Replies<'_, W> {
     ghost takes = { λ old answer said new. Unit {0} };
 
     fn take(&mut self, outcome: Outcome<'_>) -> bool {
-        let Some(reply) = outcome.reply else {
-            return true;
-        };
-        match self.printer.bytes(self.out, "reply ", reply) {
+        match self.print(&outcome) {
             Ok(()) => true,
             Err(fault) => {
                 self.fault = Some(fault);

@@ -17,7 +17,7 @@ use nfs_server::server::Server;
 use nfs_server::sessions::{SessionFault, Sessions};
 use nfs_text::number::decimal;
 use nfs_text::words::Words;
-use nfs_xdr::device::ByteOut;
+use nfs_xdr::device::{ByteOut, write_all};
 use std::alloc::{AllocError, AllocFailed, Global};
 use std::mem;
 
@@ -223,7 +223,8 @@ impl Player {
         }
     }
 
-    // Feeds a connection, and prints the replies, and then the fault if there is one.
+    // Feeds a connection, and prints the audit lines, then the replies, and then the fault if there
+    // is one.
     fn feed<W: ByteOut>(
         &mut self,
         conn: u32,
@@ -232,10 +233,13 @@ impl Player {
         out: &mut W,
     ) -> Result<(), RunFault> {
         let mut replies = Captured::new(self.alloc);
-        let fed = self.sessions.feed(conn, moment, piece, &mut replies);
-        if replies.has_failed() {
+        let mut audit = Captured::new(self.alloc);
+        let sessions = &mut self.sessions;
+        let fed = sessions.feed(conn, moment, piece, &mut replies, &mut audit);
+        if replies.has_failed() || audit.has_failed() {
             return Err(RunFault::Memory);
         }
+        print_all(out, audit.bytes())?;
         let text = format!(in self.alloc; "reply {conn} ")?;
         let mut rest = replies.bytes();
         while !rest.is_empty() {
@@ -260,6 +264,14 @@ impl Player {
                 self.printer.text(out, text.as_str())
             }
         }
+    }
+}
+
+// Prints lines with their ends.
+fn print_all<W: ByteOut>(out: &mut W, lines: &[u8]) -> Result<(), RunFault> {
+    match write_all(out, lines) {
+        Ok(()) => Ok(()),
+        Err(_) => Err(RunFault::Write),
     }
 }
 

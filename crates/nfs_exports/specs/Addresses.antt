@@ -1,5 +1,5 @@
 -- Addresses in dotted decimal form.
-use Rattle.std.specs.Prelude.{ℕ, List, [], ◌∷◌, Option, Some, None, option_map, if◌then◌else◌, length, nat_lt}
+use Rattle.std.specs.Prelude.{ℕ, ◌/◌, ◌%◌, List, [], ◌∷◌, ◌++◌, Option, Some, None, option_map, if◌then◌else◌, length, nat_lt, codes, decimal}
 use Rattle.std.specs.Int.{w32, from_be_bytes}
 use Rattle.nfs_text.specs.Numbers.{decimal_of}
 use Rattle.nfs_text.specs.Pieces.{pieces}
@@ -31,3 +31,7 @@ number_of_pieces parts = None
 -- the address that a text says, parts with a dot between each two
 abbrev pub address_of : List ℕ → Option Addr
 address_of text = option_map (λ n. record { 0 = n }) (number_of_pieces (pieces 46 text))
+
+-- an address as text, without leading zeros
+abbrev pub addr_text : Addr → List ℕ
+addr_text a = decimal (a.0 / 16777216) ++ codes "." ++ decimal (a.0 / 65536 % 256) ++ codes "." ++ decimal (a.0 / 256 % 256) ++ codes "." ++ decimal (a.0 % 256)

@@ -1,9 +1,11 @@
 //! Addresses of hosts.
-ghost use Rattle.std.specs.Prelude.{◌≡◌, option_map};
+ghost use Rattle.std.specs.Prelude.{◌≡◌, ◌+◌, ◌≤◌, ◌++◌, option_map};
 ghost use Rattle.std.specs.Result.{result_ok};
 ghost use Rattle.nfs_exports.specs.Addresses as spec;
-ghost use Rattle.nfs_exports.specs.Addresses.{address_of, number_of_parts};
+ghost use Rattle.arrayvec.specs.ArrayVec.{array_vec_len};
+ghost use Rattle.nfs_exports.specs.Addresses.{addr_text, address_of, number_of_parts};
 
+use nfs_text::line::{Line, put_number};
 use nfs_text::number::decimal;
 use nfs_text::pieces::Pieces;
 use thiserror::Error;
@@ -59,4 +61,16 @@ fn part(text: &[u8]) -> Option<u8>
     }
     let value = decimal(text, 255)?;
     Some(value as u8)
+}
+
+/// Puts an address in dotted decimal form at the end of a line.
+pub fn put_addr(line: &mut Line, addr: Addr)
+    requires { array_vec_len line.old + 83 ≤ 1024 }
+    ensures items { line.new.items ≡ line.old.items ++ addr_text addr }
+    ensures len { array_vec_len line.new ≤ array_vec_len line.old + 83 }
+{
+    put_number(line, b"", u64::from(addr.0 / 16_777_216));
+    put_number(line, b".", u64::from(addr.0 / 65_536 % 256));
+    put_number(line, b".", u64::from(addr.0 / 256 % 256));
+    put_number(line, b".", u64::from(addr.0 % 256));
 }

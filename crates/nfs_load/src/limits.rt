@@ -19,6 +19,3 @@ pub const MAX_ID: u64 = 4_294_967_295;
 
 /// The most digits that say the bytes of a regular file, two for each.
 pub const MAX_CONTENT_DIGITS: usize = 2 * MAX_FILE_BYTES;
-
-/// The room for a line of a listing: a name of 255 bytes at three digits each, and two numbers.
-pub const MAX_LINE_BYTES: usize = 1_024;

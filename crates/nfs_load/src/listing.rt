@@ -5,10 +5,11 @@ ghost use Rattle.nfs_inodes.specs.Tree.{entries_in};
 ghost use Rattle.nfs_inodes.specs.Views.{kind_seen};
 ghost use Rattle.nfs_load.specs.Listings.{listing_text, text_at, view_text};
 
-use crate::listing_line::{Line, put_entry, put_file};
+use crate::listing_line::{put_entry, put_file};
 use nfs_handles::number::Number;
 use nfs_inodes::tree::Tree;
 use nfs_inodes::view::FileView;
+use nfs_text::line::Line;
 use nfs_xdr::device::{ByteOut, DeviceFault, write_all};
 use thiserror::Error;
 

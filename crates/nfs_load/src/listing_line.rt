@@ -1,20 +1,15 @@
 //! The lines of a listing, each put together before it is written.
-ghost use Rattle.std.specs.Prelude.{◌≡◌, false, ◌+◌, ◌*◌, ◌<◌, ◌≤◌, ◌++◌, decimal, length};
+ghost use Rattle.std.specs.Prelude.{◌≡◌, false, ◌+◌, ◌*◌, ◌<◌, ◌≤◌, ◌++◌, length};
 ghost use Rattle.std.specs.Fmt.{digit_glyph};
 ghost use Rattle.arrayvec.specs.ArrayVec.{array_vec_len};
 ghost use Rattle.nfs_inodes.specs.Views.{entry_seen};
 ghost use Rattle.nfs_load.specs.Listings.{entry_line, file_line, name_byte, name_text, octal};
 ghost use Rattle.nfs_load.specs.Listings as spec;
 
-use crate::limits::MAX_LINE_BYTES;
-use arrayvec::ArrayVec;
-use itoa::Buffer;
 use nfs_attrs::fattr::Fattr;
 use nfs_attrs::file_type::FileType;
 use nfs_inodes::directory::EntryView;
-
-/// A line with its end.
-pub(crate) type Line = ArrayVec<u8, MAX_LINE_BYTES>;
+use nfs_text::line::{Line, put, put_number};
 
 /// The line of a file.
 pub(crate) fn put_file(line: &mut Line, file: &Fattr)
@@ -53,24 +48,6 @@ fn type_word(file_type: FileType) -> &'static [u8]
         FileType::SymbolicLink => b"link",
         _ => b"file",
     }
-}
-
-fn put(line: &mut Line, bytes: &[u8])
-    requires { array_vec_len line.old + length bytes.now ≤ 1024 }
-    ensures items { line.new.items ≡ line.old.items ++ bytes.now }
-    ensures len { array_vec_len line.new ≡ array_vec_len line.old + length bytes.now }
-{
-    line.try_extend_from_slice(bytes).unwrap();
-}
-
-// What stands before a number, and the number.
-fn put_number(line: &mut Line, before: &[u8], number: u64)
-    requires { array_vec_len line.old + length before.now + 20 ≤ 1024 }
-    ensures items { line.new.items ≡ line.old.items ++ before.now ++ decimal number }
-    ensures len { array_vec_len line.new ≤ array_vec_len line.old + length before.now + 20 }
-{
-    put(line, before);
-    put(line, Buffer::new().format(number).as_bytes());
 }
 
 fn put_octal(line: &mut Line, mode: u32)

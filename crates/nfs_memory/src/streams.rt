@@ -59,7 +59,8 @@ fn attach(sessions: &mut Sessions) -> Option<()> {
 
 fn feed(alloc: Global, sessions: &mut Sessions, piece: &[u8]) -> Result<u64, SessionFault> {
     let mut replies = Device::new(Vec::new(alloc));
-    sessions.feed(1, NOW, piece, &mut replies)
+    let mut audit = Device::new(Vec::new(alloc));
+    sessions.feed(1, NOW, piece, &mut replies, &mut audit)
 }
 
 // What a new connection answers to the beginning of a record, and then to no bytes; it is taken

@@ -55,6 +55,7 @@ impl<'a> Connections<'a> {
             "pieces" => self.pieces(words),
             "cuts" => self.cuts(words),
             "stutter" => self.stutter(words),
+            "audit" => self.audit(words),
             "beside" => self.beside(words),
             _ => None,
         }
@@ -98,7 +99,10 @@ impl<'a> Connections<'a> {
     // How many records a piece ends, or the fault, and the replies as they are written.
     fn fed(&mut self, conn: u32, moment: Moment, piece: &[u8]) -> Option<String> {
         let mut out = Device::new(Vec::new(self.alloc));
-        let fed = self.sessions.feed(conn, moment, piece, &mut out);
+        let mut audit = Device::new(Vec::new(self.alloc));
+        let fed = self
+            .sessions
+            .feed(conn, moment, piece, &mut out, &mut audit);
         let replies = digits(self.alloc, out.into_inner().as_slice())?;
         then(told(self.alloc, fed)?, replies.as_str())
     }
@@ -148,12 +152,31 @@ impl<'a> Connections<'a> {
         let k = number(words)?.max(1);
         let stream = self.stream(words)?;
         let mut out = Stutter::new(Device::new(Vec::new(self.alloc)), step, k);
+        let mut audit = Device::new(Vec::new(self.alloc));
         let bytes = stream.bytes.as_slice();
         let fed = self
             .sessions
-            .feed(stream.conn, stream.moment, bytes, &mut out);
+            .feed(stream.conn, stream.moment, bytes, &mut out, &mut audit);
         let written = digits(self.alloc, out.into_inner().into_inner().as_slice())?;
         then(told(self.alloc, fed)?, written.as_str())
+    }
+
+    // `audit STEP K CONNECTION SECONDS BYTES`: as `feed`, with audit lines written to such a device:
+    // the digits of the lines behind those of the replies.
+    fn audit(&mut self, words: &mut SplitWhitespace<'_>) -> Option<String> {
+        let step = size(words)?.max(1);
+        let k = number(words)?.max(1);
+        let stream = self.stream(words)?;
+        let mut out = Device::new(Vec::new(self.alloc));
+        let mut audit = Stutter::new(Device::new(Vec::new(self.alloc)), step, k);
+        let bytes = stream.bytes.as_slice();
+        let fed = self
+            .sessions
+            .feed(stream.conn, stream.moment, bytes, &mut out, &mut audit);
+        let written = digits(self.alloc, out.into_inner().as_slice())?;
+        let lines = digits(self.alloc, audit.into_inner().into_inner().as_slice())?;
+        let all = then(told(self.alloc, fed)?, written.as_str())?;
+        then(all, lines.as_str())
     }
 
     // `beside ADDRESS SECONDS BYTES`: a whole record that comes beside the connection.

@@ -40,9 +40,15 @@ impl<'a> Answers for Asked<'a> {
         match verb {
             "head" => heads::head(self.alloc, words),
             "heads" => heads::heads(self.alloc, words),
-            "open" | "attach" | "detach" | "feed" | "pieces" | "cuts" | "stutter" | "beside" => {
-                self.connections.answer(verb, words)
-            }
+            "open"
+            | "attach"
+            | "detach"
+            | "feed"
+            | "pieces"
+            | "cuts"
+            | "stutter"
+            | "audit"
+            | "beside" => self.connections.answer(verb, words),
             _ => self.calls.answer(verb, words),
         }
     }

@@ -1,5 +1,5 @@
 //! The rules of the procedures, each with its name and its status.
-ghost use Rattle.std.specs.Prelude.{◌≡◌, not};
+ghost use Rattle.std.specs.Prelude.{◌≡◌, ◌≤◌, length, not};
 ghost use Rattle.nfs_rules.specs.Judging.{Tells};
 ghost use Rattle.nfs_rules.specs.Rules.{name_of, status_of};
 
@@ -94,7 +94,8 @@ pub enum Rule {
 impl Rule {
     /// The name by which audit lines speak of the rule: lower-case letters and hyphens.
     pub fn name(self) -> &'static str
-        ensures { result.now ≡ name_of self }
+        ensures name { result.now ≡ name_of self }
+        ensures short { length result.now ≤ 16 }
     {
         match self {
             Rule::BadHandle => "bad-handle",

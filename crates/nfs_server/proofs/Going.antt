@@ -5,8 +5,7 @@ use Rattle.std.proofs.lemmas.List.{take_more, length-map, map-append, reverse-ap
 use Rattle.nfs_server.specs.declared.event.Event as seen
 use Rattle.nfs_server.specs.Events.{Event, Answer, Choice, Done}
 use Rattle.nfs_server.specs.Seen.{event_of}
-use Rattle.nfs_server.specs.Steps.{Step}
-use Rattle.nfs_server.specs.Fits.{Held, Past, after, Fits}
+use Rattle.nfs_server.specs.Fits.{Held, Past, Fits, GoesOn}
 use Rattle.nfs_server.specs.Runs.{events_of, longer, Hands}
 
 pub hands_none : {S : Type 0} (takes : S → Answer → Bool → S → Type 0) (past : Past) (events : List Event) (sink : S) (s : Held) → Fits past s → Hands takes past events 0 true sink sink s
@@ -14,7 +13,7 @@ hands_none takes past events sink s fits = record { done = []; events_are = refl
 
 -- what `handle` ensures, for one server before and after
 abbrev pub Handles : Held → Event → Answer → Held → Type 0
-Handles old event answer new = (past : Past) → Fits past old → (choice : Choice) × Step old.setup past.done old.state event choice answer new.state × Fits (after past event choice answer) new
+Handles old event answer new = (past : Past) → Fits past old → (choice : Choice) × GoesOn past old event choice answer new
 
 pub hands_on : {S : Type 0} (takes : S → Answer → Bool → S → Type 0) (past : Past) (events : List seen.Event) (d : seen.Event) (n : ℕ) (shown answer : Answer) (said b : Bool) (before between sink : S) (mid new : Held) → n < length events
     → Hands takes past (events_of events) n true before between mid
@@ -33,5 +32,5 @@ hands_on takes past events d n shown answer said b before between sink mid new l
       done = one ∷ hands.done;
       events_are = ap (map (λ (d : Done). d.event)) turned ∙ map-append (λ (d : Done). d.event) (reverse hands.done) (one ∷ []) ∙ ap (λ x. x ++ event ∷ []) hands.events_are ∙ sym next;
       taken = (between, hands.taken, subst (λ t. takes between answer t sink) told (subst (λ a. takes between a said sink) showed took));
-      fits = more.2;
+      fits = more.1.1;
     }

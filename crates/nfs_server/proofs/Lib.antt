@@ -1,6 +1,7 @@
 pub mod Keep
-pub mod Pieces
-pub mod Verdicts
 pub mod Going
 pub mod Forward
 pub mod Cases
+pub mod Joined
+pub mod Performed
+pub mod Judged

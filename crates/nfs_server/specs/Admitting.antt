@@ -7,7 +7,8 @@ use Rattle.nfs_rpc.specs.declared.auth_sys.Cred.{Cred}
 use Rattle.nfs_server.specs.declared.rpc_rules.Admitted.{Admitted}
 use Rattle.nfs_server.specs.declared.rpc_rules.Admitted.TheVariants.{Null, Nfs}
 use Rattle.nfs_server.specs.declared.rpc_rules.RpcRule.{RpcRule}
-use Rattle.nfs_server.specs.RpcRules.{fails_rpc, head_rules, caller_rules, is_nfs, is_null}
+use Rattle.nfs_server.specs.Requests.{is_null}
+use Rattle.nfs_server.specs.RpcRules.{fails_rpc, head_rules, caller_rules, is_nfs}
 
 -- the first rule of the head that the call fails, and else whether it is NULL
 abbrev pub Admits : Call → List ℕ → Result Admitted RpcRule → Type 0

@@ -6,18 +6,12 @@ use Rattle.nfs_inodes.specs.Law.{Law}
 use Rattle.nfs_inodes.specs.Reading.{number_under, numbered_files}
 use Rattle.nfs_rpc.specs.Calls.{Call}
 use Rattle.nfs_exports.specs.declared.addr.Addr.{Addr}
-use Rattle.nfs_exports.specs.declared.table.Export.{Export}
-use Rattle.nfs_server.specs.RpcRules.{is_null, rpc_failure_of}
-use Rattle.nfs_server.specs.Rules.{Request, subject, verdict}
-use Rattle.nfs_server.specs.Steps.{request_of}
+use Rattle.nfs_server.specs.Requests.{is_null, request_of}
+use Rattle.nfs_server.specs.RpcRules.{rpc_failure_of}
 
 -- Where no rule of RPC fails, a call of NFS other than NULL asks for something.
 abbrev pub CallsAskForSomething : Type 0
 CallsAskForSomething = (addr : Addr) (call : Call) (bytes : List ℕ) → rpc_failure_of call bytes ≡ None → is_null call ≡ false → IsSome (request_of addr call bytes)
-
--- Where no rule of a call fails, its handle names a file of the lawful tree that an export grants.
-abbrev pub GrantedHasSubject : Type 0
-GrantedHasSubject = (t : Tree) (exports : List (List Export)) (r : Request) → Law t → verdict t exports r ≡ None → IsSome (subject t exports r)
 
 -- What a lawful tree finds under a name has a handle.
 abbrev pub FoundHasHandle : Type 0

@@ -1,7 +1,8 @@
 -- Events, answers, and what a server may choose.
-use Rattle.std.specs.Prelude.{ℕ, List, Option, None, Some}
-use Rattle.nfs_exports.specs.declared.addr.Addr.{Addr}
+use Rattle.std.specs.Prelude.{ℕ, ◌<◌, ◌^◌, Bool, List, Option, None, Some}
 use Rattle.nfs_attrs.specs.declared.moment.Moment.{Moment}
+use Rattle.nfs_exports.specs.declared.addr.Addr.{Addr}
+use Rattle.nfs_server.specs.declared.audit_line.AuditLine.{AuditLine}
 
 -- a record from an address at a moment
 pub record Event : Type 0 where
@@ -9,12 +10,16 @@ pub record Event : Type 0 where
   pub moment : Moment
   pub bytes : List ℕ
 
--- what an event is answered: the reply, if there is one
+-- what an event is answered: the reply, if there is one, and the line of a call that was denied
 pub record Answer : Type 0 where
   pub reply : Option (List ℕ)
+  pub line : Option AuditLine
 
--- what a server may choose at an event: nothing yet
+-- what a server may choose at an event: the tag of a new file, and whether there is memory
 pub record Choice : Type 0 where
+  pub tag : ℕ
+  pub fits : tag < 2 ^ 32
+  pub has_memory : Bool
 
 -- an event that was answered, and the choice that was made
 pub record Done : Type 0 where
@@ -23,7 +28,12 @@ pub record Done : Type 0 where
   pub answer : Answer
 
 abbrev pub silence : Answer
-silence = record { reply = None }
+silence = record { reply = None; line = None }
 
-abbrev pub replied : List ℕ → Answer
-replied bytes = record { reply = Some bytes }
+-- a reply, and no line
+abbrev pub granted : List ℕ → Answer
+granted reply = record { reply = Some reply; line = None }
+
+-- a reply, and its line
+abbrev pub denied : List ℕ → AuditLine → Answer
+denied reply line = record { reply = Some reply; line = Some line }

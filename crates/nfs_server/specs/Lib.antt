@@ -1,12 +1,9 @@
+pub mod Requests
+pub mod RpcRules
+pub mod AuditLines
 pub mod Events
-pub mod Rights
-pub mod Args
-pub mod Rules
-pub mod Results
-pub mod Judging
 pub mod Seen
 pub mod ReplyRoom
-pub mod RpcRules
 pub mod Admitting
 pub mod Steps
 pub mod Fits

@@ -1,6 +1,5 @@
 -- The rules of RPC (RFC 5531, section 9), and the reply of each where it is the first that fails.
-use Rattle.std.specs.Prelude.{ℕ, Bool, not, ◌||◌, ◌&&◌, List, [], ◌∷◌, ◌++◌, Option, is_none, nat_eq, find}
-use Rattle.std.specs.List.{list_any}
+use Rattle.std.specs.Prelude.{ℕ, Bool, not, ◌||◌, ◌&&◌, List, [], ◌∷◌, ◌++◌, Option, is_none, nat_eq, nat_le, find, codes}
 use Rattle.nfs_rpc.specs.AuthSys.{caller}
 use Rattle.nfs_rpc.specs.Calls.{Call}
 use Rattle.nfs_rpc.specs.Replies.{accepted_text, refused_text}
@@ -8,7 +7,7 @@ use Rattle.nfs_rpc.specs.declared.reply.Accept.TheVariants.{ProgUnavail, ProgMis
 use Rattle.nfs_rpc.specs.declared.reply.Refused.TheVariants.{RpcMismatch, BadCred, RejectedCred, TooWeak}
 use Rattle.nfs_server.specs.declared.rpc_rules.RpcRule.{RpcRule}
 use Rattle.nfs_server.specs.declared.rpc_rules.RpcRule.TheVariants.{Version, Program, ProgramVersion, Procedure, Flavor, Credential, WeakCredential, Arguments}
-use Rattle.nfs_server.specs.Args.{args_in}
+use Rattle.nfs_server.specs.Requests.{args_in, is_null}
 
 abbrev pub NFS : ℕ
 NFS = 100003
@@ -23,16 +22,12 @@ AUTH_NONE = 0
 abbrev pub AUTH_SYS : ℕ
 AUTH_SYS = 1
 
--- NULL, and of NFS GETATTR, LOOKUP and READ
+-- NULL, and of NFS those up to 21 but READDIR and READDIRPLUS
 abbrev pub has_procedure : ℕ → ℕ → Bool
-has_procedure prog proc = nat_eq proc 0 || nat_eq prog NFS && list_any (nat_eq proc) (1 ∷ 3 ∷ 6 ∷ [])
+has_procedure prog proc = nat_eq proc 0 || nat_eq prog NFS && (nat_le proc 21 && not (nat_eq proc 16 || nat_eq proc 17))
 
 abbrev pub is_nfs : Call → Bool
 is_nfs call = nat_eq call.prog NFS
-
--- of NULL neither credential nor arguments are looked at
-abbrev pub is_null : Call → Bool
-is_null call = nat_eq call.proc 0
 
 -- whether a call, with what stands behind its head, fails the rule
 abbrev pub fails_rpc : Call → List ℕ → RpcRule → Bool
@@ -69,3 +64,25 @@ rpc_reply Flavor xid = refused_text xid RejectedCred
 rpc_reply Credential xid = refused_text xid BadCred
 rpc_reply WeakCredential xid = refused_text xid TooWeak
 rpc_reply Arguments xid = accepted_text xid GarbageArgs
+
+-- what audit lines call the rule
+abbrev pub rpc_name : RpcRule → List ℕ
+rpc_name Version = codes "version"
+rpc_name Program = codes "program"
+rpc_name ProgramVersion = codes "program-version"
+rpc_name Procedure = codes "procedure"
+rpc_name Flavor = codes "flavor"
+rpc_name Credential = codes "credential"
+rpc_name WeakCredential = codes "weak-credential"
+rpc_name Arguments = codes "arguments"
+
+-- and what they call its reply
+abbrev pub rpc_status : RpcRule → List ℕ
+rpc_status Version = codes "rpc-mismatch"
+rpc_status Program = codes "prog-unavail"
+rpc_status ProgramVersion = codes "prog-mismatch"
+rpc_status Procedure = codes "proc-unavail"
+rpc_status Flavor = codes "rejectedcred"
+rpc_status Credential = codes "badcred"
+rpc_status WeakCredential = codes "tooweak"
+rpc_status Arguments = codes "garbage-args"

@@ -1,19 +1,24 @@
 -- What one event may do, and runs of events.
-use Rattle.std.specs.Prelude.{◌≡◌, ℕ, List, [], ◌∷◌, ◌++◌, Option, Some, None, Result, Ok, Err, if◌then◌else◌}
-use Rattle.nfs_rpc.specs.AuthSys.{Credential, caller}
+use Rattle.std.specs.Prelude.{◌≡◌, ℕ, Bool, true, false, List, [], ◌∷◌, ◌++◌, Option, Some, None, option_map, Result, Ok, Err}
+use Rattle.nfs_args.specs.Answers.{nfs_text}
+use Rattle.nfs_exports.specs.declared.table.Export.{Export}
+use Rattle.nfs_inodes.specs.Tree.{Tree}
+use Rattle.nfs_procs.specs.Doing.{Doing}
+use Rattle.nfs_procs.specs.Procedures.{doing_of}
+use Rattle.nfs_procs.specs.Scenes.{Scene, verdict_in, subjects_in, seen_in}
 use Rattle.nfs_rpc.specs.Calls.{Call, head_at}
 use Rattle.nfs_rpc.specs.Replies.{accepted_text}
 use Rattle.nfs_rpc.specs.declared.call.RpcFault.{RpcFault}
-use Rattle.nfs_rpc.specs.declared.reply.Accept.TheVariants.{Success}
-use Rattle.nfs_inodes.specs.Tree.{Tree}
+use Rattle.nfs_rpc.specs.declared.reply.Accept.TheVariants.{Success, SystemErr}
+use Rattle.nfs_rules.specs.Rules.{status_of}
+use Rattle.nfs_rules.specs.Subjects.{Subject}
+use Rattle.nfs_rules.specs.declared.rule.Rule.{Rule}
+use Rattle.nfs_server.specs.AuditLines.{line_of}
+use Rattle.nfs_server.specs.Events.{Event, Answer, Choice, Done, silence, granted, denied}
+use Rattle.nfs_server.specs.Requests.{Request, request_of}
+use Rattle.nfs_server.specs.RpcRules.{rpc_failure_of, rpc_reply}
+use Rattle.nfs_server.specs.declared.audit_line.Reason.TheVariants as reason
 use Rattle.nfs_server.specs.declared.rpc_rules.RpcRule.{RpcRule}
-use Rattle.nfs_exports.specs.declared.addr.Addr.{Addr}
-use Rattle.nfs_exports.specs.declared.table.Export.{Export}
-use Rattle.nfs_server.specs.Args.{Args, args_in}
-use Rattle.nfs_server.specs.Rules.{Request}
-use Rattle.nfs_server.specs.Results.{result_text}
-use Rattle.nfs_server.specs.Events.{Event, Answer, Choice, Done, silence, replied}
-use Rattle.nfs_server.specs.RpcRules.{is_null, rpc_failure_of, rpc_reply}
 
 -- what stays for a server's whole life: how many replies it keeps for repeats, and what is exported to whom, in a list for each volume
 pub record Setup : Type 0 where
@@ -24,34 +29,65 @@ pub record Setup : Type 0 where
 pub record State : Type 0 where
   pub tree : Tree
 
--- what a call of NFS asks for, and who asks, where its credential and its arguments can be read
-abbrev pub asked : Addr → Option Credential → Option Args → Option Request
-asked addr (Some cred) (Some args) = Some (record { addr = addr; cred = cred; args = args })
-asked addr (Some cred) None = None
-asked addr None args = None
+-- ---- a call of NFS
 
--- none for NULL
-abbrev pub request_of : Addr → Call → List ℕ → Option Request
-request_of addr call bytes = if is_null call then None else asked addr (caller call.cred.body) (args_in call.proc bytes)
+-- the reply to a call that keeps the rules of RPC, with its result
+abbrev pub success : Call → List ℕ → List ℕ
+success call result = accepted_text call.xid Success ++ result
 
--- what a call is answered that keeps the rules of RPC: NULL nothing but that, another the result of its procedure
-abbrev pub answer_to : Setup → State → Option Request → List ℕ
-answer_to setup old None = []
-answer_to setup old (Some r) = result_text old.tree setup.exports r
+-- The tree has the effect of the procedure, and the reply its result; both are of what the handles name.
+pub record HasDone (c : Scene) (doing : Doing) (call : Call) (tag : ℕ) (answer : Answer) (new : Tree) : Type 0 where
+  pub one : Subject
+  pub two : Subject
+  pub subjects : subjects_in c ≡ Some (one, two)
+  pub new_is : new ≡ doing.effect one two c.now tag
+  pub answer_is : answer ≡ granted (success call (nfs_text (doing.granted one two new)))
 
--- A call that fails a rule of RPC has its reply. Else it has its result. Nothing changes.
-abbrev pub Judged : Option RpcRule → Setup → State → Option Request → ℕ → Answer → State → Type 0
-Judged (Some rule) setup old r xid answer new = (answer ≡ replied (rpc_reply rule xid)) × (new ≡ old)
-Judged None setup old r xid answer new = (answer ≡ replied (accepted_text xid Success ++ answer_to setup old r)) × (new ≡ old)
+-- Without memory a procedure that takes some is answered SYSTEM_ERR, and the tree stays.
+pub record HasNone (c : Scene) (doing : Doing) (call : Call) (answer : Answer) (new : Tree) : Type 0 where
+  pub takes : doing.takes_memory ≡ true
+  pub new_is : new ≡ c.tree
+  pub answer_is : answer ≡ denied (accepted_text call.xid SystemErr) (line_of c.caller.addr call reason.Memory)
+
+-- The first rule that fails is answered by its status, and told by its name with the uid of the caller, where the rules of the handles are kept. The tree stays.
+pub record IsDenied (c : Scene) (doing : Doing) (call : Call) (rule : Rule) (answer : Answer) (new : Tree) : Type 0 where
+  pub new_is : new ≡ c.tree
+  pub answer_is : answer ≡ denied (success call (nfs_text (doing.denied (status_of rule) (seen_in c)))) (line_of c.caller.addr call (reason.Rule rule (option_map (λ s. s.0.ids.uid) (subjects_in c))))
+
+-- by the first rule that fails, and, where none does, by whether there is memory
+abbrev pub Decided : Option Rule → Bool → Scene → Doing → Call → ℕ → Answer → Tree → Type 0
+Decided (Some rule) has_memory c doing call tag answer new = IsDenied c doing call rule answer new
+Decided None true c doing call tag answer new = HasDone c doing call tag answer new
+Decided None false c doing call tag answer new = HasNone c doing call answer new
+
+-- a procedure that does nothing has an empty result
+abbrev pub Performed : Option Doing → Scene → Call → Choice → Answer → Tree → Type 0
+Performed (Some doing) c call choice answer new = Decided (verdict_in c) choice.has_memory c doing call choice.tag answer new
+Performed None c call choice answer new = (answer ≡ granted (success call [])) × (new ≡ c.tree)
+
+-- ---- an event
+
+abbrev pub scene_of : Setup → State → Event → Request → Scene
+scene_of setup old event r = record { tree = old.tree; exports = setup.exports; caller = r.caller; now = event.moment; args = r.args }
+
+-- NULL has an empty result
+abbrev pub Requested : Option Request → Setup → State → Event → Call → Choice → Answer → State → Type 0
+Requested None setup old event call choice answer new = (answer ≡ granted (success call [])) × (new ≡ old)
+Requested (Some r) setup old event call choice answer new = Performed (doing_of r.args) (scene_of setup old event r) call choice answer new.tree
+
+-- A call that fails a rule of RPC has its reply and its line, and nothing changes.
+abbrev pub Judged : Option RpcRule → Option Request → Setup → State → Event → Call → Choice → Answer → State → Type 0
+Judged (Some rule) r setup old event call choice answer new = (answer ≡ denied (rpc_reply rule call.xid) (line_of event.addr call (reason.Rpc rule))) × (new ≡ old)
+Judged None r setup old event call choice answer new = Requested r setup old event call choice answer new
 
 -- a record that is no readable call has no reply, and nothing changes
-abbrev pub Called : Result (Call × List ℕ) RpcFault → Setup → State → Addr → Answer → State → Type 0
-Called (Err fault) setup old addr answer new = (answer ≡ silence) × (new ≡ old)
-Called (Ok head) setup old addr answer new = Judged (rpc_failure_of head.0 head.1) setup old (request_of addr head.0 head.1) head.0.xid answer new
+abbrev pub Called : Result (Call × List ℕ) RpcFault → Setup → State → Event → Choice → Answer → State → Type 0
+Called (Err fault) setup old event choice answer new = (answer ≡ silence) × (new ≡ old)
+Called (Ok head) setup old event choice answer new = Judged (rpc_failure_of head.0 head.1) (request_of event.addr head.0 head.1) setup old event head.0 choice answer new
 
 -- one event after a past, by the first case that applies
 abbrev pub Step : Setup → List Done → State → Event → Choice → Answer → State → Type 0
-Step setup past old event choice answer new = Called (head_at event.bytes) setup old event.addr answer new
+Step setup past old event choice answer new = Called (head_at event.bytes) setup old event choice answer new
 
 -- the past, the newest event first, is a run from the opening state to this one
 abbrev pub IsRun : Setup → State → List Done → State → Type 0

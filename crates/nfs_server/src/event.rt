@@ -3,6 +3,7 @@ ghost use Rattle.std.specs.Prelude.{Bool};
 ghost use Rattle.nfs_server.specs.Events.{Answer};
 ghost use Rattle.nfs_server.specs.Seen.{answer_of};
 
+use crate::audit_line::AuditLine;
 use nfs_attrs::moment::Moment;
 use nfs_exports::addr::Addr;
 
@@ -31,6 +32,8 @@ pub enum Handled {
 pub struct Outcome<'a> {
     /// The reply, without its record mark.
     pub reply: Option<&'a [u8]>,
+    /// The line of a call that was denied.
+    pub line: Option<AuditLine>,
 }
 
 /// What takes the outcomes of a run.

@@ -1,23 +1,28 @@
 //! The room in which replies are written.
-ghost use Rattle.std.specs.Prelude.{◌≡◌, ℕ, ◌+◌, ◌-◌, ◌^◌, ◌<◌, ◌≤◌, [], ◌++◌, true, length, take, drop, IfOk};
-ghost use Rattle.nfs_xdr.specs.Written.{Written, Appends};
+ghost use Rattle.std.specs.Prelude.{◌≡◌, ◌+◌, ◌-◌, ◌^◌, ◌<◌, ◌≤◌, [], ◌++◌, true, length, take, drop, IfOk};
+ghost use Rattle.nfs_procs.specs.Procedures.{PerformsAs, doing_of};
+ghost use Rattle.nfs_procs.specs.Scenes.{scene};
+ghost use Rattle.nfs_rpc.specs.Calls.{call_of};
 ghost use Rattle.nfs_rpc.specs.Records.{header};
 ghost use Rattle.nfs_rpc.specs.Replies.{accepted_text};
 ghost use Rattle.nfs_rpc.specs.declared.reply.Accept.TheVariants.{Success};
-ghost use Rattle.nfs_rpc.specs.AuthSys.{credential_of};
 ghost use Rattle.nfs_server.specs.RpcRules.{rpc_reply};
-ghost use Rattle.nfs_server.specs.Args.{args_of};
-ghost use Rattle.nfs_server.specs.Results.{result_text};
+ghost use Rattle.nfs_server.specs.Seen.{told};
+ghost use Rattle.nfs_server.specs.Keeping.{AnswersCall};
 
-use crate::procedures::perform;
+use crate::audit_line::{AuditLine, Reason};
 use crate::rpc_rules::RpcRule;
-use crate::served_args::ServedArgs;
-use nfs_exports::addr::Addr;
+use nfs_args::args::NfsArgs;
+use nfs_attrs::moment::Moment;
 use nfs_exports::table::Table;
 use nfs_inodes::tree::Tree;
-use nfs_rpc::auth_sys::Cred;
+use nfs_procs::done::Done;
+use nfs_procs::limits::MAX_RESULT_BYTES;
+use nfs_procs::perform::perform;
+use nfs_rpc::call::CallHead;
 use nfs_rpc::record::seal_record;
 use nfs_rpc::reply::{Accept, Refused, write_accepted, write_refused};
+use nfs_rules::caller::Caller;
 use nfs_xdr::output::Output;
 use std::alloc::{AllocError, Global};
 use std::marker::Model;
@@ -105,23 +110,58 @@ impl ReplyBuf {
         seal(&mut self.out);
     }
 
-    /// The reply to a call of NFS: its result.
+    /// The reply to a call of NFS other than NULL: what it asks for is done where no rule fails, and
+    /// there is memory. Answers the line of a call that is denied.
     pub(crate) fn perform(
         &mut self,
-        xid: u32,
-        tree: &Tree,
+        head: &CallHead<'_>,
+        tree: &mut Tree,
         table: &Table,
-        addr: Addr,
-        cred: &Cred,
-        args: &ServedArgs<'_>,
-    )
-        ensures { self.new ≡ accepted_text xid Success ++ result_text tree.now table.now (record { addr = addr; cred = credential_of cred.now; args = args_of args.now }) }
+        caller: Caller<'_>,
+        now: Moment,
+        args: &NfsArgs<'_>,
+    ) -> Option<AuditLine>
+        ensures { AnswersCall (scene tree.old table.now caller.entry now args.now) (call_of head.now) (told self.new result) tree.new }
     {
         begin(&mut self.out);
-        write_accepted(&mut self.out, xid, Accept::Success);
-        perform(tree, table, addr, cred, args, &mut self.out);
-        seal(&mut self.out);
+        write_accepted(&mut self.out, head.xid, Accept::Success);
+        match write_result(&mut self.out, tree, table, caller, now, args) {
+            Some(Done::Denied(rule, uid)) => {
+                seal(&mut self.out);
+                Some(AuditLine::of(caller.addr, head, Reason::Rule(rule, uid)))
+            }
+            Some(Done::Memory) => {
+                begin(&mut self.out);
+                write_accepted(&mut self.out, head.xid, Accept::SystemErr);
+                seal(&mut self.out);
+                Some(AuditLine::of(caller.addr, head, Reason::Memory))
+            }
+            Some(Done::Granted) => {
+                seal(&mut self.out);
+                None
+            }
+            None => {
+                seal(&mut self.out);
+                None
+            }
+        }
     }
+}
+
+// What becomes of a call of NFS, and its result, which leaves the room as it was with the bytes.
+fn write_result(
+    out: &mut Output,
+    tree: &mut Tree,
+    table: &Table,
+    caller: Caller<'_>,
+    now: Moment,
+    args: &NfsArgs<'_>,
+) -> Option<Done>
+    requires { MAX_RESULT_BYTES ≤ out.old.room }
+    ensures performs { PerformsAs (scene tree.old table.now caller.entry now args.now) (doing_of args.now) result tree.new out.old out.new }
+    ensures room { length out.new.bytes + out.new.room ≡ length out.old.bytes + out.old.room }
+{
+    perform(tree, table, caller, now, args, out)
 }
 
 // Nothing but the mark.

@@ -1,7 +1,8 @@
 //! The rules of RPC, which come before those of a procedure (RFC 5531, section 9).
-ghost use Rattle.std.specs.Prelude.{◌≡◌, true, false};
+ghost use Rattle.std.specs.Prelude.{◌≡◌, ◌≤◌, true, false, length};
 ghost use Rattle.nfs_rpc.specs.Calls.{call_of};
-ghost use Rattle.nfs_server.specs.RpcRules.{is_nfs, is_null};
+ghost use Rattle.nfs_server.specs.Requests.{is_null};
+ghost use Rattle.nfs_server.specs.RpcRules.{is_nfs, rpc_name, rpc_status};
 ghost use Rattle.nfs_server.specs.RpcRules as spec;
 ghost use Rattle.nfs_server.specs.Admitting.{Admits, Identifies};
 
@@ -29,14 +30,51 @@ pub enum RpcRule {
     Arguments,
 }
 
-// The procedures that are served, by their numbers (RFC 1813, section 3.3).
+impl RpcRule {
+    /// The name by which audit lines speak of the rule.
+    pub fn name(self) -> &'static str
+        ensures name { result.now ≡ rpc_name self }
+        ensures short { length result.now ≤ 16 }
+    {
+        match self {
+            RpcRule::Version => "version",
+            RpcRule::Program => "program",
+            RpcRule::ProgramVersion => "program-version",
+            RpcRule::Procedure => "procedure",
+            RpcRule::Flavor => "flavor",
+            RpcRule::Credential => "credential",
+            RpcRule::WeakCredential => "weak-credential",
+            RpcRule::Arguments => "arguments",
+        }
+    }
+
+    /// The name by which audit lines speak of the reply to a call that fails the rule.
+    pub fn status_name(self) -> &'static str
+        ensures name { result.now ≡ rpc_status self }
+        ensures short { length result.now ≤ 16 }
+    {
+        match self {
+            RpcRule::Version => "rpc-mismatch",
+            RpcRule::Program => "prog-unavail",
+            RpcRule::ProgramVersion => "prog-mismatch",
+            RpcRule::Procedure => "proc-unavail",
+            RpcRule::Flavor => "rejectedcred",
+            RpcRule::Credential => "badcred",
+            RpcRule::WeakCredential => "tooweak",
+            RpcRule::Arguments => "garbage-args",
+        }
+    }
+}
+
+// Procedures by their numbers (RFC 1813, section 3.3): one of both programs, two of NFS that aren't
+// served, and its last.
 const NULL: u32 = 0;
 
-const GETATTR: u32 = 1;
+const READDIR: u32 = 16;
 
-const LOOKUP: u32 = 3;
+const READDIRPLUS: u32 = 17;
 
-const READ: u32 = 6;
+const LAST_PROCEDURE: u32 = 21;
 
 /// What a call is for that keeps the first four rules of RPC.
 #[derive(Clone, Copy, Debug, PartialEq, Eq)]
@@ -115,7 +153,7 @@ fn has_procedure(prog: u32, proc: u32) -> bool
 {
     match proc {
         NULL => true,
-        GETATTR | LOOKUP | READ => prog == NFS_PROGRAM,
-        _ => false,
+        READDIR | READDIRPLUS => false,
+        _ => prog == NFS_PROGRAM && proc <= LAST_PROCEDURE,
     }
 }

@@ -1,26 +1,30 @@
 //! A server, which takes one whole record at a time.
-ghost use Rattle.std.specs.Prelude.{◌≡◌, ℕ, ◌≤◌, List, [], ◌∷◌, ◌++◌, true, false, length, IfOk, Bool};
+ghost use Rattle.std.specs.Prelude.{◌≡◌, ℕ, ◌≤◌, List, [], ◌∷◌, ◌++◌, true, false, length, IfOk, Bool, None, Some};
 ghost use Rattle.std.specs.List.{find};
+ghost use Rattle.nfs_rpc.specs.AuthSys.{caller, credential_of};
 ghost use Rattle.nfs_rpc.specs.Calls.{call_of};
-ghost use Rattle.nfs_server.specs.Events.{Choice, Done, replied};
+ghost use Rattle.nfs_server.specs.Events.{Choice};
 ghost use Rattle.nfs_server.specs.declared.rpc_rules.RpcRule.TheVariants.{Arguments};
-ghost use Rattle.nfs_server.specs.RpcRules.{fails_rpc, caller_rules, is_nfs, is_null};
-ghost use Rattle.nfs_server.specs.Seen.{event_of, answer_of, answered};
-ghost use Rattle.nfs_server.specs.Steps.{Step, Judged, request_of};
-ghost use Rattle.nfs_server.specs.Fits.{Held, Past, Fits, after};
-ghost use Rattle.nfs_server.specs.Keeping.{Answers};
+ghost use Rattle.nfs_server.specs.Requests.{is_null};
+ghost use Rattle.nfs_server.specs.AuditLines.{line_of};
+ghost use Rattle.nfs_server.specs.declared.audit_line.Reason.TheVariants.{Rpc};
+ghost use Rattle.nfs_server.specs.RpcRules.{fails_rpc, caller_rules, is_nfs, rpc_reply, rpc_rules};
+ghost use Rattle.nfs_server.specs.Seen.{event_of, answer_of, answered, told};
+ghost use Rattle.nfs_server.specs.Fits.{Held, Past, Fits, GoesOn};
+ghost use Rattle.nfs_server.specs.Keeping.{Answers, AnswersBy};
 ghost use Rattle.nfs_server.specs.Runs.{events_of, RunsThrough};
 
+use crate::arguments::read_args;
+use crate::audit_line::{AuditLine, Reason};
 use crate::event::{Event, Handled, Outcome, Sink};
 use crate::reply_buf::ReplyBuf;
 use crate::rpc_rules::{Admitted, RpcRule, admit, identify};
-use crate::served_args::read_served;
-use nfs_exports::addr::Addr;
 use nfs_exports::table::Table;
 use nfs_inodes::tree::Tree;
 use nfs_load::loaded::Loaded;
 use nfs_rpc::auth_sys::Cred;
 use nfs_rpc::call::{CallHead, read_call};
+use nfs_rules::caller::Caller;
 use nfs_xdr::input::Input;
 use std::alloc::{AllocError, Global};
 use std::marker::Model;
@@ -31,6 +35,7 @@ pub struct Server {
     tree: Tree,
     table: Table,
     cache: usize,
+    line: Option<AuditLine>,
 }
 
 impl Model for Server {
@@ -38,7 +43,7 @@ impl Model for Server {
 
     ghost Value = { Held };
 
-    ghost view = { λ s. record { setup = record { places = s.cache; exports = s.table }; state = record { tree = s.tree } } };
+    ghost view = { λ s. record { setup = record { places = s.cache; exports = s.table }; state = record { tree = s.tree }; line = s.line } };
 }
 
 impl Server {
@@ -50,12 +55,14 @@ impl Server {
         ensures setup { IfOk result (λ server. server.setup ≡ record { places = cache; exports = loaded.table }) }
         ensures tree { IfOk result (λ server. server.state.tree ≡ loaded.tree) }
         ensures fits { IfOk result (λ server. Fits (record { opening = server.state; done = [] }) server) }
+        ensures line { IfOk result (λ server. server.line ≡ None) }
     {
         loaded.tree.law();
         Ok(Server {
             tree: loaded.tree,
             table: loaded.table,
             cache,
+            line: None,
         })
     }
 
@@ -66,50 +73,105 @@ impl Server {
         &self.tree
     }
 
+    /// The line of the last call, where it was denied.
+    pub fn last_audit(&self) -> Option<AuditLine>
+        ensures { result ≡ self.now.line }
+    {
+        self.line
+    }
+
     /// Takes one whole record. For every past that fits before, the answer is a step after it,
     /// and the past with this event fits after.
     pub fn handle(&mut self, event: Event<'_>, reply: &mut ReplyBuf) -> Handled
         ensures setup { self.new.setup ≡ self.old.setup }
         ensures step { (past : Past) → Fits past self.old → (choice : Choice)
-            × Step self.old.setup past.done self.old.state (event_of event.entry) choice (answered result reply.new) self.new.state
-            × Fits (after past (event_of event.entry) choice (answered result reply.new)) self.new }
-        ensures silent { result ≡ Handled.NoReply → reply.new ≡ [] }
+            × GoesOn past self.old (event_of event.entry) choice (answered result reply.new self.new.line) self.new }
+        ensures silent { result ≡ Handled.NoReply → (reply.new ≡ []) × (self.new.line ≡ None) }
     {
         self.answer(event, reply)
     }
 
     // The same, said without a past.
     fn answer(&mut self, event: Event<'_>, reply: &mut ReplyBuf) -> Handled
-        ensures answers { Answers self.old (event_of event.entry) (answered result reply.new) self.new }
-        ensures silent { result ≡ Handled.NoReply → reply.new ≡ [] }
+        ensures answers { Answers self.old (event_of event.entry) (answered result reply.new self.new.line) self.new }
+        ensures silent { result ≡ Handled.NoReply → (reply.new ≡ []) × (self.new.line ≡ None) }
     {
         let Ok(head) = read_call(event.bytes) else {
             reply.clear();
+            self.line = None;
             return Handled::NoReply;
         };
-        match admit(&head) {
-            Err(rule) => reply.refuse(rule, head.xid),
-            Ok(Admitted::Null) => reply.succeed(head.xid),
-            Ok(Admitted::Nfs) => self.answer_nfs(&head, event.addr, reply),
-        }
+        self.line = self.respond(&head, &event, reply);
         Handled::Answered
     }
 
-    // The reply to a call of NFS other than NULL.
+    // The reply to a call, and its line where it is denied.
+    fn respond(
+        &mut self,
+        head: &CallHead<'_>,
+        event: &Event<'_>,
+        reply: &mut ReplyBuf,
+    ) -> Option<AuditLine>
+        ensures setup { self.new.setup ≡ self.old.setup }
+        ensures judged { AnswersBy rpc_rules self.old (event_of event.now) (call_of head.now) head.now.args
+            (told reply.new result) self.new }
+    {
+        match admit(head) {
+            Err(rule) => Some(refuse(reply, head, event, rule)),
+            Ok(Admitted::Null) => {
+                reply.succeed(head.xid);
+                None
+            }
+            Ok(Admitted::Nfs) => self.answer_nfs(head, event, reply),
+        }
+    }
+
+    // The reply to a call of NFS other than NULL, and its line where it is denied.
     #[inline(never)]
-    fn answer_nfs(&self, head: &CallHead<'_>, addr: Addr, reply: &mut ReplyBuf)
+    fn answer_nfs(
+        &mut self,
+        head: &CallHead<'_>,
+        event: &Event<'_>,
+        reply: &mut ReplyBuf,
+    ) -> Option<AuditLine>
         requires nfs { is_nfs (call_of head.now) ≡ true }
         requires null { is_null (call_of head.now) ≡ false }
-        ensures { Judged (find (fails_rpc (call_of head.now) head.now.args) (caller_rules ++ Arguments ∷ [])) self.now.setup self.now.state (request_of addr (call_of head.now) head.now.args) head.now.xid (replied reply.new) self.now.state }
+        ensures setup { self.new.setup ≡ self.old.setup }
+        ensures judged { AnswersBy (caller_rules ++ Arguments ∷ []) self.old (event_of event.now) (call_of head.now) head.now.args
+            (told reply.new result) self.new }
     {
-        let xid = head.xid;
         let mut cred = Cred::nobody();
         match identify(head, &mut cred) {
-            Err(rule) => reply.refuse(rule, xid),
-            Ok(()) => match read_served(head.proc, Input::new(head.args.rest())) {
-                Err(_) => reply.refuse(RpcRule::Arguments, xid),
-                Ok(args) => reply.perform(xid, &self.tree, &self.table, addr, &cred, &args),
-            },
+            Err(rule) => Some(refuse(reply, head, event, rule)),
+            Ok(()) => self.answer_caller(head, event, &cred, reply),
+        }
+    }
+
+    // The same, where it is known who calls.
+    fn answer_caller(
+        &mut self,
+        head: &CallHead<'_>,
+        event: &Event<'_>,
+        cred: &Cred,
+        reply: &mut ReplyBuf,
+    ) -> Option<AuditLine>
+        requires null { is_null (call_of head.now) ≡ false }
+        requires known { find (fails_rpc (call_of head.now) head.now.args) caller_rules ≡ None }
+        requires cred { caller (call_of head.now).cred.body ≡ Some (credential_of cred.now) }
+        ensures setup { self.new.setup ≡ self.old.setup }
+        ensures judged { AnswersBy (caller_rules ++ Arguments ∷ []) self.old (event_of event.now) (call_of head.now) head.now.args
+            (told reply.new result) self.new }
+    {
+        match read_args(head.proc, Input::new(head.args.rest())) {
+            Err(_) => Some(refuse(reply, head, event, RpcRule::Arguments)),
+            Ok(args) => {
+                let caller = Caller {
+                    addr: event.addr,
+                    cred,
+                };
+                let (tree, table) = (&mut self.tree, &self.table);
+                reply.perform(head, tree, table, caller, event.moment, &args)
+            }
         }
     }
 
@@ -122,14 +184,15 @@ impl Server {
         sink: &mut S,
     ) -> usize
         ensures bound { result ≤ length events.now }
-        ensures run { (past : Past) → Fits past self.old → RunsThrough S.takes past (events_of events.now) result sink.old sink.new self.new }
+        ensures run { (past : Past) → Fits past self.old
+            → RunsThrough S.takes past (events_of events.now) result sink.old sink.new self.new }
         ensures setup { self.new.setup ≡ self.old.setup }
     {
         let mut done = 0;
         for event in events {
             let handled = self.handle(*event, reply);
             done += 1;
-            if !sink.take(outcome_of(handled, reply)) {
+            if !sink.take(outcome_of(handled, reply, self.last_audit())) {
                 break;
             }
         }
@@ -137,14 +200,27 @@ impl Server {
     }
 }
 
+// The reply to a call that fails a rule of RPC, and its line.
+fn refuse(reply: &mut ReplyBuf, head: &CallHead<'_>, event: &Event<'_>, rule: RpcRule) -> AuditLine
+    ensures reply { reply.new ≡ rpc_reply rule head.now.xid }
+    ensures line { result ≡ line_of event.now.addr (call_of head.now) (Rpc rule) }
+{
+    reply.refuse(rule, head.xid);
+    AuditLine::of(event.addr, head, Reason::Rpc(rule))
+}
+
 // What is handed to a sink.
-fn outcome_of(handled: Handled, reply: &ReplyBuf) -> Outcome<'_>
-    ensures { answer_of result ≡ answered handled reply.now }
+fn outcome_of(handled: Handled, reply: &ReplyBuf, line: Option<AuditLine>) -> Outcome<'_>
+    ensures { answer_of result ≡ answered handled reply.now line }
 {
     match handled {
         Handled::Answered => Outcome {
             reply: Some(reply.bytes()),
+            line,
         },
-        Handled::NoReply => Outcome { reply: None },
+        Handled::NoReply => Outcome {
+            reply: None,
+            line: None,
+        },
     }
 }

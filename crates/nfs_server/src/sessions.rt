@@ -5,12 +5,14 @@ ghost use Rattle.nfs_server.specs.Fits.{Past, Fits};
 ghost use Rattle.nfs_server.specs.Runs.{events_of, RunsThrough};
 ghost use Rattle.nfs_server.specs.Connections.{may_join, is_joined, has_ended, IsBetween};
 
+use crate::audit_line::AuditLine;
 use crate::event::{Event, Handled, Sink};
 use crate::reply_buf::ReplyBuf;
 use crate::server::Server;
 use nfs_attrs::moment::Moment;
 use nfs_exports::addr::Addr;
 use nfs_rpc::framer::{FrameFault, Framer, Stage};
+use nfs_text::line::Line;
 use nfs_xdr::device::{ByteOut, write_all};
 use std::alloc::{AllocError, Global};
 use std::marker::Model;
@@ -37,6 +39,9 @@ pub enum SessionFault {
     /// There is no memory for a record.
     #[error("Memory")]
     Memory,
+    /// The audit lines can't be written.
+    #[error("AuditFault")]
+    AuditFault,
     /// The replies can't be written.
     #[error("WriteFault")]
     WriteFault,
@@ -110,7 +115,8 @@ impl Sessions {
     /// `Server::run` on the server, which leaves the connection.
     pub fn run<S: Sink>(&mut self, events: &[Event<'_>], sink: &mut S) -> usize
         ensures bound { result ≤ length events.now }
-        ensures run { (past : Past) → Fits past self.old.server → RunsThrough S.takes past (events_of events.now) result sink.old sink.new self.new.server }
+        ensures run { (past : Past) → Fits past self.old.server
+            → RunsThrough S.takes past (events_of events.now) result sink.old sink.new self.new.server }
         ensures setup { self.new.server.setup ≡ self.old.server.setup }
         ensures joined { self.new.joined ≡ self.old.joined }
     {
@@ -169,25 +175,28 @@ impl Sessions {
     }
 
     /// Takes the next bytes of a connection's stream. Each record that is whole now is one event,
-    /// in the order of the stream, and its sealed reply is written before the next is looked at.
-    /// Answers how many records were taken.
+    /// in the order of the stream; its audit line, where it is denied, and then its sealed reply are
+    /// written before the next is looked at. Answers how many records were taken.
     ///
     /// `UnknownConnection` where no connection has the number, `Ended` where a fault ended it:
-    /// these write nothing and change nothing. Then, as the bytes come, `TooLong`, `Memory` and
-    /// `WriteFault`, which end the connection; what was done before stands.
-    pub fn feed<W: ByteOut>(
+    /// these write nothing and change nothing. Then, as the bytes come, `TooLong`, `Memory`,
+    /// `AuditFault` and `WriteFault`, which end the connection; what was done before stands.
+    pub fn feed<W: ByteOut, A: ByteOut>(
         &mut self,
         conn: u32,
         moment: Moment,
         piece: &[u8],
         replies: &mut W,
+        audit: &mut A,
     ) -> Result<u64, SessionFault>
         ensures unknown { IsErrOf result SessionFault.UnknownConnection ↔ (is_joined conn self.old.joined ≡ false) }
         ensures ended { IsErrOf result SessionFault.Ended ↔ (has_ended conn self.old.joined ≡ true) }
-        ensures stays { is_joined conn self.old.joined ≡ false ⊎ has_ended conn self.old.joined ≡ true → (self.new ≡ self.old) × (replies.new ≡ replies.old) }
+        ensures stays { is_joined conn self.old.joined ≡ false ⊎ has_ended conn self.old.joined ≡ true →
+            (self.new ≡ self.old) × (replies.new ≡ replies.old) × (audit.new ≡ audit.old) }
         ensures ok { OnOk result (IfSome self.new.joined (λ j. (j.number ≡ conn) × (j.ended ≡ false))) }
         ensures some { IsSome self.old.joined → IsSome self.new.joined }
-        ensures same { IfSome self.old.joined (λ old. IfSome self.new.joined (λ new. (new.addr ≡ old.addr) × (new.progress.limit ≡ old.progress.limit))) }
+        ensures same { IfSome self.old.joined (λ old.
+            IfSome self.new.joined (λ new. (new.addr ≡ old.addr) × (new.progress.limit ≡ old.progress.limit))) }
         ensures fault { OnErr result ((self.new ≡ self.old) ⊎ (has_ended conn self.new.joined ≡ true)) }
         ensures setup { self.new.server.setup ≡ self.old.server.setup }
     {
@@ -200,6 +209,7 @@ impl Sessions {
                     moment,
                     piece,
                     replies,
+                    audit,
                 )
             }
             _ => Err(SessionFault::UnknownConnection),
@@ -208,17 +218,19 @@ impl Sessions {
 }
 
 // The next bytes of a connection's stream, if it has not ended. A fault ends it.
-fn feed_one<W: ByteOut>(
+fn feed_one<W: ByteOut, A: ByteOut>(
     server: &mut Server,
     reply: &mut ReplyBuf,
     connection: &mut Connection,
     moment: Moment,
     piece: &[u8],
     replies: &mut W,
+    audit: &mut A,
 ) -> Result<u64, SessionFault>
     requires { connection.old.ended ≡ false → IsBetween connection.old.framer }
     ensures ended { IsErrOf result SessionFault.Ended ↔ (connection.old.ended ≡ true) }
-    ensures stays { connection.old.ended ≡ true → (server.new ≡ server.old) × (connection.new ≡ connection.old) × (replies.new ≡ replies.old) }
+    ensures stays { connection.old.ended ≡ true →
+        (server.new ≡ server.old) × (connection.new ≡ connection.old) × (replies.new ≡ replies.old) × (audit.new ≡ audit.old) }
     ensures number { connection.new.number ≡ connection.old.number }
     ensures addr { connection.new.addr ≡ connection.old.addr }
     ensures limit { connection.new.framer.limit ≡ connection.old.framer.limit }
@@ -239,6 +251,7 @@ fn feed_one<W: ByteOut>(
         moment,
         piece,
         replies,
+        audit,
     );
     if taken.is_err() {
         connection.ended = true;
@@ -247,7 +260,7 @@ fn feed_one<W: ByteOut>(
 }
 
 // Answers each record that the piece makes whole.
-fn take_piece<W: ByteOut>(
+fn take_piece<W: ByteOut, A: ByteOut>(
     server: &mut Server,
     reply: &mut ReplyBuf,
     framer: &mut Framer,
@@ -255,6 +268,7 @@ fn take_piece<W: ByteOut>(
     moment: Moment,
     piece: &[u8],
     replies: &mut W,
+    audit: &mut A,
 ) -> Result<u64, SessionFault>
     requires { IsBetween framer.old }
     ensures setup { server.new.setup ≡ server.old.setup }
@@ -277,9 +291,31 @@ fn take_piece<W: ByteOut>(
         };
         let handled = server.handle(event, reply);
         records += 1;
-        if handled == Handled::Answered && write_all(replies, reply.sealed()).is_err() {
-            return Err(SessionFault::WriteFault);
+        if handled == Handled::Answered {
+            write_answer(server.last_audit(), reply, replies, audit)?;
         }
         framer.next();
     }
+}
+
+// The audit line of a call, if it has one, and then its reply.
+fn write_answer<W: ByteOut, A: ByteOut>(
+    denied: Option<AuditLine>,
+    reply: &ReplyBuf,
+    replies: &mut W,
+    audit: &mut A,
+) -> Result<(), SessionFault>
+    ensures fault { IfErr result (λ e. (e ≡ SessionFault.AuditFault) ⊎ (e ≡ SessionFault.WriteFault)) }
+{
+    if let Some(denied) = denied {
+        let mut line = Line::new();
+        denied.put(&mut line);
+        if write_all(audit, line.as_slice()).is_err() {
+            return Err(SessionFault::AuditFault);
+        }
+    }
+    if write_all(replies, reply.sealed()).is_err() {
+        return Err(SessionFault::WriteFault);
+    }
+    Ok(())
 }

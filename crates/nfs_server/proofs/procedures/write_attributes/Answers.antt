@@ -1,5 +1,0 @@
-use Rattle.nfs_xdr.proofs.Writing.{appends_then}
-use Rattle.nfs_server.proofs.procedures.write_attributes.Goals as goal
-
-pub returns : goal.returns
-returns c = appends_then _ _ _ _ _ c.u32.ensures.text c.write_fattr.ensures.text
