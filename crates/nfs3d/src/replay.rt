@@ -40,13 +40,7 @@ pub fn replay<W: ByteOut>(
     ensures { IfErr result IsOfReplay }
 {
     let mut player = Player::new(alloc, loaded, cache)?;
-    for (index, line) in script.split(|b| *b == b'\n').enumerate() {
-        if let Err(fault) = player.line(line, out) {
-            player.run_calls(out)?;
-            return Err(fault.at(index as u64));
-        }
-    }
-    Ok(player.run_calls(out)?)
+    player.play(script, out)
 }
 
 // What is wrong with a line, or the fault of what it asks for.
@@ -129,6 +123,19 @@ impl Player {
             printer: Printer::new(alloc),
             calls: Vec::new(alloc),
         })
+    }
+
+    // Runs the lines of a script in order.
+    fn play<W: ByteOut>(&mut self, script: &[u8], out: &mut W) -> Result<(), ReplayFault>
+        ensures { IfErr result IsOfReplay }
+    {
+        for (index, line) in script.split(|b| *b == b'\n').enumerate() {
+            if let Err(fault) = self.line(line, out) {
+                self.run_calls(out)?;
+                return Err(fault.at(index as u64));
+            }
+        }
+        Ok(self.run_calls(out)?)
     }
 
     // What a line asks for. A call waits for those that follow it; anything else comes after the

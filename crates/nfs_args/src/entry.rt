@@ -19,6 +19,7 @@ pub struct Entry<'a> {
 }
 
 /// Writes an entry of a chain: that there is one, and the entry.
+#[inline(always)]
 pub fn write_entry(out: &mut Output, entry: &Entry<'_>)
     requires fits { EntryFits entry.now }
     requires room { length (chained_text entry_text entry.now) ≤ out.old.room }

@@ -24,6 +24,7 @@ pub struct EntryPlus<'a> {
 }
 
 /// Writes an entry of a chain: that there is one, and the entry.
+#[inline(always)]
 pub fn write_entry_plus(out: &mut Output, entry: &EntryPlus<'_>)
     requires fits { EntryPlusFits entry.now }
     requires room { length (chained_text entry_plus_text entry.now) ≤ out.old.room }

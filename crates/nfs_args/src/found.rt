@@ -21,6 +21,7 @@ pub struct Found<'a> {
 }
 
 /// Writes the file that was found.
+#[inline(always)]
 pub fn write_found(out: &mut Output, answer: &Found<'_>)
     requires fits { FoundFits answer.now }
     requires room { length (found_text answer.now) ≤ out.old.room }

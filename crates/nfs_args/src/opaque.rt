@@ -72,6 +72,7 @@ pub(crate) fn verifier_of<'a>(input: &mut Input<'a>) -> Result<Opaque<'a>, XdrFa
 }
 
 // A handle: at most 64 bytes.
+#[inline(always)]
 pub(crate) fn write_handle(out: &mut Output, handle: &Opaque<'_>)
     requires bound { length handle.now ≤ 64 }
     requires room { length (opaque_text handle.now) ≤ out.old.room }

@@ -103,6 +103,7 @@ fn fattr_of(bytes: &[u8]) -> Result<(Fattr, Input<'_>), XdrFault>
 }
 
 /// Writes the attributes of a file.
+#[inline(always)]
 pub fn write_fattr(out: &mut Output, attributes: &Fattr)
     requires { 84 ≤ out.old.room }
     ensures text { Appends (fattr_text attributes.now) out.old out.new }
@@ -168,6 +169,7 @@ fn post_op_attr_of(bytes: &[u8]) -> Result<(Option<Fattr>, Input<'_>), XdrFault>
 }
 
 /// Writes the attributes of a file, or that there are none (RFC 1813, section 2.6, post_op_attr).
+#[inline(always)]
 pub fn write_post_op_attr(out: &mut Output, attributes: Option<&Fattr>)
     requires { length (post_op_attr_text (option_copied attributes)) ≤ out.old.room }
     ensures text { Appends (post_op_attr_text (option_copied attributes.entry)) out.old out.new }

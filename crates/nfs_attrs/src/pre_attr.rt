@@ -90,6 +90,7 @@ fn pre_op_attr_of(bytes: &[u8]) -> Result<(Option<PreAttr>, Input<'_>), XdrFault
 }
 
 /// Writes a file's size and times, or that there are none (RFC 1813, section 2.6, pre_op_attr).
+#[inline(always)]
 pub fn write_pre_op_attr(out: &mut Output, attributes: Option<PreAttr>)
     requires { length (pre_op_attr_text attributes) ≤ out.old.room }
     ensures text { Appends (pre_op_attr_text attributes) out.old out.new }

@@ -43,6 +43,7 @@ fn wcc_of(bytes: &[u8]) -> Result<(Wcc, Input<'_>), XdrFault>
 }
 
 /// Writes the attributes before and after an operation.
+#[inline(always)]
 pub fn write_wcc(out: &mut Output, wcc: &Wcc)
     requires { length (wcc_text wcc.now) ≤ out.old.room }
     ensures text { Appends (wcc_text wcc.now) out.old out.new }

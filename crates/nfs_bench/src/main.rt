@@ -9,6 +9,7 @@ mod changes;
 mod described;
 mod framing;
 mod null_call;
+mod pages;
 mod procedures;
 mod tree;
 
@@ -34,6 +35,7 @@ fn run<R: Env + Clock + Print + AllocGlobal>(rt: &R) -> io::Result<()> {
             arguments::fixed(rt)?;
             answers::each(rt, false)?;
             tree::fixed(rt)?;
+            pages::fixed(rt)?;
             changes::fixed(rt)
         }
         Some(word) if word.as_str() == "framing" => framing::measure(rt),
@@ -48,6 +50,9 @@ fn run<R: Env + Clock + Print + AllocGlobal>(rt: &R) -> io::Result<()> {
         Some(word) if word.as_str() == "tree-100000" => tree::measure(rt, 100),
         Some(word) if word.as_str() == "changes-1000" => changes::measure(rt, 1),
         Some(word) if word.as_str() == "changes-100000" => changes::measure(rt, 100),
+        Some(word) if word.as_str() == "pages" => pages::measure(rt),
+        Some(word) if word.as_str() == "pages-100" => pages::measure_whole(rt, 100),
+        Some(word) if word.as_str() == "pages-10000" => pages::measure_whole(rt, 10_000),
         Some(word) if word.as_str() == "write" => tree::measure_write(rt),
         Some(word) if word.as_str() == "hold-0" => tree::hold(rt, 0),
         Some(word) if word.as_str() == "hold-100000" => tree::hold(rt, 100),

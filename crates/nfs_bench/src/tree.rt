@@ -89,19 +89,24 @@ pub(crate) fn grown(alloc: Global, thousands: u32) -> Result<Tree, AllocError> {
         tree.add_volume(b"/", 1_000_000, 1_000_000, &GIVEN, START)?;
     }
     for place in 0..thousands {
-        fill(alloc, &mut tree, place)?;
+        fill(alloc, &mut tree, place, FILES)?;
     }
     Ok(tree)
 }
 
-// One directory of a thousand files.
-fn fill(alloc: Global, tree: &mut Tree, place: u32) -> Result<(), AllocError> {
+/// One directory of so many empty files.
+pub(crate) fn fill(
+    alloc: Global,
+    tree: &mut Tree,
+    place: u32,
+    files: u32,
+) -> Result<(), AllocError> {
     let name = letters(place);
     if !tree.may_make_dir(Number(1), &name) {
         return Ok(());
     }
     let dir = tree.make_dir(Number(1), &name, &GIVEN, START)?;
-    for file in 0..FILES {
+    for file in 0..files {
         let name = letters(file);
         if tree.may_make(dir, &name, 0) {
             tree.make_file(dir, &name, Vec::new(alloc), &GIVEN, None, START)?;

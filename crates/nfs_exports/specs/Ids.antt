@@ -1,7 +1,6 @@
 -- By which ids a caller is judged (exports(5), "User ID Mapping").
 use Rattle.std.specs.Prelude.{ℕ, List, [], map, nat_eq, if◌then◌else◌}
 use Rattle.nfs_rpc.specs.AuthSys.{Credential}
-use Rattle.nfs_exports.specs.declared.squash.Ids as kept
 use Rattle.nfs_exports.specs.declared.options.Options.{Options}
 use Rattle.nfs_exports.specs.declared.options.Squash.{Squash}
 use Rattle.nfs_exports.specs.declared.options.Squash.TheVariants.{No, Root, All}
@@ -27,7 +26,3 @@ squash_as All options cred = record { uid = options.anonuid; gid = options.anong
 -- the ids that the options leave to a caller
 abbrev pub squash : Options → Credential → Ids
 squash options cred = squash_as options.squash options cred
-
--- ids as they are in memory
-abbrev pub ids_of : kept.Ids → Ids
-ids_of ids = record { uid = ids.uid; gid = ids.gid; gids = ids.gids.items }

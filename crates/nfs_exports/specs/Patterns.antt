@@ -1,9 +1,9 @@
 -- Which addresses a pattern covers, and how it is written (exports(5), "Machine Name Formats").
-use Rattle.std.specs.Prelude.{ℕ, ◌-◌, ◌/◌, ◌^◌, Bool, List, [], ◌∷◌, Option, Some, None, option_map, if◌then◌else◌, length, nat_eq, nat_lt, bytes_eq}
+use Rattle.std.specs.Prelude.{ℕ, ◌-◌, ◌/◌, ◌%◌, ◌^◌, Bool, List, [], ◌∷◌, ◌++◌, Option, Some, None, option_map, if◌then◌else◌, length, nat_eq, nat_lt, bytes_eq, codes, decimal}
 use Rattle.std.specs.Borrow.{Bor}
 use Rattle.nfs_text.specs.Numbers.{decimal_of}
 use Rattle.nfs_text.specs.Pieces.{cut}
-use Rattle.nfs_exports.specs.Addresses.{◌>>=◌, address_of}
+use Rattle.nfs_exports.specs.Addresses.{◌>>=◌, addr_text, address_of}
 use Rattle.nfs_exports.specs.declared.addr.Addr.{Addr}
 use Rattle.nfs_exports.specs.declared.pattern.Pattern.{Pattern}
 
@@ -37,6 +37,16 @@ any = record { address = record { 0 = 0 }; bits = 0 }
 -- the pattern that a text says: `*`, an address, or a network
 abbrev pub pattern_of : List ℕ → Option Pattern
 pattern_of text = if bytes_eq text (42 ∷ []) then Some any else network_of (cut 47 text)
+
+-- the first address of the network of a pattern: its other bits are 0
+abbrev pub network : Pattern → Addr
+network pattern = record { 0 = pattern.address.0 - pattern.address.0 % 2 ^ (32 - pattern.bits) }
+
+-- a pattern as text: `*`, an address, or a network with its number of bits
+abbrev pub pattern_text : Pattern → List ℕ
+pattern_text pattern =
+    if nat_eq pattern.bits 0 then codes "*"
+    else (if nat_lt pattern.bits 32 then addr_text (network pattern) ++ codes "/" ++ decimal pattern.bits else addr_text pattern.address)
 
 -- a text as clauses see it
 abbrev pub text_behind : Option (Bor (List ℕ)) → Option (List ℕ)

@@ -11,7 +11,7 @@ use nfs_text::pieces::Pieces;
 use thiserror::Error;
 
 /// An IPv4 address, the first of its four bytes the most significant.
-#[derive(Clone, Copy, Debug, PartialEq, Eq)]
+#[derive(Clone, Copy, Debug, PartialEq, Eq, Hash)]
 pub struct Addr(pub u32);
 
 /// A text is no address.
@@ -67,7 +67,7 @@ fn part(text: &[u8]) -> Option<u8>
 pub fn put_addr(line: &mut Line, addr: Addr)
     requires { array_vec_len line.old + 83 ≤ 1024 }
     ensures items { line.new.items ≡ line.old.items ++ addr_text addr }
-    ensures len { array_vec_len line.new ≤ array_vec_len line.old + 83 }
+    ensures len { array_vec_len line.new ≤ array_vec_len line.old + 15 }
 {
     put_number(line, b"", u64::from(addr.0 / 16_777_216));
     put_number(line, b".", u64::from(addr.0 / 65_536 % 256));

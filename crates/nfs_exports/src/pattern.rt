@@ -1,10 +1,12 @@
 //! Networks of addresses.
-ghost use Rattle.std.specs.Prelude.{◌≡◌};
+ghost use Rattle.std.specs.Prelude.{◌≡◌, ◌+◌, ◌≤◌, ◌++◌};
 ghost use Rattle.std.specs.Result.{result_ok};
 ghost use Rattle.nfs_exports.specs.Patterns as spec;
-ghost use Rattle.nfs_exports.specs.Patterns.{covers, pattern_of};
+ghost use Rattle.arrayvec.specs.ArrayVec.{array_vec_len};
+ghost use Rattle.nfs_exports.specs.Patterns.{covers, network, pattern_of, pattern_text};
 
-use crate::addr::{Addr, parse_addr};
+use crate::addr::{Addr, parse_addr, put_addr};
+use nfs_text::line::{Line, put, put_number};
 use nfs_text::number::decimal;
 use nfs_text::pieces::cut;
 use thiserror::Error;
@@ -77,4 +79,33 @@ fn bits(text: &[u8]) -> Option<u32>
     }
     let value = decimal(text, u64::from(ADDRESS_BITS))?;
     Some(value as u32)
+}
+
+/// Puts a pattern at the end of a line: `*` where it covers every address, an address `a.b.c.d` where
+/// it covers this one alone, and else its network `a.b.c.d/n`, where the bits that don't decide are 0.
+pub fn put_pattern(line: &mut Line, pattern: Pattern)
+    requires { array_vec_len line.old + 83 ≤ 1024 }
+    ensures items { line.new.items ≡ line.old.items ++ pattern_text pattern }
+    ensures len { array_vec_len line.new ≤ array_vec_len line.old + 18 }
+{
+    if pattern.bits == 0 {
+        put(line, b"*");
+        return;
+    }
+    if pattern.bits >= ADDRESS_BITS {
+        put_addr(line, pattern.address);
+        return;
+    }
+    put_addr(line, network(pattern));
+    put_number(line, b"/", u64::from(pattern.bits));
+}
+
+// The first address of a network.
+fn network(pattern: Pattern) -> Addr
+    requires { pattern.bits ≤ 32 }
+    ensures { result ≡ network pattern }
+{
+    let others = 1u64 << (ADDRESS_BITS - pattern.bits);
+    let addr = u64::from(pattern.address.0);
+    Addr((addr - addr % others) as u32)
 }

@@ -1,6 +1,6 @@
 //! What is exported to whom (exports(5)): for each volume, patterns of addresses in order, each
 //! with its options.
-ghost use Rattle.std.specs.Prelude.{◌≡◌, ◌<◌, [], ◌∷◌, ◌++◌, length, OnOk, OnErr, option_copied};
+ghost use Rattle.std.specs.Prelude.{◌≡◌, ◌<◌, ◌≤◌, [], ◌∷◌, ◌++◌, length, OnOk, OnErr, option_copied};
 ghost use Rattle.nfs_exports.specs.Tables.{added, exports_of, grant, lists, pattern_count};
 
 use crate::addr::Addr;
@@ -27,7 +27,7 @@ pub struct Table {
 }
 
 impl Model for Table {
-    ghost use Rattle.std.specs.Prelude.{◌≡◌, List};
+    ghost use Rattle.std.specs.Prelude.{◌≡◌, ◌≤◌, List};
     ghost use Rattle.nfs_exports.specs.Tables.{lists, pattern_count};
     ghost use Rattle.nfs_exports.specs.declared.table.Export.{Export};
 
@@ -35,7 +35,7 @@ impl Model for Table {
 
     ghost view = { λ a. lists a.volumes.items };
 
-    ghost invariant = { λ a. a.count ≡ pattern_count (lists a.volumes.items) };
+    ghost invariant = { λ a. (a.count ≡ pattern_count (lists a.volumes.items)) × (a.count ≤ 256) };
 }
 
 impl Table {
@@ -48,6 +48,14 @@ impl Table {
             volumes: Vec::new(alloc),
             count: 0,
         }
+    }
+
+    /// What always holds of the table, for proofs: it has at most 256 patterns, those of all volumes
+    /// together.
+    pub fn law(&self)
+        ensures { pattern_count self.now ≤ 256 }
+    {
+        let _ = &self.count;
     }
 
     /// The number of patterns, those of all volumes together.

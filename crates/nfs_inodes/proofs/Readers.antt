@@ -18,7 +18,7 @@ use Rattle.nfs_inodes.specs.Counts.{CountedFile, CountedVolume, Agrees, tree_in,
 use Rattle.nfs_inodes.specs.Storage.{file_of, kind_of, counted_files, counted_volume_of, volume_of, counted_tree_of}
 use Rattle.nfs_inodes.specs.Reading.{attributes_of, attributes_at, kind_at, listing, listing_at, bytes_at, totals_at, numbered_files, IsFirstChunk}
 use Rattle.nfs_inodes.specs.Views.{kind_seen, bytes_seen, IsSeen}
-use Rattle.nfs_inodes.specs.declared.view.FileView.{FileView}
+use Rattle.nfs_inodes.specs.Views.{FileView}
 use Rattle.nfs_inodes.proofs.Maps.{at_shows}
 use Rattle.nfs_inodes.proofs.StoredFiles.{counted_file, at_counted_file}
 use Rattle.nfs_inodes.proofs.Lists.{same_some, not_both}

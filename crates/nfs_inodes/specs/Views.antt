@@ -1,13 +1,13 @@
 -- What readers lend, as values.
 use Rattle.std.specs.Prelude.{◌≡◌, ℕ, List, Some, map}
 use Rattle.nfs_inodes.specs.Tree.{Tree, Kind, Entry, Volume, bytes_in}
-use Rattle.nfs_inodes.specs.Storage.{entry_of, kind_of}
+use Rattle.nfs_attrs.specs.declared.fattr.Fattr.{Fattr}
+use Rattle.nfs_inodes.specs.Storage.{entry_of}
 use Rattle.nfs_inodes.specs.Reading.{attributes_at, kind_at, numbered_files}
 use Rattle.nfs_handles.specs.Handles.{reading, number}
 use Rattle.nfs_handles.specs.declared.reading.Reading.TheVariants.{Live}
 use Rattle.nfs_inodes.specs.declared.directory.EntryView.{EntryView}
 use Rattle.nfs_inodes.specs.declared.directory.Entries.{Entries}
-use Rattle.nfs_inodes.specs.declared.view.FileView.{FileView}
 use Rattle.nfs_inodes.specs.declared.volumes.VolumeView.{VolumeView}
 
 abbrev pub entry_seen : EntryView → Entry
@@ -20,8 +20,13 @@ entries_left it = map entry_of it.entries.now
 abbrev pub volume_seen : VolumeView → Volume
 volume_seen v = record { path = v.path.now; max_bytes = v.max_bytes; max_files = v.max_files; root = v.root.0 }
 
+-- a file that lives
+pub record FileView : Type 0 where
+  pub attributes : Fattr
+  pub kind : Kind
+
 abbrev pub kind_seen : FileView → Kind
-kind_seen v = kind_of v.node.now
+kind_seen v = v.kind
 
 -- the bytes of a regular file; of another none
 abbrev pub bytes_seen : FileView → List ℕ

@@ -21,7 +21,7 @@ impl Tree {
         ensures { result ≡ attributes_at self.now number.0 }
     {
         match self.view(number) {
-            Some(file) => Some(file.attributes),
+            Some(file) => Some(file.attributes()),
             None => None,
         }
     }

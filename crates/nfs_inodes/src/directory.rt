@@ -55,7 +55,7 @@ impl<'a> FileView<'a> {
     pub fn entries(&self) -> Entries<'a>
         ensures { entries_left result ≡ entries_in (kind_seen self.now) }
     {
-        match self.node {
+        match self.node() {
             Node::Directory { entries, .. } => Entries {
                 entries: entries.as_slice(),
             },

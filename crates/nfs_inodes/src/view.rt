@@ -15,13 +15,27 @@ use crate::stored_file::{Node, StoredFile};
 use crate::tree::Tree;
 use nfs_attrs::fattr::Fattr;
 use nfs_handles::number::Number;
+use std::marker::Model;
 
-/// A file that lives: its attributes, and what is read of it without a search.
-#[derive(Clone, Copy)]
+/// A file that lives, whose attributes and content are read without a search.
+#[derive(Drop)]
 pub struct FileView<'a> {
-    /// Its attributes (RFC 1813, section 2.6, fattr3).
-    pub attributes: Fattr,
-    pub(crate) node: &'a Node,
+    stored_file: &'a StoredFile,
+    number: Number,
+}
+
+impl<'a> Model for FileView<'a> {
+    ghost use Rattle.std.specs.Prelude.{◌<◌};
+    ghost use Rattle.nfs_inodes.specs.Limits.{max_volumes};
+    ghost use Rattle.nfs_inodes.specs.Reading.{attributes_of};
+    ghost use Rattle.nfs_inodes.specs.Storage.{file_of, kind_of};
+    ghost use Rattle.nfs_inodes.specs.Views as seen;
+
+    ghost Value = { seen.FileView };
+
+    ghost view = { λ a. record { attributes = attributes_of a.number.0 (file_of 0 a.stored_file.now) a.stored_file.now.nlink; kind = kind_of a.stored_file.now.node } };
+
+    ghost invariant = { λ a. a.stored_file.now.volume < max_volumes };
 }
 
 impl<'a> FileView<'a> {
@@ -33,16 +47,43 @@ impl<'a> FileView<'a> {
         ensures kind { kind_seen result ≡ kind_of stored_file.now.node }
     {
         FileView {
-            attributes: attributes_of(stored_file, number),
-            node: &stored_file.node,
+            stored_file,
+            number,
         }
+    }
+
+    /// Its attributes (RFC 1813, section 2.6, fattr3).
+    #[inline(always)]
+    pub fn attributes(&self) -> Fattr
+        ensures { result ≡ self.now.attributes }
+    {
+        attributes_of(self.stored_file, self.number)
+    }
+
+    /// The same file, lent once more.
+    #[inline(always)]
+    pub fn copied(&self) -> FileView<'a>
+        ensures { result ≡ self.now }
+    {
+        FileView {
+            stored_file: self.stored_file,
+            number: self.number,
+        }
+    }
+
+    // What is kept of it beside its attributes.
+    #[inline(always)]
+    pub(crate) fn node(&self) -> &'a Node
+        ensures { kind_of result.now ≡ kind_seen self.now }
+    {
+        &self.stored_file.node
     }
 
     /// Its number.
     pub fn number(&self) -> Number
         ensures { result.0 ≡ self.now.attributes.fileid }
     {
-        Number(self.attributes.fileid)
+        self.number
     }
 
     /// The bytes of this regular file from an offset on: a first run of them, which has one where
@@ -50,7 +91,7 @@ impl<'a> FileView<'a> {
     pub fn bytes_at(&self, offset: usize) -> &'a [u8]
         ensures { IsFirstChunk result.now (drop offset (bytes_seen self.now)) }
     {
-        run_from(self.node, offset)
+        run_from(self.node(), offset)
     }
 }
 
@@ -78,7 +119,7 @@ impl Tree {
         ensures none { IfNone result (number_under self.now dir.now.attributes.fileid name.now ≡ None) }
     {
         self.law();
-        match under_name(dir.node, dir.number(), name) {
+        match under_name(dir.node(), dir.number(), name) {
             Some(number) => match self.view(number) {
                 Some(file) => Some(file),
                 None => unreachable!(),

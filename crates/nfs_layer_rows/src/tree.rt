@@ -186,7 +186,7 @@ fn handle(alloc: Global, tree: &Tree, words: &mut SplitWhitespace<'_>) -> Option
 fn named(alloc: Global, tree: &Tree, words: &mut SplitWhitespace<'_>) -> Option<String> {
     let handle = bytes(alloc, words)?;
     match tree.find(handle.as_slice()) {
-        Ok(file) => told(alloc, file.attributes),
+        Ok(file) => told(alloc, file.attributes()),
         Err(why) => told(alloc, why),
     }
 }

@@ -30,7 +30,7 @@ pub(crate) fn answer(
 // The number, mode and size of a file.
 fn of(alloc: Global, tree: &Tree, number: Number) -> Option<String> {
     let file = tree.view(number)?;
-    let attributes = file.attributes;
+    let attributes = file.attributes();
     told(alloc, (file.number(), attributes.mode, attributes.size))
 }
 
@@ -38,7 +38,7 @@ fn of(alloc: Global, tree: &Tree, number: Number) -> Option<String> {
 fn find(alloc: Global, tree: &Tree, words: &mut SplitWhitespace<'_>) -> Option<String> {
     let dir = tree.view(Number(number(words)?))?;
     let name = name(alloc, words)?;
-    let found = tree.find_in(&dir, name.as_slice())?.attributes.fileid;
+    let found = tree.find_in(&dir, name.as_slice())?.attributes().fileid;
     told(alloc, found)
 }
 

@@ -6,7 +6,7 @@ use Rattle.nfs_inodes.specs.Tree.{Tree, File, Entry, Kind, at, entries_in, nlink
 use Rattle.nfs_inodes.specs.Law.{Law}
 use Rattle.nfs_inodes.specs.Reading.{attributes_of}
 use Rattle.nfs_inodes.specs.Views.{IsSeen, kind_seen}
-use Rattle.nfs_inodes.specs.declared.view.FileView.{FileView}
+use Rattle.nfs_inodes.specs.Views.{FileView}
 use Rattle.nfs_load.specs.Listings.{file_text, text_at, view_text}
 
 abbrev pub AreShort : List Entry → Type 0

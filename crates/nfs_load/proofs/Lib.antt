@@ -4,3 +4,4 @@ pub mod Descriptions
 pub mod Contents
 pub mod Writes
 pub mod Entries
+pub mod Statements

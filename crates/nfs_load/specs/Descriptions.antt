@@ -1,6 +1,7 @@
 -- What a description says: its lines in turn, each from what those before it made.
-use Rattle.std.specs.Prelude.{◌≡◌, ◌⊎◌, ℕ, ◌+◌, ◌-◌, ◌<◌, ◌≤◌, List, [], ◌∷◌, ◌++◌, length, slice_get, Option, Some, None, option_map, Result, Ok, Err, OnOk, if◌then◌else◌, nat_eq}
+use Rattle.std.specs.Prelude.{◌≡◌, ◌⊎◌, ℕ, ◌+◌, ◌-◌, ◌<◌, ◌≤◌, List, [], ◌∷◌, ◌++◌, length, slice_get, Option, Some, None, option_map, Result, Ok, Err, IsOk, if◌then◌else◌, nat_eq}
 use Rattle.nfs_exports.specs.Tables.{added, pattern_count}
+use Rattle.nfs_inodes.specs.Conditions.{MayAddVolume}
 use Rattle.nfs_inodes.specs.Tree.{Tree, Volume}
 use Rattle.nfs_text.specs.Lines.{lines}
 use Rattle.nfs_load.specs.declared.cause.Cause.{Cause}
@@ -13,18 +14,12 @@ use Rattle.nfs_load.specs.declared.loaded.Loaded.{Loaded}
 use Rattle.nfs_load.specs.declared.refusal.Refusal.{Refusal}
 use Rattle.nfs_load.specs.declared.refusal.Refusal.TheVariants.{Fault, Memory}
 use Rattle.nfs_load.specs.declared.statement.ExportLine.{ExportLine}
-use Rattle.nfs_load.specs.Effects.{AddsVolume, MakesDir, MakesFile, MakesLink, AddsName}
+use Rattle.nfs_load.specs.Effects.{AddsVolume, IsOpen, MakesDir, MakesFile, MakesLink, AddsName, free_path}
 use Rattle.nfs_load.specs.Fields.{◌>>=◌, by, key_in}
 use Rattle.nfs_load.specs.Lines.{Line, shape}
-use Rattle.nfs_load.specs.Statements.{Read, VolumeLine, volume_in, export_in, dir_in, file_in, link_in, hard_in}
+use Rattle.nfs_load.specs.Statements.{Read, VolumeLine, WantsContent, volume_in, export_in, dir_in, file_in, link_in, hard_in}
 
 -- ---- one line
-
--- want of memory says nothing of a line
-abbrev pub UnlessMemory : Result Unit Refusal → Type 0 → Type 0
-UnlessMemory (Ok x) P = P
-UnlessMemory (Err (Fault cause)) P = P
-UnlessMemory (Err Memory) P = Unit {0}
 
 abbrev pub IsFault : Cause → Result Unit Refusal → Type 0
 IsFault cause result = result ≡ Err (Fault cause)
@@ -52,7 +47,9 @@ InVolume old result Done = InRoot (last_root old.tree) result Done
 
 -- a further volume has no exports yet
 abbrev pub VolumeTaken : Loaded → VolumeLine → Result Unit Refusal → Loaded → Type 0
-VolumeTaken old line result new = AddsVolume old.tree line result new.tree × OnOk result (new.table ≡ old.table ++ [] ∷ [])
+VolumeTaken old line (Ok x) new = AddsVolume old.tree line (Ok x) new.tree × (new.table ≡ old.table ++ [] ∷ [])
+VolumeTaken old line (Err (Fault cause)) new = AddsVolume old.tree line (Err (Fault cause)) new.tree
+VolumeTaken old line (Err Memory) new = IsOpen (free_path old.tree line.path) (λ path. MayAddVolume old.tree path line.max_files)
 
 -- the export is the last of the last volume; there are at most 256
 abbrev pub with_export : Loaded → ExportLine → Loaded
@@ -61,11 +58,15 @@ with_export old line = record old { table = added old.table (length old.tree.vol
 abbrev pub ExportDone : Loaded → ExportLine → Result Unit Refusal → Loaded → Type 0
 ExportDone old line (Ok x) new = (pattern_count old.table < 256) × (new ≡ with_export old line)
 ExportDone old line (Err (Fault cause)) new = (256 ≤ pattern_count old.table) × (cause ≡ Full)
-ExportDone old line (Err Memory) new = Unit {0}
+ExportDone old line (Err Memory) new = pattern_count old.table < 256
 
 -- a line that leaves the table
 abbrev pub OnTree : {A : Type 0} → Read A → (Tree → ℕ → A → Result Unit Refusal → Tree → Type 0) → Loaded → Result Unit Refusal → Loaded → Type 0
 OnTree read Done old result new = InVolume old result (λ root. Then read result (λ line. Done old.tree root line result new.tree × (new.table ≡ old.table)))
+
+-- a file, or its content wants memory
+abbrev pub FileDone : Loaded → List (List ℕ) → Result Unit Refusal → Loaded → Type 0
+FileDone old fields result new = OnTree (file_in fields) MakesFile old result new ⊎ ((result ≡ Err Memory) × IsOk (last_root old.tree) × WantsContent fields)
 
 -- A line with this keyword and these fields, behind the server line.
 abbrev pub GoesOn : Loaded → Keyword → List (List ℕ) → Result Unit Refusal → Loaded → Type 0
@@ -73,7 +74,7 @@ GoesOn old keyword.Server fields result new = IsFault ServerTwice result
 GoesOn old keyword.Volume fields result new = Then (volume_in fields) result (λ line. VolumeTaken old line result new)
 GoesOn old keyword.Export fields result new = InVolume old result (λ root. Then (export_in fields) result (λ line. ExportDone old line result new))
 GoesOn old keyword.Dir fields result new = OnTree (dir_in fields) MakesDir old result new
-GoesOn old keyword.File fields result new = OnTree (file_in fields) MakesFile old result new
+GoesOn old keyword.File fields result new = FileDone old fields result new
 GoesOn old keyword.Link fields result new = OnTree (link_in fields) MakesLink old result new
 GoesOn old keyword.Hard fields result new = OnTree (hard_in fields) AddsName old result new
 
@@ -116,8 +117,8 @@ abbrev pub finished : Option Loaded → Result Loaded Cause
 finished None = Err NoServer
 finished (Some loaded) = if nat_eq (length loaded.tree.volumes) 0 then Err NoVolume else Ok loaded
 
--- the first faulty line: those before it are in order
-pub record IsFaulty (all : List (List ℕ)) (number : ℕ) (cause : Cause) : Type 0 where
+-- the first line that is not done: those before it are in order
+pub record StopsAt (all : List (List ℕ)) (number : ℕ) (refusal : Refusal) : Type 0 where
   pub before : List (List ℕ)
   pub line : List ℕ
   pub behind : List (List ℕ)
@@ -126,7 +127,7 @@ pub record IsFaulty (all : List (List ℕ)) (number : ℕ) (cause : Cause) : Typ
   pub old : Option Loaded
   pub in_order : Through None before old
   pub new : Option Loaded
-  pub fault : LineDone old line (Err (Fault cause)) new
+  pub refused : LineDone old line (Err refusal) new
 
 -- all lines are in order, and what is missing is told for the line behind them
 pub record IsUnfinished (all : List (List ℕ)) (number : ℕ) (cause : Cause) : Type 0 where
@@ -135,8 +136,8 @@ pub record IsUnfinished (all : List (List ℕ)) (number : ℕ) (cause : Cause) :
   pub in_order : Through None all old
   pub missing : finished old ≡ Err cause
 
--- A text is a tree and a table, or it has a first faulty line with its first cause.
+-- A text is a tree and a table, or it has a first faulty line with its first cause, or one for which there is no memory.
 abbrev pub Describes : List ℕ → Result Loaded LoadError → Type 0
 Describes text (Ok loaded) = Through None (lines text) (Some loaded) × (finished (Some loaded) ≡ Ok loaded)
-Describes text (Err (error.Fault number cause)) = IsFaulty (lines text) number cause ⊎ IsUnfinished (lines text) number cause
-Describes text (Err error.Memory) = Unit {0}
+Describes text (Err (error.Fault number cause)) = StopsAt (lines text) number (Fault cause) ⊎ IsUnfinished (lines text) number cause
+Describes text (Err error.Memory) = (number : ℕ) × StopsAt (lines text) number Memory

@@ -1,5 +1,5 @@
 -- Fields that are a key or numbers: the value, or the cause.
-use Rattle.std.specs.Prelude.{◌≡◌, ℕ, Bool, ◌&&◌, List, [], ◌∷◌, length, Option, Some, None, Result, Ok, Err, if◌then◌else◌, nat_lt, nat_le, bytes_eq, codes}
+use Rattle.std.specs.Prelude.{◌≡◌, ◌≤◌, ◌*◌, ◌%◌, ℕ, Bool, false, ◌&&◌, List, [], ◌∷◌, length, Option, Some, None, Result, Ok, Err, if◌then◌else◌, nat_lt, nat_le, bytes_eq, codes}
 use Rattle.std.specs.List.{list_all}
 use Rattle.std.specs.Str.Parse.{digits_value}
 use Rattle.hex.specs.Hex.{decode_of, decode_sized}
@@ -95,13 +95,22 @@ abbrev pub Takes : {X A : Type 0} → (X → A) → List (List ℕ) → Result X
 Takes view rest (Ok x) read = read ≡ Ok (view x, rest)
 Takes view rest (Err cause) read = read ≡ Err cause
 
--- the same, where there is memory
-abbrev pub GivesIfRoom : {X A : Type 0} → (X → A) → Result X Refusal → Result A Cause → Type 0
-GivesIfRoom view (Ok x) read = read ≡ Ok (view x)
-GivesIfRoom view (Err (Fault cause)) read = read ≡ Err cause
-GivesIfRoom view (Err Memory) read = Unit {0}
+-- The same, where there may be no memory, which is wanted only there.
+abbrev pub GivesIfRoom : {X A : Type 0} → (X → A) → Type 0 → Result X Refusal → Result A Cause → Type 0
+GivesIfRoom view Wants (Ok x) read = read ≡ Ok (view x)
+GivesIfRoom view Wants (Err (Fault cause)) read = read ≡ Err cause
+GivesIfRoom view Wants (Err Memory) read = Wants
 
-abbrev pub TakesIfRoom : {X A : Type 0} → (X → A) → List (List ℕ) → Result X Refusal → Result (A × List (List ℕ)) Cause → Type 0
-TakesIfRoom view rest (Ok x) read = read ≡ Ok (view x, rest)
-TakesIfRoom view rest (Err (Fault cause)) read = read ≡ Err cause
-TakesIfRoom view rest (Err Memory) read = Unit {0}
+abbrev pub TakesIfRoom : {X A : Type 0} → (X → A) → Type 0 → List (List ℕ) → Result X Refusal → Result (A × List (List ℕ)) Cause → Type 0
+TakesIfRoom view Wants rest (Ok x) read = read ≡ Ok (view x, rest)
+TakesIfRoom view Wants rest (Err (Fault cause)) read = read ≡ Err cause
+TakesIfRoom view Wants rest (Err Memory) read = Wants
+
+-- a content that takes memory: as many digits as say bytes, before they are looked at
+abbrev pub MaySayBytes : List ℕ → Type 0
+MaySayBytes field = (bytes_eq field (codes "-") ≡ false) × (length field ≤ 2 * max_file_bytes) × (length field % 2 ≡ 0)
+
+-- what holds of the next field, which is there
+abbrev pub OfNext : (List ℕ → Type 0) → List (List ℕ) → Type 0
+OfNext Holds [] = ⊥
+OfNext Holds (field ∷ rest) = Holds field

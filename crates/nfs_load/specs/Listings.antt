@@ -8,7 +8,7 @@ use Rattle.nfs_attrs.specs.declared.file_type.FileType.TheVariants.{Directory, S
 use Rattle.nfs_inodes.specs.Tree.{Tree, Entry, at, entries_in, nlink, on_some}
 use Rattle.nfs_inodes.specs.Reading.{attributes_of}
 use Rattle.nfs_inodes.specs.Views.{kind_seen}
-use Rattle.nfs_inodes.specs.declared.view.FileView.{FileView}
+use Rattle.nfs_inodes.specs.Views.{FileView}
 
 -- ---- what a line is put together from
 

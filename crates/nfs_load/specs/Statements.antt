@@ -1,5 +1,5 @@
 -- What the lines of a description say, by their fields from left to right.
-use Rattle.std.specs.Prelude.{ℕ, List, Result, Ok}
+use Rattle.std.specs.Prelude.{◌≡◌, ℕ, List, Result, Ok}
 use Rattle.nfs_load.specs.declared.cause.Cause.{Cause}
 use Rattle.nfs_load.specs.declared.statement.Given.{Given}
 use Rattle.nfs_load.specs.declared.statement.DirLine.{DirLine}
@@ -8,7 +8,7 @@ use Rattle.nfs_load.specs.declared.statement.VolumeLine as volume
 use Rattle.nfs_load.specs.declared.statement.LinkLine as link
 use Rattle.nfs_load.specs.declared.statement.FileLine as file
 use Rattle.nfs_load.specs.declared.statement.ExportLine.{ExportLine}
-use Rattle.nfs_load.specs.Fields.{by, ◌>>=◌, content_in, mode_in, number_in, options_at, pattern_in, target_in}
+use Rattle.nfs_load.specs.Fields.{by, ◌>>=◌, MaySayBytes, OfNext, content_in, mode_in, number_in, options_at, pattern_in, target_in}
 use Rattle.nfs_load.specs.Paths.{path_in, volume_path_in}
 
 -- a value and the fields behind it, or a cause
@@ -68,6 +68,13 @@ dir_in fields = do
   path ← by path_in fields
   given ← given_in path.1
   Ok (record { path = path.0; given = given.0 }, given.1)
+
+-- those and CONTENT, for which memory is taken
+pub record WantsContent (fields : List (List ℕ)) : Type 0 where
+  pub line : DirLine
+  pub rest : List (List ℕ)
+  pub front : dir_in fields ≡ Ok (line, rest)
+  pub content : OfNext MaySayBytes rest
 
 -- PATH UID GID TARGET
 pub record LinkLine : Type 0 where

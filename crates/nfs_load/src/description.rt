@@ -4,7 +4,7 @@ ghost use Rattle.std.specs.Result.{result_map_both};
 ghost use Rattle.nfs_inodes.specs.Law.{Law};
 ghost use Rattle.nfs_text.specs.Words.{words_left};
 ghost use Rattle.nfs_load.specs.Descriptions as spec;
-ghost use Rattle.nfs_load.specs.Descriptions.{Describes, GoesOn, LineDone, UnlessMemory, begun, finished};
+ghost use Rattle.nfs_load.specs.Descriptions.{Describes, GoesOn, LineDone, begun, finished};
 
 use crate::cause::Cause;
 use crate::changes::{add_name, add_volume, make_dir, make_file, make_link};
@@ -24,7 +24,8 @@ use std::alloc::Global;
 
 /// The tree and the table that a text describes. The first fault of the first faulty line where
 /// there is one; at the end of the text `NoServer`, then `NoVolume`, for the line behind the last.
-/// `Memory` where there is none, and what was made is given back.
+/// `Memory` where there is none for a line that is in order as far as it was looked at, and what
+/// was made is given back.
 pub fn load(alloc: Global, text: &[u8]) -> Result<Loaded, LoadError>
     ensures described { Describes text.now result }
     ensures law { IfOk result (λ loaded. Law loaded.tree) }
@@ -68,7 +69,7 @@ fn take_line(
     line: &[u8],
 ) -> Result<(), Refusal>
     requires { IfSome described.old (λ l. length l.table ≡ length l.tree.volumes) }
-    ensures done { UnlessMemory result (LineDone described.old line.now result described.new) }
+    ensures done { LineDone described.old line.now result described.new }
     ensures lists { OnOk result (IfSome described.new (λ l. length l.table ≡ length l.tree.volumes)) }
 {
     let Some(line) = read_line(line)? else {
@@ -105,7 +106,7 @@ fn go_on(
     line: Line<'_>,
 ) -> Result<(), Refusal>
     requires { length loaded.old.table ≡ length loaded.old.tree.volumes }
-    ensures done { UnlessMemory result (GoesOn loaded.old line.entry.keyword (words_left line.entry.fields) result loaded.new) }
+    ensures done { GoesOn loaded.old line.entry.keyword (words_left line.entry.fields) result loaded.new }
     ensures lists { OnOk result (length loaded.new.table ≡ length loaded.new.tree.volumes) }
 {
     let mut fields = Fields::new(line.fields);
@@ -122,7 +123,7 @@ fn go_on(
 
 fn take_volume(loaded: &mut Loaded, fields: &mut Fields<'_>) -> Result<(), Refusal>
     requires { length loaded.old.table ≡ length loaded.old.tree.volumes }
-    ensures done { UnlessMemory result (GoesOn loaded.old Keyword.Volume fields.old result loaded.new) }
+    ensures done { GoesOn loaded.old Keyword.Volume fields.old result loaded.new }
     ensures lists { OnOk result (length loaded.new.table ≡ length loaded.new.tree.volumes) }
 {
     let line = VolumeLine::read(fields)?;
@@ -133,7 +134,7 @@ fn take_volume(loaded: &mut Loaded, fields: &mut Fields<'_>) -> Result<(), Refus
 
 fn take_export(loaded: &mut Loaded, fields: &mut Fields<'_>) -> Result<(), Refusal>
     requires { length loaded.old.table ≡ length loaded.old.tree.volumes }
-    ensures done { UnlessMemory result (GoesOn loaded.old Keyword.Export fields.old result loaded.new) }
+    ensures done { GoesOn loaded.old Keyword.Export fields.old result loaded.new }
     ensures lists { OnOk result (length loaded.new.table ≡ length loaded.new.tree.volumes) }
 {
     let _ = last_root(&loaded.tree)?;
@@ -148,7 +149,7 @@ fn take_export(loaded: &mut Loaded, fields: &mut Fields<'_>) -> Result<(), Refus
 
 fn take_dir(loaded: &mut Loaded, hints: &mut Hints, fields: &mut Fields<'_>) -> Result<(), Refusal>
     requires { length loaded.old.table ≡ length loaded.old.tree.volumes }
-    ensures done { UnlessMemory result (GoesOn loaded.old Keyword.Dir fields.old result loaded.new) }
+    ensures done { GoesOn loaded.old Keyword.Dir fields.old result loaded.new }
     ensures lists { OnOk result (length loaded.new.table ≡ length loaded.new.tree.volumes) }
 {
     let root = last_root(&loaded.tree)?;
@@ -163,7 +164,7 @@ fn take_file(
     fields: &mut Fields<'_>,
 ) -> Result<(), Refusal>
     requires { length loaded.old.table ≡ length loaded.old.tree.volumes }
-    ensures done { UnlessMemory result (GoesOn loaded.old Keyword.File fields.old result loaded.new) }
+    ensures done { GoesOn loaded.old Keyword.File fields.old result loaded.new }
     ensures lists { OnOk result (length loaded.new.table ≡ length loaded.new.tree.volumes) }
 {
     let root = last_root(&loaded.tree)?;
@@ -173,7 +174,7 @@ fn take_file(
 
 fn take_link(loaded: &mut Loaded, hints: &mut Hints, fields: &mut Fields<'_>) -> Result<(), Refusal>
     requires { length loaded.old.table ≡ length loaded.old.tree.volumes }
-    ensures done { UnlessMemory result (GoesOn loaded.old Keyword.Link fields.old result loaded.new) }
+    ensures done { GoesOn loaded.old Keyword.Link fields.old result loaded.new }
     ensures lists { OnOk result (length loaded.new.table ≡ length loaded.new.tree.volumes) }
 {
     let root = last_root(&loaded.tree)?;
@@ -183,7 +184,7 @@ fn take_link(loaded: &mut Loaded, hints: &mut Hints, fields: &mut Fields<'_>) ->
 
 fn take_hard(loaded: &mut Loaded, hints: &mut Hints, fields: &mut Fields<'_>) -> Result<(), Refusal>
     requires { length loaded.old.table ≡ length loaded.old.tree.volumes }
-    ensures done { UnlessMemory result (GoesOn loaded.old Keyword.Hard fields.old result loaded.new) }
+    ensures done { GoesOn loaded.old Keyword.Hard fields.old result loaded.new }
     ensures lists { OnOk result (length loaded.new.table ≡ length loaded.new.tree.volumes) }
 {
     let root = last_root(&loaded.tree)?;

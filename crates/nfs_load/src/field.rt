@@ -1,6 +1,6 @@
 //! Fields that are a key or numbers.
 ghost use Rattle.std.specs.Prelude.{◌≡◌};
-ghost use Rattle.nfs_load.specs.Fields.{content_in, key_in, mode_in, number_in, GivesIfRoom};
+ghost use Rattle.nfs_load.specs.Fields.{content_in, key_in, mode_in, number_in, GivesIfRoom, MaySayBytes};
 
 use crate::cause::Cause;
 use crate::limits::{MAX_CONTENT_DIGITS, MAX_MODE_DIGITS};
@@ -50,7 +50,7 @@ pub fn read_number(field: &[u8], min: u64, max: u64) -> Result<u64, Cause>
 /// A file's bytes, two hexadecimal digits each, or `-` for none. `BadContent` where the field is
 /// neither, or says more than 16,777,216 bytes; `Memory` where there is none.
 pub fn read_content(alloc: Global, field: &[u8]) -> Result<Vec<u8>, Refusal>
-    ensures { GivesIfRoom (λ content. content.items) result (content_in field.now) }
+    ensures { GivesIfRoom (λ content. content.items) (MaySayBytes field.now) result (content_in field.now) }
 {
     if field == b"-".as_slice() {
         return Ok(Vec::new(alloc));

@@ -70,7 +70,7 @@ fn write_file<W: ByteOut>(
     ensures fault { OnErr result (W.failed out.new ≡ true) }
     ensures alive { OnOk result (W.failed out.new ≡ W.failed out.old) }
 {
-    put_file(line, &file.attributes);
+    put_file(line, &file.attributes());
     write_all(out, line.as_slice())?;
     let mut entries = file.entries();
     while let Some(entry) = entries.next() {

@@ -1,7 +1,7 @@
 //! What a line says.
 ghost use Rattle.std.specs.Prelude.{◌≡◌};
 ghost use Rattle.nfs_load.specs.Fields.{Takes, TakesIfRoom};
-ghost use Rattle.nfs_load.specs.Statements.{dir_in, export_in, file_in, file_of, given_in, hard_in, link_of, link_in, volume_in, volume_of};
+ghost use Rattle.nfs_load.specs.Statements.{WantsContent, dir_in, export_in, file_in, file_of, given_in, hard_in, link_of, link_in, volume_in, volume_of};
 
 use crate::cause::Cause;
 use crate::fields::Fields;
@@ -133,7 +133,7 @@ impl<'a> FileLine<'a> {
     /// The fields of such a line. The first cause from left to right: `BadPath`, `BadNumber` or
     /// `BadContent`; `Memory` where there is none for the content.
     pub fn read(alloc: Global, fields: &mut Fields<'a>) -> Result<FileLine<'a>, Refusal>
-        ensures { TakesIfRoom file_of fields.new result (file_in fields.old) }
+        ensures { TakesIfRoom file_of (WantsContent fields.old) fields.new result (file_in fields.old) }
     {
         let path = fields.path()?;
         let given = Given::read(fields)?;

@@ -22,7 +22,7 @@ const CREDENTIAL: &[u8] =
 const SYSTEM_ERR: &[u8] = b"\0\0\0\x2a\0\0\0\x01\0\0\0\0\0\0\0\0\0\0\0\0\0\0\0\x05";
 
 // What stands between that and a status, of a call that is done.
-const SUCCESS: &[u8] = b"\0\0\0\x2a\0\0\0\x01\0\0\0\0\0\0\0\0\0\0\0\0\0\0\0\0\0\0\0\0";
+pub(crate) const SUCCESS: &[u8] = b"\0\0\0\x2a\0\0\0\x01\0\0\0\0\0\0\0\0\0\0\0\0\0\0\0\0\0\0\0\0";
 
 const DIRECTORY: &[u8] =
     b"\0\0\0\x18NFS3\x01\x02\x03\x04\x05\x06\x07\x08\0\0\0\0\0\0\0\0\0\0\0\x02";
@@ -68,11 +68,17 @@ fn record(alloc: Global, procedure: u32, args: &[&[u8]; 4]) -> Result<Vec<u8>, A
 }
 
 // Whether the last call was refused for want of memory, in its reply and its line.
-fn is_refused(server: &Server, reply: &ReplyBuf, addr: Addr, procedure: u32) -> bool {
+pub(crate) fn is_refused(
+    server: &Server,
+    reply: &ReplyBuf,
+    addr: Addr,
+    program: u32,
+    procedure: u32,
+) -> bool {
     let line = AuditLine {
         addr,
         xid: 42,
-        program: 100_003,
+        program,
         procedure,
         reason: Reason::Memory,
     };
@@ -97,7 +103,7 @@ fn refusals(alloc: Global, procedure: u32, args: &[&[u8]; 4]) -> Result<Option<u
     let mut ballast = Ballast::new(alloc)?;
     for refused in 0..ROUNDS {
         server.handle(event, &mut reply);
-        if !is_refused(&server, &reply, event.addr, procedure) {
+        if !is_refused(&server, &reply, event.addr, 100_003, procedure) {
             return Ok(if reply.bytes().starts_with(SUCCESS) {
                 Some(refused)
             } else {

@@ -10,6 +10,8 @@ mod devices;
 #[cfg(test)]
 mod makers;
 #[cfg(test)]
+mod mounts;
+#[cfg(test)]
 mod streams;
 #[cfg(test)]
 mod tree;

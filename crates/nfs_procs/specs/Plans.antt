@@ -19,7 +19,7 @@ use Rattle.nfs_inodes.specs.Law.{Lives}
 use Rattle.nfs_inodes.specs.Reading.{is_regular_type}
 use Rattle.nfs_inodes.specs.Tree.{Tree, File, on_some}
 use Rattle.nfs_inodes.specs.Views.{IsSeen}
-use Rattle.nfs_inodes.specs.declared.view.FileView.{FileView}
+use Rattle.nfs_inodes.specs.Views.{FileView}
 use Rattle.nfs_procs.specs.NewFiles.{new_file_of}
 use Rattle.nfs_procs.specs.Changers.{file_mode, directory_mode, link_mode, attributes_in, verifier_in, after_taking}
 use Rattle.nfs_procs.specs.declared.plan.Plan.{Plan}

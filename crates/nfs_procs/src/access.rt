@@ -37,7 +37,7 @@ pub(crate) fn access(
     match ExportedFile::of(tree, table, caller, args.file.bytes()) {
         Ok(file) => {
             let file = file.subject();
-            write_granted(out, file.file(), file.access_bits(args.rights));
+            write_granted(out, &file.attributes(), file.access_bits(args.rights));
             Done::Granted
         }
         Err(rule) => write_denied_attributes(out, &Denial::of_handle(rule)),

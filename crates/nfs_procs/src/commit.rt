@@ -40,7 +40,7 @@ pub(crate) fn commit(
 {
     match decide(tree, table, caller, now, args) {
         Ok(file) => {
-            write_granted(out, tree, file.file());
+            write_granted(out, tree, &file.attributes());
             Done::Granted
         }
         Err(denial) => write_denied_change(out, &denial),

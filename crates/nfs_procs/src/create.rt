@@ -73,7 +73,7 @@ fn decide(
     dir.law();
     match create_rules(&dir, args) {
         Ok(present) => Ok(FilePlan {
-            dir: *dir.file(),
+            dir: dir.attributes(),
             present: attributes_of(&present),
             given: new_file_of(FILE_MODE, &dir, now, &given_in(&args.how)),
         }),
@@ -85,7 +85,7 @@ fn attributes_of(file: &Option<FileView<'_>>) -> Option<Fattr>
     ensures { result ≡ option_map (λ f. f.attributes) file.now }
 {
     match file {
-        Some(file) => Some(file.attributes),
+        Some(file) => Some(file.attributes()),
         None => None,
     }
 }

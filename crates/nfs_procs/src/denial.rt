@@ -35,7 +35,7 @@ impl Denial {
         Denial {
             rule,
             uid: Some(subject.uid()),
-            shown: Some(*subject.file()),
+            shown: Some(subject.attributes()),
         }
     }
 }

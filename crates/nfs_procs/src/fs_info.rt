@@ -37,7 +37,7 @@ pub(crate) fn fs_info(
 {
     match ExportedFile::of(tree, table, caller, handle.bytes()) {
         Ok(file) => {
-            write_granted(out, file.file());
+            write_granted(out, &file.attributes());
             Done::Granted
         }
         Err(rule) => write_denied_attributes(out, &Denial::of_handle(rule)),

@@ -39,7 +39,7 @@ pub(crate) fn fs_stat(
 {
     match ExportedFile::of(tree, table, caller, handle.bytes()) {
         Ok(file) => {
-            write_granted(out, tree, file.file());
+            write_granted(out, tree, &file.attributes());
             Done::Granted
         }
         Err(rule) => write_denied_attributes(out, &Denial::of_handle(rule)),

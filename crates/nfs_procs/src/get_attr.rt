@@ -35,7 +35,7 @@ pub(crate) fn get_attr(
 {
     match ExportedFile::of(tree, table, caller, handle.bytes()) {
         Ok(file) => {
-            write_granted(out, file.file());
+            write_granted(out, &file.attributes());
             Done::Granted
         }
         Err(rule) => {

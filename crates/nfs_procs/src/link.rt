@@ -85,7 +85,7 @@ fn decide(
     file.law();
     dir.law();
     match link_rules(&file, &dir, args.place.name.bytes()) {
-        Ok(()) => Ok((*file.file(), *dir.file())),
+        Ok(()) => Ok((file.attributes(), dir.attributes())),
         Err(rule) => Err(PairDenial {
             rule,
             uid: Some(file.uid()),

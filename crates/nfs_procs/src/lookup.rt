@@ -3,7 +3,6 @@ ghost use Rattle.std.specs.Prelude.{◌≡◌, ◌≤◌, Some, Ok};
 ghost use Rattle.nfs_args.specs.Answers.{nfs_text};
 ghost use Rattle.nfs_args.specs.declared.answer.NfsAnswer.TheVariants as answer;
 ghost use Rattle.nfs_args.specs.declared.args.NfsArgs.TheVariants as nfs;
-ghost use Rattle.nfs_inodes.specs.Views.{IsSeen};
 ghost use Rattle.nfs_procs.specs.Denials.{Decides};
 ghost use Rattle.nfs_procs.specs.Performing.{Performs};
 ghost use Rattle.nfs_procs.specs.Plans.{PlansFound};
@@ -43,7 +42,8 @@ pub(crate) fn lookup(
 {
     match decide(tree, table, caller, now, args) {
         Ok((dir, file)) => {
-            write_granted(out, tree, &file, dir.file());
+            let handle = tree.handle(&file);
+            write_granted(out, &handle, &file.attributes(), &dir.attributes());
             Done::Granted
         }
         Err(denial) => write_denied_attributes(out, &denial),
@@ -70,23 +70,17 @@ fn decide<'a>(
     }
 }
 
-fn write_granted(out: &mut Output, tree: &Tree, file: &FileView<'_>, dir: &Fattr)
-    requires seen { IsSeen tree.now file.now }
-    requires room { 256 ≤ out.old.room }
+fn write_granted(out: &mut Output, handle: &[u8; 24], file: &Fattr, dir: &Fattr)
+    requires { 256 ≤ out.old.room }
     ensures { Appends (nfs_text (answer.Lookup (Ok
-        (record {
-          file = procedure.handle_in tree.now file.now.attributes;
-          attributes = Some file.now.attributes;
-          dir = Some dir.now;
-        })))) out.old out.new }
+        (record { file = handle.now; attributes = Some file.now; dir = Some dir.now })))) out.old out.new }
 {
-    let handle = tree.handle(file);
     out.u32(0);
     write_found(
         out,
         &Found {
-            file: Opaque::new(&handle),
-            attributes: Some(file.attributes),
+            file: Opaque::new(handle),
+            attributes: Some(*file),
             dir: Some(*dir),
         },
     );

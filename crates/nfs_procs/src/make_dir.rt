@@ -73,7 +73,7 @@ fn decide(
     dir.law();
     match make_dir_rules(&dir, args.place.name.bytes()) {
         Ok(()) => Ok(Plan {
-            dir: *dir.file(),
+            dir: dir.attributes(),
             given: new_file_of(DIRECTORY_MODE, &dir, now, &args.attributes),
         }),
         Err(rule) => Err(Denial::of_rule(&dir, rule)),

@@ -1,7 +1,6 @@
 //! What new files are like (RFC 1813, section 2.6, sattr3).
 ghost use Rattle.std.specs.Prelude.{◌≡◌, ◌||◌, nat_eq};
 ghost use Rattle.std.specs.List.{list_any};
-ghost use Rattle.nfs_exports.specs.Ids.{ids_of};
 ghost use Rattle.nfs_procs.specs.NewFiles as new_files;
 
 use nfs_attrs::moment::Moment;

@@ -78,10 +78,11 @@ fn write_data(out: &mut Output, tree: &Tree, file: &FileView<'_>, offset: u64, c
         (procedure.data_of file.now.attributes offset (take (min count procedure.max_transfer)
         (drop offset (bytes_at tree.now file.now.attributes.fileid))))))) out.old out.new }
 {
-    let left = file.attributes.size.saturating_sub(offset);
+    let attributes = file.attributes();
+    let left = attributes.size.saturating_sub(offset);
     let len = left.min(u64::from(count.min(MAX_TRANSFER)));
     out.u32(0);
-    write_read_head(out, Some(&file.attributes), len as u32, left <= len);
+    write_read_head(out, Some(&attributes), len as u32, left <= len);
     write_bytes(out, file, offset as usize, len as usize);
     out.pad(len as usize);
 }

@@ -78,7 +78,7 @@ fn write_granted(out: &mut Output, tree: &Tree, dir: &FileView<'_>, cookie: u64,
     ensures { Appends (nfs_text (answer.ReadDir (Ok (procedure.page_at tree.now dir.now.attributes cookie count)))) out.old out.new }
 {
     out.u32(0);
-    write_page_head(out, Some(&dir.attributes), COOKIE_VERIFIER);
+    write_page_head(out, Some(&dir.attributes()), COOKIE_VERIFIER);
     match page(tree, dir, cookie, count, out) {
         Ok(_) => {}
         Err(_) => unreachable!(),

@@ -85,7 +85,7 @@ fn write_granted(
 {
     let (dircount, maxcount) = (args.dircount, args.maxcount);
     out.u32(0);
-    write_page_head(out, Some(&dir.attributes), COOKIE_VERIFIER);
+    write_page_head(out, Some(&dir.attributes()), COOKIE_VERIFIER);
     match page_plus(tree, dir, args.cookie, dircount, maxcount, searchable, out) {
         Ok(_) => {}
         Err(_) => unreachable!(),

@@ -42,7 +42,7 @@ pub(crate) fn read_link(
 {
     match decide(tree, table, caller, now, handle) {
         Ok(file) => {
-            write_granted(out, tree, file.file());
+            write_granted(out, tree, &file.attributes());
             Done::Granted
         }
         Err(denial) => write_denied_attributes(out, &denial),

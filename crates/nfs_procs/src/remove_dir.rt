@@ -59,7 +59,7 @@ fn decide(
     };
     dir.law();
     match remove_dir_rules(&dir, args.name.bytes()) {
-        Ok(()) => Ok(*dir.file()),
+        Ok(()) => Ok(dir.attributes()),
         Err(rule) => Err(Denial::of_rule(&dir, rule)),
     }
 }

@@ -85,7 +85,7 @@ fn decide(
     from.law();
     to.law();
     match rename_rules(&from, &to, args) {
-        Ok(()) => Ok((*from.file(), *to.file())),
+        Ok(()) => Ok((from.attributes(), to.attributes())),
         Err(rule) => Err(PairDenial {
             rule,
             uid: Some(from.uid()),

@@ -23,6 +23,7 @@ use nfs_inodes::tree::Tree;
 use nfs_xdr::output::Output;
 
 /// A file before and after a call.
+#[inline(always)]
 pub(crate) fn change(before: Option<Fattr>, after: Option<Fattr>) -> Wcc
     ensures { result ≡ doing.change before after }
 {
@@ -67,6 +68,7 @@ pub(crate) fn write_denied_attributes(out: &mut Output, denial: &Denial) -> Done
 }
 
 /// The answer of a granted call that shows a file before and after.
+#[inline(always)]
 pub(crate) fn write_granted_change(out: &mut Output, file: Wcc)
     requires { 128 ≤ out.old.room }
     ensures { Appends (to_be_bytes w32 0 ++ wcc_text file) out.old out.new }

@@ -64,7 +64,7 @@ fn decide(
     };
     file.law();
     match set_attr_rules(&file, args) {
-        Ok(()) => Ok(*file.file()),
+        Ok(()) => Ok(file.attributes()),
         Err(rule) => Err(Denial::of_rule(&file, rule)),
     }
 }

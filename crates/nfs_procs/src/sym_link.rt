@@ -80,7 +80,7 @@ fn decide(
     dir.law();
     match sym_link_rules(&dir, args.place.name.bytes(), args.path.bytes()) {
         Ok(()) => Ok(Plan {
-            dir: *dir.file(),
+            dir: dir.attributes(),
             given: NewFile {
                 mode: LINK_MODE,
                 ..new_file_of(LINK_MODE, &dir, now, &args.attributes)

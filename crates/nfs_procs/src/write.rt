@@ -75,7 +75,7 @@ fn decide(
     };
     file.law();
     match write_rules(&file, args) {
-        Ok(()) => Ok(*file.file()),
+        Ok(()) => Ok(file.attributes()),
         Err(rule) => Err(Denial::of_rule(&file, rule)),
     }
 }

@@ -57,7 +57,7 @@ impl<'a> Subject<'a> {
         match self.found(name) {
             None => Ok(None),
             Some(file) => {
-                if self.takes(how, &file.attributes) {
+                if self.takes(how, &file.attributes()) {
                     Ok(Some(file))
                 } else {
                     Err(Rule::Exists)

@@ -59,7 +59,7 @@ impl<'a> ExportedFile<'a> {
             Err(NoFile::Stale) => return Err(Rule::StaleHandle),
             Err(NoFile::Bad) => return Err(Rule::BadHandle),
         };
-        let Some(options) = table.grant(place_of(&file.attributes), caller.addr) else {
+        let Some(options) = table.grant(place_of(&file.attributes()), caller.addr) else {
             return Err(Rule::Export);
         };
         Ok(ExportedFile {
@@ -71,19 +71,21 @@ impl<'a> ExportedFile<'a> {
     }
 
     /// The attributes of the file.
-    pub fn file(&self) -> &Fattr
-        ensures { result.now ≡ self.now.file }
+    #[inline(always)]
+    pub fn attributes(&self) -> Fattr
+        ensures { result ≡ self.now.file }
     {
-        &self.file.attributes
+        self.file.attributes()
     }
 
     /// The same with the ids by which the caller is judged.
+    #[inline(always)]
     pub fn subject(&self) -> Subject<'a>
         ensures { result ≡ self.now }
     {
         Subject::new(
             self.tree,
-            self.file,
+            self.file.copied(),
             self.options,
             squash(self.options, self.cred),
         )

@@ -18,7 +18,7 @@ pub fn both<'a>(
 {
     let one = one?;
     let two = two?;
-    if one.file().fsid == two.file().fsid {
+    if one.attributes().fsid == two.attributes().fsid {
         Ok((one.subject(), two.subject()))
     } else {
         Err(Rule::CrossVolume)
@@ -30,7 +30,7 @@ pub fn shown(file: &Result<ExportedFile<'_>, Rule>) -> Option<Fattr>
     ensures { result ≡ option_map (λ s. s.file) (ok_of file.now) }
 {
     match file {
-        Ok(file) => Some(*file.file()),
+        Ok(file) => Some(file.attributes()),
         Err(_) => None,
     }
 }

@@ -16,7 +16,7 @@ impl<'a> Subject<'a> {
     pub(crate) fn owns_or_may(&self, right: Right) -> bool
         ensures { result ≡ test.owns_or_may self.now right }
     {
-        owns(&self.ids, &self.file.attributes) || may(&self.ids, &self.file.attributes, right)
+        owns(&self.ids, &self.attributes()) || may(&self.ids, &self.attributes(), right)
     }
 
     /// `ReadOnly`: the volume is exported for writing.
@@ -30,7 +30,7 @@ impl<'a> Subject<'a> {
     pub fn not_regular(&self) -> Result<(), Rule>
         ensures { Tells result (test.not_regular self.now) }
     {
-        match self.file.attributes.file_type {
+        match self.attributes().file_type {
             FileType::Regular => Ok(()),
             _ => Err(Rule::NotRegular),
         }
@@ -40,7 +40,7 @@ impl<'a> Subject<'a> {
     pub fn not_link(&self) -> Result<(), Rule>
         ensures { Tells result (test.not_link self.now) }
     {
-        match self.file.attributes.file_type {
+        match self.attributes().file_type {
             FileType::SymbolicLink => Ok(()),
             _ => Err(Rule::NotLink),
         }
@@ -50,7 +50,7 @@ impl<'a> Subject<'a> {
     pub fn not_directory(&self) -> Result<(), Rule>
         ensures { Tells result (test.not_directory self.now) }
     {
-        match self.file.attributes.file_type {
+        match self.attributes().file_type {
             FileType::Directory => Ok(()),
             _ => Err(Rule::NotDirectory),
         }
@@ -60,7 +60,7 @@ impl<'a> Subject<'a> {
     pub fn link_directory(&self) -> Result<(), Rule>
         ensures { Tells result (test.link_directory self.now) }
     {
-        match self.file.attributes.file_type {
+        match self.attributes().file_type {
             FileType::Directory => Err(Rule::LinkDirectory),
             _ => Ok(()),
         }
@@ -71,7 +71,7 @@ impl<'a> Subject<'a> {
         ensures { Tells result (test.read_right self.now) }
     {
         let kept = self.owns_or_may(Right::Read)
-            || may(&self.ids, &self.file.attributes, Right::Execute);
+            || may(&self.ids, &self.attributes(), Right::Execute);
         ensure(kept, Rule::ReadRight)
     }
 
@@ -93,7 +93,7 @@ impl<'a> Subject<'a> {
     pub fn may_search(&self) -> bool
         ensures { result ≡ rights.may self.now.ids self.now.file Right.Execute }
     {
-        may(&self.ids, &self.file.attributes, Right::Execute)
+        may(&self.ids, &self.attributes(), Right::Execute)
     }
 
     /// `DirectoryRead`: the caller may read the directory.
@@ -101,7 +101,7 @@ impl<'a> Subject<'a> {
         ensures { Tells result (test.directory_read self.now) }
     {
         ensure(
-            may(&self.ids, &self.file.attributes, Right::Read),
+            may(&self.ids, &self.attributes(), Right::Read),
             Rule::DirectoryRead,
         )
     }
@@ -111,7 +111,7 @@ impl<'a> Subject<'a> {
         ensures { Tells result (test.directory_write self.now) }
     {
         ensure(
-            may(&self.ids, &self.file.attributes, Right::Write),
+            may(&self.ids, &self.attributes(), Right::Write),
             Rule::DirectoryWrite,
         )
     }

@@ -22,7 +22,7 @@ impl<'a> Subject<'a> {
         too_big(size)?;
         match size {
             None => Ok(()),
-            Some(size) => self.space(Some(size.saturating_sub(self.file.attributes.size))),
+            Some(size) => self.space(Some(size.saturating_sub(self.attributes().size))),
         }
     }
 
@@ -38,7 +38,7 @@ impl<'a> Subject<'a> {
             return Err(Rule::TooBig);
         }
         let end = offset + count as u64;
-        self.space(Some(end.saturating_sub(self.file.attributes.size)))
+        self.space(Some(end.saturating_sub(self.attributes().size)))
     }
 
     /// `Space`: the volume takes so many bytes more, if any.
@@ -77,7 +77,7 @@ impl<'a> Subject<'a> {
     fn has_space(&self, bytes: u64) -> bool
         ensures { result ≡ not (test.in_volume self.now (λ volume totals. nat_lt volume.max_bytes (totals.bytes + bytes))) }
     {
-        let place = place_of(&self.file.attributes);
+        let place = place_of(&self.attributes());
         match (self.tree.volume(place), self.tree.totals(place)) {
             (Some(volume), Some(totals)) => {
                 totals.bytes <= volume.max_bytes && bytes <= volume.max_bytes - totals.bytes
@@ -89,7 +89,7 @@ impl<'a> Subject<'a> {
     fn has_file_left(&self) -> bool
         ensures { result ≡ not (test.in_volume self.now (λ volume totals. nat_le volume.max_files totals.files)) }
     {
-        let place = place_of(&self.file.attributes);
+        let place = place_of(&self.attributes());
         match (self.tree.volume(place), self.tree.totals(place)) {
             (Some(volume), Some(totals)) => totals.files < volume.max_files,
             _ => true,
@@ -99,7 +99,7 @@ impl<'a> Subject<'a> {
     fn has_cookie_left(&self) -> bool
         ensures { result ≡ not (on_some (next_cookie_at self.now.tree self.now.file.fileid) false (nat_le test.last_number)) }
     {
-        match self.tree.next_cookie(Number(self.file.attributes.fileid)) {
+        match self.tree.next_cookie(Number(self.attributes().fileid)) {
             Some(cookie) => cookie < u64::MAX,
             None => true,
         }

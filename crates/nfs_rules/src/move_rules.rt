@@ -32,10 +32,11 @@ pub(crate) fn move_rules(
             to.cookies()
         }
         Some(old) => {
-            if moved.fileid == old.attributes.fileid {
+            let old = old.attributes();
+            if moved.fileid == old.fileid {
                 return Ok(());
             }
-            to.incompatible(moved, &old.attributes)?;
+            to.incompatible(moved, &old)?;
             to.into_itself(moved)?;
             to.cookies()
         }
@@ -63,7 +64,7 @@ impl<'a> Subject<'a> {
         if !is_directory(moved) {
             return Ok(());
         }
-        let kept = !is_above(self.tree, moved, &self.file.attributes);
+        let kept = !is_above(self.tree, moved, &self.attributes());
         ensure(kept, Rule::IntoItself)
     }
 
@@ -72,10 +73,10 @@ impl<'a> Subject<'a> {
         ensures { Tells result (test.only_where (is_directory_type moved.now.file_type && not
             (nat_eq self.now.file.fileid to.now.file.fileid)) (test.links to.now.file)) }
     {
-        if !is_directory(moved) || self.file.attributes.fileid == to.file.attributes.fileid {
+        if !is_directory(moved) || self.attributes().fileid == to.attributes().fileid {
             return Ok(());
         }
-        links(to.file())
+        links(&to.attributes())
     }
 }
 

@@ -40,7 +40,7 @@ impl<'a> Subject<'a> {
         }
         match self
             .tree
-            .entry_after(Number(self.file.attributes.fileid), cookie)
+            .entry_after(Number(self.attributes().fileid), cookie)
         {
             Some(entry) => PAGE_HEAD_BYTES + entry_bytes(entry.name) + beside <= bound,
             None => true,

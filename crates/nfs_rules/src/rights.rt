@@ -1,8 +1,6 @@
 //! What a caller may do with a file (RFC 1813, section 4.4).
-ghost use Rattle.std.specs.Prelude.{◌≡◌, ◌≤◌, nat_eq};
-ghost use Rattle.std.specs.List.{list_any};
+ghost use Rattle.std.specs.Prelude.{◌≡◌, ◌≤◌};
 ghost use Rattle.nfs_rules.specs.Rights as spec;
-ghost use Rattle.nfs_exports.specs.Ids.{ids_of};
 
 use nfs_attrs::fattr::Fattr;
 use nfs_attrs::file_type::FileType;
@@ -34,16 +32,14 @@ pub enum Right {
 impl Class {
     /// The one class in which the caller is: the owner, else a member of the group, else one of
     /// the others.
-    pub fn of(ids: &Ids, file: &Fattr) -> Class
-        ensures { result ≡ spec.class (ids_of ids.now) file.now }
+    #[inline(always)]
+    pub fn of(ids: &Ids<'_>, file: &Fattr) -> Class
+        ensures { result ≡ spec.class ids.now file.now }
     {
-        if ids.uid == file.uid {
+        if ids.uid() == file.uid {
             return Class::Owner;
         }
-        if ids.gid == file.gid {
-            return Class::Group;
-        }
-        if is_among(ids.gids.as_slice(), file.gid) {
+        if ids.is_in(file.gid) {
             Class::Group
         } else {
             Class::Others
@@ -52,20 +48,22 @@ impl Class {
 }
 
 /// Whether the caller has a right: uid 0 has each, another those of its class.
-pub fn may(ids: &Ids, file: &Fattr, right: Right) -> bool
-    ensures { result ≡ spec.may (ids_of ids.now) file.now right }
+#[inline(always)]
+pub fn may(ids: &Ids<'_>, file: &Fattr, right: Right) -> bool
+    ensures { result ≡ spec.may ids.now file.now right }
 {
-    if ids.uid == 0 {
+    if ids.uid() == 0 {
         return true;
     }
     has_bit(bits_of(Class::of(ids, file), file.mode), right)
 }
 
 /// Whether the caller is the owner or uid 0.
-pub fn owns(ids: &Ids, file: &Fattr) -> bool
-    ensures { result ≡ spec.owns (ids_of ids.now) file.now }
+#[inline(always)]
+pub fn owns(ids: &Ids<'_>, file: &Fattr) -> bool
+    ensures { result ≡ spec.owns ids.now file.now }
 {
-    ids.uid == 0 || ids.uid == file.uid
+    ids.uid() == 0 || ids.uid() == file.uid
 }
 
 // The three bits of a class.
@@ -89,22 +87,11 @@ fn has_bit(bits: u32, right: Right) -> bool
     }
 }
 
-pub(crate) fn is_among(gids: &[u32], gid: u32) -> bool
-    ensures { result ≡ list_any (nat_eq gid) gids.now }
-{
-    for one in gids {
-        if gid == *one {
-            return true;
-        }
-    }
-    false
-}
-
 /// Of the bits that ACCESS asks for those that are granted (RFC 1813, section 3.3.4): 0x1 READ, 0x2
 /// LOOKUP, 0x4 MODIFY, 0x8 EXTEND, 0x10 DELETE and 0x20 EXECUTE. By the mode and the options alone:
 /// the owner of a file may do more by a READ, a WRITE or a SETATTR.
-pub fn access_bits(options: &Options, ids: &Ids, file: &Fattr, asked: u32) -> u32
-    ensures { result ≡ spec.access_bits options.now.read_only (ids_of ids.now) file.now asked }
+pub fn access_bits(options: &Options, ids: &Ids<'_>, file: &Fattr, asked: u32) -> u32
+    ensures { result ≡ spec.access_bits options.now.read_only ids.now file.now asked }
 {
     let read = may(ids, file, Right::Read);
     let write = !options.read_only && may(ids, file, Right::Write);

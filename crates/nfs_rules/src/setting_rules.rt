@@ -3,7 +3,6 @@
 //! may all of this.
 ghost use Rattle.std.specs.Prelude.{◌≡◌, ◌||◌, nat_eq, is_some};
 ghost use Rattle.std.specs.List.{list_any};
-ghost use Rattle.nfs_exports.specs.Ids.{ids_of};
 ghost use Rattle.nfs_rules.specs.Judging.{Tells};
 ghost use Rattle.nfs_rules.specs.Tests as test;
 
@@ -24,7 +23,7 @@ impl<'a> Subject<'a> {
     {
         match ctime {
             None => Ok(()),
-            Some(moment) => { ensure(same_moment(moment, self.file.attributes.ctime), Rule::Guard) }
+            Some(moment) => { ensure(same_moment(moment, self.attributes().ctime), Rule::Guard) }
         }
     }
 
@@ -34,7 +33,7 @@ impl<'a> Subject<'a> {
     {
         match given.mode {
             None => Ok(()),
-            Some(_) => ensure(owns(&self.ids, &self.file.attributes), Rule::OwnerMode),
+            Some(_) => ensure(owns(&self.ids, &self.attributes()), Rule::OwnerMode),
         }
     }
 
@@ -45,7 +44,7 @@ impl<'a> Subject<'a> {
         match given.uid {
             None => Ok(()),
             Some(uid) => ensure(
-                gives_uid(&self.ids, &self.file.attributes, uid),
+                gives_uid(&self.ids, &self.attributes(), uid),
                 Rule::OwnerUid,
             ),
         }
@@ -68,7 +67,7 @@ impl<'a> Subject<'a> {
         match given.size {
             None => Ok(()),
             Some(_) => ensure(
-                self.file.attributes.file_type == FileType::Regular,
+                self.attributes().file_type == FileType::Regular,
                 Rule::SizeType,
             ),
         }
@@ -91,7 +90,7 @@ impl<'a> Subject<'a> {
         if !is_client_time(given.atime) && !is_client_time(given.mtime) {
             return Ok(());
         }
-        ensure(owns(&self.ids, &self.file.attributes), Rule::OwnerTime)
+        ensure(owns(&self.ids, &self.attributes()), Rule::OwnerTime)
     }
 
     /// `TimeRight`: who asks for the server's time may write the file, or owns it.
@@ -111,18 +110,18 @@ fn same_moment(one: Moment, other: Moment) -> bool
     one.seconds == other.seconds && one.nanos == other.nanos
 }
 
-fn gives_uid(ids: &Ids, file: &Fattr, uid: u32) -> bool
-    ensures { result ≡ test.gives_uid (ids_of ids.now) file.now uid }
+fn gives_uid(ids: &Ids<'_>, file: &Fattr, uid: u32) -> bool
+    ensures { result ≡ test.gives_uid ids.now file.now uid }
 {
-    ids.uid == 0 || ids.uid == file.uid && uid == file.uid
+    ids.uid() == 0 || ids.uid() == file.uid && uid == file.uid
 }
 
 fn gives_gid(subject: &Subject<'_>, gid: u32) -> bool
     ensures { result ≡ test.gives_gid subject.now.ids subject.now.file gid }
 {
-    let owner = subject.file().uid;
+    let owner = subject.attributes().uid;
     subject.uid() == 0
-        || subject.uid() == owner && (gid == subject.file().gid || subject.is_in_group(gid))
+        || subject.uid() == owner && (gid == subject.attributes().gid || subject.is_in_group(gid))
 }
 
 fn is_client_time(setting: TimeSetting) -> bool

@@ -1,13 +1,12 @@
 //! The file that a call is about, and how its caller is judged there.
 ghost use Rattle.std.specs.Prelude.{◌≡◌, ◌||◌, nat_eq, Some};
 ghost use Rattle.std.specs.List.{list_any};
-ghost use Rattle.nfs_exports.specs.Ids.{ids_of};
 ghost use Rattle.nfs_inodes.specs.Law.{Law};
 ghost use Rattle.nfs_inodes.specs.Reading.{attributes_at};
 ghost use Rattle.nfs_inodes.specs.Views.{IsSeen};
 ghost use Rattle.nfs_rules.specs.Rights as rights;
 
-use crate::rights::{access_bits, is_among};
+use crate::rights::access_bits;
 use nfs_attrs::fattr::Fattr;
 use nfs_exports::options::Options;
 use nfs_exports::squash::Ids;
@@ -22,30 +21,30 @@ pub struct Subject<'a> {
     pub(crate) tree: &'a Tree,
     pub(crate) file: FileView<'a>,
     pub(crate) options: &'a Options,
-    pub(crate) ids: Ids,
+    pub(crate) ids: Ids<'a>,
 }
 
 impl<'a> Model for Subject<'a> {
-    ghost use Rattle.nfs_exports.specs.Ids.{ids_of};
     ghost use Rattle.nfs_inodes.specs.Views.{IsSeen};
     ghost use Rattle.nfs_rules.specs.Subjects as shown;
 
     ghost Value = { shown.Subject };
 
-    ghost view = { λ a. record { tree = a.tree.now; file = a.file.attributes; options = a.options.now; ids = ids_of a.ids } };
+    ghost view = { λ a. record { tree = a.tree.now; file = a.file.attributes; options = a.options.now; ids = a.ids } };
 
     ghost invariant = { λ a. IsSeen a.tree.now a.file };
 }
 
 impl<'a> Subject<'a> {
+    #[inline(always)]
     pub(crate) fn new(
         tree: &'a Tree,
         file: FileView<'a>,
         options: &'a Options,
-        ids: Ids,
+        ids: Ids<'a>,
     ) -> Subject<'a>
         requires { IsSeen tree.now file }
-        ensures { result ≡ record { tree = tree.entry.now; file = file.entry.attributes; options = options.entry.now; ids = ids_of ids } }
+        ensures { result ≡ record { tree = tree.entry.now; file = file.entry.attributes; options = options.entry.now; ids = ids.entry } }
     {
         Subject {
             tree,
@@ -56,10 +55,11 @@ impl<'a> Subject<'a> {
     }
 
     /// The attributes of the file.
-    pub fn file(&self) -> &Fattr
-        ensures { result.now ≡ self.now.file }
+    #[inline(always)]
+    pub fn attributes(&self) -> Fattr
+        ensures { result ≡ self.now.file }
     {
-        &self.file.attributes
+        self.file.attributes()
     }
 
     /// The file, with what is read of it.
@@ -74,28 +74,28 @@ impl<'a> Subject<'a> {
     pub fn uid(&self) -> u32
         ensures { result ≡ self.now.ids.uid }
     {
-        self.ids.uid
+        self.ids.uid()
     }
 
     /// The user's group.
     pub fn gid(&self) -> u32
         ensures { result ≡ self.now.ids.gid }
     {
-        self.ids.gid
+        self.ids.gid()
     }
 
     /// Whether the user is in a group.
     pub fn is_in_group(&self, gid: u32) -> bool
         ensures { result ≡ (nat_eq gid self.now.ids.gid || list_any (nat_eq gid) self.now.ids.gids) }
     {
-        gid == self.ids.gid || is_among(self.ids.gids.as_slice(), gid)
+        self.ids.is_in(gid)
     }
 
     /// Of the bits that ACCESS asks for those that are granted.
     pub fn access_bits(&self, asked: u32) -> u32
         ensures { result ≡ rights.access_bits self.now.options.read_only self.now.ids self.now.file asked }
     {
-        access_bits(self.options, &self.ids, &self.file.attributes, asked)
+        access_bits(self.options, &self.ids, &self.attributes(), asked)
     }
 
     /// The tree is a lawful one, and the file is there, for proofs.
@@ -111,6 +111,6 @@ impl<'a> Subject<'a> {
         requires { IsSeen self.now.tree file.now }
         ensures { result ≡ record self.now { file = file.now.attributes } }
     {
-        Subject::new(self.tree, *file, self.options, self.ids.copied())
+        Subject::new(self.tree, file.copied(), self.options, self.ids.copied())
     }
 }

@@ -133,7 +133,7 @@ pub fn make_dir_rules(dir: &Subject<'_>, name: &[u8]) -> Result<(), Rule>
     dir.exists(name)?;
     dir.directory_write()?;
     dir.files()?;
-    links(dir.file())?;
+    links(&dir.attributes())?;
     dir.numbers()
 }
 
@@ -165,7 +165,7 @@ pub fn remove_rules(dir: &Subject<'_>, name: &[u8]) -> Result<(), Rule>
     dir.search_right()?;
     let found = dir.no_entry(name)?;
     dir.directory_write()?;
-    is_directory(&found.attributes)
+    is_directory(&found.attributes())
 }
 
 /// RMDIR (RFC 1813, section 3.3.13).
@@ -181,8 +181,8 @@ pub fn remove_dir_rules(dir: &Subject<'_>, name: &[u8]) -> Result<(), Rule>
     dir.search_right()?;
     let found = dir.no_entry(name)?;
     dir.directory_write()?;
-    target_not_directory(&found.attributes)?;
-    dir.not_empty(&found.attributes)
+    target_not_directory(&found.attributes())?;
+    dir.not_empty(&found.attributes())
 }
 
 /// RENAME (RFC 1813, section 3.3.14): of the directories of the old name and of the new one.
@@ -204,7 +204,7 @@ pub fn rename_rules(from: &Subject<'_>, to: &Subject<'_>, args: &Rename<'_>) -> 
     let moved = from.no_entry(name)?;
     from.directory_write()?;
     to.directory_write()?;
-    move_rules(from, to, &moved.attributes, to.found(new_name))
+    move_rules(from, to, &moved.attributes(), to.found(new_name))
 }
 
 /// LINK (RFC 1813, section 3.3.15): of the file and the directory that takes the further name.
@@ -219,7 +219,7 @@ pub fn link_rules(file: &Subject<'_>, dir: &Subject<'_>, name: &[u8]) -> Result<
     dir.search_right()?;
     dir.exists(name)?;
     dir.directory_write()?;
-    links(file.file())?;
+    links(&file.attributes())?;
     dir.cookies()
 }
 

@@ -4,4 +4,5 @@ pub mod Forward
 pub mod Cases
 pub mod Joined
 pub mod Performed
+pub mod Mounted
 pub mod Judged

@@ -26,7 +26,7 @@ use Rattle.nfs_xdr.specs.Written.{Written, Appends}
 
 -- ---- the room
 
-appends_room : (text : List ℕ) (before after : Written) → Appends text before after → length after.bytes + after.room ≡ length before.bytes + before.room
+pub appends_room : (text : List ℕ) (before after : Written) → Appends text before after → length after.bytes + after.room ≡ length before.bytes + before.room
 appends_room text before after w = omega (arith, ap length w.bytes ∙ length-append before.bytes text, w.room)
 
 pub room_kept : (c : Scene) (o : Option Doing) (came : Option Done) (new : Tree) (before after : Written) → PerformsAs c o came new before after → length after.bytes + after.room ≡ length before.bytes + before.room

@@ -5,15 +5,16 @@ use Rattle.nfs_rpc.specs.AuthSys.{credential_of, caller}
 use Rattle.nfs_rpc.specs.Calls.{Call}
 use Rattle.nfs_rpc.specs.declared.auth_sys.Cred.{Cred}
 use Rattle.nfs_server.specs.declared.rpc_rules.Admitted.{Admitted}
-use Rattle.nfs_server.specs.declared.rpc_rules.Admitted.TheVariants.{Null, Nfs}
+use Rattle.nfs_server.specs.declared.rpc_rules.Admitted.TheVariants.{Null, Nfs, Mount}
 use Rattle.nfs_server.specs.declared.rpc_rules.RpcRule.{RpcRule}
-use Rattle.nfs_server.specs.Requests.{is_null}
-use Rattle.nfs_server.specs.RpcRules.{fails_rpc, head_rules, caller_rules, is_nfs}
+use Rattle.nfs_server.specs.Requests.{is_nfs, is_null}
+use Rattle.nfs_server.specs.RpcRules.{fails_rpc, head_rules, caller_rules}
 
--- the first rule of the head that the call fails, and else whether it is NULL
+-- the first rule of the head that the call fails, and else whether it is NULL, and if not, of which program
 abbrev pub Admits : Call → List ℕ → Result Admitted RpcRule → Type 0
 Admits call bytes (Ok Null) = (find (fails_rpc call bytes) head_rules ≡ None) × (is_null call ≡ true)
 Admits call bytes (Ok Nfs) = (find (fails_rpc call bytes) head_rules ≡ None) × (is_nfs call ≡ true) × (is_null call ≡ false)
+Admits call bytes (Ok Mount) = (find (fails_rpc call bytes) head_rules ≡ None) × (is_nfs call ≡ false) × (is_null call ≡ false)
 Admits call bytes (Err rule) = find (fails_rpc call bytes) head_rules ≡ Some rule
 
 -- the first rule of the caller that the call fails, and else who calls

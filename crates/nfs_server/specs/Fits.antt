@@ -1,5 +1,5 @@
 -- Which pasts fit a server. The server stores none: a past is the caller's.
-use Rattle.std.specs.Prelude.{List, ◌∷◌, Option}
+use Rattle.std.specs.Prelude.{◌≡◌, List, [], ◌∷◌, Option}
 use Rattle.nfs_inodes.specs.Law.{Law}
 use Rattle.nfs_server.specs.Events.{Event, Answer, Choice, Done}
 use Rattle.nfs_server.specs.Steps.{Setup, State, Step, IsRun}
@@ -20,9 +20,10 @@ pub record Past : Type 0 where
 abbrev pub after : Past → Event → Choice → Answer → Past
 after past event choice answer = record { opening = past.opening; done = record { event = event; choice = choice; answer = answer } ∷ past.done }
 
--- what a server begins with: a lawful tree
-abbrev pub IsOpening : State → Type 0
-IsOpening opening = Law opening.tree
+-- what a server begins with: a lawful tree, and a mount list of no client
+pub record IsOpening (opening : State) : Type 0 where
+  pub lawful : Law opening.tree
+  pub unmounted : opening.mounts ≡ []
 
 -- the past is a run from such an opening that ends in what the server holds
 pub record Fits (past : Past) (s : Held) : Type 0 where

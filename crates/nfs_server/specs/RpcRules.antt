@@ -1,5 +1,5 @@
 -- The rules of RPC (RFC 5531, section 9), and the reply of each where it is the first that fails.
-use Rattle.std.specs.Prelude.{ℕ, Bool, not, ◌||◌, ◌&&◌, List, [], ◌∷◌, ◌++◌, Option, is_none, nat_eq, nat_le, find, codes}
+use Rattle.std.specs.Prelude.{ℕ, Bool, not, ◌||◌, ◌&&◌, List, [], ◌∷◌, ◌++◌, Option, is_none, nat_eq, nat_le, find, if◌then◌else◌, codes}
 use Rattle.nfs_rpc.specs.AuthSys.{caller}
 use Rattle.nfs_rpc.specs.Calls.{Call}
 use Rattle.nfs_rpc.specs.Replies.{accepted_text, refused_text}
@@ -7,13 +7,7 @@ use Rattle.nfs_rpc.specs.declared.reply.Accept.TheVariants.{ProgUnavail, ProgMis
 use Rattle.nfs_rpc.specs.declared.reply.Refused.TheVariants.{RpcMismatch, BadCred, RejectedCred, TooWeak}
 use Rattle.nfs_server.specs.declared.rpc_rules.RpcRule.{RpcRule}
 use Rattle.nfs_server.specs.declared.rpc_rules.RpcRule.TheVariants.{Version, Program, ProgramVersion, Procedure, Flavor, Credential, WeakCredential, Arguments}
-use Rattle.nfs_server.specs.Requests.{args_in, is_null}
-
-abbrev pub NFS : ℕ
-NFS = 100003
-
-abbrev pub MOUNT : ℕ
-MOUNT = 100005
+use Rattle.nfs_server.specs.Requests.{NFS, MOUNT, is_nfs, is_null, lacks_args}
 
 -- the flavors of credentials
 abbrev pub AUTH_NONE : ℕ
@@ -22,12 +16,9 @@ AUTH_NONE = 0
 abbrev pub AUTH_SYS : ℕ
 AUTH_SYS = 1
 
--- NULL, and of NFS those up to 21
+-- NFS has procedures up to 21, MOUNT up to 5
 abbrev pub has_procedure : ℕ → ℕ → Bool
-has_procedure prog proc = nat_eq proc 0 || nat_eq prog NFS && nat_le proc 21
-
-abbrev pub is_nfs : Call → Bool
-is_nfs call = nat_eq call.prog NFS
+has_procedure prog proc = nat_le proc (if nat_eq prog NFS then 21 else 5)
 
 -- whether a call, with what stands behind its head, fails the rule
 abbrev pub fails_rpc : Call → List ℕ → RpcRule → Bool
@@ -38,7 +29,7 @@ fails_rpc call bytes Procedure = not (has_procedure call.prog call.proc)
 fails_rpc call bytes Flavor = not (is_null call) && not (nat_eq call.cred.flavor AUTH_NONE || nat_eq call.cred.flavor AUTH_SYS)
 fails_rpc call bytes Credential = not (is_null call) && (nat_eq call.cred.flavor AUTH_SYS && is_none (caller call.cred.body))
 fails_rpc call bytes WeakCredential = not (is_null call) && (is_nfs call && nat_eq call.cred.flavor AUTH_NONE)
-fails_rpc call bytes Arguments = not (is_null call) && is_none (args_in call.proc bytes)
+fails_rpc call bytes Arguments = not (is_null call) && lacks_args call bytes
 
 -- the rules, in order: those of the head alone, those of who calls, and that of what for
 abbrev pub head_rules : List RpcRule

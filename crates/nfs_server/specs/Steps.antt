@@ -1,8 +1,19 @@
 -- What one event may do, and runs of events.
 use Rattle.std.specs.Prelude.{◌≡◌, ℕ, Bool, true, false, List, [], ◌∷◌, ◌++◌, Option, Some, None, option_map, Result, Ok, Err}
 use Rattle.nfs_args.specs.Answers.{nfs_text}
+use Rattle.nfs_args.specs.MountAnswers.{mount_text}
+use Rattle.nfs_args.specs.declared.args.NfsArgs.{NfsArgs}
+use Rattle.nfs_args.specs.declared.mount_answer.MountAnswer.{MountAnswer}
+use Rattle.nfs_args.specs.declared.mount_answer.MountAnswer.TheVariants as result
+use Rattle.nfs_args.specs.declared.mount_args.MountArgs.{MountArgs}
+use Rattle.nfs_args.specs.declared.mount_args.MountArgs.TheVariants as asked
+use Rattle.nfs_exports.specs.declared.addr.Addr.{Addr}
 use Rattle.nfs_exports.specs.declared.table.Export.{Export}
 use Rattle.nfs_inodes.specs.Tree.{Tree}
+use Rattle.nfs_mount.specs.MountAnswers.{denied_answer, dump_answer, export_answer, granted_answer, root_of}
+use Rattle.nfs_mount.specs.MountRules.{mount_verdict}
+use Rattle.nfs_mount.specs.Mounts.{after_mnt, after_umnt, is_mounted, without_addr}
+use Rattle.nfs_mount.specs.declared.mount.Mount.{Mount}
 use Rattle.nfs_procs.specs.Doing.{Doing}
 use Rattle.nfs_procs.specs.Procedures.{doing_of}
 use Rattle.nfs_procs.specs.Scenes.{Scene, verdict_in, subjects_in, seen_in}
@@ -11,11 +22,11 @@ use Rattle.nfs_rpc.specs.Replies.{accepted_text}
 use Rattle.nfs_rpc.specs.declared.call.RpcFault.{RpcFault}
 use Rattle.nfs_rpc.specs.declared.reply.Accept.TheVariants.{Success, SystemErr}
 use Rattle.nfs_rules.specs.Rules.{status_of}
-use Rattle.nfs_rules.specs.Subjects.{Subject}
+use Rattle.nfs_rules.specs.Subjects.{Caller, Subject}
 use Rattle.nfs_rules.specs.declared.rule.Rule.{Rule}
 use Rattle.nfs_server.specs.AuditLines.{line_of}
 use Rattle.nfs_server.specs.Events.{Event, Answer, Choice, Done, silence, granted, denied}
-use Rattle.nfs_server.specs.Requests.{Request, request_of}
+use Rattle.nfs_server.specs.Requests.{Request, Nothing, OfNfs, OfMount, request_of}
 use Rattle.nfs_server.specs.RpcRules.{rpc_failure_of, rpc_reply}
 use Rattle.nfs_server.specs.declared.audit_line.Reason.TheVariants as reason
 use Rattle.nfs_server.specs.declared.rpc_rules.RpcRule.{RpcRule}
@@ -25,9 +36,10 @@ pub record Setup : Type 0 where
   pub places : ℕ
   pub exports : List (List Export)
 
--- what events may change
+-- what events may change: the tree, and which clients mount which volumes
 pub record State : Type 0 where
   pub tree : Tree
+  pub mounts : List Mount
 
 -- ---- a call of NFS
 
@@ -65,15 +77,38 @@ abbrev pub Performed : Option Doing → Scene → Call → Choice → Answer →
 Performed (Some doing) c call choice answer new = Decided (verdict_in c) choice.has_memory c doing call choice.tag answer new
 Performed None c call choice answer new = (answer ≡ granted (success call [])) × (new ≡ c.tree)
 
+-- ---- a call of MOUNT
+
+-- The reply has this result, and these are the mounts afterwards.
+abbrev pub MountDone : Call → State → MountAnswer → List Mount → Answer → State → Type 0
+MountDone call old result mounts answer new = (answer ≡ granted (success call (mount_text result))) × (new ≡ record { tree = old.tree; mounts = mounts })
+
+-- MNT, by the first rule that fails, and, where none does, by whether there is memory. A rule is told without a uid. Without memory nothing is done, which is only where the pair is new.
+abbrev pub MountDecided : Option Rule → Bool → State → Addr → List ℕ → Call → Answer → State → Type 0
+MountDecided (Some rule) has_memory old addr path call answer new = (answer ≡ denied (success call (mount_text (denied_answer rule))) (line_of addr call (reason.Rule rule None))) × (new ≡ old)
+MountDecided None true old addr path call answer new = (handle : List ℕ) × (root_of old.tree path ≡ Some handle) × MountDone call old (granted_answer handle) (after_mnt old.tree addr path old.mounts) answer new
+MountDecided None false old addr path call answer new = (is_mounted old.tree addr path old.mounts ≡ false) × (answer ≡ denied (accepted_text call.xid SystemErr) (line_of addr call reason.Memory)) × (new ≡ old)
+
+-- each procedure by what it is asked for; none changes the tree
+abbrev pub MountPerformed : MountArgs → List (List Export) → State → Addr → Call → Choice → Answer → State → Type 0
+MountPerformed asked.Null exports old addr call choice answer new = MountDone call old result.Null old.mounts answer new
+MountPerformed (asked.Mount path) exports old addr call choice answer new = MountDecided (mount_verdict old.tree exports addr path) choice.has_memory old addr path call answer new
+MountPerformed asked.Dump exports old addr call choice answer new = MountDone call old (dump_answer old.tree old.mounts) old.mounts answer new
+MountPerformed (asked.Unmount path) exports old addr call choice answer new = MountDone call old result.Unmount (after_umnt old.tree addr path old.mounts) answer new
+MountPerformed asked.UnmountAll exports old addr call choice answer new = MountDone call old result.UnmountAll (without_addr addr old.mounts) answer new
+MountPerformed asked.Export exports old addr call choice answer new = MountDone call old (export_answer old.tree exports) old.mounts answer new
+
 -- ---- an event
 
-abbrev pub scene_of : Setup → State → Event → Request → Scene
-scene_of setup old event r = record { tree = old.tree; exports = setup.exports; caller = r.caller; now = event.moment; args = r.args }
+abbrev pub scene_of : Setup → State → Event → Caller → NfsArgs → Scene
+scene_of setup old event caller args = record { tree = old.tree; exports = setup.exports; caller = caller; now = event.moment; args = args }
 
--- NULL has an empty result
+-- NULL has an empty result; a call of NFS leaves the mount list. Where no rule of RPC fails, a call can be read.
 abbrev pub Requested : Option Request → Setup → State → Event → Call → Choice → Answer → State → Type 0
-Requested None setup old event call choice answer new = (answer ≡ granted (success call [])) × (new ≡ old)
-Requested (Some r) setup old event call choice answer new = Performed (doing_of r.args) (scene_of setup old event r) call choice answer new.tree
+Requested (Some Nothing) setup old event call choice answer new = (answer ≡ granted (success call [])) × (new ≡ old)
+Requested (Some (OfNfs caller args)) setup old event call choice answer new = Performed (doing_of args) (scene_of setup old event caller args) call choice answer new.tree × (new.mounts ≡ old.mounts)
+Requested (Some (OfMount args)) setup old event call choice answer new = MountPerformed args setup.exports old event.addr call choice answer new
+Requested None setup old event call choice answer new = ⊥
 
 -- A call that fails a rule of RPC has its reply and its line, and nothing changes.
 abbrev pub Judged : Option RpcRule → Option Request → Setup → State → Event → Call → Choice → Answer → State → Type 0

@@ -1,5 +1,5 @@
 //! Laws over the definitions alone.
-ghost use Rattle.nfs_server.specs.Cases.{CallsAskForSomething, FoundHasHandle};
+ghost use Rattle.nfs_server.specs.Cases.{CallsCanBeRead, FoundHasHandle};
 ghost use Rattle.nfs_server.specs.Forward.{RunsForward};
 
 /// A past has its newest event first. Read from its first event on, a run is one step after
@@ -9,8 +9,8 @@ pub fn runs_go_forward()
 {}
 
 /// No call comes to those cases of the definitions that stand for nothing: a call that fails no
-/// rule of RPC and isn't NULL asks for something, and what is found under a name has a handle.
+/// rule of RPC can be read, and what is found under a name has a handle.
 pub fn no_case_is_left()
-    ensures requests { CallsAskForSomething }
+    ensures requests { CallsCanBeRead }
     ensures handles { FoundHasHandle }
 {}

@@ -5,6 +5,7 @@ pub mod arguments;
 pub mod audit_line;
 pub mod event;
 pub mod laws;
+mod mount;
 pub mod reply_buf;
 pub mod rpc_rules;
 pub mod server;

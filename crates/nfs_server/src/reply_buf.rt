@@ -5,17 +5,22 @@ ghost use Rattle.nfs_procs.specs.Scenes.{scene};
 ghost use Rattle.nfs_rpc.specs.Calls.{call_of};
 ghost use Rattle.nfs_rpc.specs.Records.{header};
 ghost use Rattle.nfs_rpc.specs.Replies.{accepted_text};
-ghost use Rattle.nfs_rpc.specs.declared.reply.Accept.TheVariants.{Success};
+ghost use Rattle.nfs_rpc.specs.declared.reply.Accept.TheVariants.{Success, SystemErr};
 ghost use Rattle.nfs_server.specs.RpcRules.{rpc_reply};
 ghost use Rattle.nfs_server.specs.Seen.{told};
-ghost use Rattle.nfs_server.specs.Keeping.{AnswersCall};
+ghost use Rattle.nfs_server.specs.Keeping.{AnswersCall, AnswersMount};
 
 use crate::audit_line::{AuditLine, Reason};
+use crate::mount::mount;
 use crate::rpc_rules::RpcRule;
 use nfs_args::args::NfsArgs;
+use nfs_args::mount_args::MountArgs;
 use nfs_attrs::moment::Moment;
+use nfs_exports::addr::Addr;
 use nfs_exports::table::Table;
 use nfs_inodes::tree::Tree;
+use nfs_mount::mount_list::MountList;
+use nfs_mount::mounted::Mounted;
 use nfs_procs::done::Done;
 use nfs_procs::limits::MAX_RESULT_BYTES;
 use nfs_procs::perform::perform;
@@ -131,8 +136,7 @@ impl ReplyBuf {
                 Some(AuditLine::of(caller.addr, head, Reason::Rule(rule, uid)))
             }
             Some(Done::Memory) => {
-                begin(&mut self.out);
-                write_accepted(&mut self.out, head.xid, Accept::SystemErr);
+                give_up(&mut self.out, head.xid);
                 seal(&mut self.out);
                 Some(AuditLine::of(caller.addr, head, Reason::Memory))
             }
@@ -143,6 +147,38 @@ impl ReplyBuf {
             None => {
                 seal(&mut self.out);
                 None
+            }
+        }
+    }
+
+    /// The reply to a call of MOUNT other than NULL: what it asks for is done where no rule fails, and
+    /// there is memory. Answers the line of a call that is denied.
+    pub(crate) fn mount(
+        &mut self,
+        head: &CallHead<'_>,
+        tree: &Tree,
+        table: &Table,
+        mounts: &mut MountList,
+        addr: Addr,
+        args: &MountArgs<'_>,
+    ) -> Option<AuditLine>
+        ensures { AnswersMount args.now table.now (record { tree = tree.now; mounts = mounts.old }) addr (call_of head.now) (told self.new result) mounts.new }
+    {
+        begin(&mut self.out);
+        write_accepted(&mut self.out, head.xid, Accept::Success);
+        match mount(tree, table, mounts, addr, args, &mut self.out) {
+            Mounted::Granted => {
+                seal(&mut self.out);
+                None
+            }
+            Mounted::Denied(rule) => {
+                seal(&mut self.out);
+                Some(AuditLine::of(addr, head, Reason::Rule(rule, None)))
+            }
+            Mounted::Memory => {
+                give_up(&mut self.out, head.xid);
+                seal(&mut self.out);
+                Some(AuditLine::of(addr, head, Reason::Memory))
             }
         }
     }
@@ -171,6 +207,17 @@ fn begin(out: &mut Output)
     ensures room { length out.new.bytes + out.new.room ≡ length out.old.bytes + out.old.room }
 {
     out.cut(MARK_BYTES);
+}
+
+// In the place of what stands behind the mark, the reply to a call for which there is no memory.
+fn give_up(out: &mut Output, xid: u32)
+    requires mark { 4 ≤ length out.old.bytes }
+    requires room { 28 ≤ length out.old.bytes + out.old.room }
+    ensures bytes { out.new.bytes ≡ take 4 out.old.bytes ++ accepted_text xid SystemErr }
+    ensures room { length out.new.bytes + out.new.room ≡ length out.old.bytes + out.old.room }
+{
+    begin(out);
+    write_accepted(out, xid, Accept::SystemErr);
 }
 
 // The mark gets the length of what follows it.

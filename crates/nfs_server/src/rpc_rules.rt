@@ -1,12 +1,13 @@
 //! The rules of RPC, which come before those of a procedure (RFC 5531, section 9).
 ghost use Rattle.std.specs.Prelude.{◌≡◌, ◌≤◌, true, false, length};
 ghost use Rattle.nfs_rpc.specs.Calls.{call_of};
-ghost use Rattle.nfs_server.specs.Requests.{is_null};
-ghost use Rattle.nfs_server.specs.RpcRules.{is_nfs, rpc_name, rpc_status};
+ghost use Rattle.std.specs.List.{find};
+ghost use Rattle.nfs_server.specs.Requests.{is_nfs, is_null};
+ghost use Rattle.nfs_server.specs.RpcRules.{caller_rules, fails_rpc, rpc_name, rpc_status};
 ghost use Rattle.nfs_server.specs.RpcRules as spec;
 ghost use Rattle.nfs_server.specs.Admitting.{Admits, Identifies};
 
-use nfs_rpc::auth_sys::Cred;
+use nfs_rpc::auth_sys::{Cred, read_auth_sys};
 use nfs_rpc::call::CallHead;
 
 /// A rule of RPC, in the order in which they are looked at.
@@ -66,10 +67,13 @@ impl RpcRule {
     }
 }
 
-// Procedures by their numbers (RFC 1813, section 3.3): that of both programs, and the last of NFS.
+// Procedures by their numbers (RFC 1813, section 3.3, and appendix I, section 5.2): that of both
+// programs, the last of NFS, and the last of MOUNT.
 const NULL: u32 = 0;
 
 const COMMIT: u32 = 21;
+
+const EXPORT: u32 = 5;
 
 /// What a call is for that keeps the first four rules of RPC.
 #[derive(Clone, Copy, Debug, PartialEq, Eq)]
@@ -78,6 +82,8 @@ pub enum Admitted {
     Null,
     /// Another procedure of NFS.
     Nfs,
+    /// Another procedure of MOUNT.
+    Mount,
 }
 
 /// The version of RPC.
@@ -116,9 +122,12 @@ pub fn admit(head: &CallHead<'_>) -> Result<Admitted, RpcRule>
         return Err(RpcRule::Procedure);
     }
     if head.proc == NULL {
-        Ok(Admitted::Null)
-    } else {
+        return Ok(Admitted::Null);
+    }
+    if head.prog == NFS_PROGRAM {
         Ok(Admitted::Nfs)
+    } else {
+        Ok(Admitted::Mount)
     }
 }
 
@@ -142,9 +151,28 @@ pub fn identify(head: &CallHead<'_>, cred: &mut Cred) -> Result<(), RpcRule>
     }
 }
 
-// Whether a program has a procedure. Of MOUNT there is NULL alone.
+/// The first of the rules flavor and credential that the call of a procedure of MOUNT other than NULL
+/// fails. Who calls is not told, since no procedure asks for it.
+pub fn caller_failure(head: &CallHead<'_>) -> Option<RpcRule>
+    requires mount { is_nfs (call_of head.now) ≡ false }
+    requires null { is_null (call_of head.now) ≡ false }
+    ensures { result ≡ find (fails_rpc (call_of head.now) head.now.args) caller_rules }
+{
+    if head.flavor == AUTH_NONE {
+        return None;
+    }
+    if head.flavor != AUTH_SYS {
+        return Some(RpcRule::Flavor);
+    }
+    match read_auth_sys(head.body) {
+        Ok(_) => None,
+        Err(_) => Some(RpcRule::Credential),
+    }
+}
+
+// Whether a program has a procedure.
 fn has_procedure(prog: u32, proc: u32) -> bool
     ensures { result ≡ spec.has_procedure prog proc }
 {
-    proc == NULL || prog == NFS_PROGRAM && proc <= COMMIT
+    proc <= if prog == NFS_PROGRAM { COMMIT } else { EXPORT }
 }

@@ -5,10 +5,10 @@ ghost use Rattle.nfs_rpc.specs.AuthSys.{caller, credential_of};
 ghost use Rattle.nfs_rpc.specs.Calls.{call_of};
 ghost use Rattle.nfs_server.specs.Events.{Choice};
 ghost use Rattle.nfs_server.specs.declared.rpc_rules.RpcRule.TheVariants.{Arguments};
-ghost use Rattle.nfs_server.specs.Requests.{is_null};
+ghost use Rattle.nfs_server.specs.Requests.{is_nfs, is_null};
 ghost use Rattle.nfs_server.specs.AuditLines.{line_of};
 ghost use Rattle.nfs_server.specs.declared.audit_line.Reason.TheVariants.{Rpc};
-ghost use Rattle.nfs_server.specs.RpcRules.{fails_rpc, caller_rules, is_nfs, rpc_reply, rpc_rules};
+ghost use Rattle.nfs_server.specs.RpcRules.{fails_rpc, caller_rules, rpc_reply, rpc_rules};
 ghost use Rattle.nfs_server.specs.Seen.{event_of, answer_of, answered, told};
 ghost use Rattle.nfs_server.specs.Fits.{Held, Past, Fits, GoesOn};
 ghost use Rattle.nfs_server.specs.Keeping.{Answers, AnswersBy};
@@ -17,11 +17,13 @@ ghost use Rattle.nfs_server.specs.Runs.{events_of, RunsThrough};
 use crate::arguments::read_args;
 use crate::audit_line::{AuditLine, Reason};
 use crate::event::{Event, Handled, Outcome, Sink};
+use crate::mount::read_mount_args;
 use crate::reply_buf::ReplyBuf;
-use crate::rpc_rules::{Admitted, RpcRule, admit, identify};
+use crate::rpc_rules::{Admitted, RpcRule, admit, caller_failure, identify};
 use nfs_exports::table::Table;
 use nfs_inodes::tree::Tree;
 use nfs_load::loaded::Loaded;
+use nfs_mount::mount_list::MountList;
 use nfs_rpc::auth_sys::Cred;
 use nfs_rpc::call::{CallHead, read_call};
 use nfs_rules::caller::Caller;
@@ -34,6 +36,7 @@ use std::marker::Model;
 pub struct Server {
     tree: Tree,
     table: Table,
+    mounts: MountList,
     cache: usize,
     line: Option<AuditLine>,
 }
@@ -43,17 +46,18 @@ impl Model for Server {
 
     ghost Value = { Held };
 
-    ghost view = { λ s. record { setup = record { places = s.cache; exports = s.table }; state = record { tree = s.tree }; line = s.line } };
+    ghost view = { λ s. record { setup = record { places = s.cache; exports = s.table }; state = record { tree = s.tree; mounts = s.mounts }; line = s.line } };
 }
 
 impl Server {
-    /// A server that has seen no event, with so many places for replies to repeated calls.
-    /// Refused where there is no memory; the description is then dropped.
-    pub fn new(_alloc: Global, loaded: Loaded, cache: usize) -> Result<Server, AllocError>
+    /// A server that has seen no event, whose volumes no client mounts, with so many places for
+    /// replies to repeated calls. Refused where there is no memory; the description is then dropped.
+    pub fn new(alloc: Global, loaded: Loaded, cache: usize) -> Result<Server, AllocError>
         requires some { 1 ≤ cache }
         requires few { cache ≤ 1024 }
         ensures setup { IfOk result (λ server. server.setup ≡ record { places = cache; exports = loaded.table }) }
         ensures tree { IfOk result (λ server. server.state.tree ≡ loaded.tree) }
+        ensures mounts { IfOk result (λ server. server.state.mounts ≡ []) }
         ensures fits { IfOk result (λ server. Fits (record { opening = server.state; done = [] }) server) }
         ensures line { IfOk result (λ server. server.line ≡ None) }
     {
@@ -61,6 +65,7 @@ impl Server {
         Ok(Server {
             tree: loaded.tree,
             table: loaded.table,
+            mounts: MountList::new(alloc),
             cache,
             line: None,
         })
@@ -92,6 +97,7 @@ impl Server {
     }
 
     // The same, said without a past.
+    #[inline(always)]
     fn answer(&mut self, event: Event<'_>, reply: &mut ReplyBuf) -> Handled
         ensures answers { Answers self.old (event_of event.entry) (answered result reply.new self.new.line) self.new }
         ensures silent { result ≡ Handled.NoReply → (reply.new ≡ []) × (self.new.line ≡ None) }
@@ -101,19 +107,20 @@ impl Server {
             self.line = None;
             return Handled::NoReply;
         };
-        self.line = self.respond(&head, &event, reply);
+        self.line = self.respond(&head, event, reply);
         Handled::Answered
     }
 
     // The reply to a call, and its line where it is denied.
+    #[inline(always)]
     fn respond(
         &mut self,
         head: &CallHead<'_>,
-        event: &Event<'_>,
+        event: Event<'_>,
         reply: &mut ReplyBuf,
     ) -> Option<AuditLine>
         ensures setup { self.new.setup ≡ self.old.setup }
-        ensures judged { AnswersBy rpc_rules self.old (event_of event.now) (call_of head.now) head.now.args
+        ensures judged { AnswersBy rpc_rules self.old (event_of event.entry) (call_of head.now) head.now.args
             (told reply.new result) self.new }
     {
         match admit(head) {
@@ -123,21 +130,22 @@ impl Server {
                 None
             }
             Ok(Admitted::Nfs) => self.answer_nfs(head, event, reply),
+            Ok(Admitted::Mount) => self.answer_mount(head, event, reply),
         }
     }
 
     // The reply to a call of NFS other than NULL, and its line where it is denied.
-    #[inline(never)]
+    #[inline(always)]
     fn answer_nfs(
         &mut self,
         head: &CallHead<'_>,
-        event: &Event<'_>,
+        event: Event<'_>,
         reply: &mut ReplyBuf,
     ) -> Option<AuditLine>
         requires nfs { is_nfs (call_of head.now) ≡ true }
         requires null { is_null (call_of head.now) ≡ false }
         ensures setup { self.new.setup ≡ self.old.setup }
-        ensures judged { AnswersBy (caller_rules ++ Arguments ∷ []) self.old (event_of event.now) (call_of head.now) head.now.args
+        ensures judged { AnswersBy (caller_rules ++ Arguments ∷ []) self.old (event_of event.entry) (call_of head.now) head.now.args
             (told reply.new result) self.new }
     {
         let mut cred = Cred::nobody();
@@ -148,18 +156,20 @@ impl Server {
     }
 
     // The same, where it is known who calls.
+    #[inline(always)]
     fn answer_caller(
         &mut self,
         head: &CallHead<'_>,
-        event: &Event<'_>,
+        event: Event<'_>,
         cred: &Cred,
         reply: &mut ReplyBuf,
     ) -> Option<AuditLine>
+        requires nfs { is_nfs (call_of head.now) ≡ true }
         requires null { is_null (call_of head.now) ≡ false }
         requires known { find (fails_rpc (call_of head.now) head.now.args) caller_rules ≡ None }
         requires cred { caller (call_of head.now).cred.body ≡ Some (credential_of cred.now) }
         ensures setup { self.new.setup ≡ self.old.setup }
-        ensures judged { AnswersBy (caller_rules ++ Arguments ∷ []) self.old (event_of event.now) (call_of head.now) head.now.args
+        ensures judged { AnswersBy (caller_rules ++ Arguments ∷ []) self.old (event_of event.entry) (call_of head.now) head.now.args
             (told reply.new result) self.new }
     {
         match read_args(head.proc, Input::new(head.args.rest())) {
@@ -173,6 +183,31 @@ impl Server {
                 reply.perform(head, tree, table, caller, event.moment, &args)
             }
         }
+    }
+
+    // The reply to a call of MOUNT other than NULL, and its line where it is denied. Out of line, so
+    // that calls of NFS pay nothing for it.
+    #[inline(never)]
+    fn answer_mount(
+        &mut self,
+        head: &CallHead<'_>,
+        event: Event<'_>,
+        reply: &mut ReplyBuf,
+    ) -> Option<AuditLine>
+        requires mount { is_nfs (call_of head.now) ≡ false }
+        requires null { is_null (call_of head.now) ≡ false }
+        ensures setup { self.new.setup ≡ self.old.setup }
+        ensures judged { AnswersBy (caller_rules ++ Arguments ∷ []) self.old (event_of event.entry) (call_of head.now) head.now.args
+            (told reply.new result) self.new }
+    {
+        if let Some(rule) = caller_failure(head) {
+            return Some(refuse(reply, head, event, rule));
+        }
+        let Ok(args) = read_mount_args(head.proc, Input::new(head.args.rest())) else {
+            return Some(refuse(reply, head, event, RpcRule::Arguments));
+        };
+        let (tree, table, mounts) = (&self.tree, &self.table, &mut self.mounts);
+        reply.mount(head, tree, table, mounts, event.addr, &args)
     }
 
     /// Takes events one after another, and hands each outcome to the sink, until a take answers
@@ -201,9 +236,9 @@ impl Server {
 }
 
 // The reply to a call that fails a rule of RPC, and its line.
-fn refuse(reply: &mut ReplyBuf, head: &CallHead<'_>, event: &Event<'_>, rule: RpcRule) -> AuditLine
+fn refuse(reply: &mut ReplyBuf, head: &CallHead<'_>, event: Event<'_>, rule: RpcRule) -> AuditLine
     ensures reply { reply.new ≡ rpc_reply rule head.now.xid }
-    ensures line { result ≡ line_of event.now.addr (call_of head.now) (Rpc rule) }
+    ensures line { result ≡ line_of event.entry.addr (call_of head.now) (Rpc rule) }
 {
     reply.refuse(rule, head.xid);
     AuditLine::of(event.addr, head, Reason::Rpc(rule))

@@ -95,6 +95,7 @@ impl Output {
     }
 
     /// Writes opaque data of a fixed length (RFC 4506, section 4.9), padded with zeros.
+    #[inline(always)]
     pub fn fixed(&mut self, item: &[u8])
         requires { length (fixed_text item.now) ≤ self.old.room }
         ensures { Appends (fixed_text item.now) self.old self.new }
@@ -114,6 +115,7 @@ impl Output {
     }
 
     /// Writes the zeros that follow opaque data of `len` bytes (RFC 4506, section 3).
+    #[inline(always)]
     pub fn pad(&mut self, len: usize)
         requires { padding len ≤ self.old.room }
         ensures { Appends (pad_text len) self.old self.new }
@@ -124,6 +126,7 @@ impl Output {
     }
 
     /// Writes opaque data (RFC 4506, section 4.10): its length, its bytes, and zeros as padding.
+    #[inline(always)]
     pub fn opaque(&mut self, item: &[u8])
         requires counted { length item.now < 2 ^ 32 }
         requires room { length (opaque_text item.now) ≤ self.old.room }

@@ -1,7 +1,7 @@
-use Rattle.std.proofs.Common.{◌≡◌, ◌++◌, [], ◌∷◌, length, ap, arith}
+use Rattle.std.proofs.Common.{◌≡◌, ◌+◌, ◌++◌, [], ◌∷◌, ◌∙◌, length, ap, arith}
 use Rattle.std.proofs.lemmas.List.{length-append}
 use Rattle.nfs_text.specs.Lines.{lines, lines_left}
-use Rattle.nfs_load.proofs.Descriptions.{cut_more, lines_few, through_more}
+use Rattle.nfs_load.proofs.Descriptions.{cut_more, lines_few, through_more, told}
 use Rattle.nfs_load.proofs.description.load.Goals as goal
 
 pub overflow_add-number : goal.overflow_add-number
@@ -22,3 +22,16 @@ pub overflow_add-result : goal.overflow_add-result
 overflow_add-result c =
     let sum : length (lines c.args.text.now) ≡ length (c.loop-line.invariant.0 ++ lines_left c.loop-line.lines) = ap length c.loop-line.invariant.2 in
     omega (arith, sum, length-append c.loop-line.invariant.0 (lines_left c.loop-line.lines), lines_few c.args.text.now, c.loop-line.invariant.3)
+
+pub returns-in-Err-clause-described : goal.returns-in-Err-clause-described
+returns-in-Err-clause-described c = told c.args.text.now _ c.in-Err.refusal _ c.at.ensures (record {
+  before = c.loop-line.invariant.0;
+  line = c.in-Some.line.now;
+  behind = lines_left c.next.new.self;
+  all_are = c.loop-line.invariant.2 ∙ ap (λ it. c.loop-line.invariant.0 ++ it) c.in-Some.ensures.steps;
+  number_is = ap (λ n. n + 1) c.loop-line.invariant.3;
+  old = c.loop-line.described;
+  in_order = c.loop-line.invariant.1;
+  new = c.take_line.new.described;
+  refused = c.in-Err.ensures.done;
+})

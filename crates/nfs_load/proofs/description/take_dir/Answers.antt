@@ -1,6 +1,6 @@
 use Rattle.std.proofs.Common.{rules, ◌≡◌, Ok, Err, refl}
 use Rattle.nfs_load.specs.Descriptions.{last_root}
-use Rattle.nfs_load.proofs.Descriptions.{root_fault, fields_fault, line_done, unless, unless_both}
+use Rattle.nfs_load.proofs.Descriptions.{root_fault, fields_fault, line_done}
 use Rattle.nfs_load.proofs.description.take_dir.Goals as goal
 
 pub returns-in_err-root-clause-done : goal.returns-in_err-root-clause-done
@@ -16,4 +16,4 @@ returns-in_err-line-clause-done c =
 pub returns-clause-done : goal.returns-clause-done
 returns-clause-done c =
     let root : last_root c.args.loaded.now.tree ≡ Ok c.in_ok-root.root.0 = search rules in
-    line_done _ _ _ _ _ c.make_dir.result _ root c.in_ok-line.ensures (unless_both c.make_dir.result _ _ (unless c.make_dir.result _ c.make_dir.ensures) refl)
+    line_done _ _ _ _ _ c.make_dir.result _ root c.in_ok-line.ensures (c.make_dir.ensures, refl)

@@ -1,20 +1,20 @@
-use Rattle.std.proofs.Common.{rules, ◌≡◌, Ok, Err, refl}
+use Rattle.std.proofs.Common.{rules, ◌≡◌, Ok, Err, inl, refl}
 use Rattle.nfs_load.specs.Descriptions.{last_root}
-use Rattle.nfs_load.specs.Statements.{file_of}
-use Rattle.nfs_load.proofs.Descriptions.{root_fault, fields_refused, line_done, unless, unless_both}
+use Rattle.nfs_load.specs.Statements.{WantsContent, file_of}
+use Rattle.nfs_load.proofs.Descriptions.{root_fault, fields_refused, line_done}
 use Rattle.nfs_load.proofs.description.take_file.Goals as goal
 
 pub returns-in_err-root-clause-done : goal.returns-in_err-root-clause-done
 returns-in_err-root-clause-done c =
     let root : last_root c.args.loaded.now.tree ≡ Err c.in_err-root.field-0.0 = search rules in
-    root_fault _ _ c.from_residual.result _ root c.from_residual.ensures
+    inl (root_fault _ _ c.from_residual.result _ root c.from_residual.ensures)
 
 pub returns-in_err-line-clause-done : goal.returns-in_err-line-clause-done
 returns-in_err-line-clause-done c =
     let root : last_root c.args.loaded.now.tree ≡ Ok c.in_ok-root.root.0 = search rules in
-    fields_refused file_of _ _ _ c.read.new.fields _ c.from_residual-in_err-line.result _ root c.in_err-line.ensures c.from_residual-in_err-line.ensures
+    fields_refused file_of (WantsContent c.args.fields.now) _ _ _ c.read.new.fields _ c.from_residual-in_err-line.result _ root c.in_err-line.ensures c.from_residual-in_err-line.ensures
 
 pub returns-clause-done : goal.returns-clause-done
 returns-clause-done c =
     let root : last_root c.args.loaded.now.tree ≡ Ok c.in_ok-root.root.0 = search rules in
-    line_done _ _ _ _ _ c.make_file.result _ root c.in_ok-line.ensures (unless_both c.make_file.result _ _ (unless c.make_file.result _ c.make_file.ensures) refl)
+    inl (line_done _ _ _ _ _ c.make_file.result _ root c.in_ok-line.ensures (c.make_file.ensures, refl))

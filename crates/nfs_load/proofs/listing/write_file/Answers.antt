@@ -1,4 +1,4 @@
-use Rattle.std.proofs.Common.{List, ℕ, subst, ◌∙◌}
+use Rattle.std.proofs.Common.{List, ℕ, ap, subst, ◌∙◌}
 use Rattle.std.specs.List.{flat_map}
 use Rattle.nfs_xdr.specs.Known.{Grows, GrowsByPart}
 use Rattle.nfs_inodes.specs.Tree.{entries_in}
@@ -11,7 +11,7 @@ use Rattle.nfs_load.proofs.listing.write_file.Goals as goal
 pub returns-in_err-write_all-clause-part : goal.returns-in_err-write_all-clause-part
 returns-in_err-write_all-clause-part g c = on_err c.from_residual.result
     (part_of_first (g.W.ByteOut.contents c.args.out.now) (g.W.ByteOut.contents c.write_all.new.out) (file_line c.args.file.now.attributes) (flat_map entry_line (entries_in (kind_seen c.args.file.now)))
-    (subst (λ (l : List ℕ). GrowsByPart (g.W.ByteOut.contents c.args.out.now) l (g.W.ByteOut.contents c.write_all.new.out)) (c.as_slice.ensures.value ∙ c.put_file.ensures) c.in_err-write_all.ensures.part))
+    (subst (λ (l : List ℕ). GrowsByPart (g.W.ByteOut.contents c.args.out.now) l (g.W.ByteOut.contents c.write_all.new.out)) (c.as_slice.ensures.value ∙ c.put_file.ensures ∙ ap file_line c.attributes.ensures) c.in_err-write_all.ensures.part))
 
 pub loop-entry-preserved : goal.loop-entry-preserved
 loop-entry-preserved g c = record {

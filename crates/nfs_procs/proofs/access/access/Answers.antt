@@ -20,7 +20,7 @@ returns-in-Ok c =
     reads_freely scene (procedure.access c.args.args.now) c.args.args.now.file c.bytes.result.now refl c.bytes.ensures c.in-Ok.file _ _ refl refl c.in-Ok.ensures.rules c.in-Ok.ensures.subject
     (subst (λ (s : Subject). Appends (nfs_text (answer.Access (Ok (record { attributes = Some s.file; rights = access_bits s.options.read_only s.ids s.file c.args.args.now.rights })))) c.args.out.now c.write_granted.new.out) c.subject-file.ensures
     (subst (λ rights. Appends (nfs_text (answer.Access (Ok (record { attributes = Some c.subject-file.result.file; rights = rights })))) c.args.out.now c.write_granted.new.out) c.access_bits.ensures
-    (subst (λ f. Appends (nfs_text (answer.Access (Ok (record { attributes = Some f; rights = c.access_bits.result })))) c.args.out.now c.write_granted.new.out) c.file.ensures c.write_granted.ensures)))
+    (subst (λ f. Appends (nfs_text (answer.Access (Ok (record { attributes = Some f; rights = c.access_bits.result })))) c.args.out.now c.write_granted.new.out) c.attributes.ensures c.write_granted.ensures)))
 
 pub returns-in-Err : goal.returns-in-Err
 returns-in-Err c =

@@ -20,4 +20,4 @@ returns-in-Ok c =
     reads scene (procedure.commit c.args.args.now) s _ _ refl c.in-Ok.ensures.1 plans.tree
     (subst (λ t. Appends (nfs_text (answer.Commit (Ok (record { file = no_change (Some s.file); verifier = procedure.verifier_of t })))) c.args.out.now c.write_granted.new.out) (sym plans.tree)
     (subst (λ (f : Fattr). Appends (nfs_text (answer.Commit (Ok (record { file = no_change (Some f); verifier = procedure.verifier_of c.args.tree.now })))) c.args.out.now c.write_granted.new.out)
-    (c.file.ensures ∙ ap (λ (u : Subject). u.file) plans.subject) c.write_granted.ensures))
+    (c.attributes.ensures ∙ ap (λ (u : Subject). u.file) plans.subject) c.write_granted.ensures))

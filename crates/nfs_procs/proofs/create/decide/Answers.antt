@@ -30,10 +30,10 @@ returns-in-Ok-create_rules c =
       granted_by_rules scene a.place.dir c.bytes.result.now refl c.bytes.ensures s c.in-Ok.ensures.rules some kept,
       record {
         tree = tree;
-        dir = c.file.ensures;
+        dir = c.attributes.ensures;
         present = present;
         given = c.new_file_of.ensures ∙ ap (new_file_of file_mode s.ids c.args.now) c.given_in.ensures;
-        may = subst (λ (f : Fattr). MayMakeOrTake c.args.tree.now f.fileid a c.attributes_of.result) (sym c.file.ensures)
+        may = subst (λ (f : Fattr). MayMakeOrTake c.args.tree.now f.fileid a c.attributes_of.result) (sym c.attributes.ensures)
             (subst (λ t. MayMakeOrTake t s.file.fileid a c.attributes_of.result) tree (may_make_or_take s c.law.ensures.law c.law.ensures.file a kept c.attributes_of.result present));
       },
     )

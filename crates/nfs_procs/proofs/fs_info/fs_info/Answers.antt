@@ -16,7 +16,7 @@ pub returns-in-Ok : goal.returns-in-Ok
 returns-in-Ok c =
     let scene : Scene = record { tree = c.args.tree.now; exports = c.args.table.now; caller = caller_of c.args.caller; now = c.args.now; args = nfs.FsInfo c.args.handle.now } in
     reads_freely scene (procedure.fs_info c.args.handle.now) c.args.handle.now c.bytes.result.now refl c.bytes.ensures c.in-Ok.file _ _ refl refl c.in-Ok.ensures.rules c.in-Ok.ensures.subject
-    (subst (λ f. Appends (nfs_text (answer.FsInfo (Ok (procedure.server_limits f)))) c.args.out.now c.write_granted.new.out) c.file.ensures c.write_granted.ensures)
+    (subst (λ f. Appends (nfs_text (answer.FsInfo (Ok (procedure.server_limits f)))) c.args.out.now c.write_granted.new.out) c.attributes.ensures c.write_granted.ensures)
 
 pub returns-in-Err : goal.returns-in-Err
 returns-in-Err c =

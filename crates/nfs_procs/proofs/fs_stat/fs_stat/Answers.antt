@@ -22,7 +22,7 @@ returns-in-Ok c =
     reads_freely scene (procedure.fs_stat c.args.handle.now) c.args.handle.now c.bytes.result.now refl c.bytes.ensures c.in-Ok.file _ _ refl refl c.in-Ok.ensures.rules c.in-Ok.ensures.subject
     (subst (λ t. Appends (nfs_text (answer.FsStat (Ok (procedure.room_in (slice_get t.volumes (c.in-Ok.file.file.fsid - 1)) (totals_at t (c.in-Ok.file.file.fsid - 1)) c.in-Ok.file.file)))) c.args.out.now c.write_granted.new.out)
     (sym (subject_tree c.args.tree.now c.args.table.now (caller_of c.args.caller) c.bytes.result.now c.in-Ok.file (sym c.in-Ok.ensures.subject)))
-    (subst (λ (f : Fattr). Appends (nfs_text (answer.FsStat (Ok (procedure.room_in (slice_get c.args.tree.now.volumes (f.fsid - 1)) (totals_at c.args.tree.now (f.fsid - 1)) f)))) c.args.out.now c.write_granted.new.out) c.file.ensures c.write_granted.ensures))
+    (subst (λ (f : Fattr). Appends (nfs_text (answer.FsStat (Ok (procedure.room_in (slice_get c.args.tree.now.volumes (f.fsid - 1)) (totals_at c.args.tree.now (f.fsid - 1)) f)))) c.args.out.now c.write_granted.new.out) c.attributes.ensures c.write_granted.ensures))
 
 pub returns-in-Err : goal.returns-in-Err
 returns-in-Err c =

@@ -18,7 +18,7 @@ returns-in-Ok c =
       tag = 0;
       fits = omega arith;
       new_is = sym (subject_tree c.args.tree.now c.args.table.now (caller_of c.args.caller) c.bytes.result.now c.in-Ok.file (sym c.in-Ok.ensures.subject));
-      written = subst (λ file. Appends (nfs_text (answer.GetAttr (Ok file))) c.args.out.now c.write_granted.new.out) c.file.ensures c.write_granted.ensures;
+      written = subst (λ file. Appends (nfs_text (answer.GetAttr (Ok file))) c.args.out.now c.write_granted.new.out) c.attributes.ensures c.write_granted.ensures;
     }
 
 pub returns-in-Err : goal.returns-in-Err

@@ -42,10 +42,10 @@ returns-in-Ok-link_rules c =
           c.of-file.ensures.rules c.of-file.ensures.subject c.of-dir.ensures.rules c.of-dir.ensures.subject s u some kept,
       record {
         tree = tree_one;
-        file_is = c.file.ensures;
-        dir_is = c.file-in-Ok-link_rules.ensures;
-        may = subst (λ n. MayLink c.args.tree.now n c.file-in-Ok-link_rules.result.now.fileid c.args.args.now.place.name) (ap (λ (f : Fattr). f.fileid) (sym c.file.ensures))
-            (subst (λ n. MayLink c.args.tree.now s.file.fileid n c.args.args.now.place.name) (ap (λ (f : Fattr). f.fileid) (sym c.file-in-Ok-link_rules.ensures))
+        file_is = c.attributes.ensures;
+        dir_is = c.attributes-in-Ok-link_rules.ensures;
+        may = subst (λ n. MayLink c.args.tree.now n c.attributes-in-Ok-link_rules.result.fileid c.args.args.now.place.name) (ap (λ (f : Fattr). f.fileid) (sym c.attributes.ensures))
+            (subst (λ n. MayLink c.args.tree.now s.file.fileid n c.args.args.now.place.name) (ap (λ (f : Fattr). f.fileid) (sym c.attributes-in-Ok-link_rules.ensures))
             (may_link c.args.tree.now (subst Law tree_one c.law.ensures.law) s u tree_one tree_two c.law.ensures.file c.law-2.ensures.file both.volume c.args.args.now.place.name kept));
       },
     )

@@ -1,4 +1,4 @@
-use Rattle.std.proofs.Common.{[], Some, Ok, refl, sym, ap, subst, ◌∙◌}
+use Rattle.std.proofs.Common.{ℕ, List, Option, [], Some, Ok, refl, sym, ap, subst, ◌∙◌}
 use Rattle.nfs_args.specs.Answers.{nfs_text}
 use Rattle.nfs_args.specs.declared.answer.NfsAnswer.TheVariants as answer
 use Rattle.nfs_args.specs.declared.args.NfsArgs.TheVariants as nfs
@@ -17,8 +17,10 @@ returns-in-Ok c =
     let scene : Scene = record { tree = c.args.tree.now; exports = c.args.table.now; caller = caller_of c.args.caller; now = c.args.now; args = nfs.Lookup c.args.args.now } in
     let s = c.in-Ok.ensures.0 in
     let plans = c.in-Ok.ensures.2 in
+    let shown : List ℕ → Fattr → Fattr → Type 0 = λ handle file dir. Appends (nfs_text (answer.Lookup (Ok (record { file = handle; attributes = Some file; dir = Some dir })))) c.args.out.now c.write_granted.new.out in
     reads scene (procedure.lookup c.args.args.now) s _ _ refl c.in-Ok.ensures.1 plans.tree
     (subst (λ o. Appends (nfs_text (answer.Lookup (Ok (record { file = on_some o [] (procedure.handle_in s.tree); attributes = o; dir = Some s.file })))) c.args.out.now c.write_granted.new.out) (sym plans.found)
     (subst (λ t. Appends (nfs_text (answer.Lookup (Ok (record { file = procedure.handle_in t c.in-Ok.file.attributes; attributes = Some c.in-Ok.file.attributes; dir = Some s.file })))) c.args.out.now c.write_granted.new.out) (sym plans.tree)
-    (subst (λ (f : Fattr). Appends (nfs_text (answer.Lookup (Ok (record { file = procedure.handle_in c.args.tree.now c.in-Ok.file.attributes; attributes = Some c.in-Ok.file.attributes; dir = Some f })))) c.args.out.now c.write_granted.new.out)
-    (c.file.ensures ∙ ap (λ (u : Subject). u.file) plans.subject) c.write_granted.ensures)))
+    (subst (λ handle. shown handle c.in-Ok.file.attributes s.file) (sym (ap (λ (o : Option (List ℕ)). on_some o [] (λ handle. handle)) c.handle-handle.ensures))
+    (subst (λ file. shown c.handle-handle.result file s.file) c.attributes.ensures
+    (subst (shown c.handle-handle.result c.attributes.result) (c.attributes-in-Ok.ensures ∙ ap (λ (u : Subject). u.file) plans.subject) c.write_granted.ensures)))))

@@ -26,7 +26,7 @@ returns-in-Ok-make_dir_rules c =
       granted_by_rules scene c.args.args.now.place.dir c.bytes.result.now refl c.bytes.ensures s c.in-Ok.ensures.rules some kept,
       record {
         tree = tree;
-        dir = c.file.ensures;
+        dir = c.attributes.ensures;
         given = c.new_file_of.ensures;
         may = subst (λ t. MayMakeDirectory t s.file.fileid c.args.args.now.place.name) tree (may_make_directory s c.law.ensures.law c.law.ensures.file c.args.args.now.place.name kept);
       },

@@ -21,4 +21,4 @@ returns-in-Ok c =
     reads scene (procedure.read_link c.args.handle.now) s _ _ refl c.in-Ok.ensures.1 plans.tree
     (subst (λ t. Appends (nfs_text (answer.ReadLink (Ok (record { attributes = Some s.file; path = on_some (path_at t s.file.fileid) [] (λ path. path) })))) c.args.out.now c.write_granted.new.out) (sym plans.tree)
     (subst (λ (f : Fattr). Appends (nfs_text (answer.ReadLink (Ok (record { attributes = Some f; path = on_some (path_at c.args.tree.now f.fileid) [] (λ path. path) })))) c.args.out.now c.write_granted.new.out)
-    (c.file.ensures ∙ ap (λ (u : Subject). u.file) plans.subject) c.write_granted.ensures))
+    (c.attributes.ensures ∙ ap (λ (u : Subject). u.file) plans.subject) c.write_granted.ensures))

@@ -27,8 +27,8 @@ returns-in-Ok-remove_rules c =
       granted_by_rules scene c.args.args.now.dir c.bytes.result.now refl c.bytes.ensures s c.in-Ok.ensures.rules some kept,
       record {
         tree = tree;
-        dir = c.file.ensures;
-        may = subst (λ n. MayUnlink c.args.tree.now n c.args.args.now.name) (ap (λ (f : Fattr). f.fileid) (sym c.file.ensures))
+        dir = c.attributes.ensures;
+        may = subst (λ n. MayUnlink c.args.tree.now n c.args.args.now.name) (ap (λ (f : Fattr). f.fileid) (sym c.attributes.ensures))
             (subst (λ t. MayUnlink t s.file.fileid c.args.args.now.name) tree (may_remove s c.law.ensures.law c.law.ensures.file c.args.args.now.name kept));
       },
     )

@@ -42,10 +42,10 @@ returns-in-Ok-rename_rules c =
           c.of-from.ensures.rules c.of-from.ensures.subject c.of-to.ensures.rules c.of-to.ensures.subject s u some kept,
       record {
         tree = tree_one;
-        from_is = c.file.ensures;
-        to_is = c.file-in-Ok-rename_rules.ensures;
-        may = subst (λ n. MayRename c.args.tree.now n c.args.args.now.from.name c.file-in-Ok-rename_rules.result.now.fileid c.args.args.now.to.name) (ap (λ (f : Fattr). f.fileid) (sym c.file.ensures))
-            (subst (λ n. MayRename c.args.tree.now s.file.fileid c.args.args.now.from.name n c.args.args.now.to.name) (ap (λ (f : Fattr). f.fileid) (sym c.file-in-Ok-rename_rules.ensures))
+        from_is = c.attributes.ensures;
+        to_is = c.attributes-in-Ok-rename_rules.ensures;
+        may = subst (λ n. MayRename c.args.tree.now n c.args.args.now.from.name c.attributes-in-Ok-rename_rules.result.fileid c.args.args.now.to.name) (ap (λ (f : Fattr). f.fileid) (sym c.attributes.ensures))
+            (subst (λ n. MayRename c.args.tree.now s.file.fileid c.args.args.now.from.name n c.args.args.now.to.name) (ap (λ (f : Fattr). f.fileid) (sym c.attributes-in-Ok-rename_rules.ensures))
             (may_rename c.args.tree.now (subst Law tree_one c.law.ensures.law) s u tree_one tree_two c.law.ensures.file c.law-2.ensures.file both.volume c.args.args.now kept));
       },
     )

@@ -28,7 +28,7 @@ returns-in-Ok-set_attr_rules c =
       granted_by_rules scene a.file c.bytes.result.now refl c.bytes.ensures s c.in-Ok.ensures.rules some c.in-Ok-set_attr_rules.ensures,
       record {
         tree = tree;
-        same = c.file.ensures;
+        same = c.attributes.ensures;
         lives = subst (λ t. (f : File) × Lives t s.file.fileid f) tree (seen_lives s.tree s.file c.law.ensures.file);
         may = subst (λ t. MayTakeSize t s.file.fileid a.attributes.size) tree (may_set_size s c.law.ensures.law c.law.ensures.file a c.in-Ok-set_attr_rules.ensures);
       },

@@ -30,7 +30,7 @@ returns-in-Ok-sym_link_rules c =
       granted_by_rules scene a.place.dir c.bytes.result.now refl c.bytes.ensures s c.in-Ok.ensures.rules some kept,
       record {
         tree = tree;
-        dir = c.file.ensures;
+        dir = c.attributes.ensures;
         given = ap (λ (given : NewFile). record given { mode = link_mode }) c.new_file_of.ensures;
         may = subst (λ t. MayMakeLink t s.file.fileid a.place.name a.path) tree (may_make_link s c.law.ensures.law c.law.ensures.file a.place.name a.path kept);
       },

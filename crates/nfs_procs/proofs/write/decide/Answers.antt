@@ -25,7 +25,7 @@ returns-in-Ok-write_rules c =
       granted_by_rules scene a.file c.bytes.result.now refl c.bytes.ensures s c.in-Ok.ensures.rules some c.in-Ok-write_rules.ensures,
       record {
         tree = tree;
-        same = c.file.ensures;
+        same = c.attributes.ensures;
         may = subst (λ t. MayWrite t s.file.fileid a.offset (length a.content)) tree (may_write s c.law.ensures.law c.law.ensures.file a c.in-Ok-write_rules.ensures);
       },
     )

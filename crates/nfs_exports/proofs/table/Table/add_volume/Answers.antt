@@ -5,4 +5,4 @@ use Rattle.nfs_exports.proofs.table.Table.add_volume.Goals as goal
 
 pub invariant_of-self-2 : goal.invariant_of-self-2
 invariant_of-self-2 c =
-    c.self.invariant ∙ sym (ap (λ vs. pattern_count (lists vs)) c.in_ok-push.ensures.items ∙ pattern_count-opened c.self.inside.volumes.items c.new.result c.new.ensures.items)
+    (c.self.invariant.0 ∙ sym (ap (λ vs. pattern_count (lists vs)) c.in_ok-push.ensures.items ∙ pattern_count-opened c.self.inside.volumes.items c.new.result c.new.ensures.items), c.self.invariant.1)

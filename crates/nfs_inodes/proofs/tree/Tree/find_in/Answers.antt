@@ -13,6 +13,6 @@ unreachable-requires c =
     let dir = c.args.dir.now in
     let is : number_under t dir.attributes.fileid c.args.name.now ≡ Some c.in-Some.number.0 =
     ap (λ (l : List Entry). option_map (λ (e : Entry). e.number) (find (λ (e : Entry). bytes_eq e.name c.args.name.now) l))
-    (sym (listed_seen t dir c.requires) ∙ ap (λ (n : ℕ). listing n (kind_seen dir)) (sym c.number.ensures))
+    (sym (listed_seen t dir c.requires) ∙ ap (λ (n : ℕ). listing n (kind_seen dir)) (sym c.number.ensures) ∙ ap (listing c.number.result.0) (sym c.node.ensures))
     ∙ sym c.in-Some.ensures in
     found_shown t c.law.ensures dir.attributes.fileid c.in-Some.number.0 c.args.name.now is c.in-None-view.ensures.none

@@ -1,4 +1,4 @@
-use Rattle.std.proofs.Common.{[], Some, ap, ◌∙◌, sym, append-nil, rules}
+use Rattle.std.proofs.Common.{[], Some, refl, ap, ◌∙◌, sym, append-nil, rules}
 use Rattle.nfs_rpc.specs.Calls.{call_of}
 use Rattle.nfs_server.proofs.Performed.{reply_text, denied_done, granted_done, nothing_done, refused_done}
 use Rattle.nfs_server.proofs.reply_buf.ReplyBuf.perform.Goals as goal
@@ -9,7 +9,7 @@ returns-in-Some-Denied c = denied_done _ _ _ _ _ _ (call_of c.args.head.now) _ _
 
 pub returns-in-Some-Memory : goal.returns-in-Some-Memory
 returns-in-Some-Memory c = refused_done _ _ _ _ _ _ (call_of c.args.head.now) _ _ (c.in-Some-Memory.is ∙ ap Some c.in-Some-Memory.field-0-is) c.write_result.ensures.performs
-    (reply_text _ _ _ _ _ _ [] (search rules) c.begin-in-Some-Memory.ensures.bytes c.write_accepted-in-Some-Memory.ensures.bytes (sym (append-nil _)) c.seal-in-Some-Memory.ensures.bytes ∙ append-nil _) c.of-in-Some-Memory.ensures
+    (reply_text c.write_result.new.out.bytes _ _ _ _ _ [] (search rules) refl c.give_up.ensures.bytes (sym (append-nil _)) c.seal-in-Some-Memory.ensures.bytes ∙ append-nil _) c.of-in-Some-Memory.ensures
 
 pub returns-in-Some-Granted : goal.returns-in-Some-Granted
 returns-in-Some-Granted c = granted_done _ _ _ _ _ _ (call_of c.args.head.now) _ (c.in-Some-Granted.is ∙ ap Some c.in-Some-Granted.field-0-is) c.write_result.ensures.performs

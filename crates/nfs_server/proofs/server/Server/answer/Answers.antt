@@ -15,6 +15,6 @@ returns-clause-answers c =
     let judged = c.respond-self-inside.ensures.judged in (
       judged.0,
       ap (λ (h : Held). h.setup) c.self-2.view_is ∙ c.respond-self-inside.ensures.setup,
-      subst (λ head. Called head old.setup old.state event judged.0 answer (record { tree = c.self-2.inside.tree })) (sym (subst (λ r. GivesHead r (head_at c.args.event.bytes.now)) c.in-Ok.is c.read_call.ensures.exact))
+      subst (λ head. Called head old.setup old.state event judged.0 answer (record { tree = c.self-2.inside.tree; mounts = c.self-2.inside.mounts })) (sym (subst (λ r. GivesHead r (head_at c.args.event.bytes.now)) c.in-Ok.is c.read_call.ensures.exact))
           (subst (λ (h : Held). Judged (rpc_failure_of (call_of c.in-Ok.head) c.in-Ok.head.args) (request_of event.addr (call_of c.in-Ok.head) c.in-Ok.head.args) old.setup old.state event (call_of c.in-Ok.head) judged.0 answer h.state) (sym c.self-2.view_is) judged.1),
     )

@@ -1,0 +1,5 @@
+pub mod Pairs
+pub mod Places
+pub mod Listed
+pub mod Patterns
+pub mod Kept

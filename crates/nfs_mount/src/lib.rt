@@ -1,0 +1,13 @@
+//! MOUNT (RFC 1813, appendix I): who may mount which volume, and which clients did.
+#![tactic(auto)]
+
+pub mod examples;
+pub mod exports;
+pub mod laws;
+pub mod limits;
+pub mod mount;
+pub mod mount_list;
+pub mod mounted;
+mod replies;
+mod rules;
+mod volumes;

@@ -1,0 +1,55 @@
+//! Calls of MOUNT (RFC 1813, appendix I, section 5.2): what they ask for, and what is done.
+ghost use Rattle.std.specs.Prelude.{◌≡◌, ◌+◌, ◌≤◌, length};
+ghost use Rattle.std.specs.Result.{result_ok};
+ghost use Rattle.nfs_server.specs.Keeping.{MountsAs};
+ghost use Rattle.nfs_server.specs.Requests.{mount_args_in};
+
+use nfs_args::mount_args::{MountArgs, read_mount};
+use nfs_args::procedure::MountProcedure;
+use nfs_args::unreadable::Unreadable;
+use nfs_exports::addr::Addr;
+use nfs_exports::table::Table;
+use nfs_inodes::tree::Tree;
+use nfs_mount::exports::write_export;
+use nfs_mount::limits::MAX_DUMP_BYTES;
+use nfs_mount::mount_list::MountList;
+use nfs_mount::mounted::Mounted;
+use nfs_xdr::input::Input;
+use nfs_xdr::output::Output;
+
+/// Reads the arguments of the procedure of this number. What follows them is not looked at.
+/// `Unreadable` where no arguments of the procedure stand there, and where there is no such procedure.
+pub(crate) fn read_mount_args(proc: u32, input: Input<'_>) -> Result<MountArgs<'_>, Unreadable>
+    ensures { result_ok result ≡ mount_args_in proc input.entry }
+{
+    match MountProcedure::of(proc) {
+        Some(procedure) => read_mount(procedure, input),
+        None => Err(Unreadable),
+    }
+}
+
+/// Does what a client at this address asks for, and writes the result. `Denied` by the first rule of
+/// MNT that fails; the mount list is then as before. `Memory` of MNT alone; then the list is as
+/// before, and nothing is written.
+pub(crate) fn mount(
+    tree: &Tree,
+    table: &Table,
+    mounts: &mut MountList,
+    addr: Addr,
+    args: &MountArgs<'_>,
+    out: &mut Output,
+) -> Mounted
+    requires { MAX_DUMP_BYTES ≤ out.old.room }
+    ensures mounts { MountsAs args.now tree.now table.now addr result mounts.old mounts.new out.old out.new }
+    ensures room { length out.new.bytes + out.new.room ≡ length out.old.bytes + out.old.room }
+{
+    match args {
+        MountArgs::Null => {}
+        MountArgs::Mount(path) => return mounts.mnt(tree, table, addr, path.bytes(), out),
+        MountArgs::Dump => mounts.write_dump(tree, out),
+        MountArgs::Unmount(path) => mounts.umnt(tree, addr, path.bytes()),
+        MountArgs::UnmountAll => mounts.umnt_all(addr),
+        MountArgs::Export => write_export(tree, table, out),
+    }
+    Mounted::Granted
+}
