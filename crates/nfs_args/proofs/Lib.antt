@@ -6,3 +6,4 @@ pub mod OnceAnswers
 pub mod MountOnce
 pub mod Writes
 pub mod Lengths
+pub mod Entries

@@ -4,7 +4,8 @@ ghost use Rattle.nfs_xdr.specs.Written.{Appends};
 ghost use Rattle.nfs_args.specs.Chains.{Each, AreSpelled, chained_text, links_text};
 ghost use Rattle.nfs_args.specs.Pages.{IsEntryPlus, entry_plus_text, EntryPlusFits};
 
-use crate::opaque::{Opaque, write_post_op_handle, write_string};
+use crate::entry::{Entry, write_entry};
+use crate::opaque::{Opaque, write_post_op_handle};
 use nfs_attrs::fattr::{Fattr, write_post_op_attr};
 use nfs_xdr::output::Output;
 
@@ -31,10 +32,12 @@ pub fn write_entry_plus(out: &mut Output, entry: &EntryPlus<'_>)
     ensures text { Appends (chained_text entry_plus_text entry.now) out.old out.new }
     ensures spelled { IsEntryPlus entry.now (entry_plus_text entry.now) }
 {
-    out.boolean(true);
-    out.u64(entry.fileid);
-    write_string(out, &entry.name);
-    out.u64(entry.cookie);
+    let head = Entry {
+        fileid: entry.fileid,
+        name: Opaque::new(entry.name.bytes()),
+        cookie: entry.cookie,
+    };
+    write_entry(out, &head);
     write_post_op_attr(out, entry.attributes.as_ref());
     write_post_op_handle(out, &entry.file);
 }

@@ -83,6 +83,7 @@ pub(crate) fn write_handle(out: &mut Output, handle: &Opaque<'_>)
 }
 
 // A handle, or that there is none (RFC 1813, section 2.6, post_op_fh3).
+#[inline(always)]
 pub(crate) fn write_post_op_handle(out: &mut Output, handle: &Option<Opaque<'_>>)
     requires bound { HandleFits handle.now }
     requires room { length (optional_text opaque_text handle.now) ≤ out.old.room }
@@ -92,8 +93,9 @@ pub(crate) fn write_post_op_handle(out: &mut Output, handle: &Option<Opaque<'_>>
     match handle {
         None => out.u32(0),
         Some(handle) => {
-            out.u32(1);
-            write_handle(out, handle);
+            let handle = handle.bytes();
+            out.numbers([1, handle.len() as u32]);
+            out.fixed(handle);
         }
     }
 }

@@ -3,3 +3,4 @@ pub mod Walks
 pub mod Sizes
 pub mod Joins
 pub mod Firsts
+pub mod Shown

@@ -1,8 +1,9 @@
 -- Pages of a directory: which entries READDIR and READDIRPLUS answer (RFC 1813, sections 3.3.16 and 3.3.17), and how.
-use Rattle.std.specs.Prelude.{◌≡◌, ℕ, zero, suc, ◌+◌, Bool, not, ◌&&◌, ◌||◌, true, false, List, ◌++◌, map, length, sum_by, take, min, nat_eq, nat_le, nat_lt, None, Result, Ok, Err, if◌then◌else◌}
+use Rattle.std.specs.Prelude.{◌≡◌, ℕ, zero, suc, ◌+◌, Bool, not, ◌&&◌, ◌||◌, true, false, List, ◌++◌, map, length, sum_by, take, min, nat_eq, nat_le, nat_lt, Option, None, Result, Ok, Err, if◌then◌else◌}
 use Rattle.std.specs.List.{filter}
 use Rattle.nfs_xdr.specs.Spelling.{padding}
 use Rattle.nfs_xdr.specs.Written.{Written, Appends}
+use Rattle.nfs_attrs.specs.declared.fattr.Fattr.{Fattr}
 use Rattle.nfs_handles.specs.Handles.{handle_at}
 use Rattle.nfs_inodes.specs.Tree.{Tree, Entry}
 use Rattle.nfs_inodes.specs.Reading.{listing_at, attributes_at, numbered_files}
@@ -75,15 +76,13 @@ left_after t d cookie = filter (λ e. nat_lt cookie e.cookie) (listing_at t d)
 abbrev pub entry_told : Entry → told.Entry
 entry_told e = record { fileid = e.number; name = e.name; cookie = e.cookie }
 
--- entryplus3: what the file is, where the caller may search the directory
+-- entryplus3 with what the file is
+abbrev pub entry_plus_with : Entry → Option Fattr → Option (List ℕ) → told_plus.EntryPlus
+entry_plus_with e attributes handle = record { fileid = e.number; name = e.name; cookie = e.cookie; attributes = attributes; file = handle }
+
+-- what the file is, where the caller may search the directory
 abbrev pub entry_plus_told : Tree → Bool → Entry → told_plus.EntryPlus
-entry_plus_told t searchable e = record {
-  fileid = e.number;
-  name = e.name;
-  cookie = e.cookie;
-  attributes = if searchable then attributes_at t e.number else None;
-  file = if searchable then handle_at (numbered_files t) e.number else None;
-}
+entry_plus_told t searchable e = entry_plus_with e (if searchable then attributes_at t e.number else None) (if searchable then handle_at (numbered_files t) e.number else None)
 
 -- a page of what is left is appended: the longest prefix that passes, and whether that is all; or nothing is, where not even the first entry passes
 abbrev pub Answers : (List Entry → Bool) → (List Entry → List ℕ) → List Entry → Result Page TooSmall → Written → Written → Type 0

@@ -31,6 +31,7 @@ impl<'a> Listed<'a> {
     }
 
     /// The next entry, if there is one.
+    #[inline(always)]
     pub(crate) fn next(&mut self) -> Option<EntryView<'a>>
         ensures { Steps result self.old self.new }
     {

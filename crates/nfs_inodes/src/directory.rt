@@ -43,6 +43,7 @@ impl<'a> Iterator for Entries<'a> {
 
     ghost remaining = { item_count entries_left };
 
+    #[inline(always)]
     fn next(&mut self) -> Option<EntryView<'a>> {
         let (entry, rest) = self.entries.split_first()?;
         self.entries = rest;
@@ -257,6 +258,7 @@ fn later(entries: &[StoredEntry], cookie: u64) -> Option<EntryView<'_>>
     None
 }
 
+#[inline(always)]
 fn entry_view(entry: &StoredEntry) -> EntryView<'_>
     ensures { entry_seen result ≡ entry_of entry.now }
 {

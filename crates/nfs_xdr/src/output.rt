@@ -122,7 +122,9 @@ impl Output {
     {
         let zeros = [0u8; 3];
         let padding = (4 - len % 4) % 4;
-        self.part(&zeros[..padding]);
+        if padding > 0 {
+            self.part(&zeros[..padding]);
+        }
     }
 
     /// Writes opaque data (RFC 4506, section 4.10): its length, its bytes, and zeros as padding.

@@ -1,5 +1,8 @@
-use Rattle.nfs_xdr.proofs.Writing.{appends_then}
+use Rattle.nfs_args.proofs.Entries.{entry_parts, entry_written}
 use Rattle.nfs_args.proofs.entry.write_entry.Goals as goal
 
 pub returns-clause-text : goal.returns-clause-text
-returns-clause-text c = appends_then _ _ _ _ _ c.boolean.ensures.text (appends_then _ _ _ _ _ c.u64.ensures.text (appends_then _ _ _ _ _ c.write_string.ensures.text c.u64-2.ensures.text))
+returns-clause-text c = entry_parts c.args.entry.now _ _ _ _ _ _ _ c.halves-high.ensures.text c.bytes-name.ensures c.numbers.ensures.text c.fixed.ensures c.u64.ensures.text
+
+pub returns-clause-spelled : goal.returns-clause-spelled
+returns-clause-spelled c = entry_written c.args.entry.now c.requires.fits c.halves-high.ensures.spelled c.u64.ensures.spelled

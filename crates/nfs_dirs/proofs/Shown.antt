@@ -1,0 +1,41 @@
+-- What an entry of READDIRPLUS tells of its file.
+use Rattle.std.proofs.Common.{◌≡◌, ℕ, Bool, true, false, List, Option, Some, None, if◌then◌else◌, option_map, is_some, refl, sym, subst}
+use Rattle.nfs_xdr.specs.Written.{Written, Appends}
+use Rattle.nfs_attrs.specs.declared.fattr.Fattr.{Fattr}
+use Rattle.nfs_handles.specs.Handles.{handle_text, handle_at}
+use Rattle.nfs_handles.specs.NumberedFiles as numbered
+use Rattle.nfs_inodes.specs.Tree.{Tree, File, Entry, at, nlink}
+use Rattle.nfs_inodes.specs.Reading.{attributes_at, attributes_of, numbered_files}
+use Rattle.nfs_inodes.proofs.Follows.{lives_alike}
+use Rattle.nfs_args.specs.Chains.{chained_text}
+use Rattle.nfs_args.specs.Pages.{entry_plus_text}
+use Rattle.nfs_dirs.specs.Pages.{entry_plus_told, entry_plus_with}
+
+no_handle : (o : Option (numbered.TaggedFile File)) (p : Option File) (key : List ℕ) (n : ℕ) → is_some o ≡ is_some p → (g : File → Fattr) → option_map g p ≡ None → option_map (λ file. handle_text key file.tag n) o ≡ None
+no_handle None p key n same g e = refl
+no_handle (Some f) None key n same g e = cc
+no_handle (Some f) (Some h) key n same g e = cc
+
+module _ (t : Tree) (e : Entry) (a b : Written) where
+  abbrev told : Bool → Option Fattr → Option (List ℕ) → Type 0
+  told searchable attributes handle = Appends (chained_text entry_plus_text (entry_plus_with e (if searchable then attributes else None) (if searchable then handle else None))) a b
+
+  -- a file that lives
+  pub told_living : (searchable : Bool) (n : ℕ) (attributes : Fattr) (handle : List ℕ) → searchable ≡ true → n ≡ e.number → attributes_at t n ≡ Some attributes → handle_at (numbered_files t) n ≡ Some handle
+      → Appends (chained_text entry_plus_text (entry_plus_with e (Some attributes) (Some handle))) a b → Appends (chained_text entry_plus_text (entry_plus_told t searchable e)) a b
+  told_living searchable n attributes handle is_searchable same attributes_are handle_is appended =
+      subst (λ s. told s (attributes_at t e.number) (handle_at (numbered_files t) e.number)) (sym is_searchable)
+      (subst (λ m. told true (attributes_at t m) (handle_at (numbered_files t) m)) same
+      (subst (λ o. told true o (handle_at (numbered_files t) n)) (sym attributes_are)
+      (subst (λ o. told true (Some attributes) o) (sym handle_is) appended)))
+
+  -- where the caller may not search, and where no file lives
+  pub told_hidden : (searchable : Bool) → searchable ≡ false → Appends (chained_text entry_plus_text (entry_plus_with e None None)) a b → Appends (chained_text entry_plus_text (entry_plus_told t searchable e)) a b
+  told_hidden searchable hidden appended = subst (λ s. told s (attributes_at t e.number) (handle_at (numbered_files t) e.number)) (sym hidden) appended
+
+  pub told_gone : (searchable : Bool) → searchable ≡ true → attributes_at t e.number ≡ None → Appends (chained_text entry_plus_text (entry_plus_with e None None)) a b → Appends (chained_text entry_plus_text (entry_plus_told t searchable e)) a b
+  told_gone searchable is_searchable gone appended =
+      let no = no_handle (numbered.at (numbered_files t) e.number) (at e.number t.files) t.key e.number (lives_alike t e.number) (λ f. attributes_of e.number f (nlink t.files e.number f)) gone in
+      subst (λ s. told s (attributes_at t e.number) (handle_at (numbered_files t) e.number)) (sym is_searchable)
+      (subst (λ o. told true o (handle_at (numbered_files t) e.number)) (sym gone)
+      (subst (λ o. told true None o) (sym no) appended))
