@@ -1,5 +1,5 @@
 //! The results of the procedures of NFS and of MOUNT.
-ghost use Rattle.std.specs.Prelude.{◌≡◌, ◌<◌, ◌≤◌, length};
+ghost use Rattle.std.specs.Prelude.{◌≡◌, ◌<◌, ◌≤◌, length, IfSome};
 ghost use Rattle.nfs_xdr.specs.Spelling.{opaque_text};
 ghost use Rattle.nfs_args.specs.Chains.{chained_text};
 ghost use Rattle.nfs_args.specs.Pages.{entry_text, EntryFits, entry_plus_text, EntryPlusFits};
@@ -64,7 +64,7 @@ pub(crate) fn answer(alloc: Global, words: &mut SplitWhitespace<'_>) -> Option<S
 fn of_nfs(alloc: Global, arm: &str, proc: Procedure) -> Option<String> {
     match arm {
         "ok" => ok(alloc, proc),
-        "failed" => failed(alloc, proc),
+        "failed" => written(alloc, proc, &refusal(proc)?),
         _ => None,
     }
 }
@@ -80,56 +80,69 @@ fn of_mount(alloc: Global, arm: &str, proc: MountProcedure) -> Option<String> {
 // What was asked for.
 fn ok(alloc: Global, proc: Procedure) -> Option<String> {
     match proc {
-        Procedure::GetAttr => written(alloc, proc, &NfsAnswer::GetAttr(Ok(attributes()))),
-        Procedure::SetAttr => written(alloc, proc, &NfsAnswer::SetAttr(Ok(change()))),
-        Procedure::Lookup => written(alloc, proc, &NfsAnswer::Lookup(Ok(found()))),
-        Procedure::Access => written(alloc, proc, &NfsAnswer::Access(Ok(rights()))),
-        Procedure::ReadLink => written(alloc, proc, &NfsAnswer::ReadLink(Ok(link_path()))),
-        Procedure::Read => written(alloc, proc, &NfsAnswer::Read(Ok(read_data()))),
-        Procedure::Write => written(alloc, proc, &NfsAnswer::Write(Ok(bytes_written()))),
-        Procedure::Create => written(alloc, proc, &NfsAnswer::Create(Ok(made()))),
-        Procedure::MakeDir => written(alloc, proc, &NfsAnswer::MakeDir(Ok(made()))),
-        Procedure::SymLink => written(alloc, proc, &NfsAnswer::SymLink(Ok(made()))),
-        Procedure::MakeNode => written(alloc, proc, &NfsAnswer::MakeNode(Ok(made()))),
-        Procedure::Remove => written(alloc, proc, &NfsAnswer::Remove(Ok(change()))),
-        Procedure::RemoveDir => written(alloc, proc, &NfsAnswer::RemoveDir(Ok(change()))),
-        Procedure::Rename => written(alloc, proc, &NfsAnswer::Rename(Ok(renamed()))),
-        Procedure::Link => written(alloc, proc, &NfsAnswer::Link(Ok(linked()))),
-        Procedure::FsStat => written(alloc, proc, &NfsAnswer::FsStat(Ok(room()))),
-        Procedure::FsInfo => written(alloc, proc, &NfsAnswer::FsInfo(Ok(server_limits()))),
-        Procedure::PathConf => written(alloc, proc, &NfsAnswer::PathConf(Ok(path_limits()))),
-        Procedure::Commit => written(alloc, proc, &NfsAnswer::Commit(Ok(committed()))),
         Procedure::ReadDir => page(alloc),
         Procedure::ReadDirPlus => page_plus(alloc),
+        _ => written(alloc, proc, &granted(proc)?),
+    }
+}
+
+// What was asked for, where it isn't a page.
+fn granted(proc: Procedure) -> Option<NfsAnswer<'static>>
+    ensures { IfSome result (λ a. (answered a ≡ proc) × NfsFits a × IsWithin a) }
+{
+    match proc {
+        Procedure::GetAttr => Some(NfsAnswer::GetAttr(Ok(attributes()))),
+        Procedure::SetAttr => Some(NfsAnswer::SetAttr(Ok(change()))),
+        Procedure::Lookup => Some(NfsAnswer::Lookup(Ok(found()))),
+        Procedure::Access => Some(NfsAnswer::Access(Ok(rights()))),
+        Procedure::ReadLink => Some(NfsAnswer::ReadLink(Ok(link_path()))),
+        Procedure::Read => Some(NfsAnswer::Read(Ok(read_data()))),
+        Procedure::Write => Some(NfsAnswer::Write(Ok(bytes_written()))),
+        Procedure::Create => Some(NfsAnswer::Create(Ok(made()))),
+        Procedure::MakeDir => Some(NfsAnswer::MakeDir(Ok(made()))),
+        Procedure::SymLink => Some(NfsAnswer::SymLink(Ok(made()))),
+        Procedure::MakeNode => Some(NfsAnswer::MakeNode(Ok(made()))),
+        Procedure::Remove => Some(NfsAnswer::Remove(Ok(change()))),
+        Procedure::RemoveDir => Some(NfsAnswer::RemoveDir(Ok(change()))),
+        Procedure::Rename => Some(NfsAnswer::Rename(Ok(renamed()))),
+        Procedure::Link => Some(NfsAnswer::Link(Ok(linked()))),
+        Procedure::FsStat => Some(NfsAnswer::FsStat(Ok(room()))),
+        Procedure::FsInfo => Some(NfsAnswer::FsInfo(Ok(server_limits()))),
+        Procedure::PathConf => Some(NfsAnswer::PathConf(Ok(path_limits()))),
+        Procedure::Commit => Some(NfsAnswer::Commit(Ok(committed()))),
+        Procedure::ReadDir => None,
+        Procedure::ReadDirPlus => None,
         Procedure::Null => None,
     }
 }
 
 // Why not.
-fn failed(alloc: Global, proc: Procedure) -> Option<String> {
+fn refusal(proc: Procedure) -> Option<NfsAnswer<'static>>
+    ensures { IfSome result (λ a. (answered a ≡ proc) × NfsFits a × IsWithin a) }
+{
     match proc {
         Procedure::Null => None,
-        Procedure::GetAttr => written(alloc, proc, &NfsAnswer::GetAttr(Err(refused_alone()))),
-        Procedure::SetAttr => written(alloc, proc, &NfsAnswer::SetAttr(Err(refused_change()))),
-        Procedure::Lookup => written(alloc, proc, &NfsAnswer::Lookup(Err(refused()))),
-        Procedure::Access => written(alloc, proc, &NfsAnswer::Access(Err(refused()))),
-        Procedure::ReadLink => written(alloc, proc, &NfsAnswer::ReadLink(Err(refused()))),
-        Procedure::Read => written(alloc, proc, &NfsAnswer::Read(Err(refused()))),
-        Procedure::Write => written(alloc, proc, &NfsAnswer::Write(Err(refused_change()))),
-        Procedure::Create => written(alloc, proc, &NfsAnswer::Create(Err(refused_change()))),
-        Procedure::MakeDir => written(alloc, proc, &NfsAnswer::MakeDir(Err(refused_change()))),
-        Procedure::SymLink => written(alloc, proc, &NfsAnswer::SymLink(Err(refused_change()))),
-        Procedure::MakeNode => written(alloc, proc, &NfsAnswer::MakeNode(Err(refused_change()))),
-        Procedure::Remove => written(alloc, proc, &NfsAnswer::Remove(Err(refused_change()))),
-        Procedure::RemoveDir => written(alloc, proc, &NfsAnswer::RemoveDir(Err(refused_change()))),
-        Procedure::Rename => written(alloc, proc, &NfsAnswer::Rename(Err(refused_rename()))),
-        Procedure::Link => written(alloc, proc, &NfsAnswer::Link(Err(refused_link()))),
-        Procedure::ReadDir => written(alloc, proc, &NfsAnswer::ReadDir(Err(refused()))),
-        Procedure::ReadDirPlus => written(alloc, proc, &NfsAnswer::ReadDirPlus(Err(refused()))),
-        Procedure::FsStat => written(alloc, proc, &NfsAnswer::FsStat(Err(refused()))),
-        Procedure::FsInfo => written(alloc, proc, &NfsAnswer::FsInfo(Err(refused()))),
-        Procedure::PathConf => written(alloc, proc, &NfsAnswer::PathConf(Err(refused()))),
-        Procedure::Commit => written(alloc, proc, &NfsAnswer::Commit(Err(refused_change()))),
+        Procedure::GetAttr => Some(NfsAnswer::GetAttr(Err(refused_alone()))),
+        Procedure::SetAttr => Some(NfsAnswer::SetAttr(Err(refused_change()))),
+        Procedure::Lookup => Some(NfsAnswer::Lookup(Err(refused()))),
+        Procedure::Access => Some(NfsAnswer::Access(Err(refused()))),
+        Procedure::ReadLink => Some(NfsAnswer::ReadLink(Err(refused()))),
+        Procedure::Read => Some(NfsAnswer::Read(Err(refused()))),
+        Procedure::Write => Some(NfsAnswer::Write(Err(refused_change()))),
+        Procedure::Create => Some(NfsAnswer::Create(Err(refused_change()))),
+        Procedure::MakeDir => Some(NfsAnswer::MakeDir(Err(refused_change()))),
+        Procedure::SymLink => Some(NfsAnswer::SymLink(Err(refused_change()))),
+        Procedure::MakeNode => Some(NfsAnswer::MakeNode(Err(refused_change()))),
+        Procedure::Remove => Some(NfsAnswer::Remove(Err(refused_change()))),
+        Procedure::RemoveDir => Some(NfsAnswer::RemoveDir(Err(refused_change()))),
+        Procedure::Rename => Some(NfsAnswer::Rename(Err(refused_rename()))),
+        Procedure::Link => Some(NfsAnswer::Link(Err(refused_link()))),
+        Procedure::ReadDir => Some(NfsAnswer::ReadDir(Err(refused()))),
+        Procedure::ReadDirPlus => Some(NfsAnswer::ReadDirPlus(Err(refused()))),
+        Procedure::FsStat => Some(NfsAnswer::FsStat(Err(refused()))),
+        Procedure::FsInfo => Some(NfsAnswer::FsInfo(Err(refused()))),
+        Procedure::PathConf => Some(NfsAnswer::PathConf(Err(refused()))),
+        Procedure::Commit => Some(NfsAnswer::Commit(Err(refused_change()))),
     }
 }
 
