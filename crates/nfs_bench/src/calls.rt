@@ -1,9 +1,8 @@
-//! ACCESS, calls that change the tree, and a call that is denied, through the server.
+//! Calls through the server: of NULL, that read, that change the tree, and one that is denied.
 
-use crate::procedures::{number, record, served};
+use crate::records::{first_of, number, second_of, served};
 use nfs_attrs::moment::Moment;
 use nfs_exports::addr::Addr;
-use nfs_inodes::tree::Tree;
 use nfs_server::event::{Event, Handled};
 use nfs_server::reply_buf::ReplyBuf;
 use nfs_server::server::Server;
@@ -13,27 +12,18 @@ use std::io;
 use std::rt::Clock;
 use std::time::Instant;
 
-// The directory `/pub`, and the file of user 9 that is made there.
-const PUB: u64 = 2;
-
-const LARGE: u64 = 9;
-
-// Names behind their lengths.
-const X: [u8; 8] = [0, 0, 0, 1, b'x', 0, 0, 0];
-
-const Y: [u8; 8] = [0, 0, 0, 1, b'y', 0, 0, 0];
-
-const NOTHING: [u8; 24] = [0; 24];
-
-const MODE: [u8; 8] = [0, 0, 0, 1, 0, 0, 1, 0xa4];
-
 // From where most calls come, and from where none is granted.
 const GRANTED: Addr = Addr(0x0a00_0001);
 
 const DENIED: Addr = Addr(0x0a00_0301);
 
 /// The measures, in the order in which they are taken.
-pub(crate) const MEASURES: [&str; 7] = [
+pub(crate) const MEASURES: [&str; 12] = [
+    "null",
+    "getattr",
+    "lookup-x",
+    "read-4096",
+    "read-65536",
     "access",
     "setattr",
     "create-remove",
@@ -62,7 +52,7 @@ pub(crate) fn fixed<R: Print + AllocGlobal>(rt: &R) -> io::Result<()> {
 
 /// Prints the nanoseconds of a round of calls.
 pub(crate) fn measure<R: Clock + Print + AllocGlobal>(rt: &R, name: &str) -> io::Result<()> {
-    let rounds = if name.starts_with("write") {
+    let rounds = if name.ends_with("65536") {
         100_000
     } else {
         1_000_000
@@ -170,55 +160,4 @@ fn answer(
         denied.put(line);
         counted.denied = counted.denied.saturating_add(1);
     }
-}
-
-// The first call of a round.
-fn first_of(alloc: Global, tree: &Tree, name: &str) -> io::Result<Vec<u8>> {
-    match name {
-        "access" => record(alloc, tree, 4, LARGE, &[0, 0, 0, 0x3f]),
-        "setattr" => with(record(alloc, tree, 2, LARGE, &MODE)?, &[&NOTHING]),
-        "create-remove" => with(record(alloc, tree, 8, PUB, &Y)?, &[&[0, 0, 0, 1], &NOTHING]),
-        "rename" => renamed(alloc, tree, &X, &Y),
-        "write-4096" => written(alloc, tree, 4_096),
-        "write-65536" => written(alloc, tree, 65_536),
-        _ => record(alloc, tree, 1, LARGE, &[]),
-    }
-}
-
-// The second one, which undoes the first.
-fn second_of(alloc: Global, tree: &Tree, name: &str) -> io::Result<Option<Vec<u8>>> {
-    match name {
-        "create-remove" => Ok(Some(record(alloc, tree, 12, PUB, &Y)?)),
-        "rename" => Ok(Some(renamed(alloc, tree, &Y, &X)?)),
-        _ => Ok(None),
-    }
-}
-
-// A RENAME within the directory.
-fn renamed(alloc: Global, tree: &Tree, from: &[u8], to: &[u8]) -> io::Result<Vec<u8>> {
-    let call = with(record(alloc, tree, 14, PUB, from)?, &[&[0, 0, 0, 24]])?;
-    match tree.handle_of(PUB) {
-        Some(handle) => with(call, &[&handle, to]),
-        None => Ok(call),
-    }
-}
-
-// A WRITE of so many zeros over the file's first bytes.
-fn written(alloc: Global, tree: &Tree, count: u32) -> io::Result<Vec<u8>> {
-    let count_bytes = count.to_be_bytes();
-    let mut call = with(
-        record(alloc, tree, 7, LARGE, &[0; 8])?,
-        &[&count_bytes, &[0, 0, 0, 2], &count_bytes],
-    )?;
-    let len = call.len().saturating_add(count as usize);
-    call.resize(len, 0)?;
-    Ok(call)
-}
-
-// A call with more bytes behind it.
-fn with(mut call: Vec<u8>, parts: &[&[u8]]) -> io::Result<Vec<u8>> {
-    for part in parts {
-        call.extend_from_slice(part)?;
-    }
-    Ok(call)
 }

@@ -8,9 +8,8 @@ mod calls;
 mod changes;
 mod described;
 mod framing;
-mod null_call;
 mod pages;
-mod procedures;
+mod records;
 mod tree;
 
 use std::process::ExitCode;
@@ -29,8 +28,6 @@ fn run<R: Env + Clock + Print + AllocGlobal>(rt: &R) -> io::Result<()> {
     match words.first() {
         None => {
             framing::fixed(rt)?;
-            null_call::fixed(rt)?;
-            procedures::fixed(rt)?;
             calls::fixed(rt)?;
             arguments::fixed(rt)?;
             answers::each(rt, false)?;
@@ -39,11 +36,6 @@ fn run<R: Env + Clock + Print + AllocGlobal>(rt: &R) -> io::Result<()> {
             changes::fixed(rt)
         }
         Some(word) if word.as_str() == "framing" => framing::measure(rt),
-        Some(word) if word.as_str() == "null" => null_call::measure(rt),
-        Some(word) if word.as_str() == "getattr" => procedures::measure_getattr(rt),
-        Some(word) if word.as_str() == "lookup-x" => procedures::measure_lookup(rt),
-        Some(word) if word.as_str() == "read-4096" => procedures::measure_read(rt, 4_096),
-        Some(word) if word.as_str() == "read-65536" => procedures::measure_read(rt, 65_536),
         Some(word) if word.as_str() == "arguments" => arguments::measure(rt),
         Some(word) if word.as_str() == "answers" => answers::each(rt, true),
         Some(word) if word.as_str() == "tree-1000" => tree::measure(rt, 1),

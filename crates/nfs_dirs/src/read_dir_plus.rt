@@ -82,7 +82,12 @@ fn put(tree: &Tree, searchable: bool, entry: &EntryView<'_>, out: &mut Output)
     if searchable {
         if let Some(file) = tree.view(entry.number) {
             let handle = tree.handle(&file);
-            put_told(entry, Some(file.attributes()), Some(Opaque::new(&handle)), out);
+            put_told(
+                entry,
+                Some(file.attributes()),
+                Some(Opaque::new(&handle)),
+                out,
+            );
             return;
         }
     }

@@ -11,5 +11,6 @@ returns-in-Some-clause-text c =
 
 pub returns-clause-text : goal.returns-clause-text
 returns-clause-text c = elim c.if-searchable.branch [
-    then-searchable+in_default w ↦ told_gone c.args.tree.now (entry_seen c.args.entry.now) _ _ c.args.searchable w.if-searchable.true (w.in_default.ensures.none) c.put_told-2.ensures
-  | else-searchable w ↦ told_hidden c.args.tree.now (entry_seen c.args.entry.now) _ _ c.args.searchable w.if-searchable.false c.put_told-2.ensures ]
+  | then-searchable+in_default w ↦ told_gone c.args.tree.now (entry_seen c.args.entry.now) _ _ c.args.searchable w.if-searchable.true (w.in_default.ensures.none) c.put_told-2.ensures
+  | else-searchable w ↦ told_hidden c.args.tree.now (entry_seen c.args.entry.now) _ _ c.args.searchable w.if-searchable.false c.put_told-2.ensures
+]

@@ -1,0 +1,158 @@
+//! The server that is measured, and the records of its calls.
+
+use crate::described::loaded;
+use nfs_attrs::moment::Moment;
+use nfs_handles::number::Number;
+use nfs_inodes::new_file::NewFile;
+use nfs_inodes::tree::Tree;
+use nfs_load::loaded::Loaded;
+use nfs_server::server::Server;
+use std::alloc::{AllocError, Global};
+use std::io;
+
+const START: Moment = Moment {
+    seconds: 0,
+    nanos: 0,
+};
+
+const GIVEN: NewFile = NewFile {
+    mode: 0o644,
+    uid: 9,
+    gid: 9,
+    atime: START,
+    mtime: START,
+};
+
+// A call of NFS up to the procedure.
+const HEAD: [u8; 20] = [
+    0, 0, 0, 42, 0, 0, 0, 0, 0, 0, 0, 2, 0, 1, 0x86, 0xa3, 0, 0, 0, 3,
+];
+
+// A call of NULL without a credential.
+const NULL: [u8; 40] = [
+    0, 0, 0, 42, 0, 0, 0, 0, 0, 0, 0, 2, 0, 1, 0x86, 0xa3, 0, 0, 0, 3, 0, 0, 0, 0, 0, 0, 0, 0, 0,
+    0, 0, 0, 0, 0, 0, 0, 0, 0, 0, 0,
+];
+
+// The credential of user 9, an empty verifier, and the length of a handle.
+const USER: [u8; 40] = [
+    0, 0, 0, 1, 0, 0, 0, 20, 0, 0, 0, 0, 0, 0, 0, 0, 0, 0, 0, 9, 0, 0, 0, 9, 0, 0, 0, 0, 0, 0, 0,
+    0, 0, 0, 0, 0, 0, 0, 0, 24,
+];
+
+// The directory `/pub`, and the file of user 9 that is made there.
+const PUB: u64 = 2;
+
+const LARGE: u64 = 9;
+
+// Names behind their lengths.
+const X: [u8; 8] = [0, 0, 0, 1, b'x', 0, 0, 0];
+
+const Y: [u8; 8] = [0, 0, 0, 1, b'y', 0, 0, 0];
+
+const NOTHING: [u8; 24] = [0; 24];
+
+const MODE: [u8; 8] = [0, 0, 0, 1, 0, 0, 1, 0xa4];
+
+/// A server of the description, with a file of 64 KiB in `/pub`.
+pub(crate) fn served(alloc: Global) -> io::Result<Server> {
+    let Loaded { mut tree, table } = loaded(alloc)?;
+    let mut bytes = Vec::new(alloc);
+    bytes.resize(65_536, 7)?;
+    make(&mut tree, bytes)?;
+    Ok(Server::new(alloc, Loaded { tree, table }, 128)?)
+}
+
+fn make(tree: &mut Tree, bytes: Vec<u8>) -> Result<(), AllocError> {
+    if tree.may_make(Number(PUB), b"large", bytes.len()) {
+        tree.make_file(Number(PUB), b"large", bytes, &GIVEN, None, START)?;
+    }
+    Ok(())
+}
+
+// A call by the handle of a file, with what stands behind it.
+fn record(
+    alloc: Global,
+    tree: &Tree,
+    procedure: u8,
+    number: u64,
+    rest: &[u8],
+) -> io::Result<Vec<u8>> {
+    let mut record = Vec::with_capacity(alloc, 128)?;
+    record.extend_from_slice(&HEAD)?;
+    record.extend_from_slice(&[0, 0, 0, procedure])?;
+    record.extend_from_slice(&USER)?;
+    if let Some(handle) = tree.handle_of(number) {
+        record.extend_from_slice(&handle)?;
+    }
+    record.extend_from_slice(rest)?;
+    Ok(record)
+}
+
+/// Gives a call its number.
+pub(crate) fn number(record: &mut [u8], xid: u32) {
+    if record.len() >= 4 {
+        record[..4].copy_from_slice(&xid.to_be_bytes());
+    }
+}
+
+/// The first call of a round.
+pub(crate) fn first_of(alloc: Global, tree: &Tree, name: &str) -> io::Result<Vec<u8>> {
+    match name {
+        "null" => with(Vec::new(alloc), &[&NULL]),
+        "lookup-x" => record(alloc, tree, 3, PUB, &X),
+        "read-4096" => read(alloc, tree, 4_096),
+        "read-65536" => read(alloc, tree, 65_536),
+        "access" => record(alloc, tree, 4, LARGE, &[0, 0, 0, 0x3f]),
+        "setattr" => with(record(alloc, tree, 2, LARGE, &MODE)?, &[&NOTHING]),
+        "create-remove" => with(record(alloc, tree, 8, PUB, &Y)?, &[&[0, 0, 0, 1], &NOTHING]),
+        "rename" => renamed(alloc, tree, &X, &Y),
+        "write-4096" => written(alloc, tree, 4_096),
+        "write-65536" => written(alloc, tree, 65_536),
+        _ => record(alloc, tree, 1, LARGE, &[]),
+    }
+}
+
+/// The second one, which undoes the first.
+pub(crate) fn second_of(alloc: Global, tree: &Tree, name: &str) -> io::Result<Option<Vec<u8>>> {
+    match name {
+        "create-remove" => Ok(Some(record(alloc, tree, 12, PUB, &Y)?)),
+        "rename" => Ok(Some(renamed(alloc, tree, &Y, &X)?)),
+        _ => Ok(None),
+    }
+}
+
+// A READ of so many bytes from the file's beginning.
+fn read(alloc: Global, tree: &Tree, count: u32) -> io::Result<Vec<u8>> {
+    let [a, b, c, d] = count.to_be_bytes();
+    record(alloc, tree, 6, LARGE, &[0, 0, 0, 0, 0, 0, 0, 0, a, b, c, d])
+}
+
+// A RENAME within the directory.
+fn renamed(alloc: Global, tree: &Tree, from: &[u8], to: &[u8]) -> io::Result<Vec<u8>> {
+    let call = with(record(alloc, tree, 14, PUB, from)?, &[&[0, 0, 0, 24]])?;
+    match tree.handle_of(PUB) {
+        Some(handle) => with(call, &[&handle, to]),
+        None => Ok(call),
+    }
+}
+
+// A WRITE of so many zeros over the file's first bytes.
+fn written(alloc: Global, tree: &Tree, count: u32) -> io::Result<Vec<u8>> {
+    let count_bytes = count.to_be_bytes();
+    let mut call = with(
+        record(alloc, tree, 7, LARGE, &[0; 8])?,
+        &[&count_bytes, &[0, 0, 0, 2], &count_bytes],
+    )?;
+    let len = call.len().saturating_add(count as usize);
+    call.resize(len, 0)?;
+    Ok(call)
+}
+
+// A call with more bytes behind it.
+fn with(mut call: Vec<u8>, parts: &[&[u8]]) -> io::Result<Vec<u8>> {
+    for part in parts {
+        call.extend_from_slice(part)?;
+    }
+    Ok(call)
+}
