@@ -241,3 +241,12 @@ Takes old new (Err fault) read = read ≡ Err fault
 abbrev pub Answers : {A : Type 0} → Result A Unreadable → Read A → Type 0
 Answers (Ok value) read = (rest : List ℕ) × (read ≡ Ok (value, rest))
 Answers (Err refusal) read = (fault : XdrFault) × (read ≡ Err fault)
+
+-- The same where the value is put in the place of another, which stays where nothing can be read.
+abbrev pub TakesInto : {A : Type 0} → A → A → List ℕ → Result (Unit {0}) XdrFault → Read A → Type 0
+TakesInto was is new (Ok done) read = read ≡ Ok (is, new)
+TakesInto was is new (Err fault) read = (read ≡ Err fault) × (is ≡ was)
+
+abbrev pub Fills : {A : Type 0} → A → A → Result (Unit {0}) Unreadable → Read A → Type 0
+Fills was is (Ok done) read = (rest : List ℕ) × (read ≡ Ok (is, rest))
+Fills was is (Err refusal) read = ((fault : XdrFault) × (read ≡ Err fault)) × (is ≡ was)

@@ -1,8 +1,8 @@
 //! The arguments of the procedures of NFS (RFC 1813, section 3.3).
-ghost use Rattle.std.specs.Prelude.{◌≡◌, ℕ, List, IfOk, IsErr};
+ghost use Rattle.std.specs.Prelude.{◌≡◌, ℕ, List, IfOk, OnOk, IsErr};
 ghost use Rattle.nfs_xdr.specs.Spelling.{Begins, BeginsNone};
 ghost use Rattle.nfs_args.specs.Spelling.{IsArgsOf};
-ghost use Rattle.nfs_args.specs.Reading.{Takes, args_at, Answers};
+ghost use Rattle.nfs_args.specs.Reading.{Answers, Fills, TakesInto, args_at};
 
 use crate::access::{Access, access_of};
 use crate::byte_range::{ByteRange, byte_range_of};
@@ -79,38 +79,57 @@ pub fn read_nfs(proc: Procedure, input: Input<'_>) -> Result<NfsArgs<'_>, Unread
     ensures read { IfOk result (λ args. (rest : List ℕ) × Begins (IsArgsOf proc) args input.entry rest) }
     ensures unreadable { IsErr result → BeginsNone (IsArgsOf proc) input.entry }
 {
-    let mut ahead = Input::new(input.rest());
-    match args_of(proc, &mut ahead) {
-        Ok(args) => Ok(args),
-        Err(_) => Err(Unreadable),
+    let mut args = NfsArgs::Null;
+    match args.read(proc, input) {
+        Ok(()) => Ok(args),
+        Err(unreadable) => Err(unreadable),
     }
 }
 
-fn args_of<'a>(proc: Procedure, input: &mut Input<'a>) -> Result<NfsArgs<'a>, XdrFault>
-    ensures { Takes input.old input.new result (args_at proc input.old) }
-{
-    match proc {
-        Procedure::Null => Ok(NfsArgs::Null),
-        Procedure::GetAttr => Ok(NfsArgs::GetAttr(handle_of(input)?)),
-        Procedure::SetAttr => Ok(NfsArgs::SetAttr(set_attr_of(input)?)),
-        Procedure::Lookup => Ok(NfsArgs::Lookup(dir_op_of(input)?)),
-        Procedure::Access => Ok(NfsArgs::Access(access_of(input)?)),
-        Procedure::ReadLink => Ok(NfsArgs::ReadLink(handle_of(input)?)),
-        Procedure::Read => Ok(NfsArgs::Read(byte_range_of(input)?)),
-        Procedure::Write => Ok(NfsArgs::Write(write_of(input)?)),
-        Procedure::Create => Ok(NfsArgs::Create(create_of(input)?)),
-        Procedure::MakeDir => Ok(NfsArgs::MakeDir(make_dir_of(input)?)),
-        Procedure::SymLink => Ok(NfsArgs::SymLink(sym_link_of(input)?)),
-        Procedure::MakeNode => Ok(NfsArgs::MakeNode(make_node_of(input)?)),
-        Procedure::Remove => Ok(NfsArgs::Remove(dir_op_of(input)?)),
-        Procedure::RemoveDir => Ok(NfsArgs::RemoveDir(dir_op_of(input)?)),
-        Procedure::Rename => Ok(NfsArgs::Rename(rename_of(input)?)),
-        Procedure::Link => Ok(NfsArgs::Link(link_of(input)?)),
-        Procedure::ReadDir => Ok(NfsArgs::ReadDir(read_dir_of(input)?)),
-        Procedure::ReadDirPlus => Ok(NfsArgs::ReadDirPlus(read_dir_plus_of(input)?)),
-        Procedure::FsStat => Ok(NfsArgs::FsStat(handle_of(input)?)),
-        Procedure::FsInfo => Ok(NfsArgs::FsInfo(handle_of(input)?)),
-        Procedure::PathConf => Ok(NfsArgs::PathConf(handle_of(input)?)),
-        Procedure::Commit => Ok(NfsArgs::Commit(byte_range_of(input)?)),
+impl<'a> NfsArgs<'a> {
+    /// Reads the arguments of a procedure in the place of these, as `read_nfs` does. `Unreadable` where
+    /// none stand there; then these stay as they were.
+    pub fn read(&mut self, proc: Procedure, input: Input<'a>) -> Result<(), Unreadable>
+        ensures exact { Fills self.old self.new result (args_at proc input.entry) }
+        ensures read { OnOk result ((rest : List ℕ) × Begins (IsArgsOf proc) self.new input.entry rest) }
+        ensures unreadable { IsErr result → BeginsNone (IsArgsOf proc) input.entry }
+    {
+        // Read where they are to stand, since a result as large as these is copied at each step that
+        // hands it on, which takes longer than most of them take to be read.
+        let mut ahead = Input::new(input.rest());
+        match self.take(proc, &mut ahead) {
+            Ok(()) => Ok(()),
+            Err(_) => Err(Unreadable),
+        }
+    }
+
+    fn take(&mut self, proc: Procedure, input: &mut Input<'a>) -> Result<(), XdrFault>
+        ensures { TakesInto self.old self.new input.new result (args_at proc input.old) }
+    {
+        match proc {
+            Procedure::Null => *self = NfsArgs::Null,
+            Procedure::GetAttr => *self = NfsArgs::GetAttr(handle_of(input)?),
+            Procedure::SetAttr => *self = NfsArgs::SetAttr(set_attr_of(input)?),
+            Procedure::Lookup => *self = NfsArgs::Lookup(dir_op_of(input)?),
+            Procedure::Access => *self = NfsArgs::Access(access_of(input)?),
+            Procedure::ReadLink => *self = NfsArgs::ReadLink(handle_of(input)?),
+            Procedure::Read => *self = NfsArgs::Read(byte_range_of(input)?),
+            Procedure::Write => *self = NfsArgs::Write(write_of(input)?),
+            Procedure::Create => *self = NfsArgs::Create(create_of(input)?),
+            Procedure::MakeDir => *self = NfsArgs::MakeDir(make_dir_of(input)?),
+            Procedure::SymLink => *self = NfsArgs::SymLink(sym_link_of(input)?),
+            Procedure::MakeNode => *self = NfsArgs::MakeNode(make_node_of(input)?),
+            Procedure::Remove => *self = NfsArgs::Remove(dir_op_of(input)?),
+            Procedure::RemoveDir => *self = NfsArgs::RemoveDir(dir_op_of(input)?),
+            Procedure::Rename => *self = NfsArgs::Rename(rename_of(input)?),
+            Procedure::Link => *self = NfsArgs::Link(link_of(input)?),
+            Procedure::ReadDir => *self = NfsArgs::ReadDir(read_dir_of(input)?),
+            Procedure::ReadDirPlus => *self = NfsArgs::ReadDirPlus(read_dir_plus_of(input)?),
+            Procedure::FsStat => *self = NfsArgs::FsStat(handle_of(input)?),
+            Procedure::FsInfo => *self = NfsArgs::FsInfo(handle_of(input)?),
+            Procedure::PathConf => *self = NfsArgs::PathConf(handle_of(input)?),
+            Procedure::Commit => *self = NfsArgs::Commit(byte_range_of(input)?),
+        }
+        Ok(())
     }
 }

@@ -29,7 +29,7 @@ pub struct Page<E> {
 }
 
 /// Writes entries of a directory.
-pub fn write_page(out: &mut Output, answer: &Page<Items<'_, Entry<'_>>>)
+pub(crate) fn write_page(out: &mut Output, answer: &Page<Items<'_, Entry<'_>>>)
     requires fits { PageFits answer.now }
     requires room { length (page_text answer.now) ≤ out.old.room }
     ensures text { Appends (page_text answer.now) out.old out.new }
@@ -41,7 +41,7 @@ pub fn write_page(out: &mut Output, answer: &Page<Items<'_, Entry<'_>>>)
 }
 
 /// Writes entries of a directory with what their files are.
-pub fn write_page_plus(out: &mut Output, answer: &Page<Items<'_, EntryPlus<'_>>>)
+pub(crate) fn write_page_plus(out: &mut Output, answer: &Page<Items<'_, EntryPlus<'_>>>)
     requires fits { PagePlusFits answer.now }
     requires room { length (page_plus_text answer.now) ≤ out.old.room }
     ensures text { Appends (page_plus_text answer.now) out.old out.new }

@@ -23,7 +23,7 @@ pub struct ReadData<'a> {
 }
 
 /// Writes the bytes that were read.
-pub fn write_read_data(out: &mut Output, answer: &ReadData<'_>)
+pub(crate) fn write_read_data(out: &mut Output, answer: &ReadData<'_>)
     requires fits { ReadDataFits answer.now }
     requires room { length (read_data_text answer.now) ≤ out.old.room }
     ensures text { Appends (read_data_text answer.now) out.old out.new }

@@ -1,6 +1,6 @@
 //! The arguments of procedures, read.
 
-use nfs_args::args::read_nfs;
+use nfs_args::args::NfsArgs;
 use nfs_args::mount_args::{MountArgs, read_mount};
 use nfs_args::procedure::{MountProcedure, Procedure};
 use nfs_args::unreadable::Unreadable;
@@ -125,7 +125,8 @@ fn count_nfs(record: &mut [u8], rounds: u32) -> u32 {
     let mut read = 0u32;
     for round in 0..rounds {
         mark(record, round);
-        if is_nfs(record) {
+        let mut args = NfsArgs::Null;
+        if is_nfs(record, &mut args) {
             read = read.saturating_add(1);
         }
     }
@@ -150,16 +151,18 @@ fn mark(record: &mut [u8], round: u32) {
     }
 }
 
-// Whether arguments of NFS stand behind the number of their procedure.
-fn is_nfs(record: &[u8]) -> bool {
+// Reads the arguments of NFS behind the number of their procedure, and answers whether they are
+// there. Not inlined, since what isn't looked at would not be read then.
+#[inline(never)]
+fn is_nfs<'a>(record: &'a [u8], args: &mut NfsArgs<'a>) -> bool {
     let mut input = Input::new(record);
     match input.u32().ok().and_then(Procedure::of) {
-        Some(procedure) => read_nfs(procedure, input).is_ok(),
+        Some(procedure) => args.read(procedure, input).is_ok(),
         None => false,
     }
 }
 
-// Not inlined, since what isn't looked at would not be read then.
+// The same of MOUNT.
 #[inline(never)]
 fn args_of_mount(record: &[u8]) -> Result<MountArgs<'_>, Unreadable> {
     let mut input = Input::new(record);

@@ -29,7 +29,7 @@ impl Setting {
     /// `UnknownOption` where it is none of exports(5), or its `=` is missing or one too many;
     /// `UnsupportedOption` where it isn't served here; `BadNumber` where an id is no number to
     /// 4294967295.
-    pub fn of_word(word: &[u8]) -> Result<Setting, OptionsFault>
+    pub(crate) fn of_word(word: &[u8]) -> Result<Setting, OptionsFault>
         ensures { result ≡ spec.setting_of word.now }
     {
         let (name, value) = cut(word, b'=');

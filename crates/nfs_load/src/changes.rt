@@ -104,7 +104,7 @@ pub fn make_link(
 /// A `hard` line, in the volume of this root: a further name of a file. The first of these:
 /// `NoParent`, `NameTaken`, `NoTarget` where the other path names no file or a directory, `Full`
 /// where no such name may be added, `Memory`.
-pub fn add_name(
+pub(crate) fn add_name(
     tree: &mut Tree,
     hints: &mut Hints,
     root: Number,

@@ -9,7 +9,7 @@ use nfs_text::number::decimal;
 use std::alloc::Global;
 
 /// A server's key of 8 bytes. `BadKey` where the field is not 16 hexadecimal digits of either case.
-pub fn read_key(field: &[u8]) -> Result<[u8; 8], Cause>
+pub(crate) fn read_key(field: &[u8]) -> Result<[u8; 8], Cause>
     ensures { result ≡ key_in field.now }
 {
     let mut key = [0u8; 8];
@@ -20,7 +20,7 @@ pub fn read_key(field: &[u8]) -> Result<[u8; 8], Cause>
 }
 
 /// A mode. `BadNumber` where the field is not one to four octal digits.
-pub fn read_mode(field: &[u8]) -> Result<u32, Cause>
+pub(crate) fn read_mode(field: &[u8]) -> Result<u32, Cause>
     ensures { result ≡ mode_in field.now }
 {
     if field.is_empty() || field.len() > MAX_MODE_DIGITS {
@@ -38,7 +38,7 @@ pub fn read_mode(field: &[u8]) -> Result<u32, Cause>
 
 /// A number from `min` to `max`. `BadNumber` where the field is not decimal digits, leading zeros
 /// allowed, that say one.
-pub fn read_number(field: &[u8], min: u64, max: u64) -> Result<u64, Cause>
+pub(crate) fn read_number(field: &[u8], min: u64, max: u64) -> Result<u64, Cause>
     ensures { result ≡ number_in min max field.now }
 {
     match decimal(field, max) {
@@ -49,7 +49,7 @@ pub fn read_number(field: &[u8], min: u64, max: u64) -> Result<u64, Cause>
 
 /// A file's bytes, two hexadecimal digits each, or `-` for none. `BadContent` where the field is
 /// neither, or says more than 16,777,216 bytes; `Memory` where there is none.
-pub fn read_content(alloc: Global, field: &[u8]) -> Result<Vec<u8>, Refusal>
+pub(crate) fn read_content(alloc: Global, field: &[u8]) -> Result<Vec<u8>, Refusal>
     ensures { GivesIfRoom (λ content. content.items) (MaySayBytes field.now) result (content_in field.now) }
 {
     if field == b"-".as_slice() {

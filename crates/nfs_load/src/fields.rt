@@ -78,7 +78,7 @@ impl<'a> Fields<'a> {
     }
 
     /// A volume's path. `BadVolumePath` where the field is none.
-    pub fn volume_path(&mut self) -> Result<&'a [u8], Cause>
+    pub(crate) fn volume_path(&mut self) -> Result<&'a [u8], Cause>
         ensures { Takes (λ text. text.now) self.new result (by volume_path_in self.old) }
     {
         read_volume_path(self.next()?)

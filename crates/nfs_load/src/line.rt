@@ -39,7 +39,7 @@ pub struct Line<'a> {
 /// first byte is `#`. Else the first of these: `BadByte` where a byte is below 0x20 or above 0x7e,
 /// `UnknownWord` where its first word is no keyword, `FieldCount` where the keyword takes another
 /// number of fields.
-pub fn read_line(line: &[u8]) -> Result<Option<Line<'_>>, Cause>
+pub(crate) fn read_line(line: &[u8]) -> Result<Option<Line<'_>>, Cause>
     ensures { asked result ≡ shape line.now }
 {
     if is_comment(line) {

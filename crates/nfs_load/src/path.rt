@@ -38,7 +38,7 @@ impl<'a> Path<'a> {
 
 /// A path. `BadPath` where the field has more than 1,024 bytes, doesn't begin with `/`, or what
 /// stands behind it is not names parted by `/`: 1 to 255 bytes each, none `%`, not `.` or `..`.
-pub fn read_path(field: &[u8]) -> Result<Path<'_>, Cause>
+pub(crate) fn read_path(field: &[u8]) -> Result<Path<'_>, Cause>
     ensures { result ≡ path_in field.now }
 {
     match behind_slash(field) {
@@ -49,7 +49,7 @@ pub fn read_path(field: &[u8]) -> Result<Path<'_>, Cause>
 
 /// A volume's path. `BadVolumePath` where the field is neither `/` alone nor a path of at most 255
 /// bytes.
-pub fn read_volume_path(field: &[u8]) -> Result<&[u8], Cause>
+pub(crate) fn read_volume_path(field: &[u8]) -> Result<&[u8], Cause>
     ensures { result_map_both (λ text. text.now) (λ cause. cause) result ≡ volume_path_in field.now }
 {
     if field == b"/".as_slice() {

@@ -45,7 +45,7 @@ impl Hints {
 
 /// The directory in which a path ends, and the name that it ends with, from a root on. `None`
 /// where a name on the way is missing, or what has to be a directory is none.
-pub fn find_place<'a>(
+pub(crate) fn find_place<'a>(
     tree: &Tree,
     hints: &mut Hints,
     root: Number,
@@ -70,7 +70,7 @@ pub fn find_place<'a>(
 
 /// A place whose name is not taken. The first of these: `NoParent` where there is no such place,
 /// `NameTaken`.
-pub fn find_free_place<'a>(
+pub(crate) fn find_free_place<'a>(
     tree: &Tree,
     hints: &mut Hints,
     root: Number,
@@ -88,7 +88,12 @@ pub fn find_free_place<'a>(
 }
 
 /// The file that a path names, from a root on. `None` where there is none.
-pub fn find_file(tree: &Tree, hints: &mut Hints, root: Number, path: &Path<'_>) -> Option<Number>
+pub(crate) fn find_file(
+    tree: &Tree,
+    hints: &mut Hints,
+    root: Number,
+    path: &Path<'_>,
+) -> Option<Number>
     ensures { option_map (λ n. n.0) result ≡ file_at tree.now root.0 path.now }
 {
     let place = find_place(tree, hints, root, path)?;

@@ -28,7 +28,7 @@ impl<'a> Subject<'a> {
     }
 
     /// `NoEntry`: there is an entry of the name, whose file is answered.
-    pub fn no_entry(&self, name: &[u8]) -> Result<FileView<'a>, Rule>
+    pub(crate) fn no_entry(&self, name: &[u8]) -> Result<FileView<'a>, Rule>
         ensures rule { Tells result (test.no_entry self.now name.now) }
         ensures found { IfOk result (λ f. test.found self.now name.now ≡ Some f.attributes) }
         ensures seen { IfOk result (λ f. IsSeen self.now.tree f) }
@@ -41,7 +41,7 @@ impl<'a> Subject<'a> {
     }
 
     /// `Exists`: there is no entry of the name.
-    pub fn exists(&self, name: &[u8]) -> Result<(), Rule>
+    pub(crate) fn exists(&self, name: &[u8]) -> Result<(), Rule>
         ensures { Tells result (test.exists self.now name.now) }
     {
         ensure(self.found(name).is_none(), Rule::Exists)
@@ -49,7 +49,11 @@ impl<'a> Subject<'a> {
 
     /// `Exists` in CREATE: there is no entry of the name, or its file is one that CREATE takes, which is
     /// answered then.
-    pub fn exists_other(&self, name: &[u8], how: &CreateHow) -> Result<Option<FileView<'a>>, Rule>
+    pub(crate) fn exists_other(
+        &self,
+        name: &[u8],
+        how: &CreateHow,
+    ) -> Result<Option<FileView<'a>>, Rule>
         ensures rule { Tells result (test.exists_other self.now name.now how.now) }
         ensures found { IfOk result (λ o. option_map (λ f. f.attributes) o ≡ test.found self.now name.now) }
         ensures seen { IfOk result (λ o. IfSome o (λ f. IsSeen self.now.tree f)) }
@@ -89,7 +93,7 @@ impl<'a> Subject<'a> {
     }
 
     /// `NotEmpty`: a directory lists nothing but `.` and `..`.
-    pub fn not_empty(&self, dir: &Fattr) -> Result<(), Rule>
+    pub(crate) fn not_empty(&self, dir: &Fattr) -> Result<(), Rule>
         ensures { Tells result (test.not_empty self.now.tree dir.now) }
     {
         ensure(self.is_empty(dir), Rule::NotEmpty)
@@ -115,7 +119,7 @@ pub fn is_directory(file: &Fattr) -> Result<(), Rule>
 }
 
 /// `TargetNotDirectory`: the file is a directory.
-pub fn target_not_directory(file: &Fattr) -> Result<(), Rule>
+pub(crate) fn target_not_directory(file: &Fattr) -> Result<(), Rule>
     ensures { Tells result (test.target_not_directory file.now) }
 {
     match file.file_type {

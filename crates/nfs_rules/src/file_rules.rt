@@ -47,7 +47,7 @@ impl<'a> Subject<'a> {
     }
 
     /// `NotDirectory`: the file is a directory.
-    pub fn not_directory(&self) -> Result<(), Rule>
+    pub(crate) fn not_directory(&self) -> Result<(), Rule>
         ensures { Tells result (test.not_directory self.now) }
     {
         match self.attributes().file_type {
@@ -57,7 +57,7 @@ impl<'a> Subject<'a> {
     }
 
     /// `LinkDirectory`: the file is no directory.
-    pub fn link_directory(&self) -> Result<(), Rule>
+    pub(crate) fn link_directory(&self) -> Result<(), Rule>
         ensures { Tells result (test.link_directory self.now) }
     {
         match self.attributes().file_type {
@@ -67,7 +67,7 @@ impl<'a> Subject<'a> {
     }
 
     /// `ReadRight`: the caller may read or execute the file, or owns it.
-    pub fn read_right(&self) -> Result<(), Rule>
+    pub(crate) fn read_right(&self) -> Result<(), Rule>
         ensures { Tells result (test.read_right self.now) }
     {
         let kept = self.owns_or_may(Right::Read)
@@ -76,14 +76,14 @@ impl<'a> Subject<'a> {
     }
 
     /// `WriteRight`: the caller may write the file, or owns it.
-    pub fn write_right(&self) -> Result<(), Rule>
+    pub(crate) fn write_right(&self) -> Result<(), Rule>
         ensures { Tells result (test.write_right self.now) }
     {
         ensure(self.owns_or_may(Right::Write), Rule::WriteRight)
     }
 
     /// `Search`: the caller may search the directory.
-    pub fn search_right(&self) -> Result<(), Rule>
+    pub(crate) fn search_right(&self) -> Result<(), Rule>
         ensures { Tells result (test.search_right self.now) }
     {
         ensure(self.may_search(), Rule::Search)
@@ -97,7 +97,7 @@ impl<'a> Subject<'a> {
     }
 
     /// `DirectoryRead`: the caller may read the directory.
-    pub fn directory_read(&self) -> Result<(), Rule>
+    pub(crate) fn directory_read(&self) -> Result<(), Rule>
         ensures { Tells result (test.directory_read self.now) }
     {
         ensure(
@@ -107,7 +107,7 @@ impl<'a> Subject<'a> {
     }
 
     /// `DirectoryWrite`: the caller may write the directory.
-    pub fn directory_write(&self) -> Result<(), Rule>
+    pub(crate) fn directory_write(&self) -> Result<(), Rule>
         ensures { Tells result (test.directory_write self.now) }
     {
         ensure(

@@ -16,7 +16,7 @@ use nfs_inodes::limits::{MAX_FILE_BYTES, MAX_LINKS};
 impl<'a> Subject<'a> {
     /// `TooBig` and `Space` where a file of this size takes the place of the one that is there; without
     /// a size nothing is looked at.
-    pub fn size_limits(&self, size: Option<u64>) -> Result<(), Rule>
+    pub(crate) fn size_limits(&self, size: Option<u64>) -> Result<(), Rule>
         ensures { Judges result (test.too_big size ∷ test.space self.now (test.growth self.now size) ∷ []) }
     {
         too_big(size)?;
@@ -27,7 +27,7 @@ impl<'a> Subject<'a> {
     }
 
     /// `TooBig` and `Space` where so many bytes are put at an offset; no bytes are never too many.
-    pub fn write_limits(&self, offset: u64, count: usize) -> Result<(), Rule>
+    pub(crate) fn write_limits(&self, offset: u64, count: usize) -> Result<(), Rule>
         ensures { Judges result (test.too_big (test.end_of offset count) ∷ test.space self.now
             (test.growth self.now (test.end_of offset count)) ∷ []) }
     {
@@ -107,7 +107,7 @@ impl<'a> Subject<'a> {
 }
 
 /// `TooBig`: a file has at most 16,777,216 bytes; without a size nothing is looked at.
-pub fn too_big(size: Option<u64>) -> Result<(), Rule>
+pub(crate) fn too_big(size: Option<u64>) -> Result<(), Rule>
     ensures { Tells result (test.too_big size) }
 {
     match size {

@@ -45,7 +45,7 @@ pub(crate) fn move_rules(
 
 impl<'a> Subject<'a> {
     /// `Incompatible`: what is there may be replaced by what is moved.
-    pub fn incompatible(&self, moved: &Fattr, old: &Fattr) -> Result<(), Rule>
+    pub(crate) fn incompatible(&self, moved: &Fattr, old: &Fattr) -> Result<(), Rule>
         ensures { Tells result (table.incompatible self.now moved.now old.now) }
     {
         let kept = if is_directory(moved) {
@@ -57,7 +57,7 @@ impl<'a> Subject<'a> {
     }
 
     /// `IntoItself`: what is moved is neither this directory nor above it.
-    pub fn into_itself(&self, moved: &Fattr) -> Result<(), Rule>
+    pub(crate) fn into_itself(&self, moved: &Fattr) -> Result<(), Rule>
         requires { is_directory_type self.now.file.file_type ≡ true }
         ensures { Tells result (table.into_itself self.now moved.now) }
     {

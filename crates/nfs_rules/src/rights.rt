@@ -60,7 +60,7 @@ pub fn may(ids: &Ids<'_>, file: &Fattr, right: Right) -> bool
 
 /// Whether the caller is the owner or uid 0.
 #[inline(always)]
-pub fn owns(ids: &Ids<'_>, file: &Fattr) -> bool
+pub(crate) fn owns(ids: &Ids<'_>, file: &Fattr) -> bool
     ensures { result ≡ spec.owns ids.now file.now }
 {
     ids.uid() == 0 || ids.uid() == file.uid

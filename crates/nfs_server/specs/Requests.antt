@@ -1,9 +1,10 @@
 -- What a call asks for, and who asks (RFC 1813, section 3.3, and appendix I, section 5.2).
-use Rattle.std.specs.Prelude.{ℕ, Bool, List, Option, Some, None, Ok, Err, is_none, nat_eq, option_map, if◌then◌else◌}
+use Rattle.std.specs.Prelude.{ℕ, Bool, List, Option, Some, None, Result, Ok, Err, is_none, nat_eq, option_map, if◌then◌else◌}
 use Rattle.nfs_args.specs.Procedures.{procedure_number, procedures, mount_number, mount_procedures}
 use Rattle.nfs_args.specs.Reading.{args_at, mount_args_at}
 use Rattle.nfs_args.specs.declared.args.NfsArgs.{NfsArgs}
 use Rattle.nfs_args.specs.declared.mount_args.MountArgs.{MountArgs}
+use Rattle.nfs_args.specs.declared.unreadable.Unreadable.{Unreadable}
 use Rattle.nfs_exports.specs.declared.addr.Addr.{Addr}
 use Rattle.nfs_inodes.specs.Tree.{on_some}
 use Rattle.nfs_rpc.specs.AuthSys.{Credential, caller}
@@ -39,6 +40,11 @@ args_in proc bytes = on_some (numbered procedure_number procedures proc) None (�
 
 abbrev pub mount_args_in : ℕ → List ℕ → Option MountArgs
 mount_args_in proc bytes = on_some (numbered mount_number mount_procedures proc) None (λ procedure. read_args (mount_args_at procedure bytes))
+
+-- what was read in the place of other arguments, if anything was
+abbrev pub args_read : Result (Unit {0}) Unreadable → NfsArgs → Option NfsArgs
+args_read (Ok done) args = Some args
+args_read (Err refusal) args = None
 
 -- whether none of the call's procedure stand in front
 abbrev pub lacks_args : Call → List ℕ → Bool

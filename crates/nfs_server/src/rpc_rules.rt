@@ -50,7 +50,7 @@ impl RpcRule {
     }
 
     /// The name by which audit lines speak of the reply to a call that fails the rule.
-    pub fn status_name(self) -> &'static str
+    pub(crate) fn status_name(self) -> &'static str
         ensures name { result.now ≡ rpc_status self }
         ensures short { length result.now ≤ 16 }
     {
@@ -134,7 +134,7 @@ pub fn admit(head: &CallHead<'_>) -> Result<Admitted, RpcRule>
 /// Reads who calls a procedure of NFS other than NULL, or answers the first of the rules flavor,
 /// credential and weak-credential that the call fails; what is read then may be any.
 #[inline(always)]
-pub fn identify(head: &CallHead<'_>, cred: &mut Cred) -> Result<(), RpcRule>
+pub(crate) fn identify(head: &CallHead<'_>, cred: &mut Cred) -> Result<(), RpcRule>
     requires nfs { is_nfs (call_of head.now) ≡ true }
     requires null { is_null (call_of head.now) ≡ false }
     ensures { Identifies (call_of head.now) head.now.args cred.new result }
@@ -153,7 +153,7 @@ pub fn identify(head: &CallHead<'_>, cred: &mut Cred) -> Result<(), RpcRule>
 
 /// The first of the rules flavor and credential that the call of a procedure of MOUNT other than NULL
 /// fails. Who calls is not told, since no procedure asks for it.
-pub fn caller_failure(head: &CallHead<'_>) -> Option<RpcRule>
+pub(crate) fn caller_failure(head: &CallHead<'_>) -> Option<RpcRule>
     requires mount { is_nfs (call_of head.now) ≡ false }
     requires null { is_null (call_of head.now) ≡ false }
     ensures { result ≡ find (fails_rpc (call_of head.now) head.now.args) caller_rules }

@@ -20,6 +20,7 @@ use crate::event::{Event, Handled, Outcome, Sink};
 use crate::mount::read_mount_args;
 use crate::reply_buf::ReplyBuf;
 use crate::rpc_rules::{Admitted, RpcRule, admit, caller_failure, identify};
+use nfs_args::args::NfsArgs;
 use nfs_exports::table::Table;
 use nfs_inodes::tree::Tree;
 use nfs_load::loaded::Loaded;
@@ -172,9 +173,10 @@ impl Server {
         ensures judged { AnswersBy (caller_rules ++ Arguments ∷ []) self.old (event_of event.entry) (call_of head.now) head.now.args
             (told reply.new result) self.new }
     {
-        match read_args(head.proc, Input::new(head.args.rest())) {
+        let mut args = NfsArgs::Null;
+        match read_args(head.proc, Input::new(head.args.rest()), &mut args) {
             Err(_) => Some(refuse(reply, head, event, RpcRule::Arguments)),
-            Ok(args) => {
+            Ok(()) => {
                 let caller = Caller {
                     addr: event.addr,
                     cred,

@@ -1,7 +1,9 @@
 -- What is written, one item after another, is a spelling.
-use Rattle.std.proofs.Common.{◌≡◌, ℕ, ◌^◌, ◌<◌, List, ◌++◌, Option, Some, None, refl, ap, ◌∙◌, append_assoc, arith}
+use Rattle.std.proofs.Common.{◌≡◌, ℕ, ◌^◌, ◌<◌, ◌≤◌, ◌+◌, ◌-◌, List, [], ◌++◌, length, take, drop, Option, Some, None, refl, ap, sym, subst, ◌∙◌, append_assoc, arith}
+use Rattle.std.proofs.lemmas.Grind.{common_steps}
 use Rattle.std.specs.Int.{Width, w32, byte_len, to_be_bytes}
-use Rattle.std.proofs.lemmas.List.{length-append}
+use Rattle.std.proofs.lemmas.List.{length-append, drop-take}
+use Rattle.std.proofs.Math.Seq.{take-append-add}
 use Rattle.nfs_xdr.specs.Spelling.{IsNumber, IsOptional, ◌⨾◌, optional_text}
 use Rattle.nfs_xdr.specs.Written.{Written, Appends}
 
@@ -22,3 +24,29 @@ followed First Second front back first second = record { front = front; first = 
 pub optional_written : {A : Type 0} (S : A → List ℕ → Type 0) (text : A → List ℕ) (o : Option A) → ((value : A) → o ≡ Some value → S value (text value)) → IsOptional S o (optional_text text o)
 optional_written S text None written = number_written w32 0 (omega arith)
 optional_written S text (Some value) written = record { front = to_be_bytes w32 1; first = number_written w32 1 (omega arith); back = text value; second = written value refl; text_is = refl }
+
+-- bytes put over others, of which the first so many were written
+put_over_rest : (at n rest : ℕ) (item all : List ℕ) → length item ≡ n → at + n + rest ≤ length all
+    → take (at + n + rest) (take at all ++ item ++ drop (at + n) all) ≡ take at (take (at + n + rest) all) ++ item ++ drop (at + n) (take (at + n + rest) all)
+put_over_rest at n rest item all counted inside =
+    let front : length (take at all ++ item) ≡ at + n = grind (arith, common_steps, counted) in
+    let cut : take (at + n + rest) (take at all ++ item ++ drop (at + n) all) ≡ take at all ++ item ++ take rest (drop (at + n) all) =
+    subst (λ k. take (k + rest) (take at all ++ item ++ drop (at + n) all) ≡ take at all ++ item ++ take rest (drop (at + n) all)) front (take-append-add (take at all ++ item) (drop (at + n) all) rest) in
+    let begins : take at all ≡ take at (take (at + n + rest) all) = grind (arith, common_steps) in
+    cut ∙ ap (λ t. t ++ item ++ take rest (drop (at + n) all)) begins ∙ ap (λ t. take at (take (at + n + rest) all) ++ item ++ t) (sym (drop-take (at + n) rest all))
+
+pub put_over : (at len : ℕ) (item all : List ℕ) → at + length item ≤ len → len ≤ length all
+    → take len (take at all ++ item ++ drop (at + length item) all) ≡ take at (take len all) ++ item ++ drop (at + length item) (take len all)
+put_over at len item all inside whole =
+    let all_of : at + length item + (len - (at + length item)) ≡ len = omega arith in
+    subst (λ k. take k (take at all ++ item ++ drop (at + length item) all) ≡ take at (take k all) ++ item ++ drop (at + length item) (take k all)) all_of (put_over_rest at (length item) (len - (at + length item)) item all refl (omega arith))
+
+pub put_over_seen : (at len kept : ℕ) (item all seen after : List ℕ) → seen ≡ all → after ≡ take at seen ++ item ++ drop (at + length item) seen → kept ≡ length all
+    → at + length item ≤ len → len ≤ length all
+    → take len (take kept (after ++ drop (length after) all)) ≡ take at (take len all) ++ item ++ drop (at + length item) (take len all)
+put_over_seen at len kept item all seen after same put counted inside whole =
+    let put_in : after ≡ take at all ++ item ++ drop (at + length item) all = subst (λ s. after ≡ take at s ++ item ++ drop (at + length item) s) same put in
+    let length_is : length after ≡ length all = grind (arith, common_steps, put_in) in
+    let nothing : drop (length after) all ≡ [] = grind (arith, common_steps, length_is) in
+    let again : take kept (after ++ drop (length after) all) ≡ after = grind (arith, common_steps, nothing, counted, length_is) in
+    ap (take len) (again ∙ put_in) ∙ put_over at len item all inside whole

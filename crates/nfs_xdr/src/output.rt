@@ -9,21 +9,23 @@ use std::marker::Model;
 
 /// What was written, and the room that is left. Nothing is written where the room doesn't
 /// suffice: that it does is the caller's to show.
+// All of the room stands there from the start, so that a byte that is written is one that is put
+// over another: no write asks whether there is memory.
 #[derive(Drop)]
 pub struct Output {
-    bytes: Vec<u8>,
-    room: usize,
+    all: Vec<u8>,
+    len: usize,
 }
 
 impl Model for Output {
-    ghost use Rattle.std.specs.Prelude.{◌+◌, ◌≤◌, vec_len, vec_capacity};
+    ghost use Rattle.std.specs.Prelude.{◌-◌, ◌≤◌, length, take};
     ghost use Rattle.nfs_xdr.specs.Written.{Written};
 
     ghost Value = { Written };
 
-    ghost view = { λ a. record { bytes = a.bytes.items; room = a.room } };
+    ghost view = { λ a. record { bytes = take a.len a.all.items; room = length a.all.items - a.len } };
 
-    ghost invariant = { λ a. vec_len a.bytes + a.room ≤ vec_capacity a.bytes };
+    ghost invariant = { λ a. a.len ≤ length a.all.items };
 }
 
 impl Output {
@@ -32,22 +34,23 @@ impl Output {
     pub fn new(alloc: Global, room: usize) -> Result<Output, AllocError>
         ensures { IfOk result (λ out. (out.bytes ≡ []) × (out.room ≡ room)) }
     {
-        let bytes = Vec::with_capacity(alloc, room)?;
-        Ok(Output { bytes, room })
+        let mut all = Vec::new(alloc);
+        all.resize(room, 0)?;
+        Ok(Output { all, len: 0 })
     }
 
     /// How many more bytes there is room for.
     pub fn room(&self) -> usize
         ensures { result ≡ self.now.room }
     {
-        self.room
+        self.all.len() - self.len
     }
 
     /// What was written.
     pub fn bytes(&self) -> &[u8]
         ensures { result.now ≡ self.now.bytes }
     {
-        self.bytes.as_slice()
+        &self.all[..self.len]
     }
 
     /// Writes an unsigned integer (RFC 4506, section 4.2).
@@ -110,8 +113,9 @@ impl Output {
         requires { length bytes.now ≤ self.old.room }
         ensures { Appends bytes.now self.old self.new }
     {
-        self.room -= bytes.len();
-        self.bytes.extend_from_slice(bytes).unwrap();
+        let end = self.len + bytes.len();
+        self.all[self.len..end].copy_from_slice(bytes);
+        self.len = end;
     }
 
     /// Writes the zeros that follow opaque data of `len` bytes (RFC 4506, section 3).
@@ -145,8 +149,7 @@ impl Output {
         ensures bytes { self.new.bytes ≡ take at self.old.bytes ++ bytes.now ++ drop (at + length bytes.now) self.old.bytes }
         ensures room { self.new.room ≡ self.old.room }
     {
-        let place = &mut self.bytes[at..at + bytes.len()];
-        place.copy_from_slice(bytes);
+        put_over(self.all.as_mut_slice(), at, bytes);
     }
 
     /// Keeps the first `len` bytes, and gives back the room of the others.
@@ -155,8 +158,7 @@ impl Output {
         ensures bytes { self.new.bytes ≡ take len self.old.bytes }
         ensures room { self.new.room + len ≡ self.old.room + length self.old.bytes }
     {
-        self.room += self.bytes.len() - len;
-        self.bytes.truncate(len);
+        self.len = len;
     }
 
     /// Takes out all that was written, and gives back its room.
@@ -176,6 +178,14 @@ pub fn halves(n: u64) -> (u32, u32)
     ensures spelled { IsNumber w64 n (to_be_bytes w64 n) }
 {
     ((n >> 32) as u32, (n % (1 << 32)) as u32)
+}
+
+// Puts bytes over as many others.
+fn put_over(place: &mut [u8], at: usize, bytes: &[u8])
+    requires { at + length bytes.now ≤ length place.old }
+    ensures { place.new ≡ take at place.old ++ bytes.now ++ drop (at + length bytes.now) place.old }
+{
+    place[at..at + bytes.len()].copy_from_slice(bytes);
 }
 
 #[inline(always)]
