@@ -37,17 +37,23 @@ pub(crate) const MEASURES: [&str; 12] = [
 /// of their replies.
 pub(crate) fn fixed<R: Print + AllocGlobal>(rt: &R) -> io::Result<()> {
     for name in &MEASURES {
-        let mut asked = Asked::new(rt.alloc(), name)?;
-        let mut counted = Counted::default();
-        for xid in 0..3 {
-            asked.round(xid, &mut counted);
-        }
+        let counted = few(rt.alloc(), name)?;
         println!(rt;
             "{name} {} {} {}",
             counted.answered, counted.denied, counted.bytes
         )?;
     }
     Ok(())
+}
+
+// What three rounds come to.
+fn few(alloc: Global, name: &str) -> io::Result<Counted> {
+    let mut asked = Asked::new(alloc, name)?;
+    let mut counted = Counted::default();
+    for xid in 0..3 {
+        asked.round(xid, &mut counted);
+    }
+    Ok(counted)
 }
 
 /// Prints the nanoseconds of a round of calls.
@@ -57,12 +63,18 @@ pub(crate) fn measure<R: Clock + Print + AllocGlobal>(rt: &R, name: &str) -> io:
     } else {
         1_000_000
     };
+    let least = least(rt, name, rounds)?;
+    println!(rt; "{name} {}.{}", least / 10, least % 10)
+}
+
+// The nanoseconds of a round, in tenths, the least of five runs.
+fn least<R: Clock + AllocGlobal>(rt: &R, name: &str, rounds: u32) -> io::Result<u128> {
     let mut asked = Asked::new(rt.alloc(), name)?;
     let mut least = u128::MAX;
     for _ in 0..5u8 {
         least = least.min(asked.time(rt, rounds)?);
     }
-    println!(rt; "{name} {}.{}", least / 10, least % 10)
+    Ok(least)
 }
 
 // What the calls of some rounds came to.

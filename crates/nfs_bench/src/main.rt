@@ -26,29 +26,39 @@ fn main(rt: HostRuntime) -> ExitCode {
 fn run<R: Env + Clock + Print + AllocGlobal>(rt: &R) -> io::Result<()> {
     let words: Vec<String> = env::args(rt)?.skip(1).collect(rt.alloc())?;
     match words.first() {
-        None => {
-            framing::fixed(rt)?;
-            calls::fixed(rt)?;
-            arguments::fixed(rt)?;
-            answers::each(rt, false)?;
-            tree::fixed(rt)?;
-            pages::fixed(rt)?;
-            changes::fixed(rt)
-        }
-        Some(word) if word.as_str() == "framing" => framing::measure(rt),
-        Some(word) if word.as_str() == "arguments" => arguments::measure(rt),
-        Some(word) if word.as_str() == "answers" => answers::each(rt, true),
-        Some(word) if word.as_str() == "tree-1000" => tree::measure(rt, 1),
-        Some(word) if word.as_str() == "tree-100000" => tree::measure(rt, 100),
-        Some(word) if word.as_str() == "changes-1000" => changes::measure(rt, 1),
-        Some(word) if word.as_str() == "changes-100000" => changes::measure(rt, 100),
-        Some(word) if word.as_str() == "pages" => pages::measure(rt),
-        Some(word) if word.as_str() == "pages-100" => pages::measure_whole(rt, 100),
-        Some(word) if word.as_str() == "pages-10000" => pages::measure_whole(rt, 10_000),
-        Some(word) if word.as_str() == "write" => tree::measure_write(rt),
-        Some(word) if word.as_str() == "hold-0" => tree::hold(rt, 0),
-        Some(word) if word.as_str() == "hold-100000" => tree::hold(rt, 100),
-        Some(word) if calls::MEASURES.contains(&word.as_str()) => calls::measure(rt, word.as_str()),
-        Some(_) => println!(rt; "no such measure"),
+        None => fixed(rt),
+        Some(word) => measure(rt, word.as_str()),
+    }
+}
+
+// A small amount of each work.
+fn fixed<R: Clock + Print + AllocGlobal>(rt: &R) -> io::Result<()> {
+    framing::fixed(rt)?;
+    calls::fixed(rt)?;
+    arguments::fixed(rt)?;
+    answers::each(rt, false)?;
+    tree::fixed(rt)?;
+    pages::fixed(rt)?;
+    changes::fixed(rt)
+}
+
+// The measure of a name.
+fn measure<R: Clock + Print + AllocGlobal>(rt: &R, name: &str) -> io::Result<()> {
+    match name {
+        "framing" => framing::measure(rt),
+        "arguments" => arguments::measure(rt),
+        "answers" => answers::each(rt, true),
+        "tree-1000" => tree::measure(rt, 1),
+        "tree-100000" => tree::measure(rt, 100),
+        "changes-1000" => changes::measure(rt, 1),
+        "changes-100000" => changes::measure(rt, 100),
+        "pages" => pages::measure(rt),
+        "pages-100" => pages::measure_whole(rt, 100),
+        "pages-10000" => pages::measure_whole(rt, 10_000),
+        "write" => tree::measure_write(rt),
+        "hold-0" => tree::hold(rt, 0),
+        "hold-100000" => tree::hold(rt, 100),
+        call if calls::MEASURES.contains(&call) => calls::measure(rt, call),
+        _ => println!(rt; "no such measure"),
     }
 }

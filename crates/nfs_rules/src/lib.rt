@@ -15,3 +15,4 @@ pub mod rule;
 pub mod setting_rules;
 pub mod subject;
 pub mod table;
+pub mod verdict;
