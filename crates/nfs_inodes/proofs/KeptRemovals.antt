@@ -16,7 +16,7 @@ use Rattle.nfs_inodes.specs.Conditions.{MayUnlink}
 use Rattle.nfs_inodes.specs.Reading.{entry_at}
 use Rattle.nfs_inodes.specs.Counts.{CountedFile, CountedTree, Agrees, tree_in, with_totals}
 use Rattle.nfs_inodes.specs.Storage.{file_of, kind_of, counted_volume_of, counted_tree_of}
-use Rattle.nfs_inodes.specs.StoredFiles.{Revalues, IsThere}
+use Rattle.nfs_inodes.specs.StoredFiles.{Revalues}
 use Rattle.nfs_inodes.specs.StepConditions.{retagged}
 use Rattle.nfs_inodes.specs.Removals.{HasRoomAt, Leaves, LosesLink, Goes, Stays, is_last, HasEntries, HasTotals, Removes}
 use Rattle.nfs_inodes.proofs.Lists.{by_test, if_true, if_false, same_some, not_both, true_and_false}
@@ -89,10 +89,6 @@ goes t u n i bytes has takes size =
 pub not_taken : (t u : NumberedFiles StoredFile) (n : ℕ) → HasEntries true t n → Takes t n None u → ⊥
 not_taken t u n has takes = not_both takes.0 has.1
 
--- what a test tells of the file that is there
-pub told_entries : (t : NumberedFiles StoredFile) (n : ℕ) (told b : Bool) → IsThere t n → told ≡ on_some (value_at t n) true is_last → told ≡ b → HasEntries b t n
-told_entries t n told b there is s = (there.file, there.at_file, sym (is ∙ ap (λ o. on_some (option_map (λ (f : TaggedFile StoredFile). f.value) o) true is_last) there.at_file) ∙ s)
-
 -- ---- the file of an entry that goes
 
 module _ (a : NumberedFiles StoredFile) (olds : List StoredVolume) (d : ℕ) (name : List ℕ) (n : ℕ) (removes : Removes a olds d name n) where
@@ -129,6 +125,10 @@ module _ (a : NumberedFiles StoredFile) (olds : List StoredVolume) (d : ℕ) (na
 
     at_1 : numbered.at b n ≡ Some kept_file.0
     at_1 = leavings.at_1 a olds d name n removes.agree names other now b sub is_sub leaves
+
+    -- what was told of the file before its entry went
+    pub has_entries : (last : Bool) → last ≡ on_some (value_at a n) true is_last → HasEntries last b n
+    has_entries last is = (kept_file.0, at_1, sym (is ∙ ap (λ o. on_some (option_map (λ (f : TaggedFile StoredFile). f.value) o) true is_last) kept_file.1))
 
     names_1 : names_of n t1.files + 1 ≡ names_of n t.files
     names_1 = leavings.names_1 a olds d name n removes.agree names other now b sub is_sub leaves

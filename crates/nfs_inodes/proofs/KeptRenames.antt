@@ -1,5 +1,5 @@
 -- An entry that goes to another name, which may be another file's, in what is kept.
-use Rattle.std.proofs.Common.{◌≡◌, ◌≢◌, ℕ, ◌-◌, ◌<◌, List, Option, Some, None, option_map, refl, sym, ap, subst, ◌∙◌}
+use Rattle.std.proofs.Common.{◌≡◌, ◌≢◌, ℕ, ◌-◌, ◌<◌, List, Option, Some, None, option_map, sym, ap, subst, ◌∙◌}
 use Rattle.std.specs.Prelude.{◌^◌}
 use Rattle.nfs_attrs.specs.declared.moment.Moment.{Moment}
 use Rattle.nfs_handles.specs.NumberedFiles.{NumberedFiles}
@@ -21,7 +21,7 @@ use Rattle.nfs_inodes.proofs.Lists.{same_some, none_from, not_both}
 use Rattle.nfs_inodes.proofs.Unlinks.{entry_is, other_file}
 use Rattle.nfs_inodes.proofs.Renames as renames
 use Rattle.nfs_inodes.proofs.Views.{mapped}
-use Rattle.nfs_inodes.proofs.Steps.{counted_parts, takes_entry_at}
+use Rattle.nfs_inodes.proofs.Steps.{same_counted, takes_entry_at}
 
 -- ---- the steps
 
@@ -97,9 +97,6 @@ module _ (t : Tree) (from : ℕ) (name : List ℕ) (to : ℕ) (new_name : List �
   is_route = (may, its_number, names ∙ ap (option_map (λ (e : Entry). e.number)) found_to)
 
 -- room changes nothing that clients see
-pub same_counted : (a b : NumberedFiles StoredFile) (olds : List StoredVolume) → SameFiles a b → counted_tree_of b olds ≡ counted_tree_of a olds
-same_counted a b olds same = counted_parts (counted_tree_of a olds) (counted_tree_of b olds) same.files same.next same.key refl
-
 pub takes_target : (a : NumberedFiles StoredFile) (olds : List StoredVolume) (t : Tree) (from to : ℕ) (name new_name : List ℕ) → tree_in (counted_tree_of a olds) ≡ t → Agrees (counted_tree_of a olds) → (may : MayRename t from name to new_name) → NamesOther t to new_name may.entry.number → TakesEntry a to
 takes_target a olds t from to name new_name view agree may other =
     let low = subst (λ (u : Tree). (at to u.files ≡ Some may.target) × (next_cookie_in may.target.kind < 2 ^ 64 - 1)) (sym view) (may.at_target.0, may.cookie other) in

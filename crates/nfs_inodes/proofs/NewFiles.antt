@@ -3,20 +3,14 @@ use Rattle.std.proofs.Common.{◌≡◌, ◌≢◌, ℕ, ◌<◌, ◌≤◌, tru
 use Rattle.std.specs.Prelude.{◌%◌, ◌^◌, All, AllPairs}
 use Rattle.nfs_attrs.specs.declared.moment.Moment.{Moment}
 use Rattle.nfs_inodes.specs.declared.new_file.NewFile.{NewFile}
-use Rattle.nfs_inodes.specs.Tree.{Tree, File, Kind, Regular, Directory, Link, Entry, on_some, is_directory, entries_in, path_in, parent_in, bytes_in, next_cookie_in}
+use Rattle.nfs_inodes.specs.Tree.{Tree, File, Kind, Regular, Directory, Link, Entry, on_some, is_directory, entries_in, parent_in, bytes_in, next_cookie_in}
 use Rattle.nfs_inodes.specs.Law.{Law, IsName, IsSound}
 use Rattle.nfs_inodes.specs.Changes.{after_make_file, after_make_dir, after_make_link, after_add_volume, new_file}
 use Rattle.nfs_inodes.specs.Changes as changes
 use Rattle.nfs_inodes.specs.Conditions.{MayMake, MayMakeDirectory, MayMakeLink, MayAddVolume, IsNew}
+use Rattle.nfs_inodes.specs.StepConditions.{IsFresh}
 use Rattle.nfs_inodes.proofs.Births.{law_with_new_volume, MayBeFounded}
 use Rattle.nfs_inodes.proofs.Operations.{law_with_named_file}
-
-pub record IsFresh (d size : ℕ) (k : Kind) : Type 0 where
-  pub empty : entries_in k ≡ []
-  pub bytes : length (bytes_in k) ≡ size
-  pub path : length (path_in k) ≤ 1024
-  pub parent : is_directory k ≡ true → parent_in k ≡ d
-  pub next_cookie : is_directory k ≡ true → 3 ≤ next_cookie_in k
 
 fresh_sound : (f : File) (d size : ℕ) → IsFresh d size f.kind → f.mode < 4096 → size ≤ 16777216 → IsSound f
 fresh_sound f d size fresh mode large = let long = fresh.bytes in record {

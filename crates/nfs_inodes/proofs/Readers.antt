@@ -16,7 +16,7 @@ use Rattle.nfs_inodes.specs.Law.{Law, AreApart}
 use Rattle.nfs_inodes.specs.Tree as tree
 use Rattle.nfs_inodes.specs.Counts.{CountedFile, CountedVolume, Agrees, tree_in, files_in}
 use Rattle.nfs_inodes.specs.Storage.{file_of, kind_of, counted_files, counted_volume_of, volume_of, counted_tree_of}
-use Rattle.nfs_inodes.specs.Reading.{attributes_of, attributes_at, kind_at, listing, listing_at, bytes_at, totals_at, numbered_files, IsFirstChunk}
+use Rattle.nfs_inodes.specs.Reading.{attributes_of, attributes_at, kind_at, listing, listing_at, cookie_of_next, next_cookie_at, bytes_at, totals_at, numbered_files, IsFirstChunk}
 use Rattle.nfs_inodes.specs.Views.{kind_seen, bytes_seen, IsSeen}
 use Rattle.nfs_inodes.specs.Views.{FileView}
 use Rattle.nfs_inodes.proofs.Maps.{at_shows}
@@ -81,6 +81,9 @@ of_kind y g (Some f) k e = ap g (sym (same_some e))
 
 pub listed_seen : (t : Tree) (v : FileView) → IsSeen t v → listing v.attributes.fileid (kind_seen v) ≡ listing_at t v.attributes.fileid
 listed_seen t v s = of_kind [] (listing v.attributes.fileid) (tree.at v.attributes.fileid t.files) (kind_seen v) s.1
+
+pub seen_cookie : (t : Tree) (v : FileView) → IsSeen t v → cookie_of_next (kind_seen v) ≡ next_cookie_at t v.attributes.fileid
+seen_cookie t v s = of_kind None cookie_of_next (tree.at v.attributes.fileid t.files) (kind_seen v) s.1
 
 pub seen_bytes : (t : Tree) (v : FileView) → IsSeen t v → bytes_seen v ≡ bytes_at t v.attributes.fileid
 seen_bytes t v s = of_kind [] bytes_in (tree.at v.attributes.fileid t.files) (kind_seen v) s.1

@@ -1,10 +1,10 @@
 -- A new file, in what is kept.
-use Rattle.std.proofs.Common.{◌≡◌, ℕ, ◌<◌, Bool, true, List, [], ◌∷◌, ◌++◌, map, length, Option, Some, None, refl, sym, ap, subst, ◌∙◌, arith}
+use Rattle.std.proofs.Common.{◌≡◌, ℕ, ◌<◌, Bool, true, List, [], ◌∷◌, ◌++◌, map, length, Option, Some, None, option_map, refl, sym, ap, subst, ◌∙◌, arith}
 use Rattle.std.proofs.Common.{Fits, w64}
 use Rattle.nfs_inodes.specs.declared.stored_entry.StoredEntry.{StoredEntry}
 use Rattle.std.specs.Prelude.{slice_get, if◌then◌else◌}
 use Rattle.nfs_attrs.specs.declared.moment.Moment.{Moment}
-use Rattle.nfs_handles.specs.NumberedFiles.{NumberedFiles}
+use Rattle.nfs_handles.specs.NumberedFiles.{NumberedFiles, value_at}
 use Rattle.nfs_inodes.specs.declared.stored_file.StoredFile.{StoredFile}
 use Rattle.nfs_inodes.specs.declared.stored_volume.StoredVolume.{StoredVolume}
 use Rattle.nfs_inodes.specs.Tree.{Tree, File, Kind, Directory, Volume, is_directory, bytes_in, next_cookie_in, nlink, bytes_of, files_of}
@@ -15,19 +15,19 @@ use Rattle.nfs_inodes.specs.declared.new_file.NewFile.{NewFile}
 use Rattle.nfs_inodes.specs.Conditions.{MayEnter, MayMake, MayLink, MayAddVolume, IsNew}
 use Rattle.nfs_inodes.specs.Counts.{CountedFile, CountedVolume, CountedTree, Agrees, tree_in, with_totals}
 use Rattle.nfs_inodes.specs.Storage.{file_of, entry_of, counted_file_of, counted_files, counted_volume_of, counted_tree_of}
-use Rattle.nfs_inodes.specs.StoredFiles.{TakesEntry, AddsFile, TakesLink, LinksFile}
-use Rattle.nfs_inodes.specs.StepConditions.{MayAdd, HasRoomFor, retagged}
+use Rattle.nfs_inodes.specs.StoredFiles.{TakesEntry, Revalues, SameFile, SameFiles, AddsFile, TakesLink, LinksFile}
+use Rattle.nfs_inodes.specs.StepConditions.{MayAdd, MayAddKind, HasRoomFor, IsFresh, retagged}
 use Rattle.nfs_inodes.proofs.Lists.{same_some}
 use Rattle.nfs_handles.specs.Changes.{Adds}
 use Rattle.std.proofs.lemmas.List.{map-append, length-map}
 use Rattle.nfs_inodes.proofs.Maps.{rising_bounds, shows_push}
-use Rattle.nfs_inodes.proofs.StoredFiles.{counted_file, at_counted_file}
+use Rattle.nfs_inodes.proofs.StoredFiles.{counted_file, at_counted_file, same_files}
 use Rattle.nfs_inodes.proofs.Counts.{CountsNewFile, counted_after_make, view_after_make, agree_after_make}
 use Rattle.nfs_inodes.proofs.CountsMore.{counted_after_link, CountsLink, view_after_link, agree_after_link, counted_after_add_volume, view_after_add_volume, agree_after_add_volume}
 use Rattle.nfs_inodes.proofs.Operations.{apart_kinds}
-use Rattle.nfs_inodes.proofs.NewFiles.{IsFresh, new_here, may_be_founded}
+use Rattle.nfs_inodes.proofs.NewFiles.{new_here, may_be_founded}
 use Rattle.nfs_inodes.proofs.Births.{MayBeFounded}
-use Rattle.nfs_inodes.proofs.Views.{lives, kept_at, stored_volume_at, stored_volume_counted}
+use Rattle.nfs_inodes.proofs.Views.{lives, kept_at, mapped, place_there, stored_volume_at, stored_volume_counted}
 
 pub counted_parts : (k l : CountedTree) → l.files ≡ k.files → l.next ≡ k.next → l.key ≡ k.key → l.volumes ≡ k.volumes → l ≡ k
 counted_parts k l f n e v =
@@ -35,6 +35,9 @@ counted_parts k l f n e v =
   where
     make : List (ℕ × CountedFile) → ℕ → List ℕ → List CountedVolume → CountedTree
     make f n e v = record { files = f; next = n; key = e; volumes = v }
+
+pub same_counted : (a b : NumberedFiles StoredFile) (stored_volumes : List StoredVolume) → SameFiles a b → counted_tree_of b stored_volumes ≡ counted_tree_of a stored_volumes
+same_counted a b stored_volumes same = counted_parts (counted_tree_of a stored_volumes) (counted_tree_of b stored_volumes) same.files same.next same.key refl
 
 -- directory d of the tree takes an entry
 pub takes_entry_at : (a : NumberedFiles StoredFile) (stored_volumes : List StoredVolume) (d : ℕ) (dir : File) → Agrees (counted_tree_of a stored_volumes) → LivesAsDirectory (tree_in (counted_tree_of a stored_volumes)) d dir → next_cookie_in dir.kind < 18446744073709551615 → TakesEntry a d
@@ -148,6 +151,34 @@ may_add t d size name k given verifier now stored_file place may is_place is lin
       links = λ y. subst (λ (g : File). nlink t.files d g < 1000) (sym sized.1) (few (sym directory ∙ y));
       nlink = links ∙ ap (λ (b : Bool). if b then 2 else 1) (sym directory);
     }
+
+module _ (a : NumberedFiles StoredFile) (stored_volumes : List StoredVolume) (t : Tree) (view : tree_in (counted_tree_of a stored_volumes) ≡ t) (keeps : Agrees (counted_tree_of a stored_volumes)) (d : ℕ) where
+  pub takes_entry_seen : (name : List ℕ) → MayEnter t d name → TakesEntry a d
+  takes_entry_seen name enter = takes_entry a stored_volumes d name keeps (subst (λ (t : Tree). MayEnter t d name) (sym view) enter)
+
+  is_place : (place : ℕ) → option_map (λ (i : StoredFile). i.volume) (value_at a d) ≡ Some place → place ≡ changes.volume_of t d
+  is_place place e = let i = mapped (λ (i : StoredFile). i.volume) (value_at a d) place e in sym i.2 ∙ place_there a stored_volumes t view d i.0 (sym i.1)
+
+  -- room for an entry changes nothing that is told
+  module _ (b : NumberedFiles StoredFile) (reserved : Revalues a d SameFile b) where
+    counted_still : counted_tree_of b stored_volumes ≡ counted_tree_of a stored_volumes
+    counted_still = same_counted a b stored_volumes (same_files a b d reserved)
+
+    pub view_still : tree_in (counted_tree_of b stored_volumes) ≡ t
+    view_still = ap tree_in counted_still ∙ view
+
+    pub agree_still : Agrees (counted_tree_of b stored_volumes)
+    agree_still = subst Agrees (sym counted_still) keeps
+
+    module _ (name : List ℕ) (k : Kind) (given : NewFile) (verifier : Option (List ℕ)) (now : Moment) (stored_file : StoredFile) (place : ℕ) (at_place : option_map (λ (i : StoredFile). i.volume) (value_at a d) ≡ Some place)
+        (is : file_of 0 stored_file ≡ new_file place k given verifier 0 now) (links : stored_file.nlink ≡ (if is_directory k then 2 else 1)) (may : MayAddKind t d name k) where
+      pub may_add_still : MayAdd (tree_in (counted_tree_of b stored_volumes)) d name stored_file
+      may_add_still = subst (λ (t : Tree). MayAdd t d name stored_file) (sym view_still)
+          (may_add t d (length (bytes_in k)) name k given verifier now stored_file place may.may (is_place place at_place) is links may.fresh may.links)
+
+      pub makes_still : (new : Tree) → Makes (λ tag. with_named_file (tree_in (counted_tree_of b stored_volumes)) d name (retagged (file_of 0 stored_file) tag) now) new → Makes (λ tag. with_named_file t d name (new_file (changes.volume_of t d) k given verifier tag now) now) new
+      makes_still new makes = subst (λ (f : File). Makes (λ tag. with_named_file t d name (retagged f tag) now) new) (is ∙ ap (λ place. new_file place k given verifier 0 now) (is_place place at_place))
+          (subst (λ (t : Tree). Makes (λ tag. with_named_file t d name (retagged (file_of 0 stored_file) tag) now) new) view_still makes)
 
 -- ---- a link
 

@@ -1,5 +1,5 @@
 -- The kept files, after changes by number.
-use Rattle.std.proofs.Common.{◌≡◌, ◌≢◌, ℕ, ◌+◌, ◌-◌, ◌<◌, true, length, List, [], ◌∷◌, ◌++◌, Some, option_map, refl, sym, ap, subst, ◌∙◌, arith}
+use Rattle.std.proofs.Common.{◌≡◌, ◌≢◌, ℕ, ◌+◌, ◌-◌, ◌<◌, true, length, List, Some, option_map, refl, sym, ap, subst, ◌∙◌, arith}
 use Rattle.std.specs.Prelude.{OnOk, OnErr, Result, Ok, Err, nat_eq}
 use Rattle.std.proofs.lemmas.Map.Steps.{set_value_same}
 use Rattle.nfs_handles.specs.NumberedFiles.{NumberedFiles, TaggedFile, at, value_at, with_value, revalued}
@@ -85,48 +85,39 @@ room_there t n f w e h i v = subst HasRoom (same_some (sym (ap (option_map (λ (
 pub on_new : (t u : NumberedFiles StoredFile) (v : StoredFile) (adds : Adds t v u) (m : ℕ) → m ≢ t.next → at u m ≡ at t m
 on_new t u v adds m o = ap (λ (k : NumberedFiles StoredFile). at k m) adds.new_is ∙ at_push_other t.next m (record { tag = adds.tag; value = v }) t.files o
 
-module _ (t0 t1 t2 : NumberedFiles StoredFile) (d : ℕ) (stored_file : StoredFile) (takes : TakesEntry t0 d) (reserved : Revalues t0 d SameFile t1) (adds : Adds t1 stored_file t2) where
-  same_dir : reserved.was ≡ takes.dir
-  same_dir = same_some (sym reserved.at_was ∙ takes.at_dir)
+pub reserved : (t : NumberedFiles StoredFile) (n : ℕ) (takes : TakesEntry t n) (i w : StoredFile) → Some i ≡ value_at t n → file_of 0 w ≡ file_of 0 i → w.nlink ≡ i.nlink → Revalues t n SameFile (with_value t n w)
+reserved t n takes i w v file nlink = record {
+  was = takes.dir;
+  at_was = takes.at_dir;
+  value = w;
+  from = subst (λ (i : StoredFile). SameFile i w) (value_found t n takes.dir i takes.at_dir v) (record { file = file; nlink = nlink });
+  new_is = refl;
+}
 
+module _ (t1 t2 : NumberedFiles StoredFile) (d : ℕ) (stored_file : StoredFile) (takes : TakesEntry t1 d) (adds : Adds t1 stored_file t2) where
   apart : d ≢ t1.next
-  apart s = let low = takes.below in let next : t1.next ≡ t0.next = (same_files t0 t1 d reserved).next in omega (arith, low, s, next)
+  apart s = let low = takes.below in omega (arith, low, s)
 
-  -- the directory as it is now
-  abbrev pub its : TaggedFile StoredFile
-  its = record { tag = reserved.was.tag; value = reserved.value }
+  at_2 : at t2 d ≡ Some takes.dir
+  at_2 = on_new t1 t2 stored_file adds d apart ∙ takes.at_dir
 
-  at_1 : at t1 d ≡ Some its
-  at_1 = ap (λ (k : NumberedFiles StoredFile). at k d) reserved.new_is ∙ at_value_same t0 d reserved.was reserved.value reserved.at_was
-
-  pub at_2 : at t2 d ≡ Some its
-  at_2 = on_new t1 t2 stored_file adds d apart ∙ at_1
-
-  same_file : file_of 0 reserved.value ≡ file_of 0 takes.dir.value
-  same_file = reserved.from.file ∙ ap (λ (f : TaggedFile StoredFile). file_of 0 f.value) same_dir
-
-  next_1 : t1.next ≡ t0.next
-  next_1 = (same_files t0 t1 d reserved).next
-
-  pub takes_twice : TakesEntry t2 d
-  takes_twice = record {
-    dir = its;
+  pub takes_still : TakesEntry t2 d
+  takes_still = record {
+    dir = takes.dir;
     at_dir = at_2;
-    is_dir = ap (λ (f : File). is_directory f.kind) same_file ∙ takes.is_dir;
-    next_cookie = subst (λ (f : File). next_cookie_in f.kind + 1 < 18446744073709551616) (sym same_file) takes.next_cookie;
-    nlink = let few = takes.nlink in let same : reserved.value.nlink ≡ takes.dir.value.nlink = reserved.from.nlink ∙ ap (λ (f : TaggedFile StoredFile). f.value.nlink) same_dir in omega (arith, few, same);
-    below = let low = takes.below in let n : t2.next ≡ t1.next + 1 = ap (λ (k : NumberedFiles StoredFile). k.next) adds.new_is in let m = next_1 in omega (arith, low, n, m);
+    is_dir = takes.is_dir;
+    next_cookie = takes.next_cookie;
+    nlink = takes.nlink;
+    below = let low = takes.below in let n : t2.next ≡ t1.next + 1 = ap (λ (k : NumberedFiles StoredFile). k.next) adds.new_is in omega (arith, low, n);
   }
 
-  pub room_twice : ((i : StoredFile) → value_at t1 d ≡ Some i → HasRoom i) → (i : StoredFile) → value_at t2 d ≡ Some i → HasRoom i
-  room_twice has i v = has i (ap (option_map (λ (f : TaggedFile StoredFile). f.value)) (sym (on_new t1 t2 stored_file adds d apart)) ∙ v)
+  pub room_still : ((i : StoredFile) → value_at t1 d ≡ Some i → HasRoom i) → (i : StoredFile) → value_at t2 d ≡ Some i → HasRoom i
+  room_still has i v = has i (ap (option_map (λ (f : TaggedFile StoredFile). f.value)) (sym (on_new t1 t2 stored_file adds d apart)) ∙ v)
 
-  pub added : (t3 : NumberedFiles StoredFile) (name : List ℕ) (number links : ℕ) (now : Moment) → Revalues t2 d (Enters name number links now) t3 → number ≡ t1.next → links ≡ one_when (is_directory (file_of 0 stored_file).kind) → AddsFile t0 d name stored_file now t3
-  added t3 name number links now enters is_next are_links =
-      let was_its : enters.was ≡ its = same_some (sym enters.at_was ∙ at_2) in
-      let dir_value : Enters name number links now reserved.value enters.value = subst (λ (f : TaggedFile StoredFile). Enters name number links now f.value enters.value) was_its enters.from in
-      let is_number : number ≡ t0.next = is_next ∙ next_1 in
-      let tags : enters.was.tag ≡ takes.dir.tag = ap (λ (f : TaggedFile StoredFile). f.tag) (was_its) ∙ ap (λ (f : TaggedFile StoredFile). f.tag) same_dir in
+  pub added : (t3 : NumberedFiles StoredFile) (name : List ℕ) (number links : ℕ) (now : Moment) → Revalues t2 d (Enters name number links now) t3 → number ≡ t1.next → links ≡ one_when (is_directory (file_of 0 stored_file).kind) → AddsFile t1 d name stored_file now t3
+  added t3 name number links now enters is_number are_links =
+      let was : enters.was ≡ takes.dir = same_some (sym enters.at_was ∙ at_2) in
+      let value : Enters name number links now takes.dir.value enters.value = subst (λ (f : TaggedFile StoredFile). Enters name number links now f.value enters.value) was enters.from in
       record {
         tag = adds.tag;
         fits = adds.fits;
@@ -134,16 +125,14 @@ module _ (t0 t1 t2 : NumberedFiles StoredFile) (d : ℕ) (stored_file : StoredFi
         at_dir = takes.at_dir;
         value = enters.value;
         enters = record {
-          file = dir_value.file ∙ ap (λ n. entered (file_of 0 reserved.value) name n now) is_number ∙ ap (λ f. entered f name t0.next now) same_file;
-          nlink = dir_value.nlink ∙ ap (λ l. reserved.value.nlink + l) are_links ∙ ap (λ n. n + one_when (is_directory (file_of 0 stored_file).kind)) (reserved.from.nlink ∙ ap (λ (f : TaggedFile StoredFile). f.value.nlink) same_dir);
+          file = value.file ∙ ap (λ n. entered (file_of 0 takes.dir.value) name n now) is_number;
+          nlink = value.nlink ∙ ap (λ l. takes.dir.value.nlink + l) are_links;
         };
         files = ap (λ (k : NumberedFiles StoredFile). counted_files k.files) enters.new_is ∙ helds_value t2 d enters.was enters.value enters.at_was
-            ∙ ap (λ t. with_at d (counted_file_of t enters.value) (counted_files t2.files)) tags
-            ∙ ap (with_at d (counted_file_of takes.dir.tag enters.value)) (ap (λ (k : NumberedFiles StoredFile). counted_files k.files) adds.new_is ∙ shows_push counted_file t1.next (record { tag = adds.tag; value = stored_file }) t1.files
-            ∙ ap (λ n. counted_files t1.files ++ (n, counted_file_of adds.tag stored_file) ∷ []) next_1
-            ∙ ap (λ l. l ++ (t0.next, counted_file_of adds.tag stored_file) ∷ []) (same_files t0 t1 d reserved).files);
-        next = ap (λ (k : NumberedFiles StoredFile). k.next) enters.new_is ∙ (next_value t2 d enters.was enters.value enters.at_was).0 ∙ ap (λ (k : NumberedFiles StoredFile). k.next) adds.new_is ∙ ap (λ n. n + 1) next_1;
-        key = ap (λ (k : NumberedFiles StoredFile). k.key) enters.new_is ∙ (next_value t2 d enters.was enters.value enters.at_was).1 ∙ ap (λ (k : NumberedFiles StoredFile). k.key) adds.new_is ∙ (same_files t0 t1 d reserved).key;
+            ∙ ap (λ (f : TaggedFile StoredFile). with_at d (counted_file_of f.tag enters.value) (counted_files t2.files)) was
+            ∙ ap (with_at d (counted_file_of takes.dir.tag enters.value)) (ap (λ (k : NumberedFiles StoredFile). counted_files k.files) adds.new_is ∙ shows_push counted_file t1.next (record { tag = adds.tag; value = stored_file }) t1.files);
+        next = ap (λ (k : NumberedFiles StoredFile). k.next) enters.new_is ∙ (next_value t2 d enters.was enters.value enters.at_was).0 ∙ ap (λ (k : NumberedFiles StoredFile). k.next) adds.new_is;
+        key = ap (λ (k : NumberedFiles StoredFile). k.key) enters.new_is ∙ (next_value t2 d enters.was enters.value enters.at_was).1 ∙ ap (λ (k : NumberedFiles StoredFile). k.key) adds.new_is;
       }
 
 -- ---- a link

@@ -1,11 +1,9 @@
 -- What the tree's own steps need.
-use Rattle.std.specs.Prelude.{◌≡◌, ℕ, ◌≢◌, ◌+◌, ◌-◌, ◌<◌, ◌≤◌, ◌^◌, All, Bool, true, false, List, Some, None, slice_get, length, if◌then◌else◌}
-use Rattle.nfs_attrs.specs.declared.moment.Moment.{Moment}
-use Rattle.nfs_inodes.specs.Changes.{with_named_file}
-use Rattle.nfs_inodes.specs.Limits.{max_file_bytes, max_links}
+use Rattle.std.specs.Prelude.{◌≡◌, ℕ, ◌≢◌, ◌+◌, ◌-◌, ◌<◌, ◌≤◌, ◌^◌, All, Bool, true, false, List, [], Some, None, slice_get, length, if◌then◌else◌}
+use Rattle.nfs_inodes.specs.Limits.{max_file_bytes, max_path_bytes, max_links}
 use Rattle.nfs_inodes.specs.declared.stored_file.StoredFile.{StoredFile}
 use Rattle.nfs_inodes.specs.declared.stored_volume.StoredVolume.{StoredVolume}
-use Rattle.nfs_inodes.specs.Tree.{Tree, File, Entry, at, on_some, is_directory, is_regular, entries_in, next_cookie_in, names_of, nlink, bytes_in, Volume, bytes_of, files_of}
+use Rattle.nfs_inodes.specs.Tree.{Tree, File, Kind, Entry, at, on_some, is_directory, is_regular, entries_in, parent_in, next_cookie_in, path_in, names_of, nlink, bytes_in, Volume, bytes_of, files_of}
 use Rattle.nfs_inodes.specs.Conditions.{MayMake, MayReplace, IsOff, IsNew}
 use Rattle.nfs_inodes.specs.Storage.{file_of, kind_of}
 use Rattle.nfs_inodes.specs.Law.{IsName, Lives, LivesAsDirectory}
@@ -15,16 +13,26 @@ use Rattle.nfs_inodes.specs.Reading.{entry_at}
 abbrev pub retagged : File → ℕ → File
 retagged f tag = record f { tag = tag }
 
--- the tree with a file as it is kept under the next number, with this tag, and an entry in d
-abbrev pub with_stored_file : Tree → ℕ → List ℕ → StoredFile → Moment → ℕ → Tree
-with_stored_file t d name f now tag = with_named_file t d name (retagged (file_of 0 f) tag) now
-
 -- a new file may be added to directory d under a name
 pub record MayAdd (t : Tree) (d : ℕ) (name : List ℕ) (stored_file : StoredFile) : Type 0 where
   pub may : MayMake t d name (length (bytes_in (file_of 0 stored_file).kind))
   pub is_new : IsNew d (length (bytes_in (file_of 0 stored_file).kind)) may.enter.dir (file_of 0 stored_file)
   pub links : is_directory (file_of 0 stored_file).kind ≡ true → nlink t.files d may.enter.dir < max_links
   pub nlink : stored_file.nlink ≡ (if is_directory (file_of 0 stored_file).kind then 2 else 1)
+
+-- what a new file of so many bytes in directory d is
+pub record IsFresh (d size : ℕ) (k : Kind) : Type 0 where
+  pub empty : entries_in k ≡ []
+  pub bytes : length (bytes_in k) ≡ size
+  pub path : length (path_in k) ≤ max_path_bytes
+  pub parent : is_directory k ≡ true → parent_in k ≡ d
+  pub next_cookie : is_directory k ≡ true → 3 ≤ next_cookie_in k
+
+-- a new file that is this may be added to directory d under a name
+pub record MayAddKind (t : Tree) (d : ℕ) (name : List ℕ) (k : Kind) : Type 0 where
+  pub may : MayMake t d name (length (bytes_in k))
+  pub fresh : IsFresh d (length (bytes_in k)) k
+  pub links : is_directory k ≡ true → nlink t.files d may.enter.dir < max_links
 
 -- the totals of the volume at a place take so many bytes and files more
 pub record HasRoomFor (stored_volumes : List StoredVolume) (place bytes files : ℕ) : Type 0 where

@@ -8,7 +8,7 @@ ghost use Rattle.nfs_inodes.specs.Reading.{listing, number_named, first_after, n
 ghost use Rattle.nfs_inodes.specs.Reading.{place_of_name, place_under};
 ghost use Rattle.nfs_inodes.specs.Reading.{entry_at, entry_after, next_cookie_at};
 ghost use Rattle.nfs_inodes.specs.Reading as spec;
-ghost use Rattle.nfs_inodes.specs.Views.{entries_left, entry_seen, kind_seen};
+ghost use Rattle.nfs_inodes.specs.Views.{entries_left, entry_seen, kind_seen, IsSeen};
 
 use crate::stored_entry::StoredEntry;
 use crate::stored_file::Node;
@@ -121,6 +121,15 @@ impl Tree {
             Some(stored_file) => cookie_of_next(&stored_file.node),
             None => None,
         }
+    }
+
+    /// The same of a directory that is seen, without a search.
+    #[inline(always)]
+    pub fn next_cookie_in(&self, dir: &FileView<'_>) -> Option<u64>
+        requires { IsSeen self.now dir.now }
+        ensures { result ≡ next_cookie_at self.now dir.now.attributes.fileid }
+    {
+        cookie_of_next(dir.node())
     }
 }
 

@@ -5,7 +5,7 @@ ghost use Rattle.nfs_inodes.specs.Changes.{after_unlink};
 ghost use Rattle.nfs_inodes.specs.Conditions.{MayUnlink};
 ghost use Rattle.nfs_inodes.specs.Counts.{Agrees, tree_in, with_totals};
 ghost use Rattle.nfs_inodes.specs.Storage.{kind_of, counted_tree_of, counted_volume_of};
-ghost use Rattle.nfs_inodes.specs.StoredFiles.{Revalues, IsThere};
+ghost use Rattle.nfs_inodes.specs.StoredFiles.{Revalues};
 ghost use Rattle.nfs_inodes.specs.Removals.{HasRoomAt, LosesEntry, Leaves, LosesLink, Goes, Stays};
 ghost use Rattle.nfs_inodes.specs.Removals.{is_last, HasEntries, HasTotals, Removes};
 ghost use Rattle.nfs_handles.specs.NumberedFiles.{value_at};
@@ -55,10 +55,34 @@ pub(crate) fn take_out(
         ≡ after_unlink (tree_in (counted_tree_of files.old volumes.old.items)) dir.0 name.now now }
     ensures room { (d : ℕ) → d ≢ number.0 → HasRoomAt files.old d → HasRoomAt files.new d }
 {
-    let subdirectory = is_directory(files, number);
-    leave(files, dir, name, subdirectory, now);
-    let freed = release(files, number, now);
+    let file = standing_of(files, number);
+    leave(files, dir, name, file.directory, now);
+    let freed = release(files, number, file.last, now);
     discount(volumes, freed.place, freed.bytes, freed.files);
+}
+
+// Whether a file is a directory, and whether it has no entry but one: a directory, or a file with one
+// link.
+#[derive(Clone, Copy)]
+struct Standing {
+    directory: bool,
+    last: bool,
+}
+
+fn standing_of(files: &Files<StoredFile>, number: Number) -> Standing
+    ensures directory { result.directory ≡ on_some (value_at files.now number.0) false (λ f. is_directory (kind_of f.node)) }
+    ensures last { result.last ≡ on_some (value_at files.now number.0) true is_last }
+{
+    match files.get(number) {
+        Some(stored_file) => Standing {
+            directory: stored_file.is_directory(),
+            last: stored_file.is_directory() || stored_file.nlink <= 1,
+        },
+        None => Standing {
+            directory: false,
+            last: true,
+        },
+    }
 }
 
 /// Whether a file is a directory.
@@ -89,24 +113,14 @@ pub(crate) fn leave(
 }
 
 // A file that has lost an entry leaves with its last, or has a link less.
-fn release(files: &mut Files<StoredFile>, number: Number, now: Moment) -> Freed
-    requires { IsThere files.old number.0 }
+fn release(files: &mut Files<StoredFile>, number: Number, last: bool, now: Moment) -> Freed
+    requires { HasEntries last files.old number.0 }
     ensures { Goes files.old number.0 result files.new ⊎ Stays files.old number.0 now result files.new }
 {
-    if has_no_other(files, number) {
+    if last {
         free(files, number)
     } else {
         lose_link(files, number, now)
-    }
-}
-
-// Whether a file has no entry but one: a directory, or a file with one link.
-fn has_no_other(files: &Files<StoredFile>, number: Number) -> bool
-    ensures { result ≡ on_some (value_at files.now number.0) true is_last }
-{
-    match files.get(number) {
-        Some(stored_file) => stored_file.is_directory() || stored_file.nlink <= 1,
-        None => true,
     }
 }
 

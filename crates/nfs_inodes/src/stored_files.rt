@@ -1,5 +1,5 @@
 //! The kept files of a tree, and what is done to one or two of them.
-ghost use Rattle.std.specs.Prelude.{◌≡◌, ◌-◌, ◌+◌, ◌<◌, ◌^◌, IfOk, OnErr, OnOk, Some, length};
+ghost use Rattle.std.specs.Prelude.{◌≡◌, ◌-◌, ◌+◌, ◌<◌, ◌^◌, IfOk, OnErr, OnOk, Some, length, option_map};
 ghost use Rattle.nfs_handles.specs.NumberedFiles.{value_at};
 ghost use Rattle.nfs_inodes.specs.declared.stored_file.StoredFile.{StoredFile};
 ghost use Rattle.nfs_inodes.specs.Tree.{one_when};
@@ -19,8 +19,8 @@ use nfs_handles::files::Files;
 use nfs_handles::number::Number;
 use std::alloc::AllocError;
 
-/// Adds a file with its entry in directory `dir`. Refused without memory, and then clients see
-/// no change.
+/// Adds a file with its entry in directory `dir`, for which there is room. Refused without memory,
+/// and then clients see no change.
 pub(crate) fn add(
     files: &mut Files<StoredFile>,
     dir: Number,
@@ -29,13 +29,13 @@ pub(crate) fn add(
     now: Moment,
 ) -> Result<Number, AllocError>
     requires dir { TakesEntry files.old dir.0 }
+    requires room { (parent : StoredFile) → value_at files.old dir.0 ≡ Some parent → HasRoom parent }
     requires number { files.old.next < 2 ^ 64 - 1 }
     ensures ok { OnOk result (AddsFile files.old dir.0 name.items stored_file now files.new) }
     ensures number { IfOk result (λ n. n.0 ≡ files.old.next) }
     ensures err { OnErr result (SameFiles files.old files.new) }
 {
     let subdirectory = stored_file.is_directory();
-    reserve(files, dir)?;
     let number = match files.put(stored_file) {
         Ok(number) => number,
         Err(_) => return Err(AllocError),
@@ -151,14 +151,19 @@ fn gain_link(files: &mut Files<StoredFile>, number: Number, dir: Number, now: Mo
     }
 }
 
-/// Room in a directory for one entry more. Refused without memory, and then clients see no change.
-pub(crate) fn reserve(files: &mut Files<StoredFile>, dir: Number) -> Result<(), AllocError>
+/// Room in a directory for one entry more, and the place of its volume. Refused without memory, and
+/// then clients see no change.
+pub(crate) fn reserve(files: &mut Files<StoredFile>, dir: Number) -> Result<usize, AllocError>
     requires { TakesEntry files.old dir.0 }
     ensures same { Revalues files.old dir.0 SameFile files.new }
+    ensures place { IfOk result (λ place. option_map (λ parent. parent.volume) (value_at files.old dir.0) ≡ Some place) }
     ensures ok { OnOk result ((stored_file : StoredFile) → value_at files.new dir.0 ≡ Some stored_file → HasRoom stored_file) }
 {
     match files.get_mut(dir) {
-        Some(parent) => reserve_entry(parent),
+        Some(parent) => {
+            reserve_entry(parent)?;
+            Ok(parent.volume)
+        }
         None => unreachable!(),
     }
 }

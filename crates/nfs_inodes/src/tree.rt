@@ -6,19 +6,18 @@ ghost use Rattle.nfs_inodes.specs.Law.{Law, Lives};
 ghost use Rattle.nfs_inodes.specs.Changes.{Makes, after_make_file, after_make_dir, after_make_link};
 ghost use Rattle.nfs_inodes.specs.Changes.{after_link, after_write_at, after_resize};
 ghost use Rattle.nfs_inodes.specs.Changes.{after_set, after_add_volume};
-ghost use Rattle.nfs_inodes.specs.Changes.{new_file, volume_of};
+ghost use Rattle.nfs_inodes.specs.Changes.{with_named_file, new_file, volume_of};
 ghost use Rattle.nfs_inodes.specs.Conditions.{MayMake, MayMakeDirectory, MayMakeLink, MayLink};
 ghost use Rattle.nfs_inodes.specs.Conditions.{MayWrite, Grows, MayResize, MayAddVolume};
-ghost use Rattle.nfs_inodes.specs.Storage.{file_of, counted_volume_of};
-ghost use Rattle.nfs_inodes.specs.StepConditions.{MayAdd, with_stored_file, HasRoomFor};
-ghost use Rattle.nfs_inodes.specs.StepConditions.{HasBytes};
+ghost use Rattle.nfs_inodes.specs.Storage.{kind_of, counted_volume_of};
+ghost use Rattle.nfs_inodes.specs.StepConditions.{MayAddKind, HasRoomFor, HasBytes};
 ghost use Rattle.nfs_inodes.specs.Counts.{with_totals};
 
 use crate::content::copied;
 use crate::given_attributes::GivenAttributes;
 use crate::new_file::NewFile;
 use crate::stored_file::{Node, StoredFile};
-use crate::stored_files::{add, link, resize, set, write};
+use crate::stored_files::{add, link, reserve, resize, set, write};
 use crate::stored_volume::StoredVolume;
 use nfs_attrs::moment::Moment;
 use nfs_handles::files::Files;
@@ -99,14 +98,7 @@ impl Tree {
         ensures err { OnErr result (self.new ≡ self.old) }
     {
         let name = copied(self.alloc, name)?;
-        let stored_file = StoredFile::new(
-            self.place(dir),
-            Node::Regular(content),
-            given,
-            verifier,
-            now,
-        );
-        self.make(dir, name, stored_file, now)
+        self.make(dir, name, Node::Regular(content), given, verifier, now)
     }
 
     /// A new directory, with an entry in directory `dir`, which has a link more by it. Refused
@@ -129,8 +121,7 @@ impl Tree {
             next_cookie: FIRST_COOKIE,
             entries: Vec::new(self.alloc),
         };
-        let stored_file = StoredFile::new(self.place(dir), node, given, None, now);
-        self.make(dir, name, stored_file, now)
+        self.make(dir, name, node, given, None, now)
     }
 
     /// A new link with this path, with an entry in directory `dir`. Refused without memory, and
@@ -150,8 +141,7 @@ impl Tree {
     {
         let path = copied(self.alloc, path)?;
         let name = copied(self.alloc, name)?;
-        let stored_file = StoredFile::new(self.place(dir), Node::Link(path), given, None, now);
-        self.make(dir, name, stored_file, now)
+        self.make(dir, name, Node::Link(path), given, None, now)
     }
 
     /// An entry in directory `dir` for a file that has one already (RFC 1813, section 3.3.15).
@@ -274,15 +264,19 @@ impl Tree {
         &mut self,
         dir: Number,
         name: Vec<u8>,
-        stored_file: StoredFile,
+        node: Node,
+        given: &NewFile,
+        verifier: Option<[u8; 8]>,
         now: Moment,
     ) -> Result<Number, AllocError>
-        requires { MayAdd self.old dir.0 name.items stored_file }
-        ensures ok { OnOk result (Makes (with_stored_file self.old dir.0 name.items stored_file now) self.new) }
+        requires { MayAddKind self.old dir.0 name.items (kind_of node) }
+        ensures ok { OnOk result (Makes (λ tag. with_named_file self.old dir.0 name.items
+            (new_file (volume_of self.old dir.0) (kind_of node) given.now verifier tag now) now) self.new) }
         ensures number { IfOk result (λ n. n.0 ≡ self.old.next) }
         ensures err { OnErr result (self.new ≡ self.old) }
     {
-        let place = stored_file.volume;
+        let place = reserve(&mut self.files, dir)?;
+        let stored_file = StoredFile::new(place, node, given, verifier, now);
         let size = stored_file.size();
         let number = add(&mut self.files, dir, name, stored_file, now)?;
         count(&mut self.volumes, place, size, 1);

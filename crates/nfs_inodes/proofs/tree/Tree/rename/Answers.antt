@@ -4,7 +4,8 @@ use Rattle.nfs_inodes.specs.Changes.{after_rename}
 use Rattle.nfs_inodes.specs.Counts.{Agrees, tree_in}
 use Rattle.nfs_inodes.proofs.Lists.{true_and_false}
 use Rattle.nfs_inodes.proofs.StoredFiles.{on_err, same_files}
-use Rattle.nfs_inodes.proofs.KeptRenames.{names_other, same_counted, takes_target, renames_found}
+use Rattle.nfs_inodes.proofs.KeptRenames.{names_other, takes_target, renames_found}
+use Rattle.nfs_inodes.proofs.Steps.{same_counted}
 use Rattle.nfs_inodes.proofs.tree.Tree.rename.Goals as goal
 
 pub reserve-requires : goal.reserve-requires
