@@ -10,7 +10,6 @@ use crate::exported_file::place_of;
 use crate::rule::{Rule, ensure};
 use crate::subject::Subject;
 use nfs_attrs::fattr::Fattr;
-use nfs_handles::number::Number;
 use nfs_inodes::limits::{MAX_FILE_BYTES, MAX_LINKS};
 
 impl<'a> Subject<'a> {
@@ -99,7 +98,7 @@ impl<'a> Subject<'a> {
     fn has_cookie_left(&self) -> bool
         ensures { result ≡ not (on_some (next_cookie_at self.now.tree self.now.file.fileid) false (nat_le test.last_number)) }
     {
-        match self.tree.next_cookie(Number(self.attributes().fileid)) {
+        match self.tree.next_cookie_in(&self.file) {
             Some(cookie) => cookie < u64::MAX,
             None => true,
         }
