@@ -86,17 +86,23 @@ pub(crate) fn write_new_file(out: &mut Output, tree: &Tree, file: Number, dir: W
       dir = dir;
     })) out.old out.new }
 {
-    let handle = tree.handle_of(file.0);
-    let lent = match &handle {
-        Some(handle) => Some(Opaque::new(handle.as_slice())),
-        None => None,
-    };
-    write_made(
-        out,
-        &Made {
-            file: lent,
-            attributes: tree.attributes(file),
-            dir,
-        },
-    );
+    match tree.view(file) {
+        Some(file) => {
+            let handle = tree.handle(&file);
+            let made = Made {
+                file: Some(Opaque::new(handle.as_slice())),
+                attributes: Some(file.attributes()),
+                dir,
+            };
+            write_made(out, &made);
+        }
+        None => {
+            let made = Made {
+                file: None,
+                attributes: None,
+                dir,
+            };
+            write_made(out, &made);
+        }
+    }
 }
