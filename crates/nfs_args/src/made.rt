@@ -23,6 +23,7 @@ pub struct Made<'a> {
 }
 
 /// Writes a file that was made.
+#[inline(always)]
 pub fn write_made(out: &mut Output, answer: &Made<'_>)
     requires fits { MadeFits answer.now }
     requires room { length (made_text answer.now) ≤ out.old.room }

@@ -76,6 +76,7 @@ impl<T: Drop> Files<T> {
 
     /// Adds a file, and answers its number. `Spent` exactly where the next number is 2^64 - 1,
     /// `Memory` where there is no memory; both hand the value back and change nothing.
+    #[inline(always)]
     pub fn put(&mut self, value: T) -> Result<Number, PutFault<T>>
         ensures { Puts self.old value result self.new }
     {
@@ -162,6 +163,7 @@ impl<T: Drop> Files<T> {
     }
 
     /// The handle of a file that lives. It never names another.
+    #[inline(always)]
     pub fn handle(&self, number: Number) -> [u8; 24]
         requires { IsSome (at self.now number.0) }
         ensures { handle_at self.now number.0 ≡ Some result }
@@ -176,6 +178,7 @@ impl<T: Drop> Files<T> {
     }
 
     /// The file of a number, if it lives.
+    #[inline(always)]
     pub fn get(&self, number: Number) -> Option<&T>
         ensures { option_copied result ≡ value_at self.now number.0 }
     {
@@ -183,6 +186,7 @@ impl<T: Drop> Files<T> {
     }
 
     /// The file of a number, if it lives, to be changed; it keeps its number and its handle.
+    #[inline(always)]
     pub fn get_mut(&mut self, number: Number) -> Option<&mut T>
         ensures* writes_back { sem 𝓛 (LendsValue T.row self.entry number.0 result) }
         ensures value { option_copied_mut result ≡ value_at self.old number.0 }
@@ -191,6 +195,7 @@ impl<T: Drop> Files<T> {
     }
 
     /// Takes the file of a number away, if it lives. From then on its handle is stale.
+    #[inline(always)]
     pub fn take(&mut self, number: Number) -> Option<T>
         ensures { Takes self.old number.0 result self.new }
     {

@@ -9,16 +9,17 @@ use Rattle.nfs_handles.specs.Changes.{Takes}
 use Rattle.nfs_inodes.specs.declared.stored_file.StoredFile.{StoredFile}
 use Rattle.nfs_inodes.specs.declared.stored_volume.StoredVolume.{StoredVolume}
 use Rattle.nfs_inodes.specs.declared.removal.Freed.{Freed}
-use Rattle.nfs_inodes.specs.Tree.{Tree, File, Entry, Volume, at, on_some, one_when, bytes_in, is_directory, names_of, bytes_for, one_for}
+use Rattle.nfs_inodes.specs.declared.removal.Standing.{Standing}
+use Rattle.nfs_inodes.specs.Tree.{Tree, File, Entry, Volume, at, on_some, one_when, bytes_in, is_directory, names_of, nlink, bytes_for, one_for}
 use Rattle.nfs_inodes.specs.Law.{Lives}
 use Rattle.nfs_inodes.specs.Changes.{with_file, released, without_file, touched, after_unlink}
-use Rattle.nfs_inodes.specs.Conditions.{MayUnlink}
+use Rattle.nfs_inodes.specs.Conditions.{MayUnlink, MayUnlinkSeen}
 use Rattle.nfs_inodes.specs.Reading.{entry_at}
 use Rattle.nfs_inodes.specs.Counts.{CountedFile, CountedTree, Agrees, tree_in, with_totals}
 use Rattle.nfs_inodes.specs.Storage.{file_of, kind_of, counted_volume_of, counted_tree_of}
 use Rattle.nfs_inodes.specs.StoredFiles.{Revalues}
 use Rattle.nfs_inodes.specs.StepConditions.{retagged}
-use Rattle.nfs_inodes.specs.Removals.{HasRoomAt, Leaves, LosesLink, Goes, Stays, is_last, HasEntries, HasTotals, Removes}
+use Rattle.nfs_inodes.specs.Removals.{HasRoomAt, Leaves, LosesLink, Goes, Stays, is_last, HasEntries, HasTotals, Removes, Stands}
 use Rattle.nfs_inodes.proofs.Lists.{by_test, if_true, if_false, same_some, not_both, true_and_false}
 use Rattle.nfs_inodes.proofs.Maps.{apart_number, shows_without, sum_some}
 use Rattle.nfs_inodes.proofs.Alike.{bytes_here}
@@ -103,6 +104,17 @@ module _ (a : NumberedFiles StoredFile) (olds : List StoredVolume) (d : ℕ) (na
 
   abbrev kept_file : (f : TaggedFile StoredFile) × (numbered.at a n ≡ Some f) × (file_of f.tag f.value ≡ may.file)
   kept_file = leavings.kept_file a olds d name n removes.agree names
+
+  told_last : (is_directory may.file.kind || nat_le (nlink t.files n may.file) 1) ≡ is_last kept_file.0.value
+  told_last = ap (λ (f : File). is_directory f.kind || nat_le (nlink t.files n may.file) 1) (sym kept_file.2)
+      ∙ ap (λ l. is_directory (kind_of kept_file.0.value.node) || nat_le l 1) (sym (leavings.links_of_file a olds d name n removes.agree names))
+
+  -- what is known of the file is so of what is kept of it
+  pub stands : (file : Standing) → file.directory ≡ is_directory may.file.kind → file.last ≡ (is_directory may.file.kind || nat_le (nlink t.files n may.file) 1) → Stands a n file
+  stands file directory last = record {
+    directory = directory ∙ ap (λ (f : File). is_directory f.kind) (sym kept_file.2) ∙ sym (ap (λ o. on_some (option_map (λ (f : TaggedFile StoredFile). f.value) o) false (λ f. is_directory (kind_of f.node))) kept_file.1);
+    last = last ∙ told_last ∙ sym (ap (λ o. on_some (option_map (λ (f : TaggedFile StoredFile). f.value) o) true is_last) kept_file.1);
+  }
 
   pub other : n ≢ d
   other s = other_file t d name may.dir.ctime may (sym removes.number ∙ s)
@@ -296,3 +308,14 @@ removes_found a olds t d name n view agree may found = record { agree = agree; m
   where
     here : IsNumber d name n (tree_in (counted_tree_of a olds))
     here = subst (IsNumber d name n) (sym view) (may, same_some (found ∙ ap (option_map (λ (e : Entry). e.number)) (entry_is t d name may.dir may.at_dir.0 ∙ may.found)))
+
+-- the file of the entry was seen
+module _ (a : NumberedFiles StoredFile) (olds : List StoredVolume) (t : Tree) (d : ℕ) (name : List ℕ) (n : ℕ) (file : Standing) (view : tree_in (counted_tree_of a olds) ≡ t) (agree : Agrees (counted_tree_of a olds)) (seen : MayUnlinkSeen t d name n file) where
+  abbrev here : MayUnlinkSeen (tree_in (counted_tree_of a olds)) d name n file
+  here = subst (λ (u : Tree). MayUnlinkSeen u d name n file) (sym view) seen
+
+  pub removes_seen : Removes a olds d name n
+  removes_seen = record { agree = agree; may = here.may; number = here.number }
+
+  pub stands_seen : Stands a n file
+  stands_seen = stands a olds d name n (record { agree = agree; may = here.may; number = here.number }) file here.directory here.last

@@ -1,5 +1,6 @@
 -- What has to hold before an operation, beside memory.
-use Rattle.std.specs.Prelude.{◌≡◌, ◌≢◌, ◌⊎◌, ℕ, ◌+◌, ◌-◌, ◌<◌, ◌≤◌, ◌^◌, true, false, List, [], length, Some, None, All, slice_get}
+use Rattle.std.specs.Prelude.{◌≡◌, ◌≢◌, ◌⊎◌, ℕ, ◌+◌, ◌-◌, ◌<◌, ◌≤◌, ◌^◌, ◌||◌, nat_le, true, false, List, [], length, Some, None, All, slice_get}
+use Rattle.nfs_inodes.specs.declared.removal.Standing.{Standing}
 use Rattle.nfs_inodes.specs.Limits.{max_file_bytes, max_path_bytes, max_links, max_volumes, max_volume_path_bytes}
 use Rattle.nfs_inodes.specs.Reading.{entry_named, entry_at}
 use Rattle.nfs_inodes.specs.Tree.{Tree, File, Entry, Volume, is_directory, is_regular, parent_in, entries_in, next_cookie_in, bytes_in, names_of, nlink, bytes_of, files_of}
@@ -78,6 +79,13 @@ pub record MayUnlink (t : Tree) (d : ℕ) (name : List ℕ) : Type 0 where
   pub file : File
   pub at_file : Lives t entry.number file
   pub empty : entries_in file.kind ≡ []
+
+-- the same, and the entry names file n, of which this is known
+pub record MayUnlinkSeen (t : Tree) (d : ℕ) (name : List ℕ) (n : ℕ) (file : Standing) : Type 0 where
+  pub may : MayUnlink t d name
+  pub number : n ≡ may.entry.number
+  pub directory : file.directory ≡ is_directory may.file.kind
+  pub last : file.last ≡ (is_directory may.file.kind || nat_le (nlink t.files n may.file) 1)
 
 -- neither a directory nor any above it is n
 abbrev pub IsOff : Tree → ℕ → ℕ → Type 0

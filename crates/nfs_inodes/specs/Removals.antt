@@ -5,7 +5,8 @@ use Rattle.nfs_handles.specs.NumberedFiles.{NumberedFiles, TaggedFile, at, value
 use Rattle.nfs_inodes.specs.declared.stored_file.StoredFile.{StoredFile}
 use Rattle.nfs_inodes.specs.declared.stored_volume.StoredVolume.{StoredVolume}
 use Rattle.nfs_inodes.specs.declared.removal.Freed.{Freed}
-use Rattle.nfs_inodes.specs.Tree.{is_directory, bytes_in}
+use Rattle.nfs_inodes.specs.declared.removal.Standing.{Standing}
+use Rattle.nfs_inodes.specs.Tree.{on_some, is_directory, bytes_in}
 use Rattle.nfs_inodes.specs.Changes.{left}
 use Rattle.nfs_inodes.specs.Conditions.{MayUnlink}
 use Rattle.nfs_inodes.specs.Counts.{Agrees, tree_in}
@@ -31,6 +32,11 @@ pub record Leaves (name : List ℕ) (links : ℕ) (now : Moment) (old new : Stor
 -- a file with one entry has no other
 abbrev pub is_last : StoredFile → Bool
 is_last i = is_directory (kind_of i.node) || nat_le i.nlink 1
+
+-- what is known of the file that is kept under number n
+pub record Stands (files : NumberedFiles StoredFile) (n : ℕ) (file : Standing) : Type 0 where
+  pub directory : file.directory ≡ on_some (value_at files n) false (λ f. is_directory (kind_of f.node))
+  pub last : file.last ≡ on_some (value_at files n) true is_last
 
 -- number n is that of a file whose last entry has gone, or that has another
 abbrev pub HasEntries : Bool → NumberedFiles StoredFile → ℕ → Type 0

@@ -1,14 +1,15 @@
 -- What readers lend, as values.
-use Rattle.std.specs.Prelude.{◌≡◌, ℕ, List, Some, map}
+use Rattle.std.specs.Prelude.{◌≡◌, ℕ, ◌||◌, nat_le, List, Some, map}
 use Rattle.nfs_inodes.specs.Tree.{Tree, Kind, Entry, Volume, bytes_in}
 use Rattle.nfs_attrs.specs.declared.fattr.Fattr.{Fattr}
 use Rattle.nfs_inodes.specs.Storage.{entry_of}
-use Rattle.nfs_inodes.specs.Reading.{attributes_at, kind_at, numbered_files}
+use Rattle.nfs_inodes.specs.Reading.{attributes_at, is_directory_type, kind_at, numbered_files}
 use Rattle.nfs_handles.specs.Handles.{reading, number}
 use Rattle.nfs_handles.specs.declared.reading.Reading.TheVariants.{Live}
 use Rattle.nfs_inodes.specs.declared.directory.EntryView.{EntryView}
 use Rattle.nfs_inodes.specs.declared.directory.Entries.{Entries}
 use Rattle.nfs_inodes.specs.declared.volumes.VolumeView.{VolumeView}
+use Rattle.nfs_inodes.specs.declared.removal.Standing.{Standing}
 
 abbrev pub entry_seen : EntryView → Entry
 entry_seen e = record { cookie = e.cookie; name = e.name.now; number = e.number.0 }
@@ -31,6 +32,10 @@ kind_seen v = v.kind
 -- the bytes of a regular file; of another none
 abbrev pub bytes_seen : FileView → List ℕ
 bytes_seen v = bytes_in (kind_seen v)
+
+-- what a removal has to know of a file
+abbrev pub standing_of : Fattr → Standing
+standing_of f = record { directory = is_directory_type f.file_type; last = is_directory_type f.file_type || nat_le f.nlink 1 }
 
 -- the file lives in the tree, with these attributes, and is this
 abbrev pub IsSeen : Tree → FileView → Type 0

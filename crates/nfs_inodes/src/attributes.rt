@@ -17,6 +17,7 @@ const DIRECTORY_SIZE: u64 = 4096;
 impl Tree {
     /// The attributes of a file (RFC 1813, section 2.6, fattr3), found without a walk. `None`
     /// where none lives under the number.
+    #[inline(always)]
     pub fn attributes(&self, number: Number) -> Option<Fattr>
         ensures { result ≡ attributes_at self.now number.0 }
     {
@@ -64,6 +65,7 @@ pub(crate) fn attributes_of(stored_file: &StoredFile, number: Number) -> Fattr
     }
 }
 
+#[inline(always)]
 fn type_of(node: &Node) -> FileType
     ensures { result ≡ spec.type_of (kind_of node.now) }
 {
@@ -74,6 +76,7 @@ fn type_of(node: &Node) -> FileType
     }
 }
 
+#[inline(always)]
 fn size_of(node: &Node) -> u64
     ensures { result ≡ spec.size_of (kind_of node.now) }
 {

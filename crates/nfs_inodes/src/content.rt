@@ -7,6 +7,7 @@ ghost use Rattle.nfs_inodes.specs.Changes.{put_bytes, sized, zeros};
 use std::alloc::{AllocError, Global};
 
 /// The content of a new file of so many bytes: zeros. Refused without memory.
+#[inline(always)]
 pub fn zeroed(alloc: Global, size: usize) -> Result<Vec<u8>, AllocError>
     ensures { IfOk result (λ bytes. bytes.items ≡ zeros size) }
 {
@@ -16,6 +17,7 @@ pub fn zeroed(alloc: Global, size: usize) -> Result<Vec<u8>, AllocError>
 }
 
 /// The same bytes. Refused without memory.
+#[inline(always)]
 pub(crate) fn copied(alloc: Global, bytes: &[u8]) -> Result<Vec<u8>, AllocError>
     ensures { IfOk result (λ copy. copy.items ≡ bytes.now) }
 {

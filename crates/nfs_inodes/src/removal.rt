@@ -1,18 +1,21 @@
 //! Entries that go, and files with their last.
 ghost use Rattle.std.specs.Prelude.{◌≡◌, ◌≢◌, ◌⊎◌, ℕ, true, false, map};
 ghost use Rattle.nfs_inodes.specs.Tree.{one_when, on_some, is_directory};
+ghost use Rattle.nfs_inodes.specs.Views as seen;
 ghost use Rattle.nfs_inodes.specs.Changes.{after_unlink};
-ghost use Rattle.nfs_inodes.specs.Conditions.{MayUnlink};
+ghost use Rattle.nfs_inodes.specs.Conditions.{MayUnlink, MayUnlinkSeen};
 ghost use Rattle.nfs_inodes.specs.Counts.{Agrees, tree_in, with_totals};
 ghost use Rattle.nfs_inodes.specs.Storage.{kind_of, counted_tree_of, counted_volume_of};
 ghost use Rattle.nfs_inodes.specs.StoredFiles.{Revalues};
 ghost use Rattle.nfs_inodes.specs.Removals.{HasRoomAt, LosesEntry, Leaves, LosesLink, Goes, Stays};
-ghost use Rattle.nfs_inodes.specs.Removals.{is_last, HasEntries, HasTotals, Removes};
+ghost use Rattle.nfs_inodes.specs.Removals.{HasEntries, HasTotals, Removes, Stands};
 ghost use Rattle.nfs_handles.specs.NumberedFiles.{value_at};
 
 use crate::stored_file::{StoredFile, remove_entry};
 use crate::stored_volume::StoredVolume;
 use crate::tree::Tree;
+use crate::view::FileView;
+use nfs_attrs::file_type::FileType;
 use nfs_attrs::moment::Moment;
 use nfs_handles::files::Files;
 use nfs_handles::number::Number;
@@ -28,7 +31,64 @@ impl Tree {
             Some(number) => number,
             None => unreachable!(),
         };
-        take_out(&mut self.files, &mut self.volumes, dir, name, number, now);
+        let file = standing_of(&self.files, number);
+        take_out(
+            &mut self.files,
+            &mut self.volumes,
+            dir,
+            name,
+            number,
+            file,
+            now,
+        );
+    }
+
+    /// The same where the file that the entry names was seen, without a search for it.
+    #[inline(always)]
+    pub fn unlink_seen(
+        &mut self,
+        dir: Number,
+        name: &[u8],
+        number: Number,
+        file: Standing,
+        now: Moment,
+    )
+        requires { MayUnlinkSeen self.old dir.0 name.now number.0 file }
+        ensures { self.new ≡ after_unlink self.old dir.0 name.now now }
+    {
+        take_out(
+            &mut self.files,
+            &mut self.volumes,
+            dir,
+            name,
+            number,
+            file,
+            now,
+        );
+    }
+}
+
+/// What a removal has to know of the file that an entry names.
+#[derive(Clone, Copy)]
+pub struct Standing {
+    /// Whether it is a directory.
+    pub directory: bool,
+    /// Whether it has no entry but one: a directory, or a file with one link.
+    pub last: bool,
+}
+
+impl FileView<'_> {
+    /// What a removal of its entry has to know of this file.
+    #[inline(always)]
+    pub fn standing(&self) -> Standing
+        ensures { result ≡ seen.standing_of self.now.attributes }
+    {
+        let file = self.attributes();
+        let directory = file.file_type == FileType::Directory;
+        Standing {
+            directory,
+            last: directory || file.nlink <= 1,
+        }
     }
 }
 
@@ -41,37 +101,31 @@ pub(crate) struct Freed {
 }
 
 /// The entry of a name, which names file `number`, leaves a directory, and the file with its last.
+#[inline(always)]
 pub(crate) fn take_out(
     files: &mut Files<StoredFile>,
     volumes: &mut Vec<StoredVolume>,
     dir: Number,
     name: &[u8],
     number: Number,
+    file: Standing,
     now: Moment,
 )
-    requires { Removes files.old volumes.old.items dir.0 name.now number.0 }
+    requires removes { Removes files.old volumes.old.items dir.0 name.now number.0 }
+    requires stands { Stands files.old number.0 file }
     ensures agree { Agrees (counted_tree_of files.new volumes.new.items) }
     ensures done { tree_in (counted_tree_of files.new volumes.new.items)
         ≡ after_unlink (tree_in (counted_tree_of files.old volumes.old.items)) dir.0 name.now now }
     ensures room { (d : ℕ) → d ≢ number.0 → HasRoomAt files.old d → HasRoomAt files.new d }
 {
-    let file = standing_of(files, number);
     leave(files, dir, name, file.directory, now);
     let freed = release(files, number, file.last, now);
     discount(volumes, freed.place, freed.bytes, freed.files);
 }
 
-// Whether a file is a directory, and whether it has no entry but one: a directory, or a file with one
-// link.
-#[derive(Clone, Copy)]
-struct Standing {
-    directory: bool,
-    last: bool,
-}
-
-fn standing_of(files: &Files<StoredFile>, number: Number) -> Standing
-    ensures directory { result.directory ≡ on_some (value_at files.now number.0) false (λ f. is_directory (kind_of f.node)) }
-    ensures last { result.last ≡ on_some (value_at files.now number.0) true is_last }
+/// What a removal of its entry has to know of a file.
+pub(crate) fn standing_of(files: &Files<StoredFile>, number: Number) -> Standing
+    ensures { Stands files.now number.0 result }
 {
     match files.get(number) {
         Some(stored_file) => Standing {
@@ -96,6 +150,7 @@ pub(crate) fn is_directory(files: &Files<StoredFile>, number: Number) -> bool
 }
 
 /// One entry less in a directory, which loses the link of a subdirectory.
+#[inline(always)]
 pub(crate) fn leave(
     files: &mut Files<StoredFile>,
     dir: Number,
@@ -113,6 +168,7 @@ pub(crate) fn leave(
 }
 
 // A file that has lost an entry leaves with its last, or has a link less.
+#[inline(always)]
 fn release(files: &mut Files<StoredFile>, number: Number, last: bool, now: Moment) -> Freed
     requires { HasEntries last files.old number.0 }
     ensures { Goes files.old number.0 result files.new ⊎ Stays files.old number.0 now result files.new }
@@ -124,6 +180,7 @@ fn release(files: &mut Files<StoredFile>, number: Number, last: bool, now: Momen
     }
 }
 
+#[inline(always)]
 fn free(files: &mut Files<StoredFile>, number: Number) -> Freed
     requires { HasEntries true files.old number.0 }
     ensures { Goes files.old number.0 result files.new }
@@ -138,6 +195,7 @@ fn free(files: &mut Files<StoredFile>, number: Number) -> Freed
     }
 }
 
+#[inline(always)]
 fn lose_link(files: &mut Files<StoredFile>, number: Number, now: Moment) -> Freed
     requires { HasEntries false files.old number.0 }
     ensures { Stays files.old number.0 now result files.new }
@@ -157,6 +215,7 @@ fn lose_link(files: &mut Files<StoredFile>, number: Number, now: Moment) -> Free
 }
 
 // So many bytes and files less in the volume at a place.
+#[inline(always)]
 fn discount(volumes: &mut Vec<StoredVolume>, place: usize, bytes: u64, files: u64)
     requires { HasTotals volumes.old.items place bytes files }
     ensures { with_totals (map counted_volume_of volumes.new.items) place bytes files ≡ map counted_volume_of volumes.old.items }

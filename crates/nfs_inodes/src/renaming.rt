@@ -9,7 +9,7 @@ ghost use Rattle.nfs_inodes.specs.StoredFiles.{Revalues, IsThere};
 ghost use Rattle.nfs_inodes.specs.Renamings.{MovesTo, Carries, HasCarried, Renames};
 
 use crate::content::copied;
-use crate::removal::{is_directory, leave, take_out};
+use crate::removal::{is_directory, leave, standing_of, take_out};
 use crate::stored_file::{StoredFile, set_parent};
 use crate::stored_files::{enter, reserve};
 use crate::stored_volume::StoredVolume;
@@ -95,7 +95,16 @@ fn move_entry(
         ≡ after_rename (tree_in (counted_tree_of files.old volumes.old.items)) route.from.0 name.now route.to.0 new_name.items now }
 {
     if let Some(old) = replaced {
-        take_out(files, volumes, route.to, new_name.as_slice(), old, now);
+        let file = standing_of(files, old);
+        take_out(
+            files,
+            volumes,
+            route.to,
+            new_name.as_slice(),
+            old,
+            file,
+            now,
+        );
         carry(files, route, name, new_name, now);
         return;
     }

@@ -45,6 +45,7 @@ pub(crate) struct StoredFile {
 
 impl StoredFile {
     /// A new file, with the links that it has once it has an entry.
+    #[inline(always)]
     pub(crate) fn new(
         volume: usize,
         node: Node,
@@ -74,6 +75,7 @@ impl StoredFile {
     }
 
     /// How many bytes it has, as a regular file.
+    #[inline(always)]
     pub(crate) fn size(&self) -> u64
         ensures { result ≡ length (bytes_in (file_of 0 self.now).kind) }
     {
@@ -84,6 +86,7 @@ impl StoredFile {
     }
 
     /// Whether it is a directory.
+    #[inline(always)]
     pub(crate) fn is_directory(&self) -> bool
         ensures { result ≡ is_directory (file_of 0 self.now).kind }
     {
@@ -95,6 +98,7 @@ impl StoredFile {
 }
 
 /// Room for one entry more in a directory.
+#[inline(always)]
 pub(crate) fn reserve_entry(stored_file: &mut StoredFile) -> Result<(), AllocError>
     requires { IsTrue (is_directory (file_of 0 stored_file.old).kind) }
     ensures ok { OnOk result (HasRoom stored_file.new) }
@@ -108,6 +112,7 @@ pub(crate) fn reserve_entry(stored_file: &mut StoredFile) -> Result<(), AllocErr
 }
 
 /// One entry more in a directory, which has room for it.
+#[inline(always)]
 pub(crate) fn add_entry(
     stored_file: &mut StoredFile,
     name: Vec<u8>,
@@ -148,6 +153,7 @@ pub(crate) fn add_entry(
 }
 
 /// A directory without the entry of a name, and without the link of a subdirectory.
+#[inline(always)]
 pub(crate) fn remove_entry(
     stored_file: &mut StoredFile,
     name: &[u8],

@@ -21,6 +21,7 @@ use std::alloc::AllocError;
 
 /// Adds a file with its entry in directory `dir`, for which there is room. Refused without memory,
 /// and then clients see no change.
+#[inline(always)]
 pub(crate) fn add(
     files: &mut Files<StoredFile>,
     dir: Number,
@@ -153,6 +154,7 @@ fn gain_link(files: &mut Files<StoredFile>, number: Number, dir: Number, now: Mo
 
 /// Room in a directory for one entry more, and the place of its volume. Refused without memory, and
 /// then clients see no change.
+#[inline(always)]
 pub(crate) fn reserve(files: &mut Files<StoredFile>, dir: Number) -> Result<usize, AllocError>
     requires { TakesEntry files.old dir.0 }
     ensures same { Revalues files.old dir.0 SameFile files.new }
@@ -169,6 +171,7 @@ pub(crate) fn reserve(files: &mut Files<StoredFile>, dir: Number) -> Result<usiz
 }
 
 /// One entry more in a directory, which has room for it.
+#[inline(always)]
 pub(crate) fn enter(
     files: &mut Files<StoredFile>,
     dir: Number,

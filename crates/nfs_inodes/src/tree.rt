@@ -82,6 +82,7 @@ impl Tree {
 
     /// A new regular file with this content, which becomes its own, and an entry in directory
     /// `dir`. Refused without memory, and then the tree is as before and the content is dropped.
+    #[inline(always)]
     pub fn make_file(
         &mut self,
         dir: Number,
@@ -293,6 +294,7 @@ fn append(volumes: &mut Vec<StoredVolume>, stored_volume: StoredVolume)
 }
 
 // So many bytes and files more in the volume at a place.
+#[inline(always)]
 fn count(volumes: &mut Vec<StoredVolume>, place: usize, bytes: u64, files: u64)
     requires { HasRoomFor volumes.old.items place bytes files }
     ensures { map counted_volume_of volumes.new.items ≡ with_totals (map counted_volume_of volumes.old.items) place bytes files }

@@ -14,7 +14,7 @@ use Rattle.nfs_attrs.specs.declared.fattr.Fattr.{Fattr}
 use Rattle.nfs_attrs.specs.declared.moment.Moment.{Moment}
 use Rattle.nfs_dirs.specs.Pages.{fits, fits_plus, is_too_small, left_after}
 use Rattle.nfs_inodes.specs.Changes.{after_make_file, zeros}
-use Rattle.nfs_inodes.specs.Conditions.{MayLink, MayMake, MayMakeDirectory, MayMakeLink, MayRename, MayResize, MayUnlink, MayWrite}
+use Rattle.nfs_inodes.specs.Conditions.{MayLink, MayMake, MayMakeDirectory, MayMakeLink, MayRename, MayResize, MayUnlinkSeen, MayWrite}
 use Rattle.nfs_inodes.specs.Law.{Lives}
 use Rattle.nfs_inodes.specs.Reading.{is_regular_type}
 use Rattle.nfs_inodes.specs.Tree.{Tree, File, on_some}
@@ -24,6 +24,7 @@ use Rattle.nfs_procs.specs.NewFiles.{new_file_of}
 use Rattle.nfs_procs.specs.Changers.{file_mode, directory_mode, link_mode, attributes_in, verifier_in, after_taking}
 use Rattle.nfs_procs.specs.declared.plan.Plan.{Plan}
 use Rattle.nfs_procs.specs.declared.plan.FilePlan.{FilePlan}
+use Rattle.nfs_procs.specs.declared.plan.RemovalPlan.{RemovalPlan}
 use Rattle.nfs_rules.specs.Rights.{may}
 use Rattle.nfs_rules.specs.Subjects.{Subject}
 use Rattle.nfs_rules.specs.Table.{size_in}
@@ -66,11 +67,11 @@ pub record PlansPagePlus (t : Tree) (a : ReadDirPlus) (plan s : Subject) : Type 
   pub tree : s.tree ≡ t
   pub large : is_too_small (fits_plus a.dircount a.maxcount (may s.ids s.file Execute)) (left_after s.tree s.file.fileid a.cookie) ≡ false
 
--- an entry that is taken away: its directory
-pub record PlansRemoval (t : Tree) (name : List ℕ) (plan : Fattr) (s : Subject) : Type 0 where
+-- an entry that is taken away: its directory, and what is known of its file
+pub record PlansRemoval (t : Tree) (name : List ℕ) (plan : RemovalPlan) (s : Subject) : Type 0 where
   pub tree : s.tree ≡ t
-  pub dir : plan ≡ s.file
-  pub may : MayUnlink t plan.fileid name
+  pub dir : plan.dir ≡ s.file
+  pub may : MayUnlinkSeen t plan.dir.fileid name plan.number.0 plan.file
 
 -- a further name: the file, and the directory of the name
 pub record PlansLink (t : Tree) (name : List ℕ) (plan : Fattr × Fattr) (file dir : Subject) : Type 0 where

@@ -3,13 +3,13 @@ ghost use Rattle.std.specs.Prelude.{◌≡◌, ◌≤◌, ◌++◌, Some};
 ghost use Rattle.std.specs.Int.{w32, to_be_bytes};
 ghost use Rattle.nfs_attrs.specs.Spelling.{wcc_text};
 ghost use Rattle.nfs_inodes.specs.Changes.{after_unlink};
-ghost use Rattle.nfs_inodes.specs.Conditions.{MayUnlink};
+ghost use Rattle.nfs_inodes.specs.Conditions.{MayUnlinkSeen};
 ghost use Rattle.nfs_inodes.specs.Reading.{attributes_at};
 ghost use Rattle.nfs_procs.specs.Doing as doing;
 ghost use Rattle.nfs_xdr.specs.Written.{Appends};
 
+use crate::plan::RemovalPlan;
 use crate::replies::change;
-use nfs_attrs::fattr::Fattr;
 use nfs_attrs::moment::Moment;
 use nfs_attrs::wcc::write_wcc;
 use nfs_handles::number::Number;
@@ -17,15 +17,22 @@ use nfs_inodes::tree::Tree;
 use nfs_xdr::output::Output;
 
 /// Takes the entry of a name out of a directory, and answers what it was and what it is.
-pub(crate) fn remove_entry(tree: &mut Tree, dir: &Fattr, name: &[u8], now: Moment, out: &mut Output)
-    requires may { MayUnlink tree.old dir.now.fileid name.now }
+#[inline(always)]
+pub(crate) fn remove_entry(
+    tree: &mut Tree,
+    plan: &RemovalPlan,
+    name: &[u8],
+    now: Moment,
+    out: &mut Output,
+)
+    requires may { MayUnlinkSeen tree.old plan.now.dir.fileid name.now plan.now.number.0 plan.now.file }
     requires room { 128 ≤ out.old.room }
-    ensures tree { tree.new ≡ after_unlink tree.old dir.now.fileid name.now now }
-    ensures text { Appends (to_be_bytes w32 0 ++ wcc_text (doing.change (Some dir.now) (attributes_at tree.new dir.now.fileid))) out.old
-        out.new }
+    ensures tree { tree.new ≡ after_unlink tree.old plan.now.dir.fileid name.now now }
+    ensures text { Appends (to_be_bytes w32 0 ++ wcc_text (doing.change (Some plan.now.dir) (attributes_at tree.new plan.now.dir.fileid)))
+        out.old out.new }
 {
-    let number = Number(dir.fileid);
-    tree.unlink(number, name, now);
+    let dir = Number(plan.dir.fileid);
+    tree.unlink_seen(dir, name, plan.number, plan.file, now);
     out.u32(0);
-    write_wcc(out, &change(Some(*dir), tree.attributes(number)));
+    write_wcc(out, &change(Some(plan.dir), tree.attributes(dir)));
 }

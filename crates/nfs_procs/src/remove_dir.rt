@@ -10,10 +10,10 @@ ghost use Rattle.nfs_procs.specs.Scenes.{scene};
 use crate::denial::Denial;
 use crate::done::Done;
 use crate::limits::MAX_RESULT_BYTES;
+use crate::plan::RemovalPlan;
 use crate::removal::remove_entry;
 use crate::replies::write_denied_change;
 use nfs_args::dir_op::DirOp;
-use nfs_attrs::fattr::Fattr;
 use nfs_attrs::moment::Moment;
 use nfs_exports::table::Table;
 use nfs_inodes::tree::Tree;
@@ -35,8 +35,8 @@ pub(crate) fn remove_dir(
         (procedure.remove_dir args.now) result tree.new out.old out.new }
 {
     match decide(tree, table, caller, now, args) {
-        Ok(dir) => {
-            remove_entry(tree, &dir, args.name.bytes(), now, out);
+        Ok(plan) => {
+            remove_entry(tree, &plan, args.name.bytes(), now, out);
             Done::Granted
         }
         Err(denial) => write_denied_change(out, &denial),
@@ -49,7 +49,7 @@ fn decide(
     caller: Caller<'_>,
     now: Moment,
     args: &DirOp<'_>,
-) -> Result<Fattr, Denial>
+) -> Result<RemovalPlan, Denial>
     ensures { Decides (scene tree.now table.now caller.entry now (nfs.RemoveDir args.now)) args.now.dir
         (PlansRemoval tree.now args.now.name) result }
 {
@@ -59,7 +59,11 @@ fn decide(
     };
     dir.law();
     match remove_dir_rules(&dir, args.name.bytes()) {
-        Ok(()) => Ok(dir.attributes()),
+        Ok(file) => Ok(RemovalPlan {
+            dir: dir.attributes(),
+            number: file.number(),
+            file: file.standing(),
+        }),
         Err(rule) => Err(Denial::of_rule(&dir, rule)),
     }
 }

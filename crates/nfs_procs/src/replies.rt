@@ -78,6 +78,7 @@ pub(crate) fn write_granted_change(out: &mut Output, file: Wcc)
 }
 
 /// A new file and the directory of its name.
+#[inline(always)]
 pub(crate) fn write_new_file(out: &mut Output, tree: &Tree, file: Number, dir: Wcc)
     requires { 320 ≤ out.old.room }
     ensures { Appends (made_text (record {

@@ -153,9 +153,10 @@ pub fn sym_link_rules(dir: &Subject<'_>, name: &[u8], path: &[u8]) -> Result<(),
     dir.numbers()
 }
 
-/// REMOVE (RFC 1813, section 3.3.12).
-pub fn remove_rules(dir: &Subject<'_>, name: &[u8]) -> Result<(), Rule>
-    ensures { Judges result (table.remove_rules dir.now name.now) }
+/// REMOVE (RFC 1813, section 3.3.12), and the file that the name names.
+pub fn remove_rules<'a>(dir: &Subject<'a>, name: &[u8]) -> Result<FileView<'a>, Rule>
+    ensures rules { Judges result (table.remove_rules dir.now name.now) }
+    ensures found { IfOk result (λ f. found dir.now name.now ≡ Some f.attributes) }
 {
     dir.read_only()?;
     dir.not_directory()?;
@@ -165,12 +166,14 @@ pub fn remove_rules(dir: &Subject<'_>, name: &[u8]) -> Result<(), Rule>
     dir.search_right()?;
     let found = dir.no_entry(name)?;
     dir.directory_write()?;
-    is_directory(&found.attributes())
+    is_directory(&found.attributes())?;
+    Ok(found)
 }
 
-/// RMDIR (RFC 1813, section 3.3.13).
-pub fn remove_dir_rules(dir: &Subject<'_>, name: &[u8]) -> Result<(), Rule>
-    ensures { Judges result (table.remove_dir_rules dir.now name.now) }
+/// RMDIR (RFC 1813, section 3.3.13), and the directory that the name names.
+pub fn remove_dir_rules<'a>(dir: &Subject<'a>, name: &[u8]) -> Result<FileView<'a>, Rule>
+    ensures rules { Judges result (table.remove_dir_rules dir.now name.now) }
+    ensures found { IfOk result (λ f. found dir.now name.now ≡ Some f.attributes) }
 {
     dir.read_only()?;
     dir.not_directory()?;
@@ -182,7 +185,8 @@ pub fn remove_dir_rules(dir: &Subject<'_>, name: &[u8]) -> Result<(), Rule>
     let found = dir.no_entry(name)?;
     dir.directory_write()?;
     target_not_directory(&found.attributes())?;
-    dir.not_empty(&found.attributes())
+    dir.not_empty(&found.attributes())?;
+    Ok(found)
 }
 
 /// RENAME (RFC 1813, section 3.3.14): of the directories of the old name and of the new one.

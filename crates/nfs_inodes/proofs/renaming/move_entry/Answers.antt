@@ -6,8 +6,8 @@ use Rattle.nfs_inodes.specs.Removals.{Removes}
 use Rattle.nfs_inodes.proofs.KeptRenames.{removes_old, carries_new, carries_over, done_new, done_over}
 use Rattle.nfs_inodes.proofs.renaming.move_entry.Goals as goal
 
-pub take_out-requires : goal.take_out-requires
-take_out-requires c = subst (λ (name : List ℕ). Removes c.args.files.now c.args.volumes.now.items c.args.route.to.0 name c.in-Some.old.0) (sym c.as_slice.ensures.value)
+pub take_out-requires-clause-removes : goal.take_out-requires-clause-removes
+take_out-requires-clause-removes c = subst (λ (name : List ℕ). Removes c.args.files.now c.args.volumes.now.items c.args.route.to.0 name c.in-Some.old.0) (sym c.as_slice.ensures.value)
     (removes_old c.args.files.now c.args.volumes.now.items c.args.route c.args.name.now c.args.new_name.items c.args.replaced c.requires c.args.now c.in-Some.old c.in-Some.is)
 
 pub carry-requires : goal.carry-requires

@@ -7,4 +7,4 @@ use Rattle.nfs_procs.proofs.removal.remove_entry.Goals as goal
 
 pub returns-clause-text : goal.returns-clause-text
 returns-clause-text c = appends_then _ _ _ _ _ c.u32.ensures.text
-    (subst (λ wcc. Appends (wcc_text wcc) c.u32.new.self c.write_wcc.new.out) (c.change.ensures ∙ ap (change (Some c.args.dir.now)) c.attributes.ensures) c.write_wcc.ensures.text)
+    (subst (λ wcc. Appends (wcc_text wcc) c.u32.new.self c.write_wcc.new.out) (c.change.ensures ∙ ap (change (Some c.args.plan.now.dir)) c.attributes.ensures) c.write_wcc.ensures.text)
