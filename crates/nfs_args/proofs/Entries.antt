@@ -2,7 +2,7 @@
 use Rattle.std.proofs.Common.{◌≡◌, ℕ, List, [], ◌∷◌, ◌++◌, length, sym, ap, subst, ◌∙◌, append_assoc, append-nil, arith}
 use Rattle.std.specs.Int.{w32, w64, to_be_bytes}
 use Rattle.std.proofs.lemmas.Grind.{flat_map-append}
-use Rattle.nfs_xdr.specs.Spelling.{IsNumber, IsOptional, fixed_text, opaque_text, optional_text, numbers_text}
+use Rattle.nfs_xdr.specs.Spelling.{IsNumber, IsOptional, ◌⨾◌, fixed_text, opaque_text, optional_text, numbers_text}
 use Rattle.nfs_xdr.specs.Written.{Written, Appends}
 use Rattle.nfs_xdr.proofs.Items.{opaque_written}
 use Rattle.nfs_xdr.proofs.Writing.{appends_then, followed}
@@ -46,18 +46,17 @@ joined_then one file name cookie rest =
     ∙ ap (λ t. one ++ t) (append_assoc file (name ++ cookie) rest ∙ ap (λ t. file ++ t) (append_assoc name cookie rest))
 
 -- an entry, and behind it what its file is
-pub entry_plus_parts : (e : EntryPlus) (head : Entry) (a b c d : Written) → head.fileid ≡ e.fileid → head.name ≡ e.name → head.cookie ≡ e.cookie
-    → Appends (chained_text entry_text head) a b → Appends (post_op_attr_text e.attributes) b c → Appends (optional_text opaque_text e.file) c d
-    → Appends (chained_text entry_plus_text e) a d
-entry_plus_parts e head a b c d fileid name cookie front attributes file =
+pub entry_plus_parts : (e : EntryPlus) (head : Entry) (a b c : Written) → head.fileid ≡ e.fileid → head.name ≡ e.name → head.cookie ≡ e.cookie
+    → Appends (chained_text entry_text head) a b → Appends (post_op_attr_text e.attributes ++ optional_text opaque_text e.file) b c
+    → Appends (chained_text entry_plus_text e) a c
+entry_plus_parts e head a b c fileid name cookie front file =
     let same : head ≡ record { fileid = e.fileid; name = e.name; cookie = e.cookie } = λ i. record { fileid = fileid i; name = name i; cookie = cookie i } in
-    subst (λ t. Appends t a d) (joined_then (to_be_bytes w32 1) (to_be_bytes w64 e.fileid) (opaque_text e.name) (to_be_bytes w64 e.cookie) (post_op_attr_text e.attributes ++ optional_text opaque_text e.file))
-    (appends_then _ _ _ _ _ (subst (λ h. Appends (chained_text entry_text h) a b) same front) (appends_then _ _ _ _ _ attributes file))
+    subst (λ t. Appends t a c) (joined_then (to_be_bytes w32 1) (to_be_bytes w64 e.fileid) (opaque_text e.name) (to_be_bytes w64 e.cookie) (post_op_attr_text e.attributes ++ optional_text opaque_text e.file))
+    (appends_then _ _ _ _ _ (subst (λ h. Appends (chained_text entry_text h) a b) same front) file)
 
 pub entry_plus_written : (e : EntryPlus) → EntryPlusFits e → IsNumber w64 e.fileid (to_be_bytes w64 e.fileid) → IsNumber w64 e.cookie (to_be_bytes w64 e.cookie)
-    → IsPostOpAttr e.attributes (post_op_attr_text e.attributes) → IsOptional IsHandle e.file (optional_text opaque_text e.file) → IsEntryPlus e (entry_plus_text e)
-entry_plus_written e fits fileid cookie attributes file =
+    → (IsPostOpAttr e.attributes ⨾ IsOptional IsHandle e.file) (post_op_attr_text e.attributes ++ optional_text opaque_text e.file) → IsEntryPlus e (entry_plus_text e)
+entry_plus_written e fits fileid cookie file =
     followed _ _ _ _ fileid
     (followed _ _ _ _ (opaque_written 4294967295 e.name fits.0 (omega (arith, fits.0)))
-    (followed _ _ _ _ cookie
-    (followed _ _ _ _ attributes file)))
+    (followed _ _ _ _ cookie file))

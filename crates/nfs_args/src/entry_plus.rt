@@ -1,6 +1,10 @@
 //! Entries of a directory with what their files are.
-ghost use Rattle.std.specs.Prelude.{◌≡◌, ◌≤◌, length};
+ghost use Rattle.std.specs.Prelude.{◌≡◌, ◌≤◌, ◌++◌, length, option_copied};
+ghost use Rattle.nfs_xdr.specs.Spelling.{IsOptional, ◌⨾◌, opaque_text, optional_text};
 ghost use Rattle.nfs_xdr.specs.Written.{Appends};
+ghost use Rattle.nfs_attrs.specs.Spelling.{IsPostOpAttr, post_op_attr_text};
+ghost use Rattle.nfs_args.specs.Spelling.{IsHandle};
+ghost use Rattle.nfs_args.specs.Results.{HandleFits};
 ghost use Rattle.nfs_args.specs.Chains.{Each, AreSpelled, chained_text, links_text};
 ghost use Rattle.nfs_args.specs.Pages.{IsEntryPlus, entry_plus_text, EntryPlusFits};
 
@@ -38,8 +42,20 @@ pub fn write_entry_plus(out: &mut Output, entry: &EntryPlus<'_>)
         cookie: entry.cookie,
     };
     write_entry(out, &head);
-    write_post_op_attr(out, entry.attributes.as_ref());
-    write_post_op_handle(out, &entry.file);
+    write_entry_file(out, entry.attributes.as_ref(), &entry.file);
+}
+
+/// Writes what an entry says of its file, of which the handle has at most 64 bytes. Behind what
+/// `write_entry` writes, that is what `write_entry_plus` writes.
+#[inline(always)]
+pub fn write_entry_file(out: &mut Output, attributes: Option<&Fattr>, file: &Option<Opaque<'_>>)
+    requires bound { HandleFits file.now }
+    requires room { length (post_op_attr_text (option_copied attributes) ++ optional_text opaque_text file.now) ≤ out.old.room }
+    ensures text { Appends (post_op_attr_text (option_copied attributes.entry) ++ optional_text opaque_text file.now) out.old out.new }
+    ensures spelled { (IsPostOpAttr (option_copied attributes.entry) ⨾ IsOptional IsHandle file.now) (post_op_attr_text (option_copied attributes.entry) ++ optional_text opaque_text file.now) }
+{
+    write_post_op_attr(out, attributes);
+    write_post_op_handle(out, file);
 }
 
 // Entries of a chain, without its end.

@@ -1,6 +1,8 @@
 -- What an entry of READDIRPLUS tells of its file.
-use Rattle.std.proofs.Common.{◌≡◌, ℕ, Bool, true, false, List, Option, Some, None, if◌then◌else◌, option_map, is_some, refl, sym, subst}
+use Rattle.std.proofs.Common.{◌≡◌, ℕ, Bool, true, false, List, Option, Some, None, ◌++◌, if◌then◌else◌, option_map, is_some, refl, sym, subst}
+use Rattle.nfs_xdr.specs.Spelling.{opaque_text, optional_text}
 use Rattle.nfs_xdr.specs.Written.{Written, Appends}
+use Rattle.nfs_attrs.specs.Spelling.{post_op_attr_text}
 use Rattle.nfs_attrs.specs.declared.fattr.Fattr.{Fattr}
 use Rattle.nfs_handles.specs.Handles.{handle_text, handle_at}
 use Rattle.nfs_handles.specs.NumberedFiles as numbered
@@ -8,8 +10,14 @@ use Rattle.nfs_inodes.specs.Tree.{Tree, File, Entry, at, nlink}
 use Rattle.nfs_inodes.specs.Reading.{attributes_at, attributes_of, numbered_files}
 use Rattle.nfs_inodes.proofs.Follows.{lives_alike}
 use Rattle.nfs_args.specs.Chains.{chained_text}
-use Rattle.nfs_args.specs.Pages.{entry_plus_text}
-use Rattle.nfs_dirs.specs.Pages.{entry_plus_told, entry_plus_with}
+use Rattle.nfs_args.specs.Pages.{entry_text, entry_plus_text}
+use Rattle.nfs_args.proofs.Entries.{entry_plus_parts}
+use Rattle.nfs_dirs.specs.Pages.{entry_told, entry_plus_told, entry_plus_with}
+
+-- the entry, and behind it what its file is
+pub shown : (e : Entry) (attributes : Option Fattr) (handle : Option (List ℕ)) (a b d : Written) → Appends (chained_text entry_text (entry_told e)) a b → Appends (post_op_attr_text attributes ++ optional_text opaque_text handle) b d
+    → Appends (chained_text entry_plus_text (entry_plus_with e attributes handle)) a d
+shown e attributes handle a b d front file = entry_plus_parts (entry_plus_with e attributes handle) (entry_told e) a b d refl refl refl front file
 
 no_handle : (o : Option (numbered.TaggedFile File)) (p : Option File) (key : List ℕ) (n : ℕ) → is_some o ≡ is_some p → (g : File → Fattr) → option_map g p ≡ None → option_map (λ file. handle_text key file.tag n) o ≡ None
 no_handle None p key n same g e = refl

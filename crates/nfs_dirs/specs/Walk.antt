@@ -23,6 +23,11 @@ abbrev pub Steps : Option EntryView → Listed → Listed → Type 0
 Steps None old new = left_of old ≡ []
 Steps (Some e) old new = left_of old ≡ entry_seen e ∷ left_of new
 
+-- so too, but where none is answered neither `.` nor `..` is left
+abbrev pub StepsDots : Option EntryView → Listed → Listed → Type 0
+StepsDots None old new = (left_of old ≡ left_of new) × (new.dot ≡ None) × (new.dot_dot ≡ None)
+StepsDots (Some e) old new = left_of old ≡ entry_seen e ∷ left_of new
+
 -- a page that ends behind so many entries, before those that are left
 abbrev pub IsCutOff : ℕ → Result Page TooSmall → Written → Written → Type 0
 IsCutOff given (Ok page) old new = (0 < given) × (page ≡ record { given = given; eof = false }) × Appends (page_end_text false) old new

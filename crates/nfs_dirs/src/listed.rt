@@ -2,7 +2,7 @@
 ghost use Rattle.std.specs.Prelude.{◌≡◌, [], ◌∷◌, Option, Some, None};
 ghost use Rattle.nfs_inodes.specs.Views.{entry_seen, IsSeen};
 ghost use Rattle.nfs_dirs.specs.Pages.{left_after};
-ghost use Rattle.nfs_dirs.specs.Walk.{left_of, Steps};
+ghost use Rattle.nfs_dirs.specs.Walk.{left_of, Steps, StepsDots};
 
 use nfs_inodes::directory::{Entries, EntryView};
 use nfs_inodes::tree::Tree;
@@ -35,17 +35,31 @@ impl<'a> Listed<'a> {
     pub(crate) fn next(&mut self) -> Option<EntryView<'a>>
         ensures { Steps result self.old self.new }
     {
+        if self.dot.is_some() || self.dot_dot.is_some() {
+            if let Some(entry) = self.next_dot() {
+                return Some(entry);
+            }
+        }
+        while let Some(entry) = self.entries.next() {
+            if self.cookie < entry.cookie {
+                return Some(entry);
+            }
+        }
+        None
+    }
+
+    // The next of `.` and `..`, if one is left. Not inlined, so that the entries are walked through
+    // in few registers.
+    #[inline(never)]
+    fn next_dot(&mut self) -> Option<EntryView<'a>>
+        ensures { StepsDots result self.old self.new }
+    {
         if let Some(entry) = self.dot.take() {
             if self.cookie < entry.cookie {
                 return Some(entry);
             }
         }
         if let Some(entry) = self.dot_dot.take() {
-            if self.cookie < entry.cookie {
-                return Some(entry);
-            }
-        }
-        while let Some(entry) = self.entries.next() {
             if self.cookie < entry.cookie {
                 return Some(entry);
             }

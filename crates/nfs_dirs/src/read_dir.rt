@@ -54,7 +54,8 @@ pub fn page(
 }
 
 // Writes an entry.
-fn put(out: &mut Output, entry: &EntryView<'_>)
+#[inline(always)]
+pub(crate) fn put(out: &mut Output, entry: &EntryView<'_>)
     requires room { entry_bytes (entry_seen entry.now) ≤ out.old.room }
     requires bound { entry_bytes (entry_seen entry.now) ≤ max_page }
     ensures text { Appends (chained_text entry_text (entry_told (entry_seen entry.now))) out.old out.new }

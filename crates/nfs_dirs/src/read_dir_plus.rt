@@ -1,20 +1,20 @@
 //! Pages of READDIRPLUS (RFC 1813, section 3.3.17).
-ghost use Rattle.std.specs.Prelude.{◌≡◌, ◌+◌, ◌≤◌, ◌&&◌, nat_lt, length};
+ghost use Rattle.std.specs.Prelude.{◌≡◌, ◌+◌, ◌≤◌, ◌&&◌, nat_lt};
 ghost use Rattle.nfs_xdr.specs.Written.{Appends};
 ghost use Rattle.nfs_args.specs.Chains.{chained_text};
-ghost use Rattle.nfs_args.specs.Pages.{EntryPlusFits, entry_plus_text};
+ghost use Rattle.nfs_args.specs.Pages.{entry_plus_text};
 ghost use Rattle.nfs_inodes.specs.Views.{entry_seen, IsSeen};
 ghost use Rattle.nfs_args.specs.Sizes.{max_page};
-ghost use Rattle.nfs_dirs.specs.Pages.{page_front_bytes, entry_bytes, plus_bytes, entry_plus_told, entry_plus_with, entries_plus_text, fits_plus, left_after, Answers};
+ghost use Rattle.nfs_dirs.specs.Pages.{page_front_bytes, entry_bytes, plus_bytes, entry_plus_told, entries_plus_text, fits_plus, left_after, Answers};
 
 use crate::answer::{Page, TooSmall, cut_off};
 use crate::limits::{PAGE_HEAD_BYTES, entry_bytes, plus_bytes};
 use crate::listed::Listed;
-use nfs_args::entry_plus::{EntryPlus, write_entry_plus};
+use crate::read_dir::put as put_entry;
+use nfs_args::entry_plus::write_entry_file;
 use nfs_args::limits::MAX_PAGE_BYTES;
 use nfs_args::opaque::Opaque;
 use nfs_args::page::write_page_end;
-use nfs_attrs::fattr::Fattr;
 use nfs_inodes::directory::EntryView;
 use nfs_inodes::tree::Tree;
 use nfs_inodes::view::FileView;
@@ -73,45 +73,20 @@ fn is_above(given: usize, named: usize, dircount: u32) -> bool
 }
 
 // Writes an entry.
+#[inline(always)]
 fn put(tree: &Tree, searchable: bool, entry: &EntryView<'_>, out: &mut Output)
     requires room { entry_bytes (entry_seen entry.now) + plus_bytes searchable ≤ out.old.room }
     requires bound { entry_bytes (entry_seen entry.now) ≤ max_page }
     ensures text { Appends (chained_text entry_plus_text (entry_plus_told tree.now searchable (entry_seen entry.now))) out.old out.new }
     ensures room { out.old.room ≤ out.new.room + (entry_bytes (entry_seen entry.now) + plus_bytes searchable) }
 {
+    put_entry(out, entry);
     if searchable {
         if let Some(file) = tree.view(entry.number) {
             let handle = tree.handle(&file);
-            put_told(
-                entry,
-                Some(file.attributes()),
-                Some(Opaque::new(&handle)),
-                out,
-            );
+            write_entry_file(out, Some(&file.attributes()), &Some(Opaque::new(&handle)));
             return;
         }
     }
-    put_told(entry, None, None, out);
-}
-
-// Writes an entry with these attributes and this handle.
-#[inline(always)]
-fn put_told(
-    entry: &EntryView<'_>,
-    attributes: Option<Fattr>,
-    file: Option<Opaque<'_>>,
-    out: &mut Output,
-)
-    requires fits { EntryPlusFits (entry_plus_with (entry_seen entry.now) attributes file) }
-    requires room { length (chained_text entry_plus_text (entry_plus_with (entry_seen entry.now) attributes file)) ≤ out.old.room }
-    ensures { Appends (chained_text entry_plus_text (entry_plus_with (entry_seen entry.now) attributes file.entry)) out.old out.new }
-{
-    let entry = EntryPlus {
-        fileid: entry.number.0,
-        name: Opaque::new(entry.name),
-        cookie: entry.cookie,
-        attributes,
-        file,
-    };
-    write_entry_plus(out, &entry);
+    write_entry_file(out, None, &None);
 }
