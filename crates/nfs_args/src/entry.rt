@@ -5,7 +5,7 @@ ghost use Rattle.nfs_args.specs.Chains.{Each, AreSpelled, chained_text, links_te
 ghost use Rattle.nfs_args.specs.Pages.{IsEntry, entry_text, EntryFits};
 
 use crate::opaque::Opaque;
-use nfs_xdr::output::{Output, halves};
+use nfs_xdr::output::Output;
 
 /// An entry of a directory (RFC 1813, section 3.3.16, entry3).
 #[derive(Drop)]
@@ -26,10 +26,9 @@ pub fn write_entry(out: &mut Output, entry: &Entry<'_>)
     ensures text { Appends (chained_text entry_text entry.now) out.old out.new }
     ensures spelled { IsEntry entry.now (entry_text entry.now) }
 {
-    let (high, low) = halves(entry.fileid);
-    let name = entry.name.bytes();
-    out.numbers([1, high, low, name.len() as u32]);
-    out.fixed(name);
+    out.u32(1);
+    out.u64(entry.fileid);
+    out.opaque(entry.name.bytes());
     out.u64(entry.cookie);
 }
 

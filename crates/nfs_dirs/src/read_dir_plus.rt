@@ -83,8 +83,9 @@ fn put(tree: &Tree, searchable: bool, entry: &EntryView<'_>, out: &mut Output)
     put_entry(out, entry);
     if searchable {
         if let Some(file) = tree.view(entry.number) {
+            let attributes = file.attributes();
             let handle = tree.handle(&file);
-            write_entry_file(out, Some(&file.attributes()), &Some(Opaque::new(&handle)));
+            write_entry_file(out, Some(&attributes), &Some(Opaque::new(&handle)));
             return;
         }
     }

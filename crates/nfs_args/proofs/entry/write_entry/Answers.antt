@@ -2,7 +2,7 @@ use Rattle.nfs_args.proofs.Entries.{entry_parts, entry_written}
 use Rattle.nfs_args.proofs.entry.write_entry.Goals as goal
 
 pub returns-clause-text : goal.returns-clause-text
-returns-clause-text c = entry_parts c.args.entry.now _ _ _ _ _ _ _ c.halves-high.ensures.text c.bytes-name.ensures c.numbers.ensures.text c.fixed.ensures c.u64.ensures.text
+returns-clause-text c = entry_parts c.args.entry.now _ _ _ _ _ _ c.bytes.ensures c.u32.ensures.text c.u64.ensures.text c.opaque.ensures c.u64-2.ensures.text
 
 pub returns-clause-spelled : goal.returns-clause-spelled
-returns-clause-spelled c = entry_written c.args.entry.now c.requires.fits c.halves-high.ensures.spelled c.u64.ensures.spelled
+returns-clause-spelled c = entry_written c.args.entry.now c.requires.fits c.u64.ensures.spelled c.u64-2.ensures.spelled

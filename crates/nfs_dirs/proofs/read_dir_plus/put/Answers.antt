@@ -6,9 +6,9 @@ use Rattle.nfs_dirs.proofs.read_dir_plus.put.Goals as goal
 
 pub returns-in-Some-clause-text : goal.returns-in-Some-clause-text
 returns-in-Some-clause-text c =
-    told_living c.args.tree.now (entry_seen c.args.entry.now) _ _ c.args.searchable c.in-Some.file.attributes.fileid c.attributes.result c.new.result c.if-searchable.true c.in-Some.ensures.number
-    (c.in-Some.ensures.some.0 ∙ ap Some (sym c.attributes.ensures)) (c.handle-handle.ensures ∙ ap Some (sym c.new.ensures))
-    (shown (entry_seen c.args.entry.now) (Some c.attributes.result) (Some c.new.result) _ _ _ c.put.ensures.text c.write_entry_file.ensures.text)
+    told_living c.args.tree.now (entry_seen c.args.entry.now) _ _ c.args.searchable c.in-Some.file.attributes.fileid c.attributes-attributes.result c.new.result c.if-searchable.true c.in-Some.ensures.number
+    (c.in-Some.ensures.some.0 ∙ ap Some (sym c.attributes-attributes.ensures)) (c.handle-handle.ensures ∙ ap Some (sym c.new.ensures))
+    (shown (entry_seen c.args.entry.now) (Some c.attributes-attributes.result) (Some c.new.result) _ _ _ c.put.ensures.text c.write_entry_file.ensures.text)
 
 pub returns-clause-text : goal.returns-clause-text
 returns-clause-text c = let written = shown (entry_seen c.args.entry.now) None None _ _ _ c.put.ensures.text c.write_entry_file-2.ensures.text in elim c.if-searchable.branch [
