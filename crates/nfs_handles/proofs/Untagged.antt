@@ -1,5 +1,5 @@
 -- What becomes of files as they are kept, as numbered files.
-use Rattle.std.proofs.Common.{◌≡◌, ℕ, ◌+◌, ◌-◌, ◌^◌, ◌<◌, Bool, true, false, cond, List, [], ◌∷◌, ◌++◌, map, length, get_or, append_assoc, w64, Option, Some, None, All, IsSome, IfNone, is_some, option_map, nat_eq, sym, ap, subst, refl, ◌∙◌, arith}
+use Rattle.std.proofs.Common.{◌≡◌, ℕ, ◌+◌, ◌-◌, ◌^◌, ◌<◌, Bool, true, false, cond, List, [], ◌∷◌, ◌++◌, map, length, get_or, append-nil, w64, Option, Some, None, All, IsSome, IfNone, is_some, option_map, nat_eq, sym, ap, subst, refl, ◌∙◌, arith}
 use Rattle.std.specs.Int.{to_be_bytes}
 use Rattle.std.specs.Ordering.{nat_cmp, match_ordering}
 use Rattle.std.specs.BTreeMap.{insert_entry, is_at}
@@ -11,8 +11,9 @@ use Rattle.std.proofs.lemmas.Map.Made.{lookup-map_values, keys_of-map_values}
 use Rattle.std.proofs.lemmas.Map.{keys-set_value}
 use Rattle.std.specs.List.Sorted.{IsStrictlySortedBy}
 use Rattle.std.proofs.lemmas.Bool.{eq-eqb, eqb-true}
+use borrow.Rule.Slice.PartMut.{put_mid}
 use Rattle.nfs_handles.specs.NumberedFiles.{TaggedFile, NumberedFiles, at, value_at, with_new, revalued, with_value, without, IsGiven, IsNumbered}
-use Rattle.nfs_handles.specs.Handles.{handle_text, handle_at, live_with, number}
+use Rattle.nfs_handles.specs.Handles.{magic, handle_text, handle_at, live_with, number}
 use Rattle.nfs_handles.specs.declared.reading.Reading.{Reading}
 use Rattle.nfs_handles.specs.declared.reading.Reading.TheVariants.{Live, Stale}
 use Rattle.nfs_handles.specs.Untagged.{filed, untagged}
@@ -52,10 +53,16 @@ eight (a ∷ b ∷ c ∷ d ∷ e ∷ f ∷ []) rest l = absurd (omega (arith, l)
 eight (a ∷ b ∷ c ∷ d ∷ e ∷ f ∷ g ∷ []) rest l = absurd (omega (arith, l))
 eight (a ∷ b ∷ c ∷ d ∷ e ∷ f ∷ g ∷ h ∷ i ∷ more) rest l = absurd (omega (arith, l))
 
-pub handle_spelled : (key ns : List ℕ) (n : ℕ) → length key ≡ 8 → ns ≡ to_be_bytes w64 n → 78 ∷ 70 ∷ 83 ∷ 51 ∷ get_or key 0 0 ∷ get_or key 1 0 ∷ get_or key 2 0 ∷ get_or key 3 0 ∷ get_or key 4 0 ∷ get_or key 5 0 ∷ get_or key 6 0 ∷ get_or key 7 0 ∷ 0 ∷ 0 ∷ 0 ∷ 0 ∷ get_or ns 0 0 ∷ get_or ns 1 0 ∷ get_or ns 2 0 ∷ get_or ns 3 0 ∷ get_or ns 4 0 ∷ get_or ns 5 0 ∷ get_or ns 6 0 ∷ get_or ns 7 0 ∷ [] ≡ handle_text key 0 n
-handle_spelled key ns n l e =
-    ap (λ t. 78 ∷ 70 ∷ 83 ∷ 51 ∷ t) (eight key (0 ∷ 0 ∷ 0 ∷ 0 ∷ get_or ns 0 0 ∷ get_or ns 1 0 ∷ get_or ns 2 0 ∷ get_or ns 3 0 ∷ get_or ns 4 0 ∷ get_or ns 5 0 ∷ get_or ns 6 0 ∷ get_or ns 7 0 ∷ []) l ∙ ap (λ m. key ++ 0 ∷ 0 ∷ 0 ∷ 0 ∷ get_or m 0 0 ∷ get_or m 1 0 ∷ get_or m 2 0 ∷ get_or m 3 0 ∷ get_or m 4 0 ∷ get_or m 5 0 ∷ get_or m 6 0 ∷ get_or m 7 0 ∷ []) e)
-    ∙ sym (ap (λ t. 78 ∷ 70 ∷ 83 ∷ 51 ∷ t) (append_assoc key (0 ∷ 0 ∷ 0 ∷ 0 ∷ []) (to_be_bytes w64 n)))
+-- as many zeros as a handle has bytes behind `NFS3`
+abbrev zeros : List ℕ
+zeros = 0 ∷ 0 ∷ 0 ∷ 0 ∷ 0 ∷ 0 ∷ 0 ∷ 0 ∷ 0 ∷ 0 ∷ 0 ∷ 0 ∷ 0 ∷ 0 ∷ 0 ∷ 0 ∷ 0 ∷ 0 ∷ 0 ∷ 0 ∷ []
+
+pub handle_spelled : (front held ns key : List ℕ) (n : ℕ) → length key ≡ 8 → front ≡ magic → held ≡ key → ns ≡ to_be_bytes w64 n → put_mid 16 8 (put_mid 4 8 (front ++ zeros) held) ns ≡ handle_text key 0 n
+handle_spelled front held ns key n l front_is held_is e =
+    subst (λ f. put_mid 16 8 (put_mid 4 8 (f ++ zeros) held) ns ≡ handle_text key 0 n) (sym front_is)
+    (subst (λ k. put_mid 16 8 (put_mid 4 8 (magic ++ zeros) k) ns ≡ handle_text key 0 n) (sym held_is)
+    (subst (λ m. put_mid 16 8 (put_mid 4 8 (magic ++ zeros) key) m ≡ handle_text key 0 n) (sym e)
+    (subst (λ k. put_mid 16 8 (put_mid 4 8 (magic ++ zeros) k) (to_be_bytes w64 n) ≡ handle_text k 0 n) (eight key [] l ∙ append-nil key) refl)))
 
 set_none : {X : Type 0} (test : ℕ → Bool) (es : List (ℕ × X)) (w : X) → lookup test es ≡ None → set_value test es w ≡ es
 set_none test [] w h = refl

@@ -168,13 +168,11 @@ impl<T: Drop> Files<T> {
         requires { IsSome (at self.now number.0) }
         ensures { handle_at self.now number.0 ≡ Some result }
     {
-        let [m0, m1, m2, m3] = MAGIC;
-        let [k0, k1, k2, k3, k4, k5, k6, k7] = self.key;
-        let [n0, n1, n2, n3, n4, n5, n6, n7] = number.0.to_be_bytes();
-        [
-            m0, m1, m2, m3, k0, k1, k2, k3, k4, k5, k6, k7, 0, 0, 0, 0, n0, n1, n2, n3, n4, n5, n6,
-            n7,
-        ]
+        let mut handle = [0; 24];
+        handle[..4].copy_from_slice(&MAGIC);
+        handle[4..12].copy_from_slice(&self.key);
+        handle[16..].copy_from_slice(&number.0.to_be_bytes());
+        handle
     }
 
     /// The file of a number, if it lives.
