@@ -19,6 +19,7 @@ const LAST_DOT_COOKIE: u64 = 2;
 
 impl<'a> Subject<'a> {
     /// The file under a name in the directory.
+    #[inline(always)]
     pub fn found(&self, name: &[u8]) -> Option<FileView<'a>>
         ensures found { option_map (λ f. f.attributes) result ≡ test.found self.now name.now }
         ensures seen { IfSome result (λ f. IsSeen self.now.tree f) }
@@ -28,6 +29,7 @@ impl<'a> Subject<'a> {
     }
 
     /// `NoEntry`: there is an entry of the name, whose file is answered.
+    #[inline(always)]
     pub(crate) fn no_entry(&self, name: &[u8]) -> Result<FileView<'a>, Rule>
         ensures rule { Tells result (test.no_entry self.now name.now) }
         ensures found { IfOk result (λ f. test.found self.now name.now ≡ Some f.attributes) }
@@ -49,6 +51,7 @@ impl<'a> Subject<'a> {
 
     /// `Exists` in CREATE: there is no entry of the name, or its file is one that CREATE takes, which is
     /// answered then.
+    #[inline(always)]
     pub(crate) fn exists_other(
         &self,
         name: &[u8],

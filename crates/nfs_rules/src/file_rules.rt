@@ -83,6 +83,7 @@ impl<'a> Subject<'a> {
     }
 
     /// `Search`: the caller may search the directory.
+    #[inline(always)]
     pub(crate) fn search_right(&self) -> Result<(), Rule>
         ensures { Tells result (test.search_right self.now) }
     {
@@ -107,6 +108,7 @@ impl<'a> Subject<'a> {
     }
 
     /// `DirectoryWrite`: the caller may write the directory.
+    #[inline(always)]
     pub(crate) fn directory_write(&self) -> Result<(), Rule>
         ensures { Tells result (test.directory_write self.now) }
     {

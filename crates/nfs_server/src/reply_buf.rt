@@ -117,6 +117,7 @@ impl ReplyBuf {
 
     /// The reply to a call of NFS other than NULL: what it asks for is done where no rule fails, and
     /// there is memory. Answers the line of a call that is denied.
+    #[inline(always)]
     pub(crate) fn perform(
         &mut self,
         head: &CallHead<'_>,
