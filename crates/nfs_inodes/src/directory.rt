@@ -151,6 +151,7 @@ fn entry_named(node: &Node, name: &[u8]) -> Option<Number>
     }
 }
 
+#[inline(always)]
 pub(crate) fn under_name(node: &Node, dir: Number, name: &[u8]) -> Option<Number>
     ensures { option_map (λ n. n.0) result ≡ number_named name.now (listing dir.0 (kind_of node.now)) }
 {

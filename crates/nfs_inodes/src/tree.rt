@@ -261,6 +261,7 @@ impl Tree {
     }
 
     // A new file with an entry in directory `dir`.
+    #[inline(always)]
     fn make(
         &mut self,
         dir: Number,
