@@ -28,6 +28,13 @@ IsEntryPlus e = IsNumber w64 e.fileid ⨾ IsString e.name ⨾ IsNumber w64 e.coo
 abbrev pub entry_plus_text : EntryPlus → List ℕ
 entry_plus_text e = to_be_bytes w64 e.fileid ++ (opaque_text e.name ++ (to_be_bytes w64 e.cookie ++ (post_op_attr_text e.attributes ++ optional_text opaque_text e.file)))
 
+-- what an entry says of its file
+abbrev pub IsEntryFile : Option Fattr → Option (List ℕ) → List ℕ → Type 0
+IsEntryFile attributes handle = IsPostOpAttr attributes ⨾ IsOptional IsHandle handle
+
+abbrev pub entry_file_text : Option Fattr → Option (List ℕ) → List ℕ
+entry_file_text attributes handle = post_op_attr_text attributes ++ optional_text opaque_text handle
+
 abbrev pub EntryPlusFits : EntryPlus → Type 0
 EntryPlusFits e = StringFits e.name × HandleFits e.file
 

@@ -6,7 +6,7 @@ ghost use Rattle.nfs_attrs.specs.Spelling.{IsPostOpAttr, post_op_attr_text};
 ghost use Rattle.nfs_args.specs.Spelling.{IsHandle};
 ghost use Rattle.nfs_args.specs.Results.{HandleFits};
 ghost use Rattle.nfs_args.specs.Chains.{Each, AreSpelled, chained_text, links_text};
-ghost use Rattle.nfs_args.specs.Pages.{IsEntryPlus, entry_plus_text, EntryPlusFits};
+ghost use Rattle.nfs_args.specs.Pages.{IsEntryPlus, entry_plus_text, IsEntryFile, entry_file_text, EntryPlusFits};
 
 use crate::entry::{Entry, write_entry};
 use crate::opaque::{Opaque, write_post_op_handle};
@@ -50,9 +50,9 @@ pub fn write_entry_plus(out: &mut Output, entry: &EntryPlus<'_>)
 #[inline(always)]
 pub fn write_entry_file(out: &mut Output, attributes: Option<&Fattr>, file: &Option<Opaque<'_>>)
     requires bound { HandleFits file.now }
-    requires room { length (post_op_attr_text (option_copied attributes) ++ optional_text opaque_text file.now) ≤ out.old.room }
-    ensures text { Appends (post_op_attr_text (option_copied attributes.entry) ++ optional_text opaque_text file.now) out.old out.new }
-    ensures spelled { (IsPostOpAttr (option_copied attributes.entry) ⨾ IsOptional IsHandle file.now) (post_op_attr_text (option_copied attributes.entry) ++ optional_text opaque_text file.now) }
+    requires room { length (entry_file_text (option_copied attributes) file.now) ≤ out.old.room }
+    ensures text { Appends (entry_file_text (option_copied attributes.entry) file.now) out.old out.new }
+    ensures spelled { IsEntryFile (option_copied attributes.entry) file.now (entry_file_text (option_copied attributes.entry) file.now) }
 {
     write_post_op_attr(out, attributes);
     write_post_op_handle(out, file);

@@ -29,11 +29,11 @@ pub struct Sattr {
     pub mtime: TimeSetting,
 }
 
+// Inlined with all that it calls: settings that are handed over in memory are copied in wider words
+// than they were written in, which costs more than all of their reading.
 /// Reads which attributes are to be set. The first fault from left to right: `Short` where the
 /// bytes end, `BadBool` where it is not said whether a number is given, `BadEnum` where it is not
 /// said how a time is to be set.
-// Inlined with all that it calls: settings that are handed over in memory are copied in wider words
-// than they were written in, which costs more than all of their reading.
 #[inline(always)]
 pub fn read_sattr(input: &mut Input<'_>) -> Result<Sattr, XdrFault>
     ensures exact { Gives (λ s. s) input.old input.new result (sattr_at input.old) }

@@ -1,12 +1,11 @@
 -- Pages of a directory: which entries READDIR and READDIRPLUS answer (RFC 1813, sections 3.3.16 and 3.3.17), and how.
-use Rattle.std.specs.Prelude.{◌≡◌, ℕ, zero, suc, ◌+◌, Bool, not, ◌&&◌, ◌||◌, true, false, List, ◌++◌, map, length, sum_by, take, min, nat_eq, nat_le, nat_lt, Option, None, Result, Ok, Err, if◌then◌else◌}
-use Rattle.std.specs.List.{filter}
+use Rattle.std.specs.Prelude.{◌≡◌, ℕ, zero, suc, ◌+◌, Bool, not, ◌&&◌, ◌||◌, true, false, List, ◌++◌, map, length, sum_by, take, min, nat_eq, nat_le, Option, None, Result, Ok, Err, if◌then◌else◌}
 use Rattle.nfs_xdr.specs.Spelling.{padding}
 use Rattle.nfs_xdr.specs.Written.{Written, Appends}
 use Rattle.nfs_attrs.specs.declared.fattr.Fattr.{Fattr}
 use Rattle.nfs_handles.specs.Handles.{handle_at}
 use Rattle.nfs_inodes.specs.Tree.{Tree, Entry}
-use Rattle.nfs_inodes.specs.Reading.{listing_at, attributes_at, numbered_files}
+use Rattle.nfs_inodes.specs.Reading.{listing_at, entries_behind, attributes_at, numbered_files}
 use Rattle.nfs_args.specs.Chains.{links_text}
 use Rattle.nfs_args.specs.Sizes.{max_page}
 use Rattle.nfs_args.specs.Pages.{entry_text, entry_plus_text, page_end_text}
@@ -70,7 +69,7 @@ is_too_small passes left = not (passes (take 1 left))
 
 -- what is left of a directory behind a cookie: `.`, `..` and its entries, those with greater cookies
 abbrev pub left_after : Tree → ℕ → ℕ → List Entry
-left_after t d cookie = filter (λ e. nat_lt cookie e.cookie) (listing_at t d)
+left_after t d cookie = entries_behind cookie (listing_at t d)
 
 -- entry3
 abbrev pub entry_told : Entry → told.Entry

@@ -1,6 +1,5 @@
 -- The walk through a directory: what is still to be listed, and where a page ends before that.
-use Rattle.std.specs.Prelude.{◌≡◌, ℕ, ◌<◌, false, List, [], ◌∷◌, ◌++◌, nat_lt, Option, Some, None, Result, Ok, Err}
-use Rattle.std.specs.List.{filter}
+use Rattle.std.specs.Prelude.{◌≡◌, ℕ, ◌<◌, false, List, [], ◌∷◌, ◌++◌, Option, Some, None, Result, Ok, Err}
 use Rattle.nfs_xdr.specs.Written.{Written, Appends}
 use Rattle.nfs_args.specs.Pages.{page_end_text}
 use Rattle.nfs_inodes.specs.Tree.{Entry}
@@ -16,7 +15,7 @@ one_of None = []
 one_of (Some e) = entry_seen e ∷ []
 
 abbrev pub left_of : Listed → List Entry
-left_of l = filter (λ e. nat_lt l.cookie e.cookie) (one_of l.dot ++ (one_of l.dot_dot ++ entries_left l.entries))
+left_of l = one_of l.dot ++ (one_of l.dot_dot ++ entries_left l.entries)
 
 -- the first of what was left was answered, and the rest is left
 abbrev pub Steps : Option EntryView → Listed → Listed → Type 0

@@ -11,7 +11,6 @@ use nfs_inodes::view::FileView;
 /// What a directory lists behind a cookie, in turn: `.`, `..` and its entries.
 #[derive(Drop)]
 pub(crate) struct Listed<'a> {
-    cookie: u64,
     dot: Option<EntryView<'a>>,
     dot_dot: Option<EntryView<'a>>,
     entries: Entries<'a>,
@@ -22,11 +21,19 @@ impl<'a> Listed<'a> {
         requires { IsSeen tree.now dir.now }
         ensures { left_of result ≡ left_after tree.entry.now dir.now.attributes.fileid cookie }
     {
+        let number = dir.number();
         Listed {
-            cookie,
-            dot: tree.entry_after(dir.number(), 0),
-            dot_dot: tree.entry_after(dir.number(), 1),
-            entries: dir.entries(),
+            dot: if cookie < 1 {
+                tree.entry_after(number, 0)
+            } else {
+                None
+            },
+            dot_dot: if cookie < 2 {
+                tree.entry_after(number, 1)
+            } else {
+                None
+            },
+            entries: tree.entries_after(dir, cookie),
         }
     }
 
@@ -40,12 +47,7 @@ impl<'a> Listed<'a> {
                 return Some(entry);
             }
         }
-        while let Some(entry) = self.entries.next() {
-            if self.cookie < entry.cookie {
-                return Some(entry);
-            }
-        }
-        None
+        self.entries.next()
     }
 
     // The next of `.` and `..`, if one is left. Not inlined, so that the entries are walked through
@@ -54,16 +56,9 @@ impl<'a> Listed<'a> {
     fn next_dot(&mut self) -> Option<EntryView<'a>>
         ensures { StepsDots result self.old self.new }
     {
-        if let Some(entry) = self.dot.take() {
-            if self.cookie < entry.cookie {
-                return Some(entry);
-            }
+        match self.dot.take() {
+            Some(entry) => Some(entry),
+            None => self.dot_dot.take(),
         }
-        if let Some(entry) = self.dot_dot.take() {
-            if self.cookie < entry.cookie {
-                return Some(entry);
-            }
-        }
-        None
     }
 }

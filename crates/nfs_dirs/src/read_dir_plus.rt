@@ -36,7 +36,8 @@ pub fn page_plus(
 ) -> Result<Page, TooSmall>
     requires seen { IsSeen tree.now dir.now }
     requires room { max_page ≤ out.old.room + page_front_bytes }
-    ensures { Answers (fits_plus dircount maxcount searchable) (entries_plus_text tree.now searchable) (left_after tree.now dir.now.attributes.fileid cookie) result out.old out.new }
+    ensures { Answers (fits_plus dircount maxcount searchable) (entries_plus_text tree.now searchable)
+        (left_after tree.now dir.now.attributes.fileid cookie) result out.old out.new }
 {
     let bound = (maxcount as usize).min(MAX_PAGE_BYTES);
     if bound < PAGE_HEAD_BYTES {

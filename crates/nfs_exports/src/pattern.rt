@@ -33,6 +33,7 @@ const MAX_BITS_DIGITS: usize = 2;
 
 impl Pattern {
     /// Whether the address is one of the network.
+    #[inline(always)]
     pub fn covers(&self, addr: Addr) -> bool
         ensures { result ≡ covers self.now addr }
     {

@@ -30,6 +30,7 @@ impl<'a> Model for Ids<'a> {
 
 impl<'a> Ids<'a> {
     /// The user.
+    #[inline(always)]
     pub fn uid(&self) -> u32
         ensures { result ≡ self.now.uid }
     {
@@ -37,6 +38,7 @@ impl<'a> Ids<'a> {
     }
 
     /// The user's group.
+    #[inline(always)]
     pub fn gid(&self) -> u32
         ensures { result ≡ self.now.gid }
     {
@@ -44,6 +46,7 @@ impl<'a> Ids<'a> {
     }
 
     /// Whether the user is in a group.
+    #[inline(always)]
     pub fn is_in(&self, gid: u32) -> bool
         ensures { result ≡ (nat_eq gid self.now.gid || list_any (nat_eq gid) self.now.gids) }
     {
@@ -51,6 +54,7 @@ impl<'a> Ids<'a> {
     }
 
     /// The same ids once more.
+    #[inline(always)]
     pub fn copied(&self) -> Ids<'a>
         ensures { result ≡ self.now }
     {
@@ -65,6 +69,7 @@ impl<'a> Ids<'a> {
 
 /// The ids that the options leave to a caller: the anonymous ones in place of those that are
 /// mapped.
+#[inline(always)]
 pub fn squash<'a>(options: &Options, cred: &'a Cred) -> Ids<'a>
     ensures { result ≡ spec.squash options.now (credential_of cred.entry.now) }
 {
@@ -91,6 +96,7 @@ pub fn squash<'a>(options: &Options, cred: &'a Cred) -> Ids<'a>
 }
 
 // The anonymous id in place of 0.
+#[inline(always)]
 fn unless_root(id: u32, anonymous: u32) -> u32
     ensures { result ≡ spec.unless_root anonymous id }
 {

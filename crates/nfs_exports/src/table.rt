@@ -104,6 +104,7 @@ impl Table {
     }
 
     /// The exports of a volume, by its place from 0, in the order in which they were added.
+    #[inline(always)]
     pub fn patterns(&self, volume: usize) -> &[Export]
         ensures { result.now ≡ exports_of self.now volume }
     {
@@ -115,6 +116,7 @@ impl Table {
 
     /// The options of the volume's first pattern that covers the address. `None` where none does.
     /// Other volumes' patterns aren't looked at.
+    #[inline(always)]
     pub fn grant(&self, volume: usize, addr: Addr) -> Option<&Options>
         ensures { option_copied result ≡ grant (exports_of self.now volume) addr }
     {

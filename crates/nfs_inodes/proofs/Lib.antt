@@ -25,6 +25,7 @@ pub mod SizeChanges
 pub mod Tests
 pub mod EntryTests
 pub mod Lookups
+pub mod Behind
 pub mod Readers
 pub mod Example
 pub mod Climbs

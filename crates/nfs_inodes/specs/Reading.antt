@@ -1,6 +1,6 @@
 -- What is read of the tree.
 use Rattle.std.specs.Prelude.{◌≡◌, ℕ, ◌+◌, Bool, true, false, List, [], ◌∷◌, ◌++◌, length, nat_lt, bytes_eq, Option, Some, None, option_map, slice_get, map, if◌then◌else◌}
-use Rattle.std.specs.List.{find}
+use Rattle.std.specs.List.{filter, find}
 use Rattle.nfs_attrs.specs.declared.fattr.Fattr.{Fattr}
 use Rattle.nfs_attrs.specs.declared.file_type.FileType.{FileType}
 use Rattle.nfs_attrs.specs.declared.file_type.FileType.TheVariants as file_type
@@ -41,6 +41,10 @@ number_named name es = option_map (λ (e : Entry). e.number) (entry_named name e
 -- the first of some entries after a cookie
 abbrev pub first_after : ℕ → List Entry → Option Entry
 first_after cookie es = find (λ e. nat_lt cookie e.cookie) es
+
+-- those of some entries with cookies above this one
+abbrev pub entries_behind : ℕ → List Entry → List Entry
+entries_behind cookie es = filter (λ e. nat_lt cookie e.cookie) es
 
 -- the number under a name in directory d
 abbrev pub number_under : Tree → ℕ → List ℕ → Option ℕ

@@ -1,10 +1,10 @@
 //! Directories as they are read.
-ghost use Rattle.std.specs.Prelude.{◌≡◌, ◌<◌, ℕ, IfSome, bytes_eq, length, map, option_map};
+ghost use Rattle.std.specs.Prelude.{◌≡◌, ◌<◌, ℕ, IfSome, bytes_eq, length, map, nat_le, option_map};
 ghost use Rattle.std.specs.Iterator.{YieldsFirstBy, item_count};
 ghost use Rattle.nfs_inodes.specs.Tree.{entries_in};
-ghost use Rattle.nfs_inodes.specs.Law.{AreApart};
+ghost use Rattle.nfs_inodes.specs.Law.{AreApart, CookiesRise};
 ghost use Rattle.nfs_inodes.specs.Storage.{entry_of, kind_of};
-ghost use Rattle.nfs_inodes.specs.Reading.{listing, number_named, first_after, number_under};
+ghost use Rattle.nfs_inodes.specs.Reading.{listing, number_named, first_after, entries_behind, number_under};
 ghost use Rattle.nfs_inodes.specs.Reading.{place_of_name, place_under};
 ghost use Rattle.nfs_inodes.specs.Reading.{entry_at, entry_after, next_cookie_at};
 ghost use Rattle.nfs_inodes.specs.Reading as spec;
@@ -93,10 +93,11 @@ impl Tree {
 
     /// What directory `dir` lists first after a cookie: `.` has the cookie 1, `..` the cookie 2,
     /// and then come its entries (RFC 1813, section 3.3.16). `None` where there is no more or no
-    /// directory.
+    /// directory. The entry is found by halving, since cookies rise.
     pub fn entry_after(&self, dir: Number, cookie: u64) -> Option<EntryView<'_>>
         ensures { option_map entry_seen result ≡ entry_after self.now dir.0 cookie }
     {
+        self.law();
         match self.files.get(dir) {
             Some(stored_file) => after_cookie(&stored_file.node, dir, cookie),
             None => None,
@@ -110,6 +111,21 @@ impl Tree {
         match self.files.get(dir) {
             Some(stored_file) => entry_named(&stored_file.node, name),
             None => None,
+        }
+    }
+
+    /// The entries with cookies above this one, of a directory that is seen; of another file none.
+    /// The first of them is found by halving, since cookies rise.
+    pub fn entries_after<'a>(&self, dir: &FileView<'a>, cookie: u64) -> Entries<'a>
+        requires { IsSeen self.now dir.now }
+        ensures { entries_left result ≡ entries_behind cookie (entries_in (kind_seen dir.now)) }
+    {
+        self.law();
+        match dir.node() {
+            Node::Directory { entries, .. } => Entries {
+                entries: behind(entries.as_slice(), cookie),
+            },
+            _ => Entries { entries: &[] },
         }
     }
 
@@ -229,6 +245,7 @@ fn named_from(entries: &[StoredEntry], name: &[u8], hint: usize) -> Option<(Numb
 }
 
 fn after_cookie(node: &Node, dir: Number, cookie: u64) -> Option<EntryView<'_>>
+    requires { CookiesRise (entries_in (kind_of node.now)) }
     ensures { option_map entry_seen result ≡ first_after cookie (listing dir.0 (kind_of node.now)) }
 {
     match node {
@@ -258,14 +275,24 @@ fn after_cookie(node: &Node, dir: Number, cookie: u64) -> Option<EntryView<'_>>
 }
 
 fn later(entries: &[StoredEntry], cookie: u64) -> Option<EntryView<'_>>
+    requires { CookiesRise (map entry_of entries.now) }
     ensures { option_map entry_seen result ≡ first_after cookie (map entry_of entries.now) }
 {
-    for entry in entries {
-        if cookie < entry.cookie {
-            return Some(entry_view(entry));
-        }
-    }
-    None
+    let entry = behind(entries, cookie).first()?;
+    Some(entry_view(entry))
+}
+
+// Those with cookies above this one, which come last.
+fn behind(entries: &[StoredEntry], cookie: u64) -> &[StoredEntry]
+    requires { CookiesRise (map entry_of entries.now) }
+    ensures { map entry_of result.now ≡ entries_behind cookie (map entry_of entries.now) }
+{
+    let first = entries.partition_point(
+        |entry: &StoredEntry| -> bool
+            ensures { result ≡ nat_le entry.now.cookie cookie }
+        { entry.cookie <= cookie },
+    );
+    &entries[first..]
 }
 
 #[inline(always)]

@@ -79,9 +79,11 @@ fn write_granted(
     args: &ReadDirPlus<'_>,
 )
     requires seen { IsSeen tree.now dir.now }
-    requires large { is_too_small (fits_plus args.now.dircount args.now.maxcount searchable) (left_after tree.now dir.now.attributes.fileid args.now.cookie) ≡ false }
+    requires large { is_too_small (fits_plus args.now.dircount args.now.maxcount searchable)
+        (left_after tree.now dir.now.attributes.fileid args.now.cookie) ≡ false }
     requires room { MAX_RESULT_BYTES ≤ out.old.room }
-    ensures { Appends (nfs_text (answer.ReadDirPlus (Ok (procedure.page_plus_at tree.now dir.now.attributes searchable args.now.cookie args.now.dircount args.now.maxcount)))) out.old out.new }
+    ensures { Appends (nfs_text (answer.ReadDirPlus
+        (Ok (procedure.page_plus_at tree.now dir.now.attributes searchable args.now.cookie args.now.dircount args.now.maxcount)))) out.old out.new }
 {
     let (dircount, maxcount) = (args.dircount, args.maxcount);
     out.u32(0);

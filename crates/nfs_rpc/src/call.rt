@@ -57,6 +57,7 @@ const MAX_AUTH_BYTES: u32 = 400;
 /// `NotCall` where the second word is there and is not that of a call, whatever follows; else
 /// `Unreadable` where no head of a call stands at the front. The verifier has to be there, and is
 /// not examined.
+#[inline(always)]
 pub fn read_call(message: &[u8]) -> Result<CallHead<'_>, RpcFault>
     ensures exact { GivesHead result (head_at message.now) }
     ensures read { IfOk result (λ head. Begins IsCallHead (call_of head) message.now head.args) }
@@ -66,6 +67,7 @@ pub fn read_call(message: &[u8]) -> Result<CallHead<'_>, RpcFault>
     head_of(message)
 }
 
+#[inline(always)]
 fn head_of(message: &[u8]) -> Result<CallHead<'_>, RpcFault>
     ensures { GivesHead result (head_at message.now) }
 {

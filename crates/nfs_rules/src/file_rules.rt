@@ -13,6 +13,7 @@ use nfs_attrs::file_type::FileType;
 
 impl<'a> Subject<'a> {
     /// Whether the caller owns the file, or its mode gives the right.
+    #[inline(always)]
     pub(crate) fn owns_or_may(&self, right: Right) -> bool
         ensures { result ≡ test.owns_or_may self.now right }
     {
@@ -20,6 +21,7 @@ impl<'a> Subject<'a> {
     }
 
     /// `ReadOnly`: the volume is exported for writing.
+    #[inline(always)]
     pub fn read_only(&self) -> Result<(), Rule>
         ensures { Tells result (test.read_only self.now) }
     {
@@ -27,6 +29,7 @@ impl<'a> Subject<'a> {
     }
 
     /// `NotRegular`: the file is a regular one.
+    #[inline(always)]
     pub fn not_regular(&self) -> Result<(), Rule>
         ensures { Tells result (test.not_regular self.now) }
     {
@@ -37,6 +40,7 @@ impl<'a> Subject<'a> {
     }
 
     /// `NotLink`: the file is a symbolic link.
+    #[inline(always)]
     pub fn not_link(&self) -> Result<(), Rule>
         ensures { Tells result (test.not_link self.now) }
     {
@@ -47,6 +51,7 @@ impl<'a> Subject<'a> {
     }
 
     /// `NotDirectory`: the file is a directory.
+    #[inline(always)]
     pub(crate) fn not_directory(&self) -> Result<(), Rule>
         ensures { Tells result (test.not_directory self.now) }
     {
@@ -57,6 +62,7 @@ impl<'a> Subject<'a> {
     }
 
     /// `LinkDirectory`: the file is no directory.
+    #[inline(always)]
     pub(crate) fn link_directory(&self) -> Result<(), Rule>
         ensures { Tells result (test.link_directory self.now) }
     {
@@ -67,6 +73,7 @@ impl<'a> Subject<'a> {
     }
 
     /// `ReadRight`: the caller may read or execute the file, or owns it.
+    #[inline(always)]
     pub(crate) fn read_right(&self) -> Result<(), Rule>
         ensures { Tells result (test.read_right self.now) }
     {
@@ -76,6 +83,7 @@ impl<'a> Subject<'a> {
     }
 
     /// `WriteRight`: the caller may write the file, or owns it.
+    #[inline(always)]
     pub(crate) fn write_right(&self) -> Result<(), Rule>
         ensures { Tells result (test.write_right self.now) }
     {
@@ -91,6 +99,7 @@ impl<'a> Subject<'a> {
     }
 
     /// Whether the caller may search the directory.
+    #[inline(always)]
     pub fn may_search(&self) -> bool
         ensures { result ≡ rights.may self.now.ids self.now.file Right.Execute }
     {
@@ -98,6 +107,7 @@ impl<'a> Subject<'a> {
     }
 
     /// `DirectoryRead`: the caller may read the directory.
+    #[inline(always)]
     pub(crate) fn directory_read(&self) -> Result<(), Rule>
         ensures { Tells result (test.directory_read self.now) }
     {

@@ -67,6 +67,7 @@ pub(crate) fn owns(ids: &Ids<'_>, file: &Fattr) -> bool
 }
 
 // The three bits of a class.
+#[inline(always)]
 fn bits_of(class: Class, mode: u32) -> u32
     ensures { result ≡ spec.bits_of class mode }
 {
@@ -77,6 +78,7 @@ fn bits_of(class: Class, mode: u32) -> u32
     }
 }
 
+#[inline(always)]
 fn has_bit(bits: u32, right: Right) -> bool
     ensures { result ≡ spec.has_bit bits right }
 {
@@ -107,6 +109,7 @@ pub fn access_bits(options: &Options, ids: &Ids<'_>, file: &Fattr, asked: u32) -
 }
 
 // A bit of what is asked for, where it is granted.
+#[inline(always)]
 fn granted_bit(asked: u32, bit: u32, granted: bool) -> u32
     requires { 1 ≤ bit }
     ensures is { result ≡ spec.granted_bit asked bit granted }

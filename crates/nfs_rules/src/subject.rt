@@ -63,6 +63,7 @@ impl<'a> Subject<'a> {
     }
 
     /// The file, with what is read of it.
+    #[inline(always)]
     pub fn view(&self) -> &FileView<'a>
         ensures attributes { result.now.attributes ≡ self.now.file }
         ensures seen { IsSeen self.now.tree result.now }
@@ -71,6 +72,7 @@ impl<'a> Subject<'a> {
     }
 
     /// The user by whom the caller is judged.
+    #[inline(always)]
     pub fn uid(&self) -> u32
         ensures { result ≡ self.now.ids.uid }
     {
@@ -78,6 +80,7 @@ impl<'a> Subject<'a> {
     }
 
     /// The user's group.
+    #[inline(always)]
     pub fn gid(&self) -> u32
         ensures { result ≡ self.now.ids.gid }
     {
@@ -85,6 +88,7 @@ impl<'a> Subject<'a> {
     }
 
     /// Whether the user is in a group.
+    #[inline(always)]
     pub fn is_in_group(&self, gid: u32) -> bool
         ensures { result ≡ (nat_eq gid self.now.ids.gid || list_any (nat_eq gid) self.now.ids.gids) }
     {
@@ -92,6 +96,7 @@ impl<'a> Subject<'a> {
     }
 
     /// Of the bits that ACCESS asks for those that are granted.
+    #[inline(always)]
     pub fn access_bits(&self, asked: u32) -> u32
         ensures { result ≡ rights.access_bits self.now.options.read_only self.now.ids self.now.file asked }
     {

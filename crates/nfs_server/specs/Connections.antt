@@ -1,6 +1,6 @@
 -- The connections of a server.
-use Rattle.std.specs.Prelude.{◌≢◌, ℕ, Bool, true, false, ◌&&◌, Option, None, Some, nat_eq}
-use Rattle.nfs_rpc.specs.Progress.{Progress}
+use Rattle.std.specs.Prelude.{◌≡◌, ◌≢◌, ℕ, Bool, true, false, ◌&&◌, [], Option, None, Some, nat_eq}
+use Rattle.nfs_rpc.specs.Progress.{Progress, Unfinished}
 use Rattle.nfs_rpc.specs.declared.framer.Stage.TheVariants.{Ready, Failed}
 use Rattle.nfs_rpc.specs.declared.framer.FrameFault.{FrameFault}
 use Rattle.nfs_rpc.specs.declared.framer.FrameFault.TheVariants as frame
@@ -16,6 +16,14 @@ pub record Joined : Type 0 where
   pub addr : Addr
   pub progress : Progress
   pub ended : Bool
+
+-- the most bytes of a record
+abbrev pub max_record_bytes : ℕ
+max_record_bytes = 131072
+
+-- the connection of a number from an address, at the beginning of its stream
+abbrev pub IsAtStart : ℕ → Addr → Joined → Type 0
+IsAtStart conn addr j = (j.number ≡ conn) × (j.addr ≡ addr) × (j.ended ≡ false) × (j.progress.limit ≡ max_record_bytes) × Unfinished [] j.progress
 
 -- a server and its connection, if there is one
 pub record Open : Type 0 where

@@ -107,6 +107,7 @@ impl ReplyBuf {
     }
 
     /// The reply to a call that succeeds without a result.
+    #[inline(always)]
     pub(crate) fn succeed(&mut self, xid: u32)
         ensures { self.new ≡ accepted_text xid Success }
     {
@@ -163,7 +164,8 @@ impl ReplyBuf {
         addr: Addr,
         args: &MountArgs<'_>,
     ) -> Option<AuditLine>
-        ensures { AnswersMount args.now table.now (record { tree = tree.now; mounts = mounts.old }) addr (call_of head.now) (told self.new result) mounts.new }
+        ensures { AnswersMount args.now table.now (record { tree = tree.now; mounts = mounts.old }) addr
+            (call_of head.now) (told self.new result) mounts.new }
     {
         begin(&mut self.out);
         write_accepted(&mut self.out, head.xid, Accept::Success);
@@ -186,6 +188,7 @@ impl ReplyBuf {
 }
 
 // What becomes of a call of NFS, and its result, which leaves the room as it was with the bytes.
+#[inline(always)]
 fn write_result(
     out: &mut Output,
     tree: &mut Tree,
@@ -202,6 +205,7 @@ fn write_result(
 }
 
 // Nothing but the mark.
+#[inline(always)]
 fn begin(out: &mut Output)
     requires { 4 ≤ length out.old.bytes }
     ensures bytes { out.new.bytes ≡ take 4 out.old.bytes }
@@ -222,6 +226,7 @@ fn give_up(out: &mut Output, xid: u32)
 }
 
 // The mark gets the length of what follows it.
+#[inline(always)]
 fn seal(out: &mut Output)
     requires mark { 4 ≤ length out.old.bytes }
     requires below { length out.old.bytes < 2 ^ 31 }

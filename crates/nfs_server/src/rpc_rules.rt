@@ -106,6 +106,7 @@ pub const AUTH_SYS: u32 = 1;
 
 /// What a call is for, or the first of the rules version, program, program-version and procedure
 /// that it fails.
+#[inline(always)]
 pub fn admit(head: &CallHead<'_>) -> Result<Admitted, RpcRule>
     ensures { Admits (call_of head.now) head.now.args result }
 {
@@ -171,6 +172,7 @@ pub(crate) fn caller_failure(head: &CallHead<'_>) -> Option<RpcRule>
 }
 
 // Whether a program has a procedure.
+#[inline(always)]
 fn has_procedure(prog: u32, proc: u32) -> bool
     ensures { result ≡ spec.has_procedure prog proc }
 {

@@ -108,7 +108,8 @@ impl Server {
             self.line = None;
             return Handled::NoReply;
         };
-        self.line = self.respond(&head, event, reply);
+        let line = self.respond(&head, event, reply);
+        keep(&mut self.line, line);
         Handled::Answered
     }
 
@@ -244,6 +245,17 @@ fn refuse(reply: &mut ReplyBuf, head: &CallHead<'_>, event: Event<'_>, rule: Rpc
 {
     reply.refuse(rule, head.xid);
     AuditLine::of(event.addr, head, Reason::Rpc(rule))
+}
+
+// Keeps the line of a call. Case by case, so that nothing is copied where there is none.
+#[inline(always)]
+fn keep(kept: &mut Option<AuditLine>, line: Option<AuditLine>)
+    ensures { kept.new ≡ line }
+{
+    match line {
+        Some(line) => *kept = Some(line),
+        None => *kept = None,
+    }
 }
 
 // What is handed to a sink.

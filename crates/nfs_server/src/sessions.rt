@@ -1,9 +1,8 @@
 //! The connections of a server, each a stream of records.
 ghost use Rattle.std.specs.Prelude.{◌≡◌, ◌≢◌, ◌↔◌, ◌⊎◌, ◌≤◌, true, false, [], None, length, IfOk, IfSome, IfErr, OnOk, OnErr, IsSome, IsErrOf};
-ghost use Rattle.nfs_rpc.specs.Progress.{Unfinished};
 ghost use Rattle.nfs_server.specs.Fits.{Past, Fits};
 ghost use Rattle.nfs_server.specs.Runs.{events_of, RunsThrough};
-ghost use Rattle.nfs_server.specs.Connections.{may_join, is_joined, has_ended, IsBetween};
+ghost use Rattle.nfs_server.specs.Connections.{may_join, is_joined, has_ended, IsAtStart, IsBetween};
 
 use crate::audit_line::AuditLine;
 use crate::event::{Event, Handled, Sink};
@@ -130,7 +129,7 @@ impl Sessions {
         requires { may_join conn self.old.joined ≡ true }
         ensures taken { IsErrOf result SessionFault.ConnectionTaken ↔ IsSome self.old.joined }
         ensures server { self.new.server ≡ self.old.server }
-        ensures joined { OnOk result (IfSome self.new.joined (λ j. (j.number ≡ conn) × (j.addr ≡ addr) × (j.ended ≡ false) × (j.progress.limit ≡ 131072) × Unfinished [] j.progress)) }
+        ensures joined { OnOk result (IfSome self.new.joined (IsAtStart conn addr)) }
         ensures some { OnOk result (IsSome self.new.joined) }
         ensures err { OnErr result (self.new ≡ self.old) }
     {

@@ -40,6 +40,7 @@ impl Output {
     }
 
     /// How many more bytes there is room for.
+    #[inline(always)]
     pub fn room(&self) -> usize
         ensures { result ≡ self.now.room }
     {
@@ -47,6 +48,7 @@ impl Output {
     }
 
     /// What was written.
+    #[inline(always)]
     pub fn bytes(&self) -> &[u8]
         ensures { result.now ≡ self.now.bytes }
     {
@@ -144,6 +146,7 @@ impl Output {
 
     /// Puts these bytes over as many that were written, from `at` on: for what is known only
     /// later, as the length in front of what was written.
+    #[inline(always)]
     pub fn overwrite(&mut self, at: usize, bytes: &[u8])
         requires { at + length bytes.now ≤ length self.old.bytes }
         ensures bytes { self.new.bytes ≡ take at self.old.bytes ++ bytes.now ++ drop (at + length bytes.now) self.old.bytes }
@@ -153,6 +156,7 @@ impl Output {
     }
 
     /// Keeps the first `len` bytes, and gives back the room of the others.
+    #[inline(always)]
     pub fn cut(&mut self, len: usize)
         requires { len ≤ length self.old.bytes }
         ensures bytes { self.new.bytes ≡ take len self.old.bytes }
@@ -162,6 +166,7 @@ impl Output {
     }
 
     /// Takes out all that was written, and gives back its room.
+    #[inline(always)]
     pub fn clear(&mut self)
         ensures bytes { self.new.bytes ≡ [] }
         ensures room { self.new.room ≡ self.old.room + length self.old.bytes }
@@ -181,6 +186,7 @@ pub fn halves(n: u64) -> (u32, u32)
 }
 
 // Puts bytes over as many others.
+#[inline(always)]
 fn put_over(place: &mut [u8], at: usize, bytes: &[u8])
     requires { at + length bytes.now ≤ length place.old }
     ensures { place.new ≡ take at place.old ++ bytes.now ++ drop (at + length bytes.now) place.old }

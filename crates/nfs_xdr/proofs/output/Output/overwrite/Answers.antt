@@ -1,4 +1,4 @@
-use Rattle.std.proofs.Common.{rules, ◌≡◌}
+use Rattle.std.proofs.Common.{rules}
 use Rattle.nfs_xdr.proofs.Writing.{put_over_seen}
 use Rattle.nfs_xdr.proofs.output.Output.overwrite.Goals as goal
 
