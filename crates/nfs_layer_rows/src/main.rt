@@ -1,5 +1,6 @@
 //! Answers rows about what lies below records: items, credentials, framing, attributes, arguments,
-//! results, handles and the tree of files, which is at first that of the description `e.tree`.
+//! results, handles, the tree of files, which is at first that of the description `e.tree`, and the
+//! rules of procedures.
 #![tactic(auto)]
 
 mod arguments;
@@ -11,6 +12,7 @@ mod handles;
 mod items;
 mod results;
 mod tree;
+mod verdicts;
 mod views;
 mod walk;
 
@@ -18,6 +20,7 @@ use crate::framing::Framing;
 use crate::handles::Numbered;
 use crate::items::Written;
 use crate::tree::Served;
+use crate::verdicts::Exported;
 use rows::sheet::{self, Answers};
 use std::alloc::Global;
 use std::process::ExitCode;
@@ -32,6 +35,7 @@ struct Asked<'a> {
     framing: Framing,
     numbered: Numbered,
     served: Served<'a>,
+    exported: Exported,
 }
 
 impl<'a> Asked<'a> {
@@ -42,6 +46,7 @@ impl<'a> Asked<'a> {
             framing: Framing::new(alloc),
             numbered: Numbered::new(alloc),
             served: Served::new(alloc, example)?,
+            exported: Exported::new(alloc, example)?,
         })
     }
 }
@@ -61,6 +66,7 @@ impl<'a> Answers for Asked<'a> {
             "files" => self.numbered.answer(words),
             "tree" => self.served.answer(words),
             "view" => views::answer(self.alloc, self.served.tree(), words),
+            "verdict" => self.exported.answer(words),
             "walk" => walk::answer(self.alloc, words),
             _ => None,
         }
