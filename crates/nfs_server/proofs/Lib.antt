@@ -6,3 +6,5 @@ pub mod Joined
 pub mod Performed
 pub mod Mounted
 pub mod Judged
+pub mod Short
+pub mod Changes

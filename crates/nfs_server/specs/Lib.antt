@@ -5,6 +5,7 @@ pub mod Events
 pub mod Seen
 pub mod ReplyRoom
 pub mod Admitting
+pub mod Repeats
 pub mod Steps
 pub mod Fits
 pub mod Keeping

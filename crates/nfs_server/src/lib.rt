@@ -6,6 +6,8 @@ pub mod audit_line;
 pub mod event;
 pub mod laws;
 mod mount;
+mod nfs_call;
+mod reply;
 pub mod reply_buf;
 pub mod rpc_rules;
 pub mod server;
