@@ -6,3 +6,6 @@ pub mod Joined
 pub mod Performed
 pub mod Mounted
 pub mod Judged
+pub mod Feeding
+pub mod OneRecord
+pub mod PieceByPiece

@@ -11,4 +11,6 @@ pub mod Keeping
 pub mod Runs
 pub mod Forward
 pub mod Connections
+pub mod Feeding
+pub mod Taking
 pub mod Cases
