@@ -1,5 +1,5 @@
 -- What is fed in two pieces, one after the other, is fed in one.
-use Rattle.std.proofs.Common.{◌≡◌, ℕ, ◌+◌, ◌≤◌, Bool, List, [], ◌∷◌, ◌++◌, map, reverse, take, length, Option, Result, Ok, Err, refl, sym, ap, subst, ◌∙◌, append_assoc, append-nil, arith}
+use Rattle.std.proofs.Common.{◌≡◌, ℕ, ◌+◌, ◌≤◌, List, [], ◌∷◌, ◌++◌, map, reverse, take, length, Option, Result, Ok, Err, refl, sym, ap, subst, ◌∙◌, append_assoc, append-nil, arith}
 use Rattle.std.specs.List.{AllByRecursion}
 use Rattle.std.proofs.lemmas.List.{map-append, reverse-append, length-append}
 use Rattle.nfs_rpc.specs.Progress.{Progress, Unfinished}
@@ -39,9 +39,8 @@ lines_on a b c later done f g = subst (λ t. Grows a t c) (sym (lines_append lat
 replies_on : (a b c : Option (List ℕ)) (later done : List Done) → Grows a (replies_of done) b → Grows b (replies_of later) c → Grows a (replies_of (later ++ done)) c
 replies_on a b c later done f g = subst (λ t. Grows a t c) (sym (replies_append later done)) (Grows-then a b c (replies_of done) (replies_of later) f g)
 
-breaks_on : (a b c : Option (List ℕ)) (failed : Bool) (before all both part : List ℕ) → both ≡ before ++ all → Grows a before b → BreaksOff (device b c failed) all part → BreaksOff (device a c failed) both part
-breaks_on a b c failed before all both part e f k = record {
-  failed = k.failed;
+breaks_on : (a b c : Option (List ℕ)) (before all both part : List ℕ) → both ≡ before ++ all → Grows a before b → BreaksOff (device b c) all part → BreaksOff (device a c) both part
+breaks_on a b c before all both part e f k = record {
   n = k.n;
   within = k.within;
   wrote = subst (λ t. Grows a t c) (sym (append_assoc before all (take k.n part)) ∙ ap (λ t. t ++ take k.n part) (sym e)) (Grows-then a b c before (all ++ take k.n part) f k.wrote);
@@ -52,25 +51,25 @@ abbrev pub added : ℕ → Result ℕ SessionFault → Result ℕ SessionFault
 added n (Ok m) = Ok (n + m)
 added n (Err fault) = Err fault
 
-module _ (a b c v w x : Option (List ℕ)) (fa fb fv fw : Bool) (done later : List Done) where
-  both_on : WritesAll done (device a b fa) (device v w fv) → WritesAll later (device b c fb) (device w x fw) → WritesAll (later ++ done) (device a c fb) (device v x fw)
+module _ (a b c v w x : Option (List ℕ)) (done later : List Done) where
+  both_on : WritesAll done (device a b) (device v w) → WritesAll later (device b c) (device w x) → WritesAll (later ++ done) (device a c) (device v x)
   both_on f g = record { lines_are = lines_on a b c later done f.lines_are g.lines_are; replies_are = replies_on v w x later done f.replies_are g.replies_are }
 
-ends_on : (a b c v w x : Option (List ℕ)) (fa fb fv fw : Bool) (result : Result ℕ SessionFault) (done later : List Done) (left : List ℕ) (p : Progress) → WritesAll done (device a b fa) (device v w fv) → Ends result later left p (device b c fb) (device w x fw) → Ends (added (length done) result) (later ++ done) left p (device a c fb) (device v x fw)
-ends_on a b c v w x fa fb fv fw (Ok n) done later left p f e =
+ends_on : (a b c v w x : Option (List ℕ)) (result : Result ℕ SessionFault) (done later : List Done) (left : List ℕ) (p : Progress) → WritesAll done (device a b) (device v w) → Ends result later left p (device b c) (device w x) → Ends (added (length done) result) (later ++ done) left p (device a c) (device v x)
+ends_on a b c v w x (Ok n) done later left p f e =
     let len : length (later ++ done) ≡ length later + length done = length-append later done in
-    (omega (arith, e.0, len), e.1, both_on a b c v w x fa fb fv fw done later f e.2)
-ends_on a b c v w x fa fb fv fw (Err TooLong) done later left p f e = (e.0, both_on a b c v w x fa fb fv fw done later f e.1)
-ends_on a b c v w x fa fb fv fw (Err Memory) done later left p f e = (e.0, both_on a b c v w x fa fb fv fw done later f e.1)
-ends_on a b c v w x fa fb fv fw (Err AuditFault) done [] left p f e = absurd e
-ends_on a b c v w x fa fb fv fw (Err AuditFault) done (d ∷ later) left p f e =
-    (breaks_on a b c fb (lines_of done) (lines_of later) (lines_of (later ++ done)) (line_bytes d.answer.line) (lines_append later done) f.lines_are e.0, replies_on v w x later done f.replies_are e.1)
-ends_on a b c v w x fa fb fv fw (Err WriteFault) done [] left p f e = absurd e
-ends_on a b c v w x fa fb fv fw (Err WriteFault) done (d ∷ later) left p f e =
-    (breaks_on v w x fw (replies_of done) (replies_of later) (replies_of (later ++ done)) (sealed d.answer.reply) (replies_append later done) f.replies_are e.0, lines_on a b c (d ∷ later) done f.lines_are e.1)
-ends_on a b c v w x fa fb fv fw (Err ConnectionTaken) done later left p f e = e
-ends_on a b c v w x fa fb fv fw (Err UnknownConnection) done later left p f e = e
-ends_on a b c v w x fa fb fv fw (Err Ended) done later left p f e = e
+    (omega (arith, e.0, len), e.1, both_on a b c v w x done later f e.2)
+ends_on a b c v w x (Err TooLong) done later left p f e = (e.0, both_on a b c v w x done later f e.1)
+ends_on a b c v w x (Err Memory) done later left p f e = (e.0, both_on a b c v w x done later f e.1)
+ends_on a b c v w x (Err AuditFault) done [] left p f e = absurd e
+ends_on a b c v w x (Err AuditFault) done (d ∷ later) left p f e =
+    (breaks_on a b c (lines_of done) (lines_of later) (lines_of (later ++ done)) (line_bytes d.answer.line) (lines_append later done) f.lines_are e.0, replies_on v w x later done f.replies_are e.1)
+ends_on a b c v w x (Err WriteFault) done [] left p f e = absurd e
+ends_on a b c v w x (Err WriteFault) done (d ∷ later) left p f e =
+    (breaks_on v w x (replies_of done) (replies_of later) (replies_of (later ++ done)) (sealed d.answer.reply) (replies_append later done) f.replies_are e.0, lines_on a b c (d ∷ later) done f.lines_are e.1)
+ends_on a b c v w x (Err ConnectionTaken) done later left p f e = e
+ends_on a b c v w x (Err UnknownConnection) done later left p f e = e
+ends_on a b c v w x (Err Ended) done later left p f e = e
 
 serves_on : (past : Past) (origin : Origin) (limit : ℕ) (bytes more : List ℕ) (done later : List Done) (rest left : List ℕ) (mid new : Held) → Serves past origin limit bytes done rest mid → Serves (longer past done) origin limit (rest ++ more) later left new → Serves past origin limit (bytes ++ more) (later ++ done) left new
 serves_on past origin limit bytes more done later rest left mid new f g = record {
@@ -82,24 +81,24 @@ serves_on past origin limit bytes more done later rest left mid new f g = record
   fits = subst (λ d. Fits (record { opening = past.opening; done = d }) new) (sym (append_assoc later done past.done)) g.fits;
 }
 
-pub feeds_on : (First Then Both : List Done → Type 0) (origin : Origin) (xs ys : List ℕ) (n : ℕ) (result : Result ℕ SessionFault) (old mid new : Held) (from between to : Progress) (a b c v w x : Option (List ℕ)) (fa fb fv fw : Bool)
+pub feeds_on : (First Then Both : List Done → Type 0) (origin : Origin) (xs ys : List ℕ) (n : ℕ) (result : Result ℕ SessionFault) (old mid new : Held) (from between to : Progress) (a b c v w x : Option (List ℕ))
     → between.limit ≡ to.limit
     → ((done later : List Done) → First done → Then later → Both (later ++ done))
-    → FeedsWith First origin xs (Ok n) old mid from between (device a b fa) (device v w fv)
-    → FeedsWith Then origin ys result mid new between to (device b c fb) (device w x fw)
-    → FeedsWith Both origin (xs ++ ys) (added n result) old new from to (device a c fb) (device v x fw)
-feeds_on First Then Both origin xs ys n result old mid new from between to a b c v w x fa fb fv fw limit joins f g past fits text unfinished =
+    → FeedsWith First origin xs (Ok n) old mid from between (device a b) (device v w)
+    → FeedsWith Then origin ys result mid new between to (device b c) (device w x)
+    → FeedsWith Both origin (xs ++ ys) (added n result) old new from to (device a c) (device v x)
+feeds_on First Then Both origin xs ys n result old mid new from between to a b c v w x limit joins f g past fits text unfinished =
     let first = f past fits text unfinished in
     let done = first.0.done in
     let then = g (longer past done) first.0.serves.fits first.0.rest first.0.ends.1.unfinished in
     let serves = subst (λ k. Serves past origin k (text ++ xs) done first.0.rest mid) limit first.0.serves in
     let both = serves_on past origin to.limit (text ++ xs) ys done then.0.done first.0.rest then.0.rest mid new serves then.0.serves in
-    let ends = ends_on a b c v w x fa fb fv fw result done then.0.done then.0.rest to first.0.ends.2 then.0.ends in (
+    let ends = ends_on a b c v w x result done then.0.done then.0.rest to first.0.ends.2 then.0.ends in (
       record {
         done = then.0.done ++ done;
         rest = then.0.rest;
         serves = subst (λ t. Serves past origin to.limit t (then.0.done ++ done) then.0.rest new) (append_assoc text xs ys) both;
-        ends = subst (λ k. Ends (added k result) (then.0.done ++ done) then.0.rest to (device a c fb) (device v x fw)) (sym first.0.ends.0) ends;
+        ends = subst (λ k. Ends (added k result) (then.0.done ++ done) then.0.rest to (device a c) (device v x)) (sym first.0.ends.0) ends;
       },
       joins done then.0.done first.1 then.1,
     )

@@ -9,3 +9,4 @@ pub mod Judged
 pub mod Feeding
 pub mod OneRecord
 pub mod PieceByPiece
+pub mod Connected

@@ -1,5 +1,5 @@
 -- What one step does to a connection.
-use Rattle.std.proofs.Common.{◌≡◌, ◌≢◌, ℕ, ◌+◌, ◌≤◌, ◌<◌, Bool, true, false, List, [], ◌∷◌, ◌++◌, map, reverse, take, drop, length, Option, Some, None, Result, Ok, Err, IfOk, IsErrAnd, refl, sym, ap, subst, ◌∙◌, append_assoc, append-nil, arith}
+use Rattle.std.proofs.Common.{◌≡◌, ◌≢◌, ℕ, ◌+◌, ◌≤◌, ◌<◌, Bool, true, false, List, [], ◌∷◌, ◌++◌, map, reverse, take, drop, length, Option, Some, None, Result, Ok, Err, IfOk, IfErr, IsErrAnd, refl, sym, ap, subst, ◌∙◌, append_assoc, append-nil, arith}
 use Rattle.std.proofs.lemmas.List.{take-append-drop}
 use Rattle.nfs_rpc.specs.Progress.{Progress, Leads, Unfinished, Moves, BringsTooLong, AsksForRoom, StageTells}
 use Rattle.nfs_rpc.specs.declared.framer.Stage.{Stage}
@@ -11,7 +11,7 @@ use Rattle.nfs_rpc.proofs.Streams.{unfinished_tells}
 use Rattle.nfs_server.proofs.Going.{Handles}
 use Rattle.nfs_server.specs.Connections.{IsBetween, session_fault}
 use Rattle.nfs_server.specs.Events.{Event, Answer, Done, silence}
-use Rattle.nfs_server.specs.Feeding.{Device, device, BreaksOff, WritesAll, Serves, IsLeft, Ends, Brings, line_bytes, sealed, lines_of, replies_of, event_at}
+use Rattle.nfs_server.specs.Feeding.{Device, device, BreaksOff, WritesAll, Serves, IsLeft, Ends, Brings, line_bytes, sealed, lines_of, replies_of, event_at, EndsWith}
 use Rattle.nfs_server.specs.Fits.{Held, Past, Fits}
 use Rattle.nfs_server.specs.Runs.{longer}
 use Rattle.nfs_server.specs.Taking.{Answers, BeginsAnew, FeedsWith, Writes}
@@ -25,8 +25,8 @@ use Rattle.nfs_xdr.specs.Known.{Grows}
 pub grows_none : (a : Option (List ℕ)) → Grows a [] a
 grows_none a before e = e ∙ ap Some (sym (append-nil before))
 
-pub nothing_written : (a v : Option (List ℕ)) (f h : Bool) → WritesAll [] (device a a f) (device v v h)
-nothing_written a v f h = record { lines_are = grows_none a; replies_are = grows_none v }
+pub nothing_written : (a v : Option (List ℕ)) → WritesAll [] (device a a) (device v v)
+nothing_written a v = record { lines_are = grows_none a; replies_are = grows_none v }
 
 -- ---- what is left
 
@@ -44,36 +44,36 @@ is_left text p between u = stage_left p.stage p.limit p.content text between.0 b
 serves_none : (past : Past) (origin : Origin) (limit : ℕ) (bytes : List ℕ) (s : Held) → Fits past s → Serves past origin limit bytes [] bytes s
 serves_none past origin limit bytes s fits = record { records = []; cut = refl; within = tt; events_are = refl; fits = fits }
 
-module _ (Also : List Done → Type 0) (origin : Origin) (s : Held) (from to : Progress) (a v : Option (List ℕ)) (f h : Bool) (also : Also []) where
-  pub feeds_none : (bytes : List ℕ) → IsBetween to → Moves from bytes to → FeedsWith Also origin bytes (Ok 0) s s from to (device a a f) (device v v h)
+module _ (Also : List Done → Type 0) (origin : Origin) (s : Held) (from to : Progress) (a v : Option (List ℕ)) (also : Also []) where
+  pub feeds_none : (bytes : List ℕ) → IsBetween to → Moves from bytes to → FeedsWith Also origin bytes (Ok 0) s s from to (device a a) (device v v)
   feeds_none bytes between moves past fits text u = (
     record {
       done = [];
       rest = text ++ bytes;
       serves = serves_none past origin to.limit (text ++ bytes) s fits;
-      ends = (refl, is_left (text ++ bytes) to between (moves text u), nothing_written a v f h);
+      ends = (refl, is_left (text ++ bytes) to between (moves text u), nothing_written a v);
     },
     also,
   )
 
-  pub feeds_too_long : (piece : List ℕ) → to.limit ≡ from.limit → BringsTooLong from piece → FeedsWith Also origin piece (Err TooLong) s s from to (device a a f) (device v v h)
+  pub feeds_too_long : (piece : List ℕ) → to.limit ≡ from.limit → BringsTooLong from piece → FeedsWith Also origin piece (Err TooLong) s s from to (device a a) (device v v)
   feeds_too_long piece limit long past fits text u = (
     record {
       done = [];
       rest = text ++ piece;
       serves = serves_none past origin to.limit (text ++ piece) s fits;
-      ends = (subst (λ k. ReachesTooLong k (text ++ piece)) (sym limit) (long text u), nothing_written a v f h);
+      ends = (subst (λ k. ReachesTooLong k (text ++ piece)) (sym limit) (long text u), nothing_written a v);
     },
     also,
   )
 
-  pub feeds_no_room : (piece : List ℕ) → to.limit ≡ from.limit → AsksForRoom from piece → FeedsWith Also origin piece (Err Memory) s s from to (device a a f) (device v v h)
+  pub feeds_no_room : (piece : List ℕ) → to.limit ≡ from.limit → AsksForRoom from piece → FeedsWith Also origin piece (Err Memory) s s from to (device a a) (device v v)
   feeds_no_room piece limit asks past fits text u = (
     record {
       done = [];
       rest = text ++ piece;
       serves = serves_none past origin to.limit (text ++ piece) s fits;
-      ends = (subst (λ k. ReachesWithin k (text ++ piece)) (sym limit) (asks text u), nothing_written a v f h);
+      ends = (subst (λ k. ReachesWithin k (text ++ piece)) (sym limit) (asks text u), nothing_written a v);
     },
     also,
   )
@@ -138,8 +138,8 @@ answers_by event old new shown answer result audit replies handles e writes past
     (record { event = event; choice = h.0; answer = answer }, refl, h.1.1, subst (λ a. Writes a result audit replies) e writes)
 
 -- there is no reply
-pub answers_none : (event : Event) (old new : Held) (a v : Option (List ℕ)) (f h : Bool) → Handles old event silence new → Answers event (Ok 0) old new (device a a f) (device v v h)
-answers_none event old new a v f h handles = answers_by event old new silence silence (Ok 0) (device a a f) (device v v h) handles refl (omega arith, grows_none a, grows_none v)
+pub answers_none : (event : Event) (old new : Held) (a v : Option (List ℕ)) → Handles old event silence new → Answers event (Ok 0) old new (device a a) (device v v)
+answers_none event old new a v handles = answers_by event old new silence silence (Ok 0) (device a a) (device v v) handles refl (omega arith, grows_none a, grows_none v)
 
 -- ---- faults
 
@@ -149,11 +149,15 @@ passed_on P (Ok x) fault is p = absurd is
 passed_on P (Err e) fault is p = subst (λ k. P (Err k)) (sym is) p
 
 -- a reader of records failed
-pub feeds_frame_fault : (origin : Origin) (s : Held) (from to : Progress) (a v : Option (List ℕ)) (f h : Bool) (Also : List Done → Type 0) → Also [] → (fault : FrameFault) (piece : List ℕ) → to.limit ≡ from.limit
+pub feeds_frame_fault : (origin : Origin) (s : Held) (from to : Progress) (a v : Option (List ℕ)) (Also : List Done → Type 0) → Also [] → (fault : FrameFault) (piece : List ℕ) → to.limit ≡ from.limit
     → (fault ≡ frame.TooLong → BringsTooLong from piece)
     → (fault ≡ frame.Memory → AsksForRoom from piece)
     → (fault ≡ frame.Failed → ⊥)
-    → FeedsWith Also origin piece (Err (session_fault fault)) s s from to (device a a f) (device v v h)
-feeds_frame_fault origin s from to a v f h Also also frame.TooLong piece limit long asks failed = feeds_too_long Also origin s from to a v f h also piece limit (long refl)
-feeds_frame_fault origin s from to a v f h Also also frame.Memory piece limit long asks failed = feeds_no_room Also origin s from to a v f h also piece limit (asks refl)
-feeds_frame_fault origin s from to a v f h Also also frame.Failed piece limit long asks failed = absurd (failed refl)
+    → FeedsWith Also origin piece (Err (session_fault fault)) s s from to (device a a) (device v v)
+feeds_frame_fault origin s from to a v Also also frame.TooLong piece limit long asks failed = feeds_too_long Also origin s from to a v also piece limit (long refl)
+feeds_frame_fault origin s from to a v Also also frame.Memory piece limit long asks failed = feeds_no_room Also origin s from to a v also piece limit (asks refl)
+feeds_frame_fault origin s from to a v Also also frame.Failed piece limit long asks failed = absurd (failed refl)
+
+-- a connection that a fault ends has not ended before
+pub not_ended : {X : Type 0} (r : Result X SessionFault) (audit_failed replies_failed : Bool) → IfErr r (EndsWith audit_failed replies_failed) → r ≡ Err Ended → ⊥
+not_ended r audit_failed replies_failed ends e = subst (λ k. IfErr k (EndsWith audit_failed replies_failed)) e ends

@@ -1,5 +1,5 @@
 -- A piece is taken record by record.
-use Rattle.std.proofs.Common.{◌≡◌, ℕ, ◌+◌, ◌-◌, ◌≤◌, ◌<◌, Bool, List, [], ◌∷◌, ◌++◌, take, drop, length, Option, Some, None, Result, Ok, Err, refl, sym, ap, subst, ◌∙◌, arith}
+use Rattle.std.proofs.Common.{◌≡◌, ℕ, ◌+◌, ◌-◌, ◌≤◌, ◌<◌, List, [], ◌∷◌, ◌++◌, take, drop, length, Option, Some, None, Result, Ok, Err, refl, sym, ap, subst, ◌∙◌, arith}
 use Rattle.std.proofs.lemmas.List.{length-append, take-append-drop, take_rest, take_all}
 use Rattle.nfs_rpc.specs.Progress.{Progress}
 use Rattle.nfs_server.specs.Events.{Done}
@@ -43,20 +43,20 @@ full (Some room) left bytes e covered =
 rest_of : (piece : List ℕ) (i : ℕ) → take i piece ++ take (length piece - i) (drop i piece) ≡ piece
 rest_of piece i = ap (λ t. take i piece ++ t) (take_rest piece i) ∙ take-append-drop i piece
 
-module _ (origin : Origin) (piece : List ℕ) (room left : Option ℕ) (i n : ℕ) (old mid : Held) (from between : Progress) (a b v w : Option (List ℕ)) (fa fv : Bool)
-    (before : FeedsWith (λ done. IsCovered room left (length (replies_of done))) origin (take i piece) (Ok n) old mid from between (device a b fa) (device v w fv)) where
-  module _ (new : Held) (to : Progress) (c x : Option (List ℕ)) (fb fw : Bool) (limit : to.limit ≡ between.limit) where
-    pub steps_on : (step : Step) (next : Option ℕ) → next ≡ room_after left step.replied → FeedsOne origin (take (length piece - i) (drop i piece)) (Ok step) mid new between to (device b c fb) (device w x fw)
-        → FeedsWith (λ done. IsCovered room next (length (replies_of done))) origin (take (i + step.used) piece) (Ok (n + step.records)) old new from to (device a c fb) (device v x fw)
-    steps_on step next e one = subst (λ t. FeedsWith (λ done. IsCovered room next (length (replies_of done))) origin t (Ok (n + step.records)) old new from to (device a c fb) (device v x fw)) (taken_on piece i step.used)
-        (feeds_on (λ done. IsCovered room left (length (replies_of done))) (λ done. step.replied ≤ length (replies_of done)) (λ done. IsCovered room next (length (replies_of done))) origin (take i piece) (take step.used (take (length piece - i) (drop i piece))) n (Ok step.records) old mid new from between to a b c v w x fa fb fv fw (sym limit) (λ done later covered le. subst (λ o. IsCovered room o (length (replies_of (later ++ done)))) (sym e) (covered_by room left step.replied done later covered le)) before one)
+module _ (origin : Origin) (piece : List ℕ) (room left : Option ℕ) (i n : ℕ) (old mid : Held) (from between : Progress) (a b v w : Option (List ℕ))
+    (before : FeedsWith (λ done. IsCovered room left (length (replies_of done))) origin (take i piece) (Ok n) old mid from between (device a b) (device v w)) where
+  module _ (new : Held) (to : Progress) (c x : Option (List ℕ)) (limit : to.limit ≡ between.limit) where
+    pub steps_on : (step : Step) (next : Option ℕ) → next ≡ room_after left step.replied → FeedsOne origin (take (length piece - i) (drop i piece)) (Ok step) mid new between to (device b c) (device w x)
+        → FeedsWith (λ done. IsCovered room next (length (replies_of done))) origin (take (i + step.used) piece) (Ok (n + step.records)) old new from to (device a c) (device v x)
+    steps_on step next e one = subst (λ t. FeedsWith (λ done. IsCovered room next (length (replies_of done))) origin t (Ok (n + step.records)) old new from to (device a c) (device v x)) (taken_on piece i step.used)
+        (feeds_on (λ done. IsCovered room left (length (replies_of done))) (λ done. step.replied ≤ length (replies_of done)) (λ done. IsCovered room next (length (replies_of done))) origin (take i piece) (take step.used (take (length piece - i) (drop i piece))) n (Ok step.records) old mid new from between to a b c v w x (sym limit) (λ done later covered le. subst (λ o. IsCovered room o (length (replies_of (later ++ done)))) (sym e) (covered_by room left step.replied done later covered le)) before one)
 
-    pub stops_on : (fault : SessionFault) → FeedsOne origin (take (length piece - i) (drop i piece)) (Err fault) mid new between to (device b c fb) (device w x fw) → FeedsSome origin piece room (Err fault) old new from to (device a c fb) (device v x fw)
-    stops_on fault one = subst (λ t. FeedsWith (Stops room piece (Err fault)) origin t (Err fault) old new from to (device a c fb) (device v x fw)) (rest_of piece i)
-        (feeds_on (λ done. IsCovered room left (length (replies_of done))) (λ done. Unit {0}) (Stops room piece (Err fault)) origin (take i piece) (take (length piece - i) (drop i piece)) n (Err fault) old mid new from between to a b c v w x fa fb fv fw (sym limit) (λ done later covered any. tt) before one)
+    pub stops_on : (fault : SessionFault) → FeedsOne origin (take (length piece - i) (drop i piece)) (Err fault) mid new between to (device b c) (device w x) → FeedsSome origin piece room (Err fault) old new from to (device a c) (device v x)
+    stops_on fault one = subst (λ t. FeedsWith (Stops room piece (Err fault)) origin t (Err fault) old new from to (device a c) (device v x)) (rest_of piece i)
+        (feeds_on (λ done. IsCovered room left (length (replies_of done))) (λ done. Unit {0}) (Stops room piece (Err fault)) origin (take i piece) (take (length piece - i) (drop i piece)) n (Err fault) old mid new from between to a b c v w x (sym limit) (λ done later covered any. tt) before one)
 
   -- the piece ends, or the room is full
-  pub ends_here : (i < length piece → left ≡ Some 0) → FeedsSome origin piece room (Ok (record { used = i; records = n })) old mid from between (device a b fa) (device v w fv)
+  pub ends_here : (i < length piece → left ≡ Some 0) → FeedsSome origin piece room (Ok (record { used = i; records = n })) old mid from between (device a b) (device v w)
   ends_here stopped past fits text u =
       let brings = before past fits text u in
       (brings.0, λ more. full room left (replies_of brings.0.done) (stopped more) brings.1)

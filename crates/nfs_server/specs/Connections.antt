@@ -41,9 +41,23 @@ abbrev pub has_ended : Option Joined → Bool
 has_ended None = false
 has_ended (Some j) = j.ended
 
+-- it is there, and no fault ended it
+abbrev pub IsAlive : Option Joined → Type 0
+IsAlive None = ⊥
+IsAlive (Some j) = j.ended ≡ false
+
 -- the connections of all other numbers are as they were
 abbrev pub OthersStay : ℕ → Open → Open → Type 0
 OthersStay conn old new = (other : ℕ) → other ≢ conn → at other new ≡ at other old
+
+-- The connection of a number, which had not ended, was fed. What that did to the server and to how far the stream is read is said apart.
+pub record IsFed (conn : ℕ) (was : Joined) (old new : Open) (ended : Bool) (Does : Held → Held → Progress → Progress → Type 0) : Type 0 where
+  pub now : Joined
+  pub there : at conn new ≡ Some now
+  pub addr_stays : now.addr ≡ was.addr
+  pub limit_stays : now.progress.limit ≡ was.progress.limit
+  pub ended_is : now.ended ≡ ended
+  pub does : Does old.server new.server was.progress now.progress
 
 -- the fault of a connection whose records can't be read
 abbrev pub session_fault : FrameFault → SessionFault

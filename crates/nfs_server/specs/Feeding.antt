@@ -36,19 +36,16 @@ abbrev pub replies_of : List Done → List ℕ
 replies_of [] = []
 replies_of (d ∷ earlier) = replies_of earlier ++ sealed d.answer.reply
 
--- a device before and after: what it holds, where that is known, and whether it has failed
+-- what a device holds before and after, where that is known
 pub record Device : Type 0 where
   pub before : Option (List ℕ)
   pub after : Option (List ℕ)
-  pub failed : Bool
 
--- a device that holds this before and that after
-abbrev pub device : Option (List ℕ) → Option (List ℕ) → Bool → Device
-device before after failed = record { before = before; after = after; failed = failed }
+abbrev pub device : Option (List ℕ) → Option (List ℕ) → Device
+device before after = record { before = before; after = after }
 
--- It failed: these bytes were written, and then some first ones of those.
+-- these bytes were written, and then some first ones of those
 pub record BreaksOff (d : Device) (all part : List ℕ) : Type 0 where
-  pub failed : d.failed ≡ true
   pub n : ℕ
   pub within : n ≤ length part
   pub wrote : Grows d.before (all ++ take n part) d.after
@@ -87,6 +84,16 @@ pub record IsLeft (rest : List ℕ) (p : Progress) : Type 0 where
   pub unfinished : Unfinished rest p
   pub none_whole : BeginsNone IsRecord rest
   pub none_long : IsWithin p.limit rest
+
+-- what ends a connection: a device's fault only where that device has failed
+abbrev pub EndsWith : Bool → Bool → SessionFault → Type 0
+EndsWith audit_failed replies_failed TooLong = Unit {0}
+EndsWith audit_failed replies_failed Memory = Unit {0}
+EndsWith audit_failed replies_failed AuditFault = audit_failed ≡ true
+EndsWith audit_failed replies_failed WriteFault = replies_failed ≡ true
+EndsWith audit_failed replies_failed ConnectionTaken = ⊥
+EndsWith audit_failed replies_failed UnknownConnection = ⊥
+EndsWith audit_failed replies_failed Ended = ⊥
 
 -- why no more was taken, and what was written
 abbrev pub Ends : Result ℕ SessionFault → List Done → List ℕ → Progress → Device → Device → Type 0

@@ -1,7 +1,7 @@
 //! A connection: a stream of records from one address.
-ghost use Rattle.std.specs.Prelude.{◌≡◌, ◌≤◌, true, false, length, IfOk, OnOk, OnErr, IsErrOf, ◌↔◌};
+ghost use Rattle.std.specs.Prelude.{◌≡◌, ◌≤◌, true, false, length, IfOk, IfErr, OnOk, OnErr, IsErrOf, ◌↔◌};
 ghost use Rattle.nfs_server.specs.Connections.{IsAtStart};
-ghost use Rattle.nfs_server.specs.Feeding.{device};
+ghost use Rattle.nfs_server.specs.Feeding.{device, EndsWith};
 ghost use Rattle.nfs_server.specs.Taking.{FeedsSome};
 
 use crate::reply_buf::ReplyBuf;
@@ -71,12 +71,13 @@ impl Connection {
         ensures fault { OnErr result (self.new.ended ≡ true) }
         ensures addr { self.new.addr ≡ self.old.addr }
         ensures limit { self.new.progress.limit ≡ self.old.progress.limit }
+        ensures kind { self.old.ended ≡ false → IfErr result (EndsWith (A.failed audit.new) (W.failed replies.new)) }
         ensures setup { server.new.setup ≡ server.old.setup }
         ensures used { IfOk result (λ taken. taken.used ≤ length piece.now) }
         ensures feeds { self.old.ended ≡ false → FeedsSome (record { addr = self.old.addr; moment = moment }) piece.now room
             result server.old server.new self.old.progress self.new.progress
-            (device (A.contents audit.old) (A.contents audit.new) (A.failed audit.new))
-            (device (W.contents replies.old) (W.contents replies.new) (W.failed replies.new)) }
+            (device (A.contents audit.old) (A.contents audit.new))
+            (device (W.contents replies.old) (W.contents replies.new)) }
     {
         if self.ended {
             return Err(SessionFault::Ended);

@@ -1,8 +1,10 @@
 //! A server and its connections.
-ghost use Rattle.std.specs.Prelude.{◌≡◌, ◌↔◌, ◌≤◌, ◌⊎◌, true, false, [], None, length, IfOk, IfErr, IfSome, OnOk, OnErr, IsSome, IsNone, IsErrOf};
-ghost use Rattle.nfs_server.specs.Connections.{IsAtStart, OthersStay, at, has_ended};
+ghost use Rattle.std.specs.Prelude.{◌≡◌, ◌↔◌, ◌≤◌, ◌⊎◌, true, false, [], None, length, IfOk, IfErr, IfSome, OnOk, OnErr, IsSome, IsNone, IsErrOf, Some, is_err};
+ghost use Rattle.nfs_server.specs.Connections.{IsAlive, IsAtStart, IsFed, OthersStay, at, has_ended};
+ghost use Rattle.nfs_server.specs.Feeding.{device, EndsWith, Feeds};
 ghost use Rattle.nfs_server.specs.Fits.{Past, Fits};
 ghost use Rattle.nfs_server.specs.Runs.{events_of, RunsThrough};
+ghost use Rattle.nfs_server.specs.Taking.{FeedsSome};
 
 use crate::connection::Connection;
 use crate::event::{Event, Sink};
@@ -103,6 +105,96 @@ impl Sessions {
     {
         match self.connections.swap_remove(&conn) {
             Some(_) => Ok(()),
+            None => Err(SessionFault::UnknownConnection),
+        }
+    }
+
+    /// Takes the next bytes of a connection's stream. Each record that is whole now is one event, in
+    /// the order of the stream; its audit line, where it is denied, and then its sealed reply are
+    /// written before the next is looked at. Answers how many records were answered.
+    ///
+    /// `UnknownConnection` exactly where no connection has the number, `Ended` exactly where a fault
+    /// ended it: these write nothing and change nothing. `TooLong`, where a header brings a record
+    /// above the limit, `Memory`, where there is none for a record, `AuditFault` and `WriteFault`,
+    /// where that device has failed, end the connection; what was done before stands.
+    pub fn feed<W: ByteOut, A: ByteOut>(
+        &mut self,
+        conn: u32,
+        moment: Moment,
+        piece: &[u8],
+        replies: &mut W,
+        audit: &mut A,
+    ) -> Result<u64, SessionFault>
+        ensures unknown { IsErrOf result SessionFault.UnknownConnection ↔ IsNone (at conn self.old) }
+        ensures ended { IsErrOf result SessionFault.Ended ↔ (has_ended (at conn self.old) ≡ true) }
+        ensures idle { IsErrOf result SessionFault.UnknownConnection ⊎ IsErrOf result SessionFault.Ended →
+            (self.new ≡ self.old) × (replies.new ≡ replies.old) × (audit.new ≡ audit.old) }
+        ensures fault { IsAlive (at conn self.old) → IfErr result (EndsWith (A.failed audit.new) (W.failed replies.new)) }
+        ensures feeds { IfSome (at conn self.old) (λ was. was.ended ≡ false → IsFed conn was self.old self.new (is_err result)
+            (λ old new from to. Feeds (record { addr = was.addr; moment = moment }) piece.now result old new from to
+            (device (A.contents audit.old) (A.contents audit.new)) (device (W.contents replies.old) (W.contents replies.new)))) }
+        ensures others { OthersStay conn self.old self.new }
+        ensures setup { self.new.server.setup ≡ self.old.server.setup }
+    {
+        Ok(
+            self.take(conn, moment, piece, None, replies, audit)?
+                .records,
+        )
+    }
+
+    /// The same, but that it stops behind the record with which so many bytes of replies are
+    /// written, since few bytes may ask for many. Answers how far the piece was taken.
+    pub fn feed_some<W: ByteOut, A: ByteOut>(
+        &mut self,
+        conn: u32,
+        moment: Moment,
+        piece: &[u8],
+        room: usize,
+        replies: &mut W,
+        audit: &mut A,
+    ) -> Result<Taken, SessionFault>
+        ensures unknown { IsErrOf result SessionFault.UnknownConnection ↔ IsNone (at conn self.old) }
+        ensures ended { IsErrOf result SessionFault.Ended ↔ (has_ended (at conn self.old) ≡ true) }
+        ensures idle { IsErrOf result SessionFault.UnknownConnection ⊎ IsErrOf result SessionFault.Ended →
+            (self.new ≡ self.old) × (replies.new ≡ replies.old) × (audit.new ≡ audit.old) }
+        ensures fault { IsAlive (at conn self.old) → IfErr result (EndsWith (A.failed audit.new) (W.failed replies.new)) }
+        ensures used { IfOk result (λ taken. taken.used ≤ length piece.now) }
+        ensures feeds { IfSome (at conn self.old) (λ was. was.ended ≡ false → IsFed conn was self.old self.new (is_err result)
+            (λ old new from to. FeedsSome (record { addr = was.addr; moment = moment }) piece.now (Some room) result old new from to
+            (device (A.contents audit.old) (A.contents audit.new)) (device (W.contents replies.old) (W.contents replies.new)))) }
+        ensures others { OthersStay conn self.old self.new }
+        ensures setup { self.new.server.setup ≡ self.old.server.setup }
+    {
+        self.take(conn, moment, piece, Some(room), replies, audit)
+    }
+
+    // The same, where there may be room for any replies.
+    fn take<W: ByteOut, A: ByteOut>(
+        &mut self,
+        conn: u32,
+        moment: Moment,
+        piece: &[u8],
+        room: Option<usize>,
+        replies: &mut W,
+        audit: &mut A,
+    ) -> Result<Taken, SessionFault>
+        ensures unknown { IsErrOf result SessionFault.UnknownConnection ↔ IsNone (at conn self.old) }
+        ensures ended { IsErrOf result SessionFault.Ended ↔ (has_ended (at conn self.old) ≡ true) }
+        ensures idle { IsErrOf result SessionFault.UnknownConnection ⊎ IsErrOf result SessionFault.Ended →
+            (self.new ≡ self.old) × (replies.new ≡ replies.old) × (audit.new ≡ audit.old) }
+        ensures fault { IsAlive (at conn self.old) → IfErr result (EndsWith (A.failed audit.new) (W.failed replies.new)) }
+        ensures used { IfOk result (λ taken. taken.used ≤ length piece.now) }
+        ensures feeds { IfSome (at conn self.old) (λ was. was.ended ≡ false → IsFed conn was self.old self.new (is_err result)
+            (λ old new from to. FeedsSome (record { addr = was.addr; moment = moment }) piece.now room result old new from to
+            (device (A.contents audit.old) (A.contents audit.new)) (device (W.contents replies.old) (W.contents replies.new)))) }
+        ensures others { OthersStay conn self.old self.new }
+        ensures setup { self.new.server.setup ≡ self.old.server.setup }
+    {
+        match self.connections.get_mut(&conn) {
+            Some(connection) => {
+                let (server, reply) = (&mut self.server, &mut self.reply);
+                connection.feed(server, reply, moment, piece, room, replies, audit)
+            }
             None => Err(SessionFault::UnknownConnection),
         }
     }

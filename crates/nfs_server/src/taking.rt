@@ -2,7 +2,7 @@
 ghost use Rattle.std.specs.Prelude.{◌≡◌, ◌<◌, ◌≤◌, length, IfOk, IfErr, OnOk, OnErr, IsTrue, Some, true};
 ghost use Rattle.nfs_server.specs.AuditLines.{line_text};
 ghost use Rattle.nfs_server.specs.Connections.{IsBetween};
-ghost use Rattle.nfs_server.specs.Feeding.{device, event_at};
+ghost use Rattle.nfs_server.specs.Feeding.{device, event_at, EndsWith};
 ghost use Rattle.nfs_server.specs.Seen.{event_of, told};
 ghost use Rattle.nfs_server.specs.Taking.{Answers, BeginsAnew, FeedsOne, FeedsSome, Writes};
 ghost use Rattle.nfs_server.specs.Taking.{room_after as room_behind};
@@ -65,9 +65,10 @@ pub(crate) fn take_piece<W: ByteOut, A: ByteOut>(
     ensures between { OnOk result (IsBetween framer.new) }
     ensures limit { framer.new.limit ≡ framer.old.limit }
     ensures setup { server.new.setup ≡ server.old.setup }
+    ensures fault { IfErr result (EndsWith (A.failed audit.new) (W.failed replies.new)) }
     ensures feeds { FeedsSome origin piece.now room result server.old server.new framer.old framer.new
-        (device (A.contents audit.old) (A.contents audit.new) (A.failed audit.new))
-        (device (W.contents replies.old) (W.contents replies.new) (W.failed replies.new)) }
+        (device (A.contents audit.old) (A.contents audit.new))
+        (device (W.contents replies.old) (W.contents replies.new)) }
 {
     let mut used = 0;
     let mut records = 0;
@@ -133,9 +134,10 @@ fn take_record<W: ByteOut, A: ByteOut>(
     ensures between { OnOk result (IsBetween framer.new) }
     ensures limit { framer.new.limit ≡ framer.old.limit }
     ensures setup { server.new.setup ≡ server.old.setup }
+    ensures fault { IfErr result (EndsWith (A.failed audit.new) (W.failed replies.new)) }
     ensures feeds { FeedsOne origin piece.now result server.old server.new framer.old framer.new
-        (device (A.contents audit.old) (A.contents audit.new) (A.failed audit.new))
-        (device (W.contents replies.old) (W.contents replies.new) (W.failed replies.new)) }
+        (device (A.contents audit.old) (A.contents audit.new))
+        (device (W.contents replies.old) (W.contents replies.new)) }
 {
     let fed = framer.feed(piece)?;
     if !fed.ready {
@@ -168,9 +170,10 @@ fn answer_record<W: ByteOut, A: ByteOut>(
     ensures next { BeginsAnew framer.new }
     ensures limit { framer.new.limit ≡ framer.old.limit }
     ensures setup { server.new.setup ≡ server.old.setup }
+    ensures fault { IfErr result (EndsWith (A.failed audit.new) (W.failed replies.new)) }
     ensures answers { Answers (event_at origin framer.old.content) result server.old server.new
-        (device (A.contents audit.old) (A.contents audit.new) (A.failed audit.new))
-        (device (W.contents replies.old) (W.contents replies.new) (W.failed replies.new)) }
+        (device (A.contents audit.old) (A.contents audit.new))
+        (device (W.contents replies.old) (W.contents replies.new)) }
 {
     let event = Event {
         addr: origin.addr,
@@ -192,9 +195,10 @@ fn answer_event<W: ByteOut, A: ByteOut>(
     audit: &mut A,
 ) -> Result<usize, SessionFault>
     ensures setup { server.new.setup ≡ server.old.setup }
+    ensures fault { IfErr result (EndsWith (A.failed audit.new) (W.failed replies.new)) }
     ensures answers { Answers (event_of event.entry) result server.old server.new
-        (device (A.contents audit.old) (A.contents audit.new) (A.failed audit.new))
-        (device (W.contents replies.old) (W.contents replies.new) (W.failed replies.new)) }
+        (device (A.contents audit.old) (A.contents audit.new))
+        (device (W.contents replies.old) (W.contents replies.new)) }
 {
     match server.handle(event, reply) {
         Handled::Answered => write_answer(server.last_audit(), reply, replies, audit),
@@ -210,9 +214,10 @@ fn write_answer<W: ByteOut, A: ByteOut>(
     replies: &mut W,
     audit: &mut A,
 ) -> Result<usize, SessionFault>
-    ensures { Writes (told reply.now denied) result
-        (device (A.contents audit.old) (A.contents audit.new) (A.failed audit.new))
-        (device (W.contents replies.old) (W.contents replies.new) (W.failed replies.new)) }
+    ensures fault { IfErr result (EndsWith (A.failed audit.new) (W.failed replies.new)) }
+    ensures writes { Writes (told reply.now denied) result
+        (device (A.contents audit.old) (A.contents audit.new))
+        (device (W.contents replies.old) (W.contents replies.new)) }
 {
     if let Some(denied) = denied {
         write_line(&denied, audit)?;

@@ -13,7 +13,7 @@ loop-used-init g c =
       between = c.requires;
       limit = refl;
       setup = refl;
-      feeds = feeds_none _ c.args.origin c.args.server.now c.args.framer.now c.args.framer.now _ _ _ _ (covered_none c.args.room) [] c.requires moves;
+      feeds = feeds_none _ c.args.origin c.args.server.now c.args.framer.now c.args.framer.now _ _ (covered_none c.args.room) [] c.requires moves;
     }
 
 pub loop-used-preserved : goal.loop-used-preserved
@@ -25,15 +25,15 @@ loop-used-preserved g c =
       between = c.in-Ok.ensures.between;
       limit = c.in-Ok.ensures.limit ∙ inv.limit;
       setup = c.in-Ok.ensures.setup ∙ inv.setup;
-      feeds = steps_on c.args.origin c.args.piece.now c.args.room c.loop-used.left c.loop-used.used c.loop-used.records c.args.server.now c.loop-used.server c.args.framer.now c.loop-used.framer _ _ _ _ (g.A.ByteOut.failed c.loop-used.audit) (g.W.ByteOut.failed c.loop-used.replies) inv.feeds
-          c.take_record.new.server c.take_record.new.framer _ _ (g.A.ByteOut.failed c.take_record.new.audit) (g.W.ByteOut.failed c.take_record.new.replies) c.in-Ok.ensures.limit c.in-Ok.step c.room_after-left.result c.room_after-left.ensures c.in-Ok.ensures.feeds;
+      feeds = steps_on c.args.origin c.args.piece.now c.args.room c.loop-used.left c.loop-used.used c.loop-used.records c.args.server.now c.loop-used.server c.args.framer.now c.loop-used.framer _ _ _ _ inv.feeds
+          c.take_record.new.server c.take_record.new.framer _ _ c.in-Ok.ensures.limit c.in-Ok.step c.room_after-left.result c.room_after-left.ensures c.in-Ok.ensures.feeds;
     }
 
 pub returns-in-Err-clause-feeds : goal.returns-in-Err-clause-feeds
 returns-in-Err-clause-feeds g c =
-    stops_on c.args.origin c.args.piece.now c.args.room c.loop-used.left c.loop-used.used c.loop-used.records c.args.server.now c.loop-used.server c.args.framer.now c.loop-used.framer _ _ _ _ (g.A.ByteOut.failed c.loop-used.audit) (g.W.ByteOut.failed c.loop-used.replies) c.loop-used.invariant.feeds
-    c.take_record.new.server c.take_record.new.framer _ _ _ _ c.in-Err.ensures.limit c.in-Err.fault c.in-Err.ensures.feeds
+    stops_on c.args.origin c.args.piece.now c.args.room c.loop-used.left c.loop-used.used c.loop-used.records c.args.server.now c.loop-used.server c.args.framer.now c.loop-used.framer _ _ _ _ c.loop-used.invariant.feeds
+    c.take_record.new.server c.take_record.new.framer _ _ c.in-Err.ensures.limit c.in-Err.fault c.in-Err.ensures.feeds
 
 pub returns-else-not-is_used_up-clause-feeds : goal.returns-else-not-is_used_up-clause-feeds
-returns-else-not-is_used_up-clause-feeds g c = ends_here c.args.origin c.args.piece.now c.args.room c.loop-used.left c.loop-used.used c.loop-used.records c.args.server.now c.loop-used.server c.args.framer.now c.loop-used.framer _ _ _ _ (g.A.ByteOut.failed c.loop-used.audit) (g.W.ByteOut.failed c.loop-used.replies) c.loop-used.invariant.feeds
+returns-else-not-is_used_up-clause-feeds g c = ends_here c.args.origin c.args.piece.now c.args.room c.loop-used.left c.loop-used.used c.loop-used.records c.args.server.now c.loop-used.server c.args.framer.now c.loop-used.framer _ _ _ _ c.loop-used.invariant.feeds
     (λ more. search rules)

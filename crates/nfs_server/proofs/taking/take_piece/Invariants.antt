@@ -12,8 +12,8 @@ invariant-loop-used g l = record {
   limit : l.framer.limit ≡ l.fn.framer.limit;
   setup : l.server.setup ≡ l.fn.server.setup;
   feeds : FeedsWith (λ done. IsCovered l.fn.room l.left (length (replies_of done))) l.origin (take l.used l.piece) (Ok l.records) l.fn.server l.server l.fn.framer l.framer
-      (device (g.A.ByteOut.contents l.fn.audit) (g.A.ByteOut.contents l.audit) (g.A.ByteOut.failed l.audit))
-      (device (g.W.ByteOut.contents l.fn.replies) (g.W.ByteOut.contents l.replies) (g.W.ByteOut.failed l.replies));
+      (device (g.A.ByteOut.contents l.fn.audit) (g.A.ByteOut.contents l.audit))
+      (device (g.W.ByteOut.contents l.fn.replies) (g.W.ByteOut.contents l.replies));
 }
 
 abbrev pub decreases-loop-used : goal.decreases-loop-used
