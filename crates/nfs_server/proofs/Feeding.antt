@@ -16,7 +16,7 @@ use Rattle.nfs_server.specs.declared.taking.Origin.{Origin}
 use Rattle.nfs_xdr.specs.Known.{Grows}
 use Rattle.nfs_xdr.proofs.Knowing.{Grows-then}
 
-records_append : (bytes : List ℕ) (records others : List (List ℕ)) (rest left : List ℕ) → AreRecords bytes records rest → AreRecords rest others left → AreRecords bytes (records ++ others) left
+pub records_append : (bytes : List ℕ) (records others : List (List ℕ)) (rest left : List ℕ) → AreRecords bytes records rest → AreRecords rest others left → AreRecords bytes (records ++ others) left
 records_append bytes [] others rest left r s = subst (λ t. AreRecords t others left) r s
 records_append bytes (content ∷ records) others rest left r s = (r.0, r.1, records_append r.0 records others rest left r.2 s)
 

@@ -10,3 +10,4 @@ pub mod Feeding
 pub mod OneRecord
 pub mod PieceByPiece
 pub mod Connected
+pub mod Together

@@ -13,4 +13,5 @@ pub mod Forward
 pub mod Connections
 pub mod Feeding
 pub mod Taking
+pub mod Together
 pub mod Cases
