@@ -1,5 +1,5 @@
 -- What a feed does to the connections of a server.
-use Rattle.std.proofs.Common.{◌≡◌, ℕ, ◌≤◌, ◌<◌, ◌⊎◌, inl, inr, ◌↔◌, Bool, true, false, List, ◌++◌, take, length, Option, Some, None, IfSome, IfErr, Result, Ok, Err, nat_eq, refl, sym, ap, subst, ◌∙◌, arith}
+use Rattle.std.proofs.Common.{◌≡◌, ℕ, ◌≤◌, ◌⊎◌, inl, inr, ◌↔◌, Bool, true, false, List, ◌++◌, length, Option, Some, None, IfSome, IfErr, Result, Ok, Err, nat_eq, refl, sym, ap, subst, ◌∙◌, arith}
 use Rattle.std.specs.Map.{lookup, set_value}
 use Rattle.std.proofs.lemmas.List.{take_all}
 use Rattle.std.proofs.lemmas.Map.Steps.{set_value_same}

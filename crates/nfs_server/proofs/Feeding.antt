@@ -1,12 +1,12 @@
 -- What is fed in two pieces, one after the other, is fed in one.
-use Rattle.std.proofs.Common.{◌≡◌, ℕ, ◌+◌, ◌≤◌, List, [], ◌∷◌, ◌++◌, map, reverse, take, length, Option, Result, Ok, Err, refl, sym, ap, subst, ◌∙◌, append_assoc, append-nil, arith}
+use Rattle.std.proofs.Common.{◌≡◌, ℕ, ◌+◌, ◌≤◌, List, [], ◌∷◌, ◌++◌, map, reverse, take, length, Option, Result, Ok, Err, sym, ap, subst, ◌∙◌, append_assoc, append-nil, arith}
 use Rattle.std.specs.List.{AllByRecursion}
 use Rattle.std.proofs.lemmas.List.{map-append, reverse-append, length-append}
-use Rattle.nfs_rpc.specs.Progress.{Progress, Unfinished}
+use Rattle.nfs_rpc.specs.Progress.{Progress}
 use Rattle.nfs_rpc.specs.Records.{AreRecords}
 use Rattle.nfs_rpc.proofs.Streams.{records_grow}
 use Rattle.nfs_server.specs.Events.{Done}
-use Rattle.nfs_server.specs.Feeding.{Device, device, BreaksOff, WritesAll, AuditBreaks, ReplyBreaks, Serves, Ends, Brings, line_bytes, sealed, lines_of, replies_of, event_at}
+use Rattle.nfs_server.specs.Feeding.{device, BreaksOff, WritesAll, Serves, Ends, line_bytes, sealed, lines_of, replies_of, event_at}
 use Rattle.nfs_server.specs.Fits.{Held, Past, Fits}
 use Rattle.nfs_server.specs.Runs.{longer}
 use Rattle.nfs_server.specs.Taking.{FeedsWith}

@@ -1,5 +1,5 @@
 -- What one step does to a connection.
-use Rattle.std.proofs.Common.{◌≡◌, ◌≢◌, ℕ, ◌+◌, ◌≤◌, ◌<◌, Bool, true, false, List, [], ◌∷◌, ◌++◌, map, reverse, take, drop, length, Option, Some, None, Result, Ok, Err, IfOk, IfErr, IsErrAnd, refl, sym, ap, subst, ◌∙◌, append_assoc, append-nil, arith}
+use Rattle.std.proofs.Common.{◌≡◌, ◌≢◌, ℕ, ◌≤◌, Bool, List, [], ◌∷◌, ◌++◌, take, drop, length, Option, Some, Result, Ok, Err, IfErr, IsErrAnd, refl, sym, ap, subst, ◌∙◌, append_assoc, append-nil, arith}
 use Rattle.std.proofs.lemmas.List.{take-append-drop}
 use Rattle.nfs_rpc.specs.Progress.{Progress, Leads, Unfinished, Moves, BringsTooLong, AsksForRoom, StageTells}
 use Rattle.nfs_rpc.specs.declared.framer.Stage.{Stage}
@@ -11,7 +11,7 @@ use Rattle.nfs_rpc.proofs.Streams.{unfinished_tells}
 use Rattle.nfs_server.proofs.Going.{Handles}
 use Rattle.nfs_server.specs.Connections.{IsBetween, session_fault}
 use Rattle.nfs_server.specs.Events.{Event, Answer, Done, silence}
-use Rattle.nfs_server.specs.Feeding.{Device, device, BreaksOff, WritesAll, Serves, IsLeft, Ends, Brings, line_bytes, sealed, lines_of, replies_of, event_at, EndsWith}
+use Rattle.nfs_server.specs.Feeding.{Device, device, WritesAll, Serves, IsLeft, Ends, replies_of, event_at, EndsWith}
 use Rattle.nfs_server.specs.Fits.{Held, Past, Fits}
 use Rattle.nfs_server.specs.Runs.{longer}
 use Rattle.nfs_server.specs.Taking.{Answers, BeginsAnew, FeedsWith, Writes}

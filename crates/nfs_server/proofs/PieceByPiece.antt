@@ -1,15 +1,14 @@
 -- A piece is taken record by record.
-use Rattle.std.proofs.Common.{◌≡◌, ℕ, ◌+◌, ◌-◌, ◌≤◌, ◌<◌, List, [], ◌∷◌, ◌++◌, take, drop, length, Option, Some, None, Result, Ok, Err, refl, sym, ap, subst, ◌∙◌, arith}
-use Rattle.std.proofs.lemmas.List.{length-append, take-append-drop, take_rest, take_all}
+use Rattle.std.proofs.Common.{◌≡◌, ℕ, ◌+◌, ◌-◌, ◌≤◌, ◌<◌, List, ◌++◌, take, drop, length, Option, Some, None, Ok, Err, refl, sym, ap, subst, ◌∙◌, arith}
+use Rattle.std.proofs.lemmas.List.{length-append, take-append-drop, take_rest}
 use Rattle.nfs_rpc.specs.Progress.{Progress}
 use Rattle.nfs_server.specs.Events.{Done}
-use Rattle.nfs_server.specs.Feeding.{Device, device, replies_of}
+use Rattle.nfs_server.specs.Feeding.{device, replies_of}
 use Rattle.nfs_server.specs.Fits.{Held}
 use Rattle.nfs_server.specs.Taking.{FeedsWith, FeedsOne, FeedsSome, IsCovered, AreFull, Stops, room_after}
 use Rattle.nfs_server.specs.declared.session_fault.SessionFault.{SessionFault}
 use Rattle.nfs_server.specs.declared.taking.Origin.{Origin}
 use Rattle.nfs_server.specs.declared.taking.Step.{Step}
-use Rattle.nfs_server.specs.declared.taking.Taken.{Taken}
 use Rattle.nfs_server.proofs.Feeding.{replies_append, feeds_on}
 use Rattle.nfs_xdr.proofs.Knowing.{taken_on}
 

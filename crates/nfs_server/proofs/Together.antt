@@ -6,10 +6,10 @@ use Rattle.nfs_rpc.specs.Progress.{Progress, Unfinished}
 use Rattle.nfs_rpc.specs.Records.{AreRecords}
 use Rattle.nfs_rpc.proofs.Streams.{records_grow}
 use Rattle.nfs_server.specs.Events.{Event, Done}
-use Rattle.nfs_server.specs.Feeding.{Device, device, Brings, Ends, event_at, replies_of}
+use Rattle.nfs_server.specs.Feeding.{device, Brings, event_at, replies_of}
 use Rattle.nfs_server.specs.Fits.{Held, Past, Fits}
 use Rattle.nfs_server.specs.Runs.{longer}
-use Rattle.nfs_server.specs.Together.{Feed, Stand, IsOneFeed, IsUnbroken, AreFeeds, all_events, own_events, own_bytes, IsServed, AreTogether, FeedsAreOnePast}
+use Rattle.nfs_server.specs.Together.{Feed, Stand, IsOneFeed, IsUnbroken, all_events, own_events, own_bytes, IsServed, AreTogether, FeedsAreOnePast}
 use Rattle.nfs_server.specs.declared.session_fault.SessionFault.{SessionFault}
 use Rattle.nfs_server.specs.declared.taking.Origin.{Origin}
 use Rattle.nfs_server.proofs.Feeding.{records_append, replies_append}

@@ -1,5 +1,5 @@
 -- The connections of a server.
-use Rattle.std.specs.Prelude.{◌≡◌, ◌≢◌, ℕ, Bool, true, false, List, [], Option, None, Some, nat_eq}
+use Rattle.std.specs.Prelude.{◌≡◌, ◌≢◌, ℕ, Bool, false, List, [], Option, None, Some, nat_eq}
 use Rattle.std.specs.Map.{lookup}
 use Rattle.nfs_rpc.specs.Progress.{Progress, Unfinished}
 use Rattle.nfs_rpc.specs.declared.framer.Stage.TheVariants.{Ready, Failed}

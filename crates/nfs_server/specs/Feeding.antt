@@ -1,10 +1,10 @@
 -- What bytes of a connection's stream bring: the answers to the records that they make whole.
-use Rattle.std.specs.Prelude.{◌≡◌, ◌≢◌, ℕ, ◌≤◌, Bool, true, List, [], ◌∷◌, ◌++◌, map, reverse, take, length, Option, None, Some, Result, Ok, Err}
+use Rattle.std.specs.Prelude.{◌≡◌, ℕ, ◌≤◌, Bool, true, List, [], ◌∷◌, ◌++◌, map, reverse, take, length, Option, None, Some, Result, Ok, Err}
 use Rattle.std.specs.List.{AllByRecursion}
 use Rattle.nfs_rpc.specs.Progress.{Progress, Unfinished, IsWithin}
 use Rattle.nfs_rpc.specs.Records.{fragment, IsRecord, AreRecords, ReachesTooLong, ReachesWithin}
 use Rattle.nfs_server.specs.AuditLines.{line_text}
-use Rattle.nfs_server.specs.Events.{Event, Answer, Done}
+use Rattle.nfs_server.specs.Events.{Event, Done}
 use Rattle.nfs_server.specs.Fits.{Held, Past, Fits}
 use Rattle.nfs_server.specs.Runs.{longer}
 use Rattle.nfs_server.specs.declared.audit_line.AuditLine.{AuditLine}

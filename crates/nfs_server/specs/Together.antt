@@ -1,5 +1,5 @@
 -- What comes on several connections, in whatever order.
-use Rattle.std.specs.Prelude.{◌≡◌, ◌≢◌, ℕ, Bool, List, [], ◌∷◌, ◌++◌, map, reverse, Option, Result, IsOk, if◌then◌else◌, nat_eq}
+use Rattle.std.specs.Prelude.{◌≡◌, ◌≢◌, ℕ, List, [], ◌∷◌, ◌++◌, map, reverse, Option, Result, IsOk, if◌then◌else◌, nat_eq}
 use Rattle.nfs_rpc.specs.Progress.{Progress, Unfinished}
 use Rattle.nfs_rpc.specs.Records.{AreRecords}
 use Rattle.nfs_server.specs.Events.{Done}
