@@ -8,3 +8,8 @@ pub mod Mounted
 pub mod Judged
 pub mod Short
 pub mod Changes
+pub mod Feeding
+pub mod OneRecord
+pub mod PieceByPiece
+pub mod Connected
+pub mod Together

@@ -12,4 +12,7 @@ pub mod Keeping
 pub mod Runs
 pub mod Forward
 pub mod Connections
+pub mod Feeding
+pub mod Taking
+pub mod Together
 pub mod Cases

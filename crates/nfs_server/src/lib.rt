@@ -3,6 +3,7 @@
 
 pub mod arguments;
 pub mod audit_line;
+pub mod connection;
 pub mod event;
 pub mod laws;
 mod mount;
@@ -11,4 +12,6 @@ mod reply;
 pub mod reply_buf;
 pub mod rpc_rules;
 pub mod server;
+pub mod session_fault;
 pub mod sessions;
+pub mod taking;
