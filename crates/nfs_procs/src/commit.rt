@@ -11,34 +11,25 @@ ghost use Rattle.nfs_procs.specs.Readers as procedure;
 ghost use Rattle.nfs_procs.specs.Scenes.{scene};
 ghost use Rattle.nfs_xdr.specs.Written.{Appends};
 
+use crate::call::Call;
 use crate::denial::Denial;
 use crate::done::Done;
 use crate::limits::MAX_RESULT_BYTES;
 use crate::replies::{change, verifier_of, write_denied_change};
+use crate::subjects::subject_of;
 use nfs_args::byte_range::ByteRange;
 use nfs_args::committed::{Committed, write_committed};
 use nfs_attrs::fattr::Fattr;
-use nfs_attrs::moment::Moment;
-use nfs_exports::table::Table;
 use nfs_inodes::tree::Tree;
-use nfs_rules::caller::Caller;
-use nfs_rules::exported_file::ExportedFile;
 use nfs_rules::subject::Subject;
 use nfs_xdr::output::Output;
 
-pub(crate) fn commit(
-    tree: &Tree,
-    table: &Table,
-    caller: Caller<'_>,
-    now: Moment,
-    args: &ByteRange<'_>,
-    out: &mut Output,
-) -> Done
+pub(crate) fn commit(tree: &Tree, call: &Call<'_>, args: &ByteRange<'_>, out: &mut Output) -> Done
     requires { MAX_RESULT_BYTES ≤ out.old.room }
-    ensures { Performs (scene tree.now table.now caller.entry now (nfs.Commit args.now))
+    ensures { Performs (scene tree.now call.now (nfs.Commit args.now))
         (procedure.commit args.now) result tree.now out.old out.new }
 {
-    match decide(tree, table, caller, now, args) {
+    match decide(tree, call, args) {
         Ok(file) => {
             write_granted(out, tree, &file.attributes());
             Done::Granted
@@ -47,20 +38,11 @@ pub(crate) fn commit(
     }
 }
 
-fn decide<'a>(
-    tree: &'a Tree,
-    table: &'a Table,
-    caller: Caller<'a>,
-    now: Moment,
-    args: &ByteRange<'_>,
-) -> Result<Subject<'a>, Denial>
-    ensures { Decides (scene tree.entry.now table.entry.now caller.entry now (nfs.Commit args.now)) args.now.file
+fn decide<'a>(tree: &'a Tree, call: &Call<'a>, args: &ByteRange<'_>) -> Result<Subject<'a>, Denial>
+    ensures { Decides (scene tree.entry.now call.now (nfs.Commit args.now)) args.now.file
         (PlansReading tree.entry.now) result }
 {
-    let file = match ExportedFile::of(tree, table, caller, args.file.bytes()) {
-        Ok(file) => file.subject(),
-        Err(rule) => return Err(Denial::of_handle(rule)),
-    };
+    let file = subject_of(tree, call, &args.file)?;
     match file.not_regular() {
         Ok(()) => Ok(file),
         Err(rule) => Err(Denial::of_rule(&file, rule)),

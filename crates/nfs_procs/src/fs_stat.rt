@@ -10,39 +10,29 @@ ghost use Rattle.nfs_procs.specs.Readers as procedure;
 ghost use Rattle.nfs_procs.specs.Scenes.{scene};
 ghost use Rattle.nfs_xdr.specs.Written.{Appends};
 
-use crate::denial::Denial;
+use crate::call::Call;
 use crate::done::Done;
 use crate::limits::MAX_RESULT_BYTES;
 use crate::replies::write_denied_attributes;
+use crate::subjects::file_of;
 use nfs_args::opaque::Opaque;
 use nfs_args::room::{Room, Space, write_room};
 use nfs_attrs::fattr::Fattr;
-use nfs_attrs::moment::Moment;
-use nfs_exports::table::Table;
 use nfs_inodes::tree::Tree;
 use nfs_inodes::volumes::{Totals, VolumeView};
-use nfs_rules::caller::Caller;
-use nfs_rules::exported_file::ExportedFile;
 use nfs_xdr::output::Output;
 
-pub(crate) fn fs_stat(
-    tree: &Tree,
-    table: &Table,
-    caller: Caller<'_>,
-    now: Moment,
-    handle: &Opaque<'_>,
-    out: &mut Output,
-) -> Done
+pub(crate) fn fs_stat(tree: &Tree, call: &Call<'_>, handle: &Opaque<'_>, out: &mut Output) -> Done
     requires { MAX_RESULT_BYTES ≤ out.old.room }
-    ensures { Performs (scene tree.now table.now caller.entry now (nfs.FsStat handle.now))
+    ensures { Performs (scene tree.now call.now (nfs.FsStat handle.now))
         (procedure.fs_stat handle.now) result tree.now out.old out.new }
 {
-    match ExportedFile::of(tree, table, caller, handle.bytes()) {
+    match file_of(tree, call, handle) {
         Ok(file) => {
             write_granted(out, tree, &file.attributes());
             Done::Granted
         }
-        Err(rule) => write_denied_attributes(out, &Denial::of_handle(rule)),
+        Err(denial) => write_denied_attributes(out, &denial),
     }
 }
 

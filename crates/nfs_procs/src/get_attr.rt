@@ -9,38 +9,29 @@ ghost use Rattle.nfs_procs.specs.Scenes.{scene};
 ghost use Rattle.nfs_rules.specs.Rules.{status_of};
 ghost use Rattle.nfs_xdr.specs.Written.{Appends};
 
+use crate::call::Call;
 use crate::done::Done;
 use crate::limits::MAX_RESULT_BYTES;
+use crate::subjects::file_of;
 use nfs_args::opaque::Opaque;
 use nfs_attrs::fattr::{Fattr, write_fattr};
-use nfs_attrs::moment::Moment;
-use nfs_exports::table::Table;
 use nfs_inodes::tree::Tree;
-use nfs_rules::caller::Caller;
-use nfs_rules::exported_file::ExportedFile;
 use nfs_rules::rule::Rule;
 use nfs_xdr::output::Output;
 
-pub(crate) fn get_attr(
-    tree: &Tree,
-    table: &Table,
-    caller: Caller<'_>,
-    now: Moment,
-    handle: &Opaque<'_>,
-    out: &mut Output,
-) -> Done
+pub(crate) fn get_attr(tree: &Tree, call: &Call<'_>, handle: &Opaque<'_>, out: &mut Output) -> Done
     requires { MAX_RESULT_BYTES ≤ out.old.room }
-    ensures { Performs (scene tree.now table.now caller.entry now
+    ensures { Performs (scene tree.now call.now
         (nfs.GetAttr handle.now)) procedure.get_attr result tree.now out.old out.new }
 {
-    match ExportedFile::of(tree, table, caller, handle.bytes()) {
+    match file_of(tree, call, handle) {
         Ok(file) => {
             write_granted(out, &file.attributes());
             Done::Granted
         }
-        Err(rule) => {
-            write_denied(out, rule);
-            Done::Denied(rule, None)
+        Err(denial) => {
+            write_denied(out, denial.rule);
+            Done::Denied(denial.rule, denial.uid)
         }
     }
 }

@@ -12,36 +12,27 @@ ghost use Rattle.nfs_procs.specs.Readers as procedure;
 ghost use Rattle.nfs_procs.specs.Scenes.{scene};
 ghost use Rattle.nfs_xdr.specs.Written.{Appends};
 
+use crate::call::Call;
 use crate::denial::Denial;
 use crate::done::Done;
 use crate::limits::{COOKIE_VERIFIER, MAX_RESULT_BYTES};
 use crate::replies::write_denied_attributes;
+use crate::subjects::subject_of;
 use nfs_args::page::write_page_head;
 use nfs_args::read_dir::ReadDir;
-use nfs_attrs::moment::Moment;
 use nfs_dirs::read_dir::page;
-use nfs_exports::table::Table;
 use nfs_inodes::tree::Tree;
 use nfs_inodes::view::FileView;
-use nfs_rules::caller::Caller;
-use nfs_rules::exported_file::ExportedFile;
 use nfs_rules::subject::Subject;
 use nfs_rules::table::read_dir_rules;
 use nfs_xdr::output::Output;
 
-pub(crate) fn read_dir(
-    tree: &Tree,
-    table: &Table,
-    caller: Caller<'_>,
-    now: Moment,
-    args: &ReadDir<'_>,
-    out: &mut Output,
-) -> Done
+pub(crate) fn read_dir(tree: &Tree, call: &Call<'_>, args: &ReadDir<'_>, out: &mut Output) -> Done
     requires { MAX_RESULT_BYTES ≤ out.old.room }
-    ensures { Performs (scene tree.now table.now caller.entry now (nfs.ReadDir args.now))
+    ensures { Performs (scene tree.now call.now (nfs.ReadDir args.now))
         (procedure.read_dir args.now) result tree.now out.old out.new }
 {
-    match decide(tree, table, caller, now, args) {
+    match decide(tree, call, args) {
         Ok(dir) => {
             write_granted(out, tree, dir.view(), args.cookie, args.count);
             Done::Granted
@@ -50,20 +41,11 @@ pub(crate) fn read_dir(
     }
 }
 
-fn decide<'a>(
-    tree: &'a Tree,
-    table: &'a Table,
-    caller: Caller<'a>,
-    now: Moment,
-    args: &ReadDir<'_>,
-) -> Result<Subject<'a>, Denial>
-    ensures { Decides (scene tree.entry.now table.entry.now caller.entry now (nfs.ReadDir args.now)) args.now.dir
+fn decide<'a>(tree: &'a Tree, call: &Call<'a>, args: &ReadDir<'_>) -> Result<Subject<'a>, Denial>
+    ensures { Decides (scene tree.entry.now call.now (nfs.ReadDir args.now)) args.now.dir
         (PlansPage tree.entry.now args.now) result }
 {
-    let dir = match ExportedFile::of(tree, table, caller, args.dir.bytes()) {
-        Ok(dir) => dir.subject(),
-        Err(rule) => return Err(Denial::of_handle(rule)),
-    };
+    let dir = subject_of(tree, call, &args.dir)?;
     match read_dir_rules(&dir, args) {
         Ok(()) => Ok(dir),
         Err(rule) => Err(Denial::of_rule(&dir, rule)),

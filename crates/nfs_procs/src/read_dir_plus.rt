@@ -12,36 +12,32 @@ ghost use Rattle.nfs_procs.specs.Readers as procedure;
 ghost use Rattle.nfs_procs.specs.Scenes.{scene};
 ghost use Rattle.nfs_xdr.specs.Written.{Appends};
 
+use crate::call::Call;
 use crate::denial::Denial;
 use crate::done::Done;
 use crate::limits::{COOKIE_VERIFIER, MAX_RESULT_BYTES};
 use crate::replies::write_denied_attributes;
+use crate::subjects::subject_of;
 use nfs_args::page::write_page_head;
 use nfs_args::read_dir::ReadDirPlus;
-use nfs_attrs::moment::Moment;
 use nfs_dirs::read_dir_plus::page_plus;
-use nfs_exports::table::Table;
 use nfs_inodes::tree::Tree;
 use nfs_inodes::view::FileView;
-use nfs_rules::caller::Caller;
-use nfs_rules::exported_file::ExportedFile;
 use nfs_rules::subject::Subject;
 use nfs_rules::table::read_dir_plus_rules;
 use nfs_xdr::output::Output;
 
 pub(crate) fn read_dir_plus(
     tree: &Tree,
-    table: &Table,
-    caller: Caller<'_>,
-    now: Moment,
+    call: &Call<'_>,
     args: &ReadDirPlus<'_>,
     out: &mut Output,
 ) -> Done
     requires { MAX_RESULT_BYTES ≤ out.old.room }
-    ensures { Performs (scene tree.now table.now caller.entry now (nfs.ReadDirPlus args.now))
+    ensures { Performs (scene tree.now call.now (nfs.ReadDirPlus args.now))
         (procedure.read_dir_plus args.now) result tree.now out.old out.new }
 {
-    match decide(tree, table, caller, now, args) {
+    match decide(tree, call, args) {
         Ok(dir) => {
             write_granted(out, tree, dir.view(), dir.may_search(), args);
             Done::Granted
@@ -52,18 +48,13 @@ pub(crate) fn read_dir_plus(
 
 fn decide<'a>(
     tree: &'a Tree,
-    table: &'a Table,
-    caller: Caller<'a>,
-    now: Moment,
+    call: &Call<'a>,
     args: &ReadDirPlus<'_>,
 ) -> Result<Subject<'a>, Denial>
-    ensures { Decides (scene tree.entry.now table.entry.now caller.entry now (nfs.ReadDirPlus args.now)) args.now.dir
+    ensures { Decides (scene tree.entry.now call.now (nfs.ReadDirPlus args.now)) args.now.dir
         (PlansPagePlus tree.entry.now args.now) result }
 {
-    let dir = match ExportedFile::of(tree, table, caller, args.dir.bytes()) {
-        Ok(dir) => dir.subject(),
-        Err(rule) => return Err(Denial::of_handle(rule)),
-    };
+    let dir = subject_of(tree, call, &args.dir)?;
     match read_dir_plus_rules(&dir, args) {
         Ok(()) => Ok(dir),
         Err(rule) => Err(Denial::of_rule(&dir, rule)),

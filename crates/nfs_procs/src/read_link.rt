@@ -12,35 +12,26 @@ ghost use Rattle.nfs_procs.specs.Readers as procedure;
 ghost use Rattle.nfs_procs.specs.Scenes.{scene};
 ghost use Rattle.nfs_xdr.specs.Written.{Appends};
 
+use crate::call::Call;
 use crate::denial::Denial;
 use crate::done::Done;
 use crate::limits::MAX_RESULT_BYTES;
 use crate::replies::write_denied_attributes;
+use crate::subjects::subject_of;
 use nfs_args::link_path::{LinkPath, write_link_path};
 use nfs_args::opaque::Opaque;
 use nfs_attrs::fattr::Fattr;
-use nfs_attrs::moment::Moment;
-use nfs_exports::table::Table;
 use nfs_handles::number::Number;
 use nfs_inodes::tree::Tree;
-use nfs_rules::caller::Caller;
-use nfs_rules::exported_file::ExportedFile;
 use nfs_rules::subject::Subject;
 use nfs_xdr::output::Output;
 
-pub(crate) fn read_link(
-    tree: &Tree,
-    table: &Table,
-    caller: Caller<'_>,
-    now: Moment,
-    handle: &Opaque<'_>,
-    out: &mut Output,
-) -> Done
+pub(crate) fn read_link(tree: &Tree, call: &Call<'_>, handle: &Opaque<'_>, out: &mut Output) -> Done
     requires { MAX_RESULT_BYTES ≤ out.old.room }
-    ensures { Performs (scene tree.now table.now caller.entry now (nfs.ReadLink handle.now))
+    ensures { Performs (scene tree.now call.now (nfs.ReadLink handle.now))
         (procedure.read_link handle.now) result tree.now out.old out.new }
 {
-    match decide(tree, table, caller, now, handle) {
+    match decide(tree, call, handle) {
         Ok(file) => {
             write_granted(out, tree, &file.attributes());
             Done::Granted
@@ -49,20 +40,11 @@ pub(crate) fn read_link(
     }
 }
 
-fn decide<'a>(
-    tree: &'a Tree,
-    table: &'a Table,
-    caller: Caller<'a>,
-    now: Moment,
-    handle: &Opaque<'_>,
-) -> Result<Subject<'a>, Denial>
-    ensures { Decides (scene tree.entry.now table.entry.now caller.entry now (nfs.ReadLink handle.now)) handle.now
+fn decide<'a>(tree: &'a Tree, call: &Call<'a>, handle: &Opaque<'_>) -> Result<Subject<'a>, Denial>
+    ensures { Decides (scene tree.entry.now call.now (nfs.ReadLink handle.now)) handle.now
         (PlansReading tree.entry.now) result }
 {
-    let file = match ExportedFile::of(tree, table, caller, handle.bytes()) {
-        Ok(file) => file.subject(),
-        Err(rule) => return Err(Denial::of_handle(rule)),
-    };
+    let file = subject_of(tree, call, handle)?;
     match file.not_link() {
         Ok(()) => Ok(file),
         Err(rule) => Err(Denial::of_rule(&file, rule)),
