@@ -24,7 +24,7 @@ use Rattle.nfs_inodes.specs.Limits.{max_file_bytes, max_name_bytes, max_links}
 use Rattle.nfs_inodes.specs.Reading.{bytes_at, numbered_files, path_at, totals_at}
 use Rattle.nfs_inodes.specs.Tree.{Tree, Volume, on_some}
 use Rattle.nfs_inodes.specs.declared.volumes.Totals.{Totals}
-use Rattle.nfs_procs.specs.Doing.{Doing, unchanged, no_change}
+use Rattle.nfs_procs.specs.Doing.{Doing, never, unchanged, no_change}
 use Rattle.nfs_rules.specs.Rights.{access_bits, may}
 use Rattle.nfs_rules.specs.Rules.{status_of}
 use Rattle.nfs_rules.specs.Subjects.{Subject}
@@ -39,7 +39,7 @@ handle_in t f = on_some (handle_at (numbered_files t) f.fileid) [] (λ handle. h
 -- GETATTR: the attributes of the file
 abbrev pub get_attr : Doing
 get_attr = record {
-  takes_memory = false;
+  takes_memory = never;
   effect = unchanged;
   granted = λ file same new. answer.GetAttr (Ok file.file);
   denied = λ status seen. answer.GetAttr (Err (record { status = status; shown = tt }));
@@ -48,7 +48,7 @@ get_attr = record {
 -- LOOKUP: the file under the name
 abbrev pub lookup : DirOp → Doing
 lookup a = record {
-  takes_memory = false;
+  takes_memory = never;
   effect = unchanged;
   granted = λ dir same new. answer.Lookup (Ok (record { file = on_some (found dir a.name) [] (handle_in dir.tree); attributes = found dir a.name; dir = Some dir.file }));
   denied = λ status seen. answer.Lookup (Err (record { status = status; shown = seen a.dir }));
@@ -57,7 +57,7 @@ lookup a = record {
 -- ACCESS: the bits that are asked for and granted
 abbrev pub access : Access → Doing
 access a = record {
-  takes_memory = false;
+  takes_memory = never;
   effect = unchanged;
   granted = λ file same new. answer.Access (Ok (record { attributes = Some file.file; rights = access_bits file.options.read_only file.ids file.file a.rights }));
   denied = λ status seen. answer.Access (Err (record { status = status; shown = seen a.file }));
@@ -66,7 +66,7 @@ access a = record {
 -- READLINK: the link's path
 abbrev pub read_link : List ℕ → Doing
 read_link handle = record {
-  takes_memory = false;
+  takes_memory = never;
   effect = unchanged;
   granted = λ file same new. answer.ReadLink (Ok (record { attributes = Some file.file; path = on_some (path_at file.tree file.file.fileid) [] (λ path. path) }));
   denied = λ status seen. answer.ReadLink (Err (record { status = status; shown = seen handle }));
@@ -87,7 +87,7 @@ data_of f offset bytes = record { attributes = Some f; eof = nat_le f.size (offs
 -- READ
 abbrev pub read : ByteRange → Doing
 read a = record {
-  takes_memory = false;
+  takes_memory = never;
   effect = unchanged;
   granted = λ file same new. answer.Read (Ok (data_of file.file a.offset (read_bytes file a)));
   denied = λ status seen. answer.Read (Err (record { status = status; shown = seen a.file }));
@@ -105,7 +105,7 @@ page_at t f cookie count = record {
 -- READDIR
 abbrev pub read_dir : ReadDir → Doing
 read_dir a = record {
-  takes_memory = false;
+  takes_memory = never;
   effect = unchanged;
   granted = λ dir same new. answer.ReadDir (Ok (page_at dir.tree dir.file a.cookie a.count));
   denied = λ status seen. answer.ReadDir (Err (record { status = status; shown = seen a.dir }));
@@ -123,7 +123,7 @@ page_plus_at t f searchable cookie dircount maxcount = record {
 -- READDIRPLUS
 abbrev pub read_dir_plus : ReadDirPlus → Doing
 read_dir_plus a = record {
-  takes_memory = false;
+  takes_memory = never;
   effect = unchanged;
   granted = λ dir same new. answer.ReadDirPlus (Ok (page_plus_at dir.tree dir.file (may dir.ids dir.file Execute) a.cookie a.dircount a.maxcount));
   denied = λ status seen. answer.ReadDirPlus (Err (record { status = status; shown = seen a.dir }));
@@ -132,7 +132,7 @@ read_dir_plus a = record {
 -- MKNOD is never granted
 abbrev pub make_node : MakeNode → Doing
 make_node a = record {
-  takes_memory = false;
+  takes_memory = never;
   effect = unchanged;
   granted = λ dir same new. answer.MakeNode (Err (record { status = status_of NoMakeNode; shown = no_change (Some dir.file) }));
   denied = λ status seen. answer.MakeNode (Err (record { status = status; shown = no_change (seen a.place.dir) }));
@@ -154,7 +154,7 @@ room_in None totals f = record { attributes = Some f; bytes = no_space; files = 
 -- FSSTAT: the room of the file's volume
 abbrev pub fs_stat : List ℕ → Doing
 fs_stat handle = record {
-  takes_memory = false;
+  takes_memory = never;
   effect = unchanged;
   granted = λ file same new. answer.FsStat (Ok (room_in (slice_get file.tree.volumes (file.file.fsid - 1)) (totals_at file.tree (file.file.fsid - 1)) file.file));
   denied = λ status seen. answer.FsStat (Err (record { status = status; shown = seen handle }));
@@ -171,7 +171,7 @@ server_limits f = record { attributes = Some f; read = transfer; write = transfe
 -- FSINFO: what the server bears
 abbrev pub fs_info : List ℕ → Doing
 fs_info handle = record {
-  takes_memory = false;
+  takes_memory = never;
   effect = unchanged;
   granted = λ file same new. answer.FsInfo (Ok (server_limits file.file));
   denied = λ status seen. answer.FsInfo (Err (record { status = status; shown = seen handle }));
@@ -184,7 +184,7 @@ path_limits f = record { attributes = Some f; linkmax = max_links; name_max = ma
 -- PATHCONF: what names may be
 abbrev pub path_conf : List ℕ → Doing
 path_conf handle = record {
-  takes_memory = false;
+  takes_memory = never;
   effect = unchanged;
   granted = λ file same new. answer.PathConf (Ok (path_limits file.file));
   denied = λ status seen. answer.PathConf (Err (record { status = status; shown = seen handle }));
@@ -197,7 +197,7 @@ verifier_of t = from_be_bytes w64 t.key
 -- COMMIT: nothing is left to be made safe
 abbrev pub commit : ByteRange → Doing
 commit a = record {
-  takes_memory = false;
+  takes_memory = never;
   effect = unchanged;
   granted = λ file same new. answer.Commit (Ok (record { file = no_change (Some file.file); verifier = verifier_of file.tree }));
   denied = λ status seen. answer.Commit (Err (record { status = status; shown = no_change (seen a.file) }));

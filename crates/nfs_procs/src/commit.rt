@@ -42,7 +42,10 @@ fn decide<'a>(tree: &'a Tree, call: &Call<'a>, args: &ByteRange<'_>) -> Result<S
     ensures { Decides (scene tree.entry.now call.now (nfs.Commit args.now)) args.now.file
         (PlansReading tree.entry.now) result }
 {
-    let file = subject_of(tree, call, &args.file)?;
+    let file = match subject_of(tree, call, &args.file) {
+        Ok(file) => file,
+        Err(denial) => return Err(denial),
+    };
     match file.not_regular() {
         Ok(()) => Ok(file),
         Err(rule) => Err(Denial::of_rule(&file, rule)),

@@ -98,6 +98,6 @@ refused_done c (Some doing) came new before after call reply line e performs rep
     let h : HasNoMemory c doing new before after = subst (λ d. PerformsAs c (Some doing) d new before after) e performs in
     let choice : Choice = record { tag = 0; fits = omega arith; has_memory = false } in (
       choice,
-      subst (λ v. Decided v false c doing call 0 (told reply (Some line)) new) (sym h.verdict)
-          (record { takes = h.takes; new_is = h.new_is; answer_is = ap (λ r. denied r line) reply_is ∙ ap (denied (accepted_text call.xid SystemErr)) line_is }),
+      subst (λ v. Decided v false c doing call 0 (told reply (Some line)) new) (sym h.granted.verdict)
+          (record { one = h.one; two = h.two; subjects = h.granted.subjects; takes = h.takes; new_is = h.new_is; answer_is = ap (λ r. denied r line) reply_is ∙ ap (denied (accepted_text call.xid SystemErr)) line_is }),
     )

@@ -55,9 +55,12 @@ pub record HasDone (c : Scene) (doing : Doing) (call : Call) (tag : ℕ) (answer
   pub new_is : new ≡ doing.effect one two c.now tag
   pub answer_is : answer ≡ granted (success call (nfs_text (doing.granted one two new)))
 
--- Without memory a procedure that takes some is answered SYSTEM_ERR, and the tree stays.
+-- Without memory a call that takes some, by what the handles name, is answered SYSTEM_ERR, and the tree stays.
 pub record HasNone (c : Scene) (doing : Doing) (call : Call) (answer : Answer) (new : Tree) : Type 0 where
-  pub takes : doing.takes_memory ≡ true
+  pub one : Subject
+  pub two : Subject
+  pub subjects : subjects_in c ≡ Some (one, two)
+  pub takes : doing.takes_memory one two ≡ true
   pub new_is : new ≡ c.tree
   pub answer_is : answer ≡ denied (accepted_text call.xid SystemErr) (line_of c.caller.addr call reason.Memory)
 

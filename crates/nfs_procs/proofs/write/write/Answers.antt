@@ -3,7 +3,7 @@ use Rattle.std.specs.Int.{w64, from_be_bytes}
 use Rattle.std.specs.Prelude.{Some}
 use Rattle.nfs_args.specs.declared.args.NfsArgs.TheVariants as nfs
 use Rattle.nfs_inodes.specs.Changes.{after_write_at}
-use Rattle.nfs_procs.proofs.WrittenBytes.{wrote}
+use Rattle.nfs_procs.proofs.WrittenBytes.{wrote, unwritten}
 use Rattle.nfs_procs.specs.Doing.{change}
 use Rattle.nfs_procs.specs.Scenes.{scene}
 use Rattle.nfs_procs.proofs.write.write.Goals as goal
@@ -19,3 +19,11 @@ returns c =
     (ap length c.bytes-bytes.ensures)
     (c.from_be_bytes-verifier.ensures ∙ ap (from_be_bytes w64) c.key.ensures)
     c.write_granted.ensures
+
+-- where there is no memory
+pub returns-in_default : goal.returns-in_default
+returns-in_default c =
+    let a = c.args.args.now in
+    let plans = c.in-Ok.ensures in
+    unwritten (scene c.args.tree.now c.args.call.now (nfs.Write a)) a plans.0 c.in-Ok.file c.write_at.new.self c.bytes-bytes.result.now _ plans.1 plans.2 c.bytes-bytes.ensures
+    c.in_default.ensures.err c.in_default.ensures.full
