@@ -1,12 +1,13 @@
 -- What the rules of one handle, and those after them, tell of a call.
 use Rattle.std.proofs.Common.{◌≡◌, ℕ, true, false, List, [], ◌∷◌, ◌++◌, Option, Some, None, option_map, refl, sym, ap, subst, ◌∙◌}
+use Rattle.std.specs.Prelude.{Result, Ok, Err, IsErr, IsErrAnd}
 use Rattle.nfs_args.specs.declared.args.NfsArgs.{NfsArgs}
 use Rattle.nfs_attrs.specs.declared.fattr.Fattr.{Fattr}
 use Rattle.nfs_exports.specs.declared.options.Options.{Options}
 use Rattle.nfs_exports.specs.declared.table.Export.{Export}
 use Rattle.nfs_inodes.proofs.Lists.{same_some, not_both, if_true, if_false}
 use Rattle.nfs_inodes.specs.Tree.{Tree, on_some}
-use Rattle.nfs_procs.specs.Denials.{IsNamed, IsUnnamed, IsDenied}
+use Rattle.nfs_procs.specs.Denials.{IsNamed, IsUnnamed, IsDenied, Decides}
 use Rattle.nfs_procs.specs.Performing.{IsGranted}
 use Rattle.nfs_procs.specs.Scenes.{scene, verdict_in, subjects_in}
 use Rattle.nfs_procs.specs.declared.call.Call.{Call}
@@ -39,6 +40,12 @@ module _ (t : Tree) (call : Call) (args : NfsArgs) (h : List ℕ) (one : handles
     uid = is.uid ∙ ap (option_map (λ s. s.0.ids.uid)) (sym (subjects_one None is.none));
     shown = is.shown ∙ sym (ap (option_map (λ s. s.file)) is.none);
   }
+
+  -- and so it is where the denial is passed on
+  pub denied_through : {P : Type 0} (Plans : P → Subject → Type 0) (result : Result P Denial) (denial : Denial) → IsErr result × IsErrAnd result (λ e. e ≡ denial) → IsUnnamed t call h denial
+      → Decides (scene t call args) h Plans result
+  denied_through Plans (Ok plan) denial passed is = absurd passed.1
+  denied_through Plans (Err e) denial passed is = denied_by_handle e (subst (IsUnnamed t call h) (sym passed.1) is)
 
   pub denied_by_rule : (s : Subject) (rule : Rule) (denial : Denial) → IsNamed t call h s → first (rules_of s s args) ≡ Some rule
       → denial ≡ record { rule = rule; uid = Some s.ids.uid; shown = Some s.file } → IsDenied (scene t call args) h denial

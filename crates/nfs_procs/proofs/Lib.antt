@@ -11,3 +11,4 @@ pub mod WrittenBytes
 pub mod GivenSettings
 pub mod Creations
 pub mod Growth
+pub mod Rooms

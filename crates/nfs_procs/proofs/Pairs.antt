@@ -1,6 +1,6 @@
 -- What the rules of two handles, and those after them, tell of a call.
 use Rattle.std.proofs.Common.{◌≡◌, ℕ, List, [], ◌∷◌, ◌++◌, Option, Some, None, option_map, refl, sym, ap, subst, ◌∙◌}
-use Rattle.std.specs.Prelude.{Result, Ok, Err, nat_eq}
+use Rattle.std.specs.Prelude.{Result, Ok, Err, IsErr, IsErrAnd, nat_eq}
 use Rattle.std.proofs.lemmas.Bool.{eqb-true, eq-eqb}
 use Rattle.nfs_args.specs.declared.args.NfsArgs.{NfsArgs}
 use Rattle.nfs_attrs.specs.declared.fattr.Fattr.{Fattr}
@@ -9,7 +9,7 @@ use Rattle.nfs_inodes.specs.Law.{Law}
 use Rattle.nfs_inodes.specs.Reading.{attributes_at}
 use Rattle.nfs_inodes.specs.Tree.{Tree}
 use Rattle.nfs_procs.proofs.Judged.{rules_after, subject_tree}
-use Rattle.nfs_procs.specs.Denials.{IsNamed, AreNamed, AreUnnamed, IsDeniedPair}
+use Rattle.nfs_procs.specs.Denials.{IsNamed, AreNamed, AreUnnamed, IsDeniedPair, DecidesPair}
 use Rattle.nfs_procs.specs.Performing.{IsGranted}
 use Rattle.nfs_procs.specs.Scenes.{scene, verdict_in}
 use Rattle.nfs_procs.specs.declared.call.Call.{Call}
@@ -97,6 +97,12 @@ module _ (t : Tree) (call : Call) (args : NfsArgs) (h k : List ℕ) (two : handl
     one_shown = is.one_shown;
     two_shown = is.two_shown;
   }
+
+  -- and so it is where the denial is passed on
+  pub pair_denied_through : {P : Type 0} (Plans : P → Subject → Subject → Type 0) (result : Result P PairDenial) (denial : PairDenial) → IsErr result × IsErrAnd result (λ e. e ≡ denial)
+      → AreUnnamed t call h k denial → DecidesPair (scene t call args) h k Plans result
+  pair_denied_through Plans (Ok plan) denial passed is = absurd passed.1
+  pair_denied_through Plans (Err e) denial passed is = pair_denied_by_handles e (subst (AreUnnamed t call h k) (sym passed.1) is)
 
   module _ (s u : Subject) (named : AreNamed t call h k s u) where
     in_volume : in_one_volume (Ok s) (Ok u) ≡ Ok (s, u)

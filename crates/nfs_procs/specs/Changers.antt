@@ -1,5 +1,6 @@
 -- What the procedures that change the tree do and answer (RFC 1813, section 3.3).
 use Rattle.std.specs.Prelude.{ℕ, ◌+◌, Bool, true, false, not, ◌&&◌, ◌||◌, List, length, Option, Some, None, Ok, Err, is_some, nat_eq, nat_lt, if◌then◌else◌}
+use Rattle.nfs_args.specs.Sizes.{largest_of}
 use Rattle.nfs_args.specs.declared.answer.NfsAnswer.TheVariants as answer
 use Rattle.nfs_args.specs.declared.create.Create.{Create}
 use Rattle.nfs_args.specs.declared.create.CreateHow.{CreateHow}
@@ -13,6 +14,7 @@ use Rattle.nfs_args.specs.declared.set_attr.SetAttr.{SetAttr}
 use Rattle.nfs_args.specs.declared.sym_link.SymLink.{SymLink}
 use Rattle.nfs_args.specs.declared.write.Stability.TheVariants.{FileSync}
 use Rattle.nfs_args.specs.declared.write.Write.{Write}
+use Rattle.nfs_args.specs.declared.procedure.Procedure.TheVariants as proc
 use Rattle.nfs_attrs.specs.declared.moment.Moment.{Moment}
 use Rattle.nfs_attrs.specs.declared.sattr.Sattr.{Sattr}
 use Rattle.nfs_attrs.specs.declared.time_setting.TimeSetting.{TimeSetting}
@@ -69,6 +71,7 @@ set_attr a = record {
   takes_memory = λ file same. grows_to file.tree file.file.fileid a.attributes.size;
   effect = λ file same now tag. after_settings file.tree file.file.fileid a.attributes now;
   granted = λ file same new. answer.SetAttr (Ok (changed new file));
+  largest = largest_of proc.SetAttr;
   denied = λ status seen. answer.SetAttr (Err (record { status = status; shown = no_change (seen a.file) }));
 }
 
@@ -79,6 +82,7 @@ write a = record {
   takes_memory = λ file same. grows file.tree file.file.fileid a.offset (length a.content);
   effect = λ file same now tag. after_write_at file.tree file.file.fileid a.offset a.content now;
   granted = λ file same new. answer.Write (Ok (record { file = changed new file; count = length a.content; committed = FileSync; verifier = verifier_of file.tree }));
+  largest = largest_of proc.Write;
   denied = λ status seen. answer.Write (Err (record { status = status; shown = no_change (seen a.file) }));
 }
 
@@ -132,6 +136,7 @@ create a = record {
   takes_memory = λ dir same. on_some (found dir a.place.name) true (λ f. taking_grows dir.tree f.fileid a.how);
   effect = λ dir same now tag. on_some (found dir a.place.name) (after_creating dir a now tag) (λ f. after_taking dir.tree f.fileid a.how now);
   granted = λ dir same new. answer.Create (Ok (made_of new (on_some (found dir a.place.name) dir.tree.next (λ f. f.fileid)) dir));
+  largest = largest_of proc.Create;
   denied = λ status seen. answer.Create (Err (record { status = status; shown = no_change (seen a.place.dir) }));
 }
 
@@ -140,6 +145,7 @@ make_dir a = record {
   takes_memory = always;
   effect = λ dir same now tag. after_make_dir dir.tree dir.file.fileid a.place.name (new_file_of directory_mode dir.ids now a.attributes) tag now;
   granted = λ dir same new. answer.MakeDir (Ok (made_of new dir.tree.next dir));
+  largest = largest_of proc.MakeDir;
   denied = λ status seen. answer.MakeDir (Err (record { status = status; shown = no_change (seen a.place.dir) }));
 }
 
@@ -149,6 +155,7 @@ sym_link a = record {
   takes_memory = always;
   effect = λ dir same now tag. after_make_link dir.tree dir.file.fileid a.place.name a.path (record (new_file_of link_mode dir.ids now a.attributes) { mode = link_mode }) tag now;
   granted = λ dir same new. answer.SymLink (Ok (made_of new dir.tree.next dir));
+  largest = largest_of proc.SymLink;
   denied = λ status seen. answer.SymLink (Err (record { status = status; shown = no_change (seen a.place.dir) }));
 }
 
@@ -159,6 +166,7 @@ remove a = record {
   takes_memory = never;
   effect = λ dir same now tag. after_unlink dir.tree dir.file.fileid a.name now;
   granted = λ dir same new. answer.Remove (Ok (changed new dir));
+  largest = largest_of proc.Remove;
   denied = λ status seen. answer.Remove (Err (record { status = status; shown = no_change (seen a.dir) }));
 }
 
@@ -167,6 +175,7 @@ remove_dir a = record {
   takes_memory = never;
   effect = λ dir same now tag. after_unlink dir.tree dir.file.fileid a.name now;
   granted = λ dir same new. answer.RemoveDir (Ok (changed new dir));
+  largest = largest_of proc.RemoveDir;
   denied = λ status seen. answer.RemoveDir (Err (record { status = status; shown = no_change (seen a.dir) }));
 }
 
@@ -180,6 +189,7 @@ rename a = record {
   takes_memory = λ from to. names_apart from.tree from.file.fileid a.from.name to.file.fileid a.to.name;
   effect = λ from to now tag. after_rename from.tree from.file.fileid a.from.name to.file.fileid a.to.name now;
   granted = λ from to new. answer.Rename (Ok (record { from = changed new from; to = changed new to }));
+  largest = largest_of proc.Rename;
   denied = λ status seen. answer.Rename (Err (record { status = status; shown = record { from = no_change (seen a.from.dir); to = no_change (seen a.to.dir) } }));
 }
 
@@ -188,5 +198,6 @@ link a = record {
   takes_memory = always;
   effect = λ file dir now tag. after_link file.tree file.file.fileid dir.file.fileid a.place.name now;
   granted = λ file dir new. answer.Link (Ok (record { attributes = attributes_at new file.file.fileid; dir = changed new dir }));
+  largest = largest_of proc.Link;
   denied = λ status seen. answer.Link (Err (record { status = status; shown = record { attributes = seen a.file; dir = no_change (seen a.place.dir) } }));
 }

@@ -16,6 +16,8 @@ pub record Doing : Type 0 where
   pub effect : Subject → Subject → Moment → ℕ → Tree
   -- what a granted call is answered, by the tree after it
   pub granted : Subject → Subject → Tree → NfsAnswer
+  -- how many bytes the longest result has
+  pub largest : ℕ
   -- what a denied call is answered: by its status, and the attributes that are shown of what a handle names
   pub denied : ℕ → (List ℕ → Option Fattr) → NfsAnswer
 

@@ -2,6 +2,7 @@
 use Rattle.std.specs.Prelude.{ℕ, ◌+◌, ◌-◌, Bool, true, false, List, [], length, map, take, drop, min, Option, Some, None, Ok, Err, nat_le, slice_get}
 use Rattle.std.specs.Int.{w64, from_be_bytes}
 use Rattle.nfs_args.specs.declared.access.Access.{Access}
+use Rattle.nfs_args.specs.Sizes.{largest_of, max_data}
 use Rattle.nfs_args.specs.declared.answer.NfsAnswer.TheVariants as answer
 use Rattle.nfs_args.specs.declared.byte_range.ByteRange.{ByteRange}
 use Rattle.nfs_args.specs.declared.dir_op.DirOp.{DirOp}
@@ -17,6 +18,7 @@ use Rattle.nfs_args.specs.declared.room.Room.{Room}
 use Rattle.nfs_args.specs.declared.room.Space.{Space}
 use Rattle.nfs_args.specs.declared.server_limits.ServerLimits.{ServerLimits}
 use Rattle.nfs_args.specs.declared.server_limits.Transfer.{Transfer}
+use Rattle.nfs_args.specs.declared.procedure.Procedure.TheVariants as proc
 use Rattle.nfs_attrs.specs.declared.fattr.Fattr.{Fattr}
 use Rattle.nfs_dirs.specs.Pages.{fits, fits_plus, chosen, is_end, left_after, entry_told, entry_plus_told}
 use Rattle.nfs_handles.specs.Handles.{handle_at}
@@ -42,6 +44,7 @@ get_attr = record {
   takes_memory = never;
   effect = unchanged;
   granted = λ file same new. answer.GetAttr (Ok file.file);
+  largest = largest_of proc.GetAttr;
   denied = λ status seen. answer.GetAttr (Err (record { status = status; shown = tt }));
 }
 
@@ -51,6 +54,7 @@ lookup a = record {
   takes_memory = never;
   effect = unchanged;
   granted = λ dir same new. answer.Lookup (Ok (record { file = on_some (found dir a.name) [] (handle_in dir.tree); attributes = found dir a.name; dir = Some dir.file }));
+  largest = largest_of proc.Lookup;
   denied = λ status seen. answer.Lookup (Err (record { status = status; shown = seen a.dir }));
 }
 
@@ -60,6 +64,7 @@ access a = record {
   takes_memory = never;
   effect = unchanged;
   granted = λ file same new. answer.Access (Ok (record { attributes = Some file.file; rights = access_bits file.options.read_only file.ids file.file a.rights }));
+  largest = largest_of proc.Access;
   denied = λ status seen. answer.Access (Err (record { status = status; shown = seen a.file }));
 }
 
@@ -69,12 +74,13 @@ read_link handle = record {
   takes_memory = never;
   effect = unchanged;
   granted = λ file same new. answer.ReadLink (Ok (record { attributes = Some file.file; path = on_some (path_at file.tree file.file.fileid) [] (λ path. path) }));
+  largest = largest_of proc.ReadLink;
   denied = λ status seen. answer.ReadLink (Err (record { status = status; shown = seen handle }));
 }
 
 -- the most bytes of one READ or WRITE that the server speaks of
 abbrev pub max_transfer : ℕ
-max_transfer = 65536
+max_transfer = max_data
 
 -- from the offset on as many as are asked for, at most 65,536, and as many as are there
 abbrev pub read_bytes : Subject → ByteRange → List ℕ
@@ -90,6 +96,7 @@ read a = record {
   takes_memory = never;
   effect = unchanged;
   granted = λ file same new. answer.Read (Ok (data_of file.file a.offset (read_bytes file a)));
+  largest = largest_of proc.Read;
   denied = λ status seen. answer.Read (Err (record { status = status; shown = seen a.file }));
 }
 
@@ -108,6 +115,7 @@ read_dir a = record {
   takes_memory = never;
   effect = unchanged;
   granted = λ dir same new. answer.ReadDir (Ok (page_at dir.tree dir.file a.cookie a.count));
+  largest = largest_of proc.ReadDir;
   denied = λ status seen. answer.ReadDir (Err (record { status = status; shown = seen a.dir }));
 }
 
@@ -126,6 +134,7 @@ read_dir_plus a = record {
   takes_memory = never;
   effect = unchanged;
   granted = λ dir same new. answer.ReadDirPlus (Ok (page_plus_at dir.tree dir.file (may dir.ids dir.file Execute) a.cookie a.dircount a.maxcount));
+  largest = largest_of proc.ReadDirPlus;
   denied = λ status seen. answer.ReadDirPlus (Err (record { status = status; shown = seen a.dir }));
 }
 
@@ -135,6 +144,7 @@ make_node a = record {
   takes_memory = never;
   effect = unchanged;
   granted = λ dir same new. answer.MakeNode (Err (record { status = status_of NoMakeNode; shown = no_change (Some dir.file) }));
+  largest = largest_of proc.MakeNode;
   denied = λ status seen. answer.MakeNode (Err (record { status = status; shown = no_change (seen a.place.dir) }));
 }
 
@@ -157,6 +167,7 @@ fs_stat handle = record {
   takes_memory = never;
   effect = unchanged;
   granted = λ file same new. answer.FsStat (Ok (room_in (slice_get file.tree.volumes (file.file.fsid - 1)) (totals_at file.tree (file.file.fsid - 1)) file.file));
+  largest = largest_of proc.FsStat;
   denied = λ status seen. answer.FsStat (Err (record { status = status; shown = seen handle }));
 }
 
@@ -174,6 +185,7 @@ fs_info handle = record {
   takes_memory = never;
   effect = unchanged;
   granted = λ file same new. answer.FsInfo (Ok (server_limits file.file));
+  largest = largest_of proc.FsInfo;
   denied = λ status seen. answer.FsInfo (Err (record { status = status; shown = seen handle }));
 }
 
@@ -187,6 +199,7 @@ path_conf handle = record {
   takes_memory = never;
   effect = unchanged;
   granted = λ file same new. answer.PathConf (Ok (path_limits file.file));
+  largest = largest_of proc.PathConf;
   denied = λ status seen. answer.PathConf (Err (record { status = status; shown = seen handle }));
 }
 
@@ -200,5 +213,6 @@ commit a = record {
   takes_memory = never;
   effect = unchanged;
   granted = λ file same new. answer.Commit (Ok (record { file = no_change (Some file.file); verifier = verifier_of file.tree }));
+  largest = largest_of proc.Commit;
   denied = λ status seen. answer.Commit (Err (record { status = status; shown = no_change (seen a.file) }));
 }

@@ -1,6 +1,8 @@
 //! ACCESS: the rights of the caller (RFC 1813, section 3.3.4).
 ghost use Rattle.std.specs.Prelude.{◌≡◌, ◌≤◌, Some, Ok};
 ghost use Rattle.nfs_args.specs.Answers.{nfs_text};
+ghost use Rattle.nfs_args.specs.Sizes.{largest_of};
+ghost use Rattle.nfs_args.specs.declared.procedure.Procedure.TheVariants as proc;
 ghost use Rattle.nfs_args.specs.declared.answer.NfsAnswer.TheVariants as answer;
 ghost use Rattle.nfs_args.specs.declared.args.NfsArgs.TheVariants as nfs;
 ghost use Rattle.nfs_procs.specs.Performing.{Performs};
@@ -10,7 +12,6 @@ ghost use Rattle.nfs_xdr.specs.Written.{Appends};
 
 use crate::call::Call;
 use crate::done::Done;
-use crate::limits::MAX_RESULT_BYTES;
 use crate::replies::write_denied_attributes;
 use crate::subjects::file_of;
 use nfs_args::access::Access;
@@ -20,7 +21,7 @@ use nfs_inodes::tree::Tree;
 use nfs_xdr::output::Output;
 
 pub(crate) fn access(tree: &Tree, call: &Call<'_>, args: &Access<'_>, out: &mut Output) -> Done
-    requires { MAX_RESULT_BYTES ≤ out.old.room }
+    requires { (procedure.access args.now).largest ≤ out.old.room }
     ensures { Performs (scene tree.now call.now (nfs.Access args.now))
         (procedure.access args.now) result tree.now out.old out.new }
 {
@@ -35,7 +36,7 @@ pub(crate) fn access(tree: &Tree, call: &Call<'_>, args: &Access<'_>, out: &mut 
 }
 
 fn write_granted(out: &mut Output, file: &Fattr, rights: u32)
-    requires { 256 ≤ out.old.room }
+    requires { largest_of proc.Access ≤ out.old.room }
     ensures { Appends (nfs_text (answer.Access (Ok (record { attributes = Some file.now; rights = rights })))) out.old out.new }
 {
     out.u32(0);

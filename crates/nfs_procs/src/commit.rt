@@ -1,6 +1,8 @@
 //! COMMIT: bytes made safe, as all are at once (RFC 1813, section 3.3.21).
 ghost use Rattle.std.specs.Prelude.{◌≡◌, ◌≤◌, Some, Ok};
 ghost use Rattle.nfs_args.specs.Answers.{nfs_text};
+ghost use Rattle.nfs_args.specs.Sizes.{largest_of};
+ghost use Rattle.nfs_args.specs.declared.procedure.Procedure.TheVariants as proc;
 ghost use Rattle.nfs_args.specs.declared.answer.NfsAnswer.TheVariants as answer;
 ghost use Rattle.nfs_args.specs.declared.args.NfsArgs.TheVariants as nfs;
 ghost use Rattle.nfs_procs.specs.Denials.{Decides};
@@ -14,7 +16,6 @@ ghost use Rattle.nfs_xdr.specs.Written.{Appends};
 use crate::call::Call;
 use crate::denial::Denial;
 use crate::done::Done;
-use crate::limits::MAX_RESULT_BYTES;
 use crate::replies::{change, verifier_of, write_denied_change};
 use crate::subjects::subject_of;
 use nfs_args::byte_range::ByteRange;
@@ -25,7 +26,7 @@ use nfs_rules::subject::Subject;
 use nfs_xdr::output::Output;
 
 pub(crate) fn commit(tree: &Tree, call: &Call<'_>, args: &ByteRange<'_>, out: &mut Output) -> Done
-    requires { MAX_RESULT_BYTES ≤ out.old.room }
+    requires { (procedure.commit args.now).largest ≤ out.old.room }
     ensures { Performs (scene tree.now call.now (nfs.Commit args.now))
         (procedure.commit args.now) result tree.now out.old out.new }
 {
@@ -42,18 +43,15 @@ fn decide<'a>(tree: &'a Tree, call: &Call<'a>, args: &ByteRange<'_>) -> Result<S
     ensures { Decides (scene tree.entry.now call.now (nfs.Commit args.now)) args.now.file
         (PlansReading tree.entry.now) result }
 {
-    let file = match subject_of(tree, call, &args.file) {
-        Ok(file) => file,
-        Err(denial) => return Err(denial),
-    };
-    match file.not_regular() {
+    let file = subject_of(tree, call, &args.file)?;
+    match file.must_be_regular() {
         Ok(()) => Ok(file),
         Err(rule) => Err(Denial::of_rule(&file, rule)),
     }
 }
 
 fn write_granted(out: &mut Output, tree: &Tree, file: &Fattr)
-    requires { 256 ≤ out.old.room }
+    requires { largest_of proc.Commit ≤ out.old.room }
     ensures { Appends (nfs_text (answer.Commit (Ok
         (record { file = no_change (Some file.now); verifier = procedure.verifier_of tree.now })))) out.old out.new }
 {

@@ -11,7 +11,6 @@ use crate::call::Call;
 use crate::creation::make_or_take;
 use crate::denial::Denial;
 use crate::done::Done;
-use crate::limits::MAX_RESULT_BYTES;
 use crate::new_files::new_file_of;
 use crate::plan::FilePlan;
 use crate::replies::{change, write_denied_change, write_new_file};
@@ -30,7 +29,7 @@ use nfs_xdr::output::Output;
 const FILE_MODE: u32 = 0o600;
 
 pub(crate) fn create(tree: &mut Tree, call: &Call<'_>, args: &Create<'_>, out: &mut Output) -> Done
-    requires { MAX_RESULT_BYTES ≤ out.old.room }
+    requires { (procedure.create args.now).largest ≤ out.old.room }
     ensures { Performs (scene tree.old call.now (nfs.Create args.now))
         (procedure.create args.now) result tree.new out.old out.new }
 {

@@ -1,6 +1,8 @@
 //! FSINFO: what the server bears (RFC 1813, section 3.3.19).
 ghost use Rattle.std.specs.Prelude.{◌≡◌, ◌≤◌, Ok};
 ghost use Rattle.nfs_args.specs.Answers.{nfs_text};
+ghost use Rattle.nfs_args.specs.Sizes.{largest_of};
+ghost use Rattle.nfs_args.specs.declared.procedure.Procedure.TheVariants as proc;
 ghost use Rattle.nfs_args.specs.declared.answer.NfsAnswer.TheVariants as answer;
 ghost use Rattle.nfs_args.specs.declared.args.NfsArgs.TheVariants as nfs;
 ghost use Rattle.nfs_procs.specs.Performing.{Performs};
@@ -10,7 +12,7 @@ ghost use Rattle.nfs_xdr.specs.Written.{Appends};
 
 use crate::call::Call;
 use crate::done::Done;
-use crate::limits::{MAX_RESULT_BYTES, MAX_TRANSFER, PREFERRED_PAGE, TRANSFER_MULTIPLE};
+use crate::limits::{MAX_TRANSFER, PREFERRED_PAGE, TRANSFER_MULTIPLE};
 use crate::replies::write_denied_attributes;
 use crate::subjects::file_of;
 use nfs_args::opaque::Opaque;
@@ -22,7 +24,7 @@ use nfs_inodes::tree::Tree;
 use nfs_xdr::output::Output;
 
 pub(crate) fn fs_info(tree: &Tree, call: &Call<'_>, handle: &Opaque<'_>, out: &mut Output) -> Done
-    requires { MAX_RESULT_BYTES ≤ out.old.room }
+    requires { (procedure.fs_info handle.now).largest ≤ out.old.room }
     ensures { Performs (scene tree.now call.now (nfs.FsInfo handle.now))
         (procedure.fs_info handle.now) result tree.now out.old out.new }
 {
@@ -40,7 +42,7 @@ pub(crate) fn fs_info(tree: &Tree, call: &Call<'_>, handle: &Opaque<'_>, out: &m
 const PROPERTIES: u32 = 0x1b;
 
 fn write_granted(out: &mut Output, file: &Fattr)
-    requires { 256 ≤ out.old.room }
+    requires { largest_of proc.FsInfo ≤ out.old.room }
     ensures { Appends (nfs_text (answer.FsInfo (Ok (procedure.server_limits file.now)))) out.old out.new }
 {
     out.u32(0);

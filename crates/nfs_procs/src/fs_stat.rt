@@ -1,6 +1,8 @@
 //! FSSTAT: the room of a volume (RFC 1813, section 3.3.18).
 ghost use Rattle.std.specs.Prelude.{◌≡◌, ◌-◌, ◌≤◌, Ok, slice_get, option_map};
 ghost use Rattle.nfs_args.specs.Answers.{nfs_text};
+ghost use Rattle.nfs_args.specs.Sizes.{largest_of};
+ghost use Rattle.nfs_args.specs.declared.procedure.Procedure.TheVariants as proc;
 ghost use Rattle.nfs_args.specs.declared.answer.NfsAnswer.TheVariants as answer;
 ghost use Rattle.nfs_args.specs.declared.args.NfsArgs.TheVariants as nfs;
 ghost use Rattle.nfs_inodes.specs.Reading.{totals_at};
@@ -12,7 +14,6 @@ ghost use Rattle.nfs_xdr.specs.Written.{Appends};
 
 use crate::call::Call;
 use crate::done::Done;
-use crate::limits::MAX_RESULT_BYTES;
 use crate::replies::write_denied_attributes;
 use crate::subjects::file_of;
 use nfs_args::opaque::Opaque;
@@ -23,7 +24,7 @@ use nfs_inodes::volumes::{Totals, VolumeView};
 use nfs_xdr::output::Output;
 
 pub(crate) fn fs_stat(tree: &Tree, call: &Call<'_>, handle: &Opaque<'_>, out: &mut Output) -> Done
-    requires { MAX_RESULT_BYTES ≤ out.old.room }
+    requires { (procedure.fs_stat handle.now).largest ≤ out.old.room }
     ensures { Performs (scene tree.now call.now (nfs.FsStat handle.now))
         (procedure.fs_stat handle.now) result tree.now out.old out.new }
 {
@@ -37,7 +38,7 @@ pub(crate) fn fs_stat(tree: &Tree, call: &Call<'_>, handle: &Opaque<'_>, out: &m
 }
 
 fn write_granted(out: &mut Output, tree: &Tree, file: &Fattr)
-    requires { 256 ≤ out.old.room }
+    requires { largest_of proc.FsStat ≤ out.old.room }
     ensures { Appends (nfs_text (answer.FsStat (Ok
         (procedure.room_in (slice_get tree.now.volumes (file.now.fsid - 1)) (totals_at tree.now (file.now.fsid - 1)) file.now)))) out.old
         out.new }

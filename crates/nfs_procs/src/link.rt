@@ -2,6 +2,8 @@
 ghost use Rattle.std.specs.Prelude.{◌≡◌, ◌≤◌, ◌++◌};
 ghost use Rattle.std.specs.Int.{w32, to_be_bytes};
 ghost use Rattle.nfs_args.specs.Results.{linked_text};
+ghost use Rattle.nfs_args.specs.Sizes.{largest_of};
+ghost use Rattle.nfs_args.specs.declared.procedure.Procedure.TheVariants as proc;
 ghost use Rattle.nfs_args.specs.declared.args.NfsArgs.TheVariants as nfs;
 ghost use Rattle.nfs_procs.specs.Changers as procedure;
 ghost use Rattle.nfs_procs.specs.Denials.{DecidesPair};
@@ -16,7 +18,6 @@ ghost use Rattle.nfs_xdr.specs.Written.{Appends};
 use crate::call::Call;
 use crate::denial::PairDenial;
 use crate::done::Done;
-use crate::limits::MAX_RESULT_BYTES;
 use crate::replies::change;
 use crate::subjects::pair_of;
 use nfs_args::link::Link;
@@ -28,7 +29,7 @@ use nfs_rules::table::link_rules;
 use nfs_xdr::output::Output;
 
 pub(crate) fn link(tree: &mut Tree, call: &Call<'_>, args: &Link<'_>, out: &mut Output) -> Done
-    requires { MAX_RESULT_BYTES ≤ out.old.room }
+    requires { (procedure.link args.now).largest ≤ out.old.room }
     ensures { Performs (scene tree.old call.now (nfs.Link args.now))
         (procedure.link args.now) result tree.new out.old out.new }
 {
@@ -60,7 +61,7 @@ fn decide(tree: &Tree, call: &Call<'_>, args: &Link<'_>) -> Result<(Fattr, Fattr
 }
 
 fn write_denied(out: &mut Output, denial: &PairDenial) -> Done
-    requires { 256 ≤ out.old.room }
+    requires { largest_of proc.Link ≤ out.old.room }
     ensures text { Appends (to_be_bytes w32 (status_of denial.now.rule) ++ linked_text
         (record { attributes = denial.now.one; dir = doing.no_change denial.now.two })) out.old out.new }
     ensures done { result ≡ done.Denied denial.now.rule denial.now.uid }

@@ -1,6 +1,8 @@
 //! LOOKUP: the file under a name (RFC 1813, section 3.3.3).
 ghost use Rattle.std.specs.Prelude.{◌≡◌, ◌≤◌, Some, Ok};
 ghost use Rattle.nfs_args.specs.Answers.{nfs_text};
+ghost use Rattle.nfs_args.specs.Sizes.{largest_of};
+ghost use Rattle.nfs_args.specs.declared.procedure.Procedure.TheVariants as proc;
 ghost use Rattle.nfs_args.specs.declared.answer.NfsAnswer.TheVariants as answer;
 ghost use Rattle.nfs_args.specs.declared.args.NfsArgs.TheVariants as nfs;
 ghost use Rattle.nfs_procs.specs.Denials.{Decides};
@@ -13,7 +15,6 @@ ghost use Rattle.nfs_xdr.specs.Written.{Appends};
 use crate::call::Call;
 use crate::denial::Denial;
 use crate::done::Done;
-use crate::limits::MAX_RESULT_BYTES;
 use crate::replies::write_denied_attributes;
 use crate::subjects::subject_of;
 use nfs_args::dir_op::DirOp;
@@ -27,7 +28,7 @@ use nfs_rules::table::lookup_rules;
 use nfs_xdr::output::Output;
 
 pub(crate) fn lookup(tree: &Tree, call: &Call<'_>, args: &DirOp<'_>, out: &mut Output) -> Done
-    requires { MAX_RESULT_BYTES ≤ out.old.room }
+    requires { (procedure.lookup args.now).largest ≤ out.old.room }
     ensures { Performs (scene tree.now call.now (nfs.Lookup args.now))
         (procedure.lookup args.now) result tree.now out.old out.new }
 {
@@ -57,7 +58,7 @@ fn decide<'a>(
 }
 
 fn write_granted(out: &mut Output, handle: &[u8; 24], file: &Fattr, dir: &Fattr)
-    requires { 256 ≤ out.old.room }
+    requires { largest_of proc.Lookup ≤ out.old.room }
     ensures { Appends (nfs_text (answer.Lookup (Ok
         (record { file = handle.now; attributes = Some file.now; dir = Some dir.now })))) out.old out.new }
 {

@@ -10,7 +10,6 @@ ghost use Rattle.nfs_procs.specs.Scenes.{scene};
 use crate::call::Call;
 use crate::denial::Denial;
 use crate::done::Done;
-use crate::limits::MAX_RESULT_BYTES;
 use crate::new_files::new_file_of;
 use crate::plan::Plan;
 use crate::replies::{change, write_denied_change, write_new_file};
@@ -30,7 +29,7 @@ pub(crate) fn make_dir(
     args: &MakeDir<'_>,
     out: &mut Output,
 ) -> Done
-    requires { MAX_RESULT_BYTES ≤ out.old.room }
+    requires { (procedure.make_dir args.now).largest ≤ out.old.room }
     ensures { Performs (scene tree.old call.now (nfs.MakeDir args.now))
         (procedure.make_dir args.now) result tree.new out.old out.new }
 {

@@ -9,7 +9,6 @@ ghost use Rattle.nfs_procs.specs.Scenes.{scene};
 use crate::call::Call;
 use crate::denial::Denial;
 use crate::done::Done;
-use crate::limits::MAX_RESULT_BYTES;
 use crate::replies::write_denied_change;
 use crate::subjects::file_of;
 use nfs_args::make_node::MakeNode;
@@ -18,7 +17,7 @@ use nfs_rules::rule::Rule;
 use nfs_xdr::output::Output;
 
 pub(crate) fn make_node(tree: &Tree, call: &Call<'_>, args: &MakeNode<'_>, out: &mut Output) -> Done
-    requires { MAX_RESULT_BYTES ≤ out.old.room }
+    requires { (procedure.make_node args.now).largest ≤ out.old.room }
     ensures { Performs (scene tree.now call.now (nfs.MakeNode args.now))
         (procedure.make_node args.now) result tree.now out.old out.new }
 {

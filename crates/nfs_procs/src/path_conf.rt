@@ -1,6 +1,8 @@
 //! PATHCONF: what names may be (RFC 1813, section 3.3.20).
 ghost use Rattle.std.specs.Prelude.{◌≡◌, ◌≤◌, Ok};
 ghost use Rattle.nfs_args.specs.Answers.{nfs_text};
+ghost use Rattle.nfs_args.specs.Sizes.{largest_of};
+ghost use Rattle.nfs_args.specs.declared.procedure.Procedure.TheVariants as proc;
 ghost use Rattle.nfs_args.specs.declared.answer.NfsAnswer.TheVariants as answer;
 ghost use Rattle.nfs_args.specs.declared.args.NfsArgs.TheVariants as nfs;
 ghost use Rattle.nfs_procs.specs.Performing.{Performs};
@@ -10,7 +12,6 @@ ghost use Rattle.nfs_xdr.specs.Written.{Appends};
 
 use crate::call::Call;
 use crate::done::Done;
-use crate::limits::MAX_RESULT_BYTES;
 use crate::replies::write_denied_attributes;
 use crate::subjects::file_of;
 use nfs_args::opaque::Opaque;
@@ -21,7 +22,7 @@ use nfs_inodes::tree::Tree;
 use nfs_xdr::output::Output;
 
 pub(crate) fn path_conf(tree: &Tree, call: &Call<'_>, handle: &Opaque<'_>, out: &mut Output) -> Done
-    requires { MAX_RESULT_BYTES ≤ out.old.room }
+    requires { (procedure.path_conf handle.now).largest ≤ out.old.room }
     ensures { Performs (scene tree.now call.now (nfs.PathConf handle.now))
         (procedure.path_conf handle.now) result tree.now out.old out.new }
 {
@@ -35,7 +36,7 @@ pub(crate) fn path_conf(tree: &Tree, call: &Call<'_>, handle: &Opaque<'_>, out: 
 }
 
 fn write_granted(out: &mut Output, file: &Fattr)
-    requires { 256 ≤ out.old.room }
+    requires { largest_of proc.PathConf ≤ out.old.room }
     ensures { Appends (nfs_text (answer.PathConf (Ok (procedure.path_limits file.now)))) out.old out.new }
 {
     out.u32(0);

@@ -1,6 +1,6 @@
 //! The procedures of NFS, each by the module of its name.
 ghost use Rattle.std.specs.Prelude.{◌≡◌, ◌≤◌};
-ghost use Rattle.nfs_procs.specs.Procedures.{PerformsAs, doing_of};
+ghost use Rattle.nfs_procs.specs.Procedures.{PerformsAs, doing_of, room_for};
 ghost use Rattle.nfs_procs.specs.Scenes.{scene};
 
 use crate::access::access;
@@ -11,7 +11,6 @@ use crate::done::Done;
 use crate::fs_info::fs_info;
 use crate::fs_stat::fs_stat;
 use crate::get_attr::get_attr;
-use crate::limits::MAX_RESULT_BYTES;
 use crate::link::link;
 use crate::lookup::lookup;
 use crate::make_dir::make_dir;
@@ -40,7 +39,7 @@ pub fn perform(
     args: &NfsArgs<'_>,
     out: &mut Output,
 ) -> Option<Done>
-    requires { MAX_RESULT_BYTES ≤ out.old.room }
+    requires { room_for (doing_of args.now) ≤ out.old.room }
     ensures { PerformsAs (scene tree.old call.now args.now) (doing_of args.now) result tree.new out.old out.new }
 {
     match args {

@@ -1,6 +1,8 @@
 //! READDIR: entries of a directory (RFC 1813, section 3.3.16).
 ghost use Rattle.std.specs.Prelude.{◌≡◌, ◌≤◌, false, Ok};
 ghost use Rattle.nfs_args.specs.Answers.{nfs_text};
+ghost use Rattle.nfs_args.specs.Sizes.{largest_of};
+ghost use Rattle.nfs_args.specs.declared.procedure.Procedure.TheVariants as proc;
 ghost use Rattle.nfs_args.specs.declared.answer.NfsAnswer.TheVariants as answer;
 ghost use Rattle.nfs_args.specs.declared.args.NfsArgs.TheVariants as nfs;
 ghost use Rattle.nfs_dirs.specs.Pages.{fits, is_too_small, left_after};
@@ -15,7 +17,7 @@ ghost use Rattle.nfs_xdr.specs.Written.{Appends};
 use crate::call::Call;
 use crate::denial::Denial;
 use crate::done::Done;
-use crate::limits::{COOKIE_VERIFIER, MAX_RESULT_BYTES};
+use crate::limits::COOKIE_VERIFIER;
 use crate::replies::write_denied_attributes;
 use crate::subjects::subject_of;
 use nfs_args::page::write_page_head;
@@ -28,7 +30,7 @@ use nfs_rules::table::read_dir_rules;
 use nfs_xdr::output::Output;
 
 pub(crate) fn read_dir(tree: &Tree, call: &Call<'_>, args: &ReadDir<'_>, out: &mut Output) -> Done
-    requires { MAX_RESULT_BYTES ≤ out.old.room }
+    requires { (procedure.read_dir args.now).largest ≤ out.old.room }
     ensures { Performs (scene tree.now call.now (nfs.ReadDir args.now))
         (procedure.read_dir args.now) result tree.now out.old out.new }
 {
@@ -56,7 +58,7 @@ fn decide<'a>(tree: &'a Tree, call: &Call<'a>, args: &ReadDir<'_>) -> Result<Sub
 fn write_granted(out: &mut Output, tree: &Tree, dir: &FileView<'_>, cookie: u64, count: u32)
     requires seen { IsSeen tree.now dir.now }
     requires large { is_too_small (fits count) (left_after tree.now dir.now.attributes.fileid cookie) ≡ false }
-    requires room { MAX_RESULT_BYTES ≤ out.old.room }
+    requires room { largest_of proc.ReadDir ≤ out.old.room }
     ensures { Appends (nfs_text (answer.ReadDir (Ok (procedure.page_at tree.now dir.now.attributes cookie count)))) out.old out.new }
 {
     out.u32(0);

@@ -1,6 +1,8 @@
 //! READDIRPLUS: entries of a directory with what their files are (RFC 1813, section 3.3.17).
 ghost use Rattle.std.specs.Prelude.{◌≡◌, ◌≤◌, false, Ok};
 ghost use Rattle.nfs_args.specs.Answers.{nfs_text};
+ghost use Rattle.nfs_args.specs.Sizes.{largest_of};
+ghost use Rattle.nfs_args.specs.declared.procedure.Procedure.TheVariants as proc;
 ghost use Rattle.nfs_args.specs.declared.answer.NfsAnswer.TheVariants as answer;
 ghost use Rattle.nfs_args.specs.declared.args.NfsArgs.TheVariants as nfs;
 ghost use Rattle.nfs_dirs.specs.Pages.{fits_plus, is_too_small, left_after};
@@ -15,7 +17,7 @@ ghost use Rattle.nfs_xdr.specs.Written.{Appends};
 use crate::call::Call;
 use crate::denial::Denial;
 use crate::done::Done;
-use crate::limits::{COOKIE_VERIFIER, MAX_RESULT_BYTES};
+use crate::limits::COOKIE_VERIFIER;
 use crate::replies::write_denied_attributes;
 use crate::subjects::subject_of;
 use nfs_args::page::write_page_head;
@@ -33,7 +35,7 @@ pub(crate) fn read_dir_plus(
     args: &ReadDirPlus<'_>,
     out: &mut Output,
 ) -> Done
-    requires { MAX_RESULT_BYTES ≤ out.old.room }
+    requires { (procedure.read_dir_plus args.now).largest ≤ out.old.room }
     ensures { Performs (scene tree.now call.now (nfs.ReadDirPlus args.now))
         (procedure.read_dir_plus args.now) result tree.now out.old out.new }
 {
@@ -72,7 +74,7 @@ fn write_granted(
     requires seen { IsSeen tree.now dir.now }
     requires large { is_too_small (fits_plus args.now.dircount args.now.maxcount searchable)
         (left_after tree.now dir.now.attributes.fileid args.now.cookie) ≡ false }
-    requires room { MAX_RESULT_BYTES ≤ out.old.room }
+    requires room { largest_of proc.ReadDirPlus ≤ out.old.room }
     ensures { Appends (nfs_text (answer.ReadDirPlus
         (Ok (procedure.page_plus_at tree.now dir.now.attributes searchable args.now.cookie args.now.dircount args.now.maxcount)))) out.old out.new }
 {

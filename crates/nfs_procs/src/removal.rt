@@ -1,6 +1,7 @@
 //! Names that are taken away.
-ghost use Rattle.std.specs.Prelude.{◌≡◌, ◌≤◌, ◌++◌, Some};
+ghost use Rattle.std.specs.Prelude.{◌≡◌, ◌+◌, ◌≤◌, ◌++◌, Some};
 ghost use Rattle.std.specs.Int.{w32, to_be_bytes};
+ghost use Rattle.nfs_args.specs.Sizes.{change_size, status_size};
 ghost use Rattle.nfs_attrs.specs.Spelling.{wcc_text};
 ghost use Rattle.nfs_inodes.specs.Changes.{after_unlink};
 ghost use Rattle.nfs_inodes.specs.Conditions.{MayUnlinkSeen};
@@ -48,7 +49,7 @@ pub(crate) fn remove_entry(
     out: &mut Output,
 )
     requires may { MayUnlinkSeen tree.old plan.now.dir.fileid name.now plan.now.number.0 plan.now.file }
-    requires room { 128 ≤ out.old.room }
+    requires room { status_size + change_size ≤ out.old.room }
     ensures tree { tree.new ≡ after_unlink tree.old plan.now.dir.fileid name.now now }
     ensures text { Appends (to_be_bytes w32 0 ++ wcc_text (doing.change (Some plan.now.dir) (attributes_at tree.new plan.now.dir.fileid)))
         out.old out.new }

@@ -10,7 +10,6 @@ ghost use Rattle.nfs_procs.specs.Scenes.{scene};
 use crate::call::Call;
 use crate::denial::Denial;
 use crate::done::Done;
-use crate::limits::MAX_RESULT_BYTES;
 use crate::plan::RemovalPlan;
 use crate::removal::{plan_of, remove_entry};
 use crate::replies::write_denied_change;
@@ -21,7 +20,7 @@ use nfs_rules::table::remove_rules;
 use nfs_xdr::output::Output;
 
 pub(crate) fn remove(tree: &mut Tree, call: &Call<'_>, args: &DirOp<'_>, out: &mut Output) -> Done
-    requires { MAX_RESULT_BYTES ≤ out.old.room }
+    requires { (procedure.remove args.now).largest ≤ out.old.room }
     ensures { Performs (scene tree.old call.now (nfs.Remove args.now))
         (procedure.remove args.now) result tree.new out.old out.new }
 {

@@ -10,7 +10,6 @@ ghost use Rattle.nfs_procs.specs.Scenes.{scene};
 use crate::call::Call;
 use crate::denial::Denial;
 use crate::done::Done;
-use crate::limits::MAX_RESULT_BYTES;
 use crate::plan::RemovalPlan;
 use crate::removal::{plan_of, remove_entry};
 use crate::replies::write_denied_change;
@@ -26,7 +25,7 @@ pub(crate) fn remove_dir(
     args: &DirOp<'_>,
     out: &mut Output,
 ) -> Done
-    requires { MAX_RESULT_BYTES ≤ out.old.room }
+    requires { (procedure.remove_dir args.now).largest ≤ out.old.room }
     ensures { Performs (scene tree.old call.now (nfs.RemoveDir args.now))
         (procedure.remove_dir args.now) result tree.new out.old out.new }
 {

@@ -10,7 +10,6 @@ ghost use Rattle.nfs_procs.specs.Scenes.{scene};
 use crate::call::Call;
 use crate::denial::Denial;
 use crate::done::Done;
-use crate::limits::MAX_RESULT_BYTES;
 use crate::replies::{change, write_denied_change, write_granted_change};
 use crate::settings::set_given;
 use crate::subjects::subject_of;
@@ -27,7 +26,7 @@ pub(crate) fn set_attr(
     args: &SetAttr<'_>,
     out: &mut Output,
 ) -> Done
-    requires { MAX_RESULT_BYTES ≤ out.old.room }
+    requires { (procedure.set_attr args.now).largest ≤ out.old.room }
     ensures { Performs (scene tree.old call.now (nfs.SetAttr args.now))
         (procedure.set_attr args.now) result tree.new out.old out.new }
 {

@@ -10,7 +10,6 @@ ghost use Rattle.nfs_procs.specs.Scenes.{scene};
 use crate::call::Call;
 use crate::denial::Denial;
 use crate::done::Done;
-use crate::limits::MAX_RESULT_BYTES;
 use crate::new_files::new_file_of;
 use crate::plan::Plan;
 use crate::replies::{change, write_denied_change, write_new_file};
@@ -31,7 +30,7 @@ pub(crate) fn sym_link(
     args: &SymLink<'_>,
     out: &mut Output,
 ) -> Done
-    requires { MAX_RESULT_BYTES ≤ out.old.room }
+    requires { (procedure.sym_link args.now).largest ≤ out.old.room }
     ensures { Performs (scene tree.old call.now (nfs.SymLink args.now))
         (procedure.sym_link args.now) result tree.new out.old out.new }
 {

@@ -1,6 +1,8 @@
 //! WRITE: bytes into a file, which are safe at once (RFC 1813, section 3.3.7).
 ghost use Rattle.std.specs.Prelude.{◌≡◌, ◌<◌, ◌≤◌, ◌^◌, Ok};
 ghost use Rattle.nfs_args.specs.Answers.{nfs_text};
+ghost use Rattle.nfs_args.specs.Sizes.{largest_of};
+ghost use Rattle.nfs_args.specs.declared.procedure.Procedure.TheVariants as proc;
 ghost use Rattle.nfs_args.specs.declared.answer.NfsAnswer.TheVariants as answer;
 ghost use Rattle.nfs_args.specs.declared.args.NfsArgs.TheVariants as nfs;
 ghost use Rattle.nfs_args.specs.declared.write.Stability.TheVariants.{FileSync};
@@ -14,7 +16,6 @@ ghost use Rattle.nfs_xdr.specs.Written.{Appends};
 use crate::call::Call;
 use crate::denial::Denial;
 use crate::done::Done;
-use crate::limits::MAX_RESULT_BYTES;
 use crate::replies::{change, write_denied_change};
 use crate::subjects::subject_of;
 use nfs_args::write::{Stability, Write};
@@ -27,7 +28,7 @@ use nfs_rules::table::write_rules;
 use nfs_xdr::output::Output;
 
 pub(crate) fn write(tree: &mut Tree, call: &Call<'_>, args: &Write<'_>, out: &mut Output) -> Done
-    requires { MAX_RESULT_BYTES ≤ out.old.room }
+    requires { (procedure.write args.now).largest ≤ out.old.room }
     ensures { Performs (scene tree.old call.now (nfs.Write args.now))
         (procedure.write args.now) result tree.new out.old out.new }
 {
@@ -62,7 +63,7 @@ fn decide(tree: &Tree, call: &Call<'_>, args: &Write<'_>) -> Result<Fattr, Denia
 }
 
 fn write_granted(out: &mut Output, file: Wcc, count: usize, verifier: u64)
-    requires room { 140 ≤ out.old.room }
+    requires room { largest_of proc.Write ≤ out.old.room }
     requires count { count < 2 ^ 32 }
     ensures { Appends (nfs_text (answer.Write (Ok
         (record { file = file; count = count; committed = FileSync; verifier = verifier })))) out.old out.new }

@@ -104,7 +104,7 @@ pub fn first_failure(one: &Subject<'_>, two: &Subject<'_>, args: &NfsArgs<'_>) -
     match args {
         NfsArgs::SetAttr(args) => set_attr_rules(one, args).err(),
         NfsArgs::Lookup(args) => lookup_rules(one, args.name.bytes()).err(),
-        NfsArgs::ReadLink(_) => one.not_link().err(),
+        NfsArgs::ReadLink(_) => one.must_be_link().err(),
         NfsArgs::Read(_) => read_rules(one).err(),
         NfsArgs::Write(args) => write_rules(one, args).err(),
         NfsArgs::Create(args) => create_rules(one, args).err(),
@@ -119,7 +119,7 @@ pub fn first_failure(one: &Subject<'_>, two: &Subject<'_>, args: &NfsArgs<'_>) -
         NfsArgs::Link(args) => link_rules(one, two, args.place.name.bytes()).err(),
         NfsArgs::ReadDir(args) => read_dir_rules(one, args).err(),
         NfsArgs::ReadDirPlus(args) => read_dir_plus_rules(one, args).err(),
-        NfsArgs::Commit(_) => one.not_regular().err(),
+        NfsArgs::Commit(_) => one.must_be_regular().err(),
         NfsArgs::Null
         | NfsArgs::GetAttr(_)
         | NfsArgs::Access(_)

@@ -1,11 +1,11 @@
 use Rattle.nfs_args.specs.declared.args.NfsArgs.TheVariants as nfs
-use Rattle.nfs_procs.proofs.Judged.{denied_by_rule, granted_by_rules}
+use Rattle.nfs_procs.proofs.Judged.{denied_by_rule, denied_through, granted_by_rules}
 use Rattle.std.proofs.Common.{refl, sym, ap, subst, ◌∙◌}
 use Rattle.nfs_attrs.specs.declared.fattr.Fattr.{Fattr}
 use Rattle.nfs_procs.proofs.Creations.{may_make_or_take}
 use Rattle.nfs_procs.specs.Changers.{file_mode}
 use Rattle.nfs_procs.specs.NewFiles.{new_file_of}
-use Rattle.nfs_procs.specs.Plans.{MayMakeOrTake}
+use Rattle.nfs_procs.specs.Plans.{MayMakeOrTake, PlansFile}
 use Rattle.nfs_procs.proofs.create.decide.Goals as goal
 
 pub returns-in-Ok : goal.returns-in-Ok
@@ -34,3 +34,8 @@ returns-in-Err c =
     let rule = c.in-Err.rule in
     let failed = c.in-Err.ensures.rules in
     denied_by_rule c.args.tree.now c.args.call.now (nfs.Create a) a.place.dir refl s rule c.of_rule.result c.in_ok-dir.ensures failed c.of_rule.ensures
+
+pub returns-in_err-dir : goal.returns-in_err-dir
+returns-in_err-dir c =
+    let a = c.args.args.now in
+    denied_through c.args.tree.now c.args.call.now (nfs.Create a) a.place.dir refl (PlansFile c.args.tree.now c.args.call.now.moment a) c.from_residual.result c.in_err-dir.field-0.0 c.from_residual.ensures c.in_err-dir.ensures

@@ -3,7 +3,8 @@ use Rattle.nfs_args.specs.declared.args.NfsArgs.TheVariants as nfs
 use Rattle.nfs_attrs.specs.declared.fattr.Fattr.{Fattr}
 use Rattle.nfs_inodes.specs.Conditions.{MayLink}
 use Rattle.nfs_inodes.specs.Law.{Law}
-use Rattle.nfs_procs.proofs.Pairs.{pair_denied_by_rule, pair_granted}
+use Rattle.nfs_procs.proofs.Pairs.{pair_denied_by_rule, pair_denied_through, pair_granted}
+use Rattle.nfs_procs.specs.Plans.{PlansLink}
 use Rattle.nfs_rules.proofs.Links.{may_link}
 use Rattle.nfs_rules.specs.Table.{link_rules}
 use Rattle.nfs_rules.specs.Tests.{first}
@@ -40,3 +41,8 @@ returns-in-Err c =
     let rule = c.in-Err.rule in
     let failed : first (link_rules s u a.place.name) ≡ Some rule = subst (λ name. first (link_rules s u name) ≡ Some rule) c.bytes.ensures c.in-Err.ensures in
     pair_denied_by_rule c.args.tree.now c.args.call.now (nfs.Link a) a.file a.place.dir refl s u c.in_ok-file.ensures rule c.of_rule.result failed c.of_rule.ensures
+
+pub returns-in_err-file : goal.returns-in_err-file
+returns-in_err-file c =
+    let a = c.args.args.now in
+    pair_denied_through c.args.tree.now c.args.call.now (nfs.Link a) a.file a.place.dir refl (PlansLink c.args.tree.now a.place.name) c.from_residual.result c.in_err-file.field-0.0 c.from_residual.ensures c.in_err-file.ensures

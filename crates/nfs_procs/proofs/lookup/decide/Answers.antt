@@ -1,5 +1,6 @@
 use Rattle.nfs_args.specs.declared.args.NfsArgs.TheVariants as nfs
-use Rattle.nfs_procs.proofs.Judged.{denied_by_rule, granted_by_rules}
+use Rattle.nfs_procs.specs.Plans.{PlansFound}
+use Rattle.nfs_procs.proofs.Judged.{denied_by_rule, denied_through, granted_by_rules}
 use Rattle.std.proofs.Common.{◌≡◌, Some, None, refl, subst}
 use Rattle.nfs_inodes.specs.Views.{IsSeen}
 use Rattle.nfs_rules.specs.Table.{lookup_rules}
@@ -29,3 +30,8 @@ returns-in-Err c =
     let rule = c.in-Err.rule in
     let failed : first (lookup_rules s a.name) ≡ Some rule = subst (λ name. first (lookup_rules s name) ≡ Some rule) c.bytes.ensures c.in-Err.ensures.rules in
     denied_by_rule c.args.tree.now c.args.call.now (nfs.Lookup a) a.dir refl s rule c.of_rule.result c.in_ok-dir.ensures failed c.of_rule.ensures
+
+pub returns-in_err-dir : goal.returns-in_err-dir
+returns-in_err-dir c =
+    let a = c.args.args.now in
+    denied_through c.args.tree.now c.args.call.now (nfs.Lookup a) a.dir refl (PlansFound c.args.tree.now a.name) c.from_residual.result c.in_err-dir.field-0.0 c.from_residual.ensures c.in_err-dir.ensures

@@ -1,5 +1,6 @@
 use Rattle.nfs_args.specs.declared.args.NfsArgs.TheVariants as nfs
-use Rattle.nfs_procs.proofs.Judged.{denied_by_rule, granted_by_rules}
+use Rattle.nfs_procs.specs.Plans.{PlansDirectory}
+use Rattle.nfs_procs.proofs.Judged.{denied_by_rule, denied_through, granted_by_rules}
 use Rattle.std.proofs.Common.{◌≡◌, Some, None, refl, subst}
 use Rattle.nfs_inodes.specs.Conditions.{MayMakeDirectory}
 use Rattle.nfs_rules.proofs.NewFiles.{may_make_directory}
@@ -30,3 +31,8 @@ returns-in-Err c =
     let rule = c.in-Err.rule in
     let failed : first (make_dir_rules s a.place.name) ≡ Some rule = subst (λ name. first (make_dir_rules s name) ≡ Some rule) c.bytes.ensures c.in-Err.ensures in
     denied_by_rule c.args.tree.now c.args.call.now (nfs.MakeDir a) a.place.dir refl s rule c.of_rule.result c.in_ok-dir.ensures failed c.of_rule.ensures
+
+pub returns-in_err-dir : goal.returns-in_err-dir
+returns-in_err-dir c =
+    let a = c.args.args.now in
+    denied_through c.args.tree.now c.args.call.now (nfs.MakeDir a) a.place.dir refl (PlansDirectory c.args.tree.now c.args.call.now.moment a) c.from_residual.result c.in_err-dir.field-0.0 c.from_residual.ensures c.in_err-dir.ensures

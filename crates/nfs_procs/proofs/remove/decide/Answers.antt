@@ -1,7 +1,9 @@
 use Rattle.std.proofs.Common.{◌≡◌, Some, refl, subst}
 use Rattle.std.specs.Prelude.{IfOk}
 use Rattle.nfs_args.specs.declared.args.NfsArgs.TheVariants as nfs
+use Rattle.nfs_procs.proofs.Judged.{denied_through}
 use Rattle.nfs_procs.proofs.Removing.{removal_decided}
+use Rattle.nfs_procs.specs.Plans.{PlansRemoval}
 use Rattle.nfs_rules.proofs.Removals.{may_remove}
 use Rattle.nfs_rules.specs.Judging.{Judges}
 use Rattle.nfs_rules.specs.Table.{remove_rules}
@@ -17,3 +19,8 @@ returns c =
     (subst (λ name. Judges c.remove_rules.result (remove_rules s name)) c.bytes.ensures c.remove_rules.ensures.rules)
     (subst (λ name. IfOk c.remove_rules.result (λ f. found s name ≡ Some f.attributes)) c.bytes.ensures c.remove_rules.ensures.found)
     (may_remove s named.law named.file a.name)
+
+pub returns-in_err-dir : goal.returns-in_err-dir
+returns-in_err-dir c =
+    let a = c.args.args.now in
+    denied_through c.args.tree.now c.args.call.now (nfs.Remove a) a.dir refl (PlansRemoval c.args.tree.now a.name) c.from_residual.result c.in_err-dir.field-0.0 c.from_residual.ensures c.in_err-dir.ensures

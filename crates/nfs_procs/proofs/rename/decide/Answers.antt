@@ -3,7 +3,8 @@ use Rattle.nfs_args.specs.declared.args.NfsArgs.TheVariants as nfs
 use Rattle.nfs_attrs.specs.declared.fattr.Fattr.{Fattr}
 use Rattle.nfs_inodes.specs.Conditions.{MayRename}
 use Rattle.nfs_inodes.specs.Law.{Law}
-use Rattle.nfs_procs.proofs.Pairs.{pair_denied_by_rule, pair_granted}
+use Rattle.nfs_procs.proofs.Pairs.{pair_denied_by_rule, pair_denied_through, pair_granted}
+use Rattle.nfs_procs.specs.Plans.{PlansRename}
 use Rattle.nfs_rules.proofs.Renames.{may_rename}
 use Rattle.nfs_procs.proofs.rename.decide.Goals as goal
 
@@ -33,3 +34,8 @@ pub returns-in-Err : goal.returns-in-Err
 returns-in-Err c =
     let a = c.args.args.now in
     pair_denied_by_rule c.args.tree.now c.args.call.now (nfs.Rename a) a.from.dir a.to.dir refl c.in_ok-from.from c.in_ok-from.to c.in_ok-from.ensures c.in-Err.rule c.of_rule.result c.in-Err.ensures c.of_rule.ensures
+
+pub returns-in_err-from : goal.returns-in_err-from
+returns-in_err-from c =
+    let a = c.args.args.now in
+    pair_denied_through c.args.tree.now c.args.call.now (nfs.Rename a) a.from.dir a.to.dir refl (PlansRename c.args.tree.now a) c.from_residual.result c.in_err-from.field-0.0 c.from_residual.ensures c.in_err-from.ensures

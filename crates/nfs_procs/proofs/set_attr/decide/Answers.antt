@@ -1,9 +1,9 @@
 use Rattle.nfs_args.specs.declared.args.NfsArgs.TheVariants as nfs
-use Rattle.nfs_procs.proofs.Judged.{denied_by_rule, granted_by_rules}
+use Rattle.nfs_procs.proofs.Judged.{denied_by_rule, denied_through, granted_by_rules}
 use Rattle.std.proofs.Common.{refl, subst}
 use Rattle.nfs_inodes.specs.Law.{Lives}
 use Rattle.nfs_inodes.specs.Tree.{File}
-use Rattle.nfs_procs.specs.Plans.{MayTakeSize}
+use Rattle.nfs_procs.specs.Plans.{MayTakeSize, PlansSettings}
 use Rattle.nfs_rules.proofs.SeenFiles.{seen_lives}
 use Rattle.nfs_rules.proofs.Sizes.{may_set_size}
 use Rattle.nfs_procs.proofs.set_attr.decide.Goals as goal
@@ -31,3 +31,8 @@ returns-in-Err c =
     let rule = c.in-Err.rule in
     let failed = c.in-Err.ensures in
     denied_by_rule c.args.tree.now c.args.call.now (nfs.SetAttr a) a.file refl s rule c.of_rule.result c.in_ok-file.ensures failed c.of_rule.ensures
+
+pub returns-in_err-file : goal.returns-in_err-file
+returns-in_err-file c =
+    let a = c.args.args.now in
+    denied_through c.args.tree.now c.args.call.now (nfs.SetAttr a) a.file refl (PlansSettings c.args.tree.now a) c.from_residual.result c.in_err-file.field-0.0 c.from_residual.ensures c.in_err-file.ensures

@@ -1,5 +1,6 @@
 use Rattle.nfs_args.specs.declared.args.NfsArgs.TheVariants as nfs
-use Rattle.nfs_procs.proofs.Judged.{denied_by_rule, granted_by_rules}
+use Rattle.nfs_procs.specs.Plans.{PlansSymLink}
+use Rattle.nfs_procs.proofs.Judged.{denied_by_rule, denied_through, granted_by_rules}
 use Rattle.std.proofs.Common.{◌≡◌, Some, None, refl, ap, subst}
 use Rattle.nfs_inodes.specs.Conditions.{MayMakeLink}
 use Rattle.nfs_inodes.specs.declared.new_file.NewFile.{NewFile}
@@ -34,3 +35,8 @@ returns-in-Err c =
     let failed : first (sym_link_rules s a.place.name a.path) ≡ Some rule =
     subst (λ path. first (sym_link_rules s a.place.name path) ≡ Some rule) c.bytes-2.ensures (subst (λ name. first (sym_link_rules s name c.bytes-2.result.now) ≡ Some rule) c.bytes.ensures c.in-Err.ensures) in
     denied_by_rule c.args.tree.now c.args.call.now (nfs.SymLink a) a.place.dir refl s rule c.of_rule.result c.in_ok-dir.ensures failed c.of_rule.ensures
+
+pub returns-in_err-dir : goal.returns-in_err-dir
+returns-in_err-dir c =
+    let a = c.args.args.now in
+    denied_through c.args.tree.now c.args.call.now (nfs.SymLink a) a.place.dir refl (PlansSymLink c.args.tree.now c.args.call.now.moment a) c.from_residual.result c.in_err-dir.field-0.0 c.from_residual.ensures c.in_err-dir.ensures
