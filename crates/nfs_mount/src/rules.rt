@@ -7,7 +7,7 @@ ghost use Rattle.nfs_rules.specs.Judging.{Judges};
 use nfs_exports::addr::Addr;
 use nfs_exports::table::Table;
 use nfs_inodes::tree::Tree;
-use nfs_rules::name_rules::path_long;
+use nfs_rules::name_rules::path_must_be_short;
 use nfs_rules::rule::Rule;
 
 /// The place of the volume of a path, where a client at this address may mount it, or the first rule
@@ -17,7 +17,7 @@ pub(crate) fn volume_for(tree: &Tree, table: &Table, addr: Addr, path: &[u8]) ->
     ensures volume { IfOk result (λ place. place_named tree.now path.now ≡ Some place) }
     ensures within { IfOk result (λ place. place < length tree.now.volumes) }
 {
-    if let Err(rule) = path_long(path) {
+    if let Err(rule) = path_must_be_short(path) {
         return Err(rule);
     }
     let Some(place) = tree.volume_named(path) else {

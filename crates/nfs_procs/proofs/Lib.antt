@@ -10,3 +10,5 @@ pub mod SymLink
 pub mod WrittenBytes
 pub mod GivenSettings
 pub mod Creations
+pub mod Growth
+pub mod Rooms

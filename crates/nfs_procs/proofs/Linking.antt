@@ -1,5 +1,5 @@
 -- A file has a further name, or another one.
-use Rattle.std.proofs.Common.{◌≡◌, ℕ, List, Option, Some, sym, ap, subst, arith, ◌∙◌}
+use Rattle.std.proofs.Common.{◌≡◌, ℕ, List, Option, Some, refl, sym, ap, subst, arith, ◌∙◌}
 use Rattle.std.specs.Int.{w32, to_be_bytes}
 use Rattle.nfs_args.specs.Results.{linked_text, renamed_text}
 use Rattle.nfs_args.specs.declared.link.Link.{Link}
@@ -7,11 +7,13 @@ use Rattle.nfs_args.specs.declared.rename.Rename.{Rename}
 use Rattle.nfs_attrs.specs.declared.fattr.Fattr.{Fattr}
 use Rattle.nfs_attrs.specs.declared.wcc.Wcc.{Wcc}
 use Rattle.nfs_inodes.specs.Changes.{after_link, after_rename}
+use Rattle.nfs_inodes.specs.Conditions.{NameApart}
 use Rattle.nfs_inodes.specs.Reading.{attributes_at}
 use Rattle.nfs_inodes.specs.Tree.{Tree}
+use Rattle.nfs_procs.proofs.Growth.{they_differ}
 use Rattle.nfs_procs.specs.Changers.{changed, link, rename}
 use Rattle.nfs_procs.specs.Doing.{change}
-use Rattle.nfs_procs.specs.Performing.{IsGranted, HasEffect}
+use Rattle.nfs_procs.specs.Performing.{IsGranted, HasEffect, HasNoMemory}
 use Rattle.nfs_procs.specs.Plans.{PlansLink, PlansRename}
 use Rattle.nfs_procs.specs.Scenes.{Scene}
 use Rattle.nfs_rules.specs.Subjects.{Subject}
@@ -54,4 +56,22 @@ renames c a plan s u new bytes others from to x y z granted plans same same_too 
   written = appends_then _ _ x y z status
       (subst (λ w. Appends (renamed_text (record { from = w; to = changed new u })) y z) (wcc ∙ ap (λ (f : Fattr). change (Some f) (attributes_at new f.fileid)) plans.from_is)
       (subst (λ w. Appends (renamed_text (record { from = from; to = w })) y z) (wcc_too ∙ ap (λ (f : Fattr). change (Some f) (attributes_at new f.fileid)) plans.to_is) written));
+}
+
+-- where there is no memory for another name
+pub unrenamed : (c : Scene) (a : Rename) (plan : Fattr × Fattr) (s u : Subject) (new : Tree) (bytes others : List ℕ) (x : Written)
+    → IsGranted c s u → PlansRename c.tree a plan s u → bytes ≡ a.from.name → others ≡ a.to.name → new ≡ c.tree → NameApart c.tree plan.0.fileid bytes plan.1.fileid others
+    → HasNoMemory c (rename a) new x x
+unrenamed c a plan s u new bytes others x granted plans same same_too is apart = record {
+  one = s;
+  two = u;
+  granted = granted;
+  takes = they_differ s.tree s.file.fileid u.file.fileid a.from.name a.to.name
+      (subst (λ b. NameApart s.tree s.file.fileid b u.file.fileid a.to.name) same
+      (subst (λ b. NameApart s.tree s.file.fileid bytes u.file.fileid b) same_too
+      (subst (λ (f : Fattr). NameApart s.tree f.fileid bytes u.file.fileid others) plans.from_is
+      (subst (λ (f : Fattr). NameApart s.tree plan.0.fileid bytes f.fileid others) plans.to_is
+      (subst (λ t. NameApart t plan.0.fileid bytes plan.1.fileid others) (sym plans.tree) apart)))));
+  new_is = is;
+  written = refl;
 }

@@ -1,26 +1,27 @@
 -- Calls that leave the tree as it is.
 use Rattle.std.proofs.Common.{◌≡◌, ◌≤◌, ℕ, List, length, [], ◌∷◌, Option, Some, None, refl, sym, ap, subst, arith, ◌∙◌}
 use Rattle.nfs_args.specs.Answers.{nfs_text}
+use Rattle.nfs_args.specs.declared.args.NfsArgs.{NfsArgs}
 use Rattle.nfs_attrs.specs.declared.fattr.Fattr.{Fattr}
 use Rattle.nfs_attrs.specs.declared.moment.Moment.{Moment}
 use Rattle.nfs_inodes.proofs.Lists.{same_some, not_both}
 use Rattle.nfs_inodes.specs.Law.{Law}
 use Rattle.nfs_inodes.specs.Reading.{path_at, path_of}
 use Rattle.nfs_inodes.specs.Tree.{Tree, File, Kind, Regular, Directory, Link, at, on_some, path_in}
-use Rattle.nfs_procs.proofs.Judged.{denied_by_handle, granted_by_rules, subject_tree}
-use Rattle.nfs_procs.specs.Denials.{IsDenied}
+use Rattle.nfs_procs.proofs.Judged.{denied_by_handle, granted_by_rules}
+use Rattle.nfs_procs.specs.Denials.{IsNamed, IsUnnamed, IsDenied}
 use Rattle.nfs_procs.specs.Doing.{Doing, unchanged}
 use Rattle.nfs_procs.specs.Performing.{IsGranted, HasEffect, Performs}
-use Rattle.nfs_procs.specs.Scenes.{Scene, seen_in}
+use Rattle.nfs_procs.specs.Scenes.{Scene, scene, seen_in}
+use Rattle.nfs_procs.specs.declared.call.Call.{Call}
 use Rattle.nfs_procs.specs.declared.denial.Denial.{Denial}
 use Rattle.nfs_procs.specs.declared.done.Done.{Done}
 use Rattle.nfs_procs.specs.declared.done.Done.TheVariants.{Denied}
 use Rattle.nfs_rules.specs.Rules.{status_of}
-use Rattle.nfs_rules.specs.Subjects.{Subject, subject_at}
+use Rattle.nfs_rules.specs.Subjects.{Subject}
 use Rattle.nfs_rules.specs.Table.{rules_of}
 use Rattle.nfs_rules.specs.Tests.{first}
-use Rattle.nfs_rules.specs.Verdicts.{handle_rules, handles_in}
-use Rattle.nfs_rules.specs.declared.rule.Rule.{Rule}
+use Rattle.nfs_rules.specs.Verdicts.{handles_in}
 use Rattle.nfs_xdr.specs.Written.{Written, Appends}
 
 -- where it is granted, what was written is of its subject
@@ -46,16 +47,16 @@ denies c doing h denial done text x y denied tells written is = subst (λ d. Per
 })
 
 -- Of a call with one handle and no rules after its own.
-module _ (c : Scene) (doing : Doing) (h b : List ℕ) (one : handles_in c.args ≡ h ∷ []) (same : b ≡ h) where
-  pub reads_freely : (s : Subject) (x y : Written) → doing.effect ≡ unchanged → rules_of s s c.args ≡ [] → first (handle_rules c.tree c.exports c.caller b) ≡ None → Some s ≡ subject_at c.tree c.exports c.caller b
-      → Appends (nfs_text (doing.granted s s c.tree)) x y → HasEffect c doing c.tree x y
-  reads_freely s x y unchanging none passed some written = reads c doing s x y unchanging
-      (granted_by_rules c h b one same s passed (sym some) (ap first none))
-      (subject_tree c.tree c.exports c.caller b s (sym some)) written
+module _ (t : Tree) (call : Call) (args : NfsArgs) (doing : Doing) (h : List ℕ) (one : handles_in args ≡ h ∷ []) where
+  pub reads_freely : (s : Subject) (x y : Written) → doing.effect ≡ unchanged → rules_of s s args ≡ [] → IsNamed t call h s
+      → Appends (nfs_text (doing.granted s s t)) x y → HasEffect (scene t call args) doing t x y
+  reads_freely s x y unchanging none names written = reads (scene t call args) doing s x y unchanging
+      (granted_by_rules t call args h one s names (ap first none)) names.tree written
 
-  pub denies_handle : (rule : Rule) (denial : Denial) (done : Done) (text : Option Fattr → List ℕ) (x y : Written) → first (handle_rules c.tree c.exports c.caller b) ≡ Some rule → None ≡ subject_at c.tree c.exports c.caller b
-      → denial ≡ record { rule = rule; uid = None; shown = None } → nfs_text (doing.denied (status_of denial.rule) (seen_in c)) ≡ text (seen_in c h) → Appends (text denial.shown) x y → done ≡ Denied denial.rule denial.uid → Performs c doing done c.tree x y
-  denies_handle rule denial done text x y failed none is tells written made = denies c doing h denial done text x y (denied_by_handle c h b one same rule denial failed (sym none) is) tells written made
+  pub denies_handle : (denial : Denial) (done : Done) (text : Option Fattr → List ℕ) (x y : Written) → IsUnnamed t call h denial
+      → nfs_text (doing.denied (status_of denial.rule) (seen_in (scene t call args))) ≡ text (seen_in (scene t call args) h) → Appends (text denial.shown) x y
+      → done ≡ Denied denial.rule denial.uid → Performs (scene t call args) doing done t x y
+  denies_handle denial done text x y unnamed tells written made = denies (scene t call args) doing h denial done text x y (denied_by_handle t call args h one denial unnamed) tells written made
 
 -- ---- the path of a link
 

@@ -1,5 +1,5 @@
 -- Bytes are written.
-use Rattle.std.proofs.Common.{◌≡◌, ℕ, sym, ap, subst, ◌∙◌, arith}
+use Rattle.std.proofs.Common.{◌≡◌, ℕ, List, refl, sym, ap, subst, ◌∙◌, arith}
 use Rattle.std.specs.Prelude.{Some, Ok, length}
 use Rattle.nfs_args.specs.Answers.{nfs_text}
 use Rattle.nfs_args.specs.declared.answer.NfsAnswer.TheVariants as answer
@@ -9,11 +9,13 @@ use Rattle.nfs_args.specs.declared.written.Written.{Written}
 use Rattle.nfs_attrs.specs.declared.fattr.Fattr.{Fattr}
 use Rattle.nfs_attrs.specs.declared.wcc.Wcc.{Wcc}
 use Rattle.nfs_inodes.specs.Changes.{after_write_at}
+use Rattle.nfs_inodes.specs.Conditions.{Grows}
 use Rattle.nfs_inodes.specs.Reading.{attributes_at}
 use Rattle.nfs_inodes.specs.Tree.{Tree}
+use Rattle.nfs_procs.proofs.Growth.{it_grows}
 use Rattle.nfs_procs.specs.Changers.{write, changed}
 use Rattle.nfs_procs.specs.Doing.{change}
-use Rattle.nfs_procs.specs.Performing.{IsGranted, HasEffect}
+use Rattle.nfs_procs.specs.Performing.{IsGranted, HasEffect, HasNoMemory}
 use Rattle.nfs_procs.specs.Plans.{PlansBytes}
 use Rattle.nfs_procs.specs.Readers.{verifier_of}
 use Rattle.nfs_procs.specs.Scenes.{Scene}
@@ -45,3 +47,18 @@ wrote c a s file new shown count verifier x y granted plans is shows counts veri
     same = ap (λ w. answer_of w count verifier) (shows ∙ ap (λ (f : Fattr). change (Some f) (attributes_at new f.fileid)) plans.same)
         ∙ ap (λ n. answer_of (changed new s) n verifier) counts
         ∙ ap (answer_of (changed new s) (length a.content)) (verifies ∙ ap verifier_of (sym plans.tree))
+
+-- where there is no memory for what the file grows by
+pub unwritten : (c : Scene) (a : Write) (s : Subject) (file : Fattr) (new : Tree) (bytes : List ℕ) (x : output.Written) → IsGranted c s s → PlansBytes c.tree a file s → bytes ≡ a.content
+    → new ≡ c.tree → Grows c.tree file.fileid a.offset (length bytes) → HasNoMemory c (write a) new x x
+unwritten c a s file new bytes x granted plans same is full = record {
+  one = s;
+  two = s;
+  granted = granted;
+  takes = it_grows s.tree s.file.fileid a.offset (length a.content)
+      (subst (λ b. Grows s.tree s.file.fileid a.offset (length b)) same
+      (subst (λ (f : Fattr). Grows s.tree f.fileid a.offset (length bytes)) plans.same
+      (subst (λ t. Grows t file.fileid a.offset (length bytes)) (sym plans.tree) full)));
+  new_is = is;
+  written = refl;
+}

@@ -1,5 +1,6 @@
 -- What the procedures that change the tree do and answer (RFC 1813, section 3.3).
-use Rattle.std.specs.Prelude.{ℕ, Bool, true, false, ◌||◌, List, length, Option, Some, None, Ok, Err, is_some, if◌then◌else◌}
+use Rattle.std.specs.Prelude.{ℕ, ◌+◌, Bool, true, false, not, ◌&&◌, ◌||◌, List, length, Option, Some, None, Ok, Err, is_some, nat_eq, nat_lt, if◌then◌else◌}
+use Rattle.nfs_args.specs.Sizes.{largest_of}
 use Rattle.nfs_args.specs.declared.answer.NfsAnswer.TheVariants as answer
 use Rattle.nfs_args.specs.declared.create.Create.{Create}
 use Rattle.nfs_args.specs.declared.create.CreateHow.{CreateHow}
@@ -13,6 +14,7 @@ use Rattle.nfs_args.specs.declared.set_attr.SetAttr.{SetAttr}
 use Rattle.nfs_args.specs.declared.sym_link.SymLink.{SymLink}
 use Rattle.nfs_args.specs.declared.write.Stability.TheVariants.{FileSync}
 use Rattle.nfs_args.specs.declared.write.Write.{Write}
+use Rattle.nfs_args.specs.declared.procedure.Procedure.TheVariants as proc
 use Rattle.nfs_attrs.specs.declared.moment.Moment.{Moment}
 use Rattle.nfs_attrs.specs.declared.sattr.Sattr.{Sattr}
 use Rattle.nfs_attrs.specs.declared.time_setting.TimeSetting.{TimeSetting}
@@ -20,10 +22,10 @@ use Rattle.nfs_attrs.specs.declared.time_setting.TimeSetting.TheVariants.{Leave,
 use Rattle.nfs_attrs.specs.declared.wcc.Wcc.{Wcc}
 use Rattle.nfs_handles.specs.Handles.{handle_at}
 use Rattle.nfs_inodes.specs.Changes.{after_make_file, after_make_dir, after_make_link, after_link, after_write_at, after_resize, after_set, after_unlink, after_rename, zeros}
-use Rattle.nfs_inodes.specs.Reading.{attributes_at, numbered_files}
+use Rattle.nfs_inodes.specs.Reading.{attributes_at, bytes_at, entry_at, numbered_files}
 use Rattle.nfs_inodes.specs.Tree.{Tree, on_some}
 use Rattle.nfs_inodes.specs.declared.given_attributes.GivenAttributes.{GivenAttributes}
-use Rattle.nfs_procs.specs.Doing.{Doing, change, no_change}
+use Rattle.nfs_procs.specs.Doing.{Doing, always, never, change, no_change}
 use Rattle.nfs_procs.specs.NewFiles.{new_file_of}
 use Rattle.nfs_procs.specs.Readers.{verifier_of}
 use Rattle.nfs_rules.specs.Subjects.{Subject}
@@ -33,6 +35,14 @@ use Rattle.nfs_rules.specs.Tests.{found}
 -- a file before and after a granted call
 abbrev pub changed : Tree → Subject → Wcc
 changed new s = change (Some s.file) (attributes_at new s.file.fileid)
+
+-- whether so many bytes from an offset on reach beyond those that file n has
+abbrev pub grows : Tree → ℕ → ℕ → ℕ → Bool
+grows t n offset count = nat_lt 0 count && nat_lt (length (bytes_at t n)) (offset + count)
+
+-- a size that it gets, if one is given
+abbrev pub grows_to : Tree → ℕ → Option ℕ → Bool
+grows_to t n size = on_some size false (grows t n 0)
 
 -- ---- SETATTR
 
@@ -58,9 +68,10 @@ after_settings t n a now = if sets_something a then after_set (on_some a.size t 
 
 abbrev pub set_attr : SetAttr → Doing
 set_attr a = record {
-  takes_memory = is_some a.attributes.size;
+  takes_memory = λ file same. grows_to file.tree file.file.fileid a.attributes.size;
   effect = λ file same now tag. after_settings file.tree file.file.fileid a.attributes now;
   granted = λ file same new. answer.SetAttr (Ok (changed new file));
+  largest = largest_of proc.SetAttr;
   denied = λ status seen. answer.SetAttr (Err (record { status = status; shown = no_change (seen a.file) }));
 }
 
@@ -68,9 +79,10 @@ set_attr a = record {
 
 abbrev pub write : Write → Doing
 write a = record {
-  takes_memory = true;
+  takes_memory = λ file same. grows file.tree file.file.fileid a.offset (length a.content);
   effect = λ file same now tag. after_write_at file.tree file.file.fileid a.offset a.content now;
   granted = λ file same new. answer.Write (Ok (record { file = changed new file; count = length a.content; committed = FileSync; verifier = verifier_of file.tree }));
+  largest = largest_of proc.Write;
   denied = λ status seen. answer.Write (Err (record { status = status; shown = no_change (seen a.file) }));
 }
 
@@ -109,6 +121,11 @@ abbrev pub after_taking : Tree → ℕ → CreateHow → Moment → Tree
 after_taking t n (Unchecked attributes) now = on_some attributes.size t (λ size. after_resize t n size now)
 after_taking t n other now = t
 
+-- and it may grow by that
+abbrev pub taking_grows : Tree → ℕ → CreateHow → Bool
+taking_grows t n (Unchecked attributes) = grows_to t n attributes.size
+taking_grows t n other = false
+
 -- a new file has as many zeros as its size says
 abbrev pub after_creating : Subject → Create → Moment → ℕ → Tree
 after_creating dir a now tag = after_make_file dir.tree dir.file.fileid a.place.name (zeros (on_some (size_in a.how) 0 (λ size. size)))
@@ -116,26 +133,29 @@ after_creating dir a now tag = after_make_file dir.tree dir.file.fileid a.place.
 
 abbrev pub create : Create → Doing
 create a = record {
-  takes_memory = true;
+  takes_memory = λ dir same. on_some (found dir a.place.name) true (λ f. taking_grows dir.tree f.fileid a.how);
   effect = λ dir same now tag. on_some (found dir a.place.name) (after_creating dir a now tag) (λ f. after_taking dir.tree f.fileid a.how now);
   granted = λ dir same new. answer.Create (Ok (made_of new (on_some (found dir a.place.name) dir.tree.next (λ f. f.fileid)) dir));
+  largest = largest_of proc.Create;
   denied = λ status seen. answer.Create (Err (record { status = status; shown = no_change (seen a.place.dir) }));
 }
 
 abbrev pub make_dir : MakeDir → Doing
 make_dir a = record {
-  takes_memory = true;
+  takes_memory = always;
   effect = λ dir same now tag. after_make_dir dir.tree dir.file.fileid a.place.name (new_file_of directory_mode dir.ids now a.attributes) tag now;
   granted = λ dir same new. answer.MakeDir (Ok (made_of new dir.tree.next dir));
+  largest = largest_of proc.MakeDir;
   denied = λ status seen. answer.MakeDir (Err (record { status = status; shown = no_change (seen a.place.dir) }));
 }
 
 -- the mode that is given for a link is not looked at
 abbrev pub sym_link : SymLink → Doing
 sym_link a = record {
-  takes_memory = true;
+  takes_memory = always;
   effect = λ dir same now tag. after_make_link dir.tree dir.file.fileid a.place.name a.path (record (new_file_of link_mode dir.ids now a.attributes) { mode = link_mode }) tag now;
   granted = λ dir same new. answer.SymLink (Ok (made_of new dir.tree.next dir));
+  largest = largest_of proc.SymLink;
   denied = λ status seen. answer.SymLink (Err (record { status = status; shown = no_change (seen a.place.dir) }));
 }
 
@@ -143,32 +163,41 @@ sym_link a = record {
 
 abbrev pub remove : DirOp → Doing
 remove a = record {
-  takes_memory = false;
+  takes_memory = never;
   effect = λ dir same now tag. after_unlink dir.tree dir.file.fileid a.name now;
   granted = λ dir same new. answer.Remove (Ok (changed new dir));
+  largest = largest_of proc.Remove;
   denied = λ status seen. answer.Remove (Err (record { status = status; shown = no_change (seen a.dir) }));
 }
 
 abbrev pub remove_dir : DirOp → Doing
 remove_dir a = record {
-  takes_memory = false;
+  takes_memory = never;
   effect = λ dir same now tag. after_unlink dir.tree dir.file.fileid a.name now;
   granted = λ dir same new. answer.RemoveDir (Ok (changed new dir));
+  largest = largest_of proc.RemoveDir;
   denied = λ status seen. answer.RemoveDir (Err (record { status = status; shown = no_change (seen a.dir) }));
 }
 
+-- whether two names are not those of one file
+abbrev pub names_apart : Tree → ℕ → List ℕ → ℕ → List ℕ → Bool
+names_apart t from name to new_name = on_some (entry_at t from name) true (λ e. on_some (entry_at t to new_name) true (λ old. not (nat_eq old.number e.number)))
+
+-- where both names name one file nothing changes
 abbrev pub rename : Rename → Doing
 rename a = record {
-  takes_memory = true;
+  takes_memory = λ from to. names_apart from.tree from.file.fileid a.from.name to.file.fileid a.to.name;
   effect = λ from to now tag. after_rename from.tree from.file.fileid a.from.name to.file.fileid a.to.name now;
   granted = λ from to new. answer.Rename (Ok (record { from = changed new from; to = changed new to }));
+  largest = largest_of proc.Rename;
   denied = λ status seen. answer.Rename (Err (record { status = status; shown = record { from = no_change (seen a.from.dir); to = no_change (seen a.to.dir) } }));
 }
 
 abbrev pub link : Link → Doing
 link a = record {
-  takes_memory = true;
+  takes_memory = always;
   effect = λ file dir now tag. after_link file.tree file.file.fileid dir.file.fileid a.place.name now;
   granted = λ file dir new. answer.Link (Ok (record { attributes = attributes_at new file.file.fileid; dir = changed new dir }));
+  largest = largest_of proc.Link;
   denied = λ status seen. answer.Link (Err (record { status = status; shown = record { attributes = seen a.file; dir = no_change (seen a.place.dir) } }));
 }

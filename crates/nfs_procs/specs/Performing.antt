@@ -33,10 +33,12 @@ pub record HasFailed (c : Scene) (doing : Doing) (rule : Rule) (uid : Option ℕ
   pub new_is : new ≡ c.tree
   pub written : Appends (nfs_text (doing.denied (status_of rule) (seen_in c))) before after
 
--- no rule fails, but there is no memory; the tree stays, and nothing is written
+-- no rule fails, but there is no memory for what grows; the tree stays, and nothing is written
 pub record HasNoMemory (c : Scene) (doing : Doing) (new : Tree) (before after : Written) : Type 0 where
-  pub takes : doing.takes_memory ≡ true
-  pub verdict : verdict_in c ≡ None
+  pub one : Subject
+  pub two : Subject
+  pub granted : IsGranted c one two
+  pub takes : doing.takes_memory one two ≡ true
   pub new_is : new ≡ c.tree
   pub written : after ≡ before
 

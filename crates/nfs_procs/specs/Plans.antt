@@ -1,5 +1,5 @@
 -- What is planned of procedures that change the tree, once their rules are kept.
-use Rattle.std.specs.Prelude.{◌≡◌, ℕ, true, false, List, length, Option, Some, None}
+use Rattle.std.specs.Prelude.{◌≡◌, ℕ, true, false, List, length, Option, Some, None, Result, Ok, Err}
 use Rattle.nfs_args.specs.declared.create.Create.{Create}
 use Rattle.nfs_args.specs.declared.create.CreateHow.{CreateHow}
 use Rattle.nfs_args.specs.declared.create.CreateHow.TheVariants.{Unchecked}
@@ -18,10 +18,10 @@ use Rattle.nfs_inodes.specs.Conditions.{MayLink, MayMake, MayMakeDirectory, MayM
 use Rattle.nfs_inodes.specs.Law.{Lives}
 use Rattle.nfs_inodes.specs.Reading.{is_regular_type}
 use Rattle.nfs_inodes.specs.Tree.{Tree, File, on_some}
-use Rattle.nfs_inodes.specs.Views.{IsSeen}
-use Rattle.nfs_inodes.specs.Views.{FileView}
+use Rattle.nfs_inodes.specs.Views.{FileView, IsSeen, standing_of}
 use Rattle.nfs_procs.specs.NewFiles.{new_file_of}
 use Rattle.nfs_procs.specs.Changers.{file_mode, directory_mode, link_mode, attributes_in, verifier_in, after_taking}
+use Rattle.nfs_procs.specs.declared.denial.Denial.{Denial}
 use Rattle.nfs_procs.specs.declared.plan.Plan.{Plan}
 use Rattle.nfs_procs.specs.declared.plan.FilePlan.{FilePlan}
 use Rattle.nfs_procs.specs.declared.plan.RemovalPlan.{RemovalPlan}
@@ -30,6 +30,7 @@ use Rattle.nfs_rules.specs.Subjects.{Subject}
 use Rattle.nfs_rules.specs.Table.{size_in}
 use Rattle.nfs_rules.specs.Tests.{found}
 use Rattle.nfs_rules.specs.declared.rights.Right.TheVariants.{Execute}
+use Rattle.nfs_rules.specs.declared.rule.Rule.{Rule}
 
 -- a new directory
 pub record PlansDirectory (t : Tree) (now : Moment) (a : MakeDir) (plan : Plan) (s : Subject) : Type 0 where
@@ -72,6 +73,13 @@ pub record PlansRemoval (t : Tree) (name : List ℕ) (plan : RemovalPlan) (s : S
   pub tree : s.tree ≡ t
   pub dir : plan.dir ≡ s.file
   pub may : MayUnlinkSeen t plan.dir.fileid name plan.number.0 plan.file
+
+-- an entry that the rules grant to be taken away, or the denial by the first of them that fails
+abbrev pub PlansEntry : Subject → Result FileView Rule → Result RemovalPlan Denial → Type 0
+PlansEntry s (Ok file) (Ok plan) = (plan.dir ≡ s.file) × (plan.number.0 ≡ file.attributes.fileid) × (plan.file ≡ standing_of file.attributes)
+PlansEntry s (Err rule) (Err denial) = denial ≡ record { rule = rule; uid = Some s.ids.uid; shown = Some s.file }
+PlansEntry s (Ok file) (Err denial) = ⊥
+PlansEntry s (Err rule) (Ok plan) = ⊥
 
 -- a further name: the file, and the directory of the name
 pub record PlansLink (t : Tree) (name : List ℕ) (plan : Fattr × Fattr) (file dir : Subject) : Type 0 where

@@ -1,5 +1,5 @@
 -- Every procedure by its arguments.
-use Rattle.std.specs.Prelude.{◌≡◌, Option, Some, None}
+use Rattle.std.specs.Prelude.{◌≡◌, ℕ, Option, Some, None}
 use Rattle.nfs_args.specs.declared.args.NfsArgs.{NfsArgs}
 use Rattle.nfs_args.specs.declared.args.NfsArgs.TheVariants as nfs
 use Rattle.nfs_inodes.specs.Tree.{Tree}
@@ -35,6 +35,11 @@ doing_of (nfs.FsStat file) = Some (fs_stat file)
 doing_of (nfs.FsInfo file) = Some (fs_info file)
 doing_of (nfs.PathConf file) = Some (path_conf file)
 doing_of (nfs.Commit a) = Some (commit a)
+
+-- the room that the longest result takes
+abbrev pub room_for : Option Doing → ℕ
+room_for None = 0
+room_for (Some doing) = doing.largest
 
 -- what is not done changes and writes nothing
 abbrev pub PerformsAs : Scene → Option Doing → Option Done → Tree → Written → Written → Type 0

@@ -2,6 +2,7 @@
 use Rattle.std.specs.Prelude.{ℕ, ◌+◌, ◌-◌, Bool, true, false, List, [], length, map, take, drop, min, Option, Some, None, Ok, Err, nat_le, slice_get}
 use Rattle.std.specs.Int.{w64, from_be_bytes}
 use Rattle.nfs_args.specs.declared.access.Access.{Access}
+use Rattle.nfs_args.specs.Sizes.{largest_of, max_data}
 use Rattle.nfs_args.specs.declared.answer.NfsAnswer.TheVariants as answer
 use Rattle.nfs_args.specs.declared.byte_range.ByteRange.{ByteRange}
 use Rattle.nfs_args.specs.declared.dir_op.DirOp.{DirOp}
@@ -17,6 +18,7 @@ use Rattle.nfs_args.specs.declared.room.Room.{Room}
 use Rattle.nfs_args.specs.declared.room.Space.{Space}
 use Rattle.nfs_args.specs.declared.server_limits.ServerLimits.{ServerLimits}
 use Rattle.nfs_args.specs.declared.server_limits.Transfer.{Transfer}
+use Rattle.nfs_args.specs.declared.procedure.Procedure.TheVariants as proc
 use Rattle.nfs_attrs.specs.declared.fattr.Fattr.{Fattr}
 use Rattle.nfs_dirs.specs.Pages.{fits, fits_plus, chosen, is_end, left_after, entry_told, entry_plus_told}
 use Rattle.nfs_handles.specs.Handles.{handle_at}
@@ -24,7 +26,7 @@ use Rattle.nfs_inodes.specs.Limits.{max_file_bytes, max_name_bytes, max_links}
 use Rattle.nfs_inodes.specs.Reading.{bytes_at, numbered_files, path_at, totals_at}
 use Rattle.nfs_inodes.specs.Tree.{Tree, Volume, on_some}
 use Rattle.nfs_inodes.specs.declared.volumes.Totals.{Totals}
-use Rattle.nfs_procs.specs.Doing.{Doing, unchanged, no_change}
+use Rattle.nfs_procs.specs.Doing.{Doing, never, unchanged, no_change}
 use Rattle.nfs_rules.specs.Rights.{access_bits, may}
 use Rattle.nfs_rules.specs.Rules.{status_of}
 use Rattle.nfs_rules.specs.Subjects.{Subject}
@@ -39,42 +41,46 @@ handle_in t f = on_some (handle_at (numbered_files t) f.fileid) [] (λ handle. h
 -- GETATTR: the attributes of the file
 abbrev pub get_attr : Doing
 get_attr = record {
-  takes_memory = false;
+  takes_memory = never;
   effect = unchanged;
   granted = λ file same new. answer.GetAttr (Ok file.file);
+  largest = largest_of proc.GetAttr;
   denied = λ status seen. answer.GetAttr (Err (record { status = status; shown = tt }));
 }
 
 -- LOOKUP: the file under the name
 abbrev pub lookup : DirOp → Doing
 lookup a = record {
-  takes_memory = false;
+  takes_memory = never;
   effect = unchanged;
   granted = λ dir same new. answer.Lookup (Ok (record { file = on_some (found dir a.name) [] (handle_in dir.tree); attributes = found dir a.name; dir = Some dir.file }));
+  largest = largest_of proc.Lookup;
   denied = λ status seen. answer.Lookup (Err (record { status = status; shown = seen a.dir }));
 }
 
 -- ACCESS: the bits that are asked for and granted
 abbrev pub access : Access → Doing
 access a = record {
-  takes_memory = false;
+  takes_memory = never;
   effect = unchanged;
   granted = λ file same new. answer.Access (Ok (record { attributes = Some file.file; rights = access_bits file.options.read_only file.ids file.file a.rights }));
+  largest = largest_of proc.Access;
   denied = λ status seen. answer.Access (Err (record { status = status; shown = seen a.file }));
 }
 
 -- READLINK: the link's path
 abbrev pub read_link : List ℕ → Doing
 read_link handle = record {
-  takes_memory = false;
+  takes_memory = never;
   effect = unchanged;
   granted = λ file same new. answer.ReadLink (Ok (record { attributes = Some file.file; path = on_some (path_at file.tree file.file.fileid) [] (λ path. path) }));
+  largest = largest_of proc.ReadLink;
   denied = λ status seen. answer.ReadLink (Err (record { status = status; shown = seen handle }));
 }
 
 -- the most bytes of one READ or WRITE that the server speaks of
 abbrev pub max_transfer : ℕ
-max_transfer = 65536
+max_transfer = max_data
 
 -- from the offset on as many as are asked for, at most 65,536, and as many as are there
 abbrev pub read_bytes : Subject → ByteRange → List ℕ
@@ -87,9 +93,10 @@ data_of f offset bytes = record { attributes = Some f; eof = nat_le f.size (offs
 -- READ
 abbrev pub read : ByteRange → Doing
 read a = record {
-  takes_memory = false;
+  takes_memory = never;
   effect = unchanged;
   granted = λ file same new. answer.Read (Ok (data_of file.file a.offset (read_bytes file a)));
+  largest = largest_of proc.Read;
   denied = λ status seen. answer.Read (Err (record { status = status; shown = seen a.file }));
 }
 
@@ -105,9 +112,10 @@ page_at t f cookie count = record {
 -- READDIR
 abbrev pub read_dir : ReadDir → Doing
 read_dir a = record {
-  takes_memory = false;
+  takes_memory = never;
   effect = unchanged;
   granted = λ dir same new. answer.ReadDir (Ok (page_at dir.tree dir.file a.cookie a.count));
+  largest = largest_of proc.ReadDir;
   denied = λ status seen. answer.ReadDir (Err (record { status = status; shown = seen a.dir }));
 }
 
@@ -123,18 +131,20 @@ page_plus_at t f searchable cookie dircount maxcount = record {
 -- READDIRPLUS
 abbrev pub read_dir_plus : ReadDirPlus → Doing
 read_dir_plus a = record {
-  takes_memory = false;
+  takes_memory = never;
   effect = unchanged;
   granted = λ dir same new. answer.ReadDirPlus (Ok (page_plus_at dir.tree dir.file (may dir.ids dir.file Execute) a.cookie a.dircount a.maxcount));
+  largest = largest_of proc.ReadDirPlus;
   denied = λ status seen. answer.ReadDirPlus (Err (record { status = status; shown = seen a.dir }));
 }
 
 -- MKNOD is never granted
 abbrev pub make_node : MakeNode → Doing
 make_node a = record {
-  takes_memory = false;
+  takes_memory = never;
   effect = unchanged;
   granted = λ dir same new. answer.MakeNode (Err (record { status = status_of NoMakeNode; shown = no_change (Some dir.file) }));
+  largest = largest_of proc.MakeNode;
   denied = λ status seen. answer.MakeNode (Err (record { status = status; shown = no_change (seen a.place.dir) }));
 }
 
@@ -154,9 +164,10 @@ room_in None totals f = record { attributes = Some f; bytes = no_space; files = 
 -- FSSTAT: the room of the file's volume
 abbrev pub fs_stat : List ℕ → Doing
 fs_stat handle = record {
-  takes_memory = false;
+  takes_memory = never;
   effect = unchanged;
   granted = λ file same new. answer.FsStat (Ok (room_in (slice_get file.tree.volumes (file.file.fsid - 1)) (totals_at file.tree (file.file.fsid - 1)) file.file));
+  largest = largest_of proc.FsStat;
   denied = λ status seen. answer.FsStat (Err (record { status = status; shown = seen handle }));
 }
 
@@ -171,9 +182,10 @@ server_limits f = record { attributes = Some f; read = transfer; write = transfe
 -- FSINFO: what the server bears
 abbrev pub fs_info : List ℕ → Doing
 fs_info handle = record {
-  takes_memory = false;
+  takes_memory = never;
   effect = unchanged;
   granted = λ file same new. answer.FsInfo (Ok (server_limits file.file));
+  largest = largest_of proc.FsInfo;
   denied = λ status seen. answer.FsInfo (Err (record { status = status; shown = seen handle }));
 }
 
@@ -184,9 +196,10 @@ path_limits f = record { attributes = Some f; linkmax = max_links; name_max = ma
 -- PATHCONF: what names may be
 abbrev pub path_conf : List ℕ → Doing
 path_conf handle = record {
-  takes_memory = false;
+  takes_memory = never;
   effect = unchanged;
   granted = λ file same new. answer.PathConf (Ok (path_limits file.file));
+  largest = largest_of proc.PathConf;
   denied = λ status seen. answer.PathConf (Err (record { status = status; shown = seen handle }));
 }
 
@@ -197,8 +210,9 @@ verifier_of t = from_be_bytes w64 t.key
 -- COMMIT: nothing is left to be made safe
 abbrev pub commit : ByteRange → Doing
 commit a = record {
-  takes_memory = false;
+  takes_memory = never;
   effect = unchanged;
   granted = λ file same new. answer.Commit (Ok (record { file = no_change (Some file.file); verifier = verifier_of file.tree }));
+  largest = largest_of proc.Commit;
   denied = λ status seen. answer.Commit (Err (record { status = status; shown = no_change (seen a.file) }));
 }

@@ -5,10 +5,10 @@ use Rattle.nfs_attrs.specs.declared.fattr.Fattr.{Fattr}
 use Rattle.nfs_attrs.specs.declared.moment.Moment.{Moment}
 use Rattle.nfs_exports.specs.declared.table.Export.{Export}
 use Rattle.nfs_inodes.specs.Tree.{Tree}
+use Rattle.nfs_procs.specs.declared.call.Call.{Call}
 use Rattle.nfs_rules.specs.Subjects.{Caller, Subject, subject_at}
 use Rattle.nfs_rules.specs.Verdicts.{handles_in, subjects_at, verdict}
 use Rattle.nfs_rules.specs.Views.{caller_of}
-use Rattle.nfs_rules.specs.declared.caller.Caller as kept
 use Rattle.nfs_rules.specs.declared.rule.Rule.{Rule}
 
 pub record Scene : Type 0 where
@@ -18,9 +18,9 @@ pub record Scene : Type 0 where
   pub now : Moment
   pub args : NfsArgs
 
--- as it is in memory
-abbrev pub scene : Tree → List (List Export) → kept.Caller → Moment → NfsArgs → Scene
-scene t exports caller now args = record { tree = t; exports = exports; caller = caller_of caller; now = now; args = args }
+-- of a call as it is in memory
+abbrev pub scene : Tree → Call → NfsArgs → Scene
+scene t call args = record { tree = t; exports = call.table.now; caller = caller_of call.caller; now = call.moment; args = args }
 
 abbrev pub verdict_in : Scene → Option Rule
 verdict_in c = verdict c.tree c.exports c.caller c.args

@@ -1,6 +1,8 @@
 //! ACCESS: the rights of the caller (RFC 1813, section 3.3.4).
 ghost use Rattle.std.specs.Prelude.{◌≡◌, ◌≤◌, Some, Ok};
 ghost use Rattle.nfs_args.specs.Answers.{nfs_text};
+ghost use Rattle.nfs_args.specs.Sizes.{largest_of};
+ghost use Rattle.nfs_args.specs.declared.procedure.Procedure.TheVariants as proc;
 ghost use Rattle.nfs_args.specs.declared.answer.NfsAnswer.TheVariants as answer;
 ghost use Rattle.nfs_args.specs.declared.args.NfsArgs.TheVariants as nfs;
 ghost use Rattle.nfs_procs.specs.Performing.{Performs};
@@ -8,44 +10,33 @@ ghost use Rattle.nfs_procs.specs.Readers as procedure;
 ghost use Rattle.nfs_procs.specs.Scenes.{scene};
 ghost use Rattle.nfs_xdr.specs.Written.{Appends};
 
-use crate::denial::Denial;
+use crate::call::Call;
 use crate::done::Done;
-use crate::limits::MAX_RESULT_BYTES;
 use crate::replies::write_denied_attributes;
+use crate::subjects::file_of;
 use nfs_args::access::Access;
 use nfs_args::rights::{Rights, write_rights};
 use nfs_attrs::fattr::Fattr;
-use nfs_attrs::moment::Moment;
-use nfs_exports::table::Table;
 use nfs_inodes::tree::Tree;
-use nfs_rules::caller::Caller;
-use nfs_rules::exported_file::ExportedFile;
 use nfs_xdr::output::Output;
 
-pub(crate) fn access(
-    tree: &Tree,
-    table: &Table,
-    caller: Caller<'_>,
-    now: Moment,
-    args: &Access<'_>,
-    out: &mut Output,
-) -> Done
-    requires { MAX_RESULT_BYTES ≤ out.old.room }
-    ensures { Performs (scene tree.now table.now caller.entry now (nfs.Access args.now))
+pub(crate) fn access(tree: &Tree, call: &Call<'_>, args: &Access<'_>, out: &mut Output) -> Done
+    requires { (procedure.access args.now).largest ≤ out.old.room }
+    ensures { Performs (scene tree.now call.now (nfs.Access args.now))
         (procedure.access args.now) result tree.now out.old out.new }
 {
-    match ExportedFile::of(tree, table, caller, args.file.bytes()) {
+    match file_of(tree, call, &args.file) {
         Ok(file) => {
             let file = file.subject();
             write_granted(out, &file.attributes(), file.access_bits(args.rights));
             Done::Granted
         }
-        Err(rule) => write_denied_attributes(out, &Denial::of_handle(rule)),
+        Err(denial) => write_denied_attributes(out, &denial),
     }
 }
 
 fn write_granted(out: &mut Output, file: &Fattr, rights: u32)
-    requires { 256 ≤ out.old.room }
+    requires { largest_of proc.Access ≤ out.old.room }
     ensures { Appends (nfs_text (answer.Access (Ok (record { attributes = Some file.now; rights = rights })))) out.old out.new }
 {
     out.u32(0);

@@ -1,6 +1,8 @@
 //! COMMIT: bytes made safe, as all are at once (RFC 1813, section 3.3.21).
 ghost use Rattle.std.specs.Prelude.{◌≡◌, ◌≤◌, Some, Ok};
 ghost use Rattle.nfs_args.specs.Answers.{nfs_text};
+ghost use Rattle.nfs_args.specs.Sizes.{largest_of};
+ghost use Rattle.nfs_args.specs.declared.procedure.Procedure.TheVariants as proc;
 ghost use Rattle.nfs_args.specs.declared.answer.NfsAnswer.TheVariants as answer;
 ghost use Rattle.nfs_args.specs.declared.args.NfsArgs.TheVariants as nfs;
 ghost use Rattle.nfs_procs.specs.Denials.{Decides};
@@ -11,34 +13,24 @@ ghost use Rattle.nfs_procs.specs.Readers as procedure;
 ghost use Rattle.nfs_procs.specs.Scenes.{scene};
 ghost use Rattle.nfs_xdr.specs.Written.{Appends};
 
+use crate::call::Call;
 use crate::denial::Denial;
 use crate::done::Done;
-use crate::limits::MAX_RESULT_BYTES;
 use crate::replies::{change, verifier_of, write_denied_change};
+use crate::subjects::subject_of;
 use nfs_args::byte_range::ByteRange;
 use nfs_args::committed::{Committed, write_committed};
 use nfs_attrs::fattr::Fattr;
-use nfs_attrs::moment::Moment;
-use nfs_exports::table::Table;
 use nfs_inodes::tree::Tree;
-use nfs_rules::caller::Caller;
-use nfs_rules::exported_file::ExportedFile;
 use nfs_rules::subject::Subject;
 use nfs_xdr::output::Output;
 
-pub(crate) fn commit(
-    tree: &Tree,
-    table: &Table,
-    caller: Caller<'_>,
-    now: Moment,
-    args: &ByteRange<'_>,
-    out: &mut Output,
-) -> Done
-    requires { MAX_RESULT_BYTES ≤ out.old.room }
-    ensures { Performs (scene tree.now table.now caller.entry now (nfs.Commit args.now))
+pub(crate) fn commit(tree: &Tree, call: &Call<'_>, args: &ByteRange<'_>, out: &mut Output) -> Done
+    requires { (procedure.commit args.now).largest ≤ out.old.room }
+    ensures { Performs (scene tree.now call.now (nfs.Commit args.now))
         (procedure.commit args.now) result tree.now out.old out.new }
 {
-    match decide(tree, table, caller, now, args) {
+    match decide(tree, call, args) {
         Ok(file) => {
             write_granted(out, tree, &file.attributes());
             Done::Granted
@@ -47,28 +39,19 @@ pub(crate) fn commit(
     }
 }
 
-fn decide<'a>(
-    tree: &'a Tree,
-    table: &'a Table,
-    caller: Caller<'a>,
-    now: Moment,
-    args: &ByteRange<'_>,
-) -> Result<Subject<'a>, Denial>
-    ensures { Decides (scene tree.entry.now table.entry.now caller.entry now (nfs.Commit args.now)) args.now.file
+fn decide<'a>(tree: &'a Tree, call: &Call<'a>, args: &ByteRange<'_>) -> Result<Subject<'a>, Denial>
+    ensures { Decides (scene tree.entry.now call.now (nfs.Commit args.now)) args.now.file
         (PlansReading tree.entry.now) result }
 {
-    let file = match ExportedFile::of(tree, table, caller, args.file.bytes()) {
-        Ok(file) => file.subject(),
-        Err(rule) => return Err(Denial::of_handle(rule)),
-    };
-    match file.not_regular() {
+    let file = subject_of(tree, call, &args.file)?;
+    match file.must_be_regular() {
         Ok(()) => Ok(file),
         Err(rule) => Err(Denial::of_rule(&file, rule)),
     }
 }
 
 fn write_granted(out: &mut Output, tree: &Tree, file: &Fattr)
-    requires { 256 ≤ out.old.room }
+    requires { largest_of proc.Commit ≤ out.old.room }
     ensures { Appends (nfs_text (answer.Commit (Ok
         (record { file = no_change (Some file.now); verifier = procedure.verifier_of tree.now })))) out.old out.new }
 {

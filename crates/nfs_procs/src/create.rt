@@ -7,47 +7,37 @@ ghost use Rattle.nfs_procs.specs.Performing.{Performs};
 ghost use Rattle.nfs_procs.specs.Plans.{PlansFile};
 ghost use Rattle.nfs_procs.specs.Scenes.{scene};
 
+use crate::call::Call;
 use crate::creation::make_or_take;
 use crate::denial::Denial;
 use crate::done::Done;
-use crate::limits::MAX_RESULT_BYTES;
 use crate::new_files::new_file_of;
 use crate::plan::FilePlan;
 use crate::replies::{change, write_denied_change, write_new_file};
+use crate::subjects::subject_of;
 use nfs_args::create::{Create, CreateHow};
 use nfs_attrs::fattr::Fattr;
-use nfs_attrs::moment::Moment;
 use nfs_attrs::sattr::Sattr;
 use nfs_attrs::time_setting::TimeSetting;
-use nfs_exports::table::Table;
 use nfs_handles::number::Number;
 use nfs_inodes::tree::Tree;
 use nfs_inodes::view::FileView;
-use nfs_rules::caller::Caller;
-use nfs_rules::exported_file::ExportedFile;
 use nfs_rules::table::create_rules;
 use nfs_xdr::output::Output;
 
 /// The mode of a file where none is given.
 const FILE_MODE: u32 = 0o600;
 
-pub(crate) fn create(
-    tree: &mut Tree,
-    table: &Table,
-    caller: Caller<'_>,
-    now: Moment,
-    args: &Create<'_>,
-    out: &mut Output,
-) -> Done
-    requires { MAX_RESULT_BYTES ≤ out.old.room }
-    ensures { Performs (scene tree.old table.now caller.entry now (nfs.Create args.now))
+pub(crate) fn create(tree: &mut Tree, call: &Call<'_>, args: &Create<'_>, out: &mut Output) -> Done
+    requires { (procedure.create args.now).largest ≤ out.old.room }
+    ensures { Performs (scene tree.old call.now (nfs.Create args.now))
         (procedure.create args.now) result tree.new out.old out.new }
 {
-    let plan = match decide(tree, table, caller, now, args) {
+    let plan = match decide(tree, call, args) {
         Ok(plan) => plan,
         Err(denial) => return write_denied_change(out, &denial),
     };
-    let Ok(file) = make_or_take(tree, &plan, args, now) else {
+    let Ok(file) = make_or_take(tree, &plan, args, call.moment) else {
         return Done::Memory;
     };
     let dir = change(Some(plan.dir), tree.attributes(Number(plan.dir.fileid)));
@@ -56,26 +46,16 @@ pub(crate) fn create(
     Done::Granted
 }
 
-fn decide(
-    tree: &Tree,
-    table: &Table,
-    caller: Caller<'_>,
-    now: Moment,
-    args: &Create<'_>,
-) -> Result<FilePlan, Denial>
-    ensures { Decides (scene tree.now table.now caller.entry now (nfs.Create args.now)) args.now.place.dir
-        (PlansFile tree.now now args.now) result }
+fn decide(tree: &Tree, call: &Call<'_>, args: &Create<'_>) -> Result<FilePlan, Denial>
+    ensures { Decides (scene tree.now call.now (nfs.Create args.now)) args.now.place.dir
+        (PlansFile tree.now call.now.moment args.now) result }
 {
-    let dir = match ExportedFile::of(tree, table, caller, args.place.dir.bytes()) {
-        Ok(file) => file.subject(),
-        Err(rule) => return Err(Denial::of_handle(rule)),
-    };
-    dir.law();
+    let dir = subject_of(tree, call, &args.place.dir)?;
     match create_rules(&dir, args) {
         Ok(present) => Ok(FilePlan {
             dir: dir.attributes(),
             present: attributes_of(&present),
-            given: new_file_of(FILE_MODE, &dir, now, &given_in(&args.how)),
+            given: new_file_of(FILE_MODE, &dir, call.moment, &given_in(&args.how)),
         }),
         Err(rule) => Err(Denial::of_rule(&dir, rule)),
     }

@@ -1,5 +1,5 @@
 //! Regular files that are made, or taken where they are there.
-ghost use Rattle.std.specs.Prelude.{◌≡◌, OnOk, OnErr, IfOk};
+ghost use Rattle.std.specs.Prelude.{◌≡◌, true, OnOk, OnErr, IfOk};
 ghost use Rattle.nfs_inodes.specs.Changes.{Makes};
 ghost use Rattle.nfs_inodes.specs.Conditions.{MayMake};
 ghost use Rattle.nfs_inodes.specs.Tree.{on_some};
@@ -17,8 +17,8 @@ use nfs_inodes::content::zeroed;
 use nfs_inodes::tree::Tree;
 use std::alloc::AllocError;
 
-/// The file that is taken, or else a new one. Refused without memory, and then the tree is as
-/// before.
+/// The file that is taken, or else a new one. Refused only without memory for a new file, or for what
+/// the one that is taken grows by, and then the tree is as before.
 pub(crate) fn make_or_take(
     tree: &mut Tree,
     plan: &FilePlan,
@@ -29,6 +29,7 @@ pub(crate) fn make_or_take(
     ensures ok { OnOk result (Makes (after_making_or_taking tree.old plan.now args.now now) tree.new) }
     ensures number { IfOk result (λ n. n.0 ≡ number_of tree.old plan.now.present) }
     ensures err { OnErr result (tree.new ≡ tree.old) }
+    ensures full { OnErr result (on_some plan.now.present true (λ f. changers.taking_grows tree.old f.fileid args.now.how) ≡ true) }
 {
     match plan.present {
         None => make(tree, plan, args, now),
@@ -68,6 +69,7 @@ fn take(tree: &mut Tree, number: Number, how: &CreateHow, now: Moment) -> Result
     requires { MayTake tree.old number.0 how.now }
     ensures ok { OnOk result (tree.new ≡ changers.after_taking tree.old number.0 how.now now) }
     ensures err { OnErr result (tree.new ≡ tree.old) }
+    ensures full { OnErr result (changers.taking_grows tree.old number.0 how.now ≡ true) }
 {
     match how {
         CreateHow::Unchecked(given) => set_size(tree, number, given.size, now),

@@ -52,3 +52,17 @@ pub struct PairDenial {
     /// Those of what the second names.
     pub two: Option<Fattr>,
 }
+
+impl PairDenial {
+    /// A rule after those of the handles fails.
+    pub(crate) fn of_rule(one: &Subject<'_>, two: &Subject<'_>, rule: Rule) -> PairDenial
+        ensures { result ≡ record { rule = rule; uid = Some one.now.ids.uid; one = Some one.now.file; two = Some two.now.file } }
+    {
+        PairDenial {
+            rule,
+            uid: Some(one.uid()),
+            one: Some(one.attributes()),
+            two: Some(two.attributes()),
+        }
+    }
+}

@@ -1,6 +1,8 @@
 //! GETATTR: the attributes of a file (RFC 1813, section 3.3.1).
 ghost use Rattle.std.specs.Prelude.{◌≡◌, ◌≤◌, Ok, Err};
 ghost use Rattle.nfs_args.specs.Answers.{nfs_text};
+ghost use Rattle.nfs_args.specs.Sizes.{largest_of, status_size};
+ghost use Rattle.nfs_args.specs.declared.procedure.Procedure.TheVariants as proc;
 ghost use Rattle.nfs_args.specs.declared.answer.NfsAnswer.TheVariants as answer;
 ghost use Rattle.nfs_args.specs.declared.args.NfsArgs.TheVariants as nfs;
 ghost use Rattle.nfs_procs.specs.Performing.{Performs};
@@ -9,44 +11,34 @@ ghost use Rattle.nfs_procs.specs.Scenes.{scene};
 ghost use Rattle.nfs_rules.specs.Rules.{status_of};
 ghost use Rattle.nfs_xdr.specs.Written.{Appends};
 
+use crate::call::Call;
 use crate::done::Done;
-use crate::limits::MAX_RESULT_BYTES;
+use crate::subjects::file_of;
 use nfs_args::opaque::Opaque;
 use nfs_attrs::fattr::{Fattr, write_fattr};
-use nfs_attrs::moment::Moment;
-use nfs_exports::table::Table;
 use nfs_inodes::tree::Tree;
-use nfs_rules::caller::Caller;
-use nfs_rules::exported_file::ExportedFile;
 use nfs_rules::rule::Rule;
 use nfs_xdr::output::Output;
 
-pub(crate) fn get_attr(
-    tree: &Tree,
-    table: &Table,
-    caller: Caller<'_>,
-    now: Moment,
-    handle: &Opaque<'_>,
-    out: &mut Output,
-) -> Done
-    requires { MAX_RESULT_BYTES ≤ out.old.room }
-    ensures { Performs (scene tree.now table.now caller.entry now
+pub(crate) fn get_attr(tree: &Tree, call: &Call<'_>, handle: &Opaque<'_>, out: &mut Output) -> Done
+    requires { procedure.get_attr.largest ≤ out.old.room }
+    ensures { Performs (scene tree.now call.now
         (nfs.GetAttr handle.now)) procedure.get_attr result tree.now out.old out.new }
 {
-    match ExportedFile::of(tree, table, caller, handle.bytes()) {
+    match file_of(tree, call, handle) {
         Ok(file) => {
             write_granted(out, &file.attributes());
             Done::Granted
         }
-        Err(rule) => {
-            write_denied(out, rule);
-            Done::Denied(rule, None)
+        Err(denial) => {
+            write_denied(out, denial.rule);
+            Done::Denied(denial.rule, denial.uid)
         }
     }
 }
 
 fn write_granted(out: &mut Output, file: &Fattr)
-    requires { 88 ≤ out.old.room }
+    requires { largest_of proc.GetAttr ≤ out.old.room }
     ensures { Appends (nfs_text (answer.GetAttr (Ok file.now))) out.old out.new }
 {
     out.u32(0);
@@ -54,7 +46,7 @@ fn write_granted(out: &mut Output, file: &Fattr)
 }
 
 fn write_denied(out: &mut Output, rule: Rule)
-    requires { 4 ≤ out.old.room }
+    requires { status_size ≤ out.old.room }
     ensures { Appends (nfs_text (answer.GetAttr (Err (record { status = status_of rule; shown = tt })))) out.old out.new }
 {
     out.u32(rule.status());

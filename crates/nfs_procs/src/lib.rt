@@ -2,6 +2,7 @@
 #![tactic(auto)]
 
 pub mod access;
+pub mod call;
 pub mod commit;
 pub mod create;
 pub mod creation;
@@ -30,5 +31,6 @@ pub mod rename;
 pub mod replies;
 pub mod set_attr;
 pub mod settings;
+pub mod subjects;
 pub mod sym_link;
 pub mod write;

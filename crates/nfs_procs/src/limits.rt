@@ -1,10 +1,15 @@
 //! The bounds of results.
 
-/// How many bytes the largest result has, a READ of 65,536 bytes.
-pub const MAX_RESULT_BYTES: usize = 65_640;
+use nfs_args::limits::MAX_DATA_BYTES;
+
+// What a READ's result has beside its data: the status, the file's attributes, and three words.
+const READ_HEAD_BYTES: usize = 4 + 88 + 3 * 4;
+
+/// How many bytes the largest result has, a READ of as many bytes as one answers.
+pub const MAX_RESULT_BYTES: usize = READ_HEAD_BYTES + MAX_DATA_BYTES;
 
 /// The most bytes of one READ, and the most of a WRITE that the server speaks of.
-pub const MAX_TRANSFER: u32 = 65_536;
+pub const MAX_TRANSFER: u32 = MAX_DATA_BYTES as u32;
 
 /// What the bytes of a READ or a WRITE had better be a multiple of.
 pub const TRANSFER_MULTIPLE: u32 = 4_096;

@@ -2,6 +2,8 @@
 ghost use Rattle.std.specs.Prelude.{◌≡◌, ◌≤◌, ◌++◌};
 ghost use Rattle.std.specs.Int.{w32, to_be_bytes};
 ghost use Rattle.nfs_args.specs.Results.{linked_text};
+ghost use Rattle.nfs_args.specs.Sizes.{largest_of};
+ghost use Rattle.nfs_args.specs.declared.procedure.Procedure.TheVariants as proc;
 ghost use Rattle.nfs_args.specs.declared.args.NfsArgs.TheVariants as nfs;
 ghost use Rattle.nfs_procs.specs.Changers as procedure;
 ghost use Rattle.nfs_procs.specs.Denials.{DecidesPair};
@@ -13,42 +15,31 @@ ghost use Rattle.nfs_procs.specs.declared.done.Done.TheVariants as done;
 ghost use Rattle.nfs_rules.specs.Rules.{status_of};
 ghost use Rattle.nfs_xdr.specs.Written.{Appends};
 
+use crate::call::Call;
 use crate::denial::PairDenial;
 use crate::done::Done;
-use crate::limits::MAX_RESULT_BYTES;
 use crate::replies::change;
+use crate::subjects::pair_of;
 use nfs_args::link::Link;
 use nfs_args::linked::{Linked, write_linked};
 use nfs_attrs::fattr::Fattr;
-use nfs_attrs::moment::Moment;
-use nfs_exports::table::Table;
 use nfs_handles::number::Number;
 use nfs_inodes::tree::Tree;
-use nfs_rules::caller::Caller;
-use nfs_rules::exported_file::ExportedFile;
-use nfs_rules::exported_pair::{both, shown};
 use nfs_rules::table::link_rules;
 use nfs_xdr::output::Output;
 
-pub(crate) fn link(
-    tree: &mut Tree,
-    table: &Table,
-    caller: Caller<'_>,
-    now: Moment,
-    args: &Link<'_>,
-    out: &mut Output,
-) -> Done
-    requires { MAX_RESULT_BYTES ≤ out.old.room }
-    ensures { Performs (scene tree.old table.now caller.entry now (nfs.Link args.now))
+pub(crate) fn link(tree: &mut Tree, call: &Call<'_>, args: &Link<'_>, out: &mut Output) -> Done
+    requires { (procedure.link args.now).largest ≤ out.old.room }
+    ensures { Performs (scene tree.old call.now (nfs.Link args.now))
         (procedure.link args.now) result tree.new out.old out.new }
 {
-    let (file, dir) = match decide(tree, table, caller, now, args) {
+    let (file, dir) = match decide(tree, call, args) {
         Ok(plan) => plan,
         Err(denial) => return write_denied(out, &denial),
     };
     let number = Number(file.fileid);
     let place = Number(dir.fileid);
-    let Ok(()) = tree.link(number, place, args.place.name.bytes(), now) else {
+    let Ok(()) = tree.link(number, place, args.place.name.bytes(), call.moment) else {
         return Done::Memory;
     };
     let attributes = tree.attributes(number);
@@ -58,45 +49,19 @@ pub(crate) fn link(
     Done::Granted
 }
 
-fn decide(
-    tree: &Tree,
-    table: &Table,
-    caller: Caller<'_>,
-    now: Moment,
-    args: &Link<'_>,
-) -> Result<(Fattr, Fattr), PairDenial>
-    ensures { DecidesPair (scene tree.now table.now caller.entry now (nfs.Link args.now)) args.now.file args.now.place.dir
+fn decide(tree: &Tree, call: &Call<'_>, args: &Link<'_>) -> Result<(Fattr, Fattr), PairDenial>
+    ensures { DecidesPair (scene tree.now call.now (nfs.Link args.now)) args.now.file args.now.place.dir
         (PlansLink tree.now args.now.place.name) result }
 {
-    let file = ExportedFile::of(tree, table, caller, args.file.bytes());
-    let dir = ExportedFile::of(tree, table, caller, args.place.dir.bytes());
-    let (one, two) = (shown(&file), shown(&dir));
-    let (file, dir) = match both(file, dir) {
-        Ok(subjects) => subjects,
-        Err(rule) => {
-            return Err(PairDenial {
-                rule,
-                uid: None,
-                one,
-                two,
-            });
-        }
-    };
-    file.law();
-    dir.law();
+    let (file, dir) = pair_of(tree, call, &args.file, &args.place.dir)?;
     match link_rules(&file, &dir, args.place.name.bytes()) {
         Ok(()) => Ok((file.attributes(), dir.attributes())),
-        Err(rule) => Err(PairDenial {
-            rule,
-            uid: Some(file.uid()),
-            one,
-            two,
-        }),
+        Err(rule) => Err(PairDenial::of_rule(&file, &dir, rule)),
     }
 }
 
 fn write_denied(out: &mut Output, denial: &PairDenial) -> Done
-    requires { 256 ≤ out.old.room }
+    requires { largest_of proc.Link ≤ out.old.room }
     ensures text { Appends (to_be_bytes w32 (status_of denial.now.rule) ++ linked_text
         (record { attributes = denial.now.one; dir = doing.no_change denial.now.two })) out.old out.new }
     ensures done { result ≡ done.Denied denial.now.rule denial.now.uid }

@@ -1,6 +1,8 @@
 //! LOOKUP: the file under a name (RFC 1813, section 3.3.3).
 ghost use Rattle.std.specs.Prelude.{◌≡◌, ◌≤◌, Some, Ok};
 ghost use Rattle.nfs_args.specs.Answers.{nfs_text};
+ghost use Rattle.nfs_args.specs.Sizes.{largest_of};
+ghost use Rattle.nfs_args.specs.declared.procedure.Procedure.TheVariants as proc;
 ghost use Rattle.nfs_args.specs.declared.answer.NfsAnswer.TheVariants as answer;
 ghost use Rattle.nfs_args.specs.declared.args.NfsArgs.TheVariants as nfs;
 ghost use Rattle.nfs_procs.specs.Denials.{Decides};
@@ -10,37 +12,27 @@ ghost use Rattle.nfs_procs.specs.Readers as procedure;
 ghost use Rattle.nfs_procs.specs.Scenes.{scene};
 ghost use Rattle.nfs_xdr.specs.Written.{Appends};
 
+use crate::call::Call;
 use crate::denial::Denial;
 use crate::done::Done;
-use crate::limits::MAX_RESULT_BYTES;
 use crate::replies::write_denied_attributes;
+use crate::subjects::subject_of;
 use nfs_args::dir_op::DirOp;
 use nfs_args::found::{Found, write_found};
 use nfs_args::opaque::Opaque;
 use nfs_attrs::fattr::Fattr;
-use nfs_attrs::moment::Moment;
-use nfs_exports::table::Table;
 use nfs_inodes::tree::Tree;
 use nfs_inodes::view::FileView;
-use nfs_rules::caller::Caller;
-use nfs_rules::exported_file::ExportedFile;
 use nfs_rules::subject::Subject;
 use nfs_rules::table::lookup_rules;
 use nfs_xdr::output::Output;
 
-pub(crate) fn lookup(
-    tree: &Tree,
-    table: &Table,
-    caller: Caller<'_>,
-    now: Moment,
-    args: &DirOp<'_>,
-    out: &mut Output,
-) -> Done
-    requires { MAX_RESULT_BYTES ≤ out.old.room }
-    ensures { Performs (scene tree.now table.now caller.entry now (nfs.Lookup args.now))
+pub(crate) fn lookup(tree: &Tree, call: &Call<'_>, args: &DirOp<'_>, out: &mut Output) -> Done
+    requires { (procedure.lookup args.now).largest ≤ out.old.room }
+    ensures { Performs (scene tree.now call.now (nfs.Lookup args.now))
         (procedure.lookup args.now) result tree.now out.old out.new }
 {
-    match decide(tree, table, caller, now, args) {
+    match decide(tree, call, args) {
         Ok((dir, file)) => {
             let handle = tree.handle(&file);
             write_granted(out, &handle, &file.attributes(), &dir.attributes());
@@ -52,18 +44,13 @@ pub(crate) fn lookup(
 
 fn decide<'a>(
     tree: &'a Tree,
-    table: &'a Table,
-    caller: Caller<'a>,
-    now: Moment,
+    call: &Call<'a>,
     args: &DirOp<'_>,
 ) -> Result<(Subject<'a>, FileView<'a>), Denial>
-    ensures { Decides (scene tree.entry.now table.entry.now caller.entry now (nfs.Lookup args.now)) args.now.dir
+    ensures { Decides (scene tree.entry.now call.now (nfs.Lookup args.now)) args.now.dir
         (PlansFound tree.entry.now args.now.name) result }
 {
-    let dir = match ExportedFile::of(tree, table, caller, args.dir.bytes()) {
-        Ok(file) => file.subject(),
-        Err(rule) => return Err(Denial::of_handle(rule)),
-    };
+    let dir = subject_of(tree, call, &args.dir)?;
     match lookup_rules(&dir, args.name.bytes()) {
         Ok(file) => Ok((dir, file)),
         Err(rule) => Err(Denial::of_rule(&dir, rule)),
@@ -71,7 +58,7 @@ fn decide<'a>(
 }
 
 fn write_granted(out: &mut Output, handle: &[u8; 24], file: &Fattr, dir: &Fattr)
-    requires { 256 ≤ out.old.room }
+    requires { largest_of proc.Lookup ≤ out.old.room }
     ensures { Appends (nfs_text (answer.Lookup (Ok
         (record { file = handle.now; attributes = Some file.now; dir = Some dir.now })))) out.old out.new }
 {

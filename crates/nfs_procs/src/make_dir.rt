@@ -7,19 +7,16 @@ ghost use Rattle.nfs_procs.specs.Plans.{PlansDirectory};
 ghost use Rattle.nfs_procs.specs.Changers as procedure;
 ghost use Rattle.nfs_procs.specs.Scenes.{scene};
 
+use crate::call::Call;
 use crate::denial::Denial;
 use crate::done::Done;
-use crate::limits::MAX_RESULT_BYTES;
 use crate::new_files::new_file_of;
 use crate::plan::Plan;
 use crate::replies::{change, write_denied_change, write_new_file};
+use crate::subjects::subject_of;
 use nfs_args::make_dir::MakeDir;
-use nfs_attrs::moment::Moment;
-use nfs_exports::table::Table;
 use nfs_handles::number::Number;
 use nfs_inodes::tree::Tree;
-use nfs_rules::caller::Caller;
-use nfs_rules::exported_file::ExportedFile;
 use nfs_rules::table::make_dir_rules;
 use nfs_xdr::output::Output;
 
@@ -28,22 +25,20 @@ const DIRECTORY_MODE: u32 = 0o700;
 
 pub(crate) fn make_dir(
     tree: &mut Tree,
-    table: &Table,
-    caller: Caller<'_>,
-    now: Moment,
+    call: &Call<'_>,
     args: &MakeDir<'_>,
     out: &mut Output,
 ) -> Done
-    requires { MAX_RESULT_BYTES ≤ out.old.room }
-    ensures { Performs (scene tree.old table.now caller.entry now (nfs.MakeDir args.now))
+    requires { (procedure.make_dir args.now).largest ≤ out.old.room }
+    ensures { Performs (scene tree.old call.now (nfs.MakeDir args.now))
         (procedure.make_dir args.now) result tree.new out.old out.new }
 {
-    let plan = match decide(tree, table, caller, now, args) {
+    let plan = match decide(tree, call, args) {
         Ok(plan) => plan,
         Err(denial) => return write_denied_change(out, &denial),
     };
     let dir = Number(plan.dir.fileid);
-    let Ok(made) = tree.make_dir(dir, args.place.name.bytes(), &plan.given, now) else {
+    let Ok(made) = tree.make_dir(dir, args.place.name.bytes(), &plan.given, call.moment) else {
         return Done::Memory;
     };
     out.u32(0);
@@ -56,25 +51,15 @@ pub(crate) fn make_dir(
     Done::Granted
 }
 
-fn decide(
-    tree: &Tree,
-    table: &Table,
-    caller: Caller<'_>,
-    now: Moment,
-    args: &MakeDir<'_>,
-) -> Result<Plan, Denial>
-    ensures { Decides (scene tree.now table.now caller.entry now (nfs.MakeDir args.now)) args.now.place.dir
-        (PlansDirectory tree.now now args.now) result }
+fn decide(tree: &Tree, call: &Call<'_>, args: &MakeDir<'_>) -> Result<Plan, Denial>
+    ensures { Decides (scene tree.now call.now (nfs.MakeDir args.now)) args.now.place.dir
+        (PlansDirectory tree.now call.now.moment args.now) result }
 {
-    let dir = match ExportedFile::of(tree, table, caller, args.place.dir.bytes()) {
-        Ok(file) => file.subject(),
-        Err(rule) => return Err(Denial::of_handle(rule)),
-    };
-    dir.law();
+    let dir = subject_of(tree, call, &args.place.dir)?;
     match make_dir_rules(&dir, args.place.name.bytes()) {
         Ok(()) => Ok(Plan {
             dir: dir.attributes(),
-            given: new_file_of(DIRECTORY_MODE, &dir, now, &args.attributes),
+            given: new_file_of(DIRECTORY_MODE, &dir, call.moment, &args.attributes),
         }),
         Err(rule) => Err(Denial::of_rule(&dir, rule)),
     }

@@ -6,40 +6,30 @@ ghost use Rattle.nfs_procs.specs.Performing.{Performs};
 ghost use Rattle.nfs_procs.specs.Readers as procedure;
 ghost use Rattle.nfs_procs.specs.Scenes.{scene};
 
+use crate::call::Call;
 use crate::denial::Denial;
 use crate::done::Done;
-use crate::limits::MAX_RESULT_BYTES;
 use crate::replies::write_denied_change;
+use crate::subjects::file_of;
 use nfs_args::make_node::MakeNode;
-use nfs_attrs::moment::Moment;
-use nfs_exports::table::Table;
 use nfs_inodes::tree::Tree;
-use nfs_rules::caller::Caller;
-use nfs_rules::exported_file::ExportedFile;
 use nfs_rules::rule::Rule;
 use nfs_xdr::output::Output;
 
-pub(crate) fn make_node(
-    tree: &Tree,
-    table: &Table,
-    caller: Caller<'_>,
-    now: Moment,
-    args: &MakeNode<'_>,
-    out: &mut Output,
-) -> Done
-    requires { MAX_RESULT_BYTES ≤ out.old.room }
-    ensures { Performs (scene tree.now table.now caller.entry now (nfs.MakeNode args.now))
+pub(crate) fn make_node(tree: &Tree, call: &Call<'_>, args: &MakeNode<'_>, out: &mut Output) -> Done
+    requires { (procedure.make_node args.now).largest ≤ out.old.room }
+    ensures { Performs (scene tree.now call.now (nfs.MakeNode args.now))
         (procedure.make_node args.now) result tree.now out.old out.new }
 {
-    let denial = deny(tree, table, caller, now, args);
+    let denial = deny(tree, call, args);
     write_denied_change(out, &denial)
 }
 
-fn deny(tree: &Tree, table: &Table, caller: Caller<'_>, now: Moment, args: &MakeNode<'_>) -> Denial
-    ensures { IsDenied (scene tree.now table.now caller.entry now (nfs.MakeNode args.now)) args.now.place.dir result }
+fn deny(tree: &Tree, call: &Call<'_>, args: &MakeNode<'_>) -> Denial
+    ensures { IsDenied (scene tree.now call.now (nfs.MakeNode args.now)) args.now.place.dir result }
 {
-    match ExportedFile::of(tree, table, caller, args.place.dir.bytes()) {
+    match file_of(tree, call, &args.place.dir) {
         Ok(dir) => Denial::of_rule(&dir.subject(), Rule::NoMakeNode),
-        Err(rule) => Denial::of_handle(rule),
+        Err(denial) => denial,
     }
 }

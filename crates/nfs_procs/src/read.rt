@@ -1,6 +1,8 @@
 //! READ: bytes of a file (RFC 1813, section 3.3.6).
 ghost use Rattle.std.specs.Prelude.{◌≡◌, ◌+◌, ◌^◌, ◌<◌, ◌≤◌, true, Some, Ok, length, take, drop, min, nat_le};
 ghost use Rattle.nfs_args.specs.Answers.{nfs_text};
+ghost use Rattle.nfs_args.specs.Sizes.{largest_of};
+ghost use Rattle.nfs_args.specs.declared.procedure.Procedure.TheVariants as proc;
 ghost use Rattle.nfs_args.specs.declared.answer.NfsAnswer.TheVariants as answer;
 ghost use Rattle.nfs_args.specs.declared.args.NfsArgs.TheVariants as nfs;
 ghost use Rattle.nfs_procs.specs.Denials.{Decides};
@@ -12,35 +14,26 @@ ghost use Rattle.nfs_procs.specs.Readers as procedure;
 ghost use Rattle.nfs_procs.specs.Scenes.{scene};
 ghost use Rattle.nfs_xdr.specs.Written.{Appends};
 
+use crate::call::Call;
 use crate::denial::Denial;
 use crate::done::Done;
-use crate::limits::{MAX_RESULT_BYTES, MAX_TRANSFER};
+use crate::limits::MAX_TRANSFER;
 use crate::replies::write_denied_attributes;
+use crate::subjects::subject_of;
 use nfs_args::byte_range::ByteRange;
 use nfs_args::read_data::write_read_head;
-use nfs_attrs::moment::Moment;
-use nfs_exports::table::Table;
 use nfs_inodes::tree::Tree;
 use nfs_inodes::view::FileView;
-use nfs_rules::caller::Caller;
-use nfs_rules::exported_file::ExportedFile;
 use nfs_rules::subject::Subject;
 use nfs_rules::table::read_rules;
 use nfs_xdr::output::Output;
 
-pub(crate) fn read(
-    tree: &Tree,
-    table: &Table,
-    caller: Caller<'_>,
-    now: Moment,
-    args: &ByteRange<'_>,
-    out: &mut Output,
-) -> Done
-    requires { MAX_RESULT_BYTES ≤ out.old.room }
-    ensures { Performs (scene tree.now table.now caller.entry now (nfs.Read args.now))
+pub(crate) fn read(tree: &Tree, call: &Call<'_>, args: &ByteRange<'_>, out: &mut Output) -> Done
+    requires { (procedure.read args.now).largest ≤ out.old.room }
+    ensures { Performs (scene tree.now call.now (nfs.Read args.now))
         (procedure.read args.now) result tree.now out.old out.new }
 {
-    match decide(tree, table, caller, now, args) {
+    match decide(tree, call, args) {
         Ok(file) => {
             write_data(out, tree, file.view(), args.offset, args.count);
             Done::Granted
@@ -49,20 +42,11 @@ pub(crate) fn read(
     }
 }
 
-fn decide<'a>(
-    tree: &'a Tree,
-    table: &'a Table,
-    caller: Caller<'a>,
-    now: Moment,
-    args: &ByteRange<'_>,
-) -> Result<Subject<'a>, Denial>
-    ensures { Decides (scene tree.entry.now table.entry.now caller.entry now (nfs.Read args.now)) args.now.file
+fn decide<'a>(tree: &'a Tree, call: &Call<'a>, args: &ByteRange<'_>) -> Result<Subject<'a>, Denial>
+    ensures { Decides (scene tree.entry.now call.now (nfs.Read args.now)) args.now.file
         (PlansData tree.entry.now) result }
 {
-    let file = match ExportedFile::of(tree, table, caller, args.file.bytes()) {
-        Ok(file) => file.subject(),
-        Err(rule) => return Err(Denial::of_handle(rule)),
-    };
+    let file = subject_of(tree, call, &args.file)?;
     match read_rules(&file) {
         Ok(()) => Ok(file),
         Err(rule) => Err(Denial::of_rule(&file, rule)),
@@ -73,7 +57,7 @@ fn decide<'a>(
 fn write_data(out: &mut Output, tree: &Tree, file: &FileView<'_>, offset: u64, count: u32)
     requires seen { IsSeen tree.now file.now }
     requires regular { is_regular_type file.now.attributes.file_type ≡ true }
-    requires room { MAX_RESULT_BYTES ≤ out.old.room }
+    requires room { largest_of proc.Read ≤ out.old.room }
     ensures { Appends (nfs_text (answer.Read (Ok
         (procedure.data_of file.now.attributes offset (take (min count procedure.max_transfer)
         (drop offset (bytes_at tree.now file.now.attributes.fileid))))))) out.old out.new }

@@ -1,6 +1,8 @@
 //! READDIR: entries of a directory (RFC 1813, section 3.3.16).
 ghost use Rattle.std.specs.Prelude.{◌≡◌, ◌≤◌, false, Ok};
 ghost use Rattle.nfs_args.specs.Answers.{nfs_text};
+ghost use Rattle.nfs_args.specs.Sizes.{largest_of};
+ghost use Rattle.nfs_args.specs.declared.procedure.Procedure.TheVariants as proc;
 ghost use Rattle.nfs_args.specs.declared.answer.NfsAnswer.TheVariants as answer;
 ghost use Rattle.nfs_args.specs.declared.args.NfsArgs.TheVariants as nfs;
 ghost use Rattle.nfs_dirs.specs.Pages.{fits, is_too_small, left_after};
@@ -12,36 +14,27 @@ ghost use Rattle.nfs_procs.specs.Readers as procedure;
 ghost use Rattle.nfs_procs.specs.Scenes.{scene};
 ghost use Rattle.nfs_xdr.specs.Written.{Appends};
 
+use crate::call::Call;
 use crate::denial::Denial;
 use crate::done::Done;
-use crate::limits::{COOKIE_VERIFIER, MAX_RESULT_BYTES};
+use crate::limits::COOKIE_VERIFIER;
 use crate::replies::write_denied_attributes;
+use crate::subjects::subject_of;
 use nfs_args::page::write_page_head;
 use nfs_args::read_dir::ReadDir;
-use nfs_attrs::moment::Moment;
 use nfs_dirs::read_dir::page;
-use nfs_exports::table::Table;
 use nfs_inodes::tree::Tree;
 use nfs_inodes::view::FileView;
-use nfs_rules::caller::Caller;
-use nfs_rules::exported_file::ExportedFile;
 use nfs_rules::subject::Subject;
 use nfs_rules::table::read_dir_rules;
 use nfs_xdr::output::Output;
 
-pub(crate) fn read_dir(
-    tree: &Tree,
-    table: &Table,
-    caller: Caller<'_>,
-    now: Moment,
-    args: &ReadDir<'_>,
-    out: &mut Output,
-) -> Done
-    requires { MAX_RESULT_BYTES ≤ out.old.room }
-    ensures { Performs (scene tree.now table.now caller.entry now (nfs.ReadDir args.now))
+pub(crate) fn read_dir(tree: &Tree, call: &Call<'_>, args: &ReadDir<'_>, out: &mut Output) -> Done
+    requires { (procedure.read_dir args.now).largest ≤ out.old.room }
+    ensures { Performs (scene tree.now call.now (nfs.ReadDir args.now))
         (procedure.read_dir args.now) result tree.now out.old out.new }
 {
-    match decide(tree, table, caller, now, args) {
+    match decide(tree, call, args) {
         Ok(dir) => {
             write_granted(out, tree, dir.view(), args.cookie, args.count);
             Done::Granted
@@ -50,20 +43,11 @@ pub(crate) fn read_dir(
     }
 }
 
-fn decide<'a>(
-    tree: &'a Tree,
-    table: &'a Table,
-    caller: Caller<'a>,
-    now: Moment,
-    args: &ReadDir<'_>,
-) -> Result<Subject<'a>, Denial>
-    ensures { Decides (scene tree.entry.now table.entry.now caller.entry now (nfs.ReadDir args.now)) args.now.dir
+fn decide<'a>(tree: &'a Tree, call: &Call<'a>, args: &ReadDir<'_>) -> Result<Subject<'a>, Denial>
+    ensures { Decides (scene tree.entry.now call.now (nfs.ReadDir args.now)) args.now.dir
         (PlansPage tree.entry.now args.now) result }
 {
-    let dir = match ExportedFile::of(tree, table, caller, args.dir.bytes()) {
-        Ok(dir) => dir.subject(),
-        Err(rule) => return Err(Denial::of_handle(rule)),
-    };
+    let dir = subject_of(tree, call, &args.dir)?;
     match read_dir_rules(&dir, args) {
         Ok(()) => Ok(dir),
         Err(rule) => Err(Denial::of_rule(&dir, rule)),
@@ -74,7 +58,7 @@ fn decide<'a>(
 fn write_granted(out: &mut Output, tree: &Tree, dir: &FileView<'_>, cookie: u64, count: u32)
     requires seen { IsSeen tree.now dir.now }
     requires large { is_too_small (fits count) (left_after tree.now dir.now.attributes.fileid cookie) ≡ false }
-    requires room { MAX_RESULT_BYTES ≤ out.old.room }
+    requires room { largest_of proc.ReadDir ≤ out.old.room }
     ensures { Appends (nfs_text (answer.ReadDir (Ok (procedure.page_at tree.now dir.now.attributes cookie count)))) out.old out.new }
 {
     out.u32(0);

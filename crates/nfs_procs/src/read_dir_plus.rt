@@ -1,6 +1,8 @@
 //! READDIRPLUS: entries of a directory with what their files are (RFC 1813, section 3.3.17).
 ghost use Rattle.std.specs.Prelude.{◌≡◌, ◌≤◌, false, Ok};
 ghost use Rattle.nfs_args.specs.Answers.{nfs_text};
+ghost use Rattle.nfs_args.specs.Sizes.{largest_of};
+ghost use Rattle.nfs_args.specs.declared.procedure.Procedure.TheVariants as proc;
 ghost use Rattle.nfs_args.specs.declared.answer.NfsAnswer.TheVariants as answer;
 ghost use Rattle.nfs_args.specs.declared.args.NfsArgs.TheVariants as nfs;
 ghost use Rattle.nfs_dirs.specs.Pages.{fits_plus, is_too_small, left_after};
@@ -12,36 +14,32 @@ ghost use Rattle.nfs_procs.specs.Readers as procedure;
 ghost use Rattle.nfs_procs.specs.Scenes.{scene};
 ghost use Rattle.nfs_xdr.specs.Written.{Appends};
 
+use crate::call::Call;
 use crate::denial::Denial;
 use crate::done::Done;
-use crate::limits::{COOKIE_VERIFIER, MAX_RESULT_BYTES};
+use crate::limits::COOKIE_VERIFIER;
 use crate::replies::write_denied_attributes;
+use crate::subjects::subject_of;
 use nfs_args::page::write_page_head;
 use nfs_args::read_dir::ReadDirPlus;
-use nfs_attrs::moment::Moment;
 use nfs_dirs::read_dir_plus::page_plus;
-use nfs_exports::table::Table;
 use nfs_inodes::tree::Tree;
 use nfs_inodes::view::FileView;
-use nfs_rules::caller::Caller;
-use nfs_rules::exported_file::ExportedFile;
 use nfs_rules::subject::Subject;
 use nfs_rules::table::read_dir_plus_rules;
 use nfs_xdr::output::Output;
 
 pub(crate) fn read_dir_plus(
     tree: &Tree,
-    table: &Table,
-    caller: Caller<'_>,
-    now: Moment,
+    call: &Call<'_>,
     args: &ReadDirPlus<'_>,
     out: &mut Output,
 ) -> Done
-    requires { MAX_RESULT_BYTES ≤ out.old.room }
-    ensures { Performs (scene tree.now table.now caller.entry now (nfs.ReadDirPlus args.now))
+    requires { (procedure.read_dir_plus args.now).largest ≤ out.old.room }
+    ensures { Performs (scene tree.now call.now (nfs.ReadDirPlus args.now))
         (procedure.read_dir_plus args.now) result tree.now out.old out.new }
 {
-    match decide(tree, table, caller, now, args) {
+    match decide(tree, call, args) {
         Ok(dir) => {
             write_granted(out, tree, dir.view(), dir.may_search(), args);
             Done::Granted
@@ -52,18 +50,13 @@ pub(crate) fn read_dir_plus(
 
 fn decide<'a>(
     tree: &'a Tree,
-    table: &'a Table,
-    caller: Caller<'a>,
-    now: Moment,
+    call: &Call<'a>,
     args: &ReadDirPlus<'_>,
 ) -> Result<Subject<'a>, Denial>
-    ensures { Decides (scene tree.entry.now table.entry.now caller.entry now (nfs.ReadDirPlus args.now)) args.now.dir
+    ensures { Decides (scene tree.entry.now call.now (nfs.ReadDirPlus args.now)) args.now.dir
         (PlansPagePlus tree.entry.now args.now) result }
 {
-    let dir = match ExportedFile::of(tree, table, caller, args.dir.bytes()) {
-        Ok(dir) => dir.subject(),
-        Err(rule) => return Err(Denial::of_handle(rule)),
-    };
+    let dir = subject_of(tree, call, &args.dir)?;
     match read_dir_plus_rules(&dir, args) {
         Ok(()) => Ok(dir),
         Err(rule) => Err(Denial::of_rule(&dir, rule)),
@@ -81,7 +74,7 @@ fn write_granted(
     requires seen { IsSeen tree.now dir.now }
     requires large { is_too_small (fits_plus args.now.dircount args.now.maxcount searchable)
         (left_after tree.now dir.now.attributes.fileid args.now.cookie) ≡ false }
-    requires room { MAX_RESULT_BYTES ≤ out.old.room }
+    requires room { largest_of proc.ReadDirPlus ≤ out.old.room }
     ensures { Appends (nfs_text (answer.ReadDirPlus
         (Ok (procedure.page_plus_at tree.now dir.now.attributes searchable args.now.cookie args.now.dircount args.now.maxcount)))) out.old out.new }
 {

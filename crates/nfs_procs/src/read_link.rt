@@ -1,6 +1,8 @@
 //! READLINK: the path of a symbolic link (RFC 1813, section 3.3.5).
 ghost use Rattle.std.specs.Prelude.{◌≡◌, ◌≤◌, [], length, Some, Ok};
 ghost use Rattle.nfs_args.specs.Answers.{nfs_text};
+ghost use Rattle.nfs_args.specs.Sizes.{largest_of, max_path};
+ghost use Rattle.nfs_args.specs.declared.procedure.Procedure.TheVariants as proc;
 ghost use Rattle.nfs_args.specs.declared.answer.NfsAnswer.TheVariants as answer;
 ghost use Rattle.nfs_args.specs.declared.args.NfsArgs.TheVariants as nfs;
 ghost use Rattle.nfs_inodes.specs.Reading.{path_at};
@@ -12,35 +14,25 @@ ghost use Rattle.nfs_procs.specs.Readers as procedure;
 ghost use Rattle.nfs_procs.specs.Scenes.{scene};
 ghost use Rattle.nfs_xdr.specs.Written.{Appends};
 
+use crate::call::Call;
 use crate::denial::Denial;
 use crate::done::Done;
-use crate::limits::MAX_RESULT_BYTES;
 use crate::replies::write_denied_attributes;
+use crate::subjects::subject_of;
 use nfs_args::link_path::{LinkPath, write_link_path};
 use nfs_args::opaque::Opaque;
 use nfs_attrs::fattr::Fattr;
-use nfs_attrs::moment::Moment;
-use nfs_exports::table::Table;
 use nfs_handles::number::Number;
 use nfs_inodes::tree::Tree;
-use nfs_rules::caller::Caller;
-use nfs_rules::exported_file::ExportedFile;
 use nfs_rules::subject::Subject;
 use nfs_xdr::output::Output;
 
-pub(crate) fn read_link(
-    tree: &Tree,
-    table: &Table,
-    caller: Caller<'_>,
-    now: Moment,
-    handle: &Opaque<'_>,
-    out: &mut Output,
-) -> Done
-    requires { MAX_RESULT_BYTES ≤ out.old.room }
-    ensures { Performs (scene tree.now table.now caller.entry now (nfs.ReadLink handle.now))
+pub(crate) fn read_link(tree: &Tree, call: &Call<'_>, handle: &Opaque<'_>, out: &mut Output) -> Done
+    requires { (procedure.read_link handle.now).largest ≤ out.old.room }
+    ensures { Performs (scene tree.now call.now (nfs.ReadLink handle.now))
         (procedure.read_link handle.now) result tree.now out.old out.new }
 {
-    match decide(tree, table, caller, now, handle) {
+    match decide(tree, call, handle) {
         Ok(file) => {
             write_granted(out, tree, &file.attributes());
             Done::Granted
@@ -49,28 +41,19 @@ pub(crate) fn read_link(
     }
 }
 
-fn decide<'a>(
-    tree: &'a Tree,
-    table: &'a Table,
-    caller: Caller<'a>,
-    now: Moment,
-    handle: &Opaque<'_>,
-) -> Result<Subject<'a>, Denial>
-    ensures { Decides (scene tree.entry.now table.entry.now caller.entry now (nfs.ReadLink handle.now)) handle.now
+fn decide<'a>(tree: &'a Tree, call: &Call<'a>, handle: &Opaque<'_>) -> Result<Subject<'a>, Denial>
+    ensures { Decides (scene tree.entry.now call.now (nfs.ReadLink handle.now)) handle.now
         (PlansReading tree.entry.now) result }
 {
-    let file = match ExportedFile::of(tree, table, caller, handle.bytes()) {
-        Ok(file) => file.subject(),
-        Err(rule) => return Err(Denial::of_handle(rule)),
-    };
-    match file.not_link() {
+    let file = subject_of(tree, call, handle)?;
+    match file.must_be_link() {
         Ok(()) => Ok(file),
         Err(rule) => Err(Denial::of_rule(&file, rule)),
     }
 }
 
 fn write_granted(out: &mut Output, tree: &Tree, file: &Fattr)
-    requires { 1160 ≤ out.old.room }
+    requires { largest_of proc.ReadLink ≤ out.old.room }
     ensures { Appends (nfs_text (answer.ReadLink (Ok
         (record { attributes = Some file.now; path = on_some (path_at tree.now file.now.fileid) [] (λ path. path) })))) out.old out.new }
 {
@@ -88,7 +71,7 @@ fn write_granted(out: &mut Output, tree: &Tree, file: &Fattr)
 // The path of a link; of another file none.
 fn path_of(tree: &Tree, number: Number) -> &[u8]
     ensures path { result.now ≡ on_some (path_at tree.entry.now number.0) [] (λ path. path) }
-    ensures bound { length result.now ≤ 1024 }
+    ensures bound { length result.now ≤ max_path }
 {
     tree.law();
     match tree.link_path(number) {

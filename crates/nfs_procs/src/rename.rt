@@ -2,6 +2,8 @@
 ghost use Rattle.std.specs.Prelude.{◌≡◌, ◌≤◌, ◌++◌};
 ghost use Rattle.std.specs.Int.{w32, to_be_bytes};
 ghost use Rattle.nfs_args.specs.Results.{renamed_text};
+ghost use Rattle.nfs_args.specs.Sizes.{largest_of};
+ghost use Rattle.nfs_args.specs.declared.procedure.Procedure.TheVariants as proc;
 ghost use Rattle.nfs_args.specs.declared.args.NfsArgs.TheVariants as nfs;
 ghost use Rattle.nfs_procs.specs.Changers as procedure;
 ghost use Rattle.nfs_procs.specs.Denials.{DecidesPair};
@@ -13,42 +15,31 @@ ghost use Rattle.nfs_procs.specs.declared.done.Done.TheVariants as done;
 ghost use Rattle.nfs_rules.specs.Rules.{status_of};
 ghost use Rattle.nfs_xdr.specs.Written.{Appends};
 
+use crate::call::Call;
 use crate::denial::PairDenial;
 use crate::done::Done;
-use crate::limits::MAX_RESULT_BYTES;
 use crate::replies::change;
+use crate::subjects::pair_of;
 use nfs_args::rename::Rename;
 use nfs_args::renamed::{Renamed, write_renamed};
 use nfs_attrs::fattr::Fattr;
-use nfs_attrs::moment::Moment;
-use nfs_exports::table::Table;
 use nfs_handles::number::Number;
 use nfs_inodes::tree::Tree;
-use nfs_rules::caller::Caller;
-use nfs_rules::exported_file::ExportedFile;
-use nfs_rules::exported_pair::{both, shown};
 use nfs_rules::table::rename_rules;
 use nfs_xdr::output::Output;
 
-pub(crate) fn rename(
-    tree: &mut Tree,
-    table: &Table,
-    caller: Caller<'_>,
-    now: Moment,
-    args: &Rename<'_>,
-    out: &mut Output,
-) -> Done
-    requires { MAX_RESULT_BYTES ≤ out.old.room }
-    ensures { Performs (scene tree.old table.now caller.entry now (nfs.Rename args.now))
+pub(crate) fn rename(tree: &mut Tree, call: &Call<'_>, args: &Rename<'_>, out: &mut Output) -> Done
+    requires { (procedure.rename args.now).largest ≤ out.old.room }
+    ensures { Performs (scene tree.old call.now (nfs.Rename args.now))
         (procedure.rename args.now) result tree.new out.old out.new }
 {
-    let (from, to) = match decide(tree, table, caller, now, args) {
+    let (from, to) = match decide(tree, call, args) {
         Ok(plan) => plan,
         Err(denial) => return write_denied(out, &denial),
     };
     let (one, two) = (Number(from.fileid), Number(to.fileid));
     let (name, new_name) = (args.from.name.bytes(), args.to.name.bytes());
-    let Ok(()) = tree.rename(one, name, two, new_name, now) else {
+    let Ok(()) = tree.rename(one, name, two, new_name, call.moment) else {
         return Done::Memory;
     };
     let from = change(Some(from), tree.attributes(one));
@@ -58,45 +49,19 @@ pub(crate) fn rename(
     Done::Granted
 }
 
-fn decide(
-    tree: &Tree,
-    table: &Table,
-    caller: Caller<'_>,
-    now: Moment,
-    args: &Rename<'_>,
-) -> Result<(Fattr, Fattr), PairDenial>
-    ensures { DecidesPair (scene tree.now table.now caller.entry now (nfs.Rename args.now)) args.now.from.dir args.now.to.dir
+fn decide(tree: &Tree, call: &Call<'_>, args: &Rename<'_>) -> Result<(Fattr, Fattr), PairDenial>
+    ensures { DecidesPair (scene tree.now call.now (nfs.Rename args.now)) args.now.from.dir args.now.to.dir
         (PlansRename tree.now args.now) result }
 {
-    let from = ExportedFile::of(tree, table, caller, args.from.dir.bytes());
-    let to = ExportedFile::of(tree, table, caller, args.to.dir.bytes());
-    let (one, two) = (shown(&from), shown(&to));
-    let (from, to) = match both(from, to) {
-        Ok(subjects) => subjects,
-        Err(rule) => {
-            return Err(PairDenial {
-                rule,
-                uid: None,
-                one,
-                two,
-            });
-        }
-    };
-    from.law();
-    to.law();
+    let (from, to) = pair_of(tree, call, &args.from.dir, &args.to.dir)?;
     match rename_rules(&from, &to, args) {
         Ok(()) => Ok((from.attributes(), to.attributes())),
-        Err(rule) => Err(PairDenial {
-            rule,
-            uid: Some(from.uid()),
-            one,
-            two,
-        }),
+        Err(rule) => Err(PairDenial::of_rule(&from, &to, rule)),
     }
 }
 
 fn write_denied(out: &mut Output, denial: &PairDenial) -> Done
-    requires { 256 ≤ out.old.room }
+    requires { largest_of proc.Rename ≤ out.old.room }
     ensures text { Appends (to_be_bytes w32 (status_of denial.now.rule) ++ renamed_text
         (record { from = doing.no_change denial.now.one; to = doing.no_change denial.now.two })) out.old out.new }
     ensures done { result ≡ done.Denied denial.now.rule denial.now.uid }

@@ -1,7 +1,8 @@
 //! Parts of answers that several procedures have.
-ghost use Rattle.std.specs.Prelude.{◌≡◌, ◌≤◌, ◌++◌, Some, option_map};
+ghost use Rattle.std.specs.Prelude.{◌≡◌, ◌+◌, ◌≤◌, ◌++◌, Some, option_map};
 ghost use Rattle.std.specs.Int.{w32, to_be_bytes};
 ghost use Rattle.nfs_args.specs.Results.{made_text};
+ghost use Rattle.nfs_args.specs.Sizes.{change_size, made_size, post_op_attributes_size, status_size};
 ghost use Rattle.nfs_attrs.specs.Spelling.{post_op_attr_text, wcc_text};
 ghost use Rattle.nfs_handles.specs.Handles.{handle_at};
 ghost use Rattle.nfs_inodes.specs.Reading.{attributes_at, numbered_files};
@@ -47,7 +48,7 @@ pub(crate) fn verifier_of(tree: &Tree) -> u64
 
 /// The answer of a denied call that shows the file of its handle before and after.
 pub(crate) fn write_denied_change(out: &mut Output, denial: &Denial) -> Done
-    requires { 128 ≤ out.old.room }
+    requires { status_size + change_size ≤ out.old.room }
     ensures text { Appends (to_be_bytes w32 (status_of denial.now.rule) ++ wcc_text (doing.no_change denial.now.shown)) out.old out.new }
     ensures done { result ≡ done.Denied denial.now.rule denial.now.uid }
 {
@@ -58,7 +59,7 @@ pub(crate) fn write_denied_change(out: &mut Output, denial: &Denial) -> Done
 
 /// The answer of a denied call that shows the attributes of the file of its handle.
 pub(crate) fn write_denied_attributes(out: &mut Output, denial: &Denial) -> Done
-    requires { 92 ≤ out.old.room }
+    requires { status_size + post_op_attributes_size ≤ out.old.room }
     ensures text { Appends (to_be_bytes w32 (status_of denial.now.rule) ++ post_op_attr_text denial.now.shown) out.old out.new }
     ensures done { result ≡ done.Denied denial.now.rule denial.now.uid }
 {
@@ -70,7 +71,7 @@ pub(crate) fn write_denied_attributes(out: &mut Output, denial: &Denial) -> Done
 /// The answer of a granted call that shows a file before and after.
 #[inline(always)]
 pub(crate) fn write_granted_change(out: &mut Output, file: Wcc)
-    requires { 128 ≤ out.old.room }
+    requires { status_size + change_size ≤ out.old.room }
     ensures { Appends (to_be_bytes w32 0 ++ wcc_text file) out.old out.new }
 {
     out.u32(0);
@@ -80,7 +81,7 @@ pub(crate) fn write_granted_change(out: &mut Output, file: Wcc)
 /// A new file and the directory of its name.
 #[inline(always)]
 pub(crate) fn write_new_file(out: &mut Output, tree: &Tree, file: Number, dir: Wcc)
-    requires { 320 ≤ out.old.room }
+    requires { made_size ≤ out.old.room }
     ensures { Appends (made_text (record {
       file = handle_at (numbered_files tree.now) file.0;
       attributes = attributes_at tree.now file.0;

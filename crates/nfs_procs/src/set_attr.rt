@@ -7,40 +7,35 @@ ghost use Rattle.nfs_procs.specs.Plans.{PlansSettings};
 ghost use Rattle.nfs_procs.specs.Changers as procedure;
 ghost use Rattle.nfs_procs.specs.Scenes.{scene};
 
+use crate::call::Call;
 use crate::denial::Denial;
 use crate::done::Done;
-use crate::limits::MAX_RESULT_BYTES;
 use crate::replies::{change, write_denied_change, write_granted_change};
 use crate::settings::set_given;
+use crate::subjects::subject_of;
 use nfs_args::set_attr::SetAttr;
 use nfs_attrs::fattr::Fattr;
-use nfs_attrs::moment::Moment;
-use nfs_exports::table::Table;
 use nfs_handles::number::Number;
 use nfs_inodes::tree::Tree;
-use nfs_rules::caller::Caller;
-use nfs_rules::exported_file::ExportedFile;
 use nfs_rules::table::set_attr_rules;
 use nfs_xdr::output::Output;
 
 pub(crate) fn set_attr(
     tree: &mut Tree,
-    table: &Table,
-    caller: Caller<'_>,
-    now: Moment,
+    call: &Call<'_>,
     args: &SetAttr<'_>,
     out: &mut Output,
 ) -> Done
-    requires { MAX_RESULT_BYTES ≤ out.old.room }
-    ensures { Performs (scene tree.old table.now caller.entry now (nfs.SetAttr args.now))
+    requires { (procedure.set_attr args.now).largest ≤ out.old.room }
+    ensures { Performs (scene tree.old call.now (nfs.SetAttr args.now))
         (procedure.set_attr args.now) result tree.new out.old out.new }
 {
-    let file = match decide(tree, table, caller, now, args) {
+    let file = match decide(tree, call, args) {
         Ok(file) => file,
         Err(denial) => return write_denied_change(out, &denial),
     };
     let number = Number(file.fileid);
-    let Ok(()) = set_given(tree, number, &args.attributes, now) else {
+    let Ok(()) = set_given(tree, number, &args.attributes, call.moment) else {
         return Done::Memory;
     };
     write_granted_change(out, change(Some(file), tree.attributes(number)));
@@ -48,21 +43,11 @@ pub(crate) fn set_attr(
 }
 
 // The file before the call.
-fn decide(
-    tree: &Tree,
-    table: &Table,
-    caller: Caller<'_>,
-    now: Moment,
-    args: &SetAttr<'_>,
-) -> Result<Fattr, Denial>
-    ensures { Decides (scene tree.now table.now caller.entry now (nfs.SetAttr args.now)) args.now.file
+fn decide(tree: &Tree, call: &Call<'_>, args: &SetAttr<'_>) -> Result<Fattr, Denial>
+    ensures { Decides (scene tree.now call.now (nfs.SetAttr args.now)) args.now.file
         (PlansSettings tree.now args.now) result }
 {
-    let file = match ExportedFile::of(tree, table, caller, args.file.bytes()) {
-        Ok(file) => file.subject(),
-        Err(rule) => return Err(Denial::of_handle(rule)),
-    };
-    file.law();
+    let file = subject_of(tree, call, &args.file)?;
     match set_attr_rules(&file, args) {
         Ok(()) => Ok(file.attributes()),
         Err(rule) => Err(Denial::of_rule(&file, rule)),

@@ -1,5 +1,5 @@
 //! What is set of a file that is there (RFC 1813, section 2.6, sattr3).
-ghost use Rattle.std.specs.Prelude.{◌≡◌, true, OnOk, OnErr, is_some};
+ghost use Rattle.std.specs.Prelude.{◌≡◌, true, OnOk, OnErr};
 ghost use Rattle.nfs_inodes.specs.Changes.{after_resize};
 ghost use Rattle.nfs_inodes.specs.Law.{Lives};
 ghost use Rattle.nfs_inodes.specs.Tree.{File, on_some};
@@ -15,7 +15,7 @@ use nfs_inodes::tree::Tree;
 use std::alloc::AllocError;
 
 /// Sets what is given of a file, its size first; where nothing is given nothing changes. Refused
-/// only without memory for a size, and then the tree is as before.
+/// only without memory for what the file grows by, and then the tree is as before.
 pub(crate) fn set_given(
     tree: &mut Tree,
     number: Number,
@@ -26,7 +26,7 @@ pub(crate) fn set_given(
     requires size { MayTakeSize tree.old number.0 given.now.size }
     ensures ok { OnOk result (tree.new ≡ changers.after_settings tree.old number.0 given.now now) }
     ensures err { OnErr result (tree.new ≡ tree.old) }
-    ensures size { OnErr result (is_some given.now.size ≡ true) }
+    ensures full { OnErr result (changers.grows_to tree.old number.0 given.now.size ≡ true) }
 {
     if !sets_something(given) {
         return Ok(());
@@ -36,8 +36,8 @@ pub(crate) fn set_given(
     Ok(())
 }
 
-/// Gives a file a size where there is one. Refused only without memory, and then the tree is as
-/// before.
+/// Gives a file a size where there is one. Refused only without memory for what the file grows by,
+/// and then the tree is as before.
 pub(crate) fn set_size(
     tree: &mut Tree,
     number: Number,
@@ -47,7 +47,7 @@ pub(crate) fn set_size(
     requires { MayTakeSize tree.old number.0 size }
     ensures ok { OnOk result (tree.new ≡ on_some size tree.old (λ size. after_resize tree.old number.0 size now)) }
     ensures err { OnErr result (tree.new ≡ tree.old) }
-    ensures size { OnErr result (is_some size ≡ true) }
+    ensures full { OnErr result (changers.grows_to tree.old number.0 size ≡ true) }
 {
     match size {
         Some(size) => tree.resize(number, size as usize, now),

@@ -7,20 +7,17 @@ ghost use Rattle.nfs_procs.specs.Plans.{PlansSymLink};
 ghost use Rattle.nfs_procs.specs.Changers as procedure;
 ghost use Rattle.nfs_procs.specs.Scenes.{scene};
 
+use crate::call::Call;
 use crate::denial::Denial;
 use crate::done::Done;
-use crate::limits::MAX_RESULT_BYTES;
 use crate::new_files::new_file_of;
 use crate::plan::Plan;
 use crate::replies::{change, write_denied_change, write_new_file};
+use crate::subjects::subject_of;
 use nfs_args::sym_link::SymLink;
-use nfs_attrs::moment::Moment;
-use nfs_exports::table::Table;
 use nfs_handles::number::Number;
 use nfs_inodes::new_file::NewFile;
 use nfs_inodes::tree::Tree;
-use nfs_rules::caller::Caller;
-use nfs_rules::exported_file::ExportedFile;
 use nfs_rules::table::sym_link_rules;
 use nfs_xdr::output::Output;
 
@@ -29,17 +26,15 @@ const LINK_MODE: u32 = 0o777;
 
 pub(crate) fn sym_link(
     tree: &mut Tree,
-    table: &Table,
-    caller: Caller<'_>,
-    now: Moment,
+    call: &Call<'_>,
     args: &SymLink<'_>,
     out: &mut Output,
 ) -> Done
-    requires { MAX_RESULT_BYTES ≤ out.old.room }
-    ensures { Performs (scene tree.old table.now caller.entry now (nfs.SymLink args.now))
+    requires { (procedure.sym_link args.now).largest ≤ out.old.room }
+    ensures { Performs (scene tree.old call.now (nfs.SymLink args.now))
         (procedure.sym_link args.now) result tree.new out.old out.new }
 {
-    let plan = match decide(tree, table, caller, now, args) {
+    let plan = match decide(tree, call, args) {
         Ok(plan) => plan,
         Err(denial) => return write_denied_change(out, &denial),
     };
@@ -49,7 +44,7 @@ pub(crate) fn sym_link(
         args.place.name.bytes(),
         args.path.bytes(),
         &plan.given,
-        now,
+        call.moment,
     ) else {
         return Done::Memory;
     };
@@ -63,27 +58,17 @@ pub(crate) fn sym_link(
     Done::Granted
 }
 
-fn decide(
-    tree: &Tree,
-    table: &Table,
-    caller: Caller<'_>,
-    now: Moment,
-    args: &SymLink<'_>,
-) -> Result<Plan, Denial>
-    ensures { Decides (scene tree.now table.now caller.entry now (nfs.SymLink args.now)) args.now.place.dir
-        (PlansSymLink tree.now now args.now) result }
+fn decide(tree: &Tree, call: &Call<'_>, args: &SymLink<'_>) -> Result<Plan, Denial>
+    ensures { Decides (scene tree.now call.now (nfs.SymLink args.now)) args.now.place.dir
+        (PlansSymLink tree.now call.now.moment args.now) result }
 {
-    let dir = match ExportedFile::of(tree, table, caller, args.place.dir.bytes()) {
-        Ok(file) => file.subject(),
-        Err(rule) => return Err(Denial::of_handle(rule)),
-    };
-    dir.law();
+    let dir = subject_of(tree, call, &args.place.dir)?;
     match sym_link_rules(&dir, args.place.name.bytes(), args.path.bytes()) {
         Ok(()) => Ok(Plan {
             dir: dir.attributes(),
             given: NewFile {
                 mode: LINK_MODE,
-                ..new_file_of(LINK_MODE, &dir, now, &args.attributes)
+                ..new_file_of(LINK_MODE, &dir, call.moment, &args.attributes)
             },
         }),
         Err(rule) => Err(Denial::of_rule(&dir, rule)),

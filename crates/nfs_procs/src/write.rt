@@ -1,6 +1,8 @@
 //! WRITE: bytes into a file, which are safe at once (RFC 1813, section 3.3.7).
 ghost use Rattle.std.specs.Prelude.{◌≡◌, ◌<◌, ◌≤◌, ◌^◌, Ok};
 ghost use Rattle.nfs_args.specs.Answers.{nfs_text};
+ghost use Rattle.nfs_args.specs.Sizes.{largest_of};
+ghost use Rattle.nfs_args.specs.declared.procedure.Procedure.TheVariants as proc;
 ghost use Rattle.nfs_args.specs.declared.answer.NfsAnswer.TheVariants as answer;
 ghost use Rattle.nfs_args.specs.declared.args.NfsArgs.TheVariants as nfs;
 ghost use Rattle.nfs_args.specs.declared.write.Stability.TheVariants.{FileSync};
@@ -11,43 +13,33 @@ ghost use Rattle.nfs_procs.specs.Changers as procedure;
 ghost use Rattle.nfs_procs.specs.Scenes.{scene};
 ghost use Rattle.nfs_xdr.specs.Written.{Appends};
 
+use crate::call::Call;
 use crate::denial::Denial;
 use crate::done::Done;
-use crate::limits::MAX_RESULT_BYTES;
 use crate::replies::{change, write_denied_change};
+use crate::subjects::subject_of;
 use nfs_args::write::{Stability, Write};
 use nfs_args::written::{Written, write_written};
 use nfs_attrs::fattr::Fattr;
-use nfs_attrs::moment::Moment;
 use nfs_attrs::wcc::Wcc;
-use nfs_exports::table::Table;
 use nfs_handles::number::Number;
 use nfs_inodes::tree::Tree;
-use nfs_rules::caller::Caller;
-use nfs_rules::exported_file::ExportedFile;
 use nfs_rules::table::write_rules;
 use nfs_xdr::output::Output;
 
-pub(crate) fn write(
-    tree: &mut Tree,
-    table: &Table,
-    caller: Caller<'_>,
-    now: Moment,
-    args: &Write<'_>,
-    out: &mut Output,
-) -> Done
-    requires { MAX_RESULT_BYTES ≤ out.old.room }
-    ensures { Performs (scene tree.old table.now caller.entry now (nfs.Write args.now))
+pub(crate) fn write(tree: &mut Tree, call: &Call<'_>, args: &Write<'_>, out: &mut Output) -> Done
+    requires { (procedure.write args.now).largest ≤ out.old.room }
+    ensures { Performs (scene tree.old call.now (nfs.Write args.now))
         (procedure.write args.now) result tree.new out.old out.new }
 {
-    let file = match decide(tree, table, caller, now, args) {
+    let file = match decide(tree, call, args) {
         Ok(file) => file,
         Err(denial) => return write_denied_change(out, &denial),
     };
     let number = Number(file.fileid);
     let bytes = args.content.bytes();
     let verifier = u64::from_be_bytes(tree.key());
-    let Ok(()) = tree.write_at(number, args.offset as usize, bytes, now) else {
+    let Ok(()) = tree.write_at(number, args.offset as usize, bytes, call.moment) else {
         return Done::Memory;
     };
     write_granted(
@@ -60,20 +52,10 @@ pub(crate) fn write(
 }
 
 // The file before the call.
-fn decide(
-    tree: &Tree,
-    table: &Table,
-    caller: Caller<'_>,
-    now: Moment,
-    args: &Write<'_>,
-) -> Result<Fattr, Denial>
-    ensures { Decides (scene tree.now table.now caller.entry now (nfs.Write args.now)) args.now.file (PlansBytes tree.now args.now) result }
+fn decide(tree: &Tree, call: &Call<'_>, args: &Write<'_>) -> Result<Fattr, Denial>
+    ensures { Decides (scene tree.now call.now (nfs.Write args.now)) args.now.file (PlansBytes tree.now args.now) result }
 {
-    let file = match ExportedFile::of(tree, table, caller, args.file.bytes()) {
-        Ok(file) => file.subject(),
-        Err(rule) => return Err(Denial::of_handle(rule)),
-    };
-    file.law();
+    let file = subject_of(tree, call, &args.file)?;
     match write_rules(&file, args) {
         Ok(()) => Ok(file.attributes()),
         Err(rule) => Err(Denial::of_rule(&file, rule)),
@@ -81,7 +63,7 @@ fn decide(
 }
 
 fn write_granted(out: &mut Output, file: Wcc, count: usize, verifier: u64)
-    requires room { 140 ≤ out.old.room }
+    requires room { largest_of proc.Write ≤ out.old.room }
     requires count { count < 2 ^ 32 }
     ensures { Appends (nfs_text (answer.Write (Ok
         (record { file = file; count = count; committed = FileSync; verifier = verifier })))) out.old out.new }

@@ -10,7 +10,7 @@ use Rattle.nfs_rules.proofs.Firsts.{first_after_passed, first_of_failed}
 use Rattle.nfs_rules.specs.Judging.{Judges}
 use Rattle.nfs_rules.specs.Subjects.{Caller, Subject, named, granted, subject_with, subject_at}
 use Rattle.nfs_rules.specs.Tests.{Test, first}
-use Rattle.nfs_rules.specs.Verdicts.{handle_rules, handles_rules, cross_volume, subjects_at, both}
+use Rattle.nfs_rules.specs.Verdicts.{handle_rules, handles_rules, cross_volume, subjects_at, in_one_volume}
 use Rattle.nfs_rules.specs.Views.{ok_of}
 use Rattle.nfs_rules.specs.declared.rule.Rule.{Rule}
 use Rattle.nfs_rules.specs.declared.rule.Rule.TheVariants as rule
@@ -36,11 +36,11 @@ module _ (t : Tree) (exports : List (List Export)) (caller : Caller) (h k : List
   after_one rest s passed = first_after_passed (handle_rules t exports caller h) rest passed
 
   -- the rules of both handles, by what each was told alone
-  pub both_judged : (one two : Result Subject Rule) → Judges one (handle_rules t exports caller h) → ok_of one ≡ subject_at t exports caller h → Judges two (handle_rules t exports caller k) → ok_of two ≡ subject_at t exports caller k
-      → Judges (both one two) (handles_rules t exports caller (h ∷ k ∷ []))
-  both_judged (Err r) two failed none judged told = first_of_failed (handle_rules t exports caller h) (handle_rules t exports caller k ++ cross_volume t h k ∷ []) r failed
-  both_judged (Ok s) (Err r) passed some failed none = after_one (handle_rules t exports caller k ++ cross_volume t h k ∷ []) s passed ∙ first_of_failed (handle_rules t exports caller k) (cross_volume t h k ∷ []) r failed
-  both_judged (Ok s) (Ok u) passed some passed_too some_too =
+  pub pair_judged : (one two : Result Subject Rule) → Judges one (handle_rules t exports caller h) → ok_of one ≡ subject_at t exports caller h → Judges two (handle_rules t exports caller k) → ok_of two ≡ subject_at t exports caller k
+      → Judges (in_one_volume one two) (handles_rules t exports caller (h ∷ k ∷ []))
+  pair_judged (Err r) two failed none judged told = first_of_failed (handle_rules t exports caller h) (handle_rules t exports caller k ++ cross_volume t h k ∷ []) r failed
+  pair_judged (Ok s) (Err r) passed some failed none = after_one (handle_rules t exports caller k ++ cross_volume t h k ∷ []) s passed ∙ first_of_failed (handle_rules t exports caller k) (cross_volume t h k ∷ []) r failed
+  pair_judged (Ok s) (Ok u) passed some passed_too some_too =
       let last : first (handles_rules t exports caller (h ∷ k ∷ [])) ≡ first (cross_volume t h k ∷ []) = after_one (handle_rules t exports caller k ++ cross_volume t h k ∷ []) s passed ∙ first_after_passed (handle_rules t exports caller k) (cross_volume t h k ∷ []) passed_too in
       let crossed = crossing s u (sym some) (sym some_too) in
       by_test (nat_eq s.file.fsid u.file.fsid)
@@ -49,12 +49,12 @@ module _ (t : Tree) (exports : List (List Export)) (caller : Caller) (h k : List
       (λ n. subst (λ r. Judges r (handles_rules t exports caller (h ∷ k ∷ []))) (sym (if_false (Ok (s, u)) (Err rule.CrossVolume) n))
       (last ∙ if_true (Some rule.CrossVolume) None (crossed ∙ ap not n)))
 
-  -- and what both name
-  pub both_told : (one two : Result Subject Rule) → ok_of one ≡ subject_at t exports caller h → ok_of two ≡ subject_at t exports caller k → ok_of (both one two) ≡ subjects_at t exports caller (h ∷ k ∷ [])
-  both_told (Err r) two none told = ap (λ o. on_some o None (λ s. on_some (subject_at t exports caller k) None (λ u. if nat_eq s.file.fsid u.file.fsid then Some (s, u) else None))) none
-  both_told (Ok s) (Err r) some none = ap (λ o. on_some o None (λ u. if nat_eq s.file.fsid u.file.fsid then Some (s, u) else None)) none
+  -- and what they name
+  pub pair_named : (one two : Result Subject Rule) → ok_of one ≡ subject_at t exports caller h → ok_of two ≡ subject_at t exports caller k → ok_of (in_one_volume one two) ≡ subjects_at t exports caller (h ∷ k ∷ [])
+  pair_named (Err r) two none told = ap (λ o. on_some o None (λ s. on_some (subject_at t exports caller k) None (λ u. if nat_eq s.file.fsid u.file.fsid then Some (s, u) else None))) none
+  pair_named (Ok s) (Err r) some none = ap (λ o. on_some o None (λ u. if nat_eq s.file.fsid u.file.fsid then Some (s, u) else None)) none
       ∙ ap (λ o. on_some o None (λ s. on_some (subject_at t exports caller k) None (λ u. if nat_eq s.file.fsid u.file.fsid then Some (s, u) else None))) some
-  both_told (Ok s) (Ok u) some some_too =
+  pair_named (Ok s) (Ok u) some some_too =
       let here : (if nat_eq s.file.fsid u.file.fsid then Some (s, u) else None) ≡ subjects_at t exports caller (h ∷ k ∷ []) =
       ap (λ o. on_some o None (λ (v : Subject). if nat_eq s.file.fsid v.file.fsid then Some (s, v) else None)) some_too
       ∙ ap (λ o. on_some o None (λ (w : Subject). on_some (subject_at t exports caller k) None (λ u. if nat_eq w.file.fsid u.file.fsid then Some (w, u) else None))) some in

@@ -111,11 +111,14 @@ abbrev pub move_rules : Subject → Subject → Fattr → Option Fattr → List 
 move_rules from to moved None = into_itself to moved ∷ only_where (is_directory_type moved.file_type && not (nat_eq from.file.fileid to.file.fileid)) (links to.file) ∷ cookies to ∷ []
 move_rules from to moved (Some old) = if nat_eq moved.fileid old.fileid then [] else (incompatible to moved old ∷ into_itself to moved ∷ cookies to ∷ [])
 
+-- by what the entries of both directories are
+abbrev pub rename_entry_rules : Subject → Subject → Rename → List Test
+rename_entry_rules from to a = search_right from ∷ search_right to ∷ no_entry from a.from.name ∷ directory_write from ∷ directory_write to
+    ∷ on_some (found from a.from.name) [] (λ moved. move_rules from to moved (found to a.to.name))
+
 abbrev pub rename_rules : Subject → Subject → Rename → List Test
 rename_rules from to a = read_only from ∷ not_directory from ∷ not_directory to ∷ dot_name a.from.name ∷ dot_name a.to.name
-    ∷ name_long a.from.name ∷ name_long a.to.name ∷ name_form a.from.name ∷ name_form a.to.name ∷ search_right from ∷ search_right to
-    ∷ no_entry from a.from.name ∷ directory_write from ∷ directory_write to
-    ∷ on_some (found from a.from.name) [] (λ moved. move_rules from to moved (found to a.to.name))
+    ∷ name_long a.from.name ∷ name_long a.to.name ∷ name_form a.from.name ∷ name_form a.to.name ∷ rename_entry_rules from to a
 
 -- ---- the table
 

@@ -79,8 +79,8 @@ abbrev pub verdict : Tree → List (List Export) → Caller → NfsArgs → Opti
 verdict t exports caller args = first (handles_rules t exports caller (handles_in args)
     ++ on_some (subjects_at t exports caller (handles_in args)) [] (λ s. rules_of s.0 s.1 args))
 
--- what two handles name, or the first of their rules that fails
-abbrev pub both : Result Subject Rule → Result Subject Rule → Result (Subject × Subject) Rule
-both (Err rule) two = Err rule
-both (Ok s) (Err rule) = Err rule
-both (Ok s) (Ok u) = if nat_eq s.file.fsid u.file.fsid then Ok (s, u) else Err rule.CrossVolume
+-- what two handles name, in one volume, or the first of their rules that fails
+abbrev pub in_one_volume : Result Subject Rule → Result Subject Rule → Result (Subject × Subject) Rule
+in_one_volume (Err rule) two = Err rule
+in_one_volume (Ok s) (Err rule) = Err rule
+in_one_volume (Ok s) (Ok u) = if nat_eq s.file.fsid u.file.fsid then Ok (s, u) else Err rule.CrossVolume

@@ -30,7 +30,7 @@ impl<'a> Subject<'a> {
 
     /// `NoEntry`: there is an entry of the name, whose file is answered.
     #[inline(always)]
-    pub(crate) fn no_entry(&self, name: &[u8]) -> Result<FileView<'a>, Rule>
+    pub(crate) fn must_find(&self, name: &[u8]) -> Result<FileView<'a>, Rule>
         ensures rule { Tells result (test.no_entry self.now name.now) }
         ensures found { IfOk result (λ f. test.found self.now name.now ≡ Some f.attributes) }
         ensures seen { IfOk result (λ f. IsSeen self.now.tree f) }
@@ -43,7 +43,7 @@ impl<'a> Subject<'a> {
     }
 
     /// `Exists`: there is no entry of the name.
-    pub(crate) fn exists(&self, name: &[u8]) -> Result<(), Rule>
+    pub(crate) fn must_be_free(&self, name: &[u8]) -> Result<(), Rule>
         ensures { Tells result (test.exists self.now name.now) }
     {
         ensure(self.found(name).is_none(), Rule::Exists)
@@ -52,7 +52,7 @@ impl<'a> Subject<'a> {
     /// `Exists` in CREATE: there is no entry of the name, or its file is one that CREATE takes, which is
     /// answered then.
     #[inline(always)]
-    pub(crate) fn exists_other(
+    pub(crate) fn must_be_free_or_taken(
         &self,
         name: &[u8],
         how: &CreateHow,
@@ -96,7 +96,7 @@ impl<'a> Subject<'a> {
     }
 
     /// `NotEmpty`: a directory lists nothing but `.` and `..`.
-    pub(crate) fn not_empty(&self, dir: &Fattr) -> Result<(), Rule>
+    pub(crate) fn must_be_empty(&self, dir: &Fattr) -> Result<(), Rule>
         ensures { Tells result (test.not_empty self.now.tree dir.now) }
     {
         ensure(self.is_empty(dir), Rule::NotEmpty)
@@ -112,7 +112,7 @@ impl<'a> Subject<'a> {
 }
 
 /// `IsDirectory`: the file is no directory.
-pub fn is_directory(file: &Fattr) -> Result<(), Rule>
+pub(crate) fn must_not_be_directory(file: &Fattr) -> Result<(), Rule>
     ensures { Tells result (test.is_directory file.now) }
 {
     match file.file_type {
@@ -122,7 +122,7 @@ pub fn is_directory(file: &Fattr) -> Result<(), Rule>
 }
 
 /// `TargetNotDirectory`: the file is a directory.
-pub(crate) fn target_not_directory(file: &Fattr) -> Result<(), Rule>
+pub(crate) fn must_be_directory(file: &Fattr) -> Result<(), Rule>
     ensures { Tells result (test.target_not_directory file.now) }
 {
     match file.file_type {

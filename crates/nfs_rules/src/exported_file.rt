@@ -1,5 +1,7 @@
 //! The file that a handle names, where its volume is exported to the caller.
-ghost use Rattle.std.specs.Prelude.{◌≡◌, ◌-◌};
+ghost use Rattle.std.specs.Prelude.{◌≡◌, ◌-◌, Some};
+ghost use Rattle.nfs_inodes.specs.Law.{Law};
+ghost use Rattle.nfs_inodes.specs.Reading.{attributes_at};
 ghost use Rattle.nfs_rules.specs.Judging.{Judges};
 ghost use Rattle.nfs_rules.specs.Subjects.{subject_at};
 ghost use Rattle.nfs_rules.specs.Verdicts.{handle_rules};
@@ -76,6 +78,15 @@ impl<'a> ExportedFile<'a> {
         ensures { result ≡ self.now.file }
     {
         self.file.attributes()
+    }
+
+    /// The tree is a lawful one, and the file is there, for proofs.
+    #[inline(always)]
+    pub fn law(&self)
+        ensures law { Law self.now.tree }
+        ensures file { attributes_at self.now.tree self.now.file.fileid ≡ Some self.now.file }
+    {
+        self.tree.law();
     }
 
     /// The same with the ids by which the caller is judged.

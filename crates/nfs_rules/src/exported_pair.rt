@@ -10,11 +10,11 @@ use nfs_attrs::fattr::Fattr;
 
 /// What two handles name, in one volume, or the first of their rules that fails: those of the first,
 /// those of the second, and then `CrossVolume`.
-pub fn both<'a>(
+pub fn in_one_volume<'a>(
     one: Result<ExportedFile<'a>, Rule>,
     two: Result<ExportedFile<'a>, Rule>,
 ) -> Result<(Subject<'a>, Subject<'a>), Rule>
-    ensures { result ≡ verdict.both one.entry two.entry }
+    ensures { result ≡ verdict.in_one_volume one.entry two.entry }
 {
     let one = one?;
     let two = two?;
@@ -26,7 +26,7 @@ pub fn both<'a>(
 }
 
 /// The attributes of what a handle names, where its rules are kept.
-pub fn shown(file: &Result<ExportedFile<'_>, Rule>) -> Option<Fattr>
+pub fn attributes_of(file: &Result<ExportedFile<'_>, Rule>) -> Option<Fattr>
     ensures { result ≡ option_map (λ s. s.file) (ok_of file.now) }
 {
     match file {

@@ -22,7 +22,7 @@ impl<'a> Subject<'a> {
 
     /// `ReadOnly`: the volume is exported for writing.
     #[inline(always)]
-    pub fn read_only(&self) -> Result<(), Rule>
+    pub fn must_not_be_read_only(&self) -> Result<(), Rule>
         ensures { Tells result (test.read_only self.now) }
     {
         ensure(!self.options.read_only, Rule::ReadOnly)
@@ -30,7 +30,7 @@ impl<'a> Subject<'a> {
 
     /// `NotRegular`: the file is a regular one.
     #[inline(always)]
-    pub fn not_regular(&self) -> Result<(), Rule>
+    pub fn must_be_regular(&self) -> Result<(), Rule>
         ensures { Tells result (test.not_regular self.now) }
     {
         match self.attributes().file_type {
@@ -41,7 +41,7 @@ impl<'a> Subject<'a> {
 
     /// `NotLink`: the file is a symbolic link.
     #[inline(always)]
-    pub fn not_link(&self) -> Result<(), Rule>
+    pub fn must_be_link(&self) -> Result<(), Rule>
         ensures { Tells result (test.not_link self.now) }
     {
         match self.attributes().file_type {
@@ -52,7 +52,7 @@ impl<'a> Subject<'a> {
 
     /// `NotDirectory`: the file is a directory.
     #[inline(always)]
-    pub(crate) fn not_directory(&self) -> Result<(), Rule>
+    pub(crate) fn must_be_directory(&self) -> Result<(), Rule>
         ensures { Tells result (test.not_directory self.now) }
     {
         match self.attributes().file_type {
@@ -63,7 +63,7 @@ impl<'a> Subject<'a> {
 
     /// `LinkDirectory`: the file is no directory.
     #[inline(always)]
-    pub(crate) fn link_directory(&self) -> Result<(), Rule>
+    pub(crate) fn must_not_be_directory(&self) -> Result<(), Rule>
         ensures { Tells result (test.link_directory self.now) }
     {
         match self.attributes().file_type {
@@ -74,7 +74,7 @@ impl<'a> Subject<'a> {
 
     /// `ReadRight`: the caller may read or execute the file, or owns it.
     #[inline(always)]
-    pub(crate) fn read_right(&self) -> Result<(), Rule>
+    pub(crate) fn must_be_readable(&self) -> Result<(), Rule>
         ensures { Tells result (test.read_right self.now) }
     {
         let kept = self.owns_or_may(Right::Read)
@@ -84,7 +84,7 @@ impl<'a> Subject<'a> {
 
     /// `WriteRight`: the caller may write the file, or owns it.
     #[inline(always)]
-    pub(crate) fn write_right(&self) -> Result<(), Rule>
+    pub(crate) fn must_be_writable(&self) -> Result<(), Rule>
         ensures { Tells result (test.write_right self.now) }
     {
         ensure(self.owns_or_may(Right::Write), Rule::WriteRight)
@@ -92,7 +92,7 @@ impl<'a> Subject<'a> {
 
     /// `Search`: the caller may search the directory.
     #[inline(always)]
-    pub(crate) fn search_right(&self) -> Result<(), Rule>
+    pub(crate) fn must_be_searchable(&self) -> Result<(), Rule>
         ensures { Tells result (test.search_right self.now) }
     {
         ensure(self.may_search(), Rule::Search)
@@ -108,7 +108,7 @@ impl<'a> Subject<'a> {
 
     /// `DirectoryRead`: the caller may read the directory.
     #[inline(always)]
-    pub(crate) fn directory_read(&self) -> Result<(), Rule>
+    pub(crate) fn must_be_listable(&self) -> Result<(), Rule>
         ensures { Tells result (test.directory_read self.now) }
     {
         ensure(
@@ -119,7 +119,7 @@ impl<'a> Subject<'a> {
 
     /// `DirectoryWrite`: the caller may write the directory.
     #[inline(always)]
-    pub(crate) fn directory_write(&self) -> Result<(), Rule>
+    pub(crate) fn must_be_changeable(&self) -> Result<(), Rule>
         ensures { Tells result (test.directory_write self.now) }
     {
         ensure(

@@ -15,18 +15,18 @@ use nfs_inodes::limits::{MAX_FILE_BYTES, MAX_LINKS};
 impl<'a> Subject<'a> {
     /// `TooBig` and `Space` where a file of this size takes the place of the one that is there; without
     /// a size nothing is looked at.
-    pub(crate) fn size_limits(&self, size: Option<u64>) -> Result<(), Rule>
+    pub(crate) fn must_have_room_for_size(&self, size: Option<u64>) -> Result<(), Rule>
         ensures { Judges result (test.too_big size ∷ test.space self.now (test.growth self.now size) ∷ []) }
     {
-        too_big(size)?;
+        must_not_be_too_big(size)?;
         match size {
             None => Ok(()),
-            Some(size) => self.space(Some(size.saturating_sub(self.attributes().size))),
+            Some(size) => self.must_have_space(Some(size.saturating_sub(self.attributes().size))),
         }
     }
 
     /// `TooBig` and `Space` where so many bytes are put at an offset; no bytes are never too many.
-    pub(crate) fn write_limits(&self, offset: u64, count: usize) -> Result<(), Rule>
+    pub(crate) fn must_have_room_for_bytes(&self, offset: u64, count: usize) -> Result<(), Rule>
         ensures { Judges result (test.too_big (test.end_of offset count) ∷ test.space self.now
             (test.growth self.now (test.end_of offset count)) ∷ []) }
     {
@@ -37,11 +37,11 @@ impl<'a> Subject<'a> {
             return Err(Rule::TooBig);
         }
         let end = offset + count as u64;
-        self.space(Some(end.saturating_sub(self.attributes().size)))
+        self.must_have_space(Some(end.saturating_sub(self.attributes().size)))
     }
 
     /// `Space`: the volume takes so many bytes more, if any.
-    pub fn space(&self, more: Option<u64>) -> Result<(), Rule>
+    pub fn must_have_space(&self, more: Option<u64>) -> Result<(), Rule>
         ensures { Tells result (test.space self.now more) }
     {
         match more {
@@ -51,14 +51,14 @@ impl<'a> Subject<'a> {
     }
 
     /// `Files`: the volume takes a file more.
-    pub fn files(&self) -> Result<(), Rule>
+    pub fn must_have_file_left(&self) -> Result<(), Rule>
         ensures { Tells result (test.files self.now) }
     {
         ensure(self.has_file_left(), Rule::Files)
     }
 
     /// `Numbers`: the directory has a cookie left for a further entry.
-    pub fn cookies(&self) -> Result<(), Rule>
+    pub fn must_have_cookie_left(&self) -> Result<(), Rule>
         ensures { Tells result (test.cookies self.now) }
     {
         ensure(self.has_cookie_left(), Rule::Numbers)
@@ -66,7 +66,7 @@ impl<'a> Subject<'a> {
 
     /// `Numbers`: there is a number left for a new file, and the directory has a cookie left for its
     /// entry.
-    pub fn numbers(&self) -> Result<(), Rule>
+    pub fn must_have_number_left(&self) -> Result<(), Rule>
         ensures { Tells result (test.numbers self.now) }
     {
         let kept = self.tree.next_number() < u64::MAX && self.has_cookie_left();
@@ -106,7 +106,7 @@ impl<'a> Subject<'a> {
 }
 
 /// `TooBig`: a file has at most 16,777,216 bytes; without a size nothing is looked at.
-pub(crate) fn too_big(size: Option<u64>) -> Result<(), Rule>
+pub(crate) fn must_not_be_too_big(size: Option<u64>) -> Result<(), Rule>
     ensures { Tells result (test.too_big size) }
 {
     match size {
@@ -116,7 +116,7 @@ pub(crate) fn too_big(size: Option<u64>) -> Result<(), Rule>
 }
 
 /// `Links`: a file has at most 1,000 links.
-pub fn links(file: &Fattr) -> Result<(), Rule>
+pub fn must_have_link_left(file: &Fattr) -> Result<(), Rule>
     ensures { Tells result (test.links file.now) }
 {
     ensure(file.nlink < MAX_LINKS, Rule::Links)

@@ -5,7 +5,7 @@ ghost use Rattle.nfs_rules.specs.Judging.{Judges, Tells};
 ghost use Rattle.nfs_rules.specs.Table as table;
 ghost use Rattle.nfs_rules.specs.Tests as test;
 
-use crate::limit_rules::links;
+use crate::limit_rules::must_have_link_left;
 use crate::rule::{Rule, ensure};
 use crate::subject::Subject;
 use nfs_attrs::fattr::Fattr;
@@ -27,25 +27,25 @@ pub(crate) fn move_rules(
 {
     match old {
         None => {
-            to.into_itself(moved)?;
-            from.subdirectory_links(to, moved)?;
-            to.cookies()
+            to.must_not_be_below(moved)?;
+            from.must_have_link_left_for(to, moved)?;
+            to.must_have_cookie_left()
         }
         Some(old) => {
             let old = old.attributes();
             if moved.fileid == old.fileid {
                 return Ok(());
             }
-            to.incompatible(moved, &old)?;
-            to.into_itself(moved)?;
-            to.cookies()
+            to.must_be_replaceable(moved, &old)?;
+            to.must_not_be_below(moved)?;
+            to.must_have_cookie_left()
         }
     }
 }
 
 impl<'a> Subject<'a> {
     /// `Incompatible`: what is there may be replaced by what is moved.
-    pub(crate) fn incompatible(&self, moved: &Fattr, old: &Fattr) -> Result<(), Rule>
+    pub(crate) fn must_be_replaceable(&self, moved: &Fattr, old: &Fattr) -> Result<(), Rule>
         ensures { Tells result (table.incompatible self.now moved.now old.now) }
     {
         let kept = if is_directory(moved) {
@@ -57,7 +57,7 @@ impl<'a> Subject<'a> {
     }
 
     /// `IntoItself`: what is moved is neither this directory nor above it.
-    pub(crate) fn into_itself(&self, moved: &Fattr) -> Result<(), Rule>
+    pub(crate) fn must_not_be_below(&self, moved: &Fattr) -> Result<(), Rule>
         requires { is_directory_type self.now.file.file_type ≡ true }
         ensures { Tells result (table.into_itself self.now moved.now) }
     {
@@ -69,14 +69,14 @@ impl<'a> Subject<'a> {
     }
 
     // `Links`, where a directory comes into another directory than this one, which gains a link.
-    fn subdirectory_links(&self, to: &Subject<'_>, moved: &Fattr) -> Result<(), Rule>
+    fn must_have_link_left_for(&self, to: &Subject<'_>, moved: &Fattr) -> Result<(), Rule>
         ensures { Tells result (test.only_where (is_directory_type moved.now.file_type && not
             (nat_eq self.now.file.fileid to.now.file.fileid)) (test.links to.now.file)) }
     {
         if !is_directory(moved) || self.attributes().fileid == to.attributes().fileid {
             return Ok(());
         }
-        links(&to.attributes())
+        must_have_link_left(&to.attributes())
     }
 }
 

@@ -9,42 +9,42 @@ use crate::rule::{Rule, ensure};
 use nfs_inodes::limits::{MAX_NAME_BYTES, MAX_PATH_BYTES};
 
 /// `NameLong`: a name has at most 255 bytes.
-pub(crate) fn name_long(name: &[u8]) -> Result<(), Rule>
+pub(crate) fn name_must_be_short(name: &[u8]) -> Result<(), Rule>
     ensures { Tells result (test.name_long name.now) }
 {
     ensure(name.len() <= MAX_NAME_BYTES, Rule::NameLong)
 }
 
 /// `NameForm`: a name has a byte, and none that is 0 or `/`.
-pub(crate) fn name_form(name: &[u8]) -> Result<(), Rule>
+pub(crate) fn name_must_be_formed(name: &[u8]) -> Result<(), Rule>
     ensures { Tells result (test.name_form name.now) }
 {
     ensure(!name.is_empty() && !has_separator(name), Rule::NameForm)
 }
 
 /// `DotName`: a name is neither `.` nor `..`.
-pub(crate) fn dot_name(name: &[u8]) -> Result<(), Rule>
+pub(crate) fn name_must_not_be_dots(name: &[u8]) -> Result<(), Rule>
     ensures { Tells result (test.dot_name name.now) }
 {
     ensure(!is_dot(name) && !is_dot_dot(name), Rule::DotName)
 }
 
 /// `DotName` in RMDIR: a name isn't `.`.
-pub(crate) fn dot_alone(name: &[u8]) -> Result<(), Rule>
+pub(crate) fn name_must_not_be_dot(name: &[u8]) -> Result<(), Rule>
     ensures { Tells result (test.dot_alone name.now) }
 {
     ensure(!is_dot(name), Rule::DotName)
 }
 
 /// `DotDot`: a name isn't `..`.
-pub(crate) fn dot_dot_alone(name: &[u8]) -> Result<(), Rule>
+pub(crate) fn name_must_not_be_dot_dot(name: &[u8]) -> Result<(), Rule>
     ensures { Tells result (test.dot_dot_alone name.now) }
 {
     ensure(!is_dot_dot(name), Rule::DotDot)
 }
 
 /// `PathLong`: a path has at most 1,024 bytes.
-pub fn path_long(path: &[u8]) -> Result<(), Rule>
+pub fn path_must_be_short(path: &[u8]) -> Result<(), Rule>
     ensures { Tells result (test.path_long path.now) }
 {
     ensure(path.len() <= MAX_PATH_BYTES, Rule::PathLong)

@@ -15,7 +15,7 @@ use nfs_handles::number::Number;
 impl<'a> Subject<'a> {
     /// `TooSmall` in READDIR: the head of a page and the first entry that is left are within `count`
     /// bytes.
-    pub(crate) fn too_small(&self, cookie: u64, count: u32) -> Result<(), Rule>
+    pub(crate) fn first_must_fit(&self, cookie: u64, count: u32) -> Result<(), Rule>
         ensures { Tells result (test.too_small self.now cookie count 0) }
     {
         ensure(self.first_fits(cookie, count, 0), Rule::TooSmall)
@@ -23,7 +23,7 @@ impl<'a> Subject<'a> {
 
     /// `TooSmall` in READDIRPLUS, which shows what the entries' files are where the caller may search
     /// the directory.
-    pub(crate) fn too_small_plus(&self, cookie: u64, count: u32) -> Result<(), Rule>
+    pub(crate) fn first_must_fit_plus(&self, cookie: u64, count: u32) -> Result<(), Rule>
         ensures { Tells result (test.too_small self.now cookie count (plus_bytes (may self.now.ids self.now.file Right.Execute))) }
     {
         let beside = plus_bytes(self.may_search());

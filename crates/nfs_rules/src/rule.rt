@@ -3,91 +3,91 @@ ghost use Rattle.std.specs.Prelude.{◌≡◌, ◌≤◌, length, not};
 ghost use Rattle.nfs_rules.specs.Judging.{Tells};
 ghost use Rattle.nfs_rules.specs.Rules.{name_of, status_of};
 
-/// A rule that a call has to keep. The comment of each says what holds where it is kept.
+/// A rule that a call may fail. The comment of each says when it does.
 #[derive(Clone, Copy, Debug, PartialEq, Eq)]
 pub enum Rule {
-    /// The handle is one that was given.
+    /// The handle isn't one that was given.
     BadHandle,
-    /// The handle's file lives.
+    /// The handle's file is gone.
     StaleHandle,
-    /// A pattern of the file's volume covers the address.
+    /// No pattern of the file's volume covers the address.
     Export,
-    /// Both handles name files of one volume.
+    /// The handles name files of two volumes.
     CrossVolume,
-    /// The volume is exported for writing.
+    /// The volume is exported for reading alone.
     ReadOnly,
-    /// The file is a regular one.
+    /// The file isn't a regular one.
     NotRegular,
-    /// The file is a symbolic link.
+    /// The file isn't a symbolic link.
     NotLink,
-    /// The file is a directory.
+    /// The file isn't a directory.
     NotDirectory,
-    /// The file's attributes were changed last when the guard says.
+    /// The file's attributes were changed last at another moment than the guard says.
     Guard,
-    /// Who gives a mode owns the file.
+    /// A mode is given, and the caller doesn't own the file.
     OwnerMode,
-    /// The owner that is given is the present one, and its own giver; uid 0 gives any.
+    /// The owner that is given isn't the present one, or isn't the giver; uid 0 gives any.
     OwnerUid,
-    /// The group that is given is the present one or one of the giver's, who owns the file; uid 0
-    /// gives any.
+    /// The group that is given is neither the present one nor one of the giver's, or the giver doesn't own
+    /// the file; uid 0 gives any.
     OwnerGid,
-    /// The file to which a size is given is a regular one.
+    /// A size is given, and the file isn't a regular one.
     SizeType,
-    /// The caller may write the file, or owns it.
+    /// The caller may not write the file, and doesn't own it.
     WriteRight,
-    /// The caller may read or execute the file, or owns it.
+    /// The caller may neither read nor execute the file, and doesn't own it.
     ReadRight,
-    /// Who gives a time owns the file.
+    /// A time is given, and the caller doesn't own the file.
     OwnerTime,
-    /// Who asks for the server's time may write the file, or owns it.
+    /// The server's time is asked for, and the caller may not write the file, and doesn't own it.
     TimeRight,
-    /// The file stays within the most bytes that one has.
+    /// The file would have more bytes than a file may have.
     TooBig,
-    /// The volume's bytes stay within its limit.
+    /// The volume's bytes would go beyond its limit.
     Space,
-    /// The caller may search the directory.
+    /// The caller may not search the directory.
     Search,
-    /// The caller may read the directory.
+    /// The caller may not read the directory.
     DirectoryRead,
-    /// The caller may write the directory.
+    /// The caller may not write the directory.
     DirectoryWrite,
-    /// The name has at most 255 bytes.
+    /// The name has more than 255 bytes.
     NameLong,
-    /// The name has a byte, and none that is 0 or `/`.
+    /// The name has no byte, or one that is 0 or `/`.
     NameForm,
-    /// The name is neither `.` nor, but where a rule of its own looks at that, `..`.
+    /// The name is `.` or, but where a rule of its own looks at that, `..`.
     DotName,
-    /// The name of the directory to be removed isn't `..`.
+    /// The name of the directory to be removed is `..`.
     DotDot,
-    /// The path has at most 1,024 bytes.
+    /// The path has more than 1,024 bytes.
     PathLong,
-    /// There is a volume of the path.
+    /// There is no volume of the path.
     MountPath,
-    /// There is an entry of the name.
+    /// There is no entry of the name.
     NoEntry,
-    /// There is no entry of the name, or none that stands in the way.
+    /// There is an entry of the name, in CREATE one that it doesn't take.
     Exists,
-    /// The file under the name is no directory.
-    IsDirectory,
     /// The file under the name is a directory.
+    IsDirectory,
+    /// The file under the name isn't a directory.
     TargetNotDirectory,
-    /// The directory under the name has no entries.
+    /// The directory under the name has entries.
     NotEmpty,
-    /// What the new name names may be replaced by what the old one names.
+    /// What the new name names may not be replaced by what the old one names.
     Incompatible,
-    /// A directory goes neither into itself nor below itself.
+    /// A directory would go into itself or below itself.
     IntoItself,
-    /// The file that is to have a further name is no directory.
+    /// The file that is to have a further name is a directory.
     LinkDirectory,
-    /// The volume may have a file more.
+    /// The volume has as many files as it may have.
     Files,
-    /// What gains a link may have one more.
+    /// What would gain a link has as many as it may have.
     Links,
-    /// There are numbers left for a new file and a new entry.
+    /// There is no number left for a new file, or none for its entry.
     Numbers,
-    /// No special file is asked for.
+    /// A special file is asked for.
     NoMakeNode,
-    /// The first entry that is left fits into the answer.
+    /// The first entry that is left doesn't fit into the answer.
     TooSmall,
 }
 

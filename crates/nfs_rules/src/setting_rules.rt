@@ -18,7 +18,7 @@ use nfs_exports::squash::Ids;
 
 impl<'a> Subject<'a> {
     /// `Guard`: the file's attributes were changed last when the guard says, if there is one.
-    pub fn guard(&self, ctime: Option<Moment>) -> Result<(), Rule>
+    pub fn must_match_guard(&self, ctime: Option<Moment>) -> Result<(), Rule>
         ensures { Tells result (test.guard self.now ctime) }
     {
         match ctime {
@@ -28,7 +28,7 @@ impl<'a> Subject<'a> {
     }
 
     /// `OwnerMode`: who gives a mode owns the file.
-    pub(crate) fn owner_mode(&self, given: &Sattr) -> Result<(), Rule>
+    pub(crate) fn must_allow_mode(&self, given: &Sattr) -> Result<(), Rule>
         ensures { Tells result (test.owner_mode self.now given.now) }
     {
         match given.mode {
@@ -38,7 +38,7 @@ impl<'a> Subject<'a> {
     }
 
     /// `OwnerUid`: the owner that is given is the present one, who gives it.
-    pub(crate) fn owner_uid(&self, given: &Sattr) -> Result<(), Rule>
+    pub(crate) fn must_allow_uid(&self, given: &Sattr) -> Result<(), Rule>
         ensures { Tells result (test.owner_uid self.now given.now) }
     {
         match given.uid {
@@ -51,7 +51,7 @@ impl<'a> Subject<'a> {
     }
 
     /// `OwnerGid`: the group that is given is the present one or one of the owner's, who gives it.
-    pub(crate) fn owner_gid(&self, given: &Sattr) -> Result<(), Rule>
+    pub(crate) fn must_allow_gid(&self, given: &Sattr) -> Result<(), Rule>
         ensures { Tells result (test.owner_gid self.now given.now) }
     {
         match given.gid {
@@ -61,7 +61,7 @@ impl<'a> Subject<'a> {
     }
 
     /// `SizeType`: the file to which a size is given is a regular one.
-    pub(crate) fn size_type(&self, given: &Sattr) -> Result<(), Rule>
+    pub(crate) fn must_allow_size(&self, given: &Sattr) -> Result<(), Rule>
         ensures { Tells result (test.size_type self.now given.now) }
     {
         match given.size {
@@ -74,17 +74,17 @@ impl<'a> Subject<'a> {
     }
 
     /// `WriteRight`, where a size is given.
-    pub(crate) fn size_write_right(&self, size: Option<u64>) -> Result<(), Rule>
+    pub(crate) fn must_be_writable_for_size(&self, size: Option<u64>) -> Result<(), Rule>
         ensures { Tells result (test.only_where (is_some size) (test.write_right self.now)) }
     {
         match size {
             None => Ok(()),
-            Some(_) => self.write_right(),
+            Some(_) => self.must_be_writable(),
         }
     }
 
     /// `OwnerTime`: who gives a time owns the file.
-    pub(crate) fn owner_time(&self, given: &Sattr) -> Result<(), Rule>
+    pub(crate) fn must_allow_client_time(&self, given: &Sattr) -> Result<(), Rule>
         ensures { Tells result (test.owner_time self.now given.now) }
     {
         if !is_client_time(given.atime) && !is_client_time(given.mtime) {
@@ -94,7 +94,7 @@ impl<'a> Subject<'a> {
     }
 
     /// `TimeRight`: who asks for the server's time may write the file, or owns it.
-    pub(crate) fn time_right(&self, given: &Sattr) -> Result<(), Rule>
+    pub(crate) fn must_allow_server_time(&self, given: &Sattr) -> Result<(), Rule>
         ensures { Tells result (test.time_right self.now given.now) }
     {
         if !is_server_time(given.atime) && !is_server_time(given.mtime) {

@@ -1,16 +1,19 @@
 //! The rules of each procedure after those of its handles, in the order of the table. What a rule has
 //! found is answered where the procedure goes on with it.
-ghost use Rattle.std.specs.Prelude.{◌≡◌, Some, IfOk, option_map};
-ghost use Rattle.nfs_inodes.specs.Reading.{number_under};
+ghost use Rattle.std.specs.Prelude.{◌≡◌, true, Some, IfOk, option_map};
+ghost use Rattle.nfs_inodes.specs.Reading.{is_directory_type, number_under};
 ghost use Rattle.nfs_inodes.specs.Views.{IsSeen};
 ghost use Rattle.nfs_rules.specs.Judging.{Judges};
 ghost use Rattle.nfs_rules.specs.Table as table;
 ghost use Rattle.nfs_rules.specs.Tests.{found};
 
-use crate::entry_rules::{is_directory, target_not_directory};
-use crate::limit_rules::{links, too_big};
+use crate::entry_rules::{must_be_directory, must_not_be_directory};
+use crate::limit_rules::{must_have_link_left, must_not_be_too_big};
 use crate::move_rules::move_rules;
-use crate::name_rules::{dot_alone, dot_dot_alone, dot_name, name_form, name_long, path_long};
+use crate::name_rules::{
+    name_must_be_formed, name_must_be_short, name_must_not_be_dot, name_must_not_be_dot_dot,
+    name_must_not_be_dots, path_must_be_short,
+};
 use crate::rule::Rule;
 use crate::subject::Subject;
 use nfs_args::create::{Create, CreateHow};
@@ -25,16 +28,16 @@ pub fn set_attr_rules(file: &Subject<'_>, args: &SetAttr<'_>) -> Result<(), Rule
     ensures { Judges result (table.set_attr_rules file.now args.now) }
 {
     let given = &args.attributes;
-    file.read_only()?;
-    file.guard(args.guard)?;
-    file.owner_mode(given)?;
-    file.owner_uid(given)?;
-    file.owner_gid(given)?;
-    file.size_type(given)?;
-    file.size_write_right(given.size)?;
-    file.owner_time(given)?;
-    file.time_right(given)?;
-    file.size_limits(given.size)
+    file.must_not_be_read_only()?;
+    file.must_match_guard(args.guard)?;
+    file.must_allow_mode(given)?;
+    file.must_allow_uid(given)?;
+    file.must_allow_gid(given)?;
+    file.must_allow_size(given)?;
+    file.must_be_writable_for_size(given.size)?;
+    file.must_allow_client_time(given)?;
+    file.must_allow_server_time(given)?;
+    file.must_have_room_for_size(given.size)
 }
 
 /// LOOKUP (RFC 1813, section 3.3.3), and the file under the name.
@@ -44,29 +47,29 @@ pub fn lookup_rules<'a>(dir: &Subject<'a>, name: &[u8]) -> Result<FileView<'a>, 
     ensures seen { IfOk result (λ f. IsSeen dir.now.tree f) }
     ensures number { IfOk result (λ f. number_under dir.now.tree dir.now.file.fileid name.now ≡ Some f.attributes.fileid) }
 {
-    dir.not_directory()?;
-    dir.search_right()?;
-    name_long(name)?;
-    name_form(name)?;
-    dir.no_entry(name)
+    dir.must_be_directory()?;
+    dir.must_be_searchable()?;
+    name_must_be_short(name)?;
+    name_must_be_formed(name)?;
+    dir.must_find(name)
 }
 
 /// READ (RFC 1813, section 3.3.6).
 pub fn read_rules(file: &Subject<'_>) -> Result<(), Rule>
     ensures { Judges result (table.read_rules file.now) }
 {
-    file.not_regular()?;
-    file.read_right()
+    file.must_be_regular()?;
+    file.must_be_readable()
 }
 
 /// WRITE (RFC 1813, section 3.3.7).
 pub fn write_rules(file: &Subject<'_>, args: &Write<'_>) -> Result<(), Rule>
     ensures { Judges result (table.write_rules file.now args.now) }
 {
-    file.read_only()?;
-    file.not_regular()?;
-    file.write_right()?;
-    file.write_limits(args.offset, args.content.bytes().len())
+    file.must_not_be_read_only()?;
+    file.must_be_regular()?;
+    file.must_be_writable()?;
+    file.must_have_room_for_bytes(args.offset, args.content.bytes().len())
 }
 
 /// CREATE (RFC 1813, section 3.3.8), and the file that is there, if one is taken.
@@ -75,12 +78,12 @@ pub fn create_rules<'a>(dir: &Subject<'a>, args: &Create<'_>) -> Result<Option<F
     ensures found { IfOk result (λ o. option_map (λ f. f.attributes) o ≡ found dir.now args.now.place.name) }
 {
     let name = args.place.name.bytes();
-    dir.read_only()?;
-    dir.not_directory()?;
-    name_long(name)?;
-    name_form(name)?;
-    dir.search_right()?;
-    let present = dir.exists_other(name, &args.how)?;
+    dir.must_not_be_read_only()?;
+    dir.must_be_directory()?;
+    name_must_be_short(name)?;
+    name_must_be_formed(name)?;
+    dir.must_be_searchable()?;
+    let present = dir.must_be_free_or_taken(name, &args.how)?;
     match &present {
         None => new_file_rules(dir, size_in(&args.how))?,
         Some(file) => present_file_rules(&dir.beside(file), &args.how)?,
@@ -92,11 +95,11 @@ pub fn create_rules<'a>(dir: &Subject<'a>, args: &Create<'_>) -> Result<Option<F
 fn new_file_rules(dir: &Subject<'_>, size: Option<u64>) -> Result<(), Rule>
     ensures { Judges result (table.new_file_rules dir.now size) }
 {
-    dir.directory_write()?;
-    dir.files()?;
-    too_big(size)?;
-    dir.space(size)?;
-    dir.numbers()
+    dir.must_be_changeable()?;
+    dir.must_have_file_left()?;
+    must_not_be_too_big(size)?;
+    dir.must_have_space(size)?;
+    dir.must_have_number_left()
 }
 
 // CREATE of a file that is there, which may get a size.
@@ -105,8 +108,8 @@ fn present_file_rules(file: &Subject<'_>, how: &CreateHow) -> Result<(), Rule>
 {
     match how {
         CreateHow::Unchecked(given) => {
-            file.size_write_right(given.size)?;
-            file.size_limits(given.size)
+            file.must_be_writable_for_size(given.size)?;
+            file.must_have_room_for_size(given.size)
         }
         _ => Ok(()),
     }
@@ -125,32 +128,32 @@ fn size_in(how: &CreateHow) -> Option<u64>
 pub fn make_dir_rules(dir: &Subject<'_>, name: &[u8]) -> Result<(), Rule>
     ensures { Judges result (table.make_dir_rules dir.now name.now) }
 {
-    dir.read_only()?;
-    dir.not_directory()?;
-    name_long(name)?;
-    name_form(name)?;
-    dir.search_right()?;
-    dir.exists(name)?;
-    dir.directory_write()?;
-    dir.files()?;
-    links(&dir.attributes())?;
-    dir.numbers()
+    dir.must_not_be_read_only()?;
+    dir.must_be_directory()?;
+    name_must_be_short(name)?;
+    name_must_be_formed(name)?;
+    dir.must_be_searchable()?;
+    dir.must_be_free(name)?;
+    dir.must_be_changeable()?;
+    dir.must_have_file_left()?;
+    must_have_link_left(&dir.attributes())?;
+    dir.must_have_number_left()
 }
 
 /// SYMLINK (RFC 1813, section 3.3.10).
 pub fn sym_link_rules(dir: &Subject<'_>, name: &[u8], path: &[u8]) -> Result<(), Rule>
     ensures { Judges result (table.sym_link_rules dir.now name.now path.now) }
 {
-    dir.read_only()?;
-    dir.not_directory()?;
-    name_long(name)?;
-    name_form(name)?;
-    dir.search_right()?;
-    path_long(path)?;
-    dir.exists(name)?;
-    dir.directory_write()?;
-    dir.files()?;
-    dir.numbers()
+    dir.must_not_be_read_only()?;
+    dir.must_be_directory()?;
+    name_must_be_short(name)?;
+    name_must_be_formed(name)?;
+    dir.must_be_searchable()?;
+    path_must_be_short(path)?;
+    dir.must_be_free(name)?;
+    dir.must_be_changeable()?;
+    dir.must_have_file_left()?;
+    dir.must_have_number_left()
 }
 
 /// REMOVE (RFC 1813, section 3.3.12), and the file that the name names.
@@ -158,15 +161,15 @@ pub fn remove_rules<'a>(dir: &Subject<'a>, name: &[u8]) -> Result<FileView<'a>, 
     ensures rules { Judges result (table.remove_rules dir.now name.now) }
     ensures found { IfOk result (λ f. found dir.now name.now ≡ Some f.attributes) }
 {
-    dir.read_only()?;
-    dir.not_directory()?;
-    dot_name(name)?;
-    name_long(name)?;
-    name_form(name)?;
-    dir.search_right()?;
-    let found = dir.no_entry(name)?;
-    dir.directory_write()?;
-    is_directory(&found.attributes())?;
+    dir.must_not_be_read_only()?;
+    dir.must_be_directory()?;
+    name_must_not_be_dots(name)?;
+    name_must_be_short(name)?;
+    name_must_be_formed(name)?;
+    dir.must_be_searchable()?;
+    let found = dir.must_find(name)?;
+    dir.must_be_changeable()?;
+    must_not_be_directory(&found.attributes())?;
     Ok(found)
 }
 
@@ -175,17 +178,17 @@ pub fn remove_dir_rules<'a>(dir: &Subject<'a>, name: &[u8]) -> Result<FileView<'
     ensures rules { Judges result (table.remove_dir_rules dir.now name.now) }
     ensures found { IfOk result (λ f. found dir.now name.now ≡ Some f.attributes) }
 {
-    dir.read_only()?;
-    dir.not_directory()?;
-    dot_alone(name)?;
-    dot_dot_alone(name)?;
-    name_long(name)?;
-    name_form(name)?;
-    dir.search_right()?;
-    let found = dir.no_entry(name)?;
-    dir.directory_write()?;
-    target_not_directory(&found.attributes())?;
-    dir.not_empty(&found.attributes())?;
+    dir.must_not_be_read_only()?;
+    dir.must_be_directory()?;
+    name_must_not_be_dot(name)?;
+    name_must_not_be_dot_dot(name)?;
+    name_must_be_short(name)?;
+    name_must_be_formed(name)?;
+    dir.must_be_searchable()?;
+    let found = dir.must_find(name)?;
+    dir.must_be_changeable()?;
+    must_be_directory(&found.attributes())?;
+    dir.must_be_empty(&found.attributes())?;
     Ok(found)
 }
 
@@ -194,20 +197,30 @@ pub fn rename_rules(from: &Subject<'_>, to: &Subject<'_>, args: &Rename<'_>) -> 
     ensures { Judges result (table.rename_rules from.now to.now args.now) }
 {
     let (name, new_name) = (args.from.name.bytes(), args.to.name.bytes());
-    from.read_only()?;
-    from.not_directory()?;
-    to.not_directory()?;
-    dot_name(name)?;
-    dot_name(new_name)?;
-    name_long(name)?;
-    name_long(new_name)?;
-    name_form(name)?;
-    name_form(new_name)?;
-    from.search_right()?;
-    to.search_right()?;
-    let moved = from.no_entry(name)?;
-    from.directory_write()?;
-    to.directory_write()?;
+    from.must_not_be_read_only()?;
+    from.must_be_directory()?;
+    to.must_be_directory()?;
+    name_must_not_be_dots(name)?;
+    name_must_not_be_dots(new_name)?;
+    name_must_be_short(name)?;
+    name_must_be_short(new_name)?;
+    name_must_be_formed(name)?;
+    name_must_be_formed(new_name)?;
+    rename_entry_rules(from, to, args)
+}
+
+// Those of RENAME after those of what its directories and names are like.
+#[inline(always)]
+fn rename_entry_rules(from: &Subject<'_>, to: &Subject<'_>, args: &Rename<'_>) -> Result<(), Rule>
+    requires { is_directory_type to.now.file.file_type ≡ true }
+    ensures { Judges result (table.rename_entry_rules from.now to.now args.now) }
+{
+    let (name, new_name) = (args.from.name.bytes(), args.to.name.bytes());
+    from.must_be_searchable()?;
+    to.must_be_searchable()?;
+    let moved = from.must_find(name)?;
+    from.must_be_changeable()?;
+    to.must_be_changeable()?;
     move_rules(from, to, &moved.attributes(), to.found(new_name))
 }
 
@@ -215,32 +228,32 @@ pub fn rename_rules(from: &Subject<'_>, to: &Subject<'_>, args: &Rename<'_>) -> 
 pub fn link_rules(file: &Subject<'_>, dir: &Subject<'_>, name: &[u8]) -> Result<(), Rule>
     ensures { Judges result (table.link_rules file.now dir.now name.now) }
 {
-    file.read_only()?;
-    file.link_directory()?;
-    dir.not_directory()?;
-    name_long(name)?;
-    name_form(name)?;
-    dir.search_right()?;
-    dir.exists(name)?;
-    dir.directory_write()?;
-    links(&file.attributes())?;
-    dir.cookies()
+    file.must_not_be_read_only()?;
+    file.must_not_be_directory()?;
+    dir.must_be_directory()?;
+    name_must_be_short(name)?;
+    name_must_be_formed(name)?;
+    dir.must_be_searchable()?;
+    dir.must_be_free(name)?;
+    dir.must_be_changeable()?;
+    must_have_link_left(&file.attributes())?;
+    dir.must_have_cookie_left()
 }
 
 /// READDIR (RFC 1813, section 3.3.16).
 pub fn read_dir_rules(dir: &Subject<'_>, args: &ReadDir<'_>) -> Result<(), Rule>
     ensures { Judges result (table.read_dir_rules dir.now args.now) }
 {
-    dir.not_directory()?;
-    dir.directory_read()?;
-    dir.too_small(args.cookie, args.count)
+    dir.must_be_directory()?;
+    dir.must_be_listable()?;
+    dir.first_must_fit(args.cookie, args.count)
 }
 
 /// READDIRPLUS (RFC 1813, section 3.3.17).
 pub fn read_dir_plus_rules(dir: &Subject<'_>, args: &ReadDirPlus<'_>) -> Result<(), Rule>
     ensures { Judges result (table.read_dir_plus_rules dir.now args.now) }
 {
-    dir.not_directory()?;
-    dir.directory_read()?;
-    dir.too_small_plus(args.cookie, args.maxcount)
+    dir.must_be_directory()?;
+    dir.must_be_listable()?;
+    dir.first_must_fit_plus(args.cookie, args.maxcount)
 }

@@ -7,7 +7,7 @@ ghost use Rattle.nfs_rules.specs.Views.{caller_of, handles_seen};
 
 use crate::caller::Caller;
 use crate::exported_file::ExportedFile;
-use crate::exported_pair::both;
+use crate::exported_pair::in_one_volume;
 use crate::rule::Rule;
 use crate::subject::Subject;
 use crate::table::{
@@ -32,7 +32,7 @@ pub fn handle_failure(
     match handles_of(args) {
         Handles::None => None,
         Handles::One(handle) => failure_of(tree, table, caller, handle),
-        Handles::Two(one, two) => failure_of_both(tree, table, caller, one, two),
+        Handles::Two(one, two) => failure_of_pair(tree, table, caller, one, two),
     }
 }
 
@@ -79,7 +79,7 @@ fn failure_of(tree: &Tree, table: &Table, caller: Caller<'_>, handle: &[u8]) -> 
 }
 
 // The same of two handles.
-fn failure_of_both(
+fn failure_of_pair(
     tree: &Tree,
     table: &Table,
     caller: Caller<'_>,
@@ -90,7 +90,7 @@ fn failure_of_both(
 {
     let one = ExportedFile::of(tree, table, caller, one);
     let two = ExportedFile::of(tree, table, caller, two);
-    match both(one, two) {
+    match in_one_volume(one, two) {
         Ok(_) => None,
         Err(rule) => Some(rule),
     }
@@ -104,7 +104,7 @@ pub fn first_failure(one: &Subject<'_>, two: &Subject<'_>, args: &NfsArgs<'_>) -
     match args {
         NfsArgs::SetAttr(args) => set_attr_rules(one, args).err(),
         NfsArgs::Lookup(args) => lookup_rules(one, args.name.bytes()).err(),
-        NfsArgs::ReadLink(_) => one.not_link().err(),
+        NfsArgs::ReadLink(_) => one.must_be_link().err(),
         NfsArgs::Read(_) => read_rules(one).err(),
         NfsArgs::Write(args) => write_rules(one, args).err(),
         NfsArgs::Create(args) => create_rules(one, args).err(),
@@ -119,7 +119,7 @@ pub fn first_failure(one: &Subject<'_>, two: &Subject<'_>, args: &NfsArgs<'_>) -
         NfsArgs::Link(args) => link_rules(one, two, args.place.name.bytes()).err(),
         NfsArgs::ReadDir(args) => read_dir_rules(one, args).err(),
         NfsArgs::ReadDirPlus(args) => read_dir_plus_rules(one, args).err(),
-        NfsArgs::Commit(_) => one.not_regular().err(),
+        NfsArgs::Commit(_) => one.must_be_regular().err(),
         NfsArgs::Null
         | NfsArgs::GetAttr(_)
         | NfsArgs::Access(_)

@@ -17,6 +17,7 @@ use Rattle.nfs_rpc.specs.Calls.{Call}
 use Rattle.nfs_rpc.specs.Replies.{accepted_text}
 use Rattle.nfs_rpc.specs.declared.reply.Accept.TheVariants.{SystemErr}
 use Rattle.nfs_rules.specs.Rules.{status_of}
+use Rattle.nfs_rules.specs.Subjects.{Subject}
 use Rattle.nfs_rules.specs.declared.rule.Rule.{Rule}
 use Rattle.nfs_server.specs.AuditLines.{line_of}
 use Rattle.nfs_server.specs.Events.{Choice, Answer, granted, denied}
@@ -69,29 +70,29 @@ abbrev pub no_choice : Bool → Choice
 no_choice again = record { tag = 0; fits = omega arith; has_memory = true; again = again }
 
 -- a procedure that may find no memory may change the tree
-wanting : (args : NfsArgs) → on_some (doing_of args) false (λ d. d.takes_memory) ≡ true → may_change args ≡ true
-wanting nfs.Null h = absurd (false≢true h)
-wanting (nfs.GetAttr a) h = absurd (false≢true h)
-wanting (nfs.SetAttr a) h = refl
-wanting (nfs.Lookup a) h = absurd (false≢true h)
-wanting (nfs.Access a) h = absurd (false≢true h)
-wanting (nfs.ReadLink a) h = absurd (false≢true h)
-wanting (nfs.Read a) h = absurd (false≢true h)
-wanting (nfs.Write a) h = refl
-wanting (nfs.Create a) h = refl
-wanting (nfs.MakeDir a) h = refl
-wanting (nfs.SymLink a) h = refl
-wanting (nfs.MakeNode a) h = absurd (false≢true h)
-wanting (nfs.Remove a) h = refl
-wanting (nfs.RemoveDir a) h = refl
-wanting (nfs.Rename a) h = refl
-wanting (nfs.Link a) h = refl
-wanting (nfs.ReadDir a) h = absurd (false≢true h)
-wanting (nfs.ReadDirPlus a) h = absurd (false≢true h)
-wanting (nfs.FsStat a) h = absurd (false≢true h)
-wanting (nfs.FsInfo a) h = absurd (false≢true h)
-wanting (nfs.PathConf a) h = absurd (false≢true h)
-wanting (nfs.Commit a) h = absurd (false≢true h)
+wanting : (args : NfsArgs) (one two : Subject) → on_some (doing_of args) false (λ d. d.takes_memory one two) ≡ true → may_change args ≡ true
+wanting nfs.Null one two h = absurd (false≢true h)
+wanting (nfs.GetAttr a) one two h = absurd (false≢true h)
+wanting (nfs.SetAttr a) one two h = refl
+wanting (nfs.Lookup a) one two h = absurd (false≢true h)
+wanting (nfs.Access a) one two h = absurd (false≢true h)
+wanting (nfs.ReadLink a) one two h = absurd (false≢true h)
+wanting (nfs.Read a) one two h = absurd (false≢true h)
+wanting (nfs.Write a) one two h = refl
+wanting (nfs.Create a) one two h = refl
+wanting (nfs.MakeDir a) one two h = refl
+wanting (nfs.SymLink a) one two h = refl
+wanting (nfs.MakeNode a) one two h = absurd (false≢true h)
+wanting (nfs.Remove a) one two h = refl
+wanting (nfs.RemoveDir a) one two h = refl
+wanting (nfs.Rename a) one two h = refl
+wanting (nfs.Link a) one two h = refl
+wanting (nfs.ReadDir a) one two h = absurd (false≢true h)
+wanting (nfs.ReadDirPlus a) one two h = absurd (false≢true h)
+wanting (nfs.FsStat a) one two h = absurd (false≢true h)
+wanting (nfs.FsInfo a) one two h = absurd (false≢true h)
+wanting (nfs.PathConf a) one two h = absurd (false≢true h)
+wanting (nfs.Commit a) one two h = absurd (false≢true h)
 
 abbrev pub Performs : Option Doing → Scene → Call → Answer → Tree → Type 0
 Performs o c call answer new = (again : Bool) → (choice : Choice) × (choice.again ≡ again) × Performed o c call choice answer new
@@ -145,7 +146,7 @@ refused_done c (Some doing) came new before after call reply line asks e perform
     let choice : Choice = record { tag = 0; fits = omega arith; has_memory = false; again = again } in (
       choice,
       refl,
-      subst (λ b. Refusable b (Some doing) c call 0 (told reply (Some line)) new) (sym (wanting c.args (ap (λ o. on_some o false (λ d. d.takes_memory)) asks ∙ h.takes)))
+      subst (λ b. Refusable b (Some doing) c call 0 (told reply (Some line)) new) (sym (wanting c.args h.one h.two (ap (λ o. on_some o false (λ d. d.takes_memory h.one h.two)) asks ∙ h.takes)))
           (record { new_is = h.new_is; answer_is = ap (λ r. denied r line) reply_is ∙ ap (denied (accepted_text call.xid SystemErr)) line_is }),
     )
 

@@ -11,16 +11,14 @@ ghost use Rattle.nfs_server.specs.Seen.{told};
 use crate::audit_line::{AuditLine, Reason};
 use crate::reply::give_up;
 use nfs_args::args::NfsArgs;
-use nfs_attrs::moment::Moment;
-use nfs_exports::table::Table;
 use nfs_inodes::tree::Tree;
 use nfs_kept::kept_replies::MAX_KEPT_BYTES;
+use nfs_procs::call::Call;
 use nfs_procs::done::Done;
 use nfs_procs::limits::MAX_RESULT_BYTES;
 use nfs_procs::perform::perform;
 use nfs_rpc::call::CallHead;
 use nfs_rpc::reply::{Accept, write_accepted};
-use nfs_rules::caller::Caller;
 use nfs_xdr::output::Output;
 
 /// Whether these are arguments of a procedure that may change the tree.
@@ -49,25 +47,23 @@ pub(crate) fn answer_call(
     out: &mut Output,
     head: &CallHead<'_>,
     tree: &mut Tree,
-    table: &Table,
-    caller: Caller<'_>,
-    now: Moment,
+    call: &Call<'_>,
     args: &NfsArgs<'_>,
 ) -> Option<AuditLine>
     requires { IsBegun out.old }
     ensures reply { IsReply out.new }
     ensures short { repeats.may_change args.now ≡ true → length (reply_in out.new) ≤ MAX_KEPT_BYTES }
-    ensures answers { AnswersCall (scene tree.old table.now caller.entry now args.now) (call_of head.now)
+    ensures answers { AnswersCall (scene tree.old call.now args.now) (call_of head.now)
         (told (reply_in out.new) result) tree.new }
 {
     write_accepted(out, head.xid, Accept::Success);
-    match write_result(out, tree, table, caller, now, args) {
+    match write_result(out, tree, call, args) {
         Some(Done::Denied(rule, uid)) => {
-            Some(AuditLine::of(caller.addr, head, Reason::Rule(rule, uid)))
+            Some(AuditLine::of(call.caller.addr, head, Reason::Rule(rule, uid)))
         }
         Some(Done::Memory) => {
             give_up(out, head.xid);
-            Some(AuditLine::of(caller.addr, head, Reason::Memory))
+            Some(AuditLine::of(call.caller.addr, head, Reason::Memory))
         }
         Some(Done::Granted) => None,
         None => None,
@@ -79,18 +75,16 @@ pub(crate) fn answer_call(
 fn write_result(
     out: &mut Output,
     tree: &mut Tree,
-    table: &Table,
-    caller: Caller<'_>,
-    now: Moment,
+    call: &Call<'_>,
     args: &NfsArgs<'_>,
 ) -> Option<Done>
     requires { MAX_RESULT_BYTES ≤ out.old.room }
-    ensures performs { PerformsAs (scene tree.old table.now caller.entry now args.now) (doing_of args.now) result tree.new out.old out.new }
+    ensures performs { PerformsAs (scene tree.old call.now args.now) (doing_of args.now) result tree.new out.old out.new }
     ensures room { length out.new.bytes + out.new.room ≡ length out.old.bytes + out.old.room }
     ensures longer { length out.old.bytes ≤ length out.new.bytes }
     ensures short { repeats.may_change args.now ≡ true → length out.new.bytes ≤ length out.old.bytes + 280 }
 {
-    let done = perform(tree, table, caller, now, args, out);
+    let done = perform(tree, call, args, out);
     tree.law();
     done
 }

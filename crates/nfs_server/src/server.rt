@@ -31,6 +31,7 @@ use nfs_inodes::tree::Tree;
 use nfs_kept::kept_replies::KeptReplies;
 use nfs_load::loaded::Loaded;
 use nfs_mount::mount_list::MountList;
+use nfs_procs::call::Call;
 use nfs_rpc::auth_sys::Cred;
 use nfs_rpc::call::{CallHead, read_call};
 use nfs_rules::caller::Caller;
@@ -226,12 +227,15 @@ impl Server {
             give_up(out, head.xid);
             return Some(AuditLine::of(event.addr, head, Reason::Memory));
         }
-        let caller = Caller {
-            addr: event.addr,
-            cred,
+        let call = Call {
+            table: &self.table,
+            caller: Caller {
+                addr: event.addr,
+                cred,
+            },
+            moment: event.moment,
         };
-        let (tree, table) = (&mut self.tree, &self.table);
-        let line = answer_call(out, head, tree, table, caller, event.moment, args);
+        let line = answer_call(out, head, &mut self.tree, &call, args);
         if wants_memory(&line) {
             self.kept.give_back();
         } else {
@@ -257,12 +261,15 @@ impl Server {
         ensures answers { PerformsAnew (scene_for self.old (event_of event.entry) cred.now args.now) (call_of head.now)
             (told (reply_in out.new) result) self.old self.new }
     {
-        let caller = Caller {
-            addr: event.addr,
-            cred,
+        let call = Call {
+            table: &self.table,
+            caller: Caller {
+                addr: event.addr,
+                cred,
+            },
+            moment: event.moment,
         };
-        let (tree, table) = (&mut self.tree, &self.table);
-        answer_call(out, head, tree, table, caller, event.moment, args)
+        answer_call(out, head, &mut self.tree, &call, args)
     }
 
     // The reply to a call of MOUNT other than NULL, and its line where it is denied. Out of line, so

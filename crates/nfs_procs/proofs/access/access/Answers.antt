@@ -6,24 +6,20 @@ use Rattle.nfs_args.specs.declared.args.NfsArgs.TheVariants as nfs
 use Rattle.nfs_attrs.specs.Spelling.{post_op_attr_text}
 use Rattle.nfs_procs.proofs.Reading.{reads_freely, denies_handle}
 use Rattle.nfs_procs.specs.Readers as procedure
-use Rattle.nfs_procs.specs.Scenes.{Scene}
 use Rattle.nfs_rules.specs.Rights.{access_bits}
 use Rattle.nfs_rules.specs.Rules.{status_of}
 use Rattle.nfs_rules.specs.Subjects.{Subject}
-use Rattle.nfs_rules.specs.Views.{caller_of}
 use Rattle.nfs_xdr.specs.Written.{Appends}
 use Rattle.nfs_procs.proofs.access.access.Goals as goal
 
 pub returns-in-Ok : goal.returns-in-Ok
 returns-in-Ok c =
-    let scene : Scene = record { tree = c.args.tree.now; exports = c.args.table.now; caller = caller_of c.args.caller; now = c.args.now; args = nfs.Access c.args.args.now } in
-    reads_freely scene (procedure.access c.args.args.now) c.args.args.now.file c.bytes.result.now refl c.bytes.ensures c.in-Ok.file _ _ refl refl c.in-Ok.ensures.rules c.in-Ok.ensures.subject
+    reads_freely c.args.tree.now c.args.call.now (nfs.Access c.args.args.now) (procedure.access c.args.args.now) c.args.args.now.file refl c.in-Ok.file _ _ refl refl c.in-Ok.ensures
     (subst (λ (s : Subject). Appends (nfs_text (answer.Access (Ok (record { attributes = Some s.file; rights = access_bits s.options.read_only s.ids s.file c.args.args.now.rights })))) c.args.out.now c.write_granted.new.out) c.subject-file.ensures
     (subst (λ rights. Appends (nfs_text (answer.Access (Ok (record { attributes = Some c.subject-file.result.file; rights = rights })))) c.args.out.now c.write_granted.new.out) c.access_bits.ensures
     (subst (λ f. Appends (nfs_text (answer.Access (Ok (record { attributes = Some f; rights = c.access_bits.result })))) c.args.out.now c.write_granted.new.out) c.attributes.ensures c.write_granted.ensures)))
 
 pub returns-in-Err : goal.returns-in-Err
 returns-in-Err c =
-    let scene : Scene = record { tree = c.args.tree.now; exports = c.args.table.now; caller = caller_of c.args.caller; now = c.args.now; args = nfs.Access c.args.args.now } in
-    denies_handle scene (procedure.access c.args.args.now) c.args.args.now.file c.bytes.result.now refl c.bytes.ensures c.in-Err.rule c.of_handle.result c.write_denied_attributes.result
-    (λ shown. to_be_bytes w32 (status_of c.of_handle.result.rule) ++ post_op_attr_text shown) _ _ c.in-Err.ensures.rules c.in-Err.ensures.subject c.of_handle.ensures refl c.write_denied_attributes.ensures.text c.write_denied_attributes.ensures.done
+    denies_handle c.args.tree.now c.args.call.now (nfs.Access c.args.args.now) (procedure.access c.args.args.now) c.args.args.now.file refl c.in-Err.denial c.write_denied_attributes.result
+    (λ shown. to_be_bytes w32 (status_of c.in-Err.denial.rule) ++ post_op_attr_text shown) _ _ c.in-Err.ensures refl c.write_denied_attributes.ensures.text c.write_denied_attributes.ensures.done

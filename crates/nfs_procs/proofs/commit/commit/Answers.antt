@@ -6,18 +6,16 @@ use Rattle.nfs_attrs.specs.declared.fattr.Fattr.{Fattr}
 use Rattle.nfs_procs.proofs.Reading.{reads}
 use Rattle.nfs_procs.specs.Doing.{no_change}
 use Rattle.nfs_procs.specs.Readers as procedure
-use Rattle.nfs_procs.specs.Scenes.{Scene}
+use Rattle.nfs_procs.specs.Scenes.{scene}
 use Rattle.nfs_rules.specs.Subjects.{Subject}
-use Rattle.nfs_rules.specs.Views.{caller_of}
 use Rattle.nfs_xdr.specs.Written.{Appends}
 use Rattle.nfs_procs.proofs.commit.commit.Goals as goal
 
 pub returns-in-Ok : goal.returns-in-Ok
 returns-in-Ok c =
-    let scene : Scene = record { tree = c.args.tree.now; exports = c.args.table.now; caller = caller_of c.args.caller; now = c.args.now; args = nfs.Commit c.args.args.now } in
     let s = c.in-Ok.ensures.0 in
     let plans = c.in-Ok.ensures.2 in
-    reads scene (procedure.commit c.args.args.now) s _ _ refl c.in-Ok.ensures.1 plans.tree
+    reads (scene c.args.tree.now c.args.call.now (nfs.Commit c.args.args.now)) (procedure.commit c.args.args.now) s _ _ refl c.in-Ok.ensures.1 plans.tree
     (subst (λ t. Appends (nfs_text (answer.Commit (Ok (record { file = no_change (Some s.file); verifier = procedure.verifier_of t })))) c.args.out.now c.write_granted.new.out) (sym plans.tree)
     (subst (λ (f : Fattr). Appends (nfs_text (answer.Commit (Ok (record { file = no_change (Some f); verifier = procedure.verifier_of c.args.tree.now })))) c.args.out.now c.write_granted.new.out)
     (c.attributes.ensures ∙ ap (λ (u : Subject). u.file) plans.subject) c.write_granted.ensures))

@@ -1,40 +1,37 @@
-use Rattle.std.proofs.Common.{◌≡◌, Some, None, refl, sym, ap, subst, ◌∙◌}
 use Rattle.nfs_args.specs.declared.args.NfsArgs.TheVariants as nfs
+use Rattle.nfs_procs.specs.Plans.{PlansFound}
+use Rattle.nfs_procs.proofs.Judged.{denied_by_rule, denied_through, granted_by_rules}
+use Rattle.std.proofs.Common.{◌≡◌, Some, None, refl, subst}
 use Rattle.nfs_inodes.specs.Views.{IsSeen}
-use Rattle.nfs_procs.proofs.Judged.{denied_by_handle, denied_by_rule, granted_by_rules, subject_tree}
-use Rattle.nfs_procs.specs.Scenes.{Scene}
-use Rattle.nfs_rules.specs.Subjects.{Subject}
 use Rattle.nfs_rules.specs.Table.{lookup_rules}
 use Rattle.nfs_rules.specs.Tests.{first, found}
-use Rattle.nfs_rules.specs.Views.{caller_of}
 use Rattle.nfs_procs.proofs.lookup.decide.Goals as goal
 
-pub returns-in-Err : goal.returns-in-Err
-returns-in-Err c =
-    let scene : Scene = record { tree = c.args.tree.now; exports = c.args.table.now; caller = caller_of c.args.caller; now = c.args.now; args = nfs.Lookup c.args.args.now } in
-    denied_by_handle scene c.args.args.now.dir c.bytes.result.now refl c.bytes.ensures c.in-Err.rule c.of_handle.result c.in-Err.ensures.rules (sym c.in-Err.ensures.subject) c.of_handle.ensures
-
-pub returns-in-Ok-lookup_rules : goal.returns-in-Ok-lookup_rules
-returns-in-Ok-lookup_rules c =
-    let scene : Scene = record { tree = c.args.tree.now; exports = c.args.table.now; caller = caller_of c.args.caller; now = c.args.now; args = nfs.Lookup c.args.args.now } in
-    let s : Subject = c.subject-dir.result in
-    let some = sym c.in-Ok.ensures.subject ∙ ap Some (sym c.subject-dir.ensures) in
-    let kept : first (lookup_rules s c.args.args.now.name) ≡ None = subst (λ name. first (lookup_rules s name) ≡ None) c.bytes-2.ensures c.in-Ok-lookup_rules.ensures.rules in
-    let tree = subject_tree c.args.tree.now c.args.table.now (caller_of c.args.caller) c.bytes.result.now s some in (
+pub returns-in-Ok : goal.returns-in-Ok
+returns-in-Ok c =
+    let a = c.args.args.now in
+    let s = c.in_ok-dir.dir in
+    let named = c.in_ok-dir.ensures in
+    let kept : first (lookup_rules s a.name) ≡ None = subst (λ name. first (lookup_rules s name) ≡ None) c.bytes.ensures c.in-Ok.ensures.rules in (
       s,
-      granted_by_rules scene c.args.args.now.dir c.bytes.result.now refl c.bytes.ensures s c.in-Ok.ensures.rules some kept,
+      granted_by_rules c.args.tree.now c.args.call.now (nfs.Lookup a) a.dir refl s named kept,
       record {
         subject = refl;
-        tree = tree;
-        found = subst (λ name. found s name ≡ Some c.in-Ok-lookup_rules.file.attributes) c.bytes-2.ensures c.in-Ok-lookup_rules.ensures.found;
-        seen = subst (λ t. IsSeen t c.in-Ok-lookup_rules.file) tree c.in-Ok-lookup_rules.ensures.seen;
+        tree = named.tree;
+        found = subst (λ name. found s name ≡ Some c.in-Ok.file.attributes) c.bytes.ensures c.in-Ok.ensures.found;
+        seen = subst (λ t. IsSeen t c.in-Ok.file) named.tree c.in-Ok.ensures.seen;
       },
     )
 
-pub returns-in-Err-lookup_rules : goal.returns-in-Err-lookup_rules
-returns-in-Err-lookup_rules c =
-    let scene : Scene = record { tree = c.args.tree.now; exports = c.args.table.now; caller = caller_of c.args.caller; now = c.args.now; args = nfs.Lookup c.args.args.now } in
-    let s : Subject = c.subject-dir.result in
-    let rule = c.in-Err-lookup_rules.rule in
-    let failed : first (lookup_rules s c.args.args.now.name) ≡ Some rule = subst (λ name. first (lookup_rules s name) ≡ Some rule) c.bytes-2.ensures c.in-Err-lookup_rules.ensures.rules in
-    denied_by_rule scene c.args.args.now.dir c.bytes.result.now refl c.bytes.ensures s rule c.of_rule.result c.in-Ok.ensures.rules (sym c.in-Ok.ensures.subject ∙ ap Some (sym c.subject-dir.ensures)) failed c.of_rule.ensures
+pub returns-in-Err : goal.returns-in-Err
+returns-in-Err c =
+    let a = c.args.args.now in
+    let s = c.in_ok-dir.dir in
+    let rule = c.in-Err.rule in
+    let failed : first (lookup_rules s a.name) ≡ Some rule = subst (λ name. first (lookup_rules s name) ≡ Some rule) c.bytes.ensures c.in-Err.ensures.rules in
+    denied_by_rule c.args.tree.now c.args.call.now (nfs.Lookup a) a.dir refl s rule c.of_rule.result c.in_ok-dir.ensures failed c.of_rule.ensures
+
+pub returns-in_err-dir : goal.returns-in_err-dir
+returns-in_err-dir c =
+    let a = c.args.args.now in
+    denied_through c.args.tree.now c.args.call.now (nfs.Lookup a) a.dir refl (PlansFound c.args.tree.now a.name) c.from_residual.result c.in_err-dir.field-0.0 c.from_residual.ensures c.in_err-dir.ensures

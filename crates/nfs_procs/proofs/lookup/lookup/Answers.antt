@@ -6,19 +6,17 @@ use Rattle.nfs_attrs.specs.declared.fattr.Fattr.{Fattr}
 use Rattle.nfs_inodes.specs.Tree.{on_some}
 use Rattle.nfs_procs.proofs.Reading.{reads}
 use Rattle.nfs_procs.specs.Readers as procedure
-use Rattle.nfs_procs.specs.Scenes.{Scene}
+use Rattle.nfs_procs.specs.Scenes.{scene}
 use Rattle.nfs_rules.specs.Subjects.{Subject}
-use Rattle.nfs_rules.specs.Views.{caller_of}
 use Rattle.nfs_xdr.specs.Written.{Appends}
 use Rattle.nfs_procs.proofs.lookup.lookup.Goals as goal
 
 pub returns-in-Ok : goal.returns-in-Ok
 returns-in-Ok c =
-    let scene : Scene = record { tree = c.args.tree.now; exports = c.args.table.now; caller = caller_of c.args.caller; now = c.args.now; args = nfs.Lookup c.args.args.now } in
     let s = c.in-Ok.ensures.0 in
     let plans = c.in-Ok.ensures.2 in
     let shown : List ℕ → Fattr → Fattr → Type 0 = λ handle file dir. Appends (nfs_text (answer.Lookup (Ok (record { file = handle; attributes = Some file; dir = Some dir })))) c.args.out.now c.write_granted.new.out in
-    reads scene (procedure.lookup c.args.args.now) s _ _ refl c.in-Ok.ensures.1 plans.tree
+    reads (scene c.args.tree.now c.args.call.now (nfs.Lookup c.args.args.now)) (procedure.lookup c.args.args.now) s _ _ refl c.in-Ok.ensures.1 plans.tree
     (subst (λ o. Appends (nfs_text (answer.Lookup (Ok (record { file = on_some o [] (procedure.handle_in s.tree); attributes = o; dir = Some s.file })))) c.args.out.now c.write_granted.new.out) (sym plans.found)
     (subst (λ t. Appends (nfs_text (answer.Lookup (Ok (record { file = procedure.handle_in t c.in-Ok.file.attributes; attributes = Some c.in-Ok.file.attributes; dir = Some s.file })))) c.args.out.now c.write_granted.new.out) (sym plans.tree)
     (subst (λ handle. shown handle c.in-Ok.file.attributes s.file) (sym (ap (λ (o : Option (List ℕ)). on_some o [] (λ handle. handle)) c.handle-handle.ensures))

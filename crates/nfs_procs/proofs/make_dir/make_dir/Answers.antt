@@ -3,14 +3,12 @@ use Rattle.nfs_inodes.specs.Changes.{Makes, after_make_dir}
 use Rattle.nfs_procs.specs.Doing.{change}
 use Rattle.nfs_args.specs.declared.args.NfsArgs.TheVariants as nfs
 use Rattle.nfs_procs.proofs.MakeDir.{made_directory}
-use Rattle.nfs_procs.specs.Scenes.{Scene}
-use Rattle.nfs_rules.specs.Views.{caller_of}
+use Rattle.nfs_procs.specs.Scenes.{scene}
 use Rattle.nfs_procs.proofs.make_dir.make_dir.Goals as goal
 
 pub returns : goal.returns
 returns c =
-    let scene : Scene = record { tree = c.args.tree.now; exports = c.args.table.now; caller = caller_of c.args.caller; now = c.args.now; args = nfs.MakeDir c.args.args.now } in
     let plans = c.in-Ok.ensures in
-    made_directory scene c.args.args.now plans.0 c.in-Ok.plan c.make_dir.new.self c.in-Ok-make_dir.made.0 c.change.result _ _ _ plans.1 plans.2
-    (subst (λ name. Makes (λ tag. after_make_dir c.args.tree.now c.in-Ok.plan.dir.fileid name c.in-Ok.plan.given tag c.args.now) c.make_dir.new.self) c.bytes.ensures c.in-Ok-make_dir.ensures.ok)
+    made_directory (scene c.args.tree.now c.args.call.now (nfs.MakeDir c.args.args.now)) c.args.args.now plans.0 c.in-Ok.plan c.make_dir.new.self c.in-Ok-make_dir.made.0 c.change.result _ _ _ plans.1 plans.2
+    (subst (λ name. Makes (λ tag. after_make_dir c.args.tree.now c.in-Ok.plan.dir.fileid name c.in-Ok.plan.given tag c.args.call.now.moment) c.make_dir.new.self) c.bytes.ensures c.in-Ok-make_dir.ensures.ok)
     c.in-Ok-make_dir.ensures.number (c.change.ensures ∙ ap (change (Some c.in-Ok.plan.dir)) c.attributes.ensures) c.u32.ensures.text c.write_new_file.ensures

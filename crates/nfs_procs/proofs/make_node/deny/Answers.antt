@@ -1,11 +1,17 @@
-use Rattle.std.proofs.Common.{refl, sym}
+use Rattle.std.proofs.Common.{refl, sym, subst}
 use Rattle.nfs_args.specs.declared.args.NfsArgs.TheVariants as nfs
-use Rattle.nfs_procs.proofs.Judged.{denied_by_handle}
-use Rattle.nfs_procs.specs.Scenes.{Scene}
-use Rattle.nfs_rules.specs.Views.{caller_of}
+use Rattle.nfs_procs.proofs.Judged.{denied_by_handle, denied_by_rule}
+use Rattle.nfs_procs.specs.Denials.{IsNamed}
+use Rattle.nfs_rules.specs.declared.rule.Rule.TheVariants.{NoMakeNode}
 use Rattle.nfs_procs.proofs.make_node.deny.Goals as goal
+
+pub returns-in-Ok : goal.returns-in-Ok
+returns-in-Ok c =
+    let a = c.args.args.now in
+    let named = subst (IsNamed c.args.tree.now c.args.call.now a.place.dir) (sym c.subject.ensures) c.in-Ok.ensures in
+    denied_by_rule c.args.tree.now c.args.call.now (nfs.MakeNode a) a.place.dir refl c.subject.result NoMakeNode c.of_rule.result named refl c.of_rule.ensures
 
 pub returns-in-Err : goal.returns-in-Err
 returns-in-Err c =
-    let scene : Scene = record { tree = c.args.tree.now; exports = c.args.table.now; caller = caller_of c.args.caller; now = c.args.now; args = nfs.MakeNode c.args.args.now } in
-    denied_by_handle scene c.args.args.now.place.dir c.bytes.result.now refl c.bytes.ensures c.in-Err.rule c.of_handle.result c.in-Err.ensures.rules (sym c.in-Err.ensures.subject) c.of_handle.ensures
+    let a = c.args.args.now in
+    denied_by_handle c.args.tree.now c.args.call.now (nfs.MakeNode a) a.place.dir refl c.in-Err.denial c.in-Err.ensures

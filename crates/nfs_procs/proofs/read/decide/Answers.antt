@@ -1,44 +1,39 @@
-use Rattle.std.proofs.Common.{◌≡◌, Bool, true, false, not, Some, None, refl, sym, ap, ◌∙◌}
+use Rattle.std.proofs.Common.{◌≡◌, Bool, true, false, not, None, refl, sym}
 use Rattle.nfs_args.specs.declared.args.NfsArgs.TheVariants as nfs
 use Rattle.nfs_inodes.specs.Reading.{is_regular_type}
+use Rattle.nfs_procs.specs.Plans.{PlansData}
+use Rattle.nfs_procs.proofs.Judged.{denied_by_rule, denied_through, granted_by_rules}
 use Rattle.nfs_rules.proofs.Firsts.{are_passed}
-use Rattle.nfs_procs.proofs.Judged.{denied_by_handle, denied_by_rule, granted_by_rules, subject_tree}
-use Rattle.nfs_procs.specs.Scenes.{Scene}
-use Rattle.nfs_rules.specs.Subjects.{Subject}
 use Rattle.nfs_rules.specs.Table.{read_rules}
 use Rattle.nfs_rules.specs.Tests.{first}
-use Rattle.nfs_rules.specs.Views.{caller_of}
 use Rattle.nfs_procs.proofs.read.decide.Goals as goal
 
 regular_of : (b : Bool) → not b ≡ false → b ≡ true
 regular_of true e = refl
 regular_of false e = sym e
 
-pub returns-in-Err : goal.returns-in-Err
-returns-in-Err c =
-    let scene : Scene = record { tree = c.args.tree.now; exports = c.args.table.now; caller = caller_of c.args.caller; now = c.args.now; args = nfs.Read c.args.args.now } in
-    denied_by_handle scene c.args.args.now.file c.bytes.result.now refl c.bytes.ensures c.in-Err.rule c.of_handle.result c.in-Err.ensures.rules (sym c.in-Err.ensures.subject) c.of_handle.ensures
-
-pub returns-in-Ok-read_rules : goal.returns-in-Ok-read_rules
-returns-in-Ok-read_rules c =
-    let scene : Scene = record { tree = c.args.tree.now; exports = c.args.table.now; caller = caller_of c.args.caller; now = c.args.now; args = nfs.Read c.args.args.now } in
-    let s : Subject = c.subject-file.result in
-    let some = sym c.in-Ok.ensures.subject ∙ ap Some (sym c.subject-file.ensures) in
-    let kept : first (read_rules s) ≡ None = c.in-Ok-read_rules.ensures in
-    let tree = subject_tree c.args.tree.now c.args.table.now (caller_of c.args.caller) c.bytes.result.now s some in (
+pub returns-in-Ok : goal.returns-in-Ok
+returns-in-Ok c =
+    let a = c.args.args.now in
+    let s = c.in_ok-file.file in
+    let named = c.in_ok-file.ensures in
+    let kept : first (read_rules s) ≡ None = c.in-Ok.ensures in (
       s,
-      granted_by_rules scene c.args.args.now.file c.bytes.result.now refl c.bytes.ensures s c.in-Ok.ensures.rules some kept,
+      granted_by_rules c.args.tree.now c.args.call.now (nfs.Read a) a.file refl s named kept,
       record {
         subject = refl;
-        tree = tree;
+        tree = named.tree;
         regular = regular_of (is_regular_type s.file.file_type) (are_passed (read_rules s) kept).0;
       },
     )
 
-pub returns-in-Err-read_rules : goal.returns-in-Err-read_rules
-returns-in-Err-read_rules c =
-    let scene : Scene = record { tree = c.args.tree.now; exports = c.args.table.now; caller = caller_of c.args.caller; now = c.args.now; args = nfs.Read c.args.args.now } in
-    let s : Subject = c.subject-file.result in
-    let rule = c.in-Err-read_rules.rule in
-    let failed : first (read_rules s) ≡ Some rule = c.in-Err-read_rules.ensures in
-    denied_by_rule scene c.args.args.now.file c.bytes.result.now refl c.bytes.ensures s rule c.of_rule.result c.in-Ok.ensures.rules (sym c.in-Ok.ensures.subject ∙ ap Some (sym c.subject-file.ensures)) failed c.of_rule.ensures
+pub returns-in-Err : goal.returns-in-Err
+returns-in-Err c =
+    let a = c.args.args.now in
+    let s = c.in_ok-file.file in
+    denied_by_rule c.args.tree.now c.args.call.now (nfs.Read a) a.file refl s c.in-Err.rule c.of_rule.result c.in_ok-file.ensures c.in-Err.ensures c.of_rule.ensures
+
+pub returns-in_err-file : goal.returns-in_err-file
+returns-in_err-file c =
+    let a = c.args.args.now in
+    denied_through c.args.tree.now c.args.call.now (nfs.Read a) a.file refl (PlansData c.args.tree.now) c.from_residual.result c.in_err-file.field-0.0 c.from_residual.ensures c.in_err-file.ensures

@@ -6,19 +6,17 @@ use Rattle.nfs_attrs.specs.declared.fattr.Fattr.{Fattr}
 use Rattle.nfs_inodes.specs.Reading.{bytes_at}
 use Rattle.nfs_procs.proofs.Reading.{reads}
 use Rattle.nfs_procs.specs.Readers as procedure
-use Rattle.nfs_procs.specs.Scenes.{Scene}
+use Rattle.nfs_procs.specs.Scenes.{scene}
 use Rattle.nfs_rules.specs.Subjects.{Subject}
-use Rattle.nfs_rules.specs.Views.{caller_of}
 use Rattle.nfs_xdr.specs.Written.{Appends}
 use Rattle.nfs_procs.proofs.read.read.Goals as goal
 
 pub returns-in-Ok : goal.returns-in-Ok
 returns-in-Ok c =
-    let scene : Scene = record { tree = c.args.tree.now; exports = c.args.table.now; caller = caller_of c.args.caller; now = c.args.now; args = nfs.Read c.args.args.now } in
     let s = c.in-Ok.ensures.0 in
     let plans = c.in-Ok.ensures.2 in
     let a = c.args.args.now in
-    reads scene (procedure.read a) s _ _ refl c.in-Ok.ensures.1 plans.tree
+    reads (scene c.args.tree.now c.args.call.now (nfs.Read c.args.args.now)) (procedure.read a) s _ _ refl c.in-Ok.ensures.1 plans.tree
     (subst (λ t. Appends (nfs_text (answer.Read (Ok (procedure.data_of s.file a.offset (take (min a.count procedure.max_transfer) (drop a.offset (bytes_at t s.file.fileid))))))) c.args.out.now c.write_data.new.out) (sym plans.tree)
     (subst (λ (f : Fattr). Appends (nfs_text (answer.Read (Ok (procedure.data_of f a.offset (take (min a.count procedure.max_transfer) (drop a.offset (bytes_at c.args.tree.now f.fileid))))))) c.args.out.now c.write_data.new.out)
     (c.view.ensures.attributes ∙ ap (λ (u : Subject). u.file) plans.subject) c.write_data.ensures))

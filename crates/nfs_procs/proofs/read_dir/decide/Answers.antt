@@ -1,41 +1,37 @@
-use Rattle.std.proofs.Common.{◌≡◌, Some, None, refl, sym, ap, ◌∙◌}
 use Rattle.nfs_args.specs.declared.args.NfsArgs.TheVariants as nfs
+use Rattle.nfs_procs.specs.Plans.{PlansPage}
+use Rattle.nfs_procs.proofs.Judged.{denied_by_rule, denied_through, granted_by_rules}
+use Rattle.std.proofs.Common.{◌≡◌, None, refl}
 use Rattle.nfs_dirs.proofs.Firsts.{first_fits}
 use Rattle.nfs_rules.proofs.Firsts.{are_passed}
-use Rattle.nfs_procs.proofs.Judged.{denied_by_handle, denied_by_rule, granted_by_rules, subject_tree}
-use Rattle.nfs_procs.specs.Scenes.{Scene}
-use Rattle.nfs_rules.specs.Subjects.{Subject}
 use Rattle.nfs_rules.specs.Table.{read_dir_rules}
 use Rattle.nfs_rules.specs.Tests.{first}
-use Rattle.nfs_rules.specs.Views.{caller_of}
 use Rattle.nfs_procs.proofs.read_dir.decide.Goals as goal
 
-pub returns-in-Err : goal.returns-in-Err
-returns-in-Err c =
-    let scene : Scene = record { tree = c.args.tree.now; exports = c.args.table.now; caller = caller_of c.args.caller; now = c.args.now; args = nfs.ReadDir c.args.args.now } in
-    denied_by_handle scene c.args.args.now.dir c.bytes.result.now refl c.bytes.ensures c.in-Err.rule c.of_handle.result c.in-Err.ensures.rules (sym c.in-Err.ensures.subject) c.of_handle.ensures
-
-pub returns-in-Ok-read_dir_rules : goal.returns-in-Ok-read_dir_rules
-returns-in-Ok-read_dir_rules c =
-    let scene : Scene = record { tree = c.args.tree.now; exports = c.args.table.now; caller = caller_of c.args.caller; now = c.args.now; args = nfs.ReadDir c.args.args.now } in
-    let s : Subject = c.subject-dir.result in
+pub returns-in-Ok : goal.returns-in-Ok
+returns-in-Ok c =
     let a = c.args.args.now in
-    let some = sym c.in-Ok.ensures.subject ∙ ap Some (sym c.subject-dir.ensures) in
-    let kept : first (read_dir_rules s a) ≡ None = c.in-Ok-read_dir_rules.ensures in
-    let tree = subject_tree c.args.tree.now c.args.table.now (caller_of c.args.caller) c.bytes.result.now s some in (
+    let s = c.in_ok-dir.dir in
+    let named = c.in_ok-dir.ensures in
+    let kept : first (read_dir_rules s a) ≡ None = c.in-Ok.ensures in (
       s,
-      granted_by_rules scene c.args.args.now.dir c.bytes.result.now refl c.bytes.ensures s c.in-Ok.ensures.rules some kept,
+      granted_by_rules c.args.tree.now c.args.call.now (nfs.ReadDir a) a.dir refl s named kept,
       record {
         subject = refl;
-        tree = tree;
+        tree = named.tree;
         large = first_fits s.tree s.file.fileid a.cookie a.count (are_passed (read_dir_rules s a) kept).1.1.0;
       },
     )
 
-pub returns-in-Err-read_dir_rules : goal.returns-in-Err-read_dir_rules
-returns-in-Err-read_dir_rules c =
-    let scene : Scene = record { tree = c.args.tree.now; exports = c.args.table.now; caller = caller_of c.args.caller; now = c.args.now; args = nfs.ReadDir c.args.args.now } in
-    let s : Subject = c.subject-dir.result in
-    let rule = c.in-Err-read_dir_rules.rule in
-    let failed : first (read_dir_rules s c.args.args.now) ≡ Some rule = c.in-Err-read_dir_rules.ensures in
-    denied_by_rule scene c.args.args.now.dir c.bytes.result.now refl c.bytes.ensures s rule c.of_rule.result c.in-Ok.ensures.rules (sym c.in-Ok.ensures.subject ∙ ap Some (sym c.subject-dir.ensures)) failed c.of_rule.ensures
+pub returns-in-Err : goal.returns-in-Err
+returns-in-Err c =
+    let a = c.args.args.now in
+    let s = c.in_ok-dir.dir in
+    let rule = c.in-Err.rule in
+    let failed = c.in-Err.ensures in
+    denied_by_rule c.args.tree.now c.args.call.now (nfs.ReadDir a) a.dir refl s rule c.of_rule.result c.in_ok-dir.ensures failed c.of_rule.ensures
+
+pub returns-in_err-dir : goal.returns-in_err-dir
+returns-in_err-dir c =
+    let a = c.args.args.now in
+    denied_through c.args.tree.now c.args.call.now (nfs.ReadDir a) a.dir refl (PlansPage c.args.tree.now a) c.from_residual.result c.in_err-dir.field-0.0 c.from_residual.ensures c.in_err-dir.ensures

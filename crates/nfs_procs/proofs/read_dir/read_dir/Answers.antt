@@ -7,9 +7,8 @@ use Rattle.nfs_dirs.specs.Pages.{fits, is_too_small, left_after}
 use Rattle.nfs_inodes.specs.Tree.{Tree}
 use Rattle.nfs_procs.proofs.Reading.{reads}
 use Rattle.nfs_procs.specs.Readers as procedure
-use Rattle.nfs_procs.specs.Scenes.{Scene}
+use Rattle.nfs_procs.specs.Scenes.{scene}
 use Rattle.nfs_rules.specs.Subjects.{Subject}
-use Rattle.nfs_rules.specs.Views.{caller_of}
 use Rattle.nfs_xdr.specs.Written.{Appends}
 use Rattle.nfs_procs.proofs.read_dir.read_dir.Goals as goal
 
@@ -23,11 +22,10 @@ write_granted-requires-clause-large c =
 
 pub returns-in-Ok : goal.returns-in-Ok
 returns-in-Ok c =
-    let scene : Scene = record { tree = c.args.tree.now; exports = c.args.table.now; caller = caller_of c.args.caller; now = c.args.now; args = nfs.ReadDir c.args.args.now } in
     let s = c.in-Ok.ensures.0 in
     let plans = c.in-Ok.ensures.2 in
     let a = c.args.args.now in
-    reads scene (procedure.read_dir a) s _ _ refl c.in-Ok.ensures.1 plans.tree
+    reads (scene c.args.tree.now c.args.call.now (nfs.ReadDir c.args.args.now)) (procedure.read_dir a) s _ _ refl c.in-Ok.ensures.1 plans.tree
     (subst (λ t. Appends (nfs_text (answer.ReadDir (Ok (procedure.page_at t s.file a.cookie a.count)))) c.args.out.now c.write_granted.new.out) (sym plans.tree)
     (subst (λ (f : Fattr). Appends (nfs_text (answer.ReadDir (Ok (procedure.page_at c.args.tree.now f a.cookie a.count)))) c.args.out.now c.write_granted.new.out)
     (c.view.ensures.attributes ∙ ap (λ (u : Subject). u.file) plans.subject) c.write_granted.ensures))

@@ -7,10 +7,9 @@ use Rattle.nfs_dirs.specs.Pages.{fits_plus, is_too_small, left_after}
 use Rattle.nfs_inodes.specs.Tree.{Tree}
 use Rattle.nfs_procs.proofs.Reading.{reads}
 use Rattle.nfs_procs.specs.Readers as procedure
-use Rattle.nfs_procs.specs.Scenes.{Scene}
+use Rattle.nfs_procs.specs.Scenes.{scene}
 use Rattle.nfs_rules.specs.Rights.{may}
 use Rattle.nfs_rules.specs.Subjects.{Subject}
-use Rattle.nfs_rules.specs.Views.{caller_of}
 use Rattle.nfs_rules.specs.declared.rights.Right.TheVariants.{Execute}
 use Rattle.nfs_xdr.specs.Written.{Appends}
 use Rattle.nfs_procs.proofs.read_dir_plus.read_dir_plus.Goals as goal
@@ -27,12 +26,11 @@ write_granted-requires-clause-large c =
 
 pub returns-in-Ok : goal.returns-in-Ok
 returns-in-Ok c =
-    let scene : Scene = record { tree = c.args.tree.now; exports = c.args.table.now; caller = caller_of c.args.caller; now = c.args.now; args = nfs.ReadDirPlus c.args.args.now } in
     let s = c.in-Ok.ensures.0 in
     let plans = c.in-Ok.ensures.2 in
     let a = c.args.args.now in
     let searchable = c.may_search.ensures ∙ ap (λ (u : Subject). may u.ids u.file Execute) plans.subject in
-    reads scene (procedure.read_dir_plus a) s _ _ refl c.in-Ok.ensures.1 plans.tree
+    reads (scene c.args.tree.now c.args.call.now (nfs.ReadDirPlus c.args.args.now)) (procedure.read_dir_plus a) s _ _ refl c.in-Ok.ensures.1 plans.tree
     (subst (λ t. Appends (nfs_text (answer.ReadDirPlus (Ok (procedure.page_plus_at t s.file (may s.ids s.file Execute) a.cookie a.dircount a.maxcount)))) c.args.out.now c.write_granted.new.out) (sym plans.tree)
     (subst (λ (b : Bool). Appends (nfs_text (answer.ReadDirPlus (Ok (procedure.page_plus_at c.args.tree.now s.file b a.cookie a.dircount a.maxcount)))) c.args.out.now c.write_granted.new.out) searchable
     (subst (λ (f : Fattr). Appends (nfs_text (answer.ReadDirPlus (Ok (procedure.page_plus_at c.args.tree.now f c.may_search.result a.cookie a.dircount a.maxcount)))) c.args.out.now c.write_granted.new.out)

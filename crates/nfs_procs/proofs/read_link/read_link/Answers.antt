@@ -7,18 +7,16 @@ use Rattle.nfs_inodes.specs.Reading.{path_at}
 use Rattle.nfs_inodes.specs.Tree.{on_some}
 use Rattle.nfs_procs.proofs.Reading.{reads}
 use Rattle.nfs_procs.specs.Readers as procedure
-use Rattle.nfs_procs.specs.Scenes.{Scene}
+use Rattle.nfs_procs.specs.Scenes.{scene}
 use Rattle.nfs_rules.specs.Subjects.{Subject}
-use Rattle.nfs_rules.specs.Views.{caller_of}
 use Rattle.nfs_xdr.specs.Written.{Appends}
 use Rattle.nfs_procs.proofs.read_link.read_link.Goals as goal
 
 pub returns-in-Ok : goal.returns-in-Ok
 returns-in-Ok c =
-    let scene : Scene = record { tree = c.args.tree.now; exports = c.args.table.now; caller = caller_of c.args.caller; now = c.args.now; args = nfs.ReadLink c.args.handle.now } in
     let s = c.in-Ok.ensures.0 in
     let plans = c.in-Ok.ensures.2 in
-    reads scene (procedure.read_link c.args.handle.now) s _ _ refl c.in-Ok.ensures.1 plans.tree
+    reads (scene c.args.tree.now c.args.call.now (nfs.ReadLink c.args.handle.now)) (procedure.read_link c.args.handle.now) s _ _ refl c.in-Ok.ensures.1 plans.tree
     (subst (λ t. Appends (nfs_text (answer.ReadLink (Ok (record { attributes = Some s.file; path = on_some (path_at t s.file.fileid) [] (λ path. path) })))) c.args.out.now c.write_granted.new.out) (sym plans.tree)
     (subst (λ (f : Fattr). Appends (nfs_text (answer.ReadLink (Ok (record { attributes = Some f; path = on_some (path_at c.args.tree.now f.fileid) [] (λ path. path) })))) c.args.out.now c.write_granted.new.out)
     (c.attributes.ensures ∙ ap (λ (u : Subject). u.file) plans.subject) c.write_granted.ensures))

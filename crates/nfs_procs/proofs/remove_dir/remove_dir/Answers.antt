@@ -3,8 +3,7 @@ use Rattle.nfs_args.specs.declared.args.NfsArgs.TheVariants as nfs
 use Rattle.nfs_inodes.specs.Conditions.{MayUnlinkSeen}
 use Rattle.nfs_procs.proofs.Removing.{removes}
 use Rattle.nfs_procs.specs.Changers as procedure
-use Rattle.nfs_procs.specs.Scenes.{Scene}
-use Rattle.nfs_rules.specs.Views.{caller_of}
+use Rattle.nfs_procs.specs.Scenes.{scene}
 use Rattle.nfs_procs.proofs.remove_dir.remove_dir.Goals as goal
 
 pub remove_entry-requires : goal.remove_entry-requires
@@ -15,6 +14,5 @@ remove_entry-requires c = record {
 
 pub returns-in-Ok : goal.returns-in-Ok
 returns-in-Ok c =
-    let scene : Scene = record { tree = c.args.tree.now; exports = c.args.table.now; caller = caller_of c.args.caller; now = c.args.now; args = nfs.RemoveDir c.args.args.now } in
-    removes scene (procedure.remove_dir c.args.args.now) c.args.args.now.name c.bytes.result.now c.in-Ok.plan c.in-Ok.ensures.0 c.remove_entry.new.tree _ _ c.in-Ok.ensures.1 c.in-Ok.ensures.2 c.bytes.ensures refl refl
+    removes (scene c.args.tree.now c.args.call.now (nfs.RemoveDir c.args.args.now)) (procedure.remove_dir c.args.args.now) c.args.args.now.name c.bytes.result.now c.in-Ok.plan c.in-Ok.ensures.0 c.remove_entry.new.tree _ _ c.in-Ok.ensures.1 c.in-Ok.ensures.2 c.bytes.ensures refl refl
     c.remove_entry.ensures.tree c.remove_entry.ensures.text

@@ -3,21 +3,27 @@ use Rattle.std.specs.Int.{w64, from_be_bytes}
 use Rattle.std.specs.Prelude.{Some}
 use Rattle.nfs_args.specs.declared.args.NfsArgs.TheVariants as nfs
 use Rattle.nfs_inodes.specs.Changes.{after_write_at}
-use Rattle.nfs_procs.proofs.WrittenBytes.{wrote}
+use Rattle.nfs_procs.proofs.WrittenBytes.{wrote, unwritten}
 use Rattle.nfs_procs.specs.Doing.{change}
-use Rattle.nfs_procs.specs.Scenes.{Scene}
-use Rattle.nfs_rules.specs.Views.{caller_of}
+use Rattle.nfs_procs.specs.Scenes.{scene}
 use Rattle.nfs_procs.proofs.write.write.Goals as goal
 
 pub returns : goal.returns
 returns c =
-    let scene : Scene = record { tree = c.args.tree.now; exports = c.args.table.now; caller = caller_of c.args.caller; now = c.args.now; args = nfs.Write c.args.args.now } in
     let plans = c.in-Ok.ensures in
     let a = c.args.args.now in
     let file = c.in-Ok.file in
-    wrote scene a plans.0 file c.write_at.new.self c.change.result (length c.bytes-bytes.result.now) c.from_be_bytes-verifier.result c.args.out.now c.write_granted.new.out plans.1 plans.2
-    (c.in-Ok-write_at.ensures.ok ∙ ap (λ bytes. after_write_at c.args.tree.now file.fileid a.offset bytes c.args.now) c.bytes-bytes.ensures)
+    wrote (scene c.args.tree.now c.args.call.now (nfs.Write c.args.args.now)) a plans.0 file c.write_at.new.self c.change.result (length c.bytes-bytes.result.now) c.from_be_bytes-verifier.result c.args.out.now c.write_granted.new.out plans.1 plans.2
+    (c.in-Ok-write_at.ensures.ok ∙ ap (λ bytes. after_write_at c.args.tree.now file.fileid a.offset bytes c.args.call.now.moment) c.bytes-bytes.ensures)
     (c.change.ensures ∙ ap (change (Some file)) c.attributes.ensures)
     (ap length c.bytes-bytes.ensures)
     (c.from_be_bytes-verifier.ensures ∙ ap (from_be_bytes w64) c.key.ensures)
     c.write_granted.ensures
+
+-- where there is no memory
+pub returns-in_default : goal.returns-in_default
+returns-in_default c =
+    let a = c.args.args.now in
+    let plans = c.in-Ok.ensures in
+    unwritten (scene c.args.tree.now c.args.call.now (nfs.Write a)) a plans.0 c.in-Ok.file c.write_at.new.self c.bytes-bytes.result.now _ plans.1 plans.2 c.bytes-bytes.ensures
+    c.in_default.ensures.err c.in_default.ensures.full
