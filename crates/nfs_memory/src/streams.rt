@@ -50,6 +50,9 @@ fn a_framer_without_memory_fails_for_good(rt: HostRuntime) -> Result<(), Fail> {
     Ok(())
 }
 
+// The header of the longest record that a connection takes, and the first of its bytes.
+const LONGEST: [u8; 5] = [0x80, 0x02, 0, 0, b'a'];
+
 const PEER: Addr = Addr(0x0a00_0001);
 
 fn feed(alloc: Global, sessions: &mut Sessions, piece: &[u8]) -> Result<u64, SessionFault> {
@@ -72,7 +75,7 @@ fn attached(alloc: Global, sessions: &mut Sessions) -> Option<Outcome> {
         let is_absent = sessions.detach(1) == Err(SessionFault::UnknownConnection);
         return (fault == SessionFault::Memory && is_absent).then_some(Outcome::NotAttached);
     }
-    let first = feed(alloc, sessions, &BEGUN);
+    let first = feed(alloc, sessions, &LONGEST);
     let then = feed(alloc, sessions, b"");
     sessions.detach(1).ok()?;
     match (first, then) {
