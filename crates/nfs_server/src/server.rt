@@ -339,7 +339,8 @@ fn deny(out: &mut Output, head: &CallHead<'_>, event: Event<'_>, rule: RpcRule) 
 fn give_again(kept: &KeptReplies, out: &mut Output)
     requires { IsBegun out.old }
     ensures room { IsReply out.new }
-    ensures reply { (key : Key) (reply : List ℕ) (rest : List Place) → kept.now.places ≡ place_for key reply ∷ rest → reply_in out.new ≡ reply }
+    ensures reply { (key : Key) (reply : List ℕ) (rest : List Place) → kept.now.places ≡ place_for key reply ∷ rest
+        → reply_in out.new ≡ reply }
 {
     if let Some(reply) = kept.first() {
         repeat(out, reply);
