@@ -14,7 +14,8 @@ use nfs_load::listing::listing;
 use nfs_load::loaded::Loaded;
 use nfs_server::event::Event;
 use nfs_server::server::Server;
-use nfs_server::sessions::{SessionFault, Sessions};
+use nfs_server::session_fault::SessionFault;
+use nfs_server::sessions::Sessions;
 use nfs_text::number::decimal;
 use nfs_text::words::Words;
 use nfs_xdr::device::{ByteOut, write_all};
@@ -174,9 +175,6 @@ impl Player {
             }
             Order::Attach { conn, addr } => {
                 self.run_calls(out)?;
-                if !self.sessions.may_attach(conn) {
-                    return Err(LineFault::BadLine);
-                }
                 let attached = self.sessions.attach(conn, addr);
                 self.fault(conn, attached, out)?;
                 Ok(())

@@ -35,7 +35,7 @@ pre_attributes_within : (o : Option PreAttr) → length (pre_op_attr_text o) ≤
 pre_attributes_within None = omega arith
 pre_attributes_within (Some a) = omega arith
 
-change_within : (w : Wcc) → length (wcc_text w) ≤ 116
+pub change_within : (w : Wcc) → length (wcc_text w) ≤ 116
 change_within w = both (pre_op_attr_text w.before) (post_op_attr_text w.after) 28 88 (pre_attributes_within w.before) (attributes_within w.after)
 
 pad_length : (n : ℕ) → length (pad_text n) ≡ padding n
@@ -66,7 +66,7 @@ found_within a fits =
 link_path_within : (a : LinkPath) → length a.path ≤ 1024 → length (link_path_text a) ≤ 1116
 link_path_within a within = both (post_op_attr_text a.attributes) (opaque_text a.path) 88 1028 (attributes_within a.attributes) (opaque_within a.path 256 within)
 
-made_within : (a : Made) → MadeFits a → length (made_text a) ≤ 276
+pub made_within : (a : Made) → MadeFits a → length (made_text a) ≤ 276
 made_within a fits =
     both (optional_text opaque_text a.file ++ post_op_attr_text a.attributes) (wcc_text a.dir) 160 116
     (both (optional_text opaque_text a.file) (post_op_attr_text a.attributes) 72 88 (post_op_handle_within a.file fits) (attributes_within a.attributes)) (change_within a.dir)
@@ -75,7 +75,7 @@ made_within a fits =
 behind_attributes : (o : Option Fattr) (rest : List ℕ) (n : ℕ) → length rest ≡ n → length (post_op_attr_text o ++ rest) ≤ 88 + n
 behind_attributes o rest n size = omega (arith, length-append (post_op_attr_text o) rest, attributes_within o, size)
 
-behind_change : (w : Wcc) (rest : List ℕ) (n : ℕ) → length rest ≡ n → length (wcc_text w ++ rest) ≤ 116 + n
+pub behind_change : (w : Wcc) (rest : List ℕ) (n : ℕ) → length rest ≡ n → length (wcc_text w ++ rest) ≤ 116 + n
 behind_change w rest n size = omega (arith, length-append (wcc_text w) rest, change_within w, size)
 
 read_data_within : (a : ReadData) → length a.content ≤ 65536 → length (read_data_text a) ≤ 65636
@@ -83,10 +83,10 @@ read_data_within a within =
     both (read_head_text a.attributes (length a.content) a.eof) (fixed_text a.content) 100 65536
     (behind_attributes a.attributes (to_be_bytes w32 (length a.content) ++ boolean_text a.eof ++ to_be_bytes w32 (length a.content)) 12 refl) (fixed_within a.content 16384 within)
 
-renamed_within : (a : Renamed) → length (renamed_text a) ≤ 232
+pub renamed_within : (a : Renamed) → length (renamed_text a) ≤ 232
 renamed_within a = both (wcc_text a.from) (wcc_text a.to) 116 116 (change_within a.from) (change_within a.to)
 
-linked_within : (a : Linked) → length (linked_text a) ≤ 204
+pub linked_within : (a : Linked) → length (linked_text a) ≤ 204
 linked_within a = both (post_op_attr_text a.attributes) (wcc_text a.dir) 88 116 (attributes_within a.attributes) (change_within a.dir)
 
 -- ---- results

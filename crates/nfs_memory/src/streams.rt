@@ -6,7 +6,8 @@ use nfs_attrs::moment::Moment;
 use nfs_exports::addr::Addr;
 use nfs_rpc::framer::{Fed, FrameFault, Framer};
 use nfs_server::server::Server;
-use nfs_server::sessions::{SessionFault, Sessions};
+use nfs_server::session_fault::SessionFault;
+use nfs_server::sessions::Sessions;
 use nfs_xdr::device::Device;
 use std::alloc::{AllocError, Global};
 use std::test::Fail;
@@ -49,13 +50,7 @@ fn a_framer_without_memory_fails_for_good(rt: HostRuntime) -> Result<(), Fail> {
     Ok(())
 }
 
-// A new connection of number 1.
-fn attach(sessions: &mut Sessions) -> Option<()> {
-    if !sessions.may_attach(1) {
-        return None;
-    }
-    sessions.attach(1, Addr(0x0a00_0001)).ok()
-}
+const PEER: Addr = Addr(0x0a00_0001);
 
 fn feed(alloc: Global, sessions: &mut Sessions, piece: &[u8]) -> Result<u64, SessionFault> {
     let mut replies = Device::new(Vec::new(alloc));
@@ -63,40 +58,54 @@ fn feed(alloc: Global, sessions: &mut Sessions, piece: &[u8]) -> Result<u64, Ses
     sessions.feed(1, NOW, piece, &mut replies, &mut audit)
 }
 
-// What a new connection answers to the beginning of a record, and then to no bytes; it is taken
-// away again.
-fn fed(
-    alloc: Global,
-    sessions: &mut Sessions,
-) -> Option<(Result<u64, SessionFault>, Result<u64, SessionFault>)> {
-    attach(sessions)?;
+// What became of a new connection at the beginning of a record.
+#[derive(Clone, Copy)]
+enum Outcome {
+    NotAttached,
+    Ended,
+    Fed,
+}
+
+// Attaches a connection and begins a record on it; it is taken away again.
+fn attached(alloc: Global, sessions: &mut Sessions) -> Option<Outcome> {
+    if let Err(fault) = sessions.attach(1, PEER) {
+        let is_absent = sessions.detach(1) == Err(SessionFault::UnknownConnection);
+        return (fault == SessionFault::Memory && is_absent).then_some(Outcome::NotAttached);
+    }
     let first = feed(alloc, sessions, &BEGUN);
     let then = feed(alloc, sessions, b"");
     sessions.detach(1).ok()?;
-    Some((first, then))
+    match (first, then) {
+        (Ok(0), Ok(0)) => Some(Outcome::Fed),
+        (Err(SessionFault::Memory), Err(SessionFault::Ended)) => Some(Outcome::Ended),
+        _ => None,
+    }
 }
 
-// How often a connection ended until there was memory for the record.
-fn connections(alloc: Global) -> Result<Option<u32>, AllocError> {
+// Whether it was first refused to attach a connection, then the connection ended, and then there
+// was memory for both.
+fn connections(alloc: Global) -> Result<bool, AllocError> {
     let server = Server::new(alloc, loaded(alloc)?, 128)?;
     let mut sessions = Sessions::new(alloc, server)?;
     let mut ballast = Ballast::new(alloc)?;
-    for refused in 0..ROUNDS {
-        match fed(alloc, &mut sessions) {
-            Some((Ok(0), Ok(0))) => return Ok(Some(refused)),
-            Some((Err(SessionFault::Memory), Err(SessionFault::Ended))) => {}
-            _ => return Ok(None),
+    let mut refused = false;
+    let mut ended = false;
+    for _ in 0..ROUNDS {
+        match attached(alloc, &mut sessions) {
+            Some(Outcome::NotAttached) if !ended => refused = true,
+            Some(Outcome::Ended) => ended = true,
+            Some(Outcome::Fed) => return Ok(refused && ended),
+            _ => return Ok(false),
         }
         if !ballast.lighten() {
             break;
         }
     }
-    Ok(None)
+    Ok(false)
 }
 
 #[test]
-fn a_connection_without_memory_ends(rt: HostRuntime) -> Result<(), Fail> {
-    let refused = connections(rt.alloc())?;
-    assert!(rt; refused.is_some_and(|count| count > 0));
+fn a_connection_without_memory_is_refused_or_ends(rt: HostRuntime) -> Result<(), Fail> {
+    assert!(rt; connections(rt.alloc())?);
     Ok(())
 }

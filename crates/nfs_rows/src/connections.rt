@@ -14,7 +14,7 @@ use rows::words::{address, number, size, word};
 use std::alloc::Global;
 use std::str::SplitWhitespace;
 
-/// A server of the example, with its connection.
+/// A server of the example, with its connections.
 #[derive(Drop)]
 pub(crate) struct Connections<'a> {
     alloc: Global,
@@ -71,9 +71,6 @@ impl<'a> Connections<'a> {
     fn attach(&mut self, words: &mut SplitWhitespace<'_>) -> Option<String> {
         let conn = word(words)?;
         let addr = Addr(address(words)?);
-        if !self.sessions.may_attach(conn) {
-            return text(self.alloc, "no room");
-        }
         let attached = self.sessions.attach(conn, addr);
         told(self.alloc, attached)
     }

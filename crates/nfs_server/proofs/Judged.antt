@@ -1,5 +1,5 @@
 -- Calls, from their rules of RPC to what they ask for.
-use Rattle.std.proofs.Common.{◌≡◌, ℕ, Bool, true, false, cond, not, ◌&&◌, ◌||◌, List, [], ◌∷◌, ◌++◌, Option, Some, None, is_none, refl, sym, ap, subst, ◌∙◌, append-nil}
+use Rattle.std.proofs.Common.{◌≡◌, ℕ, Bool, true, false, cond, not, ◌&&◌, ◌||◌, List, [], ◌∷◌, ◌++◌, Option, Some, None, is_none, is_some, refl, sym, ap, subst, ◌∙◌, append-nil}
 use Rattle.std.specs.Prelude.{nat_eq}
 use Rattle.std.specs.List.{find}
 use Rattle.std.specs.Option.{option_or}
@@ -7,19 +7,22 @@ use Rattle.std.proofs.lemmas.List.Folds.{find-append}
 use Rattle.std.specs.Option.{option_map}
 use Rattle.nfs_args.specs.declared.args.NfsArgs.{NfsArgs}
 use Rattle.nfs_args.specs.declared.mount_args.MountArgs.{MountArgs}
-use Rattle.nfs_mount.specs.declared.mount.Mount.{Mount}
-use Rattle.nfs_procs.specs.Procedures.{doing_of}
-use Rattle.nfs_rpc.specs.AuthSys.{Credential, caller}
+use Rattle.nfs_kept.specs.Places.{kept_reply}
+use Rattle.nfs_rpc.specs.AuthSys.{Credential, caller, credential_of}
+use Rattle.nfs_rpc.specs.declared.auth_sys.Cred.{Cred}
+use Rattle.nfs_rules.specs.Subjects.{Caller}
 use Rattle.nfs_rpc.specs.Calls.{Call}
 use Rattle.nfs_rpc.specs.Replies.{accepted_text}
 use Rattle.nfs_rpc.specs.declared.reply.Accept.TheVariants.{Success}
 use Rattle.nfs_server.specs.AuditLines.{line_of}
 use Rattle.nfs_server.specs.Events.{Event, Answer, Choice, granted, denied}
-use Rattle.nfs_server.specs.Keeping.{AnswersMount}
+use Rattle.nfs_server.specs.Fits.{Held}
+use Rattle.nfs_server.specs.Keeping.{AnswersBy, AnswersChange, AnswersJudged, AnswersKept, AnswersMount, PerformsAnew, scene_for}
+use Rattle.nfs_server.specs.Repeats.{key_of, may_change}
 use Rattle.nfs_server.specs.Requests.{Request, Nothing, OfNfs, OfMount, args_in, asked, is_nfs, is_null, lacks_args, mount_args_in, request_of}
 use Rattle.nfs_server.specs.RpcRules.{AUTH_NONE, AUTH_SYS, caller_rules, fails_rpc, head_rules, rpc_reply}
 use Rattle.nfs_server.specs.Seen.{told}
-use Rattle.nfs_server.specs.Steps.{Judged, Performed, Requested, Setup, State}
+use Rattle.nfs_server.specs.Steps.{MountPerformed, Requested}
 use Rattle.nfs_server.specs.declared.audit_line.AuditLine.{AuditLine}
 use Rattle.nfs_server.specs.declared.audit_line.Reason.TheVariants as reason
 use Rattle.nfs_server.specs.declared.rpc_rules.RpcRule.{RpcRule}
@@ -68,55 +71,78 @@ by_arguments call bytes b other lacks = ap (λ n. cond (not n && lacks_args call
 
 -- ---- the rules, one part after another
 
-module _ (setup : Setup) (old : State) (event : Event) (call : Call) (bytes : List ℕ) where
-  abbrev JudgedBy : List RpcRule → Choice → Answer → State → Type 0
-  JudgedBy rules choice answer new = Judged (find (fails_rpc call bytes) rules) (request_of event.addr call bytes) setup old event call choice answer new
+module _ (old : Held) (event : Event) (call : Call) (bytes : List ℕ) where
+  abbrev Answered : List RpcRule → Answer → Held → Type 0
+  Answered rules answer new = AnswersBy rules old event call bytes answer new
 
-  abbrev Answered : List RpcRule → Answer → State → Type 0
-  Answered rules answer new = (choice : Choice) × JudgedBy rules choice answer new
+  -- whether a reply is kept for the record
+  abbrev is_kept : Bool
+  is_kept = is_some (kept_reply (key_of event) old.kept)
 
   -- a rule fails
   pub denied_by : (rules later : List RpcRule) (rule : RpcRule) (reply : List ℕ) (line : AuditLine) → find (fails_rpc call bytes) rules ≡ Some rule → reply ≡ rpc_reply rule call.xid → line ≡ line_of event.addr call (reason.Rpc rule)
       → Answered (rules ++ later) (told reply (Some line)) old
-  denied_by rules later rule reply line found reply_is line_is = (
-    no_choice,
-    subst (λ v. Judged v (request_of event.addr call bytes) setup old event call no_choice (told reply (Some line)) old) (sym (find_before (fails_rpc call bytes) rule rules later found))
-        (ap (λ r. denied r line) reply_is ∙ ap (denied (rpc_reply rule call.xid)) line_is, refl),
-  )
+  denied_by rules later rule reply line found reply_is line_is =
+      subst (λ v. AnswersJudged v (request_of event.addr call bytes) old event call (told reply (Some line)) old) (sym (find_before (fails_rpc call bytes) rule rules later found))
+      (no_choice is_kept, refl, ((ap (λ r. denied r line) reply_is ∙ ap (denied (rpc_reply rule call.xid)) line_is, refl), refl))
 
   -- the arguments can't be read
   pub denied_unread : (reply : List ℕ) (line : AuditLine) → is_null call ≡ false → find (fails_rpc call bytes) caller_rules ≡ None → lacks_args call bytes ≡ true → reply ≡ rpc_reply Arguments call.xid → line ≡ line_of event.addr call (reason.Rpc Arguments)
       → Answered call_rules (told reply (Some line)) old
   denied_unread reply line other known lacks reply_is line_is =
-      subst (λ v. (choice : Choice) × Judged v (request_of event.addr call bytes) setup old event call choice (told reply (Some line)) old) (sym (find_behind (fails_rpc call bytes) caller_rules (Arguments ∷ []) known))
+      subst (λ v. AnswersJudged v (request_of event.addr call bytes) old event call (told reply (Some line)) old) (sym (find_behind (fails_rpc call bytes) caller_rules (Arguments ∷ []) known))
       (denied_by (Arguments ∷ []) [] Arguments reply line (by_arguments call bytes true other lacks) reply_is line_is)
 
   -- no rule fails, and this is asked for
-  asked_so : (request : Request) (answer : Answer) (new : State) (choice : Choice) → is_null call ≡ false → find (fails_rpc call bytes) caller_rules ≡ None → lacks_args call bytes ≡ false → request_of event.addr call bytes ≡ Some request
-      → Requested (Some request) setup old event call choice answer new → Answered call_rules answer new
-  asked_so request answer new choice other known lacks request_is requested =
-      let none = find_behind (fails_rpc call bytes) caller_rules (Arguments ∷ []) known ∙ by_arguments call bytes false other lacks in (
-        choice,
-        subst (λ v. Judged v (request_of event.addr call bytes) setup old event call choice answer new) (sym none)
-            (subst (λ r. Requested r setup old event call choice answer new) (sym request_is) requested),
-      )
+  asked_so : (request : Request) (answer : Answer) (new : Held) → is_null call ≡ false → find (fails_rpc call bytes) caller_rules ≡ None → lacks_args call bytes ≡ false → request_of event.addr call bytes ≡ Some request
+      → AnswersJudged None (Some request) old event call answer new → Answered call_rules answer new
+  asked_so request answer new other known lacks request_is answers =
+      let none = find_behind (fails_rpc call bytes) caller_rules (Arguments ∷ []) known ∙ by_arguments call bytes false other lacks in
+      subst (λ v. AnswersJudged v (request_of event.addr call bytes) old event call answer new) (sym none)
+      (subst (λ r. AnswersJudged None r old event call answer new) (sym request_is) answers)
 
-  -- something of NFS
-  pub requested : (cred : Credential) (args : NfsArgs) (answer : Answer) (new : State) → is_nfs call ≡ true → is_null call ≡ false → find (fails_rpc call bytes) caller_rules ≡ None → caller call.cred.body ≡ Some cred → args_in call.proc bytes ≡ Some args → new.mounts ≡ old.mounts
-      → (choice : Choice) × Performed (doing_of args) (record { tree = old.tree; exports = setup.exports; caller = record { addr = event.addr; cred = cred }; now = event.moment; args = args }) call choice answer new.tree
-      → Answered call_rules answer new
-  requested cred args answer new nfs other known cred_is args_is mounts performed =
-      asked_so (OfNfs (record { addr = event.addr; cred = cred }) args) answer new performed.0 other known (nfs_lacks call bytes nfs ∙ ap is_none args_is) (nfs_asked event call bytes cred args nfs other cred_is args_is) (performed.1, mounts)
+  module _ (cred : Cred) (args : NfsArgs) (answer : Answer) (new : Held) where
+    abbrev Caller_ : Caller
+    Caller_ = record { addr = event.addr; cred = credential_of cred }
+
+    abbrev Anew : Type 0
+    Anew = PerformsAnew (scene_for old event cred args) call answer old new
+
+    abbrev Asks : Choice → Type 0
+    Asks choice = Requested (Some (OfNfs Caller_ args)) old.setup old.state event call choice answer new.state
+
+    -- by the reply that is kept
+    by_kept : (o : Option (List ℕ)) → AnswersKept true o Anew old event answer new.state new.kept → (choice : Choice) × (choice.again ≡ is_some o) × AnswersKept true o (Asks choice) old event answer new.state new.kept
+    by_kept (Some reply) a = (no_choice true, refl, a)
+    by_kept None a = let p = a.0.0 false in (p.0, p.1, ((p.2, a.0.1), a.1))
+
+    -- something of NFS that may change the tree
+    pub change_requested : is_nfs call ≡ true → is_null call ≡ false → find (fails_rpc call bytes) caller_rules ≡ None → caller call.cred.body ≡ Some (credential_of cred) → args_in call.proc bytes ≡ Some args
+        → may_change args ≡ true → AnswersChange (scene_for old event cred args) call old event answer new → Answered call_rules answer new
+    change_requested nfs other known cred_is args_is changes a =
+        let by = by_kept (kept_reply (key_of event) old.kept) a in
+        asked_so (OfNfs Caller_ args) answer new other known (nfs_lacks call bytes nfs ∙ ap is_none args_is) (nfs_asked event call bytes (credential_of cred) args nfs other cred_is args_is)
+        (by.0, by.1, subst (λ b. AnswersKept b (kept_reply (key_of event) old.kept) (Asks by.0) old event answer new.state new.kept) (sym changes) by.2)
+
+    -- something else of NFS
+    pub anew_requested : is_nfs call ≡ true → is_null call ≡ false → find (fails_rpc call bytes) caller_rules ≡ None → caller call.cred.body ≡ Some (credential_of cred) → args_in call.proc bytes ≡ Some args
+        → may_change args ≡ false → Anew → new.kept ≡ old.kept → Answered call_rules answer new
+    anew_requested nfs other known cred_is args_is changes a kept =
+        let p = a.0 is_kept in
+        asked_so (OfNfs Caller_ args) answer new other known (nfs_lacks call bytes nfs ∙ ap is_none args_is) (nfs_asked event call bytes (credential_of cred) args nfs other cred_is args_is)
+        (p.0, p.1, subst (λ b. AnswersKept b (kept_reply (key_of event) old.kept) (Asks p.0) old event answer new.state new.kept) (sym changes) ((p.2, a.1), kept))
 
   -- something of MOUNT
-  pub mount_requested : (args : MountArgs) (answer : Answer) (mounts : List Mount) → is_nfs call ≡ false → is_null call ≡ false → find (fails_rpc call bytes) caller_rules ≡ None → mount_args_in call.proc bytes ≡ Some args
-      → AnswersMount args setup.exports old event.addr call answer mounts → Answered call_rules answer (record { tree = old.tree; mounts = mounts })
-  mount_requested args answer mounts mount other known args_is performed =
-      asked_so (OfMount args) answer (record { tree = old.tree; mounts = mounts }) performed.0 other known (mount_lacks call bytes mount ∙ ap is_none args_is) (mount_asked event call bytes args mount other args_is) performed.1
+  pub mount_requested : (args : MountArgs) (answer : Answer) (new : Held) → is_nfs call ≡ false → is_null call ≡ false → find (fails_rpc call bytes) caller_rules ≡ None → mount_args_in call.proc bytes ≡ Some args
+      → new.state.tree ≡ old.state.tree → new.kept ≡ old.kept → AnswersMount args old.setup.exports old.state event.addr call answer new.state.mounts → Answered call_rules answer new
+  mount_requested args answer new mount other known args_is tree kept performed =
+      let p = performed is_kept in
+      asked_so (OfMount args) answer new other known (mount_lacks call bytes mount ∙ ap is_none args_is) (mount_asked event call bytes args mount other args_is)
+      (p.0, p.1, (subst (λ t. MountPerformed args old.setup.exports old.state event.addr call p.0 answer (record { tree = t; mounts = new.state.mounts })) (sym tree) p.2, kept))
 
   -- the rules of the head are kept
-  pub admitted : (answer : Answer) (new : State) → find (fails_rpc call bytes) head_rules ≡ None → Answered call_rules answer new → Answered (head_rules ++ call_rules) answer new
-  admitted answer new kept answered = (answered.0, subst (λ v. Judged v (request_of event.addr call bytes) setup old event call answered.0 answer new) (sym (find_behind (fails_rpc call bytes) head_rules call_rules kept)) answered.1)
+  pub admitted : (answer : Answer) (new : Held) → find (fails_rpc call bytes) head_rules ≡ None → Answered call_rules answer new → Answered (head_rules ++ call_rules) answer new
+  admitted answer new kept answered = subst (λ v. AnswersJudged v (request_of event.addr call bytes) old event call answer new) (sym (find_behind (fails_rpc call bytes) head_rules call_rules kept)) answered
 
   null_passes : is_null call ≡ true → find (fails_rpc call bytes) call_rules ≡ None
   null_passes null =
@@ -129,8 +155,6 @@ module _ (setup : Setup) (old : State) (event : Event) (call : Call) (bytes : Li
   pub null_done : (reply : List ℕ) → find (fails_rpc call bytes) head_rules ≡ None → is_null call ≡ true → reply ≡ accepted_text call.xid Success → Answered (head_rules ++ call_rules) (told reply None) old
   null_done reply kept null reply_is =
       let asks : request_of event.addr call bytes ≡ Some Nothing = ap (λ b. requests b (is_nfs call) event call bytes) null in
-      let none = find_behind (fails_rpc call bytes) head_rules call_rules kept ∙ null_passes null in (
-        no_choice,
-        subst (λ v. Judged v (request_of event.addr call bytes) setup old event call no_choice (told reply None) old) (sym none)
-            (subst (λ r. Requested r setup old event call no_choice (told reply None) old) (sym asks) (ap granted (reply_is ∙ sym (append-nil (accepted_text call.xid Success))), refl)),
-      )
+      let none = find_behind (fails_rpc call bytes) head_rules call_rules kept ∙ null_passes null in
+      subst (λ v. AnswersJudged v (request_of event.addr call bytes) old event call (told reply None) old) (sym none)
+      (subst (λ r. AnswersJudged None r old event call (told reply None) old) (sym asks) (no_choice is_kept, refl, ((ap granted (reply_is ∙ sym (append-nil (accepted_text call.xid Success))), refl), refl)))

@@ -6,3 +6,10 @@ pub mod Joined
 pub mod Performed
 pub mod Mounted
 pub mod Judged
+pub mod Short
+pub mod Changes
+pub mod Feeding
+pub mod OneRecord
+pub mod PieceByPiece
+pub mod Connected
+pub mod Together

@@ -1,5 +1,5 @@
 -- What became of a call of MOUNT is a step of the server.
-use Rattle.std.proofs.Common.{◌≡◌, ℕ, ◌+◌, Bool, true, false, List, [], ◌++◌, length, Some, None, sym, ap, subst, ◌∙◌, append-nil, add-zero, arith}
+use Rattle.std.proofs.Common.{◌≡◌, ℕ, ◌+◌, Bool, true, false, List, [], ◌++◌, length, Some, None, refl, sym, ap, subst, ◌∙◌, append-nil, add-zero, arith}
 use Rattle.std.proofs.lemmas.Bool.{true≢false}
 use Rattle.std.specs.Prelude.{Result, Ok, Err}
 use Rattle.std.specs.Result.{result_ok}
@@ -81,14 +81,14 @@ module _ (t : Tree) (exports : List (List Export)) (addr : Addr) (call : Call) (
   left answer mounts l wrote = (ap granted (wrote (mount_text answer) l.2.bytes), ap StateOf l.1)
 
   pub granted_mount : (args : MountArgs) → came ≡ Granted → MountsAs args t exports addr came old new before after → Replies → AnswersMount args exports (StateOf old) addr call (told reply None) new
-  granted_mount asked.Null e m wrote = (no_choice, left result.Null old m wrote)
+  granted_mount asked.Null e m wrote = λ again. (no_choice again, refl, left result.Null old m wrote)
   granted_mount (asked.Mount path) e m wrote =
       let g : Mounts t exports addr path Granted old new before after = subst (λ x. Mounts t exports addr path x old new before after) e m in
-      (no_choice, subst (λ v. MountDecided v true (StateOf old) addr path call (told reply None) (StateOf new)) (sym g.0) (g.2, g.3, (ap granted (wrote (mount_text (granted_answer g.2)) g.4.bytes), ap StateOf g.1)))
-  granted_mount asked.Dump e m wrote = (no_choice, left (dump_answer t old) old m wrote)
-  granted_mount (asked.Unmount path) e m wrote = (no_choice, left result.Unmount (after_umnt t addr path old) m wrote)
-  granted_mount asked.UnmountAll e m wrote = (no_choice, left result.UnmountAll (without_addr addr old) m wrote)
-  granted_mount asked.Export e m wrote = (no_choice, left (export_answer t exports) old m wrote)
+      λ again. (no_choice again, refl, subst (λ v. MountDecided v true (StateOf old) addr path call (told reply None) (StateOf new)) (sym g.0) (g.2, g.3, (ap granted (wrote (mount_text (granted_answer g.2)) g.4.bytes), ap StateOf g.1)))
+  granted_mount asked.Dump e m wrote = λ again. (no_choice again, refl, left (dump_answer t old) old m wrote)
+  granted_mount (asked.Unmount path) e m wrote = λ again. (no_choice again, refl, left result.Unmount (after_umnt t addr path old) m wrote)
+  granted_mount asked.UnmountAll e m wrote = λ again. (no_choice again, refl, left result.UnmountAll (without_addr addr old) m wrote)
+  granted_mount asked.Export e m wrote = λ again. (no_choice again, refl, left (export_answer t exports) old m wrote)
 
   pub denied_mount : (args : MountArgs) (line : AuditLine) (rule : Rule) → came ≡ Denied rule → MountsAs args t exports addr came old new before after → Replies → line ≡ line_of addr call (reason.Rule rule None)
       → AnswersMount args exports (StateOf old) addr call (told reply (Some line)) new
@@ -96,7 +96,7 @@ module _ (t : Tree) (exports : List (List Export)) (addr : Addr) (call : Call) (
   denied_mount (asked.Mount path) line rule e m wrote line_is =
       let d : Mounts t exports addr path (Denied rule) old new before after = subst (λ x. Mounts t exports addr path x old new before after) e m in
       let text = mount_text (denied_answer rule) in
-      (no_choice, subst (λ v. MountDecided v true (StateOf old) addr path call (told reply (Some line)) (StateOf new)) (sym d.0) (ap (λ r. denied r line) (wrote text d.2.bytes) ∙ ap (denied (success call text)) line_is, ap StateOf d.1))
+      λ again. (no_choice again, refl, subst (λ v. MountDecided v true (StateOf old) addr path call (told reply (Some line)) (StateOf new)) (sym d.0) (ap (λ r. denied r line) (wrote text d.2.bytes) ∙ ap (denied (success call text)) line_is, ap StateOf d.1))
   denied_mount asked.Dump line rule e m wrote line_is = absurd (true≢false (ap is_granted (sym m.0 ∙ e)))
   denied_mount (asked.Unmount path) line rule e m wrote line_is = absurd (true≢false (ap is_granted (sym m.0 ∙ e)))
   denied_mount asked.UnmountAll line rule e m wrote line_is = absurd (true≢false (ap is_granted (sym m.0 ∙ e)))
@@ -107,8 +107,9 @@ module _ (t : Tree) (exports : List (List Export)) (addr : Addr) (call : Call) (
   refused_mount asked.Null line e m reply_is line_is = absurd (true≢false (ap is_granted (sym m.0 ∙ e)))
   refused_mount (asked.Mount path) line e m reply_is line_is =
       let r : Mounts t exports addr path Memory old new before after = subst (λ x. Mounts t exports addr path x old new before after) e m in
-      let choice : Choice = record { tag = 0; fits = omega arith; has_memory = false } in
-      (choice, subst (λ v. MountDecided v false (StateOf old) addr path call (told reply (Some line)) (StateOf new)) (sym r.0) (r.1, ap (λ x. denied x line) reply_is ∙ ap (denied (accepted_text call.xid SystemErr)) line_is, ap StateOf r.2))
+      λ again.
+      let choice : Choice = record { tag = 0; fits = omega arith; has_memory = false; again = again } in
+      (choice, refl, subst (λ v. MountDecided v false (StateOf old) addr path call (told reply (Some line)) (StateOf new)) (sym r.0) (r.1, ap (λ x. denied x line) reply_is ∙ ap (denied (accepted_text call.xid SystemErr)) line_is, ap StateOf r.2))
   refused_mount asked.Dump line e m reply_is line_is = absurd (true≢false (ap is_granted (sym m.0 ∙ e)))
   refused_mount (asked.Unmount path) line e m reply_is line_is = absurd (true≢false (ap is_granted (sym m.0 ∙ e)))
   refused_mount asked.UnmountAll line e m reply_is line_is = absurd (true≢false (ap is_granted (sym m.0 ∙ e)))

@@ -15,11 +15,12 @@ pub record Answer : Type 0 where
   pub reply : Option (List ℕ)
   pub line : Option AuditLine
 
--- what a server may choose at an event: the tag of a new file, and whether there is memory
+-- what a server may choose at an event: the tag of a new file, whether there is memory, and whether a repeat that isn't surely held is answered as one
 pub record Choice : Type 0 where
   pub tag : ℕ
   pub fits : tag < 2 ^ 32
   pub has_memory : Bool
+  pub again : Bool
 
 -- an event that was answered, and the choice that was made
 pub record Done : Type 0 where

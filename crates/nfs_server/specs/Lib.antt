@@ -5,10 +5,14 @@ pub mod Events
 pub mod Seen
 pub mod ReplyRoom
 pub mod Admitting
+pub mod Repeats
 pub mod Steps
 pub mod Fits
 pub mod Keeping
 pub mod Runs
 pub mod Forward
 pub mod Connections
+pub mod Feeding
+pub mod Taking
+pub mod Together
 pub mod Cases

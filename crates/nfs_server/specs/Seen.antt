@@ -5,7 +5,12 @@ use Rattle.nfs_server.specs.declared.event.Event as seen
 use Rattle.nfs_server.specs.declared.event.Outcome as outcome
 use Rattle.nfs_server.specs.declared.event.Handled.{Handled}
 use Rattle.nfs_server.specs.declared.event.Handled.TheVariants.{Answered, NoReply}
+use Rattle.nfs_exports.specs.declared.table.Export.{Export}
+use Rattle.nfs_inodes.specs.Tree.{Tree}
+use Rattle.nfs_kept.specs.Places.{Replies}
+use Rattle.nfs_mount.specs.declared.mount.Mount.{Mount}
 use Rattle.nfs_server.specs.Events.{Event, Answer, silence}
+use Rattle.nfs_server.specs.Fits.{Held}
 use Rattle.nfs_server.specs.declared.audit_line.AuditLine.{AuditLine}
 
 abbrev pub event_of : seen.Event → Event
@@ -21,3 +26,7 @@ told bytes line = record { reply = Some bytes; line = line }
 abbrev pub answered : Handled → List ℕ → Option AuditLine → Answer
 answered Answered bytes line = told bytes line
 answered NoReply bytes line = silence
+
+-- the fields of a server
+abbrev pub held : Replies → List (List Export) → Tree → List Mount → Option AuditLine → Held
+held kept exports tree mounts line = record { setup = record { places = kept.most; exports = exports }; state = record { tree = tree; mounts = mounts }; kept = kept.places; line = line }

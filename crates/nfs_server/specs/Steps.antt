@@ -1,5 +1,5 @@
 -- What one event may do, and runs of events.
-use Rattle.std.specs.Prelude.{◌≡◌, ℕ, Bool, true, false, List, [], ◌∷◌, ◌++◌, Option, Some, None, option_map, Result, Ok, Err}
+use Rattle.std.specs.Prelude.{◌≡◌, ℕ, Bool, true, false, List, [], ◌∷◌, ◌++◌, Option, Some, None, option_map, Result, Ok, Err, not, ◌&&◌}
 use Rattle.nfs_args.specs.Answers.{nfs_text}
 use Rattle.nfs_args.specs.MountAnswers.{mount_text}
 use Rattle.nfs_args.specs.declared.args.NfsArgs.{NfsArgs}
@@ -26,6 +26,7 @@ use Rattle.nfs_rules.specs.Subjects.{Caller, Subject}
 use Rattle.nfs_rules.specs.declared.rule.Rule.{Rule}
 use Rattle.nfs_server.specs.AuditLines.{line_of}
 use Rattle.nfs_server.specs.Events.{Event, Answer, Choice, Done, silence, granted, denied}
+use Rattle.nfs_server.specs.Repeats.{first_reply, may_change}
 use Rattle.nfs_server.specs.Requests.{Request, Nothing, OfNfs, OfMount, request_of}
 use Rattle.nfs_server.specs.RpcRules.{rpc_failure_of, rpc_reply}
 use Rattle.nfs_server.specs.declared.audit_line.Reason.TheVariants as reason
@@ -55,12 +56,8 @@ pub record HasDone (c : Scene) (doing : Doing) (call : Call) (tag : ℕ) (answer
   pub new_is : new ≡ doing.effect one two c.now tag
   pub answer_is : answer ≡ granted (success call (nfs_text (doing.granted one two new)))
 
--- Without memory a call that takes some, by what the handles name, is answered SYSTEM_ERR, and the tree stays.
-pub record HasNone (c : Scene) (doing : Doing) (call : Call) (answer : Answer) (new : Tree) : Type 0 where
-  pub one : Subject
-  pub two : Subject
-  pub subjects : subjects_in c ≡ Some (one, two)
-  pub takes : doing.takes_memory one two ≡ true
+-- Without memory, for its place among the kept replies or for what it adds, a call is answered SYSTEM_ERR, and the tree stays.
+pub record HasNone (c : Scene) (call : Call) (answer : Answer) (new : Tree) : Type 0 where
   pub new_is : new ≡ c.tree
   pub answer_is : answer ≡ denied (accepted_text call.xid SystemErr) (line_of c.caller.addr call reason.Memory)
 
@@ -69,16 +66,20 @@ pub record IsDenied (c : Scene) (doing : Doing) (call : Call) (rule : Rule) (ans
   pub new_is : new ≡ c.tree
   pub answer_is : answer ≡ denied (success call (nfs_text (doing.denied (status_of rule) (seen_in c)))) (line_of c.caller.addr call (reason.Rule rule (option_map (λ s. s.0.ids.uid) (subjects_in c))))
 
--- by the first rule that fails, and, where none does, by whether there is memory
-abbrev pub Decided : Option Rule → Bool → Scene → Doing → Call → ℕ → Answer → Tree → Type 0
-Decided (Some rule) has_memory c doing call tag answer new = IsDenied c doing call rule answer new
-Decided None true c doing call tag answer new = HasDone c doing call tag answer new
-Decided None false c doing call tag answer new = HasNone c doing call answer new
+-- by the first rule that fails
+abbrev pub Decided : Option Rule → Scene → Doing → Call → ℕ → Answer → Tree → Type 0
+Decided (Some rule) c doing call tag answer new = IsDenied c doing call rule answer new
+Decided None c doing call tag answer new = HasDone c doing call tag answer new
 
--- a procedure that does nothing has an empty result
+-- By whether it is refused for memory. A procedure that does nothing has an empty result.
+abbrev pub Refusable : Bool → Option Doing → Scene → Call → ℕ → Answer → Tree → Type 0
+Refusable true procedure c call tag answer new = HasNone c call answer new
+Refusable false (Some doing) c call tag answer new = Decided (verdict_in c) c doing call tag answer new
+Refusable false None c call tag answer new = (answer ≡ granted (success call [])) × (new ≡ c.tree)
+
+-- only a call that may change the tree wants memory
 abbrev pub Performed : Option Doing → Scene → Call → Choice → Answer → Tree → Type 0
-Performed (Some doing) c call choice answer new = Decided (verdict_in c) choice.has_memory c doing call choice.tag answer new
-Performed None c call choice answer new = (answer ≡ granted (success call [])) × (new ≡ c.tree)
+Performed procedure c call choice answer new = Refusable (not choice.has_memory && may_change c.args) procedure c call choice.tag answer new
 
 -- ---- a call of MOUNT
 
@@ -123,9 +124,14 @@ abbrev pub Called : Result (Call × List ℕ) RpcFault → Setup → State → E
 Called (Err fault) setup old event choice answer new = (answer ≡ silence) × (new ≡ old)
 Called (Ok head) setup old event choice answer new = Judged (rpc_failure_of head.0 head.1) (request_of event.addr head.0 head.1) setup old event head.0 choice answer new
 
+-- A repeat has the first reply and no line, and nothing changes.
+abbrev pub Repeated : Option (List ℕ) → Setup → State → Event → Choice → Answer → State → Type 0
+Repeated (Some reply) setup old event choice answer new = (answer ≡ granted reply) × (new ≡ old)
+Repeated None setup old event choice answer new = Called (head_at event.bytes) setup old event choice answer new
+
 -- one event after a past, by the first case that applies
 abbrev pub Step : Setup → List Done → State → Event → Choice → Answer → State → Type 0
-Step setup past old event choice answer new = Called (head_at event.bytes) setup old event choice answer new
+Step setup past old event choice answer new = Repeated (first_reply setup.places choice.again past event) setup old event choice answer new
 
 -- the past, the newest event first, is a run from the opening state to this one
 abbrev pub IsRun : Setup → State → List Done → State → Type 0

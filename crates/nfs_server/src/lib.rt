@@ -3,10 +3,15 @@
 
 pub mod arguments;
 pub mod audit_line;
+pub mod connection;
 pub mod event;
 pub mod laws;
 mod mount;
+mod nfs_call;
+mod reply;
 pub mod reply_buf;
 pub mod rpc_rules;
 pub mod server;
+pub mod session_fault;
 pub mod sessions;
+pub mod taking;

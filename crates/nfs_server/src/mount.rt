@@ -1,9 +1,14 @@
 //! Calls of MOUNT (RFC 1813, appendix I, section 5.2): what they ask for, and what is done.
 ghost use Rattle.std.specs.Prelude.{◌≡◌, ◌+◌, ◌≤◌, length};
 ghost use Rattle.std.specs.Result.{result_ok};
-ghost use Rattle.nfs_server.specs.Keeping.{MountsAs};
+ghost use Rattle.nfs_rpc.specs.Calls.{call_of};
+ghost use Rattle.nfs_server.specs.Keeping.{AnswersMount, MountsAs};
+ghost use Rattle.nfs_server.specs.ReplyRoom.{IsBegun, IsReply, reply_in};
 ghost use Rattle.nfs_server.specs.Requests.{mount_args_in};
+ghost use Rattle.nfs_server.specs.Seen.{told};
 
+use crate::audit_line::{AuditLine, Reason};
+use crate::reply::give_up;
 use nfs_args::mount_args::{MountArgs, read_mount};
 use nfs_args::procedure::MountProcedure;
 use nfs_args::unreadable::Unreadable;
@@ -14,6 +19,8 @@ use nfs_mount::exports::write_export;
 use nfs_mount::limits::MAX_DUMP_BYTES;
 use nfs_mount::mount_list::MountList;
 use nfs_mount::mounted::Mounted;
+use nfs_rpc::call::CallHead;
+use nfs_rpc::reply::{Accept, write_accepted};
 use nfs_xdr::input::Input;
 use nfs_xdr::output::Output;
 
@@ -28,10 +35,37 @@ pub(crate) fn read_mount_args(proc: u32, input: Input<'_>) -> Result<MountArgs<'
     }
 }
 
-/// Does what a client at this address asks for, and writes the result. `Denied` by the first rule of
-/// MNT that fails; the mount list is then as before. `Memory` of MNT alone; then the list is as
-/// before, and nothing is written.
-pub(crate) fn mount(
+/// The reply to a call other than NULL: what it asks for is done where no rule fails, and there is
+/// memory. Answers the line of a call that is denied.
+pub(crate) fn answer_mount(
+    out: &mut Output,
+    head: &CallHead<'_>,
+    tree: &Tree,
+    table: &Table,
+    mounts: &mut MountList,
+    addr: Addr,
+    args: &MountArgs<'_>,
+) -> Option<AuditLine>
+    requires { IsBegun out.old }
+    ensures reply { IsReply out.new }
+    ensures answers { AnswersMount args.now table.now (record { tree = tree.now; mounts = mounts.old }) addr (call_of head.now)
+        (told (reply_in out.new) result) mounts.new }
+{
+    write_accepted(out, head.xid, Accept::Success);
+    match mount(tree, table, mounts, addr, args, out) {
+        Mounted::Granted => None,
+        Mounted::Denied(rule) => Some(AuditLine::of(addr, head, Reason::Rule(rule, None))),
+        Mounted::Memory => {
+            give_up(out, head.xid);
+            Some(AuditLine::of(addr, head, Reason::Memory))
+        }
+    }
+}
+
+// Does what a client at this address asks for, and writes the result. `Denied` by the first rule of
+// MNT that fails; the mount list is then as before. `Memory` of MNT alone; then the list is as
+// before, and nothing is written.
+fn mount(
     tree: &Tree,
     table: &Table,
     mounts: &mut MountList,

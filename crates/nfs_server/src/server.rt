@@ -11,24 +11,32 @@ ghost use Rattle.nfs_server.specs.declared.audit_line.Reason.TheVariants.{Rpc};
 ghost use Rattle.nfs_server.specs.RpcRules.{fails_rpc, caller_rules, rpc_reply, rpc_rules};
 ghost use Rattle.nfs_server.specs.Seen.{event_of, answer_of, answered, told};
 ghost use Rattle.nfs_server.specs.Fits.{Held, Past, Fits, GoesOn};
-ghost use Rattle.nfs_server.specs.Keeping.{Answers, AnswersBy};
+ghost use Rattle.nfs_server.specs.Keeping.{Answers, AnswersBy, AnswersChange, PerformsAnew, scene_for};
+ghost use Rattle.nfs_server.specs.Repeats as repeats;
+ghost use Rattle.nfs_server.specs.ReplyRoom.{IsBegun, IsReply, reply_in};
+ghost use Rattle.nfs_kept.specs.Places.{Key, Place, place_for};
 ghost use Rattle.nfs_server.specs.Runs.{events_of, RunsThrough};
 
 use crate::arguments::read_args;
 use crate::audit_line::{AuditLine, Reason};
 use crate::event::{Event, Handled, Outcome, Sink};
-use crate::mount::read_mount_args;
-use crate::reply_buf::ReplyBuf;
+use crate::mount::{answer_mount, read_mount_args};
+use crate::nfs_call::{answer_call, may_change};
+use crate::reply::{give_up, refuse, repeat, succeed};
+use crate::reply_buf::{ReplyBuf, begin, seal, written};
 use crate::rpc_rules::{Admitted, RpcRule, admit, caller_failure, identify};
 use nfs_args::args::NfsArgs;
 use nfs_exports::table::Table;
 use nfs_inodes::tree::Tree;
+use nfs_kept::kept_replies::KeptReplies;
 use nfs_load::loaded::Loaded;
 use nfs_mount::mount_list::MountList;
+use nfs_procs::call::Call;
 use nfs_rpc::auth_sys::Cred;
 use nfs_rpc::call::{CallHead, read_call};
 use nfs_rules::caller::Caller;
 use nfs_xdr::input::Input;
+use nfs_xdr::output::Output;
 use std::alloc::{AllocError, Global};
 use std::marker::Model;
 
@@ -38,7 +46,7 @@ pub struct Server {
     tree: Tree,
     table: Table,
     mounts: MountList,
-    cache: usize,
+    kept: KeptReplies,
     line: Option<AuditLine>,
 }
 
@@ -47,7 +55,9 @@ impl Model for Server {
 
     ghost Value = { Held };
 
-    ghost view = { λ s. record { setup = record { places = s.cache; exports = s.table }; state = record { tree = s.tree; mounts = s.mounts }; line = s.line } };
+    ghost use Rattle.nfs_server.specs.Seen.{held};
+
+    ghost view = { λ s. held s.kept s.table s.tree s.mounts s.line };
 }
 
 impl Server {
@@ -59,6 +69,7 @@ impl Server {
         ensures setup { IfOk result (λ server. server.setup ≡ record { places = cache; exports = loaded.table }) }
         ensures tree { IfOk result (λ server. server.state.tree ≡ loaded.tree) }
         ensures mounts { IfOk result (λ server. server.state.mounts ≡ []) }
+        ensures kept { IfOk result (λ server. server.kept ≡ []) }
         ensures fits { IfOk result (λ server. Fits (record { opening = server.state; done = [] }) server) }
         ensures line { IfOk result (λ server. server.line ≡ None) }
     {
@@ -67,7 +78,7 @@ impl Server {
             tree: loaded.tree,
             table: loaded.table,
             mounts: MountList::new(alloc),
-            cache,
+            kept: KeptReplies::new(alloc, cache)?,
             line: None,
         })
     }
@@ -97,9 +108,9 @@ impl Server {
         self.answer(event, reply)
     }
 
-    // The same, said without a past.
+    /// The same, said without a past, for who keeps none.
     #[inline(always)]
-    fn answer(&mut self, event: Event<'_>, reply: &mut ReplyBuf) -> Handled
+    pub fn answer(&mut self, event: Event<'_>, reply: &mut ReplyBuf) -> Handled
         ensures answers { Answers self.old (event_of event.entry) (answered result reply.new self.new.line) self.new }
         ensures silent { result ≡ Handled.NoReply → (reply.new ≡ []) × (self.new.line ≡ None) }
     {
@@ -108,7 +119,9 @@ impl Server {
             self.line = None;
             return Handled::NoReply;
         };
-        let line = self.respond(&head, event, reply);
+        begin(&mut reply.out);
+        let line = self.respond(&head, event, &mut reply.out);
+        seal(&mut reply.out);
         keep(&mut self.line, line);
         Handled::Answered
     }
@@ -119,20 +132,22 @@ impl Server {
         &mut self,
         head: &CallHead<'_>,
         event: Event<'_>,
-        reply: &mut ReplyBuf,
+        out: &mut Output,
     ) -> Option<AuditLine>
+        requires { IsBegun out.old }
+        ensures reply { IsReply out.new }
         ensures setup { self.new.setup ≡ self.old.setup }
         ensures judged { AnswersBy rpc_rules self.old (event_of event.entry) (call_of head.now) head.now.args
-            (told reply.new result) self.new }
+            (told (reply_in out.new) result) self.new }
     {
         match admit(head) {
-            Err(rule) => Some(refuse(reply, head, event, rule)),
+            Err(rule) => Some(deny(out, head, event, rule)),
             Ok(Admitted::Null) => {
-                reply.succeed(head.xid);
+                succeed(out, head.xid);
                 None
             }
-            Ok(Admitted::Nfs) => self.answer_nfs(head, event, reply),
-            Ok(Admitted::Mount) => self.answer_mount(head, event, reply),
+            Ok(Admitted::Nfs) => self.answer_nfs(head, event, out),
+            Ok(Admitted::Mount) => self.answer_mount(head, event, out),
         }
     }
 
@@ -142,18 +157,20 @@ impl Server {
         &mut self,
         head: &CallHead<'_>,
         event: Event<'_>,
-        reply: &mut ReplyBuf,
+        out: &mut Output,
     ) -> Option<AuditLine>
+        requires begun { IsBegun out.old }
         requires nfs { is_nfs (call_of head.now) ≡ true }
         requires null { is_null (call_of head.now) ≡ false }
+        ensures reply { IsReply out.new }
         ensures setup { self.new.setup ≡ self.old.setup }
         ensures judged { AnswersBy (caller_rules ++ Arguments ∷ []) self.old (event_of event.entry) (call_of head.now) head.now.args
-            (told reply.new result) self.new }
+            (told (reply_in out.new) result) self.new }
     {
         let mut cred = Cred::nobody();
         match identify(head, &mut cred) {
-            Err(rule) => Some(refuse(reply, head, event, rule)),
-            Ok(()) => self.answer_caller(head, event, &cred, reply),
+            Err(rule) => Some(deny(out, head, event, rule)),
+            Ok(()) => self.answer_caller(head, event, &cred, out),
         }
     }
 
@@ -164,28 +181,97 @@ impl Server {
         head: &CallHead<'_>,
         event: Event<'_>,
         cred: &Cred,
-        reply: &mut ReplyBuf,
+        out: &mut Output,
     ) -> Option<AuditLine>
+        requires begun { IsBegun out.old }
         requires nfs { is_nfs (call_of head.now) ≡ true }
         requires null { is_null (call_of head.now) ≡ false }
         requires known { find (fails_rpc (call_of head.now) head.now.args) caller_rules ≡ None }
         requires cred { caller (call_of head.now).cred.body ≡ Some (credential_of cred.now) }
+        ensures reply { IsReply out.new }
         ensures setup { self.new.setup ≡ self.old.setup }
         ensures judged { AnswersBy (caller_rules ++ Arguments ∷ []) self.old (event_of event.entry) (call_of head.now) head.now.args
-            (told reply.new result) self.new }
+            (told (reply_in out.new) result) self.new }
     {
         let mut args = NfsArgs::Null;
         match read_args(head.proc, Input::new(head.args.rest()), &mut args) {
-            Err(_) => Some(refuse(reply, head, event, RpcRule::Arguments)),
-            Ok(()) => {
-                let caller = Caller {
-                    addr: event.addr,
-                    cred,
-                };
-                let (tree, table) = (&mut self.tree, &self.table);
-                reply.perform(head, tree, table, caller, event.moment, &args)
-            }
+            Err(_) => Some(deny(out, head, event, RpcRule::Arguments)),
+            Ok(()) if may_change(&args) => self.answer_change(head, event, cred, &args, out),
+            Ok(()) => self.answer_anew(head, event, cred, &args, out),
         }
+    }
+
+    // The reply to a call that may change the tree: that of the call that it repeats, if its reply is
+    // kept. Out of line, so that other calls pay nothing for it.
+    #[inline(never)]
+    fn answer_change(
+        &mut self,
+        head: &CallHead<'_>,
+        event: Event<'_>,
+        cred: &Cred,
+        args: &NfsArgs<'_>,
+        out: &mut Output,
+    ) -> Option<AuditLine>
+        requires begun { IsBegun out.old }
+        requires change { repeats.may_change args.now ≡ true }
+        ensures reply { IsReply out.new }
+        ensures setup { self.new.setup ≡ self.old.setup }
+        ensures answers { AnswersChange (scene_for self.old (event_of event.entry) cred.now args.now) (call_of head.now) self.old
+            (event_of event.entry) (told (reply_in out.new) result) self.new }
+    {
+        if self.kept.find(event.addr, event.bytes) {
+            give_again(&self.kept, out);
+            return None;
+        }
+        if self.kept.take_place(event.addr, event.bytes).is_err() {
+            give_up(out, head.xid);
+            return Some(AuditLine::of(event.addr, head, Reason::Memory));
+        }
+        let caller = Caller {
+            addr: event.addr,
+            cred,
+        };
+        let call = Call {
+            table: &self.table,
+            caller,
+            moment: event.moment,
+        };
+        let line = answer_call(out, head, &mut self.tree, &call, args);
+        if wants_memory(&line) {
+            self.kept.give_back();
+        } else {
+            self.kept.keep(written(out));
+        }
+        line
+    }
+
+    // The reply to a call that is answered anew.
+    #[inline(always)]
+    fn answer_anew(
+        &mut self,
+        head: &CallHead<'_>,
+        event: Event<'_>,
+        cred: &Cred,
+        args: &NfsArgs<'_>,
+        out: &mut Output,
+    ) -> Option<AuditLine>
+        requires { IsBegun out.old }
+        ensures reply { IsReply out.new }
+        ensures setup { self.new.setup ≡ self.old.setup }
+        ensures kept { self.new.kept ≡ self.old.kept }
+        ensures answers { PerformsAnew (scene_for self.old (event_of event.entry) cred.now args.now) (call_of head.now)
+            (told (reply_in out.new) result) self.old self.new }
+    {
+        let caller = Caller {
+            addr: event.addr,
+            cred,
+        };
+        let call = Call {
+            table: &self.table,
+            caller,
+            moment: event.moment,
+        };
+        answer_call(out, head, &mut self.tree, &call, args)
     }
 
     // The reply to a call of MOUNT other than NULL, and its line where it is denied. Out of line, so
@@ -195,22 +281,24 @@ impl Server {
         &mut self,
         head: &CallHead<'_>,
         event: Event<'_>,
-        reply: &mut ReplyBuf,
+        out: &mut Output,
     ) -> Option<AuditLine>
+        requires begun { IsBegun out.old }
         requires mount { is_nfs (call_of head.now) ≡ false }
         requires null { is_null (call_of head.now) ≡ false }
+        ensures reply { IsReply out.new }
         ensures setup { self.new.setup ≡ self.old.setup }
         ensures judged { AnswersBy (caller_rules ++ Arguments ∷ []) self.old (event_of event.entry) (call_of head.now) head.now.args
-            (told reply.new result) self.new }
+            (told (reply_in out.new) result) self.new }
     {
         if let Some(rule) = caller_failure(head) {
-            return Some(refuse(reply, head, event, rule));
+            return Some(deny(out, head, event, rule));
         }
         let Ok(args) = read_mount_args(head.proc, Input::new(head.args.rest())) else {
-            return Some(refuse(reply, head, event, RpcRule::Arguments));
+            return Some(deny(out, head, event, RpcRule::Arguments));
         };
         let (tree, table, mounts) = (&self.tree, &self.table, &mut self.mounts);
-        reply.mount(head, tree, table, mounts, event.addr, &args)
+        answer_mount(out, head, tree, table, mounts, event.addr, &args)
     }
 
     /// Takes events one after another, and hands each outcome to the sink, until a take answers
@@ -239,12 +327,35 @@ impl Server {
 }
 
 // The reply to a call that fails a rule of RPC, and its line.
-fn refuse(reply: &mut ReplyBuf, head: &CallHead<'_>, event: Event<'_>, rule: RpcRule) -> AuditLine
-    ensures reply { reply.new ≡ rpc_reply rule head.now.xid }
+fn deny(out: &mut Output, head: &CallHead<'_>, event: Event<'_>, rule: RpcRule) -> AuditLine
+    requires { IsBegun out.old }
+    ensures room { IsReply out.new }
+    ensures reply { reply_in out.new ≡ rpc_reply rule head.now.xid }
     ensures line { result ≡ line_of event.entry.addr (call_of head.now) (Rpc rule) }
 {
-    reply.refuse(rule, head.xid);
+    refuse(out, rule, head.xid);
     AuditLine::of(event.addr, head, Reason::Rpc(rule))
+}
+
+// The kept reply at the front once more.
+fn give_again(kept: &KeptReplies, out: &mut Output)
+    requires { IsBegun out.old }
+    ensures room { IsReply out.new }
+    ensures reply { (key : Key) (reply : List ℕ) (rest : List Place) → kept.now.places ≡ place_for key reply ∷ rest → reply_in out.new ≡ reply }
+{
+    if let Some(reply) = kept.first() {
+        repeat(out, reply);
+    }
+}
+
+// Whether a call was answered that there is no memory for it.
+fn wants_memory(line: &Option<AuditLine>) -> bool
+    ensures { result ≡ repeats.is_refused line.now }
+{
+    match line {
+        Some(line) => line.reason == Reason::Memory,
+        None => false,
+    }
 }
 
 // Keeps the line of a call. Case by case, so that nothing is copied where there is none.

@@ -1,106 +1,53 @@
-//! The connections of a server, each a stream of records.
-ghost use Rattle.std.specs.Prelude.{◌≡◌, ◌≢◌, ◌↔◌, ◌⊎◌, ◌≤◌, true, false, [], None, length, IfOk, IfSome, IfErr, OnOk, OnErr, IsSome, IsErrOf};
+//! A server and its connections.
+ghost use Rattle.std.specs.Prelude.{◌≡◌, ◌↔◌, ◌≤◌, ◌⊎◌, true, false, [], None, length, IfOk, IfErr, IfSome, OnOk, OnErr, IsSome, IsNone, IsErrOf, Some, is_err};
+ghost use Rattle.nfs_server.specs.Connections.{IsAlive, IsAtStart, IsFed, OthersStay, at, has_ended};
+ghost use Rattle.nfs_server.specs.Feeding.{device, EndsWith, Feeds};
 ghost use Rattle.nfs_server.specs.Fits.{Past, Fits};
 ghost use Rattle.nfs_server.specs.Runs.{events_of, RunsThrough};
-ghost use Rattle.nfs_server.specs.Connections.{may_join, is_joined, has_ended, IsAtStart, IsBetween};
+ghost use Rattle.nfs_server.specs.Taking.{FeedsSome};
 
-use crate::audit_line::AuditLine;
-use crate::event::{Event, Handled, Sink};
+use crate::connection::Connection;
+use crate::event::{Event, Sink};
 use crate::reply_buf::ReplyBuf;
 use crate::server::Server;
+use crate::session_fault::SessionFault;
+use crate::taking::Taken;
+use indexmap::IndexMap;
 use nfs_attrs::moment::Moment;
 use nfs_exports::addr::Addr;
-use nfs_rpc::framer::{FrameFault, Framer, Stage};
-use nfs_text::line::Line;
-use nfs_xdr::device::{ByteOut, write_all};
+use nfs_xdr::device::ByteOut;
 use std::alloc::{AllocError, Global};
 use std::marker::Model;
-use thiserror::Error;
 
-/// The largest record that a connection takes.
-pub const MAX_RECORD_BYTES: usize = 131_072;
-
-/// Why a connection doesn't do what it is asked for.
-#[derive(Clone, Copy, Debug, PartialEq, Eq, Error)]
-pub enum SessionFault {
-    /// A connection has this number.
-    #[error("ConnectionTaken")]
-    ConnectionTaken,
-    /// No connection has this number.
-    #[error("UnknownConnection")]
-    UnknownConnection,
-    /// One of the faults below ended the connection.
-    #[error("Ended")]
-    Ended,
-    /// A record is longer than a connection takes.
-    #[error("TooLong")]
-    TooLong,
-    /// There is no memory for a record.
-    #[error("Memory")]
-    Memory,
-    /// The audit lines can't be written.
-    #[error("AuditFault")]
-    AuditFault,
-    /// The replies can't be written.
-    #[error("WriteFault")]
-    WriteFault,
-}
-
-impl From<FrameFault> for SessionFault {
-    ghost use Rattle.nfs_server.specs.Connections.{session_fault};
-
-    ghost from_gives = { λ fault e. e ≡ session_fault fault };
-
-    fn from(fault: FrameFault) -> SessionFault {
-        match fault {
-            FrameFault::TooLong => SessionFault::TooLong,
-            FrameFault::Memory => SessionFault::Memory,
-            FrameFault::Failed => SessionFault::Ended,
-        }
-    }
-}
-
-// A stream of records from one address.
-#[derive(Drop)]
-struct Connection {
-    number: u32,
-    addr: Addr,
-    framer: Framer,
-    ended: bool,
-}
-
-/// A server with a connection, each of whose records is answered as it becomes whole.
+/// A server with its connections, each of a number of its own. What comes on a connection is
+/// answered record by record, as they become whole.
 #[derive(Drop)]
 pub struct Sessions {
     alloc: Global,
     server: Server,
     reply: ReplyBuf,
-    connection: Option<Connection>,
+    connections: IndexMap<u32, Connection>,
 }
 
 impl Model for Sessions {
-    ghost use Rattle.std.specs.Prelude.{◌≡◌, false, IfSome};
-    ghost use Rattle.std.specs.Option.{option_map};
-    ghost use Rattle.nfs_server.specs.Connections.{Open, joined_of, IsBetween};
+    ghost use Rattle.nfs_server.specs.Connections.{Open};
 
     ghost Value = { Open };
 
-    ghost view = { λ s. record { server = s.server; joined = option_map joined_of s.connection } };
-
-    ghost invariant = { λ s. IfSome s.connection (λ c. c.ended ≡ false → IsBetween c.framer) };
+    ghost view = { λ s. record { server = s.server; connections = s.connections.entries } };
 }
 
 impl Sessions {
     /// The server without a connection. Refused where there is no memory; the server is then
     /// dropped.
     pub fn new(alloc: Global, server: Server) -> Result<Sessions, AllocError>
-        ensures { IfOk result (λ s. s ≡ record { server = server; joined = None }) }
+        ensures { IfOk result (λ s. s ≡ record { server = server; connections = [] }) }
     {
         Ok(Sessions {
             alloc,
             server,
             reply: ReplyBuf::new(alloc)?,
-            connection: None,
+            connections: IndexMap::new(alloc),
         })
     }
 
@@ -111,75 +58,65 @@ impl Sessions {
         &self.server
     }
 
-    /// `Server::run` on the server, which leaves the connection.
+    /// `Server::run` on the server, which leaves the connections.
     pub fn run<S: Sink>(&mut self, events: &[Event<'_>], sink: &mut S) -> usize
         ensures bound { result ≤ length events.now }
         ensures run { (past : Past) → Fits past self.old.server
             → RunsThrough S.takes past (events_of events.now) result sink.old sink.new self.new.server }
         ensures setup { self.new.server.setup ≡ self.old.server.setup }
-        ensures joined { self.new.joined ≡ self.old.joined }
+        ensures connections { self.new.connections ≡ self.old.connections }
     {
         self.server.run(events, &mut self.reply, sink)
     }
 
-    /// A connection of this number from this address, at the beginning of its stream. There is
-    /// room for one: none of another number may be there. `ConnectionTaken` where this one is, also after a
-    /// fault; nothing changes then.
+    /// A new connection of this number from this address, at the beginning of its stream.
+    /// `ConnectionTaken` exactly where the number has one, also one that a fault ended, else `Memory`
+    /// where there is none; nothing changes then.
     pub fn attach(&mut self, conn: u32, addr: Addr) -> Result<(), SessionFault>
-        requires { may_join conn self.old.joined ≡ true }
-        ensures taken { IsErrOf result SessionFault.ConnectionTaken ↔ IsSome self.old.joined }
+        ensures taken { IsErrOf result SessionFault.ConnectionTaken ↔ IsSome (at conn self.old) }
+        ensures kind { IfErr result (λ e. (e ≡ SessionFault.ConnectionTaken) ⊎ (e ≡ SessionFault.Memory)) }
+        ensures some { OnOk result (IsSome (at conn self.new)) }
+        ensures start { OnOk result (IfSome (at conn self.new) (IsAtStart addr)) }
+        ensures others { OthersStay conn self.old self.new }
         ensures server { self.new.server ≡ self.old.server }
-        ensures joined { OnOk result (IfSome self.new.joined (IsAtStart conn addr)) }
-        ensures some { OnOk result (IsSome self.new.joined) }
         ensures err { OnErr result (self.new ≡ self.old) }
     {
-        if self.connection.is_some() {
+        if self.connections.contains_key(&conn) {
             return Err(SessionFault::ConnectionTaken);
         }
-        self.connection = Some(Connection {
-            number: conn,
-            addr,
-            framer: Framer::new(self.alloc, MAX_RECORD_BYTES),
-            ended: false,
-        });
-        Ok(())
-    }
-
-    /// Whether no connection of another number is there.
-    pub fn may_attach(&self, conn: u32) -> bool
-        ensures { result ≡ may_join conn self.now.joined }
-    {
-        match &self.connection {
-            Some(connection) => connection.number == conn,
-            None => true,
+        match self
+            .connections
+            .insert(conn, Connection::new(self.alloc, addr))
+        {
+            Ok(_) => Ok(()),
+            Err(_) => Err(SessionFault::Memory),
         }
     }
 
-    /// Takes the connection of this number away. `UnknownConnection` where none has it; nothing
-    /// changes then.
+    /// Takes the connection of this number away. `UnknownConnection` exactly where there is none;
+    /// nothing changes then.
     pub fn detach(&mut self, conn: u32) -> Result<(), SessionFault>
-        ensures unknown { IsErrOf result SessionFault.UnknownConnection ↔ (is_joined conn self.old.joined ≡ false) }
-        ensures ok { OnOk result (self.new ≡ record { server = self.old.server; joined = None }) }
+        ensures unknown { IsErrOf result SessionFault.UnknownConnection ↔ IsNone (at conn self.old) }
+        ensures kind { IfErr result (λ e. e ≡ SessionFault.UnknownConnection) }
+        ensures gone { at conn self.new ≡ None }
+        ensures others { OthersStay conn self.old self.new }
+        ensures server { self.new.server ≡ self.old.server }
         ensures err { OnErr result (self.new ≡ self.old) }
     {
-        let is_there = match &self.connection {
-            Some(connection) => conn == connection.number,
-            None => false,
-        };
-        if !is_there {
-            return Err(SessionFault::UnknownConnection);
+        match self.connections.swap_remove(&conn) {
+            Some(_) => Ok(()),
+            None => Err(SessionFault::UnknownConnection),
         }
-        self.connection = None;
-        Ok(())
     }
 
-    /// Takes the next bytes of a connection's stream. Each record that is whole now is one event,
-    /// in the order of the stream; its audit line, where it is denied, and then its sealed reply are
-    /// written before the next is looked at. Answers how many records were taken.
+    /// Takes the next bytes of a connection's stream. Each record that is whole now is one event, in
+    /// the order of the stream; its audit line, where it is denied, and then its sealed reply are
+    /// written before the next is looked at. Answers how many records were answered.
     ///
-    /// `UnknownConnection` where no connection has the number, `Ended` where a fault ended it:
-    /// these write nothing and change nothing. Then, as the bytes come, `TooLong`, `Memory`,
-    /// `AuditFault` and `WriteFault`, which end the connection; what was done before stands.
+    /// `UnknownConnection` exactly where no connection has the number, `Ended` exactly where a fault
+    /// ended it: these write nothing and change nothing. `TooLong`, where a header brings a record
+    /// above the limit, `Memory`, where there is none for a record, `AuditFault` and `WriteFault`,
+    /// where that device has failed, end the connection; what was done before stands.
     pub fn feed<W: ByteOut, A: ByteOut>(
         &mut self,
         conn: u32,
@@ -188,133 +125,77 @@ impl Sessions {
         replies: &mut W,
         audit: &mut A,
     ) -> Result<u64, SessionFault>
-        ensures unknown { IsErrOf result SessionFault.UnknownConnection ↔ (is_joined conn self.old.joined ≡ false) }
-        ensures ended { IsErrOf result SessionFault.Ended ↔ (has_ended conn self.old.joined ≡ true) }
-        ensures stays { is_joined conn self.old.joined ≡ false ⊎ has_ended conn self.old.joined ≡ true →
+        ensures unknown { IsErrOf result SessionFault.UnknownConnection ↔ IsNone (at conn self.old) }
+        ensures ended { IsErrOf result SessionFault.Ended ↔ (has_ended (at conn self.old) ≡ true) }
+        ensures idle { IsErrOf result SessionFault.UnknownConnection ⊎ IsErrOf result SessionFault.Ended →
             (self.new ≡ self.old) × (replies.new ≡ replies.old) × (audit.new ≡ audit.old) }
-        ensures ok { OnOk result (IfSome self.new.joined (λ j. (j.number ≡ conn) × (j.ended ≡ false))) }
-        ensures some { IsSome self.old.joined → IsSome self.new.joined }
-        ensures same { IfSome self.old.joined (λ old.
-            IfSome self.new.joined (λ new. (new.addr ≡ old.addr) × (new.progress.limit ≡ old.progress.limit))) }
-        ensures fault { OnErr result ((self.new ≡ self.old) ⊎ (has_ended conn self.new.joined ≡ true)) }
+        ensures fault { IsAlive (at conn self.old) → IfErr result (EndsWith (A.failed audit.new) (W.failed replies.new)) }
+        ensures feeds { IfSome (at conn self.old) (λ was. was.ended ≡ false → IsFed conn was self.old self.new (is_err result)
+            (λ old new from to. Feeds (record { addr = was.addr; moment = moment }) piece.now result old new from to
+            (device (A.contents audit.old) (A.contents audit.new)) (device (W.contents replies.old) (W.contents replies.new)))) }
+        ensures others { OthersStay conn self.old self.new }
         ensures setup { self.new.server.setup ≡ self.old.server.setup }
     {
-        match &mut self.connection {
-            Some(connection) if connection.number == conn => {
-                feed_one(
-                    &mut self.server,
-                    &mut self.reply,
-                    connection,
-                    moment,
-                    piece,
-                    replies,
-                    audit,
-                )
+        Ok(
+            self.take(conn, moment, piece, None, replies, audit)?
+                .records,
+        )
+    }
+
+    /// The same, but that it stops behind the record with which so many bytes of replies are
+    /// written, since few bytes may ask for many. Answers how far the piece was taken.
+    pub fn feed_some<W: ByteOut, A: ByteOut>(
+        &mut self,
+        conn: u32,
+        moment: Moment,
+        piece: &[u8],
+        room: usize,
+        replies: &mut W,
+        audit: &mut A,
+    ) -> Result<Taken, SessionFault>
+        ensures unknown { IsErrOf result SessionFault.UnknownConnection ↔ IsNone (at conn self.old) }
+        ensures ended { IsErrOf result SessionFault.Ended ↔ (has_ended (at conn self.old) ≡ true) }
+        ensures idle { IsErrOf result SessionFault.UnknownConnection ⊎ IsErrOf result SessionFault.Ended →
+            (self.new ≡ self.old) × (replies.new ≡ replies.old) × (audit.new ≡ audit.old) }
+        ensures fault { IsAlive (at conn self.old) → IfErr result (EndsWith (A.failed audit.new) (W.failed replies.new)) }
+        ensures used { IfOk result (λ taken. taken.used ≤ length piece.now) }
+        ensures feeds { IfSome (at conn self.old) (λ was. was.ended ≡ false → IsFed conn was self.old self.new (is_err result)
+            (λ old new from to. FeedsSome (record { addr = was.addr; moment = moment }) piece.now (Some room) result old new from to
+            (device (A.contents audit.old) (A.contents audit.new)) (device (W.contents replies.old) (W.contents replies.new)))) }
+        ensures others { OthersStay conn self.old self.new }
+        ensures setup { self.new.server.setup ≡ self.old.server.setup }
+    {
+        self.take(conn, moment, piece, Some(room), replies, audit)
+    }
+
+    // The same, where there may be room for any replies.
+    fn take<W: ByteOut, A: ByteOut>(
+        &mut self,
+        conn: u32,
+        moment: Moment,
+        piece: &[u8],
+        room: Option<usize>,
+        replies: &mut W,
+        audit: &mut A,
+    ) -> Result<Taken, SessionFault>
+        ensures unknown { IsErrOf result SessionFault.UnknownConnection ↔ IsNone (at conn self.old) }
+        ensures ended { IsErrOf result SessionFault.Ended ↔ (has_ended (at conn self.old) ≡ true) }
+        ensures idle { IsErrOf result SessionFault.UnknownConnection ⊎ IsErrOf result SessionFault.Ended →
+            (self.new ≡ self.old) × (replies.new ≡ replies.old) × (audit.new ≡ audit.old) }
+        ensures fault { IsAlive (at conn self.old) → IfErr result (EndsWith (A.failed audit.new) (W.failed replies.new)) }
+        ensures used { IfOk result (λ taken. taken.used ≤ length piece.now) }
+        ensures feeds { IfSome (at conn self.old) (λ was. was.ended ≡ false → IsFed conn was self.old self.new (is_err result)
+            (λ old new from to. FeedsSome (record { addr = was.addr; moment = moment }) piece.now room result old new from to
+            (device (A.contents audit.old) (A.contents audit.new)) (device (W.contents replies.old) (W.contents replies.new)))) }
+        ensures others { OthersStay conn self.old self.new }
+        ensures setup { self.new.server.setup ≡ self.old.server.setup }
+    {
+        match self.connections.get_mut(&conn) {
+            Some(connection) => {
+                let (server, reply) = (&mut self.server, &mut self.reply);
+                connection.feed(server, reply, moment, piece, room, replies, audit)
             }
-            _ => Err(SessionFault::UnknownConnection),
+            None => Err(SessionFault::UnknownConnection),
         }
     }
-}
-
-// The next bytes of a connection's stream, if it has not ended. A fault ends it.
-fn feed_one<W: ByteOut, A: ByteOut>(
-    server: &mut Server,
-    reply: &mut ReplyBuf,
-    connection: &mut Connection,
-    moment: Moment,
-    piece: &[u8],
-    replies: &mut W,
-    audit: &mut A,
-) -> Result<u64, SessionFault>
-    requires { connection.old.ended ≡ false → IsBetween connection.old.framer }
-    ensures ended { IsErrOf result SessionFault.Ended ↔ (connection.old.ended ≡ true) }
-    ensures stays { connection.old.ended ≡ true →
-        (server.new ≡ server.old) × (connection.new ≡ connection.old) × (replies.new ≡ replies.old) × (audit.new ≡ audit.old) }
-    ensures number { connection.new.number ≡ connection.old.number }
-    ensures addr { connection.new.addr ≡ connection.old.addr }
-    ensures limit { connection.new.framer.limit ≡ connection.old.framer.limit }
-    ensures ok { OnOk result ((connection.new.ended ≡ false) × IsBetween connection.new.framer) }
-    ensures fault { OnErr result (connection.new.ended ≡ true) }
-    ensures kind { IfErr result (λ e. e ≢ SessionFault.UnknownConnection) }
-    ensures setup { server.new.setup ≡ server.old.setup }
-{
-    if connection.ended {
-        return Err(SessionFault::Ended);
-    }
-    let from = connection.addr;
-    let taken = take_piece(
-        server,
-        reply,
-        &mut connection.framer,
-        from,
-        moment,
-        piece,
-        replies,
-        audit,
-    );
-    if taken.is_err() {
-        connection.ended = true;
-    }
-    taken
-}
-
-// Answers each record that the piece makes whole.
-fn take_piece<W: ByteOut, A: ByteOut>(
-    server: &mut Server,
-    reply: &mut ReplyBuf,
-    framer: &mut Framer,
-    addr: Addr,
-    moment: Moment,
-    piece: &[u8],
-    replies: &mut W,
-    audit: &mut A,
-) -> Result<u64, SessionFault>
-    requires { IsBetween framer.old }
-    ensures setup { server.new.setup ≡ server.old.setup }
-    ensures between { OnOk result (IsBetween framer.new) }
-    ensures limit { framer.new.limit ≡ framer.old.limit }
-    ensures fault { IfErr result (λ e. (e ≢ SessionFault.UnknownConnection) × (e ≢ SessionFault.Ended)) }
-{
-    let mut rest = piece;
-    let mut records = 0;
-    loop {
-        let fed = framer.feed(rest)?;
-        rest = &rest[fed.used..];
-        if !fed.ready {
-            return Ok(records);
-        }
-        let event = Event {
-            addr,
-            moment,
-            bytes: framer.whole(),
-        };
-        let handled = server.handle(event, reply);
-        records += 1;
-        if handled == Handled::Answered {
-            write_answer(server.last_audit(), reply, replies, audit)?;
-        }
-        framer.next();
-    }
-}
-
-// The audit line of a call, if it has one, and then its reply.
-fn write_answer<W: ByteOut, A: ByteOut>(
-    denied: Option<AuditLine>,
-    reply: &ReplyBuf,
-    replies: &mut W,
-    audit: &mut A,
-) -> Result<(), SessionFault>
-    ensures fault { IfErr result (λ e. (e ≡ SessionFault.AuditFault) ⊎ (e ≡ SessionFault.WriteFault)) }
-{
-    if let Some(denied) = denied {
-        let mut line = Line::new();
-        denied.put(&mut line);
-        if write_all(audit, line.as_slice()).is_err() {
-            return Err(SessionFault::AuditFault);
-        }
-    }
-    if write_all(replies, reply.sealed()).is_err() {
-        return Err(SessionFault::WriteFault);
-    }
-    Ok(())
 }

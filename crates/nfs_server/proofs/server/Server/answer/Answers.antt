@@ -1,22 +1,32 @@
-use Rattle.std.proofs.Common.{ap, sym, subst, ◌∙◌}
-use Rattle.nfs_rpc.specs.Calls.{GivesHead, call_of, head_at}
+use Rattle.std.proofs.Common.{◌≡◌, None, is_some, refl, ap, sym, subst, ◌∙◌}
+use Rattle.nfs_kept.specs.Places.{kept_reply}
+use Rattle.nfs_rpc.specs.Calls.{head_at}
+use Rattle.nfs_server.specs.Events.{Answer, silence}
 use Rattle.nfs_server.specs.Fits.{Held}
-use Rattle.nfs_server.specs.RpcRules.{rpc_failure_of}
-use Rattle.nfs_server.specs.Requests.{request_of}
-use Rattle.nfs_server.specs.Seen.{event_of, told}
-use Rattle.nfs_server.specs.Steps.{State, Called, Judged}
+use Rattle.nfs_server.specs.Keeping.{Answers, AnswersCalled}
+use Rattle.nfs_server.specs.Repeats.{key_of}
+use Rattle.nfs_server.specs.ReplyRoom.{reply_in}
+use Rattle.nfs_server.specs.Seen.{event_of, held, told}
+use Rattle.nfs_server.proofs.Performed.{no_choice}
 use Rattle.nfs_server.proofs.server.Server.answer.Goals as goal
+
+pub returns-in_default-clause-answers : goal.returns-in_default-clause-answers
+returns-in_default-clause-answers c =
+    let inside = c.self.inside in let event = event_of c.args.event in
+    let old : Held = held inside.kept inside.table inside.tree inside.mounts inside.line in
+    let new : Held = held inside.kept inside.table inside.tree inside.mounts None in
+    subst (λ (h : Held). Answers h event silence new) c.self.view_is
+    (refl, subst (λ head. AnswersCalled head old event silence new) (sym c.in_default.ensures.exact) (no_choice (is_some (kept_reply (key_of event) old.kept)), refl, ((refl, refl), refl)))
 
 pub returns-clause-answers : goal.returns-clause-answers
 returns-clause-answers c =
-    let reply = c.respond-line.new.reply in
-    let event = event_of c.args.event in
-    let old = c.args.self.now in
-    let new : State = record { tree = c.self-2.inside.tree; mounts = c.self-2.inside.mounts } in
-    let judged = c.respond-line.ensures.judged in (
-      judged.0,
+    let inside = c.self-2.inside in let event = event_of c.args.event in let old = c.args.self.now in
+    let answer = told (reply_in c.respond-line.new.out) c.respond-line.result in
+    let new : Held = held inside.kept inside.table inside.tree inside.mounts c.keep.new.kept in
+    let told_is : answer ≡ told (reply_in c.seal.new.out) c.keep.new.kept = ap (λ r. told r c.respond-line.result) (sym c.seal.ensures.same) ∙ ap (told (reply_in c.seal.new.out)) (sym c.keep.ensures) in
+    let called : AnswersCalled (head_at c.args.event.bytes.now) old event answer c.respond-line.new.self =
+    subst (λ head. AnswersCalled head old event answer c.respond-line.new.self) (sym c.in-Ok.ensures.exact) c.respond-line.ensures.judged in (
       ap (λ (h : Held). h.setup) c.self-2.view_is ∙ c.respond-line.ensures.setup,
-      subst (λ line. Called (head_at c.args.event.bytes.now) old.setup old.state event judged.0 (told reply line) new) (sym c.keep.ensures)
-          (subst (λ head. Called head old.setup old.state event judged.0 (told reply c.respond-line.result) new) (sym (subst (λ r. GivesHead r (head_at c.args.event.bytes.now)) c.in-Ok.is c.read_call.ensures.exact))
-          (subst (λ (h : Held). Judged (rpc_failure_of (call_of c.in-Ok.head) c.in-Ok.head.args) (request_of event.addr (call_of c.in-Ok.head) c.in-Ok.head.args) old.setup old.state event (call_of c.in-Ok.head) judged.0 (told reply c.respond-line.result) h.state) (sym c.self-2.view_is) judged.1)),
+      subst (λ (a : Answer). AnswersCalled (head_at c.args.event.bytes.now) old event a new) told_is
+          (subst (λ (h : Held). AnswersCalled (head_at c.args.event.bytes.now) old event answer h) (sym c.self-2.view_is) called),
     )

@@ -7,4 +7,4 @@ use Rattle.nfs_server.proofs.Judged.{denied_by}
 use Rattle.nfs_server.proofs.server.Server.answer_nfs.Goals as goal
 
 pub returns-in-Err-clause-judged : goal.returns-in-Err-clause-judged
-returns-in-Err-clause-judged c = denied_by c.args.self.now.setup c.args.self.now.state (event_of c.args.event) (call_of c.args.head.now) c.args.head.now.args caller_rules (Arguments ∷ []) c.in-Err.rule _ _ c.in-Err.ensures c.refuse.ensures.reply c.refuse.ensures.line
+returns-in-Err-clause-judged c = denied_by c.args.self.now (event_of c.args.event) (call_of c.args.head.now) c.args.head.now.args caller_rules (Arguments ∷ []) c.in-Err.rule _ _ c.in-Err.ensures c.deny.ensures.reply c.deny.ensures.line

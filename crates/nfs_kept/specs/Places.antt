@@ -1,0 +1,53 @@
+-- Kept replies, the most recently used first.
+use Rattle.std.specs.Prelude.{◌≡◌, ℕ, ◌-◌, Bool, List, [], ◌∷◌, Option, Some, None, nat_eq, ◌&&◌, ◌⊎◌, if◌then◌else◌, take}
+use Rattle.std.specs.Option.{option_map_or}
+use Rattle.std.specs.Cmp.Lexicographic.{pointwise}
+use Rattle.nfs_exports.specs.declared.addr.Addr.{Addr}
+
+-- an address, and the bytes of a record from it
+abbrev pub Key : Type 0
+Key = Addr × List ℕ
+
+abbrev pub same : Key → Key → Bool
+same key other = nat_eq key.0.0 other.0.0 && pointwise nat_eq key.1 other.1
+
+-- a kept reply
+pub record Place : Type 0 where
+  pub key : Key
+  pub reply : List ℕ
+
+abbrev pub place_for : Key → List ℕ → Place
+place_for key reply = record { key = key; reply = reply }
+
+-- the reply that is kept for a key
+abbrev pub kept_reply : Key → List Place → Option (List ℕ)
+kept_reply key [] = None
+kept_reply key (p ∷ ps) = if same key p.key then Some p.reply else kept_reply key ps
+
+-- the places without that of a key
+abbrev pub without : Key → List Place → List Place
+without key [] = []
+without key (p ∷ ps) = if same key p.key then ps else p ∷ without key ps
+
+-- the place of a key goes first, if there is one
+abbrev pub found_first : Key → List Place → List Place
+found_first key ps = option_map_or (λ reply. place_for key reply ∷ without key ps) (kept_reply key ps) ps
+
+-- with another reply in the place of a key
+abbrev pub with_reply : Key → List ℕ → List Place → List Place
+with_reply key reply [] = []
+with_reply key reply (p ∷ ps) = if same key p.key then place_for key reply ∷ ps else p ∷ with_reply key reply ps
+
+-- the places, how many there may be, and the key of the last look-up
+pub record Replies : Type 0 where
+  pub places : List Place
+  pub most : ℕ
+  pub key : Key
+
+-- a place at the front, for which the last one goes where there are too many
+abbrev pub with_first : Place → Replies → List Place
+with_first place kept = place ∷ take (kept.most - 1) kept.places
+
+-- All of a key stands there, or its address alone.
+abbrev pub IsPartOf : Key → Key → Type 0
+IsPartOf key part = (part ≡ key) ⊎ (part ≡ (key.0, []))

@@ -1,0 +1,66 @@
+//! What a repeated call is known by.
+ghost use Rattle.std.specs.Prelude.{◌≡◌, ◌≤◌, length, OnOk};
+ghost use Rattle.std.specs.Vec.{vec_capacity};
+ghost use Rattle.nfs_kept.specs.Places.{IsPartOf};
+ghost use Rattle.nfs_kept.specs.Shown.{shown};
+
+use nfs_exports::addr::Addr;
+use std::alloc::AllocError;
+use std::hash::{Hash, Hasher};
+
+/// How many first bytes of a record are hashed: those of the call's number, its head and the first of
+/// its credential, which tell most calls apart. The record of a WRITE may have 64 KiB more.
+const HASHED_BYTES: usize = 64;
+
+/// The address that a record came from, and the record.
+#[derive(Debug, Drop, PartialEq, Eq)]
+pub struct Key {
+    pub(crate) addr: Addr,
+    pub(crate) bytes: Vec<u8>,
+}
+
+impl Key {
+    // Makes it another key. It takes no memory.
+    pub(crate) fn set(&mut self, addr: Addr, bytes: &[u8])
+        requires { length bytes.now ≤ vec_capacity self.old.bytes }
+        ensures addr { self.new.addr ≡ addr }
+        ensures bytes { self.new.bytes.items ≡ bytes.now }
+        ensures capacity { vec_capacity self.old.bytes ≤ vec_capacity self.new.bytes }
+    {
+        self.addr = addr;
+        self.bytes.clear();
+        self.bytes.extend_from_slice(bytes).unwrap();
+    }
+
+    // Makes it this key, where it isn't yet and its address alone stands there, with room for its bytes.
+    // Refused where there is no memory.
+    pub(crate) fn complete(&mut self, addr: Addr, bytes: &[u8]) -> Result<(), AllocError>
+        requires { IsPartOf (addr, bytes.now) (shown self.old) }
+        ensures ok { OnOk result (shown self.new ≡ (addr, bytes.now)) }
+        ensures room { OnOk result (length bytes.now ≤ vec_capacity self.new.bytes) }
+        ensures capacity { vec_capacity self.old.bytes ≤ vec_capacity self.new.bytes }
+    {
+        if self.bytes.len() == bytes.len() {
+            return Ok(());
+        }
+        self.bytes.reserve(bytes.len())?;
+        self.set(addr, bytes);
+        Ok(())
+    }
+}
+
+// The bytes are fed in one piece: a derived impl feeds each alone, which takes many times as long.
+impl Hash for Key {
+    ghost use Rattle.nfs_kept.specs.Fed.{fed_key, fed_same};
+
+    ghost hash_input = { fed_key };
+
+    ghost respects_eq = { fed_same };
+
+    fn hash<H: Hasher>(&self, state: &mut H) {
+        let bytes = self.bytes.as_slice();
+        state.write_u32(self.addr.0);
+        state.write_usize(bytes.len());
+        state.write(&bytes[..HASHED_BYTES.min(bytes.len())]);
+    }
+}

@@ -1,0 +1,20 @@
+use Rattle.std.proofs.Common.{◌≡◌, ◌-◌, ◌≤◌, length, take, Ok}
+use Rattle.nfs_server.specs.Connections.{IsBetween}
+use Rattle.nfs_server.specs.Feeding.{device, replies_of}
+use Rattle.nfs_server.specs.Taking.{FeedsWith, IsCovered}
+use Rattle.nfs_server.proofs.taking.take_piece.Given as goal
+
+abbrev pub invariant-loop-used : goal.invariant-loop-used
+invariant-loop-used g l = record {
+  within : l.used ≤ length l.piece;
+  counted : l.records ≤ l.used;
+  between : IsBetween l.framer;
+  limit : l.framer.limit ≡ l.fn.framer.limit;
+  setup : l.server.setup ≡ l.fn.server.setup;
+  feeds : FeedsWith (λ done. IsCovered l.fn.room l.left (length (replies_of done))) l.origin (take l.used l.piece) (Ok l.records) l.fn.server l.server l.fn.framer l.framer
+      (device (g.A.ByteOut.contents l.fn.audit) (g.A.ByteOut.contents l.audit))
+      (device (g.W.ByteOut.contents l.fn.replies) (g.W.ByteOut.contents l.replies));
+}
+
+abbrev pub decreases-loop-used : goal.decreases-loop-used
+decreases-loop-used g l = length l.piece - l.used

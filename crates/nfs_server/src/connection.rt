@@ -1,0 +1,102 @@
+//! A connection: a stream of records from one address.
+ghost use Rattle.std.specs.Prelude.{◌≡◌, ◌≤◌, true, false, length, IfOk, IfErr, OnOk, OnErr, IsErrOf, ◌↔◌};
+ghost use Rattle.nfs_server.specs.Connections.{IsAtStart};
+ghost use Rattle.nfs_server.specs.Feeding.{device, EndsWith};
+ghost use Rattle.nfs_server.specs.Taking.{FeedsSome};
+
+use crate::reply_buf::ReplyBuf;
+use crate::server::Server;
+use crate::session_fault::SessionFault;
+use crate::taking::{Origin, Taken, take_piece};
+use nfs_attrs::moment::Moment;
+use nfs_exports::addr::Addr;
+use nfs_rpc::framer::Framer;
+use nfs_xdr::device::ByteOut;
+use std::alloc::Global;
+use std::marker::Model;
+
+/// The largest record that a connection takes.
+pub const MAX_RECORD_BYTES: usize = 131_072;
+
+/// A stream of records from one address.
+#[derive(Drop)]
+pub struct Connection {
+    addr: Addr,
+    framer: Framer,
+    ended: bool,
+}
+
+impl Model for Connection {
+    ghost use Rattle.std.specs.Prelude.{◌≡◌, false};
+    ghost use Rattle.nfs_server.specs.Connections.{Joined, IsBetween};
+
+    ghost Value = { Joined };
+
+    ghost view = { λ c. record { addr = c.addr; progress = c.framer; ended = c.ended } };
+
+    ghost invariant = { λ c. c.ended ≡ false → IsBetween c.framer };
+}
+
+impl Connection {
+    /// At the beginning of its stream.
+    pub fn new(alloc: Global, addr: Addr) -> Connection
+        ensures { IsAtStart addr result }
+    {
+        Connection {
+            addr,
+            framer: Framer::new(alloc, MAX_RECORD_BYTES),
+            ended: false,
+        }
+    }
+
+    /// Takes a piece of the stream, and answers each record that it makes whole. Where there is room
+    /// for so many bytes of replies alone, it stops behind the record whose reply fills it.
+    ///
+    /// `Ended` where a fault ended it: then nothing is written, and nothing changes. Any other fault
+    /// ends it.
+    pub fn feed<W: ByteOut, A: ByteOut>(
+        &mut self,
+        server: &mut Server,
+        reply: &mut ReplyBuf,
+        moment: Moment,
+        piece: &[u8],
+        room: Option<usize>,
+        replies: &mut W,
+        audit: &mut A,
+    ) -> Result<Taken, SessionFault>
+        ensures ended { IsErrOf result SessionFault.Ended ↔ (self.old.ended ≡ true) }
+        ensures idle { self.old.ended ≡ true →
+            (self.new ≡ self.old) × (server.new ≡ server.old) × (replies.new ≡ replies.old) × (audit.new ≡ audit.old) }
+        ensures ok { OnOk result (self.new.ended ≡ false) }
+        ensures fault { OnErr result (self.new.ended ≡ true) }
+        ensures addr { self.new.addr ≡ self.old.addr }
+        ensures limit { self.new.progress.limit ≡ self.old.progress.limit }
+        ensures kind { self.old.ended ≡ false → IfErr result (EndsWith (A.failed audit.new) (W.failed replies.new)) }
+        ensures setup { server.new.setup ≡ server.old.setup }
+        ensures used { IfOk result (λ taken. taken.used ≤ length piece.now) }
+        ensures feeds { self.old.ended ≡ false → FeedsSome (record { addr = self.old.addr; moment = moment }) piece.now room
+            result server.old server.new self.old.progress self.new.progress
+            (device (A.contents audit.old) (A.contents audit.new))
+            (device (W.contents replies.old) (W.contents replies.new)) }
+    {
+        if self.ended {
+            return Err(SessionFault::Ended);
+        }
+        let origin = Origin {
+            addr: self.addr,
+            moment,
+        };
+        let taken = take_piece(
+            server,
+            reply,
+            &mut self.framer,
+            origin,
+            piece,
+            room,
+            replies,
+            audit,
+        );
+        self.ended = taken.is_err();
+        taken
+    }
+}

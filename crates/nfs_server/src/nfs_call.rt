@@ -1,0 +1,90 @@
+//! Calls of NFS other than NULL (RFC 1813, section 3.3): what is done, and the reply.
+ghost use Rattle.std.specs.Prelude.{◌≡◌, ◌+◌, ◌≤◌, true, length};
+ghost use Rattle.nfs_procs.specs.Procedures.{PerformsAs, doing_of};
+ghost use Rattle.nfs_procs.specs.Scenes.{scene};
+ghost use Rattle.nfs_rpc.specs.Calls.{call_of};
+ghost use Rattle.nfs_server.specs.Keeping.{AnswersCall};
+ghost use Rattle.nfs_server.specs.Repeats as repeats;
+ghost use Rattle.nfs_server.specs.ReplyRoom.{IsBegun, IsReply, reply_in};
+ghost use Rattle.nfs_server.specs.Seen.{told};
+
+use crate::audit_line::{AuditLine, Reason};
+use crate::reply::give_up;
+use nfs_args::args::NfsArgs;
+use nfs_inodes::tree::Tree;
+use nfs_kept::kept_replies::MAX_KEPT_BYTES;
+use nfs_procs::call::Call;
+use nfs_procs::done::Done;
+use nfs_procs::limits::MAX_RESULT_BYTES;
+use nfs_procs::perform::perform;
+use nfs_rpc::call::CallHead;
+use nfs_rpc::reply::{Accept, write_accepted};
+use nfs_xdr::output::Output;
+
+/// Whether these are arguments of a procedure that may change the tree.
+#[inline(always)]
+pub(crate) fn may_change(args: &NfsArgs<'_>) -> bool
+    ensures { result ≡ repeats.may_change args.now }
+{
+    matches!(
+        args,
+        NfsArgs::SetAttr(_)
+            | NfsArgs::Write(_)
+            | NfsArgs::Create(_)
+            | NfsArgs::MakeDir(_)
+            | NfsArgs::SymLink(_)
+            | NfsArgs::Remove(_)
+            | NfsArgs::RemoveDir(_)
+            | NfsArgs::Rename(_)
+            | NfsArgs::Link(_)
+    )
+}
+
+/// The reply to a call: what it asks for is done where no rule fails, and there is memory. Answers the
+/// line of a call that is denied.
+#[inline(always)]
+pub(crate) fn answer_call(
+    out: &mut Output,
+    head: &CallHead<'_>,
+    tree: &mut Tree,
+    call: &Call<'_>,
+    args: &NfsArgs<'_>,
+) -> Option<AuditLine>
+    requires { IsBegun out.old }
+    ensures reply { IsReply out.new }
+    ensures short { repeats.may_change args.now ≡ true → length (reply_in out.new) ≤ MAX_KEPT_BYTES }
+    ensures answers { AnswersCall (scene tree.old call.now args.now) (call_of head.now)
+        (told (reply_in out.new) result) tree.new }
+{
+    write_accepted(out, head.xid, Accept::Success);
+    match write_result(out, tree, call, args) {
+        Some(Done::Denied(rule, uid)) => {
+            Some(AuditLine::of(call.caller.addr, head, Reason::Rule(rule, uid)))
+        }
+        Some(Done::Memory) => {
+            give_up(out, head.xid);
+            Some(AuditLine::of(call.caller.addr, head, Reason::Memory))
+        }
+        Some(Done::Granted) => None,
+        None => None,
+    }
+}
+
+// What becomes of a call, and its result, behind what stands there.
+#[inline(always)]
+fn write_result(
+    out: &mut Output,
+    tree: &mut Tree,
+    call: &Call<'_>,
+    args: &NfsArgs<'_>,
+) -> Option<Done>
+    requires { MAX_RESULT_BYTES ≤ out.old.room }
+    ensures performs { PerformsAs (scene tree.old call.now args.now) (doing_of args.now) result tree.new out.old out.new }
+    ensures room { length out.new.bytes + out.new.room ≡ length out.old.bytes + out.old.room }
+    ensures longer { length out.old.bytes ≤ length out.new.bytes }
+    ensures short { repeats.may_change args.now ≡ true → length out.new.bytes ≤ length out.old.bytes + 280 }
+{
+    let done = perform(tree, call, args, out);
+    tree.law();
+    done
+}

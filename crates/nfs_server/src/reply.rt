@@ -1,0 +1,60 @@
+//! Replies that say no more than whether a call is accepted (RFC 5531, section 9).
+ghost use Rattle.std.specs.Prelude.{◌≡◌, ◌≤◌, length};
+ghost use Rattle.nfs_rpc.specs.Replies.{accepted_text};
+ghost use Rattle.nfs_rpc.specs.declared.reply.Accept.TheVariants.{Success, SystemErr};
+ghost use Rattle.nfs_server.specs.ReplyRoom.{IsBegun, IsReply, reply_in};
+ghost use Rattle.nfs_server.specs.RpcRules.{rpc_reply};
+
+use crate::reply_buf::begin;
+use crate::rpc_rules::RpcRule;
+use nfs_kept::kept_replies::MAX_KEPT_BYTES;
+use nfs_rpc::reply::{Accept, Refused, write_accepted, write_refused};
+use nfs_xdr::output::Output;
+
+/// The reply to a call that fails a rule of RPC.
+pub(crate) fn refuse(out: &mut Output, rule: RpcRule, xid: u32)
+    requires { IsBegun out.old }
+    ensures room { IsReply out.new }
+    ensures reply { reply_in out.new ≡ rpc_reply rule xid }
+{
+    match rule {
+        RpcRule::Version => write_refused(out, xid, Refused::RpcMismatch),
+        RpcRule::Program => write_accepted(out, xid, Accept::ProgUnavail),
+        RpcRule::ProgramVersion => write_accepted(out, xid, Accept::ProgMismatch),
+        RpcRule::Procedure => write_accepted(out, xid, Accept::ProcUnavail),
+        RpcRule::Flavor => write_refused(out, xid, Refused::RejectedCred),
+        RpcRule::Credential => write_refused(out, xid, Refused::BadCred),
+        RpcRule::WeakCredential => write_refused(out, xid, Refused::TooWeak),
+        RpcRule::Arguments => write_accepted(out, xid, Accept::GarbageArgs),
+    }
+}
+
+/// The reply to a call that succeeds without a result.
+#[inline(always)]
+pub(crate) fn succeed(out: &mut Output, xid: u32)
+    requires { IsBegun out.old }
+    ensures room { IsReply out.new }
+    ensures reply { reply_in out.new ≡ accepted_text xid Success }
+{
+    write_accepted(out, xid, Accept::Success);
+}
+
+/// The reply to a call for which there is no memory, in the place of what stands there.
+pub(crate) fn give_up(out: &mut Output, xid: u32)
+    requires { IsReply out.old }
+    ensures room { IsReply out.new }
+    ensures reply { reply_in out.new ≡ accepted_text xid SystemErr }
+{
+    begin(out);
+    write_accepted(out, xid, Accept::SystemErr);
+}
+
+/// A reply that was given before.
+pub(crate) fn repeat(out: &mut Output, reply: &[u8])
+    requires begun { IsBegun out.old }
+    requires short { length reply.now ≤ MAX_KEPT_BYTES }
+    ensures room { IsReply out.new }
+    ensures reply { reply_in out.new ≡ reply.now }
+{
+    out.part(reply);
+}

@@ -1,0 +1,245 @@
+//! Bytes of a stream, whose records are answered as they become whole.
+ghost use Rattle.std.specs.Prelude.{◌≡◌, ◌<◌, ◌≤◌, length, IfOk, IfErr, OnOk, OnErr, IsTrue, Some, true};
+ghost use Rattle.nfs_server.specs.AuditLines.{line_text};
+ghost use Rattle.nfs_server.specs.Connections.{IsBetween};
+ghost use Rattle.nfs_server.specs.Feeding.{device, event_at, EndsWith};
+ghost use Rattle.nfs_server.specs.Seen.{event_of, told};
+ghost use Rattle.nfs_server.specs.Taking.{Answers, BeginsAnew, FeedsOne, FeedsSome, Writes};
+ghost use Rattle.nfs_server.specs.Taking.{room_after as room_behind};
+ghost use Rattle.nfs_xdr.specs.Known.{Grows, GrowsByPart};
+
+use crate::audit_line::AuditLine;
+use crate::event::{Event, Handled};
+use crate::reply_buf::ReplyBuf;
+use crate::server::Server;
+use crate::session_fault::SessionFault;
+use nfs_attrs::moment::Moment;
+use nfs_exports::addr::Addr;
+use nfs_rpc::framer::{Framer, Stage};
+use nfs_text::line::Line;
+use nfs_xdr::device::{ByteOut, write_all};
+
+/// Who sends bytes, and when they come.
+#[derive(Clone, Copy, Debug, PartialEq, Eq)]
+pub struct Origin {
+    /// The peer's address.
+    pub addr: Addr,
+    /// The moment.
+    pub moment: Moment,
+}
+
+/// How far a piece was taken.
+#[derive(Clone, Copy, Debug, PartialEq, Eq)]
+pub struct Taken {
+    /// The number of bytes taken.
+    pub used: usize,
+    /// The number of records that they made whole.
+    pub records: u64,
+}
+
+// What came of a piece up to the end of the first record.
+#[derive(Clone, Copy, Debug, PartialEq, Eq)]
+struct Step {
+    // The number of bytes taken.
+    used: usize,
+    // The number of records that they made whole: one or none.
+    records: u64,
+    // The number of bytes of its sealed reply.
+    replied: usize,
+}
+
+// Takes a piece, and answers each record that it makes whole. Where there is room for so many
+// bytes of replies alone, it stops behind the record whose reply fills it.
+pub(crate) fn take_piece<W: ByteOut, A: ByteOut>(
+    server: &mut Server,
+    reply: &mut ReplyBuf,
+    framer: &mut Framer,
+    origin: Origin,
+    piece: &[u8],
+    room: Option<usize>,
+    replies: &mut W,
+    audit: &mut A,
+) -> Result<Taken, SessionFault>
+    requires { IsBetween framer.old }
+    ensures used { IfOk result (λ taken. taken.used ≤ length piece.now) }
+    ensures between { OnOk result (IsBetween framer.new) }
+    ensures limit { framer.new.limit ≡ framer.old.limit }
+    ensures setup { server.new.setup ≡ server.old.setup }
+    ensures fault { IfErr result (EndsWith (A.failed audit.new) (W.failed replies.new)) }
+    ensures feeds { FeedsSome origin piece.now room result server.old server.new framer.old framer.new
+        (device (A.contents audit.old) (A.contents audit.new))
+        (device (W.contents replies.old) (W.contents replies.new)) }
+{
+    let mut used = 0;
+    let mut records = 0;
+    let mut left = room;
+    while used < piece.len() && !is_used_up(left) {
+        match take_record(
+            server,
+            reply,
+            framer,
+            origin,
+            &piece[used..],
+            replies,
+            audit,
+        ) {
+            Ok(step) => {
+                used += step.used;
+                records += step.records;
+                left = room_after(left, step.replied);
+            }
+            Err(fault) => return Err(fault),
+        }
+    }
+    Ok(Taken { used, records })
+}
+
+// Whether room for bytes, if it is bounded, is used up.
+#[inline(always)]
+fn is_used_up(room: Option<usize>) -> bool
+    ensures { IsTrue result → room ≡ Some 0 }
+{
+    match room {
+        Some(room) => room == 0,
+        None => false,
+    }
+}
+
+// What is left of room for bytes, if it is bounded, behind so many more.
+#[inline(always)]
+fn room_after(room: Option<usize>, len: usize) -> Option<usize>
+    ensures { result ≡ room_behind room len }
+{
+    match room {
+        Some(room) => Some(room.saturating_sub(len)),
+        None => None,
+    }
+}
+
+// Takes a piece up to the end of the first record, which it answers.
+#[inline(always)]
+fn take_record<W: ByteOut, A: ByteOut>(
+    server: &mut Server,
+    reply: &mut ReplyBuf,
+    framer: &mut Framer,
+    origin: Origin,
+    piece: &[u8],
+    replies: &mut W,
+    audit: &mut A,
+) -> Result<Step, SessionFault>
+    requires { IsBetween framer.old }
+    ensures used { IfOk result (λ step. step.used ≤ length piece.now) }
+    ensures some { 0 < length piece.now → IfOk result (λ step. 0 < step.used) }
+    ensures counted { IfOk result (λ step. step.records ≤ step.used) }
+    ensures between { OnOk result (IsBetween framer.new) }
+    ensures limit { framer.new.limit ≡ framer.old.limit }
+    ensures setup { server.new.setup ≡ server.old.setup }
+    ensures fault { IfErr result (EndsWith (A.failed audit.new) (W.failed replies.new)) }
+    ensures feeds { FeedsOne origin piece.now result server.old server.new framer.old framer.new
+        (device (A.contents audit.old) (A.contents audit.new))
+        (device (W.contents replies.old) (W.contents replies.new)) }
+{
+    let fed = framer.feed(piece)?;
+    if !fed.ready {
+        return Ok(Step {
+            used: fed.used,
+            records: 0,
+            replied: 0,
+        });
+    }
+    let replied = answer_record(server, reply, framer, origin, replies, audit)?;
+    Ok(Step {
+        used: fed.used,
+        records: 1,
+        replied,
+    })
+}
+
+// Answers the record that is whole, and goes on to the next. Answers how many bytes of replies were
+// written.
+#[inline(always)]
+fn answer_record<W: ByteOut, A: ByteOut>(
+    server: &mut Server,
+    reply: &mut ReplyBuf,
+    framer: &mut Framer,
+    origin: Origin,
+    replies: &mut W,
+    audit: &mut A,
+) -> Result<usize, SessionFault>
+    requires { framer.old.stage ≡ Stage.Ready }
+    ensures next { BeginsAnew framer.new }
+    ensures limit { framer.new.limit ≡ framer.old.limit }
+    ensures setup { server.new.setup ≡ server.old.setup }
+    ensures fault { IfErr result (EndsWith (A.failed audit.new) (W.failed replies.new)) }
+    ensures answers { Answers (event_at origin framer.old.content) result server.old server.new
+        (device (A.contents audit.old) (A.contents audit.new))
+        (device (W.contents replies.old) (W.contents replies.new)) }
+{
+    let event = Event {
+        addr: origin.addr,
+        moment: origin.moment,
+        bytes: framer.whole(),
+    };
+    let replied = answer_event(server, reply, event, replies, audit);
+    framer.next();
+    replied
+}
+
+// Answers an event, and how many bytes of replies were written.
+#[inline(always)]
+fn answer_event<W: ByteOut, A: ByteOut>(
+    server: &mut Server,
+    reply: &mut ReplyBuf,
+    event: Event<'_>,
+    replies: &mut W,
+    audit: &mut A,
+) -> Result<usize, SessionFault>
+    ensures setup { server.new.setup ≡ server.old.setup }
+    ensures fault { IfErr result (EndsWith (A.failed audit.new) (W.failed replies.new)) }
+    ensures answers { Answers (event_of event.entry) result server.old server.new
+        (device (A.contents audit.old) (A.contents audit.new))
+        (device (W.contents replies.old) (W.contents replies.new)) }
+{
+    match server.handle(event, reply) {
+        Handled::Answered => write_answer(server.last_audit(), reply, replies, audit),
+        Handled::NoReply => Ok(0),
+    }
+}
+
+// Writes the audit line of a call, if it has one, and then its reply, and answers the number of the
+// reply's bytes.
+fn write_answer<W: ByteOut, A: ByteOut>(
+    denied: Option<AuditLine>,
+    reply: &ReplyBuf,
+    replies: &mut W,
+    audit: &mut A,
+) -> Result<usize, SessionFault>
+    ensures fault { IfErr result (EndsWith (A.failed audit.new) (W.failed replies.new)) }
+    ensures writes { Writes (told reply.now denied) result
+        (device (A.contents audit.old) (A.contents audit.new))
+        (device (W.contents replies.old) (W.contents replies.new)) }
+{
+    if let Some(denied) = denied {
+        write_line(&denied, audit)?;
+    }
+    let sealed = reply.sealed();
+    match write_all(replies, sealed) {
+        Ok(()) => Ok(sealed.len()),
+        Err(_) => Err(SessionFault::WriteFault),
+    }
+}
+
+// Writes an audit line.
+fn write_line<A: ByteOut>(denied: &AuditLine, audit: &mut A) -> Result<(), SessionFault>
+    ensures ok { OnOk result (Grows (A.contents audit.old) (line_text denied.now) (A.contents audit.new)) }
+    ensures kind { IfErr result (λ e. e ≡ SessionFault.AuditFault) }
+    ensures part { OnErr result (GrowsByPart (A.contents audit.old) (line_text denied.now) (A.contents audit.new)) }
+    ensures failed { OnErr result (A.failed audit.new ≡ true) }
+{
+    let mut line = Line::new();
+    denied.put(&mut line);
+    match write_all(audit, line.as_slice()) {
+        Ok(()) => Ok(()),
+        Err(_) => Err(SessionFault::AuditFault),
+    }
+}
