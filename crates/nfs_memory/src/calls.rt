@@ -36,9 +36,14 @@ const NO_SETTINGS: &[u8] = b"\0\0\0\0\0\0\0\0\0\0\0\0\0\0\0\0\0\0\0\0\0\0\0\0";
 const SIZE_OF_1000: &[u8] =
     b"\0\0\0\0\0\0\0\0\0\0\0\0\0\0\0\x01\0\0\0\0\0\0\x03\xe8\0\0\0\0\0\0\0\0";
 
-// The procedures that may take memory, each with its arguments in parts: SETATTR of a size, WRITE
-// behind the end, CREATE, MKDIR, SYMLINK, RENAME and LINK.
-const CALLS: [(u32, [&[u8]; 4]); 7] = [
+const MODE_OF_0700: &[u8] =
+    b"\0\0\0\x01\0\0\x01\xc0\0\0\0\0\0\0\0\0\0\0\0\0\0\0\0\0\0\0\0\0";
+
+// Procedures that may take memory, for the tree or for a place among the kept replies, each with its
+// arguments in parts: SETATTR of a mode and of a size, WRITE behind the end, CREATE, MKDIR, SYMLINK,
+// REMOVE, RENAME and LINK.
+const CALLS: [(u32, [&[u8]; 4]); 9] = [
+    (2, [FILE, MODE_OF_0700, b"\0\0\0\0", b""]),
     (2, [FILE, SIZE_OF_1000, b"\0\0\0\0", b""]),
     (
         7,
@@ -52,6 +57,7 @@ const CALLS: [(u32, [&[u8]; 4]); 7] = [
     (8, [DIRECTORY, NEW_NAME, b"\0\0\0\x01", SIZE_OF_1000]),
     (9, [DIRECTORY, NEW_NAME, NO_SETTINGS, b""]),
     (10, [DIRECTORY, NEW_NAME, NO_SETTINGS, b"\0\0\0\x02to\0\0"]),
+    (12, [DIRECTORY, b"\0\0\0\x01l\0\0\0", b"", b""]),
     (14, [DIRECTORY, b"\0\0\0\x01x\0\0\0", DIRECTORY, NEW_NAME]),
     (15, [FILE, DIRECTORY, NEW_NAME, b""]),
 ];
@@ -85,8 +91,21 @@ pub(crate) fn is_refused(
     reply.bytes() == SYSTEM_ERR && server.last_audit() == Some(line)
 }
 
+// Whether a call that was done is answered by the same bytes where there is no memory at all.
+fn is_answered_again(
+    alloc: Global,
+    server: &mut Server,
+    event: Event<'_>,
+    reply: &mut ReplyBuf,
+) -> Result<bool, AllocError> {
+    let first = reply.bytes().to_vec(alloc)?;
+    let _ballast = Ballast::new(alloc)?;
+    server.handle(event, reply);
+    Ok(first.starts_with(SUCCESS) && reply.bytes() == first.as_slice())
+}
+
 // How often the call was refused until there was memory; none where it was refused and had changed
-// what is seen, or was denied.
+// what is seen, was denied, or was answered otherwise when it was repeated without memory.
 fn refusals(alloc: Global, procedure: u32, args: &[&[u8]; 4]) -> Result<Option<u32>, AllocError> {
     let mut server = Server::new(alloc, loaded(alloc)?, 128)?;
     let mut reply = ReplyBuf::new(alloc)?;
@@ -104,11 +123,9 @@ fn refusals(alloc: Global, procedure: u32, args: &[&[u8]; 4]) -> Result<Option<u
     for refused in 0..ROUNDS {
         server.handle(event, &mut reply);
         if !is_refused(&server, &reply, event.addr, 100_003, procedure) {
-            return Ok(if reply.bytes().starts_with(SUCCESS) {
-                Some(refused)
-            } else {
-                None
-            });
+            drop(ballast);
+            let again = is_answered_again(alloc, &mut server, event, &mut reply)?;
+            return Ok(again.then_some(refused));
         }
         if look(server.tree()) != before || !ballast.lighten() {
             break;
