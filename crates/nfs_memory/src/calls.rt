@@ -36,8 +36,7 @@ const NO_SETTINGS: &[u8] = b"\0\0\0\0\0\0\0\0\0\0\0\0\0\0\0\0\0\0\0\0\0\0\0\0";
 const SIZE_OF_1000: &[u8] =
     b"\0\0\0\0\0\0\0\0\0\0\0\0\0\0\0\x01\0\0\0\0\0\0\x03\xe8\0\0\0\0\0\0\0\0";
 
-const MODE_OF_0700: &[u8] =
-    b"\0\0\0\x01\0\0\x01\xc0\0\0\0\0\0\0\0\0\0\0\0\0\0\0\0\0\0\0\0\0";
+const MODE_OF_0700: &[u8] = b"\0\0\0\x01\0\0\x01\xc0\0\0\0\0\0\0\0\0\0\0\0\0\0\0\0\0\0\0\0\0";
 
 // Procedures that may take memory, for the tree or for a place among the kept replies, each with its
 // arguments in parts: SETATTR of a mode and of a size, WRITE behind the end, CREATE, MKDIR, SYMLINK,

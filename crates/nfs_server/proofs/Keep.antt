@@ -1,15 +1,15 @@
 -- What the server does is a step after each past that fits, and the kept replies go on with the past.
-use Rattle.std.proofs.Common.{◌≡◌, ℕ, zero, suc, ◌+◌, ◌-◌, ◌<◌, ◌≤◌, Bool, true, false, cond, ◌&&◌, ◌||◌, List, [], ◌∷◌, Option, Some, None, is_some, take, refl, sym, ap, subst, ◌∙◌, arith}
+use Rattle.std.proofs.Common.{◌≡◌, ℕ, suc, ◌+◌, ◌-◌, ◌<◌, ◌≤◌, Bool, true, false, cond, ◌||◌, List, ◌∷◌, Option, Some, None, is_some, take, refl, sym, ap, subst, ◌∙◌, arith}
 use Rattle.std.specs.Prelude.{nat_lt, if◌then◌else◌}
 use Rattle.std.proofs.lemmas.Bool.{ltb-true}
 use Rattle.nfs_kept.specs.Places.{Key, Place, same, place_for, kept_reply, without}
 use Rattle.nfs_kept.proofs.Lookups.{found_cut, found_more, found_whole, none_some, stands_without, was_without}
 use Rattle.nfs_rpc.specs.Calls.{head_at}
 use Rattle.nfs_server.specs.Events.{Event, Answer, Choice, Done}
-use Rattle.nfs_server.specs.Fits.{AreHeld, AreTrue, Held, Past, after, Fits, GoesOn}
+use Rattle.nfs_server.specs.Fits.{AreHeld, AreTrue, Held, Past, Fits, GoesOn}
 use Rattle.nfs_server.specs.Keeping.{Answers, AnswersKept, Keeps}
 use Rattle.nfs_server.specs.Repeats.{Earlier, earlier, first_reply, is_changing, is_refused, key_of, one_later, reply_again, standing}
-use Rattle.nfs_server.specs.Steps.{Called, IsRun, Repeated, Setup, State, Step}
+use Rattle.nfs_server.specs.Steps.{Called, IsRun, Repeated, Step}
 
 -- ---- the past
 

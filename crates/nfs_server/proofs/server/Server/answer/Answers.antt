@@ -1,7 +1,6 @@
-use Rattle.std.proofs.Common.{◌≡◌, Some, None, is_some, refl, ap, sym, subst, ◌∙◌}
-use Rattle.std.specs.Prelude.{Ok, Err}
+use Rattle.std.proofs.Common.{◌≡◌, None, is_some, refl, ap, sym, subst, ◌∙◌}
 use Rattle.nfs_kept.specs.Places.{kept_reply}
-use Rattle.nfs_rpc.specs.Calls.{GivesHead, call_of, head_at}
+use Rattle.nfs_rpc.specs.Calls.{head_at}
 use Rattle.nfs_server.specs.Events.{Answer, silence}
 use Rattle.nfs_server.specs.Fits.{Held}
 use Rattle.nfs_server.specs.Keeping.{Answers, AnswersCalled}

@@ -1,5 +1,5 @@
 use Rattle.std.proofs.Common.{◌≡◌, ◌-◌, List, ◌∷◌, [], None, Some, take, drop, refl, ap, sym, subst, ◌∙◌, rules}
-use Rattle.nfs_kept.specs.Places.{Key, Place, Replies, kept_reply, place_for, with_first}
+use Rattle.nfs_kept.specs.Places.{Key, Place, kept_reply, place_for, with_first}
 use Rattle.nfs_kept.proofs.Shows.{none_found}
 use Rattle.nfs_procs.specs.Procedures.{doing_of}
 use Rattle.nfs_rpc.specs.Calls.{call_of}
