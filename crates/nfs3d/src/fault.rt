@@ -6,6 +6,8 @@ use nfs_load::cause::Cause;
 use nfs_load::listing::WriteFault;
 use nfs_load::load_error::LoadError;
 use std::alloc::{AllocError, AllocFailed};
+use std::io;
+use std::net::SocketAddr;
 use thiserror::Error;
 
 /// A fault, which prints as the line that goes to standard error.
@@ -34,6 +36,17 @@ pub enum ReplayFault {
     /// A file can't be read.
     #[error("nfs3d: cannot read {0}")]
     CannotRead(String),
+    /// A file can't be written.
+    #[error("nfs3d: cannot write {0}")]
+    CannotWrite(String),
+    /// The network fails.
+    #[error("nfs3d: network fault: {address}: {error}")]
+    Network {
+        /// The address that is listened at.
+        address: SocketAddr,
+        /// What the system says.
+        error: io::Error,
+    },
     /// The output can't be written.
     #[error("nfs3d: write fault")]
     Write,
@@ -54,7 +67,11 @@ impl ReplayFault {
             | ReplayFault::BadHex(_)
             | ReplayFault::NoHandle(_) => 1,
             ReplayFault::NoText => 2,
-            ReplayFault::CannotRead(_) | ReplayFault::Write | ReplayFault::Memory(_) => 3,
+            ReplayFault::CannotRead(_)
+            | ReplayFault::CannotWrite(_)
+            | ReplayFault::Network { .. }
+            | ReplayFault::Write
+            | ReplayFault::Memory(_) => 3,
         }
     }
 }

@@ -4,11 +4,13 @@
 mod captured;
 mod check;
 mod commands;
+mod exposure;
 mod fault;
 mod hexadecimal;
 mod printing;
 mod replay;
 mod script;
+mod serve;
 
 use crate::fault::ReplayFault;
 use std::alloc::AllocError;

@@ -12,6 +12,8 @@ mod makers;
 #[cfg(test)]
 mod mounts;
 #[cfg(test)]
+mod serving;
+#[cfg(test)]
 mod streams;
 #[cfg(test)]
 mod tree;

@@ -35,7 +35,7 @@ same_open server held es fs conn was now same set e found =
 pub all_taken : (origin : Origin) (piece : List ℕ) (taken : Taken) (old new : Held) (from to : Progress) (audit replies : Device) → taken.used ≤ length piece → FeedsSome origin piece None (Ok taken) old new from to audit replies → Feeds origin piece (Ok taken.records) old new from to audit replies
 all_taken origin piece taken old new from to audit replies within feeds past fits text u =
     let b = feeds past fits text u in
-    let all : length piece ≤ taken.used = omega (arith, b.1) in
+    let all : length piece ≤ taken.used = omega (arith, b.1.0) in
     subst (λ t. Brings past origin (text ++ t) (Ok taken.records) new to audit replies) (take_all taken.used piece all) b.0
 
 -- whichever connection there is

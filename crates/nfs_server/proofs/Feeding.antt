@@ -20,7 +20,7 @@ pub records_append : (bytes : List ℕ) (records others : List (List ℕ)) (rest
 records_append bytes [] others rest left r s = subst (λ t. AreRecords t others left) r s
 records_append bytes (content ∷ records) others rest left r s = (r.0, r.1, records_append r.0 records others rest left r.2 s)
 
-all_append : {X : Type 0} (P : X → Type 0) (xs ys : List X) → AllByRecursion P xs → AllByRecursion P ys → AllByRecursion P (xs ++ ys)
+pub all_append : {X : Type 0} (P : X → Type 0) (xs ys : List X) → AllByRecursion P xs → AllByRecursion P ys → AllByRecursion P (xs ++ ys)
 all_append P [] ys a b = b
 all_append P (x ∷ xs) ys a b = (a.0, all_append P xs ys a.1 b)
 
@@ -55,7 +55,7 @@ module _ (a b c v w x : Option (List ℕ)) (done later : List Done) where
   both_on : WritesAll done (device a b) (device v w) → WritesAll later (device b c) (device w x) → WritesAll (later ++ done) (device a c) (device v x)
   both_on f g = record { lines_are = lines_on a b c later done f.lines_are g.lines_are; replies_are = replies_on v w x later done f.replies_are g.replies_are }
 
-ends_on : (a b c v w x : Option (List ℕ)) (result : Result ℕ SessionFault) (done later : List Done) (left : List ℕ) (p : Progress) → WritesAll done (device a b) (device v w) → Ends result later left p (device b c) (device w x) → Ends (added (length done) result) (later ++ done) left p (device a c) (device v x)
+pub ends_on : (a b c v w x : Option (List ℕ)) (result : Result ℕ SessionFault) (done later : List Done) (left : List ℕ) (p : Progress) → WritesAll done (device a b) (device v w) → Ends result later left p (device b c) (device w x) → Ends (added (length done) result) (later ++ done) left p (device a c) (device v x)
 ends_on a b c v w x (Ok n) done later left p f e =
     let len : length (later ++ done) ≡ length later + length done = length-append later done in
     (omega (arith, e.0, len), e.1, both_on a b c v w x done later f e.2)

@@ -13,3 +13,4 @@ pub mod OneRecord
 pub mod PieceByPiece
 pub mod Connected
 pub mod Together
+pub mod Streaming

@@ -1,5 +1,5 @@
 -- What one step does to a connection.
-use Rattle.std.proofs.Common.{◌≡◌, ◌≢◌, ℕ, ◌≤◌, Bool, List, [], ◌∷◌, ◌++◌, take, drop, length, Option, Some, Result, Ok, Err, IfErr, IsErrAnd, refl, sym, ap, subst, ◌∙◌, append_assoc, append-nil, arith}
+use Rattle.std.proofs.Common.{◌≡◌, ◌≢◌, ℕ, ◌≤◌, Bool, List, [], ◌∷◌, ◌++◌, take, drop, length, Option, Some, Result, Ok, Err, IfErr, IsErrAnd, refl, sym, ap, subst, ◌∙◌, append_assoc, append-nil}
 use Rattle.std.proofs.lemmas.List.{take-append-drop}
 use Rattle.nfs_rpc.specs.Progress.{Progress, Leads, Unfinished, Moves, BringsTooLong, AsksForRoom, StageTells}
 use Rattle.nfs_rpc.specs.declared.framer.Stage.{Stage}
@@ -14,7 +14,7 @@ use Rattle.nfs_server.specs.Events.{Event, Answer, Done, silence}
 use Rattle.nfs_server.specs.Feeding.{Device, device, WritesAll, Serves, IsLeft, Ends, replies_of, event_at, EndsWith}
 use Rattle.nfs_server.specs.Fits.{Held, Past, Fits}
 use Rattle.nfs_server.specs.Runs.{longer}
-use Rattle.nfs_server.specs.Taking.{Answers, BeginsAnew, FeedsWith, Writes}
+use Rattle.nfs_server.specs.Taking.{Answers, BeginsAnew, FeedsWith, IsOneAtMost, Writes}
 use Rattle.nfs_server.specs.declared.session_fault.SessionFault.{SessionFault}
 use Rattle.nfs_server.specs.declared.session_fault.SessionFault.TheVariants.{ConnectionTaken, UnknownConnection, Ended, TooLong, Memory, AuditFault, WriteFault}
 use Rattle.nfs_server.specs.declared.taking.Origin.{Origin}
@@ -80,10 +80,10 @@ module _ (Also : List Done → Type 0) (origin : Origin) (s : Held) (from to : P
 
 -- ---- a record is whole
 
-whole : (p : Progress) (text : List ℕ) → p.stage ≡ Ready → Unfinished text p → (length p.content ≤ p.limit) × IsRecord p.content text
+pub whole : (p : Progress) (text : List ℕ) → p.stage ≡ Ready → Unfinished text p → (length p.content ≤ p.limit) × IsRecord p.content text
 whole p text e u = subst (λ stage. Leads p.limit stage p.content text) e u
 
-is_cut : (content text after bytes : List ℕ) → IsRecord content text → bytes ≡ text ++ after → AreRecords bytes (content ∷ []) after
+pub is_cut : (content text after bytes : List ℕ) → IsRecord content text → bytes ≡ text ++ after → AreRecords bytes (content ∷ []) after
 is_cut content text after bytes is e = (after, record { text = text; spelled = is; bytes_are = e }, refl)
 
 serves_one : (past : Past) (origin : Origin) (mid : Progress) (text after bytes : List ℕ) (d : Done) (new : Held) → mid.stage ≡ Ready → Unfinished text mid → bytes ≡ text ++ after → d.event ≡ event_at origin mid.content → Fits (longer past (d ∷ [])) new
@@ -92,8 +92,18 @@ serves_one past origin mid text after bytes d new ready u e event fits =
     let w = whole mid text ready u in
     record { records = mid.content ∷ []; cut = is_cut mid.content text after bytes w.1 e; within = (w.0, tt); events_are = ap (λ k. k ∷ []) event; fits = fits }
 
+-- a device fails at the record
+pub ends_broken : (to : Progress) (audit replies : Device) (fault : SessionFault) (d : Done) (rest : List ℕ) → Writes d.answer (Err fault) audit replies → Ends (Err fault) (d ∷ []) rest to audit replies
+ends_broken to audit replies AuditFault d rest w = w
+ends_broken to audit replies WriteFault d rest w = w
+ends_broken to audit replies TooLong d rest w = absurd w
+ends_broken to audit replies Memory d rest w = absurd w
+ends_broken to audit replies ConnectionTaken d rest w = absurd w
+ends_broken to audit replies UnknownConnection d rest w = absurd w
+ends_broken to audit replies Ended d rest w = absurd w
+
 module _ (origin : Origin) (old new : Held) (from mid to : Progress) (audit replies : Device) (ready : mid.stage ≡ Ready) (limit : to.limit ≡ mid.limit) where
-  pub feeds_whole : (bytes : List ℕ) (n : ℕ) → Moves from bytes mid → BeginsAnew to → Answers (event_at origin mid.content) (Ok n) old new audit replies → FeedsWith (λ done. n ≤ length (replies_of done)) origin bytes (Ok 1) old new from to audit replies
+  pub feeds_whole : (bytes : List ℕ) (n : ℕ) → Moves from bytes mid → BeginsAnew to → Answers (event_at origin mid.content) (Ok n) old new audit replies → FeedsWith (λ done. IsOneAtMost done × (n ≡ length (replies_of done))) origin bytes (Ok 1) old new from to audit replies
   feeds_whole bytes n moves anew answers past fits text u =
       let a = answers past fits in
       let serves = serves_one past origin mid (text ++ bytes) [] (text ++ bytes) a.0 new ready (moves text u) (sym (append-nil (text ++ bytes))) a.1 a.2 in (
@@ -103,20 +113,10 @@ module _ (origin : Origin) (old new : Held) (from mid to : Progress) (audit repl
           serves = subst (λ k. Serves past origin k (text ++ bytes) (a.0 ∷ []) [] new) (sym limit) serves;
           ends = (refl, is_left [] to anew.0 anew.1, record { lines_are = a.3.1; replies_are = a.3.2 });
         },
-        a.3.0,
+        (tt, a.3.0),
       )
 
-  -- a device fails at the record
-  ends_broken : (fault : SessionFault) (d : Done) (rest : List ℕ) → Writes d.answer (Err fault) audit replies → Ends (Err fault) (d ∷ []) rest to audit replies
-  ends_broken AuditFault d rest w = w
-  ends_broken WriteFault d rest w = w
-  ends_broken TooLong d rest w = absurd w
-  ends_broken Memory d rest w = absurd w
-  ends_broken ConnectionTaken d rest w = absurd w
-  ends_broken UnknownConnection d rest w = absurd w
-  ends_broken Ended d rest w = absurd w
-
-  pub feeds_broken : (Also : List Done → Type 0) → ((done : List Done) → Also done) → (piece : List ℕ) (n : ℕ) (fault : SessionFault) → Moves from (take n piece) mid → Answers (event_at origin mid.content) (Err fault) old new audit replies → FeedsWith Also origin piece (Err fault) old new from to audit replies
+  pub feeds_broken : (Also : List Done → Type 0) → ((d : Done) → Also (d ∷ [])) → (piece : List ℕ) (n : ℕ) (fault : SessionFault) → Moves from (take n piece) mid → Answers (event_at origin mid.content) (Err fault) old new audit replies → FeedsWith Also origin piece (Err fault) old new from to audit replies
   feeds_broken Also also piece n fault moves answers past fits text u =
       let a = answers past fits in
       let cut : text ++ piece ≡ (text ++ take n piece) ++ drop n piece = ap (λ t. text ++ t) (sym (take-append-drop n piece)) ∙ sym (append_assoc text (take n piece) (drop n piece)) in
@@ -125,9 +125,9 @@ module _ (origin : Origin) (old new : Held) (from mid to : Progress) (audit repl
           done = a.0 ∷ [];
           rest = drop n piece;
           serves = subst (λ k. Serves past origin k (text ++ piece) (a.0 ∷ []) (drop n piece) new) (sym limit) serves;
-          ends = ends_broken fault a.0 (drop n piece) a.3;
+          ends = ends_broken to audit replies fault a.0 (drop n piece) a.3;
         },
-        also (a.0 ∷ []),
+        also a.0,
       )
 
 -- ---- how an event is answered
@@ -139,7 +139,7 @@ answers_by event old new shown answer result audit replies handles e writes past
 
 -- there is no reply
 pub answers_none : (event : Event) (old new : Held) (a v : Option (List ℕ)) → Handles old event silence new → Answers event (Ok 0) old new (device a a) (device v v)
-answers_none event old new a v handles = answers_by event old new silence silence (Ok 0) (device a a) (device v v) handles refl (omega arith, grows_none a, grows_none v)
+answers_none event old new a v handles = answers_by event old new silence silence (Ok 0) (device a a) (device v v) handles refl (refl, grows_none a, grows_none v)
 
 -- ---- faults
 

@@ -1,11 +1,11 @@
 -- A piece is taken record by record.
-use Rattle.std.proofs.Common.{◌≡◌, ℕ, ◌+◌, ◌-◌, ◌≤◌, ◌<◌, List, ◌++◌, take, drop, length, Option, Some, None, Ok, Err, refl, sym, ap, subst, ◌∙◌, arith}
+use Rattle.std.proofs.Common.{◌≡◌, ℕ, ◌+◌, ◌-◌, ◌≤◌, ◌<◌, List, [], ◌∷◌, ◌++◌, take, drop, length, Option, Some, None, Ok, Err, refl, sym, ap, subst, ◌∙◌, arith}
 use Rattle.std.proofs.lemmas.List.{length-append, take-append-drop, take_rest}
 use Rattle.nfs_rpc.specs.Progress.{Progress}
 use Rattle.nfs_server.specs.Events.{Done}
 use Rattle.nfs_server.specs.Feeding.{device, replies_of}
 use Rattle.nfs_server.specs.Fits.{Held}
-use Rattle.nfs_server.specs.Taking.{FeedsWith, FeedsOne, FeedsSome, IsCovered, AreFull, Stops, room_after}
+use Rattle.nfs_server.specs.Taking.{FeedsWith, FeedsOne, FeedsSome, IsOneAtMost, IsRoomLeft, LeavesRoom, AreFull, Stops, room_after}
 use Rattle.nfs_server.specs.declared.session_fault.SessionFault.{SessionFault}
 use Rattle.nfs_server.specs.declared.taking.Origin.{Origin}
 use Rattle.nfs_server.specs.declared.taking.Step.{Step}
@@ -14,48 +14,65 @@ use Rattle.nfs_xdr.proofs.Knowing.{taken_on}
 
 -- ---- room
 
-pub covered_none : (room : Option ℕ) → IsCovered room room 0
-covered_none None = refl
-covered_none (Some room) = omega arith
+pub room_none : (room : Option ℕ) → IsRoomLeft room room []
+room_none None = record { left_is = refl; leaves = tt }
+room_none (Some room) = record { left_is = ap Some (omega arith); leaves = tt }
 
-covered_on : (room left : Option ℕ) (n more both : ℕ) (replied : ℕ) → replied ≤ more → both ≡ n + more → IsCovered room left n → IsCovered room (room_after left replied) both
-covered_on None left n more both replied le e covered = ap (λ o. room_after o replied) covered
-covered_on (Some room) None n more both replied le e covered = covered
-covered_on (Some room) (Some left) n more both replied le e covered = omega (arith, le, e, covered)
+after_both : (room : Option ℕ) (n more both : ℕ) → both ≡ n + more → room_after (room_after room n) more ≡ room_after room both
+after_both None n more both e = refl
+after_both (Some room) n more both e = ap Some (omega (arith, e))
 
-covered_by : (room left : Option ℕ) (replied : ℕ) (done later : List Done) → IsCovered room left (length (replies_of done)) → replied ≤ length (replies_of later) → IsCovered room (room_after left replied) (length (replies_of (later ++ done)))
-covered_by room left replied done later covered le =
-    let both : length (replies_of (later ++ done)) ≡ length (replies_of done) + length (replies_of later) = ap length (replies_append later done) ∙ length-append (replies_of done) (replies_of later) in
-    covered_on room left (length (replies_of done)) (length (replies_of later)) (length (replies_of (later ++ done))) replied le both covered
+some_left : (room n : ℕ) → (Some (room - n) ≡ Some 0 → ⊥) → n < room
+some_left room n unfilled =
+    let not_none : room - n ≡ 0 → ⊥ = λ e. unfilled (ap Some e) in
+    omega (arith, not_none)
 
-full : (room left : Option ℕ) (bytes : List ℕ) → left ≡ Some 0 → IsCovered room left (length bytes) → AreFull room bytes
-full None left bytes e covered = absurd (none_some (sym covered ∙ e))
-  where
-    none_some : {X : Type 0} {x : X} → None ≡ Some x → ⊥
-    none_some e = cc
-full (Some room) left bytes e covered =
-    let none_left : room ≤ 0 + length bytes = subst (λ o. IsCovered (Some room) o (length bytes)) e covered in
-    omega (arith, none_left)
+leaves_on : (room left : Option ℕ) (done later : List Done) → IsOneAtMost later → (left ≡ Some 0 → ⊥) → IsRoomLeft room left done → LeavesRoom room (later ++ done)
+leaves_on room left done [] one unfilled is = is.leaves
+leaves_on None left done (d ∷ []) one unfilled is = tt
+leaves_on (Some room) left done (d ∷ []) one unfilled is = some_left room (length (replies_of done)) (λ e. unfilled (is.left_is ∙ e))
+leaves_on room left done (d ∷ e ∷ later) one unfilled is = absurd one
+
+room_on : (room left : Option ℕ) (replied : ℕ) (done later : List Done) → (left ≡ Some 0 → ⊥) → IsRoomLeft room left done → IsOneAtMost later → replied ≡ length (replies_of later) → IsRoomLeft room (room_after left replied) (later ++ done)
+room_on room left replied done later unfilled is one e =
+    let both : length (replies_of (later ++ done)) ≡ length (replies_of done) + replied = ap length (replies_append later done) ∙ length-append (replies_of done) (replies_of later) ∙ ap (λ k. length (replies_of done) + k) (sym e) in
+    record {
+      left_is = ap (λ o. room_after o replied) is.left_is ∙ after_both room (length (replies_of done)) replied (length (replies_of (later ++ done))) both;
+      leaves = leaves_on room left done later one unfilled is;
+    }
+
+none_some : {X : Type 0} {x : X} → None ≡ Some x → ⊥
+none_some e = cc
+
+none_over : (room n : ℕ) → Some (room - n) ≡ Some 0 → room ≤ n
+none_over room n e =
+    let none : room - n ≡ 0 = ap (λ o. elim o [ | None ↦ 0 | Some k ↦ k ]) e in
+    omega (arith, none)
+
+full : (room left : Option ℕ) (done : List Done) → left ≡ Some 0 → IsRoomLeft room left done → AreFull room (replies_of done)
+full None left done e is = absurd (none_some (sym is.left_is ∙ e))
+full (Some room) left done e is = none_over room (length (replies_of done)) (sym is.left_is ∙ e)
 
 -- ---- the rest of a piece
 
-rest_of : (piece : List ℕ) (i : ℕ) → take i piece ++ take (length piece - i) (drop i piece) ≡ piece
+pub rest_of : (piece : List ℕ) (i : ℕ) → take i piece ++ take (length piece - i) (drop i piece) ≡ piece
 rest_of piece i = ap (λ t. take i piece ++ t) (take_rest piece i) ∙ take-append-drop i piece
 
 module _ (origin : Origin) (piece : List ℕ) (room left : Option ℕ) (i n : ℕ) (old mid : Held) (from between : Progress) (a b v w : Option (List ℕ))
-    (before : FeedsWith (λ done. IsCovered room left (length (replies_of done))) origin (take i piece) (Ok n) old mid from between (device a b) (device v w)) where
-  module _ (new : Held) (to : Progress) (c x : Option (List ℕ)) (limit : to.limit ≡ between.limit) where
+    (before : FeedsWith (IsRoomLeft room left) origin (take i piece) (Ok n) old mid from between (device a b) (device v w)) where
+  module _ (new : Held) (to : Progress) (c x : Option (List ℕ)) (limit : to.limit ≡ between.limit) (unfilled : left ≡ Some 0 → ⊥) where
     pub steps_on : (step : Step) (next : Option ℕ) → next ≡ room_after left step.replied → FeedsOne origin (take (length piece - i) (drop i piece)) (Ok step) mid new between to (device b c) (device w x)
-        → FeedsWith (λ done. IsCovered room next (length (replies_of done))) origin (take (i + step.used) piece) (Ok (n + step.records)) old new from to (device a c) (device v x)
-    steps_on step next e one = subst (λ t. FeedsWith (λ done. IsCovered room next (length (replies_of done))) origin t (Ok (n + step.records)) old new from to (device a c) (device v x)) (taken_on piece i step.used)
-        (feeds_on (λ done. IsCovered room left (length (replies_of done))) (λ done. step.replied ≤ length (replies_of done)) (λ done. IsCovered room next (length (replies_of done))) origin (take i piece) (take step.used (take (length piece - i) (drop i piece))) n (Ok step.records) old mid new from between to a b c v w x (sym limit) (λ done later covered le. subst (λ o. IsCovered room o (length (replies_of (later ++ done)))) (sym e) (covered_by room left step.replied done later covered le)) before one)
+        → FeedsWith (IsRoomLeft room next) origin (take (i + step.used) piece) (Ok (n + step.records)) old new from to (device a c) (device v x)
+    steps_on step next e one = subst (λ t. FeedsWith (IsRoomLeft room next) origin t (Ok (n + step.records)) old new from to (device a c) (device v x)) (taken_on piece i step.used)
+        (feeds_on (IsRoomLeft room left) (λ done. IsOneAtMost done × (step.replied ≡ length (replies_of done))) (IsRoomLeft room next) origin (take i piece) (take step.used (take (length piece - i) (drop i piece))) n (Ok step.records) old mid new from between to a b c v w x (sym limit)
+        (λ done later is more. subst (λ o. IsRoomLeft room o (later ++ done)) (sym e) (room_on room left step.replied done later unfilled is more.0 more.1)) before one)
 
     pub stops_on : (fault : SessionFault) → FeedsOne origin (take (length piece - i) (drop i piece)) (Err fault) mid new between to (device b c) (device w x) → FeedsSome origin piece room (Err fault) old new from to (device a c) (device v x)
     stops_on fault one = subst (λ t. FeedsWith (Stops room piece (Err fault)) origin t (Err fault) old new from to (device a c) (device v x)) (rest_of piece i)
-        (feeds_on (λ done. IsCovered room left (length (replies_of done))) (λ done. Unit {0}) (Stops room piece (Err fault)) origin (take i piece) (take (length piece - i) (drop i piece)) n (Err fault) old mid new from between to a b c v w x (sym limit) (λ done later covered any. tt) before one)
+        (feeds_on (IsRoomLeft room left) (λ done. IsOneAtMost done × Unit {0}) (Stops room piece (Err fault)) origin (take i piece) (take (length piece - i) (drop i piece)) n (Err fault) old mid new from between to a b c v w x (sym limit) (λ done later is more. leaves_on room left done later more.0 unfilled is) before one)
 
   -- the piece ends, or the room is full
   pub ends_here : (i < length piece → left ≡ Some 0) → FeedsSome origin piece room (Ok (record { used = i; records = n })) old mid from between (device a b) (device v w)
   ends_here stopped past fits text u =
       let brings = before past fits text u in
-      (brings.0, λ more. full room left (replies_of brings.0.done) (stopped more) brings.1)
+      (brings.0, (λ more. full room left brings.0.done (stopped more) brings.1, brings.1.leaves))

@@ -45,7 +45,7 @@ served_on bytes more done later p q a b c s left cut u wrote =
     }
 
 -- the connection that was fed
-fed_on : (past : Past) (origin : Origin) (bytes piece : List ℕ) (done : List Done) (p q : Progress) (a b c d e : Option (List ℕ)) (result : Result ℕ SessionFault) (server : Held) (s : IsServed bytes done p (device a b))
+pub fed_on : (past : Past) (origin : Origin) (bytes piece : List ℕ) (done : List Done) (p q : Progress) (a b c d e : Option (List ℕ)) (result : Result ℕ SessionFault) (server : Held) (s : IsServed bytes done p (device a b))
     (brings : Brings past origin (s.rest ++ piece) result server q (device d e) (device b c)) → IsOk result → IsServed (bytes ++ piece) (brings.done ++ done) q (device a c)
 fed_on past origin bytes piece done p q a b c d e (Ok n) server s brings ok =
     let serves = brings.serves in

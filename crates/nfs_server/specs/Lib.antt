@@ -16,3 +16,4 @@ pub mod Feeding
 pub mod Taking
 pub mod Together
 pub mod Cases
+pub mod Streams

@@ -1,5 +1,5 @@
 -- The steps by which a piece of a stream is taken.
-use Rattle.std.specs.Prelude.{◌≡◌, ℕ, ◌+◌, ◌-◌, ◌≤◌, ◌<◌, List, [], ◌∷◌, ◌++◌, take, length, Option, None, Some, IfOk, Result, Ok, Err}
+use Rattle.std.specs.Prelude.{◌≡◌, ℕ, ◌-◌, ◌≤◌, ◌<◌, List, [], ◌∷◌, ◌++◌, take, length, Option, None, Some, IfOk, Result, Ok, Err}
 use Rattle.nfs_rpc.specs.Progress.{Progress, Unfinished}
 use Rattle.nfs_server.specs.Connections.{IsBetween}
 use Rattle.nfs_server.specs.Events.{Event, Answer, Done}
@@ -13,9 +13,9 @@ use Rattle.nfs_server.specs.declared.taking.Step.{Step}
 use Rattle.nfs_server.specs.declared.taking.Taken.{Taken}
 use Rattle.nfs_xdr.specs.Known.{Grows}
 
--- what is written of one answer, at most so many bytes of it as a reply
+-- what is written of one answer, so many bytes of it as a reply
 abbrev pub Writes : Answer → Result ℕ SessionFault → Device → Device → Type 0
-Writes a (Ok n) audit replies = (n ≤ length (sealed a.reply)) × Grows audit.before (line_bytes a.line) audit.after × Grows replies.before (sealed a.reply) replies.after
+Writes a (Ok n) audit replies = (n ≡ length (sealed a.reply)) × Grows audit.before (line_bytes a.line) audit.after × Grows replies.before (sealed a.reply) replies.after
 Writes a (Err AuditFault) audit replies = BreaksOff audit [] (line_bytes a.line) × Grows replies.before [] replies.after
 Writes a (Err WriteFault) audit replies = BreaksOff replies [] (sealed a.reply) × Grows audit.before (line_bytes a.line) audit.after
 Writes a (Err TooLong) audit replies = ⊥
@@ -56,29 +56,40 @@ abbrev pub count_taken : Result Taken SessionFault → Result ℕ SessionFault
 count_taken (Ok taken) = Ok taken.records
 count_taken (Err fault) = Err fault
 
+-- there is one event, or none
+abbrev pub IsOneAtMost : List Done → Type 0
+IsOneAtMost [] = Unit {0}
+IsOneAtMost (d ∷ []) = Unit {0}
+IsOneAtMost (d ∷ e ∷ earlier) = ⊥
+
 abbrev pub FeedsOne : Origin → List ℕ → Result Step SessionFault → Held → Held → Progress → Progress → Device → Device → Type 0
-FeedsOne origin piece result = FeedsWith (λ done. IfOk result (λ step. step.replied ≤ length (replies_of done))) origin (bytes_stepped result piece) (count_stepped result)
+FeedsOne origin piece result = FeedsWith (λ done. IsOneAtMost done × IfOk result (λ step. step.replied ≡ length (replies_of done))) origin (bytes_stepped result piece) (count_stepped result)
 
 -- what is left of room, if it is bounded, behind so many bytes
 abbrev pub room_after : Option ℕ → ℕ → Option ℕ
 room_after None n = None
 room_after (Some room) n = Some (room - n)
 
--- the room, if it is bounded, is no more than what is left and these bytes
-abbrev pub IsCovered : Option ℕ → Option ℕ → ℕ → Type 0
-IsCovered None left n = left ≡ None
-IsCovered (Some room) None n = ⊥
-IsCovered (Some room) (Some left) n = room ≤ left + n
+-- the replies before the newest don't fill the room
+abbrev pub LeavesRoom : Option ℕ → List Done → Type 0
+LeavesRoom None done = Unit {0}
+LeavesRoom (Some room) [] = Unit {0}
+LeavesRoom (Some room) (d ∷ earlier) = length (replies_of earlier) < room
+
+-- this is left of the room behind the replies to events
+pub record IsRoomLeft (room left : Option ℕ) (done : List Done) : Type 0 where
+  pub left_is : left ≡ room_after room (length (replies_of done))
+  pub leaves : LeavesRoom room done
 
 -- bytes fill the room
 abbrev pub AreFull : Option ℕ → List ℕ → Type 0
 AreFull None bytes = ⊥
 AreFull (Some room) bytes = room ≤ length bytes
 
--- some of a piece is left only where the replies fill the room
+-- It stops at the reply that fills the room: none before it does, and some of the piece is left only where one does.
 abbrev pub Stops : Option ℕ → List ℕ → Result Taken SessionFault → List Done → Type 0
-Stops room piece (Ok taken) done = taken.used < length piece → AreFull room (replies_of done)
-Stops room piece (Err fault) done = Unit {0}
+Stops room piece (Ok taken) done = (taken.used < length piece → AreFull room (replies_of done)) × LeavesRoom room done
+Stops room piece (Err fault) done = LeavesRoom room done
 
 abbrev pub FeedsSome : Origin → List ℕ → Option ℕ → Result Taken SessionFault → Held → Held → Progress → Progress → Device → Device → Type 0
 FeedsSome origin piece room result = FeedsWith (Stops room piece result) origin (bytes_taken result piece) (count_taken result)

@@ -1,5 +1,5 @@
 //! Bytes of a stream, whose records are answered as they become whole.
-ghost use Rattle.std.specs.Prelude.{◌≡◌, ◌<◌, ◌≤◌, length, IfOk, IfErr, OnOk, OnErr, IsTrue, Some, true};
+ghost use Rattle.std.specs.Prelude.{◌≡◌, ◌<◌, ◌≤◌, ◌↔◌, length, IfOk, IfErr, OnOk, OnErr, IsTrue, Some, true};
 ghost use Rattle.nfs_server.specs.AuditLines.{line_text};
 ghost use Rattle.nfs_server.specs.Connections.{IsBetween};
 ghost use Rattle.nfs_server.specs.Feeding.{device, event_at, EndsWith};
@@ -97,7 +97,7 @@ pub(crate) fn take_piece<W: ByteOut, A: ByteOut>(
 // Whether room for bytes, if it is bounded, is used up.
 #[inline(always)]
 fn is_used_up(room: Option<usize>) -> bool
-    ensures { IsTrue result → room ≡ Some 0 }
+    ensures { IsTrue result ↔ (room ≡ Some 0) }
 {
     match room {
         Some(room) => room == 0,
@@ -158,7 +158,7 @@ fn take_record<W: ByteOut, A: ByteOut>(
 // Answers the record that is whole, and goes on to the next. Answers how many bytes of replies were
 // written.
 #[inline(always)]
-fn answer_record<W: ByteOut, A: ByteOut>(
+pub(crate) fn answer_record<W: ByteOut, A: ByteOut>(
     server: &mut Server,
     reply: &mut ReplyBuf,
     framer: &mut Framer,

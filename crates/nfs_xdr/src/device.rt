@@ -17,9 +17,13 @@ pub trait ByteIn {
     /// Whether a call answered the fault.
     ghost failed: { Self → Bool };
 
+    /// That a call which gave these bytes leads from one state to another.
+    ghost gives: { Self → List ℕ → Self → Type 0 };
+
     /// Gives some bytes; none, where there is room for some, only at the end.
     fn read(&mut self, buffer: &mut [u8]) -> Result<usize, DeviceFault>
         ensures count { IfOk result (λ n. n ≤ length buffer.new) }
+        ensures gives { IfOk result (λ n. gives self.old (take n buffer.new) self.new) }
         ensures given { IfOk result (λ n. Shrinks (remaining self.old) (take n buffer.new) (remaining self.new)) }
         ensures end { IfOk result (λ n. n ≡ 0 → 0 < length buffer.new → IsAtEnd (remaining self.new)) }
         ensures alive { OnOk result ((failed self.old ≡ false) × (failed self.new ≡ false)) }
@@ -102,6 +106,8 @@ impl<D: Read> ByteIn for Device<D> {
     ghost remaining = { λ d. D.remaining d.inner };
 
     ghost failed = { λ d. d.failed };
+
+    ghost gives = { λ old bytes new. Shrinks (D.remaining old.inner) bytes (D.remaining new.inner) };
 
     fn read(&mut self, buffer: &mut [u8]) -> Result<usize, DeviceFault>
         ensures count { IfOk result (λ n. n ≤ length buffer.new) }

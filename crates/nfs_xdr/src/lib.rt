@@ -5,5 +5,7 @@ pub mod device;
 pub mod fault;
 pub mod input;
 pub mod laws;
+pub mod link;
 pub mod output;
 pub mod stutter;
+pub mod stutter_link;

@@ -103,8 +103,11 @@ impl<D: ByteIn> ByteIn for Stutter<D> {
 
     ghost failed = { λ s. s.failed };
 
+    ghost gives = { λ old bytes new. D.gives old.inner bytes new.inner };
+
     fn read(&mut self, buffer: &mut [u8]) -> Result<usize, DeviceFault>
         ensures count { IfOk result (λ n. n ≤ length buffer.new) }
+        ensures gives { IfOk result (λ n. D.gives self.old.inner (take n buffer.new) self.new.inner) }
         ensures given { IfOk result (λ n. Shrinks (D.remaining self.old.inner) (take n buffer.new) (D.remaining self.new.inner)) }
         ensures end { IfOk result (λ n. n ≡ 0 → 0 < length buffer.new → IsAtEnd (D.remaining self.new.inner)) }
         ensures alive { OnOk result ((self.old.failed ≡ false) × (self.new.failed ≡ false)) }

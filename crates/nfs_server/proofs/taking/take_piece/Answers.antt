@@ -1,6 +1,7 @@
 use Rattle.std.proofs.Common.{[], refl, subst, sym, ◌∙◌, append-nil, arith, rules}
+use Rattle.std.proofs.lemmas.Bool.{false≢true}
 use Rattle.nfs_rpc.specs.Progress.{Moves, Unfinished}
-use Rattle.nfs_server.proofs.PieceByPiece.{covered_none, steps_on, stops_on, ends_here}
+use Rattle.nfs_server.proofs.PieceByPiece.{room_none, steps_on, stops_on, ends_here}
 use Rattle.nfs_server.proofs.OneRecord.{feeds_none}
 use Rattle.nfs_server.proofs.taking.take_piece.Goals as goal
 
@@ -13,7 +14,7 @@ loop-used-init g c =
       between = c.requires;
       limit = refl;
       setup = refl;
-      feeds = feeds_none _ c.args.origin c.args.server.now c.args.framer.now c.args.framer.now _ _ (covered_none c.args.room) [] c.requires moves;
+      feeds = feeds_none _ c.args.origin c.args.server.now c.args.framer.now c.args.framer.now _ _ (room_none c.args.room) [] c.requires moves;
     }
 
 pub loop-used-preserved : goal.loop-used-preserved
@@ -26,14 +27,18 @@ loop-used-preserved g c =
       limit = c.in-Ok.ensures.limit ∙ inv.limit;
       setup = c.in-Ok.ensures.setup ∙ inv.setup;
       feeds = steps_on c.args.origin c.args.piece.now c.args.room c.loop-used.left c.loop-used.used c.loop-used.records c.args.server.now c.loop-used.server c.args.framer.now c.loop-used.framer _ _ _ _ inv.feeds
-          c.take_record.new.server c.take_record.new.framer _ _ c.in-Ok.ensures.limit c.in-Ok.step c.room_after-left.result c.room_after-left.ensures c.in-Ok.ensures.feeds;
+          c.take_record.new.server c.take_record.new.framer _ _ c.in-Ok.ensures.limit (λ e. absurd (false≢true (c.if-not-is_used_up.ensures.1 e))) c.in-Ok.step c.room_after-left.result c.room_after-left.ensures c.in-Ok.ensures.feeds;
     }
 
 pub returns-in-Err-clause-feeds : goal.returns-in-Err-clause-feeds
 returns-in-Err-clause-feeds g c =
     stops_on c.args.origin c.args.piece.now c.args.room c.loop-used.left c.loop-used.used c.loop-used.records c.args.server.now c.loop-used.server c.args.framer.now c.loop-used.framer _ _ _ _ c.loop-used.invariant.feeds
-    c.take_record.new.server c.take_record.new.framer _ _ c.in-Err.ensures.limit c.in-Err.fault c.in-Err.ensures.feeds
+    c.take_record.new.server c.take_record.new.framer _ _ c.in-Err.ensures.limit (λ e. absurd (false≢true (c.if-not-is_used_up.ensures.1 e))) c.in-Err.fault c.in-Err.ensures.feeds
 
 pub returns-else-not-is_used_up-clause-feeds : goal.returns-else-not-is_used_up-clause-feeds
 returns-else-not-is_used_up-clause-feeds g c = ends_here c.args.origin c.args.piece.now c.args.room c.loop-used.left c.loop-used.used c.loop-used.records c.args.server.now c.loop-used.server c.args.framer.now c.loop-used.framer _ _ _ _ c.loop-used.invariant.feeds
+    (λ more. search rules)
+
+pub returns-after-loop-used-clause-feeds : goal.returns-after-loop-used-clause-feeds
+returns-after-loop-used-clause-feeds g c = ends_here c.args.origin c.args.piece.now c.args.room c.loop-used.left c.loop-used.used c.loop-used.records c.args.server.now c.loop-used.server c.args.framer.now c.loop-used.framer _ _ _ _ c.loop-used.invariant.feeds
     (λ more. search rules)

@@ -1,7 +1,7 @@
 use Rattle.std.proofs.Common.{◌≡◌, ◌-◌, ◌≤◌, length, take, Ok}
 use Rattle.nfs_server.specs.Connections.{IsBetween}
-use Rattle.nfs_server.specs.Feeding.{device, replies_of}
-use Rattle.nfs_server.specs.Taking.{FeedsWith, IsCovered}
+use Rattle.nfs_server.specs.Feeding.{device}
+use Rattle.nfs_server.specs.Taking.{FeedsWith, IsRoomLeft}
 use Rattle.nfs_server.proofs.taking.take_piece.Given as goal
 
 abbrev pub invariant-loop-used : goal.invariant-loop-used
@@ -11,7 +11,7 @@ invariant-loop-used g l = record {
   between : IsBetween l.framer;
   limit : l.framer.limit ≡ l.fn.framer.limit;
   setup : l.server.setup ≡ l.fn.server.setup;
-  feeds : FeedsWith (λ done. IsCovered l.fn.room l.left (length (replies_of done))) l.origin (take l.used l.piece) (Ok l.records) l.fn.server l.server l.fn.framer l.framer
+  feeds : FeedsWith (IsRoomLeft l.fn.room l.left) l.origin (take l.used l.piece) (Ok l.records) l.fn.server l.server l.fn.framer l.framer
       (device (g.A.ByteOut.contents l.fn.audit) (g.A.ByteOut.contents l.audit))
       (device (g.W.ByteOut.contents l.fn.replies) (g.W.ByteOut.contents l.replies));
 }

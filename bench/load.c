@@ -1,0 +1,208 @@
+/* Loads a server over TCP: load PORT WORK CLIENTS DEPTH CALLS [echo], where WORK is null, getattr,
+ * lookup, read4, read64, write64 or make. Each client has up to DEPTH calls under way. Each reply is
+ * looked at: its length, and that its number is that of the client's oldest call. It prints the
+ * microseconds a call, and the 99th of a hundred times of a call. With echo, the sizes alone are
+ * asked for. The description is bench/serve.tree: file 2 is a directory, 3 and 4 have 4 and 64 KiB. */
+#include <arpa/inet.h>
+#include <errno.h>
+#include <fcntl.h>
+#include <netinet/in.h>
+#include <netinet/tcp.h>
+#include <stdint.h>
+#include <stdio.h>
+#include <stdlib.h>
+#include <string.h>
+#include <sys/epoll.h>
+#include <sys/socket.h>
+#include <time.h>
+#include <unistd.h>
+
+enum { MOST = 1 << 17, TIMES = 1 << 20 };
+
+typedef struct {
+    int peer;
+    unsigned sent, got;        /* calls begun and replies come */
+    size_t out, in;            /* bytes of the call under way, and of the reply */
+    double *begun;             /* when each call under way began */
+    unsigned char head[8];
+} Client;
+
+static unsigned char call[MOST], room[MOST], other[MOST];
+static size_t call_size, reply_size, reply2_size, other_size;
+static double times[TIMES];
+static unsigned long measured;
+
+static double now(void) {
+    struct timespec t;
+    clock_gettime(CLOCK_MONOTONIC, &t);
+    return (double)t.tv_sec * 1e6 + (double)t.tv_nsec / 1e3;
+}
+
+static void fail(const char *what) {
+    fprintf(stderr, "load: %s\n", what);
+    exit(1);
+}
+
+static size_t words(unsigned char *to, size_t at, const uint32_t *from, size_t n) {
+    for (size_t i = 0; i < n; i++) {
+        uint32_t w = htonl(from[i]);
+        memcpy(to + at, &w, 4);
+        at += 4;
+    }
+    return at;
+}
+
+/* A call of a procedure on a file: its head, the caller's credential and the handle. */
+static size_t begin(unsigned char *to, uint32_t proc, uint32_t file) {
+    uint32_t head[] = {0, 0, 0, 2, 100003, 3, proc};
+    uint32_t credential[] = {1, 20, 0, 0, 9, 9, 0, 0, 0};
+    uint32_t handle[] = {24, 0x4e465333, 0x01020304, 0x05060708, 0, 0, file};
+    size_t at = words(to, 0, head, 7);
+    if (proc == 0) {
+        uint32_t none[] = {0, 0, 0, 0};
+        return words(to, at, none, 4);
+    }
+    return words(to, words(to, at, credential, 9), handle, 7);
+}
+
+static size_t finish(unsigned char *to, size_t at) {
+    uint32_t mark = htonl((uint32_t)(0x80000000u | (at - 4)));
+    memcpy(to, &mark, 4);
+    return at;
+}
+
+static void make_calls(const char *work) {
+    if (strcmp(work, "null") == 0) {
+        call_size = begin(call, 0, 0), reply_size = 28;
+    } else if (strcmp(work, "getattr") == 0) {
+        call_size = begin(call, 1, 3), reply_size = 28 + 4 + 84;
+    } else if (strcmp(work, "lookup") == 0) {
+        uint32_t name[] = {2, 0x66340000};
+        call_size = words(call, begin(call, 3, 2), name, 2), reply_size = 28 + 4 + 28 + 88 + 88;
+    } else if (strcmp(work, "read4") == 0) {
+        uint32_t range[] = {0, 0, 4096};
+        call_size = words(call, begin(call, 6, 3), range, 3), reply_size = 28 + 4 + 88 + 12 + 4096;
+    } else if (strcmp(work, "read64") == 0) {
+        uint32_t range[] = {0, 0, 65536};
+        call_size = words(call, begin(call, 6, 4), range, 3), reply_size = 28 + 4 + 88 + 12 + 65536;
+    } else if (strcmp(work, "write64") == 0) {
+        uint32_t range[] = {0, 0, 65536, 2, 65536};
+        call_size = words(call, begin(call, 7, 4), range, 5) + 65536, reply_size = 28 + 4 + 28 + 88 + 16;
+    } else if (strcmp(work, "make") == 0) {
+        uint32_t made[] = {4, 0, 1, 0, 0, 0, 0, 0, 0}, gone[] = {4, 0};
+        call_size = words(call, begin(call, 8, 2), made, 9), reply_size = 28 + 4 + 32 + 88 + 28 + 88;
+        other_size = words(other, begin(other, 12, 2), gone, 2), reply2_size = 28 + 4 + 28 + 88;
+        finish(other, other_size);
+    } else fail("no such work");
+    finish(call, call_size);
+}
+
+/* The k-th call of a client: its number, and with make the name, which is the client's own. */
+static void number(unsigned char *to, int client, unsigned k) {
+    uint32_t xid = htonl(((uint32_t)client << 20) ^ (k & 0xfffff));
+    memcpy(to + 4, &xid, 4);
+    if (other_size > 0) {
+        size_t at = 4 + 4 * (6 + 9 + 7) + 4;
+        uint32_t name = htonl(0x61616161u + (uint32_t)client % 16 + ((uint32_t)client / 16 % 16 << 8) + (k / 2 % 16 << 16));
+        memcpy(to + at, &name, 4);
+    }
+}
+
+/* Sends what is to be sent, as much as the socket takes; what is under way is begun anew by none. */
+static void send_calls(Client *c, int client, unsigned depth, unsigned calls) {
+    while (c->sent < calls && c->sent - c->got < depth) {
+        unsigned char *from = other_size > 0 && c->sent % 2 ? other : call;
+        size_t size = other_size > 0 && c->sent % 2 ? other_size : call_size;
+        unsigned n = 1;
+        if (c->out == 0) {
+            number(from, client, c->sent);
+            c->begun[c->sent % depth] = now();
+            /* Small calls go out together. */
+            if (size * 2 <= MOST && depth > 1 && other_size == 0) {
+                unsigned left = depth - (c->sent - c->got);
+                if (left > calls - c->sent) left = calls - c->sent;
+                for (; n < left && (n + 1) * size <= MOST; n++) {
+                    memcpy(room + n * size, call, size);
+                    number(room + n * size, client, c->sent + n);
+                    c->begun[(c->sent + n) % depth] = c->begun[c->sent % depth];
+                }
+                memcpy(room, call, size);
+                from = room;
+            }
+        } else number(from, client, c->sent);
+        ssize_t put = send(c->peer, from + c->out, n * size - c->out, MSG_NOSIGNAL);
+        if (put < 0 && errno == EAGAIN) return;
+        if (put <= 0) fail("it can't be sent");
+        c->out += (size_t)put;
+        while (c->out >= size) c->out -= size, c->sent++;
+        if (c->out > 0) return;
+    }
+}
+
+static void take(Client *c, int client, const unsigned char *bytes, size_t n, unsigned depth, int echo) {
+    while (n > 0) {
+        size_t whole = other_size > 0 && c->got % 2 ? reply2_size : reply_size;
+        size_t some = whole - c->in < n ? whole - c->in : n;
+        for (size_t i = c->in; i < 8 && i < c->in + some; i++) c->head[i] = bytes[i - c->in];
+        c->in += some, bytes += some, n -= some;
+        if (c->in < whole) return;
+        if (!echo) {
+            uint32_t mark, xid;
+            memcpy(&mark, c->head, 4);
+            memcpy(&xid, c->head + 4, 4);
+            if ((ntohl(mark) & 0x7fffffff) != whole - 4) fail("a reply of another length");
+            if (ntohl(xid) != (((uint32_t)client << 20) ^ (c->got & 0xfffff))) fail("a reply to another call");
+        }
+        if (measured < TIMES) times[measured++] = now() - c->begun[c->got % depth];
+        c->got++, c->in = 0;
+    }
+}
+
+static int by_size(const void *a, const void *b) {
+    double x = *(const double *)a, y = *(const double *)b;
+    return x < y ? -1 : x > y;
+}
+
+int main(int count, char **w) {
+    if (count < 6) fail("load PORT WORK CLIENTS DEPTH CALLS [echo]");
+    int clients = atoi(w[3]), echo = count > 6, poll = epoll_create1(0), left = clients;
+    unsigned depth = (unsigned)atoi(w[4]), calls = (unsigned)atoi(w[5]);
+    static unsigned char in[1 << 18];
+    struct sockaddr_in to = {.sin_family = AF_INET, .sin_port = htons((unsigned short)atoi(w[1]))};
+    Client *all = calloc((size_t)clients, sizeof *all);
+    make_calls(w[2]);
+    to.sin_addr.s_addr = htonl(INADDR_LOOPBACK);
+    for (int i = 0; i < clients; i++) {
+        int yes = 1;
+        struct epoll_event e = {.events = EPOLLIN | EPOLLOUT | EPOLLET, .data.u32 = (uint32_t)i};
+        all[i].begun = calloc(depth, sizeof(double));
+        all[i].peer = socket(AF_INET, SOCK_STREAM, 0);
+        if (connect(all[i].peer, (struct sockaddr *)&to, sizeof to) != 0) fail("no connection");
+        setsockopt(all[i].peer, IPPROTO_TCP, TCP_NODELAY, &yes, sizeof yes);
+        fcntl(all[i].peer, F_SETFL, O_NONBLOCK);
+        epoll_ctl(poll, EPOLL_CTL_ADD, all[i].peer, &e);
+    }
+    double began = now();
+    while (left > 0) {
+        struct epoll_event events[256];
+        int n = epoll_wait(poll, events, 256, 20000);
+        if (n <= 0) fail("nothing comes");
+        for (int i = 0; i < n; i++) {
+            int client = (int)events[i].data.u32;
+            Client *c = all + client;
+            if (c->got >= calls) continue;
+            send_calls(c, client, depth, calls);
+            for (ssize_t got; (got = recv(c->peer, in, sizeof in, 0)) != 0;) {
+                if (got < 0 && errno == EAGAIN) break;
+                if (got < 0) fail("it can't be read");
+                take(c, client, in, (size_t)got, depth, echo);
+                send_calls(c, client, depth, calls);
+            }
+            if (c->got >= calls) left--, close(c->peer);
+        }
+    }
+    double took = now() - began;
+    qsort(times, measured, sizeof *times, by_size);
+    printf("%.2f %.0f\n", took / ((double)clients * calls), times[measured * 99 / 100]);
+    return 0;
+}

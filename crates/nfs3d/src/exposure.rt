@@ -1,0 +1,32 @@
+//! Volumes that are open to everybody.
+use log::sink::Console;
+use log::{Level, Logged, warn};
+use nfs_exports::options::Squash;
+use nfs_exports::table::Export;
+use nfs_load::loaded::Loaded;
+use std::net::IpAddr;
+
+/// Warns of each volume in which whoever reaches the address is the superuser: it is exported to
+/// every address with `no_root_squash`, and the address isn't of this machine alone.
+pub(crate) fn warn_of_open_volumes<R: Eprint>(rt: &R, address: IpAddr, loaded: &Loaded) {
+    if address.is_loopback() {
+        return;
+    }
+    let logged = Logged::new(rt, Level::Warn, Console(rt));
+    for place in 0..loaded.tree.volumes() {
+        if is_open(loaded.table.patterns(place)) {
+            let number = place.saturating_add(1);
+            warn!(&logged; "volume {number} is exported to * with no_root_squash, and {address} is reached from other machines: anybody there is root in it");
+        }
+    }
+}
+
+// Whether a volume is exported to every address with `no_root_squash`.
+fn is_open(exports: &[Export]) -> bool {
+    for export in exports {
+        if export.pattern.bits == 0 && export.options.squash == Squash::No {
+            return true;
+        }
+    }
+    false
+}

@@ -1,0 +1,260 @@
+-- What a turn does, step by step.
+use Rattle.std.proofs.Common.{◌≡◌, ℕ, Bool, true, false, List, [], ◌∷◌, ◌++◌, take, drop, Option, Some, None, Result, Ok, Err, OnOk, OnErr, is_err, inl, inr, refl, sym, ap, subst, ◌∙◌, append_assoc, append-nil}
+use Rattle.std.proofs.lemmas.List.{take-append-drop}
+use Rattle.nfs_attrs.specs.declared.moment.Moment.{Moment}
+use Rattle.nfs_rpc.specs.Progress.{Progress}
+use Rattle.nfs_server.specs.Connections.{Joined}
+use Rattle.nfs_server.specs.Events.{Done}
+use Rattle.nfs_server.specs.Feeding.{Device, device, Ends, Feeds, replies_of, sealed}
+use Rattle.nfs_server.specs.Fits.{Held}
+use Rattle.nfs_server.specs.Taking.{FeedsSome, bytes_taken, count_taken}
+use Rattle.nfs_server.specs.declared.session_fault.SessionFault.{SessionFault}
+use Rattle.nfs_server.specs.declared.session_fault.SessionFault.TheVariants.{ConnectionTaken, UnknownConnection, Ended, TooLong, Memory, AuditFault, WriteFault}
+use Rattle.nfs_server.specs.declared.taking.Origin.{Origin}
+use Rattle.nfs_server.specs.declared.taking.Taken.{Taken}
+use Rattle.nfs_serving.specs.Outgoing.{Outgoing, Passes, with_owed}
+use Rattle.nfs_serving.specs.Turns.{Standing, Rests, Takes, Turns, origin_of, written}
+use Rattle.nfs_xdr.specs.Known.{Grows, Shrinks}
+use Rattle.nfs_xdr.proofs.Knowing.{Grows-then}
+
+none_some : {X : Type 0} {x : X} → None ≡ Some x → ⊥
+none_some e = cc
+
+some_same : {X : Type 0} {x y : X} → Some x ≡ Some y → x ≡ y
+some_same e = cc
+
+-- ---- what is known of bytes
+
+pub grows_none : (a : Option (List ℕ)) → Grows a [] a
+grows_none a before e = e ∙ ap Some (sym (append-nil before))
+
+shrinks_none : (a : Option (List ℕ)) → Shrinks a [] a
+shrinks_none a before e = (before, e, refl)
+
+shrinks_then : (a b c : Option (List ℕ)) (xs ys : List ℕ) → Shrinks a xs b → Shrinks b ys c → Shrinks a (xs ++ ys) c
+shrinks_then a b c xs ys first second before e =
+    let f = first before e in
+    let g = second f.0 f.1 in
+    (g.0, g.1, f.2 ∙ ap (λ t. xs ++ t) g.2 ∙ sym (append_assoc xs ys g.0))
+
+pub passes_none : (a : Option (List ℕ)) (owed : List ℕ) → Passes a owed a owed
+passes_none a owed = record { sent = []; owed_is = refl; grows = grows_none a }
+
+-- some first bytes were sent, and the others are left
+pub passes_some : (a b : Option (List ℕ)) (owed left bytes : List ℕ) (n : ℕ) → bytes ≡ owed → left ≡ drop n owed → Grows a (take n bytes) b → Passes a owed b left
+passes_some a b owed left bytes n same rest grows = record {
+  sent = take n owed;
+  owed_is = sym (take-append-drop n owed) ∙ ap (λ t. take n owed ++ t) (sym rest);
+  grows = subst (λ l. Grows a (take n l) b) same grows;
+}
+
+passes_on : (a b c : Option (List ℕ)) (x y z : List ℕ) → Passes a x b y → Passes b y c z → Passes a x c z
+passes_on a b c x y z f g = record {
+  sent = f.sent ++ g.sent;
+  owed_is = f.owed_is ∙ ap (λ t. f.sent ++ t) g.owed_is ∙ sym (append_assoc f.sent g.sent z);
+  grows = Grows-then a b c f.sent g.sent f.grows g.grows;
+}
+
+-- what is passed on was written before
+pub passes_keep : (a b : Option (List ℕ)) (x y : List ℕ) → Passes a x b y → Grows (with_owed a x) [] (with_owed b y)
+passes_keep None b x y p before e = absurd (none_some e)
+passes_keep (Some s) b x y p before e =
+    let sent : b ≡ Some (s ++ p.sent) = p.grows s refl in
+    let all : s ++ x ≡ (s ++ p.sent) ++ y = ap (λ t. s ++ t) p.owed_is ∙ sym (append_assoc s p.sent y) in
+    ap (λ o. with_owed o y) sent ∙ ap Some (sym all ∙ some_same e ∙ sym (append-nil before))
+
+-- what a batch was given is owed then
+gives_over : (a : Option (List ℕ)) (batch xs : List ℕ) → Grows (Some []) xs (Some batch) → Grows (with_owed a []) xs (with_owed a batch)
+gives_over None batch xs g before e = absurd (none_some e)
+gives_over (Some s) batch xs g before e =
+    let is : batch ≡ xs = some_same (g [] refl) in
+    ap (λ t. Some (s ++ t)) is ∙ ap (λ t. Some (t ++ xs)) (sym (append-nil s) ∙ some_same e)
+
+-- ---- a feed whose replies go elsewhere
+
+module _ (x y v w : Option (List ℕ)) (by : (xs : List ℕ) → Grows x xs y → Grows v xs w) (audit : Device) where
+  ends_by : (result : Result ℕ SessionFault) (done : List Done) (rest : List ℕ) (p : Progress) → Ends result done rest p audit (device x y) → Ends result done rest p audit (device v w)
+  ends_by (Ok n) done rest p e = (e.0, e.1, record { lines_are = e.2.lines_are; replies_are = by (replies_of done) e.2.replies_are })
+  ends_by (Err TooLong) done rest p e = (e.0, record { lines_are = e.1.lines_are; replies_are = by (replies_of done) e.1.replies_are })
+  ends_by (Err Memory) done rest p e = (e.0, record { lines_are = e.1.lines_are; replies_are = by (replies_of done) e.1.replies_are })
+  ends_by (Err AuditFault) [] rest p e = e
+  ends_by (Err AuditFault) (d ∷ earlier) rest p e = (e.0, by (replies_of earlier) e.1)
+  ends_by (Err WriteFault) [] rest p e = e
+  ends_by (Err WriteFault) (d ∷ earlier) rest p e = (record { n = e.0.n; within = e.0.within; wrote = by (replies_of earlier ++ take e.0.n (sealed d.answer.reply)) e.0.wrote }, e.1)
+  ends_by (Err ConnectionTaken) done rest p e = e
+  ends_by (Err UnknownConnection) done rest p e = e
+  ends_by (Err Ended) done rest p e = e
+
+  feeds_by : (origin : Origin) (piece : List ℕ) (result : Result ℕ SessionFault) (old new : Held) (from to : Progress) → Feeds origin piece result old new from to audit (device x y) → Feeds origin piece result old new from to audit (device v w)
+  feeds_by origin piece result old new from to f past fits text u =
+      let b = f past fits text u in
+      record { done = b.done; rest = b.rest; serves = b.serves; ends = ends_by result b.done b.rest to b.ends }
+
+-- ---- what a feed leaves
+
+abbrev pub left_of : Result Taken SessionFault → List ℕ → List ℕ
+left_of (Ok taken) piece = drop taken.used piece
+left_of (Err fault) piece = []
+
+all_there : (result : Result Taken SessionFault) (piece left : List ℕ) → left ≡ left_of result piece → piece ++ [] ≡ bytes_taken result piece ++ left
+all_there (Ok taken) piece left e = append-nil piece ∙ sym (take-append-drop taken.used piece) ∙ ap (λ t. take taken.used piece ++ t) (sym e)
+all_there (Err fault) piece left e = ap (λ t. piece ++ t) (sym e)
+
+ended_as : (result : Result Taken SessionFault) (ended : Bool) → OnOk result (ended ≡ false) → OnErr result (ended ≡ true) → ended ≡ is_err (count_taken result)
+ended_as (Ok taken) ended ok err = ok
+ended_as (Err fault) ended ok err = err
+
+-- ---- turns
+
+module _ {L : Type 0} (outgoing incoming : L → Option (List ℕ)) where
+  pub rests_none : (c : Standing L) → Rests outgoing incoming [] c c
+  rests_none c = record {
+    comes = shrinks_none (incoming c.outlet.link);
+    piece_is = sym (append-nil c.piece);
+    connection_stays = refl;
+    passes = passes_none (outgoing c.outlet.link) c.outlet.owed;
+  }
+
+  -- some bytes came
+  pub rests_came : (old new : Standing L) → old.piece ≡ [] → Shrinks (incoming old.outlet.link) new.piece (incoming new.outlet.link) → outgoing new.outlet.link ≡ outgoing old.outlet.link → new.outlet.owed ≡ old.outlet.owed → new.connection ≡ old.connection → Rests outgoing incoming new.piece old new
+  rests_came old new none comes out owed same = record {
+    comes = comes;
+    piece_is = ap (λ t. t ++ new.piece) (sym none);
+    connection_stays = same;
+    passes = subst (λ o. Passes (outgoing old.outlet.link) old.outlet.owed o new.outlet.owed) (sym out) (subst (λ l. Passes (outgoing old.outlet.link) old.outlet.owed (outgoing old.outlet.link) l) (sym owed) (passes_none (outgoing old.outlet.link) old.outlet.owed));
+  }
+
+  -- nothing came, and what was owed was passed on, or the link is broken
+  pub rests_by : {X F : Type 0} (r : Result X F) (old new : Standing L) → new.piece ≡ old.piece → new.connection ≡ old.connection → incoming new.outlet.link ≡ incoming old.outlet.link
+      → OnOk r (Passes (outgoing old.outlet.link) old.outlet.owed (outgoing new.outlet.link) new.outlet.owed)
+      → OnErr r (outgoing new.outlet.link ≡ outgoing old.outlet.link)
+      → OnErr r (new.outlet.owed ≡ old.outlet.owed)
+      → Rests outgoing incoming [] old new
+  rests_by (Ok x) old new piece same come passes out owed = record {
+    comes = subst (λ o. Shrinks (incoming old.outlet.link) [] o) (sym come) (shrinks_none (incoming old.outlet.link));
+    piece_is = piece ∙ sym (append-nil old.piece);
+    connection_stays = same;
+    passes = passes;
+  }
+  rests_by (Err fault) old new piece same come passes out owed = record {
+    comes = subst (λ o. Shrinks (incoming old.outlet.link) [] o) (sym come) (shrinks_none (incoming old.outlet.link));
+    piece_is = piece ∙ sym (append-nil old.piece);
+    connection_stays = same;
+    passes = subst (λ o. Passes (outgoing old.outlet.link) old.outlet.owed o new.outlet.owed) (sym out) (subst (λ l. Passes (outgoing old.outlet.link) old.outlet.owed (outgoing old.outlet.link) l) (sym owed) (passes_none (outgoing old.outlet.link) old.outlet.owed));
+  }
+
+  pub rests_on : (came more : List ℕ) (old mid new : Standing L) → Rests outgoing incoming came old mid → Rests outgoing incoming more mid new → Rests outgoing incoming (came ++ more) old new
+  rests_on came more old mid new f g = record {
+    comes = shrinks_then (incoming old.outlet.link) (incoming mid.outlet.link) (incoming new.outlet.link) came more f.comes g.comes;
+    piece_is = g.piece_is ∙ ap (λ t. t ++ more) f.piece_is ∙ append_assoc old.piece came more;
+    connection_stays = g.connection_stays ∙ f.connection_stays;
+    passes = passes_on (outgoing old.outlet.link) (outgoing mid.outlet.link) (outgoing new.outlet.link) old.outlet.owed mid.outlet.owed new.outlet.owed f.passes g.passes;
+  }
+
+  module _ (moment : Moment) (server served : Held) (audit : Device) where
+    pub rests_then_takes : (came more : List ℕ) (old mid new : Standing L) → Rests outgoing incoming came old mid → Takes outgoing incoming moment more mid new server served audit → Takes outgoing incoming moment (came ++ more) old new server served audit
+    rests_then_takes came more old mid new f g =
+        let o = outgoing old.outlet.link in
+        let m = outgoing mid.outlet.link in
+        let n = outgoing new.outlet.link in
+        let order : old.piece ++ (came ++ more) ≡ g.taken ++ new.piece = sym (append_assoc old.piece came more) ∙ ap (λ t. t ++ more) (sym f.piece_is) ∙ g.in_order in
+        let owed : f.passes.sent ++ (mid.outlet.owed ++ g.more) ≡ old.outlet.owed ++ g.more = sym (append_assoc f.passes.sent mid.outlet.owed g.more) ∙ ap (λ t. t ++ g.more) (sym f.passes.owed_is) in
+        let moved = feeds_by (written outgoing mid) (written outgoing new) (written outgoing old) (written outgoing new)
+        (λ xs grows. Grows-then (written outgoing old) (written outgoing mid) (written outgoing new) [] xs (passes_keep o m old.outlet.owed mid.outlet.owed f.passes) grows)
+        audit (origin_of mid moment) g.taken g.result server served mid.connection.progress new.connection.progress g.feeds in
+        record {
+          comes = shrinks_then (incoming old.outlet.link) (incoming mid.outlet.link) (incoming new.outlet.link) came more f.comes g.comes;
+          taken = g.taken;
+          in_order = order;
+          more = g.more;
+          settles = subst (λ t. Grows o t n) owed (Grows-then o m n f.passes.sent (mid.outlet.owed ++ g.more) f.passes.grows g.settles);
+          result = g.result;
+          alive = subst (λ (j : Joined). j.ended ≡ false) f.connection_stays g.alive;
+          ended_is = g.ended_is;
+          addr_stays = g.addr_stays ∙ ap (λ (j : Joined). j.addr) f.connection_stays;
+          limit_stays = g.limit_stays ∙ ap (λ (j : Joined). j.progress.limit) f.connection_stays;
+          feeds = subst (λ (j : Joined). Feeds (record { addr = j.addr; moment = moment }) g.taken g.result server served j.progress new.connection.progress audit (device (written outgoing old) (written outgoing new))) f.connection_stays moved;
+        }
+
+    pub takes_then_rests : (came : List ℕ) (old mid new : Standing L) → Takes outgoing incoming moment came old mid server served audit → Rests outgoing incoming [] mid new → Takes outgoing incoming moment came old new server served audit
+    takes_then_rests came old mid new f g =
+        let o = outgoing old.outlet.link in
+        let m = outgoing mid.outlet.link in
+        let n = outgoing new.outlet.link in
+        let piece : new.piece ≡ mid.piece = g.piece_is ∙ append-nil mid.piece in
+        let moved = feeds_by (written outgoing old) (written outgoing mid) (written outgoing old) (written outgoing new)
+        (λ xs grows. subst (λ t. Grows (written outgoing old) t (written outgoing new)) (append-nil xs)
+        (Grows-then (written outgoing old) (written outgoing mid) (written outgoing new) xs [] grows (passes_keep m n mid.outlet.owed new.outlet.owed g.passes)))
+        audit (origin_of old moment) f.taken f.result server served old.connection.progress mid.connection.progress f.feeds in
+        record {
+          comes = subst (λ t. Shrinks (incoming old.outlet.link) t (incoming new.outlet.link)) (append-nil came) (shrinks_then (incoming old.outlet.link) (incoming mid.outlet.link) (incoming new.outlet.link) came [] f.comes g.comes);
+          taken = f.taken;
+          in_order = f.in_order ∙ ap (λ t. f.taken ++ t) (sym piece);
+          more = f.more ++ g.passes.sent;
+          settles = subst (λ t. Grows o t n) (append_assoc old.outlet.owed f.more g.passes.sent) (Grows-then o m n (old.outlet.owed ++ f.more) g.passes.sent f.settles g.passes.grows);
+          result = f.result;
+          alive = f.alive;
+          ended_is = ap (λ (j : Joined). j.ended) g.connection_stays ∙ f.ended_is;
+          addr_stays = ap (λ (j : Joined). j.addr) g.connection_stays ∙ f.addr_stays;
+          limit_stays = ap (λ (j : Joined). j.progress.limit) g.connection_stays ∙ f.limit_stays;
+          feeds = subst (λ (j : Joined). Feeds (origin_of old moment) f.taken f.result server served old.connection.progress j.progress audit (device (written outgoing old) (written outgoing new))) (sym g.connection_stays) moved;
+        }
+
+    pub takes_fed : (old new : Standing L) (result : Result Taken SessionFault) (room : Option ℕ) (piece first batch : List ℕ)
+        → old.connection.ended ≡ false
+        → OnOk result (new.connection.ended ≡ false)
+        → OnErr result (new.connection.ended ≡ true)
+        → new.connection.addr ≡ old.connection.addr
+        → new.connection.progress.limit ≡ old.connection.progress.limit
+        → old.outlet.owed ≡ []
+        → new.outlet.owed ≡ batch
+        → new.outlet.link ≡ old.outlet.link
+        → new.piece ≡ left_of result old.piece
+        → piece ≡ old.piece
+        → first ≡ []
+        → FeedsSome (origin_of old moment) piece room result server served old.connection.progress new.connection.progress audit (device (Some first) (Some batch))
+        → Takes outgoing incoming moment [] old new server served audit
+    takes_fed old new result room piece first batch alive ok err addr limit none owed link left whole empty feeds =
+        let same : incoming new.outlet.link ≡ incoming old.outlet.link = ap incoming link in
+        let out : outgoing new.outlet.link ≡ outgoing old.outlet.link = ap outgoing link in
+        let before : with_owed (outgoing old.outlet.link) [] ≡ written outgoing old = ap (with_owed (outgoing old.outlet.link)) (sym none) in
+        let after : with_owed (outgoing old.outlet.link) batch ≡ written outgoing new = ap (λ o. with_owed o batch) (sym out) ∙ ap (with_owed (outgoing new.outlet.link)) (sym owed) in
+        let emptied = subst (λ b. FeedsSome (origin_of old moment) piece room result server served old.connection.progress new.connection.progress audit (device (Some b) (Some batch))) empty feeds in
+        let fed = subst (λ p. FeedsSome (origin_of old moment) p room result server served old.connection.progress new.connection.progress audit (device (Some []) (Some batch))) whole emptied in
+        let plain : Feeds (origin_of old moment) (bytes_taken result old.piece) (count_taken result) server served old.connection.progress new.connection.progress audit (device (Some []) (Some batch)) = λ past fits text u. (fed past fits text u).0 in
+        let moved = feeds_by (Some []) (Some batch) (with_owed (outgoing old.outlet.link) []) (with_owed (outgoing old.outlet.link) batch) (gives_over (outgoing old.outlet.link) batch)
+        audit (origin_of old moment) (bytes_taken result old.piece) (count_taken result) server served old.connection.progress new.connection.progress plain in
+        let first = subst (λ o. Feeds (origin_of old moment) (bytes_taken result old.piece) (count_taken result) server served old.connection.progress new.connection.progress audit (device o (with_owed (outgoing old.outlet.link) batch))) before moved in
+        let nothing_sent : Grows (outgoing old.outlet.link) [] (outgoing new.outlet.link) = subst (λ o. Grows (outgoing old.outlet.link) [] o) (sym out) (grows_none (outgoing old.outlet.link)) in
+        record {
+          comes = subst (λ o. Shrinks (incoming old.outlet.link) [] o) (sym same) (shrinks_none (incoming old.outlet.link));
+          taken = bytes_taken result old.piece;
+          in_order = all_there result old.piece new.piece left;
+          more = [];
+          settles = subst (λ t. Grows (outgoing old.outlet.link) t (outgoing new.outlet.link)) (sym (append-nil old.outlet.owed ∙ none)) nothing_sent;
+          result = count_taken result;
+          alive = alive;
+          ended_is = ended_as result new.connection.ended ok err;
+          addr_stays = addr;
+          limit_stays = limit;
+          feeds = subst (λ o. Feeds (origin_of old moment) (bytes_taken result old.piece) (count_taken result) server served old.connection.progress new.connection.progress audit (device (written outgoing old) o)) after first;
+        }
+
+    -- ---- a turn
+
+    pub rests_then_turns : (old mid new : Standing L) → Rests outgoing incoming [] old mid → Turns outgoing incoming moment mid new server served audit → Turns outgoing incoming moment old new server served audit
+    rests_then_turns old mid new rests (came, inl r) = (came, inl (rests_on [] came old mid new rests r.0, r.1, r.2))
+    rests_then_turns old mid new rests (came, inr takes) = (came, inr (rests_then_takes [] came old mid new rests takes))
+
+    pub came_then_takes : (old mid new : Standing L) → (came : List ℕ) × Rests outgoing incoming came old mid → Takes outgoing incoming moment [] mid new server served audit → Turns outgoing incoming moment old new server served audit
+    came_then_takes old mid new rests takes = (rests.0, inr (subst (λ came. Takes outgoing incoming moment came old new server served audit) (append-nil rests.0) (rests_then_takes rests.0 [] old mid new rests.1 takes)))
+
+    pub came_alone : (old new : Standing L) → (came : List ℕ) × Rests outgoing incoming came old new → served ≡ server → audit.after ≡ audit.before → Turns outgoing incoming moment old new server served audit
+    came_alone old new rests same quiet = (rests.0, inl (rests.1, same, quiet))
+
+    -- what a turn that takes bytes leaves, but for how it ends
+    pub takes_as : (old mid new : Standing L) → new.connection ≡ mid.connection → new.outlet ≡ mid.outlet → new.piece ≡ mid.piece → Takes outgoing incoming moment [] old mid server served audit → Takes outgoing incoming moment [] old new server served audit
+    takes_as old mid new same out piece takes =
+        let whole : Result (Unit {0}) SessionFault = Ok tt in
+        takes_then_rests [] old mid new takes (rests_by whole mid new piece same (ap (λ (o : Outgoing L). incoming o.link) out)
+        (subst (λ (o : Outgoing L). Passes (outgoing mid.outlet.link) mid.outlet.owed (outgoing o.link) o.owed) (sym out) (passes_none (outgoing mid.outlet.link) mid.outlet.owed)) tt tt)

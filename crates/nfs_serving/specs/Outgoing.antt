@@ -1,0 +1,32 @@
+-- What goes out on a link, and what comes in.
+use Rattle.std.specs.Prelude.{◌≡◌, ◌≢◌, ℕ, Bool, List, [], ◌++◌, Option, option_map}
+use Rattle.nfs_xdr.specs.declared.link.Came.{Came}
+use Rattle.nfs_xdr.specs.declared.link.Came.TheVariants.{Bytes, Nothing, End}
+use Rattle.nfs_xdr.specs.Known.{Grows, Shrinks, IsAtEnd}
+
+-- a link with what is owed on it, the replies that it has not taken yet, and whether it is broken
+pub record Outgoing (L : Type 0) : Type 0 where
+  pub link : L
+  pub owed : List ℕ
+  pub failed : Bool
+
+-- what was written to a batch, and whether that failed
+pub record Gathered : Type 0 where
+  pub bytes : List ℕ
+  pub failed : Bool
+
+-- what was sent, where that is known, and what is owed behind it
+abbrev pub with_owed : Option (List ℕ) → List ℕ → Option (List ℕ)
+with_owed sent owed = option_map (λ bytes. bytes ++ owed) sent
+
+-- some first bytes of those that are owed were sent, and the others are left
+pub record Passes (before : Option (List ℕ)) (owed : List ℕ) (after : Option (List ℕ)) (left : List ℕ) : Type 0 where
+  pub sent : List ℕ
+  pub owed_is : owed ≡ sent ++ left
+  pub grows : Grows before sent after
+
+-- what has come, and the bytes that it brought
+abbrev pub Brings : Option (List ℕ) → Came → List ℕ → Option (List ℕ) → Type 0
+Brings before (Bytes n) piece after = (piece ≢ []) × Shrinks before piece after
+Brings before Nothing piece after = (piece ≡ []) × (after ≡ before)
+Brings before End piece after = (piece ≡ []) × (after ≡ before) × IsAtEnd after

@@ -1,0 +1,63 @@
+-- The turns of a client.
+use Rattle.std.specs.Prelude.{◌≡◌, ◌≢◌, ◌⊎◌, ℕ, true, false, List, [], ◌++◌, Option, Some, Result, is_err}
+use Rattle.nfs_attrs.specs.declared.moment.Moment.{Moment}
+use Rattle.nfs_server.specs.Connections.{Joined}
+use Rattle.nfs_server.specs.Feeding.{Device, device, Feeds}
+use Rattle.nfs_server.specs.Fits.{Held}
+use Rattle.nfs_server.specs.declared.session_fault.SessionFault.{SessionFault}
+use Rattle.nfs_server.specs.declared.taking.Origin.{Origin}
+use Rattle.nfs_serving.specs.Outgoing.{Outgoing, Passes, with_owed}
+use Rattle.nfs_serving.specs.declared.turn.End.{End}
+use Rattle.nfs_serving.specs.declared.turn.Turn.{Turn}
+use Rattle.nfs_serving.specs.declared.turn.Turn.TheVariants as turn
+use Rattle.nfs_xdr.specs.Known.{Grows, Shrinks}
+
+-- a client: its connection, the way out, what has come and is not taken, and how it ended, if it did
+pub record Standing (L : Type 0) : Type 0 where
+  pub connection : Joined
+  pub outlet : Outgoing L
+  pub piece : List ℕ
+  pub end : Option End
+
+-- all that was written for a client: what was sent, where that is known, and what is owed
+abbrev pub written : {L : Type 0} → (L → Option (List ℕ)) → Standing L → Option (List ℕ)
+written outgoing c = with_owed (outgoing c.outlet.link) c.outlet.owed
+
+abbrev pub origin_of : {L : Type 0} → Standing L → Moment → Origin
+origin_of c moment = record { addr = c.connection.addr; moment = moment }
+
+-- These bytes came, and none was taken. Some first bytes of what was owed were sent.
+pub record Rests {L : Type 0} (outgoing incoming : L → Option (List ℕ)) (came : List ℕ) (old new : Standing L) : Type 0 where
+  pub comes : Shrinks (incoming old.outlet.link) came (incoming new.outlet.link)
+  pub piece_is : new.piece ≡ old.piece ++ came
+  pub connection_stays : new.connection ≡ old.connection
+  pub passes : Passes (outgoing old.outlet.link) old.outlet.owed (outgoing new.outlet.link) new.outlet.owed
+
+-- These bytes came, and some were taken, in their order. That happens only behind all that was owed. What the records that they make whole are answered was sent or is owed.
+pub record Takes {L : Type 0} (outgoing incoming : L → Option (List ℕ)) (moment : Moment) (came : List ℕ) (old new : Standing L) (server served : Held) (audit : Device) : Type 0 where
+  pub comes : Shrinks (incoming old.outlet.link) came (incoming new.outlet.link)
+  pub taken : List ℕ
+  pub in_order : old.piece ++ came ≡ taken ++ new.piece
+  pub more : List ℕ
+  pub settles : Grows (outgoing old.outlet.link) (old.outlet.owed ++ more) (outgoing new.outlet.link)
+  pub result : Result ℕ SessionFault
+  pub alive : old.connection.ended ≡ false
+  pub ended_is : new.connection.ended ≡ is_err result
+  pub addr_stays : new.connection.addr ≡ old.connection.addr
+  pub limit_stays : new.connection.progress.limit ≡ old.connection.progress.limit
+  pub feeds : Feeds (origin_of old moment) taken result server served old.connection.progress new.connection.progress audit (device (written outgoing old) (written outgoing new))
+
+-- a turn in which these bytes came; one that takes nothing leaves the server and writes no line
+abbrev pub TurnsBy : {L : Type 0} → (L → Option (List ℕ)) → (L → Option (List ℕ)) → Moment → List ℕ → Standing L → Standing L → Held → Held → Device → Type 0
+TurnsBy outgoing incoming moment came old new server served audit = (Rests outgoing incoming came old new × (served ≡ server) × (audit.after ≡ audit.before)) ⊎ Takes outgoing incoming moment came old new server served audit
+
+abbrev pub Turns : {L : Type 0} → (L → Option (List ℕ)) → (L → Option (List ℕ)) → Moment → Standing L → Standing L → Held → Held → Device → Type 0
+Turns outgoing incoming moment old new server served audit = (came : List ℕ) × TurnsBy outgoing incoming moment came old new server served audit
+
+-- what a turn says of the client behind it
+abbrev pub Tells : {L : Type 0} → Turn → Standing L → Type 0
+Tells turn.Fed new = new.outlet.owed ≡ []
+Tells turn.Drained new = (new.outlet.owed ≡ []) × (new.piece ≡ [])
+Tells turn.Idle new = (new.outlet.owed ≡ []) × (new.piece ≡ [])
+Tells turn.Owing new = new.outlet.owed ≢ []
+Tells (turn.Ended end) new = (new.end ≡ Some end) × ((new.outlet.owed ≡ []) ⊎ (new.outlet.failed ≡ true))

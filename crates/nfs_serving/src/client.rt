@@ -1,0 +1,283 @@
+//! A client of a server.
+ghost use Rattle.std.specs.Prelude.{◌≡◌, ◌≢◌, ◌↔◌, Bool, ℕ, List, [], None, Some, true, false, IsTrue, IsNone, IfSome, OnErr};
+ghost use Rattle.nfs_server.specs.Connections.{IsAtStart};
+ghost use Rattle.nfs_server.specs.Feeding.{device, EndsWith};
+ghost use Rattle.nfs_serving.specs.Turns.{Rests, Takes, Tells, Turns};
+
+use crate::outlet::Outlet;
+use crate::room::Room;
+use crate::turn::{End, Turn};
+use crate::window::Window;
+use nfs_attrs::moment::Moment;
+use nfs_exports::addr::Addr;
+use nfs_server::connection::Connection;
+use nfs_server::serve_fault::ServeFault;
+use nfs_server::server::Server;
+use nfs_server::session_fault::SessionFault;
+use nfs_xdr::device::{ByteOut, DeviceFault};
+use nfs_xdr::link::{Came, Link};
+use std::alloc::Global;
+use std::marker::Model;
+
+// Behind the reply with which so many bytes are owed, no more is taken.
+const MOST_OWED: usize = 262_144;
+
+/// A connection over a link: what has come and is not taken yet, and what is owed.
+#[derive(Drop)]
+pub struct Client<L> {
+    connection: Connection,
+    outlet: Outlet<L>,
+    piece: Window,
+    end: Option<End>,
+    calls: u64,
+}
+
+impl<L> Model for Client<L> {
+    ghost use Rattle.std.specs.Prelude.{◌≡◌, None, false};
+    ghost use Rattle.nfs_serving.specs.Turns.{Standing};
+
+    ghost Value = { Standing L };
+
+    ghost view = { λ c. record { connection = c.connection; outlet = c.outlet; piece = c.piece; end = c.end } };
+
+    ghost invariant = { λ c. c.end ≡ None → c.connection.ended ≡ false };
+}
+
+impl<L: Link> Client<L> {
+    /// A client at an address, at the beginning of its stream. Until something comes, it takes no
+    /// memory but its own.
+    pub fn new(alloc: Global, addr: Addr, link: L) -> Client<L>
+        ensures start { IsAtStart addr result.connection }
+        ensures outlet { result.outlet ≡ record { link = link; owed = []; failed = false } }
+        ensures piece { result.piece ≡ [] }
+        ensures end { result.end ≡ None }
+    {
+        Client {
+            connection: Connection::new(alloc, addr),
+            outlet: Outlet::new(alloc, link),
+            piece: Window::new(alloc),
+            end: None,
+            calls: 0,
+        }
+    }
+
+    /// The link.
+    pub fn link(&self) -> &L
+        ensures { result.now ≡ self.now.outlet.link }
+    {
+        self.outlet.link()
+    }
+
+    /// How many records were answered without a fault.
+    pub fn calls(&self) -> u64 {
+        self.calls
+    }
+
+    /// Whether replies are owed.
+    pub fn owes(&self) -> bool
+        ensures { IsTrue result ↔ (self.now.outlet.owed ≢ []) }
+    {
+        !self.outlet.is_settled()
+    }
+
+    /// Gives the client its turn: what is owed goes out first, as much as the link takes. Only where
+    /// nothing is owed any more, some bytes that have come are taken, each record that they make
+    /// whole is answered, its audit line, where it is denied, written before the next is looked at,
+    /// and the replies go out together, as much as the link takes.
+    ///
+    /// A fault of a record, of the audit lines or of memory ends the connection behind the replies
+    /// to the records before it; a fault of the link ends it at once.
+    pub fn turn<A: ByteOut>(
+        &mut self,
+        server: &mut Server,
+        room: &mut Room,
+        moment: Moment,
+        audit: &mut A,
+    ) -> Turn
+        ensures turns { Turns L.outgoing L.incoming moment self.old self.new server.old server.new
+            (device (A.contents audit.old) (A.contents audit.new)) }
+        ensures tells { Tells result self.new }
+        ensures setup { server.new.setup ≡ server.old.setup }
+    {
+        if self.pass_on().is_err() {
+            return self.ends(End::Fault(ServeFault::WriteFault));
+        }
+        if !self.outlet.is_settled() {
+            return Turn::Owing;
+        }
+        if let Some(end) = self.end {
+            return Turn::Ended(end);
+        }
+        self.take(server, room, moment, audit)
+    }
+
+    // Sends what is owed, as much of it as the link takes.
+    fn pass_on(&mut self) -> Result<(), DeviceFault>
+        ensures rests { Rests L.outgoing L.incoming [] self.old self.new }
+        ensures end { self.new.end ≡ self.old.end }
+        ensures fault { OnErr result (self.new.outlet.failed ≡ true) }
+    {
+        self.outlet.pass_on()
+    }
+
+    // Takes some bytes that have come, where nothing is owed.
+    fn take<A: ByteOut>(
+        &mut self,
+        server: &mut Server,
+        room: &mut Room,
+        moment: Moment,
+        audit: &mut A,
+    ) -> Turn
+        requires owed { self.old.outlet.owed ≡ [] }
+        requires alive { self.old.end ≡ None }
+        ensures turns { Turns L.outgoing L.incoming moment self.old self.new server.old server.new
+            (device (A.contents audit.old) (A.contents audit.new)) }
+        ensures tells { Tells result self.new }
+        ensures setup { server.new.setup ≡ server.old.setup }
+    {
+        let turn = self.take_some(server, room, moment, audit);
+        self.piece.give_back(&mut room.bytes);
+        turn
+    }
+
+    // The same, and keeps the room.
+    fn take_some<A: ByteOut>(
+        &mut self,
+        server: &mut Server,
+        room: &mut Room,
+        moment: Moment,
+        audit: &mut A,
+    ) -> Turn
+        requires owed { self.old.outlet.owed ≡ [] }
+        requires alive { self.old.end ≡ None }
+        ensures turns { Turns L.outgoing L.incoming moment self.old self.new server.old server.new
+            (device (A.contents audit.old) (A.contents audit.new)) }
+        ensures tells { Tells result self.new }
+        ensures setup { server.new.setup ≡ server.old.setup }
+    {
+        if self.piece.is_empty() {
+            if let Some(turn) = self.receive(&mut room.bytes) {
+                return turn;
+            }
+            return self.feed(server, room, moment, audit);
+        }
+        self.feed(server, room, moment, audit)
+    }
+
+    // Receives what has come, in place of what was taken. Answers what becomes of the turn where
+    // nothing has.
+    fn receive(&mut self, room: &mut Vec<u8>) -> Option<Turn>
+        requires piece { self.old.piece ≡ [] }
+        requires owed { self.old.outlet.owed ≡ [] }
+        requires alive { self.old.end ≡ None }
+        ensures rests { (came : List ℕ) × Rests L.outgoing L.incoming came self.old self.new }
+        ensures goes_on { IsNone result → self.new.end ≡ None }
+        ensures owed { self.new.outlet.owed ≡ [] }
+        ensures tells { IfSome result (λ turn. Tells turn self.new) }
+    {
+        if self.piece.borrow_room(room).is_err() {
+            return Some(self.ends(End::Fault(ServeFault::Memory)));
+        }
+        match self.outlet.receive(&mut self.piece) {
+            Ok(Came::Bytes(_)) => None,
+            Ok(Came::Nothing) => Some(Turn::Idle),
+            Ok(Came::End) => Some(self.ends(End::Closed)),
+            Err(_) => Some(self.ends(End::Fault(ServeFault::ReadFault))),
+        }
+    }
+
+    // Feeds the connection with what has come, and sends the replies.
+    fn feed<A: ByteOut>(
+        &mut self,
+        server: &mut Server,
+        room: &mut Room,
+        moment: Moment,
+        audit: &mut A,
+    ) -> Turn
+        requires owed { self.old.outlet.owed ≡ [] }
+        requires alive { self.old.end ≡ None }
+        ensures takes { Takes L.outgoing L.incoming moment [] self.old self.new server.old server.new
+            (device (A.contents audit.old) (A.contents audit.new)) }
+        ensures tells { Tells result self.new }
+        ensures setup { server.new.setup ≡ server.old.setup }
+    {
+        let is_full = self.piece.is_full();
+        self.answer(server, room, moment, audit);
+        let is_whole = self.pass_on().is_ok();
+        self.outlet.give_back(&mut room.batch);
+        self.outcome(is_whole, is_full)
+    }
+
+    // What became of a turn behind which the link is whole or broken, and which took bytes of which
+    // there may be more.
+    fn outcome(&mut self, is_whole: bool, is_full: bool) -> Turn
+        requires { is_whole ≡ false → self.old.outlet.failed ≡ true }
+        ensures connection { self.new.connection ≡ self.old.connection }
+        ensures outlet { self.new.outlet ≡ self.old.outlet }
+        ensures piece { self.new.piece ≡ self.old.piece }
+        ensures tells { Tells result self.new }
+    {
+        if !is_whole {
+            return self.ends(End::Fault(ServeFault::WriteFault));
+        }
+        if !self.outlet.is_settled() {
+            return Turn::Owing;
+        }
+        match self.end {
+            Some(end) => Turn::Ended(end),
+            None if self.piece.is_empty() && !is_full => Turn::Drained,
+            None => Turn::Fed,
+        }
+    }
+
+    // Feeds the connection with what has come. The replies are owed then.
+    fn answer<A: ByteOut>(
+        &mut self,
+        server: &mut Server,
+        room: &mut Room,
+        moment: Moment,
+        audit: &mut A,
+    )
+        requires owed { self.old.outlet.owed ≡ [] }
+        requires alive { self.old.end ≡ None }
+        ensures takes { Takes L.outgoing L.incoming moment [] self.old self.new server.old server.new
+            (device (A.contents audit.old) (A.contents audit.new)) }
+        ensures setup { server.new.setup ≡ server.old.setup }
+    {
+        let (reply, batch) = (&mut room.reply, &mut room.batch);
+        batch.clear();
+        let piece = self.piece.bytes();
+        let fed = self.connection.feed(server, reply, moment, piece, Some(MOST_OWED), batch, audit);
+        self.outlet.take_over(batch);
+        match fed {
+            Ok(taken) => {
+                self.piece.take(taken.used);
+                self.calls = self.calls.saturating_add(taken.records);
+            }
+            Err(fault) => {
+                self.piece.clear();
+                self.end = Some(End::Fault(fault_of(fault)));
+            }
+        }
+    }
+
+    // The connection ends so.
+    fn ends(&mut self, end: End) -> Turn
+        ensures turn { result ≡ Turn.Ended end }
+        ensures end { self.new.end ≡ Some end }
+        ensures same { (self.new.connection ≡ self.old.connection) × (self.new.outlet ≡ self.old.outlet) × (self.new.piece ≡ self.old.piece) }
+    {
+        self.end = Some(end);
+        Turn::Ended(end)
+    }
+}
+
+// The fault that a connection ends with. A batch fails where there is no memory.
+fn fault_of(fault: SessionFault) -> ServeFault
+    requires { (audit_failed : Bool) × (replies_failed : Bool) × EndsWith audit_failed replies_failed fault }
+{
+    match ServeFault::of_session(fault) {
+        ServeFault::WriteFault => ServeFault::Memory,
+        fault => fault,
+    }
+}

@@ -1,0 +1,129 @@
+//! Bytes in a list, of which the first may be gone already.
+ghost use Rattle.std.specs.Prelude.{◌≡◌, ◌≤◌, ◌↔◌, [], drop, length, IsTrue, IfOk, OnErr, true};
+ghost use Rattle.nfs_serving.specs.Outgoing.{Brings};
+
+use nfs_xdr::device::DeviceFault;
+use nfs_xdr::link::{Came, Link};
+use std::alloc::{AllocError, Global};
+use std::marker::Model;
+use std::mem;
+
+/// The most bytes that are received at once.
+pub const MOST_RECEIVED: usize = 65_536;
+
+/// Some of a list's bytes: those that have come on a link and are not taken yet, or those that are
+/// owed on it.
+#[derive(Drop)]
+pub struct Window {
+    bytes: Vec<u8>,
+    from: usize,
+    to: usize,
+}
+
+impl Model for Window {
+    ghost use Rattle.std.specs.Prelude.{◌-◌, ◌≤◌, ℕ, List, take, drop, vec_len};
+
+    ghost Value = { List ℕ };
+
+    ghost view = { λ w. take (w.to - w.from) (drop w.from w.bytes.items) };
+
+    ghost invariant = { λ w. (w.from ≤ w.to) × (w.to ≤ vec_len w.bytes) };
+}
+
+impl Window {
+    /// No bytes, and no memory.
+    pub fn new(alloc: Global) -> Window
+        ensures { result ≡ [] }
+    {
+        Window {
+            bytes: Vec::new(alloc),
+            from: 0,
+            to: 0,
+        }
+    }
+
+    /// The bytes.
+    pub fn bytes(&self) -> &[u8]
+        ensures { result.now ≡ self.now }
+    {
+        &self.bytes[self.from..self.to]
+    }
+
+    /// Whether there are none.
+    pub fn is_empty(&self) -> bool
+        ensures { IsTrue result ↔ (self.now ≡ []) }
+    {
+        self.from == self.to
+    }
+
+    /// Whether it had as many bytes as are received at once, so that more may have come.
+    pub fn is_full(&self) -> bool {
+        self.to == MOST_RECEIVED
+    }
+
+    /// Takes some first bytes away.
+    pub fn take(&mut self, n: usize)
+        requires { n ≤ length self.old }
+        ensures { self.new ≡ drop n self.old }
+    {
+        self.from += n;
+    }
+
+    /// Takes all bytes away.
+    pub fn clear(&mut self)
+        ensures { self.new ≡ [] }
+    {
+        self.from = 0;
+        self.to = 0;
+    }
+
+    /// Has this room from now on, for what is received at once. Refused where there is no memory.
+    pub fn borrow_room(&mut self, room: &mut Vec<u8>) -> Result<(), AllocError>
+        ensures { self.new ≡ [] }
+    {
+        self.from = 0;
+        self.to = 0;
+        mem::swap(&mut self.bytes, room);
+        if self.bytes.len() < MOST_RECEIVED {
+            self.bytes.resize(MOST_RECEIVED, 0)?;
+        }
+        Ok(())
+    }
+
+    /// Holds these bytes, in the room where they stand, and leaves its own room for them.
+    pub fn hold(&mut self, bytes: &mut Vec<u8>)
+        ensures { self.new ≡ bytes.old.items }
+    {
+        mem::swap(&mut self.bytes, bytes);
+        self.from = 0;
+        self.to = self.bytes.len();
+    }
+
+    /// Gives the room back, where there are no bytes.
+    pub fn give_back(&mut self, room: &mut Vec<u8>)
+        ensures { self.new ≡ self.old }
+    {
+        if self.from == self.to {
+            self.from = 0;
+            self.to = 0;
+            mem::swap(&mut self.bytes, room);
+        }
+    }
+
+    /// Receives what has come on a link, as much as there is room for, in place of what it has.
+    pub fn receive<L: Link>(&mut self, link: &mut L) -> Result<Came, DeviceFault>
+        ensures came { IfOk result (λ came. Brings (L.incoming link.old) came self.new (L.incoming link.new)) }
+        ensures outgoing { L.outgoing link.new ≡ L.outgoing link.old }
+        ensures fault { OnErr result ((L.failed link.new ≡ true) × (L.incoming link.new ≡ L.incoming link.old) × (self.new ≡ [])) }
+    {
+        self.from = 0;
+        self.to = 0;
+        match link.receive(self.bytes.as_mut_slice()) {
+            Ok(Came::Bytes(n)) => {
+                self.to = n;
+                Ok(Came::Bytes(n))
+            }
+            none => none,
+        }
+    }
+}
