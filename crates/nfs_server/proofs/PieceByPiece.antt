@@ -46,7 +46,7 @@ none_some e = cc
 
 none_over : (room n : ℕ) → Some (room - n) ≡ Some 0 → room ≤ n
 none_over room n e =
-    let none : room - n ≡ 0 = ap (λ o. elim o [ | None ↦ 0 | Some k ↦ k ]) e in
+    let none : room - n ≡ 0 = ap (λ o. elim o [ None ↦ 0 | Some k ↦ k ]) e in
     omega (arith, none)
 
 full : (room left : Option ℕ) (done : List Done) → left ≡ Some 0 → IsRoomLeft room left done → AreFull room (replies_of done)

@@ -40,9 +40,8 @@ impl ServeFault {
             SessionFault::Memory => ServeFault::Memory,
             SessionFault::AuditFault => ServeFault::AuditFault,
             SessionFault::WriteFault => ServeFault::WriteFault,
-            SessionFault::ConnectionTaken
-            | SessionFault::UnknownConnection
-            | SessionFault::Ended => unreachable!(),
+            SessionFault::ConnectionTaken | SessionFault::UnknownConnection | SessionFault::Ended =>
+                unreachable!(),
         }
     }
 }
