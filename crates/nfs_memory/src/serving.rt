@@ -63,7 +63,9 @@ enum Failing {
 
 impl Failing {
     // The call at which a device fails, where this one fails at its `k`-th.
-    fn call(self, device: Failing, k: u32) -> u64 {
+    fn call(self, device: Failing, k: u32) -> u64
+        ensures { 0 < result }
+    {
         if self == device {
             u64::from(k).max(1)
         } else {
