@@ -159,9 +159,11 @@ impl<L: Link> Client<L> {
             if let Some(turn) = self.receive(&mut room.bytes) {
                 return turn;
             }
-            return self.feed(server, room, moment, audit);
+            let may_be_more = self.piece.is_full();
+            return self.feed(server, room, moment, audit, may_be_more);
         }
-        self.feed(server, room, moment, audit)
+        // What came since these bytes were received may have been told of already.
+        self.feed(server, room, moment, audit, true)
     }
 
     // Receives what has come, in place of what was taken. Answers what becomes of the turn where
@@ -186,13 +188,15 @@ impl<L: Link> Client<L> {
         }
     }
 
-    // Feeds the connection with what has come, and sends the replies.
+    // Feeds the connection with what has come, and sends the replies. There may be more to receive
+    // behind it, of which nothing will be told.
     fn feed<A: ByteOut>(
         &mut self,
         server: &mut Server,
         room: &mut Room,
         moment: Moment,
         audit: &mut A,
+        may_be_more: bool,
     ) -> Turn
         requires owed { self.old.outlet.owed ≡ [] }
         requires alive { self.old.end ≡ None }
@@ -201,16 +205,15 @@ impl<L: Link> Client<L> {
         ensures tells { Tells result self.new }
         ensures setup { server.new.setup ≡ server.old.setup }
     {
-        let is_full = self.piece.is_full();
         self.answer(server, room, moment, audit);
         let is_whole = self.pass_on().is_ok();
         self.outlet.give_back(&mut room.batch);
-        self.outcome(is_whole, is_full)
+        self.outcome(is_whole, may_be_more)
     }
 
-    // What became of a turn behind which the link is whole or broken, and which took bytes of which
-    // there may be more.
-    fn outcome(&mut self, is_whole: bool, is_full: bool) -> Turn
+    // What became of a turn behind which the link is whole or broken, and which took bytes behind
+    // which there may be more.
+    fn outcome(&mut self, is_whole: bool, may_be_more: bool) -> Turn
         requires { is_whole ≡ false → self.old.outlet.failed ≡ true }
         ensures connection { self.new.connection ≡ self.old.connection }
         ensures outlet { self.new.outlet ≡ self.old.outlet }
@@ -225,7 +228,7 @@ impl<L: Link> Client<L> {
         }
         match self.end {
             Some(end) => Turn::Ended(end),
-            None if self.piece.is_empty() && !is_full => Turn::Drained,
+            None if self.piece.is_empty() && !may_be_more => Turn::Drained,
             None => Turn::Fed,
         }
     }

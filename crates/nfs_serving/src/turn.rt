@@ -13,9 +13,9 @@ pub enum End {
 /// What became of a turn.
 #[derive(Clone, Copy, Debug, PartialEq, Eq)]
 pub enum Turn {
-    /// Bytes were taken, and more may be there.
+    /// Bytes were taken, and more may be there, of which nothing will be told.
     Fed,
-    /// All that had come was taken.
+    /// All that had come was received in this turn, and taken.
     Drained,
     /// Nothing has come.
     Idle,

@@ -1,0 +1,126 @@
+-- Granted calls keep the law of the tree.
+use Rattle.std.proofs.Common.{◌≡◌, ℕ, ◌<◌, ◌^◌, Bool, true, false, List, Option, Some, None, refl, sym, ap, subst, ◌∙◌}
+use Rattle.std.specs.Prelude.{if◌then◌else◌}
+use Rattle.nfs_args.specs.declared.args.NfsArgs.{NfsArgs}
+use Rattle.nfs_args.specs.declared.args.NfsArgs.TheVariants as nfs
+use Rattle.nfs_args.specs.declared.create.Create.{Create}
+use Rattle.nfs_args.specs.declared.create.CreateHow.{CreateHow}
+use Rattle.nfs_args.specs.declared.create.CreateHow.TheVariants.{Unchecked, Guarded, Exclusive}
+use Rattle.nfs_args.specs.declared.set_attr.SetAttr.{SetAttr}
+use Rattle.nfs_attrs.specs.declared.fattr.Fattr.{Fattr}
+use Rattle.nfs_attrs.specs.declared.moment.Moment.{Moment}
+use Rattle.nfs_exports.specs.declared.table.Export.{Export}
+use Rattle.nfs_inodes.proofs.Lists.{same_some, not_both}
+use Rattle.nfs_inodes.proofs.Maps.{at_with_same}
+use Rattle.nfs_inodes.proofs.NewFiles.{law_after_make_file, law_after_make_dir, law_after_make_link}
+use Rattle.nfs_inodes.proofs.Operations.{law_after_link, law_after_write_at}
+use Rattle.nfs_inodes.proofs.Renames.{law_after_rename}
+use Rattle.nfs_inodes.proofs.Settings.{law_after_resize, law_after_set, resized_is}
+use Rattle.nfs_inodes.proofs.Unlinks.{law_after_unlink}
+use Rattle.nfs_inodes.specs.Changes.{resized_to, after_resize, after_set, zeros}
+use Rattle.nfs_inodes.specs.Conditions.{MayMake, MayResize}
+use Rattle.nfs_inodes.specs.Law.{Law, Lives}
+use Rattle.nfs_inodes.specs.Tree.{Tree, File, at, on_some}
+use Rattle.nfs_procs.specs.Changers.{set_attr, write, create, make_dir, sym_link, remove, remove_dir, rename, link, given_of, sets_something, file_mode, directory_mode, link_mode, attributes_in, verifier_in, after_taking, after_creating}
+use Rattle.nfs_procs.specs.NewFiles.{new_file_of}
+use Rattle.nfs_procs.specs.Doing.{Doing}
+use Rattle.nfs_procs.specs.Performing.{IsGranted}
+use Rattle.nfs_procs.specs.Procedures.{doing_of}
+use Rattle.nfs_procs.specs.Readers.{get_attr, lookup, access, read_link, read, read_dir, read_dir_plus, make_node, fs_stat, fs_info, path_conf, commit}
+use Rattle.nfs_procs.specs.Scenes.{Scene}
+use Rattle.nfs_rules.proofs.Links.{may_link}
+use Rattle.nfs_rules.proofs.NewFiles.{may_make_directory, may_make_link, may_make_file}
+use Rattle.nfs_rules.proofs.Removals.{may_remove, may_remove_directory, some_from_is_none}
+use Rattle.nfs_rules.proofs.Renames.{may_rename}
+use Rattle.nfs_rules.proofs.SeenFiles.{seen_lives}
+use Rattle.nfs_rules.proofs.Sizes.{may_write, may_set_size, may_resize_present}
+use Rattle.nfs_rules.proofs.Firsts.{passed_at}
+use Rattle.nfs_rules.specs.Subjects.{Caller, Subject}
+use Rattle.nfs_rules.specs.Table.{rules_of, set_attr_rules, create_rules, remove_rules, remove_dir_rules, size_in}
+use Rattle.nfs_rules.specs.Tests as test
+use Rattle.nfs_rules.specs.Tests.{first, found}
+use Rattle.nfs_policy.proofs.Changes.{length_zeros}
+use Rattle.nfs_policy.proofs.Granted.{IsSubject, AreSubjects, are_subjects, rules_kept}
+
+-- ---- SETATTR and CREATE of what is there
+
+module _ (t : Tree) (law : Law t) (n : ℕ) (now : Moment) where
+  record IsSized (u : Tree) : Type 0 where
+    lawful : Law u
+    file : File
+    at_file : Lives u n file
+
+  sized_by : (f : File) → Lives t n f → (size : Option ℕ) → ((k : ℕ) → size ≡ Some k → MayResize t n k) → IsSized (on_some size t (λ size. after_resize t n size now))
+  sized_by f at_f None may = record { lawful = law; file = f; at_file = at_f }
+  sized_by f at_f (Some size) may = record {
+    lawful = law_after_resize t n size now (may size refl) law;
+    file = resized_to f size now;
+    at_file = ap (λ (u : Tree). at n u.files) (resized_is t n size now f at_f) ∙ at_with_same n f (resized_to f size now) t.files at_f;
+  }
+
+  resized : (size : Option ℕ) → ((k : ℕ) → size ≡ Some k → MayResize t n k) → Law (on_some size t (λ size. after_resize t n size now))
+  resized None may = law
+  resized (Some size) may = law_after_resize t n size now (may size refl) law
+
+module _ (s : Subject) (law : Law s.tree) (t : Tree) (exports : List (List Export)) (caller : Caller) (is : IsSubject t exports caller s) (now : Moment) where
+  settled : (a : SetAttr) → first (set_attr_rules s a) ≡ None → (b : Bool) → Law (if b then after_set (on_some a.attributes.size s.tree (λ size. after_resize s.tree s.file.fileid size now)) s.file.fileid (given_of now a.attributes) now else s.tree)
+  settled a none true = let lives = seen_lives s.tree s.file is.seen in
+      let z = sized_by s.tree law s.file.fileid now lives.0 lives.1 a.attributes.size (may_set_size s law is.seen a none) in
+      law_after_set (on_some a.attributes.size s.tree (λ size. after_resize s.tree s.file.fileid size now)) s.file.fileid (given_of now a.attributes) now z.file z.at_file z.lawful
+  settled a none false = law
+
+  taken : (a : Create) → first (create_rules s a) ≡ None → (f : Fattr) → found s a.place.name ≡ Some f → (how : CreateHow) → a.how ≡ how → Law (after_taking s.tree f.fileid how now)
+  taken a none f e (Unchecked attributes) how = resized s.tree law f.fileid now attributes.size (may_resize_present s law a none f e attributes how)
+  taken a none f e (Guarded attributes) how = law
+  taken a none f e (Exclusive verifier) how = law
+
+  created : (a : Create) (tag : ℕ) → tag < 2 ^ 32 → first (create_rules s a) ≡ None → (o : Option Fattr) → found s a.place.name ≡ o → Law (on_some o (after_creating s a now tag) (λ f. after_taking s.tree f.fileid a.how now))
+  created a tag fits none None e = let size = on_some (size_in a.how) 0 (λ (size : ℕ). size) in
+      law_after_make_file s.tree s.file.fileid tag a.place.name (zeros size) (new_file_of file_mode s.ids now (attributes_in a.how)) (verifier_in a.how) now
+      (subst (MayMake s.tree s.file.fileid a.place.name) (sym (length_zeros size)) (may_make_file s law is.seen a none e)) fits law
+  created a tag fits none (Some f) e = taken a none f e a.how refl
+
+-- ---- a granted call
+
+pub granted_law : (c : Scene) → Law c.tree → (doing : Doing) → doing_of c.args ≡ Some doing → (one two : Subject) (tag : ℕ) → tag < 2 ^ 32 → IsGranted c one two → Law (doing.effect one two c.now tag)
+granted_law c law doing e one two tag fits granted = by c.args e (rules_kept c one two granted)
+  where
+    are : AreSubjects c one two
+    are = are_subjects c one two granted
+
+    is : IsSubject c.tree c.exports c.caller one
+    is = are.first
+
+    l : Law one.tree
+    l = subst Law (sym are.first.tree) law
+
+    told_as : (d : Doing) → Some d ≡ Some doing → Law (d.effect one two c.now tag) → Law (doing.effect one two c.now tag)
+    told_as d e h = subst (λ (d : Doing). Law (d.effect one two c.now tag)) (same_some e) h
+
+    by : (args : NfsArgs) → doing_of args ≡ Some doing → first (rules_of one two args) ≡ None → Law (doing.effect one two c.now tag)
+    by nfs.Null e none = absurd (not_both refl e)
+    by (nfs.GetAttr file) e none = told_as get_attr e l
+    by (nfs.SetAttr a) e none = told_as (set_attr a) e (settled one l c.tree c.exports c.caller is c.now a none (sets_something a.attributes))
+    by (nfs.Lookup a) e none = told_as (lookup a) e l
+    by (nfs.Access a) e none = told_as (access a) e l
+    by (nfs.ReadLink file) e none = told_as (read_link file) e l
+    by (nfs.Read a) e none = told_as (read a) e l
+    by (nfs.Write a) e none = told_as (write a) e (law_after_write_at one.tree one.file.fileid a.offset a.content c.now (may_write one l is.seen a none) l)
+    by (nfs.Create a) e none = told_as (create a) e (created one l c.tree c.exports c.caller is c.now a tag fits none (found one a.place.name) refl)
+    by (nfs.MakeDir a) e none = told_as (make_dir a) e (law_after_make_dir one.tree one.file.fileid tag a.place.name (new_file_of directory_mode one.ids c.now a.attributes) c.now (may_make_directory one l is.seen a.place.name none) fits l)
+    by (nfs.SymLink a) e none = told_as (sym_link a) e (law_after_make_link one.tree one.file.fileid tag a.place.name a.path (record (new_file_of link_mode one.ids c.now a.attributes) { mode = link_mode }) c.now (may_make_link one l is.seen a.place.name a.path none) fits l)
+    by (nfs.MakeNode a) e none = told_as (make_node a) e l
+    by (nfs.Remove a) e none = let f = some_from_is_none (found one a.name) (passed_at (remove_rules one a.name) none 6 (test.no_entry one a.name) refl) in
+        told_as (remove a) e (law_after_unlink one.tree one.file.fileid a.name c.now (may_remove one l is.seen a.name none f.0 f.1).may l)
+    by (nfs.RemoveDir a) e none = let f = some_from_is_none (found one a.name) (passed_at (remove_dir_rules one a.name) none 7 (test.no_entry one a.name) refl) in
+        told_as (remove_dir a) e (law_after_unlink one.tree one.file.fileid a.name c.now (may_remove_directory one l is.seen a.name none f.0 f.1).may l)
+    by (nfs.Rename a) e none = told_as (rename a) e (law_after_rename one.tree one.file.fileid a.from.name two.file.fileid a.to.name c.now
+        (may_rename one.tree l one two refl (are.second.tree ∙ sym are.first.tree) is.seen are.second.seen are.volume a none) l)
+    by (nfs.Link a) e none = told_as (link a) e (law_after_link one.tree one.file.fileid two.file.fileid a.place.name c.now
+        (may_link one.tree l one two refl (are.second.tree ∙ sym are.first.tree) is.seen are.second.seen are.volume a.place.name none) l)
+    by (nfs.ReadDir a) e none = told_as (read_dir a) e l
+    by (nfs.ReadDirPlus a) e none = told_as (read_dir_plus a) e l
+    by (nfs.FsStat file) e none = told_as (fs_stat file) e l
+    by (nfs.FsInfo file) e none = told_as (fs_info file) e l
+    by (nfs.PathConf file) e none = told_as (path_conf file) e l
+    by (nfs.Commit a) e none = told_as (commit a) e l

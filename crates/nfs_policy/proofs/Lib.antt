@@ -1,0 +1,17 @@
+pub mod Blanks
+pub mod Rules
+pub mod Changes
+pub mod Wants
+pub mod Calls
+pub mod Leading
+pub mod Edits
+pub mod Granted
+pub mod Policies
+pub mod Led
+pub mod Runs
+pub mod Changing
+pub mod Agreeing
+pub mod Lawful
+pub mod Numbered
+pub mod Confined
+pub mod Refusals

@@ -1,0 +1,433 @@
+-- The policy, procedure by procedure.
+use Rattle.std.proofs.Common.{inl, inr, ◌≡◌, ◌≢◌, ◌⊎◌, ℕ, ◌-◌, Bool, true, false, List, [], ◌∷◌, Option, Some, None, option_map, refl, sym, ap, subst, ◌∙◌}
+use Rattle.std.specs.Prelude.{nat_eq, is_some, not, ◌||◌, ◌&&◌, if◌then◌else◌}
+use Rattle.std.specs.List.{list_any}
+use Rattle.std.proofs.lemmas.Bool.{not-false, eqb-true, eq-eqb, and_parts}
+use Rattle.nfs_args.specs.declared.args.NfsArgs.TheVariants as nfs
+use Rattle.nfs_args.specs.declared.set_attr.SetAttr.{SetAttr}
+use Rattle.nfs_args.specs.declared.write.Write.{Write}
+use Rattle.nfs_attrs.specs.declared.fattr.Fattr.{Fattr}
+use Rattle.nfs_attrs.specs.declared.moment.Moment.{Moment}
+use Rattle.nfs_attrs.specs.declared.sattr.Sattr.{Sattr}
+use Rattle.nfs_attrs.specs.declared.time_setting.TimeSetting.{TimeSetting}
+use Rattle.nfs_attrs.specs.declared.time_setting.TimeSetting.TheVariants.{Leave, ServerTime, ClientTime}
+use Rattle.nfs_exports.specs.Ids.{Ids, squash}
+use Rattle.nfs_exports.specs.declared.table.Export.{Export}
+use Rattle.nfs_inodes.proofs.Lists.{by_test, if_false, same_some, not_both, true_and_false}
+use Rattle.nfs_inodes.proofs.Maps.{at_with_same}
+use Rattle.nfs_inodes.specs.Changes.{with_file, new_file, volume_of, with_named_file, after_make_dir, after_make_link, after_link, after_rename, zeros, file_with_bytes, after_write_at, resized_to, after_resize, with_given, after_set, after_unlink}
+use Rattle.nfs_inodes.specs.Conditions.{MayUnlink, MayEnter}
+use Rattle.nfs_inodes.specs.Law.{Law, Lives, LivesAsDirectory}
+use Rattle.nfs_inodes.specs.Reading.{attributes_of}
+use Rattle.nfs_inodes.specs.Tree.{Tree, File, Kind, Regular, Directory, at, on_some, nlink}
+use Rattle.nfs_procs.specs.Changers.{file_mode, directory_mode, link_mode, attributes_in, verifier_in, after_taking, after_creating, setting, given_of, sets_something, after_settings}
+use Rattle.nfs_args.specs.declared.args.NfsArgs.{NfsArgs}
+use Rattle.nfs_args.specs.declared.create.Create.{Create}
+use Rattle.nfs_args.specs.declared.create.CreateHow.{CreateHow}
+use Rattle.nfs_args.specs.declared.create.CreateHow.TheVariants.{Unchecked, Guarded, Exclusive}
+use Rattle.nfs_args.specs.declared.rename.Rename.{Rename}
+use Rattle.nfs_exports.specs.declared.options.Options.{Options}
+use Rattle.nfs_inodes.proofs.Lookups.{found_lives}
+use Rattle.nfs_procs.specs.Changers.{set_attr, write, create, make_dir, sym_link, remove, remove_dir, rename, link}
+use Rattle.nfs_procs.specs.Readers.{get_attr, lookup, access, read_link, read, read_dir, read_dir_plus, make_node, fs_stat, fs_info, path_conf, commit}
+use Rattle.nfs_procs.specs.Doing.{Doing}
+use Rattle.nfs_procs.specs.Performing.{IsGranted, Performs}
+use Rattle.nfs_procs.specs.Procedures.{PerformsAs, doing_of}
+use Rattle.nfs_procs.specs.Scenes.{Scene}
+use Rattle.nfs_procs.specs.declared.done.Done.{Done}
+use Rattle.nfs_procs.specs.declared.done.Done.TheVariants.{Granted, Denied, Memory}
+use Rattle.nfs_rules.proofs.Links.{may_link}
+use Rattle.nfs_rules.proofs.Renames.{may_rename}
+use Rattle.nfs_rules.proofs.Firsts.{passed_at}
+use Rattle.nfs_rules.proofs.SeenFiles.{seen_lives, seen_place, found_seen}
+use Rattle.nfs_rules.proofs.Removals.{may_remove, may_remove_directory, some_from_is_none}
+use Rattle.nfs_rules.specs.Rights.{may, owns}
+use Rattle.nfs_rules.specs.Subjects.{Caller, Subject}
+use Rattle.nfs_rules.proofs.NewFiles.{may_make_directory, may_make_link, may_make_file, create_rules_with}
+use Rattle.nfs_rules.specs.Table.{rules_of, write_rules, set_attr_rules, create_rules, size_in, make_dir_rules, sym_link_rules, remove_rules, remove_dir_rules, link_rules, rename_rules}
+use Rattle.nfs_args.specs.declared.make_dir.MakeDir.{MakeDir}
+use Rattle.nfs_args.specs.declared.sym_link.SymLink.{SymLink}
+use Rattle.nfs_procs.specs.NewFiles.{uid_of, gid_of, new_file_of}
+use Rattle.nfs_rules.specs.Tests as test
+use Rattle.nfs_rules.specs.Tests.{first, found, owns_or_may, gives_uid, gives_gid, is_client_time, is_server_time}
+use Rattle.nfs_rules.specs.declared.rights.Right.{Right}
+use Rattle.nfs_rules.specs.declared.rights.Right.TheVariants.{Execute}
+use Rattle.nfs_rules.specs.declared.rights.Right.TheVariants as right
+use Rattle.nfs_policy.specs.Policy.{Policy, ChangesAreConfined, EntriesDiffer, IsOwn, options_at, in_group, rights_of, is_owner, is_writer, is_enterer}
+use Rattle.nfs_policy.proofs.Edits.{MayGive, written_allowed, resized_allowed, given_allowed}
+use Rattle.nfs_policy.proofs.Granted.{IsSubject, AreSubjects, are_subjects, rules_kept}
+use Rattle.nfs_policy.proofs.Leading.{Leads, leads_itself, leads_on, policy, policy_itself}
+use Rattle.nfs_policy.proofs.Led.{Enters, unlink_led, unlink_differs, make_led, make_differs, link_led, rename_led}
+
+or_right : (a b : Bool) → b ≡ true → (a || b) ≡ true
+or_right true b e = refl
+or_right false b e = e
+
+-- a caller is in its group
+its_own : (i : Ids) → in_group i i.gid ≡ true
+its_own i = ap (λ b. b || list_any (nat_eq i.gid) i.gids) (eq-eqb i.gid i.gid refl)
+
+-- ---- what a granted call's subject is
+
+module _ (t : Tree) (exports : List (List Export)) (caller : Caller) (s : Subject) (is : IsSubject t exports caller s) where
+  abbrev pub ids : Ids
+  ids = squash s.options caller.cred
+
+  abbrev pub place : ℕ
+  place = s.file.fsid - 1
+
+  pub lives : (r : File) × Lives s.tree s.file.fileid r
+  lives = seen_lives s.tree s.file is.seen
+
+  module _ (r : File) (at_r : Lives s.tree s.file.fileid r) where
+    shown : attributes_of s.file.fileid r (nlink s.tree.files s.file.fileid r) ≡ s.file
+    shown = same_some (sym (ap (option_map (λ (h : File). attributes_of s.file.fileid h (nlink s.tree.files s.file.fileid h))) at_r) ∙ is.seen)
+
+    pub at_place : r.volume ≡ place
+    at_place = sym (seen_place s.tree s.file is.seen r at_r)
+
+    pub may_is : (right : Right) → may s.ids s.file right ≡ may ids (rights_of r) right
+    may_is right = λ i. may (is.ids i) (sym shown i) right
+
+    pub owns_is : owns s.ids s.file ≡ is_owner ids r
+    owns_is = λ i. owns (is.ids i) (sym shown i)
+
+    pub writer_is : owns_or_may s right.Write ≡ is_writer ids r
+    writer_is = λ i. owns_is i || may_is right.Write i
+
+    pub enterer : (test.search_right s).1 ≡ false → (test.directory_write s).1 ≡ false → is_enterer ids r ≡ true
+    enterer x w = λ i. (sym (may_is right.Write) ∙ not-false _ w) i && (sym (may_is Execute) ∙ not-false _ x) i
+
+    pub writer : (test.directory_write s).1 ≡ false → is_writer ids r ≡ true
+    writer w = or_right (is_owner ids r) (may ids (rights_of r) right.Write) (sym (may_is right.Write) ∙ not-false _ w)
+
+  abbrev Polite : Moment → Tree → Type 0
+  Polite now new = Policy exports caller now s.tree new
+
+  -- ---- WRITE
+
+  module _ (now : Moment) where
+    pub write_policy : (a : Write) → first (write_rules s a) ≡ None → Polite now (after_write_at s.tree s.file.fileid a.offset a.content now)
+    write_policy a none = of a.content
+      where
+        writes : is_writer ids lives.0 ≡ true
+        writes = sym (writer_is lives.0 lives.1) ∙ not-false _ (passed_at (write_rules s a) none 2 (test.write_right s) refl)
+
+        led : (bytes : List ℕ) → Leads ids now place ⊥ s.tree (after_write_at s.tree s.file.fileid a.offset bytes now)
+        led [] = leads_itself ids now place ⊥ s.tree
+        led (b ∷ bytes) = leads_on ids now place ⊥ s.tree s.tree (leads_itself ids now place ⊥ s.tree) s.file.fileid lives.0 lives.1 (at_place lives.0 lives.1)
+            (λ f. file_with_bytes f a.offset (b ∷ bytes) now) (λ f e. written_allowed ids now place ⊥ lives.0 f a.offset (b ∷ bytes) writes)
+
+        of : (bytes : List ℕ) → Polite now (after_write_at s.tree s.file.fileid a.offset bytes now)
+        of bytes = policy exports caller now s.tree (after_write_at s.tree s.file.fileid a.offset bytes now) place s.options is.options (passed_at (write_rules s a) none 0 (test.read_only s) refl) ⊥ (λ m. absurd m) (led bytes)
+
+    -- ---- REMOVE and RMDIR
+
+    module _ (law : Law s.tree) (rw : s.options.read_only ≡ false) where
+      polite : (new : Tree) → EntriesDiffer s.tree new → Leads ids now place (EntriesDiffer s.tree new) s.tree new → Polite now new
+      polite new differ led = policy exports caller now s.tree new place s.options is.options rw (EntriesDiffer s.tree new) (λ m. m) led
+
+      pub enters : (test.search_right s).1 ≡ false → (test.directory_write s).1 ≡ false → (dir : File) → LivesAsDirectory s.tree s.file.fileid dir → Enters s.tree law ids now place s.file.fileid dir
+      enters x w dir at_dir = record { at_dir = at_dir; volume = at_place dir at_dir.0; writer = writer dir at_dir.0 w; enterer = enterer dir at_dir.0 x w }
+
+      unlink_policy : (name : List ℕ) → MayUnlink s.tree s.file.fileid name → (test.search_right s).1 ≡ false → (test.directory_write s).1 ≡ false → Polite now (after_unlink s.tree s.file.fileid name now)
+      unlink_policy name may x w = let new = after_unlink s.tree s.file.fileid name now in let differ = unlink_differs s.tree law ids now place s.file.fileid name may in
+          polite new differ (unlink_led s.tree law ids now place (EntriesDiffer s.tree new) differ s.file.fileid name may (enters x w may.dir may.at_dir))
+
+      make_policy : (name : List ℕ) (f : File) → MayEnter s.tree s.file.fileid name → (test.search_right s).1 ≡ false → (test.directory_write s).1 ≡ false → IsOwn s.ids f → f.volume ≡ volume_of s.tree s.file.fileid → Polite now (with_named_file s.tree s.file.fileid name f now)
+      make_policy name f may x w own volume = let new = with_named_file s.tree s.file.fileid name f now in let differ = make_differs s.tree law ids now place s.file.fileid name may.dir f may.at_dir in
+          polite new differ (make_led s.tree law ids now place (EntriesDiffer s.tree new) differ s.file.fileid name may.dir f (enters x w may.dir may.at_dir) (subst (λ i. IsOwn i f) is.ids own)
+          (volume ∙ ap (λ o. on_some o 0 (λ (f : File). f.volume)) may.at_dir.0 ∙ at_place may.dir may.at_dir.0))
+
+    pub remove_policy : Law s.tree → (name : List ℕ) → first (remove_rules s name) ≡ None → Polite now (after_unlink s.tree s.file.fileid name now)
+    remove_policy law name none =
+        let f = some_from_is_none (found s name) (passed_at (remove_rules s name) none 6 (test.no_entry s name) refl) in
+        unlink_policy law (passed_at (remove_rules s name) none 0 (test.read_only s) refl) name (may_remove s law is.seen name none f.0 f.1).may
+        (passed_at (remove_rules s name) none 5 (test.search_right s) refl) (passed_at (remove_rules s name) none 7 (test.directory_write s) refl)
+
+    pub remove_dir_policy : Law s.tree → (name : List ℕ) → first (remove_dir_rules s name) ≡ None → Polite now (after_unlink s.tree s.file.fileid name now)
+    remove_dir_policy law name none =
+        let f = some_from_is_none (found s name) (passed_at (remove_dir_rules s name) none 7 (test.no_entry s name) refl) in
+        unlink_policy law (passed_at (remove_dir_rules s name) none 0 (test.read_only s) refl) name (may_remove_directory s law is.seen name none f.0 f.1).may
+        (passed_at (remove_dir_rules s name) none 6 (test.search_right s) refl) (passed_at (remove_dir_rules s name) none 8 (test.directory_write s) refl)
+
+    -- ---- new files
+
+    own_gid : (i : Ids) (given : Option ℕ) → i.uid ≢ 0 → in_group i (gid_of i given) ≡ true
+    own_gid i None o = its_own i
+    own_gid i (Some gid) o = by (nat_eq i.uid 0) (nat_eq gid i.gid) (list_any (nat_eq gid) i.gids) (λ e. o (eqb-true i.uid 0 e)) refl refl
+      where
+        by : (root own among : Bool) → (root ≡ true → ⊥) → nat_eq gid i.gid ≡ own → list_any (nat_eq gid) i.gids ≡ among → in_group i (if root || own || among then gid else i.gid) ≡ true
+        by true own among apart e g = absurd (apart refl)
+        by false true among apart e g = ap (λ b. b || list_any (nat_eq gid) i.gids) e
+        by false false true apart e g = or_right (nat_eq gid i.gid) (list_any (nat_eq gid) i.gids) g
+        by false false false apart e g = its_own i
+
+    own_uid : (i : Ids) (given : Option ℕ) → i.uid ≢ 0 → uid_of i given ≡ i.uid
+    own_uid i None o = refl
+    own_uid i (Some uid) o = if_false uid i.uid (by_test (nat_eq i.uid 0) (λ y. absurd (o (eqb-true i.uid 0 y))) (λ n. n))
+
+    own_file : (volume mode tag : ℕ) (kind : Kind) (given : Sattr) (verifier : Option (List ℕ)) → IsOwn s.ids (new_file volume kind (new_file_of mode s.ids now given) verifier tag now)
+    own_file volume mode tag kind given verifier = record { uid = own_uid s.ids given.uid; group = own_gid s.ids given.gid }
+
+    pub make_dir_policy : Law s.tree → (a : MakeDir) (tag : ℕ) → first (make_dir_rules s a.place.name) ≡ None → Polite now (after_make_dir s.tree s.file.fileid a.place.name (new_file_of directory_mode s.ids now a.attributes) tag now)
+    make_dir_policy law a tag none = let passed = passed_at (make_dir_rules s a.place.name) none in
+        make_policy law (passed 0 (test.read_only s) refl) a.place.name _ (may_make_directory s law is.seen a.place.name none).make.enter (passed 4 (test.search_right s) refl) (passed 6 (test.directory_write s) refl)
+        (own_file (volume_of s.tree s.file.fileid) directory_mode tag (Directory s.file.fileid 3 []) a.attributes None) refl
+
+    pub sym_link_policy : Law s.tree → (a : SymLink) (tag : ℕ) → first (sym_link_rules s a.place.name a.path) ≡ None → Polite now (after_make_link s.tree s.file.fileid a.place.name a.path (record (new_file_of link_mode s.ids now a.attributes) { mode = link_mode }) tag now)
+    sym_link_policy law a tag none = let passed = passed_at (sym_link_rules s a.place.name a.path) none in
+        make_policy law (passed 0 (test.read_only s) refl) a.place.name _ (may_make_link s law is.seen a.place.name a.path none).make.enter (passed 4 (test.search_right s) refl) (passed 7 (test.directory_write s) refl)
+        (record { uid = own_uid s.ids a.attributes.uid; group = own_gid s.ids a.attributes.gid }) refl
+
+    -- ---- SETATTR
+
+    module _ (a : SetAttr) (none : first (set_attr_rules s a) ≡ None) where
+      abbrev r : File
+      r = lives.0
+
+      at_r : Lives s.tree s.file.fileid r
+      at_r = lives.1
+
+      abbrev n : ℕ
+      n = s.file.fileid
+
+      abbrev g : Sattr
+      g = a.attributes
+
+      owner_where : (b : Bool) → b ≡ true → (b && not (owns s.ids s.file)) ≡ false → is_owner ids r ≡ true
+      owner_where b y e = sym (owns_is r at_r) ∙ not-false _ (sym (ap (λ k. k && not (owns s.ids s.file)) y) ∙ e)
+
+      mode_may : is_some g.mode ≡ true → is_owner ids r ≡ true
+      mode_may y = owner_where (is_some g.mode) y (passed_at (set_attr_rules s a) none 2 (test.owner_mode s g) refl)
+
+      uid_may : (uid : ℕ) → g.uid ≡ Some uid → (nat_eq ids.uid 0 ≡ true) ⊎ (uid ≡ r.uid)
+      uid_may uid e = by_test (nat_eq s.ids.uid 0) (λ y. inl (ap (λ (k : Ids). nat_eq k.uid 0) (sym is.ids) ∙ y))
+          (λ z. inr (eqb-true uid r.uid ((λ i. nat_eq uid (shown r at_r i).uid) ∙ (and_parts (nat_eq s.ids.uid s.file.uid) (nat_eq uid s.file.uid) (sym (ap (λ b. b || nat_eq s.ids.uid s.file.uid && nat_eq uid s.file.uid) z) ∙ gives)).1)))
+        where
+          gives : gives_uid s.ids s.file uid ≡ true
+          gives = not-false _ (sym (ap (λ o. on_some o false (λ uid. not (gives_uid s.ids s.file uid))) e) ∙ passed_at (set_attr_rules s a) none 3 (test.owner_uid s g) refl)
+
+      -- as the policy wants it of a group that is given
+      gid_from : (root owner present own among : Bool) (P : Type 0) → (root || owner && (present || own || among)) ≡ true → (present ≡ true → P) → ((root || owner) ≡ true → (root || (own || among)) ≡ true → P) → P
+      gid_from true owner present own among P e p q = q refl refl
+      gid_from false true true own among P e p q = p refl
+      gid_from false true false own among P e p q = q refl e
+      gid_from false false present own among P e p q = absurd (true_and_false e refl)
+
+      gid_may : (gid : ℕ) → g.gid ≡ Some gid → (gid ≡ r.gid) ⊎ ((is_owner ids r ≡ true) × ((nat_eq ids.uid 0 || in_group ids gid) ≡ true))
+      gid_may gid e = gid_from (nat_eq s.ids.uid 0) (nat_eq s.ids.uid s.file.uid) (nat_eq gid s.file.gid) (nat_eq gid s.ids.gid) (list_any (nat_eq gid) s.ids.gids) _ gives
+          (λ y. inl (eqb-true gid r.gid ((λ i. nat_eq gid (shown r at_r i).gid) ∙ y)))
+          (λ y z. inr (sym (owns_is r at_r) ∙ y, (λ i. nat_eq (sym is.ids i).uid 0 || in_group (sym is.ids i) gid) ∙ z))
+        where
+          gives : gives_gid s.ids s.file gid ≡ true
+          gives = not-false _ (sym (ap (λ o. on_some o false (λ gid. not (gives_gid s.ids s.file gid))) e) ∙ passed_at (set_attr_rules s a) none 4 (test.owner_gid s g) refl)
+
+      owner_writes : is_owner ids r ≡ true → is_writer ids r ≡ true
+      owner_writes e = ap (λ b. b || may ids (rights_of r) right.Write) e
+
+      -- a time, of which the tests tell so
+      time_may : (set : TimeSetting) → (is_client_time set ≡ true → is_owner ids r ≡ true) → (is_server_time set ≡ true → is_writer ids r ≡ true) → (moment : Moment) → setting now set ≡ Some moment → (is_writer ids r ≡ true) × ((moment ≡ now) ⊎ (is_owner ids r ≡ true))
+      time_may Leave client server moment e = absurd (not_both refl e)
+      time_may ServerTime client server moment e = (server refl, inl (sym (same_some e)))
+      time_may (ClientTime m) client server moment e = (owner_writes (client refl), inr (client refl))
+
+      client : (b : Bool) → b ≡ true → (b ≡ true → (is_client_time g.atime || is_client_time g.mtime) ≡ true) → is_owner ids r ≡ true
+      client b y h = owner_where (is_client_time g.atime || is_client_time g.mtime) (h y) (passed_at (set_attr_rules s a) none 7 (test.owner_time s g) refl)
+
+      server : (is_server_time g.atime || is_server_time g.mtime) ≡ true → is_writer ids r ≡ true
+      server y = sym (writer_is r at_r) ∙ not-false _ (sym (ap (λ k. k && not (owns_or_may s right.Write)) y) ∙ passed_at (set_attr_rules s a) none 8 (test.time_right s g) refl)
+
+      may_give : MayGive ids now place ⊥ r (given_of now g)
+      may_give = record {
+        mode = mode_may;
+        uid = uid_may;
+        gid = gid_may;
+        atime = time_may g.atime (λ y. client (is_client_time g.atime) y (λ y. ap (λ b. b || is_client_time g.mtime) y)) (λ y. server (ap (λ b. b || is_server_time g.mtime) y));
+        mtime = time_may g.mtime (λ y. client (is_client_time g.mtime) y (λ y. or_right (is_client_time g.atime) _ y)) (λ y. server (or_right (is_server_time g.atime) _ y));
+      }
+
+      size_writes : (size : ℕ) → g.size ≡ Some size → is_writer ids r ≡ true
+      size_writes size e = sym (writer_is r at_r) ∙ not-false _ (sym (ap (λ o. is_some o && not (owns_or_may s right.Write)) e) ∙ passed_at (set_attr_rules s a) none 6 (test.only_where (is_some g.size) (test.write_right s)) refl)
+
+      -- the tree with the size, in which the file has its owner and group
+      record IsSized (u : Tree) : Type 0 where
+        led : Leads ids now place ⊥ s.tree u
+        file : File
+        at_file : at n u.files ≡ Some file
+        uid : file.uid ≡ r.uid
+        gid : file.gid ≡ r.gid
+
+      sized_by : (o : Option ℕ) → g.size ≡ o → IsSized (on_some o s.tree (λ size. after_resize s.tree n size now))
+      sized_by None e = record { led = leads_itself ids now place ⊥ s.tree; file = r; at_file = at_r; uid = refl; gid = refl }
+      sized_by (Some size) e = record {
+        led = leads_on ids now place ⊥ s.tree s.tree (leads_itself ids now place ⊥ s.tree) n r at_r (at_place r at_r) (λ f. resized_to f size now) (λ f at_f. resized_allowed ids now place ⊥ r f size (size_writes size e));
+        file = resized_to r size now;
+        at_file = ap (λ (t : Tree). at n t.files) (ap (λ o. on_some o s.tree (λ f. with_file s.tree n (resized_to f size now))) at_r) ∙ at_with_same n r (resized_to r size now) s.tree.files at_r;
+        uid = refl;
+        gid = refl;
+      }
+
+      settled : (b : Bool) → Leads ids now place ⊥ s.tree (if b then after_set (on_some g.size s.tree (λ size. after_resize s.tree n size now)) n (given_of now g) now else s.tree)
+      settled true = let z = sized_by g.size refl in
+          leads_on ids now place ⊥ s.tree (on_some g.size s.tree (λ size. after_resize s.tree n size now)) z.led n r at_r (at_place r at_r) (λ f. with_given f (given_of now g) now)
+          (λ f at_f. let same : z.file ≡ f = same_some (sym z.at_file ∙ at_f) in
+          given_allowed ids now place ⊥ r f (ap (λ (k : File). k.uid) (sym same) ∙ z.uid) (ap (λ (k : File). k.gid) (sym same) ∙ z.gid) (given_of now g) may_give)
+      settled false = leads_itself ids now place ⊥ s.tree
+
+      pub set_attr_policy : Polite now (after_settings s.tree n g now)
+      set_attr_policy = policy exports caller now s.tree (after_settings s.tree n g now) place s.options is.options (passed_at (set_attr_rules s a) none 0 (test.read_only s) refl) ⊥ (λ m. absurd m) (settled (sets_something g))
+
+    -- ---- CREATE
+
+    -- a size for a file, whose bytes the caller may write
+    size_policy : (size : Option ℕ) → s.options.read_only ≡ false → ((n : ℕ) → size ≡ Some n → is_writer ids lives.0 ≡ true) → Polite now (on_some size s.tree (λ size. after_resize s.tree s.file.fileid size now))
+    size_policy None rw writes = policy exports caller now s.tree s.tree place s.options is.options rw ⊥ (λ m. absurd m) (leads_itself ids now place ⊥ s.tree)
+    size_policy (Some size) rw writes = policy exports caller now s.tree (after_resize s.tree s.file.fileid size now) place s.options is.options rw ⊥ (λ m. absurd m)
+        (leads_on ids now place ⊥ s.tree s.tree (leads_itself ids now place ⊥ s.tree) s.file.fileid lives.0 lives.1 (at_place lives.0 lives.1) (λ f. resized_to f size now) (λ f e. resized_allowed ids now place ⊥ lives.0 f size (writes size refl)))
+
+    pub taken_policy : (how : CreateHow) → s.options.read_only ≡ false → ((attributes : Sattr) → how ≡ Unchecked attributes → (is_some attributes.size && not (owns_or_may s right.Write)) ≡ false) → Polite now (after_taking s.tree s.file.fileid how now)
+    taken_policy (Unchecked attributes) rw may = size_policy attributes.size rw (λ n e. sym (writer_is lives.0 lives.1) ∙ not-false _ (sym (ap (λ o. is_some o && not (owns_or_may s right.Write)) e) ∙ may attributes refl))
+    taken_policy (Guarded attributes) rw may = size_policy None rw (λ n e. absurd (not_both refl e))
+    taken_policy (Exclusive verifier) rw may = size_policy None rw (λ n e. absurd (not_both refl e))
+
+-- CREATE of a file that is not there, or is
+module _ (t : Tree) (exports : List (List Export)) (caller : Caller) (s : Subject) (is : IsSubject t exports caller s) (now : Moment) (law : Law s.tree) (a : Create) (tag : ℕ) where
+  there : (f : Fattr) → found s a.place.name ≡ Some f → IsSubject t exports caller (record s { file = f })
+  there f e = record {
+    tree = is.tree;
+    seen = (found_seen s a.place.name f e).1;
+    options = ap (options_at exports caller) same ∙ is.options;
+    ids = is.ids;
+  }
+    where
+      same : f.fsid - 1 ≡ s.file.fsid - 1
+      same = let live = found_lives s.tree law s.file.fileid f.fileid a.place.name (found_seen s a.place.name f e).0 in
+          seen_place s.tree f (found_seen s a.place.name f e).1 live.file live.at_file ∙ live.volume ∙ sym (seen_place s.tree s.file is.seen live.dir live.at_dir.0)
+
+  pub create_policy : first (create_rules s a) ≡ None → Policy exports caller now s.tree (on_some (found s a.place.name) (after_creating s a now tag) (λ f. after_taking s.tree f.fileid a.how now))
+  create_policy none = of (found s a.place.name) refl
+    where
+      rw : s.options.read_only ≡ false
+      rw = passed_at (create_rules s a) none 0 (test.read_only s) refl
+
+      of : (o : Option Fattr) → found s a.place.name ≡ o → Policy exports caller now s.tree (on_some o (after_creating s a now tag) (λ f. after_taking s.tree f.fileid a.how now))
+      of None e = let passed = passed_at (create_rules_with s a.place.name a.how None) (subst (λ o. first (create_rules_with s a.place.name a.how o) ≡ None) e none) in
+          make_policy t exports caller s is now law rw a.place.name _ (may_make_file s law is.seen a none e).enter (passed 4 (test.search_right s) refl) (passed 6 (test.directory_write s) refl)
+          (own_file t exports caller s is now (volume_of s.tree s.file.fileid) file_mode tag (Regular (zeros (on_some (size_in a.how) 0 (λ size. size)))) (attributes_in a.how) (verifier_in a.how)) refl
+      of (Some f) e = taken_policy t exports caller (record s { file = f }) (there f e) now a.how rw (λ attributes how.
+          passed_at (create_rules_with s a.place.name (Unchecked attributes) (Some f))
+          (subst (λ h. first (create_rules_with s a.place.name h (Some f)) ≡ None) how (subst (λ o. first (create_rules_with s a.place.name a.how o) ≡ None) e none)) 6 _ refl)
+
+-- ---- LINK and RENAME
+
+module _ (t : Tree) (exports : List (List Export)) (caller : Caller) (one two : Subject) (is : IsSubject t exports caller one) (is_too : IsSubject t exports caller two) (same : one.file.fsid ≡ two.file.fsid) (now : Moment) (law : Law one.tree) where
+  -- the same over one tree
+  over_two : two ≡ record two { tree = one.tree }
+  over_two = λ i. record two { tree = (is_too.tree ∙ sym is.tree) i }
+
+  abbrev two_here : Subject
+  two_here = record two { tree = one.tree }
+
+  is_here : IsSubject t exports caller two_here
+  is_here = subst (IsSubject t exports caller) over_two is_too
+
+  same_place : one.file.fsid - 1 ≡ two.file.fsid - 1
+  same_place = ap (λ n. n - 1) same
+
+  same_options : one.options ≡ two.options
+  same_options = same_some (sym is.options ∙ ap (options_at exports caller) same_place ∙ is_too.options)
+
+  enters_two : (test.search_right two_here).1 ≡ false → (test.directory_write two_here).1 ≡ false → two.options.read_only ≡ false → (dir : File) → LivesAsDirectory one.tree two.file.fileid dir
+      → Enters one.tree law (squash one.options caller.cred) now (one.file.fsid - 1) two.file.fileid dir
+  enters_two x w rw dir at_dir = subst (λ (o : Options). Enters one.tree law (squash o caller.cred) now (one.file.fsid - 1) two.file.fileid dir) (sym same_options)
+      (subst (λ place. Enters one.tree law (squash two.options caller.cred) now place two.file.fileid dir) (sym same_place) (enters t exports caller two_here is_here now law rw x w dir at_dir))
+
+  pub link_policy : (name : List ℕ) → first (link_rules one two name) ≡ None → Policy exports caller now one.tree (after_link one.tree one.file.fileid two.file.fileid name now)
+  link_policy name none =
+      let kept : first (link_rules one two_here name) ≡ None = subst (λ u. first (link_rules one u name) ≡ None) over_two none in
+      let passed = passed_at (link_rules one two_here name) kept in
+      let rw = passed 0 (test.read_only one) refl in
+      let may = may_link one.tree law one two_here refl refl is.seen is_here.seen same name kept in
+      let new = after_link one.tree one.file.fileid two.file.fileid name now in
+      policy exports caller now one.tree new (one.file.fsid - 1) one.options is.options rw (EntriesDiffer one.tree new)
+      (λ m. m)
+      (link_led one.tree law (squash one.options caller.cred) now (one.file.fsid - 1) (EntriesDiffer one.tree new) one.file.fileid two.file.fileid name may.file may.enter.dir may.at_file (at_place t exports caller one is may.file may.at_file)
+      (enters_two (passed 5 (test.search_right two_here) refl) (passed 7 (test.directory_write two_here) refl) (ap (λ (o : Options). o.read_only) (sym same_options) ∙ rw) may.enter.dir may.enter.at_dir))
+
+  pub rename_policy : (a : Rename) → first (rename_rules one two a) ≡ None → Policy exports caller now one.tree (after_rename one.tree one.file.fileid a.from.name two.file.fileid a.to.name now)
+  rename_policy a none =
+      let kept : first (rename_rules one two_here a) ≡ None = subst (λ u. first (rename_rules one u a) ≡ None) over_two none in
+      let passed = passed_at (rename_rules one two_here a) kept in
+      let rw = passed 0 (test.read_only one) refl in
+      let may = may_rename one.tree law one two_here refl refl is.seen is_here.seen same a kept in
+      let new = after_rename one.tree one.file.fileid a.from.name two.file.fileid a.to.name now in
+      elim (rename_led one.tree law (squash one.options caller.cred) now (one.file.fsid - 1) one.file.fileid a.from.name two.file.fileid a.to.name may
+      (enters t exports caller one is now law rw (passed 9 (test.search_right one) refl) (passed 12 (test.directory_write one) refl) may.source may.at_source)
+      (enters_two (passed 10 (test.search_right two_here) refl) (passed 13 (test.directory_write two_here) refl) (ap (λ (o : Options). o.read_only) (sym same_options) ∙ rw) may.target may.at_target))
+      as (λ x. Policy exports caller now one.tree new) [
+        | inl e ↦ subst (Policy exports caller now one.tree) (sym e) (policy_itself exports caller now one.tree)
+        | inr both ↦ policy exports caller now one.tree new (one.file.fsid - 1) one.options is.options rw (EntriesDiffer one.tree new) (λ m. m) both.1
+      ]
+
+-- ---- a call
+
+pub granted_policy : (c : Scene) → Law c.tree → (doing : Doing) → doing_of c.args ≡ Some doing → (one two : Subject) (tag : ℕ) → IsGranted c one two → Policy c.exports c.caller c.now c.tree (doing.effect one two c.now tag)
+granted_policy c law doing e one two tag granted =
+    subst (λ t. Policy c.exports c.caller c.now t (doing.effect one two c.now tag)) are.first.tree (by c.args e (rules_kept c one two granted))
+  where
+    are : AreSubjects c one two
+    are = are_subjects c one two granted
+
+    is : IsSubject c.tree c.exports c.caller one
+    is = are.first
+
+    lawful : Law one.tree
+    lawful = subst Law (sym are.first.tree) law
+
+    told_as : (d : Doing) → Some d ≡ Some doing → Policy c.exports c.caller c.now one.tree (d.effect one two c.now tag) → Policy c.exports c.caller c.now one.tree (doing.effect one two c.now tag)
+    told_as d e h = subst (λ (d : Doing). Policy c.exports c.caller c.now one.tree (d.effect one two c.now tag)) (same_some e) h
+
+    leaves : Policy c.exports c.caller c.now one.tree one.tree
+    leaves = policy_itself c.exports c.caller c.now one.tree
+
+    by : (args : NfsArgs) → doing_of args ≡ Some doing → first (rules_of one two args) ≡ None → Policy c.exports c.caller c.now one.tree (doing.effect one two c.now tag)
+    by nfs.Null e none = absurd (not_both refl e)
+    by (nfs.GetAttr file) e none = told_as get_attr e leaves
+    by (nfs.SetAttr a) e none = told_as (set_attr a) e (set_attr_policy c.tree c.exports c.caller one is c.now a none)
+    by (nfs.Lookup a) e none = told_as (lookup a) e leaves
+    by (nfs.Access a) e none = told_as (access a) e leaves
+    by (nfs.ReadLink file) e none = told_as (read_link file) e leaves
+    by (nfs.Read a) e none = told_as (read a) e leaves
+    by (nfs.Write a) e none = told_as (write a) e (write_policy c.tree c.exports c.caller one is c.now a none)
+    by (nfs.Create a) e none = told_as (create a) e (create_policy c.tree c.exports c.caller one is c.now lawful a tag none)
+    by (nfs.MakeDir a) e none = told_as (make_dir a) e (make_dir_policy c.tree c.exports c.caller one is c.now lawful a tag none)
+    by (nfs.SymLink a) e none = told_as (sym_link a) e (sym_link_policy c.tree c.exports c.caller one is c.now lawful a tag none)
+    by (nfs.MakeNode a) e none = told_as (make_node a) e leaves
+    by (nfs.Remove a) e none = told_as (remove a) e (remove_policy c.tree c.exports c.caller one is c.now lawful a.name none)
+    by (nfs.RemoveDir a) e none = told_as (remove_dir a) e (remove_dir_policy c.tree c.exports c.caller one is c.now lawful a.name none)
+    by (nfs.Rename a) e none = told_as (rename a) e (rename_policy c.tree c.exports c.caller one two is are.second are.volume c.now lawful a none)
+    by (nfs.Link a) e none = told_as (link a) e (link_policy c.tree c.exports c.caller one two is are.second are.volume c.now lawful a.place.name none)
+    by (nfs.ReadDir a) e none = told_as (read_dir a) e leaves
+    by (nfs.ReadDirPlus a) e none = told_as (read_dir_plus a) e leaves
+    by (nfs.FsStat file) e none = told_as (fs_stat file) e leaves
+    by (nfs.FsInfo file) e none = told_as (fs_info file) e leaves
+    by (nfs.PathConf file) e none = told_as (path_conf file) e leaves
+    by (nfs.Commit a) e none = told_as (commit a) e leaves
+
+pub changes_are_confined : ChangesAreConfined
+changes_are_confined c law done new before after h = of (doing_of c.args) refl done h
+  where
+    same : new ≡ c.tree → Policy c.exports c.caller c.now c.tree new
+    same e = subst (Policy c.exports c.caller c.now c.tree) (sym e) (policy_itself c.exports c.caller c.now c.tree)
+
+    performed : (doing : Doing) → doing_of c.args ≡ Some doing → (done : Done) → Performs c doing done new before after → Policy c.exports c.caller c.now c.tree new
+    performed doing is Granted h = subst (Policy c.exports c.caller c.now c.tree) (sym h.new_is) (granted_policy c law doing is h.one h.two h.tag h.granted)
+    performed doing is (Denied rule uid) h = same h.new_is
+    performed doing is Memory h = same h.new_is
+
+    of : (o : Option Doing) → doing_of c.args ≡ o → (done : Option Done) → PerformsAs c o done new before after → Policy c.exports c.caller c.now c.tree new
+    of None is None h = same h.0
+    of None is (Some done) h = absurd h
+    of (Some doing) is None h = absurd h
+    of (Some doing) is (Some done) h = performed doing is done h

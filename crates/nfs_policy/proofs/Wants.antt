@@ -1,0 +1,81 @@
+-- Whether a call wants memory doesn't depend on the bytes that are blanked.
+use Rattle.std.proofs.Common.{◌≡◌, ℕ, ◌+◌, Bool, true, false, List, [], length, Option, Some, None, option_map, refl, ap, subst, ◌∙◌}
+use Rattle.std.specs.Prelude.{not, nat_eq, nat_lt, ◌&&◌}
+use Rattle.nfs_args.specs.declared.args.NfsArgs.{NfsArgs}
+use Rattle.nfs_args.specs.declared.args.NfsArgs.TheVariants as nfs
+use Rattle.nfs_args.specs.declared.create.CreateHow.{CreateHow}
+use Rattle.nfs_args.specs.declared.create.CreateHow.TheVariants.{Unchecked, Guarded, Exclusive}
+use Rattle.nfs_inodes.proofs.Lists.{same_some, not_both}
+use Rattle.nfs_inodes.specs.Reading.{bytes_at}
+use Rattle.nfs_inodes.specs.Tree.{Tree, File, Kind, Regular, Directory, Link, at, on_some, bytes_in}
+use Rattle.nfs_procs.specs.Changers.{set_attr, write, create, make_dir, sym_link, remove, remove_dir, rename, link, grows, grows_to, taking_grows, names_apart}
+use Rattle.nfs_procs.specs.Doing.{Doing}
+use Rattle.nfs_procs.specs.Procedures.{doing_of}
+use Rattle.nfs_procs.specs.Readers.{get_attr, lookup, access, read_link, read, read_dir, read_dir_plus, make_node, fs_stat, fs_info, path_conf, commit}
+use Rattle.nfs_rules.specs.Subjects.{Subject}
+use Rattle.nfs_policy.specs.Shape.{blank, blank_kind, blank_where}
+use Rattle.nfs_policy.proofs.Blanks.{at_blank, entry_blank}
+use Rattle.nfs_policy.proofs.Changes.{length_zeros}
+use Rattle.nfs_policy.proofs.Rules.{veiled, found_veiled}
+
+module _ (p : ℕ → Bool) where
+  length_blank : (t : Tree) (n : ℕ) → length (bytes_at (blank p t) n) ≡ length (bytes_at t n)
+  length_blank t n = ap (λ o. length (on_some o [] (λ (f : File). bytes_in f.kind))) (at_blank p n t.files) ∙ of (p n) (at n t.files)
+    where
+      of_kind : (k : Kind) → length (bytes_in (blank_kind k)) ≡ length (bytes_in k)
+      of_kind (Regular bytes) = length_zeros (length bytes)
+      of_kind (Directory parent next_cookie entries) = refl
+      of_kind (Link path) = refl
+
+      of : (b : Bool) (o : Option File) → length (on_some (option_map (blank_where b) o) [] (λ (f : File). bytes_in f.kind)) ≡ length (on_some o [] (λ (f : File). bytes_in f.kind))
+      of b None = refl
+      of true (Some f) = of_kind f.kind
+      of false (Some f) = refl
+
+  grows_blank : (t : Tree) (n offset count : ℕ) → grows (blank p t) n offset count ≡ grows t n offset count
+  grows_blank t n offset count = λ i. nat_lt 0 count && nat_lt (length_blank t n i) (offset + count)
+
+  grows_to_blank : (t : Tree) (n : ℕ) (size : Option ℕ) → grows_to (blank p t) n size ≡ grows_to t n size
+  grows_to_blank t n None = refl
+  grows_to_blank t n (Some size) = grows_blank t n 0 size
+
+  taking_blank : (t : Tree) (n : ℕ) (how : CreateHow) → taking_grows (blank p t) n how ≡ taking_grows t n how
+  taking_blank t n (Unchecked attributes) = grows_to_blank t n attributes.size
+  taking_blank t n (Guarded attributes) = refl
+  taking_blank t n (Exclusive verifier) = refl
+
+  names_blank : (t : Tree) (from to : ℕ) (name new_name : List ℕ) → names_apart (blank p t) from name to new_name ≡ names_apart t from name to new_name
+  names_blank t from to name new_name = λ i. on_some (entry_blank p t from name i) true (λ e. on_some (entry_blank p t to new_name i) true (λ old. not (nat_eq old.number e.number)))
+
+  abbrev pub WantsBlank : Doing → Type 0
+  WantsBlank doing = (one two : Subject) → doing.takes_memory (veiled p one) (veiled p two) ≡ doing.takes_memory one two
+
+  pub wants_blank : (args : NfsArgs) (doing : Doing) → doing_of args ≡ Some doing → WantsBlank doing
+  wants_blank args doing e = by args e
+    where
+      told_as : (d : Doing) → Some d ≡ Some doing → WantsBlank d → WantsBlank doing
+      told_as d e h = subst WantsBlank (same_some e) h
+
+      by : (args : NfsArgs) → doing_of args ≡ Some doing → WantsBlank doing
+      by nfs.Null e = absurd (not_both refl e)
+      by (nfs.GetAttr file) e = told_as get_attr e (λ one two. refl)
+      by (nfs.SetAttr a) e = told_as (set_attr a) e (λ one two. grows_to_blank one.tree one.file.fileid a.attributes.size)
+      by (nfs.Lookup a) e = told_as (lookup a) e (λ one two. refl)
+      by (nfs.Access a) e = told_as (access a) e (λ one two. refl)
+      by (nfs.ReadLink file) e = told_as (read_link file) e (λ one two. refl)
+      by (nfs.Read a) e = told_as (read a) e (λ one two. refl)
+      by (nfs.Write a) e = told_as (write a) e (λ one two. grows_blank one.tree one.file.fileid a.offset (length a.content))
+      by (nfs.Create a) e = told_as (create a) e (λ one two i. on_some (found_veiled p one a.place.name i) true (λ f. taking_blank one.tree f.fileid a.how i))
+      by (nfs.MakeDir a) e = told_as (make_dir a) e (λ one two. refl)
+      by (nfs.SymLink a) e = told_as (sym_link a) e (λ one two. refl)
+      by (nfs.MakeNode a) e = told_as (make_node a) e (λ one two. refl)
+      by (nfs.Remove a) e = told_as (remove a) e (λ one two. refl)
+      by (nfs.RemoveDir a) e = told_as (remove_dir a) e (λ one two. refl)
+      by (nfs.Rename a) e = told_as (rename a) e (λ one two. names_blank one.tree one.file.fileid two.file.fileid a.from.name a.to.name)
+      by (nfs.Link a) e = told_as (link a) e (λ one two. refl)
+      by (nfs.ReadDir a) e = told_as (read_dir a) e (λ one two. refl)
+      by (nfs.ReadDirPlus a) e = told_as (read_dir_plus a) e (λ one two. refl)
+      by (nfs.FsStat file) e = told_as (fs_stat file) e (λ one two. refl)
+      by (nfs.FsInfo file) e = told_as (fs_info file) e (λ one two. refl)
+      by (nfs.PathConf file) e = told_as (path_conf file) e (λ one two. refl)
+      by (nfs.Commit a) e = told_as (commit a) e (λ one two. refl)

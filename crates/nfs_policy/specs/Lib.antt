@@ -1,0 +1,6 @@
+pub mod Shape
+pub mod Reading
+pub mod Policy
+pub mod Naming
+pub mod Confining
+pub mod Refusals
