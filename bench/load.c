@@ -2,7 +2,8 @@
  * lookup, read4, read64, write64 or make. Each client has up to DEPTH calls under way. Each reply is
  * looked at: its length, and that its number is that of the client's oldest call. It prints the
  * microseconds a call, and the 99th of a hundred times of a call. With echo, the sizes alone are
- * asked for. The description is bench/serve.tree: file 2 is a directory, 3 and 4 have 4 and 64 KiB. */
+ * asked for. With idle in place of WORK the clients connect and say nothing until standard input ends.
+ * In the description file 2 is a directory, and 3 and 4 have 4 and 64 KiB. */
 #include <arpa/inet.h>
 #include <errno.h>
 #include <fcntl.h>
@@ -170,7 +171,8 @@ int main(int count, char **w) {
     static unsigned char in[1 << 18];
     struct sockaddr_in to = {.sin_family = AF_INET, .sin_port = htons((unsigned short)atoi(w[1]))};
     Client *all = calloc((size_t)clients, sizeof *all);
-    make_calls(w[2]);
+    int idle = strcmp(w[2], "idle") == 0;
+    if (!idle) make_calls(w[2]);
     to.sin_addr.s_addr = htonl(INADDR_LOOPBACK);
     for (int i = 0; i < clients; i++) {
         int yes = 1;
@@ -181,6 +183,11 @@ int main(int count, char **w) {
         setsockopt(all[i].peer, IPPROTO_TCP, TCP_NODELAY, &yes, sizeof yes);
         fcntl(all[i].peer, F_SETFL, O_NONBLOCK);
         epoll_ctl(poll, EPOLL_CTL_ADD, all[i].peer, &e);
+    }
+    if (idle) {
+        printf("ready\n");
+        fflush(stdout);
+        return getchar() != EOF;
     }
     double began = now();
     while (left > 0) {
