@@ -1,4 +1,6 @@
 //! Streams and clients over devices and links that fail, and without memory.
+ghost use Rattle.std.specs.Prelude.{◌<◌};
+
 use crate::ROUNDS;
 use crate::described::loaded;
 use ballast::Ballast;
@@ -66,8 +68,8 @@ impl Failing {
     fn call(self, device: Failing, k: u32) -> u64
         ensures { 0 < result }
     {
-        if self == device {
-            u64::from(k).max(1)
+        if self == device && k > 0 {
+            u64::from(k)
         } else {
             u64::MAX
         }
