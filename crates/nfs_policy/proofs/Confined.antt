@@ -13,6 +13,7 @@ use Rattle.nfs_inodes.specs.Law.{Law}
 use Rattle.nfs_inodes.specs.Reading.{numbered_files}
 use Rattle.nfs_inodes.specs.Tree.{Tree, File, at}
 use Rattle.nfs_server.specs.Events.{Event, Answer, Choice, Done}
+use Rattle.nfs_server.specs.Fits.{Held, Past, Fits, GoesOn}
 use Rattle.nfs_server.specs.Steps.{Setup, State, IsRun, scene_of}
 use Rattle.nfs_policy.proofs.Changing.{Changes, step_changes}
 use Rattle.nfs_policy.proofs.Lawful.{granted_law}
@@ -108,6 +109,17 @@ handles_name_for_good setup opening law past state run = (
 )
 
 -- ---- servers
+
+-- one event more
+module _ (past : Past) (old : Held) (event : Event) (choice : Choice) (answer : Answer) (new : Held) (fits : Fits past old) (step : GoesOn past old event choice answer new) where
+  law_before : Law old.state.tree
+  law_before = (runs_are_confined old.setup past.opening fits.opens.lawful past.done old.state fits.run).0
+
+  pub step_leaves : Leaves old.setup old.state event new.state
+  step_leaves = change_is_confined old.setup past.done old.state event choice answer new.state law_before step.0
+
+  pub step_names : NamesOn old.state.tree new.state.tree
+  step_names = names_on old.state.tree new.state.tree law_before.numbers (goes old.setup old.state event choice answer new.state law_before (step_changes old.setup past.done old.state event choice answer new.state step.0))
 
 pub servers_are_confined : ServersAreConfined
 servers_are_confined past s fits =

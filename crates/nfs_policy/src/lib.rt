@@ -1,4 +1,5 @@
-//! What clients may change and read, whatever the rules are: laws about runs, which nothing runs.
+//! What clients may change and read, whatever the rules are: laws about runs.
 #![tactic(auto)]
 
+pub mod handling;
 pub mod laws;
