@@ -18,7 +18,7 @@ const GRANTED: Addr = Addr(0x0a00_0001);
 const DENIED: Addr = Addr(0x0a00_0301);
 
 /// The measures, in the order in which they are taken.
-pub(crate) const MEASURES: [&str; 12] = [
+pub(crate) const MEASURES: [&str; 13] = [
     "null",
     "getattr",
     "lookup-x",
@@ -26,6 +26,7 @@ pub(crate) const MEASURES: [&str; 12] = [
     "read-65536",
     "access",
     "setattr",
+    "setattr-again",
     "create-remove",
     "rename",
     "write-4096",
@@ -92,6 +93,7 @@ struct Asked {
     reply: ReplyBuf,
     line: Line,
     addr: Addr,
+    is_repeated: bool,
     first: Vec<u8>,
     second: Option<Vec<u8>>,
 }
@@ -106,13 +108,15 @@ impl Asked {
             reply: ReplyBuf::new(alloc)?,
             line: Line::new(),
             addr: if name == "denied" { DENIED } else { GRANTED },
+            is_repeated: name == "setattr-again",
             first,
             second,
         })
     }
 
-    // The calls of a round, each of the same number.
-    fn round(&mut self, xid: u32, counted: &mut Counted) {
+    // The calls of a round, each of the same number: that of the round, unless they are repeated.
+    fn round(&mut self, round: u32, counted: &mut Counted) {
+        let xid = if self.is_repeated { 0 } else { round };
         number(self.first.as_mut_slice(), xid);
         answer(
             &mut self.server,

@@ -104,7 +104,7 @@ pub(crate) fn first_of(alloc: Global, tree: &Tree, name: &str) -> io::Result<Vec
         "read-4096" => read(alloc, tree, 4_096),
         "read-65536" => read(alloc, tree, 65_536),
         "access" => record(alloc, tree, 4, LARGE, &[0, 0, 0, 0x3f]),
-        "setattr" => with(record(alloc, tree, 2, LARGE, &MODE)?, &[&NOTHING]),
+        "setattr" | "setattr-again" => with(record(alloc, tree, 2, LARGE, &MODE)?, &[&NOTHING]),
         "create-remove" => with(record(alloc, tree, 8, PUB, &Y)?, &[&[0, 0, 0, 1], &NOTHING]),
         "rename" => renamed(alloc, tree, &X, &Y),
         "write-4096" => written(alloc, tree, 4_096),
