@@ -3,7 +3,7 @@
  * looked at: its length, and that its number is that of the client's oldest call. It prints the
  * microseconds a call, and the 99th of a hundred times of a call. With echo, the sizes alone are
  * asked for. With idle in place of WORK the clients connect and say nothing until standard input ends.
- * In the description file 2 is a directory, and 3 and 4 have 4 and 64 KiB. */
+ * The description is that of bench/tree. */
 #include <arpa/inet.h>
 #include <errno.h>
 #include <fcntl.h>
