@@ -1,6 +1,8 @@
 //! What is exported to whom (exports(5)): for each volume, patterns of addresses in order, each
 //! with its options.
-ghost use Rattle.std.specs.Prelude.{◌≡◌, ◌<◌, ◌≤◌, [], ◌∷◌, ◌++◌, length, OnOk, OnErr, option_copied};
+ghost use Rattle.std.specs.Prelude.{◌≡◌, ◌<◌, ◌≤◌, [], ◌∷◌, ◌++◌, Some, length, slice_get, OnOk, OnErr, option_copied};
+ghost use Rattle.std.specs.Global.{Vec};
+ghost use Rattle.std.specs.Vec.{vec_capacity, vec_len};
 ghost use Rattle.nfs_exports.specs.Tables.{added, exports_of, grant, lists, pattern_count};
 
 use crate::addr::Addr;
@@ -133,6 +135,7 @@ fn push_to(volumes: &mut Vec<Vec<Export>>, volume: usize, export: Export) -> Res
     requires { volume < length volumes.old.items }
     ensures ok { OnOk result (lists volumes.new.items ≡ added (lists volumes.old.items) volume export) }
     ensures err { OnErr result (lists volumes.new.items ≡ lists volumes.old.items) }
+    ensures full { OnErr result ((exports : Vec Export) → slice_get volumes.old.items volume ≡ Some exports → vec_capacity exports ≡ vec_len exports) }
 {
     volumes[volume].push(export)?;
     Ok(())

@@ -1,6 +1,7 @@
 //! The bytes of a regular file.
 ghost use Rattle.std.specs.Prelude.{◌≡◌, ◌+◌, ◌<◌, ◌≤◌, ◌++◌, OnOk, OnErr, IfOk, length, take};
 ghost use Rattle.std.specs.Prelude.{drop};
+ghost use Rattle.std.specs.Vec.{vec_capacity};
 ghost use Rattle.nfs_inodes.specs.Limits.{max_file_bytes};
 ghost use Rattle.nfs_inodes.specs.Changes.{put_bytes, sized, zeros};
 
@@ -33,6 +34,7 @@ pub(crate) fn put(content: &mut Vec<u8>, offset: usize, bytes: &[u8]) -> Result<
     ensures ok { OnOk result (content.new.items ≡ put_bytes content.old.items offset bytes.now) }
     ensures err { OnErr result (content.new.items ≡ content.old.items) }
     ensures full { OnErr result (length content.old.items < offset + length bytes.now) }
+    ensures room { OnErr result (vec_capacity content.old < offset + length bytes.now) }
 {
     if offset <= content.len() {
         put_inside(content, offset, bytes)
@@ -47,6 +49,7 @@ pub(crate) fn resize(content: &mut Vec<u8>, size: usize) -> Result<(), AllocErro
     ensures ok { OnOk result (content.new.items ≡ sized content.old.items size) }
     ensures err { OnErr result (content.new.items ≡ content.old.items) }
     ensures full { OnErr result (length content.old.items < size) }
+    ensures room { OnErr result (vec_capacity content.old < size) }
 {
     if size <= content.len() {
         content.truncate(size);
@@ -62,6 +65,7 @@ fn put_inside(content: &mut Vec<u8>, offset: usize, bytes: &[u8]) -> Result<(), 
     ensures ok { OnOk result (content.new.items ≡ put_bytes content.old.items offset bytes.now) }
     ensures err { OnErr result (content.new.items ≡ content.old.items) }
     ensures full { OnErr result (length content.old.items < offset + length bytes.now) }
+    ensures room { OnErr result (vec_capacity content.old < offset + length bytes.now) }
 {
     let inside = bytes.len().min(content.len() - offset);
     content.extend_from_slice(&bytes[inside..])?;
@@ -76,6 +80,7 @@ fn put_beyond(content: &mut Vec<u8>, offset: usize, bytes: &[u8]) -> Result<(), 
     ensures ok { OnOk result (content.new.items ≡ put_bytes content.old.items offset bytes.now) }
     ensures err { OnErr result (content.new.items ≡ content.old.items) }
     ensures full { OnErr result (length content.old.items < offset + length bytes.now) }
+    ensures room { OnErr result (vec_capacity content.old < offset + length bytes.now) }
 {
     content.resize(offset + bytes.len(), 0)?;
     overwrite(content, offset, bytes);

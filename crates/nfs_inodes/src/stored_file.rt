@@ -102,6 +102,7 @@ impl StoredFile {
 pub(crate) fn reserve_entry(stored_file: &mut StoredFile) -> Result<(), AllocError>
     requires { IsTrue (is_directory (file_of 0 stored_file.old).kind) }
     ensures ok { OnOk result (HasRoom stored_file.new) }
+    ensures full { OnErr result (HasRoom stored_file.old → ⊥) }
     ensures file { file_of 0 stored_file.new ≡ file_of 0 stored_file.old }
     ensures nlink { stored_file.new.nlink ≡ stored_file.old.nlink }
 {

@@ -1,4 +1,5 @@
 pub mod Requests
+pub mod FaultWords
 pub mod RpcRules
 pub mod AuditLines
 pub mod Events
