@@ -46,37 +46,23 @@ pub(crate) fn serve<R: Files + Print + Eprint + Net + Clock>(
         Err(error) => return Err(network(serving.address, error)),
     };
     let mut out = Device::new(io::writer(rt));
-    announce(alloc, &listener, serving.address, &mut out)?;
-    let done = match serving.audit {
+    match serving.audit {
         Some(name) => {
             let Ok(file) = OpenOptions::new().append(true).create(true).open(rt, name) else {
                 return Err(ReplayFault::CannotWrite(name.to_string(alloc)?));
             };
             let mut audit = Device::new(file);
             run(
-                &logged,
-                alloc,
-                server,
-                listener,
-                serving.limits,
-                &mut out,
-                &mut audit,
+                &logged, alloc, server, listener, serving, &mut out, &mut audit,
             )
         }
         None => {
             let mut audit = Device::new(io::writer(rt));
             run(
-                &logged,
-                alloc,
-                server,
-                listener,
-                serving.limits,
-                &mut out,
-                &mut audit,
+                &logged, alloc, server, listener, serving, &mut out, &mut audit,
             )
         }
-    };
-    done.map_err(|fault| fault_of(serving.address, fault))
+    }
 }
 
 /// Serves NULL over a connection of its own, and prints the reply.
@@ -89,18 +75,22 @@ where
     self_call(rt, alloc, server, &mut out).map_err(|fault| fault_of(address, fault))
 }
 
-// Serves the clients of a listener.
+// Says where it is listened, and serves the clients of the listener.
 fn run<R: Net + Clock + Log, W: ByteOut, A: ByteOut>(
     rt: &R,
     alloc: Global,
     server: &mut Server,
     listener: TcpListener,
-    limits: Limits,
+    serving: &Serving<'_>,
     out: &mut W,
     audit: &mut A,
-) -> Result<(), ServiceFault> {
-    let mut service = Service::new(rt, alloc, server, listener, limits)?;
-    service.run(out, audit)
+) -> Result<(), ReplayFault> {
+    announce(alloc, &listener, serving.address, out)?;
+    let done = match Service::new(rt, alloc, server, listener, serving.limits) {
+        Ok(mut service) => service.run(out, audit),
+        Err(fault) => Err(fault),
+    };
+    done.map_err(|fault| fault_of(serving.address, fault))
 }
 
 // Prints where it is listened.

@@ -1,4 +1,8 @@
 //! The clients that a service has.
+ghost use Rattle.std.specs.Prelude.{◌≡◌, ◌⊎◌, [], ◌∷◌, ◌++◌, option_to_list, IfOk, OnOk, Some};
+ghost use Rattle.slab.specs.Slab.{get, slab_len};
+ghost use Rattle.std.specs.VecDeque.{deque_len};
+
 use crate::socket::Socket;
 use nfs_serving::client::Client;
 use slab::Slab;
@@ -33,7 +37,9 @@ pub struct Clients {
 
 impl Clients {
     /// No clients, with room for the queue of so many.
-    pub fn new(alloc: Global, most: usize) -> Result<Clients, AllocError> {
+    pub fn new(alloc: Global, most: usize) -> Result<Clients, AllocError>
+        ensures ready { IfOk result (λ clients. clients.ready.items ≡ []) }
+    {
         Ok(Clients {
             members: Slab::new(alloc),
             ready: VecDeque::with_capacity(alloc, most)?,
@@ -41,17 +47,24 @@ impl Clients {
     }
 
     /// How many there are.
-    pub fn len(&self) -> usize {
+    pub fn len(&self) -> usize
+        ensures { result ≡ slab_len self.now.members }
+    {
         self.members.len()
     }
 
     /// The key that the next client has.
-    pub fn next_key(&self) -> usize {
+    pub fn next_key(&self) -> usize
+        ensures { result ≡ self.now.members.vacant_key }
+    {
         self.members.vacant_key()
     }
 
     /// Adds a client. Refused, and the client dropped, where there is no memory.
-    pub fn add(&mut self, member: Member) -> Result<(), AllocError> {
+    pub fn add(&mut self, member: Member) -> Result<(), AllocError>
+        ensures added { OnOk result (get self.new.members self.old.members.vacant_key ≡ Some member) }
+        ensures ready { self.new.ready ≡ self.old.ready }
+    {
         match self.members.insert(member) {
             Ok(_) => Ok(()),
             Err(_) => Err(AllocError),
@@ -64,12 +77,17 @@ impl Clients {
     }
 
     /// Takes the client of a key away.
-    pub fn remove(&mut self, key: usize) -> Option<Member> {
+    pub fn remove(&mut self, key: usize) -> Option<Member>
+        ensures value { result ≡ get self.old.members key }
+        ensures ready { self.new.ready ≡ self.old.ready }
+    {
         self.members.try_remove(key)
     }
 
-    /// Has the client of a key wait for a turn, if it doesn't yet.
-    pub fn make_ready(&mut self, key: usize) {
+    /// Has the client of a key wait for a turn behind the others, if it doesn't wait yet.
+    pub fn make_ready(&mut self, key: usize)
+        ensures { (self.new.ready.items ≡ self.old.ready.items) ⊎ (self.new.ready.items ≡ self.old.ready.items ++ key ∷ []) }
+    {
         if let Some(member) = self.members.get_mut(key) {
             if !member.is_ready {
                 member.is_ready = self.ready.push_back(key).is_ok();
@@ -78,12 +96,16 @@ impl Clients {
     }
 
     /// How many wait for a turn.
-    pub fn ready(&self) -> usize {
+    pub fn ready(&self) -> usize
+        ensures { result ≡ deque_len self.now.ready }
+    {
         self.ready.len()
     }
 
     /// The key of the client whose turn it is.
-    pub fn next(&mut self) -> Option<usize> {
+    pub fn next(&mut self) -> Option<usize>
+        ensures { self.old.ready.items ≡ option_to_list result ++ self.new.ready.items }
+    {
         let key = self.ready.pop_front()?;
         if let Some(member) = self.members.get_mut(key) {
             member.is_ready = false;

@@ -3,6 +3,7 @@
 
 pub mod clients;
 pub mod clock;
+mod keys;
 pub mod limits;
 pub mod report;
 pub mod self_call;

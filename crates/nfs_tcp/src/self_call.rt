@@ -5,11 +5,12 @@ use crate::socket::addr_of;
 use hex::encode;
 use log::Log;
 use nfs_exports::addr::Addr;
+use nfs_server::serve_fault::ServeFault;
 use nfs_server::server::Server;
 use nfs_server::stream::serve_stream;
 use nfs_xdr::device::{ByteOut, Device, write_all};
 use std::alloc::Global;
-use std::io::{self, Read, Write};
+use std::io::{self, ErrorKind, Read, Write};
 use std::net::{Net, Shutdown, TcpListener, TcpStream};
 use std::time::Clock;
 
@@ -25,6 +26,9 @@ const TURNS: u32 = 100;
 
 /// Connects to a listener of its own, on a port that the system chooses, sends NULL, and writes the
 /// reply with its record mark as a line of hexadecimal digits.
+///
+/// `Memory` where there is none, `Write` where the line can't be written; `Network` where the network
+/// fails, on either side of the connection.
 pub fn self_call<R, W>(
     rt: &R,
     alloc: Global,
@@ -56,7 +60,7 @@ fn serve_next<R: Clock + Log>(
     alloc: Global,
     server: &mut Server,
     listener: &TcpListener,
-) -> io::Result<()> {
+) -> Result<(), ServiceFault> {
     let (stream, peer) = listener.accept()?;
     stream.set_nodelay(true)?;
     let addr = addr_of(peer).unwrap_or(Addr(0));
@@ -64,7 +68,7 @@ fn serve_next<R: Clock + Log>(
     let mut writer = Device::new(&stream);
     let mut audit = Device::new(io::sink());
     let mut clock = SystemClock::new(rt);
-    let _served = serve_stream(
+    match serve_stream(
         alloc,
         server,
         addr,
@@ -73,6 +77,9 @@ fn serve_next<R: Clock + Log>(
         &mut audit,
         &mut clock,
         TURNS,
-    );
-    Ok(())
+    ) {
+        Ok(_) => Ok(()),
+        Err(ServeFault::Memory) => Err(ServiceFault::Memory),
+        Err(_) => Err(io::Error::from(ErrorKind::ConnectionAborted).into()),
+    }
 }

@@ -1,12 +1,13 @@
 //! A server that serves many clients at once, in turns.
 use crate::clients::{Clients, Member};
 use crate::clock::SystemClock;
+use crate::keys::{LISTENER, key_of, token_of};
 use crate::limits::Limits;
 use crate::report::{ReportFault, report};
 use crate::socket::{Socket, addr_of};
 use log::{Log, info, warn};
 use mio::net::{TcpListener, TcpStream};
-use mio::{Events, Interest, Poll, Token};
+use mio::{Events, Interest, Poll};
 use nfs_server::moments::Moments;
 use nfs_server::serve_fault::ServeFault;
 use nfs_server::server::Server;
@@ -19,9 +20,6 @@ use std::io::{self, ErrorKind};
 use std::net::{Net, SocketAddr};
 use std::time::{Clock, Duration, Instant};
 use thiserror::Error;
-
-// The listener's token. That of a client is its key and one.
-const LISTENER: Token = Token(0);
 
 // How many events are taken at once.
 const EVENTS: usize = 1024;
@@ -110,6 +108,8 @@ pub struct Service<'a, R> {
     room: Room,
     accepted: u64,
     ended: u64,
+    // When silent clients were last looked for, in seconds since the service began.
+    looked: u64,
 }
 
 impl<'a, R: Net + Clock + Log> Service<'a, R> {
@@ -139,6 +139,7 @@ impl<'a, R: Net + Clock + Log> Service<'a, R> {
             room: Room::new(alloc)?,
             accepted: 0,
             ended: 0,
+            looked: 0,
         })
     }
 
@@ -193,7 +194,7 @@ impl<'a, R: Net + Clock + Log> Service<'a, R> {
             self.waiting = Waiting::Some;
         }
         for event in self.events.iter() {
-            match event.token().0.checked_sub(1) {
+            match key_of(event.token()) {
                 None => self.waiting = Waiting::Some,
                 Some(key) => {
                     if let Some(member) = self.clients.get_mut(key) {
@@ -260,7 +261,7 @@ impl<'a, R: Net + Clock + Log> Service<'a, R> {
         }
         self.poll.registry().register(
             &mut stream,
-            Token(key + 1),
+            token_of(key),
             Interest::READABLE | Interest::WRITABLE,
         )?;
         let socket = Socket::new(stream)?;
@@ -352,12 +353,17 @@ impl<'a, R: Net + Clock + Log> Service<'a, R> {
         Ok(())
     }
 
-    // Ends the connections on which nothing came for too long.
+    // Ends the connections on which nothing came for too long. It looks for them once a second.
     fn end_silent<W: ByteOut>(&mut self, out: &mut W) -> Result<(), ServiceFault> {
         let Some(idle) = self.limits.idle else {
             return Ok(());
         };
-        let Some(since) = self.seconds().checked_sub(idle) else {
+        let seconds = self.seconds();
+        if seconds == self.looked {
+            return Ok(());
+        }
+        self.looked = seconds;
+        let Some(since) = seconds.checked_sub(idle) else {
             return Ok(());
         };
         for key in 0..self.clients.keys() {

@@ -1,5 +1,7 @@
 //! Sockets that never wait.
 ghost use Rattle.std.specs.Prelude.{None};
+ghost use Rattle.std.specs.Net.Socket.{socket_ip};
+ghost use Rattle.nfs_tcp.specs.Peers.{IsAddrOf};
 
 use mio::net::TcpStream;
 use nfs_exports::addr::Addr;
@@ -58,7 +60,9 @@ impl Link for Socket {
 }
 
 /// The address of a peer: one of IPv4, or one that is mapped into IPv6.
-pub fn addr_of(peer: SocketAddr) -> Option<Addr> {
+pub fn addr_of(peer: SocketAddr) -> Option<Addr>
+    ensures { IsAddrOf (socket_ip peer) result }
+{
     let ip = match peer.ip() {
         IpAddr::V4(ip) => ip,
         IpAddr::V6(ip) => ip.to_ipv4_mapped()?,

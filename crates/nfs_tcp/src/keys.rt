@@ -1,0 +1,23 @@
+//! The tokens by which the system tells of clients and of the listener.
+ghost use Rattle.std.specs.Prelude.{◌≡◌, ◌<◌, ◌^◌, Some, None};
+ghost use Rattle.nfs_tcp.specs.Tokens.{client_of};
+
+use mio::Token;
+
+/// The listener's token. No client has it.
+pub(crate) const LISTENER: Token = Token(0);
+
+/// The token of a client, by its key.
+pub(crate) fn token_of(key: usize) -> Token
+    requires { key + 1 < 2 ^ 64 }
+    ensures { client_of result ≡ Some key }
+{
+    Token(key + 1)
+}
+
+/// The key of a token's client. The listener's has none.
+pub(crate) fn key_of(token: Token) -> Option<usize>
+    ensures { result ≡ client_of token }
+{
+    token.0.checked_sub(1)
+}
