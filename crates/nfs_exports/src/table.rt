@@ -135,7 +135,8 @@ fn push_to(volumes: &mut Vec<Vec<Export>>, volume: usize, export: Export) -> Res
     requires { volume < length volumes.old.items }
     ensures ok { OnOk result (lists volumes.new.items ≡ added (lists volumes.old.items) volume export) }
     ensures err { OnErr result (lists volumes.new.items ≡ lists volumes.old.items) }
-    ensures full { OnErr result ((exports : Vec Export) → slice_get volumes.old.items volume ≡ Some exports → vec_capacity exports ≡ vec_len exports) }
+    ensures full { OnErr result ((exports : Vec Export) → slice_get volumes.old.items volume ≡ Some exports
+        → vec_capacity exports ≡ vec_len exports) }
 {
     volumes[volume].push(export)?;
     Ok(())

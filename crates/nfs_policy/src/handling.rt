@@ -12,7 +12,8 @@ use nfs_server::server::Server;
 /// or it is a call of NFS whose change obeys the policy; and what handles named before they name
 /// while it lives.
 pub fn handle(server: &mut Server, event: Event<'_>, reply: &mut ReplyBuf) -> Handled
-    ensures confined { (past : Past) → Fits past server.old → Leaves server.old.setup server.old.state (event_of event.entry) server.new.state }
+    ensures confined { (past : Past) → Fits past server.old
+        → Leaves server.old.setup server.old.state (event_of event.entry) server.new.state }
     ensures names { (past : Past) → Fits past server.old → NamesOn server.old.state.tree server.new.state.tree }
 {
     server.handle(event, reply)

@@ -218,7 +218,8 @@ fn take_one<W: ByteOut, A: ByteOut, C: Moments>(
     ensures limit { framer.new.limit ≡ framer.old.limit }
     ensures setup { server.new.setup ≡ server.old.setup }
     ensures fault { IfErr result (EndsWith (A.failed audit.new) (W.failed replies.new)) }
-    ensures feeds { StreamFeeds C.tells addr (bytes_used result piece.now) (calls_of (served_of result)) (course unfinished (left_behind (served_of result)))
+    ensures feeds { StreamFeeds C.tells addr (bytes_used result piece.now) (calls_of (served_of result))
+        (course unfinished (left_behind (served_of result)))
         (course server.old server.new) (course framer.old framer.new) (course clock.old clock.new)
         (device (A.contents audit.old) (A.contents audit.new))
         (device (W.contents replies.old) (W.contents replies.new)) }

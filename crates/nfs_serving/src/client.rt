@@ -20,7 +20,7 @@ use std::alloc::Global;
 use std::marker::Model;
 
 // Behind the reply with which so many bytes are owed, no more is taken.
-const MOST_OWED: usize = 262_144;
+const MOST_OWED: usize = 65_536;
 
 /// A connection over a link: what has come and is not taken yet, and what is owed.
 #[derive(Drop)]
@@ -268,7 +268,9 @@ impl<L: Link> Client<L> {
     fn ends(&mut self, end: End) -> Turn
         ensures turn { result ≡ Turn.Ended end }
         ensures end { self.new.end ≡ Some end }
-        ensures same { (self.new.connection ≡ self.old.connection) × (self.new.outlet ≡ self.old.outlet) × (self.new.piece ≡ self.old.piece) }
+        ensures connection { self.new.connection ≡ self.old.connection }
+        ensures outlet { self.new.outlet ≡ self.old.outlet }
+        ensures piece { self.new.piece ≡ self.old.piece }
     {
         self.end = Some(end);
         Turn::Ended(end)

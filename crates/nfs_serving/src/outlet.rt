@@ -83,7 +83,9 @@ impl<L: Link> Outlet<L> {
         ensures came { IfOk result (λ came. Brings (L.incoming self.old.link) came piece.new (L.incoming self.new.link)) }
         ensures outgoing { L.outgoing self.new.link ≡ L.outgoing self.old.link }
         ensures same { (self.new.owed ≡ self.old.owed) × (self.new.failed ≡ self.old.failed) }
-        ensures fault { OnErr result ((L.failed self.new.link ≡ true) × (L.incoming self.new.link ≡ L.incoming self.old.link) × (piece.new ≡ [])) }
+        ensures fault { OnErr result (L.failed self.new.link ≡ true) }
+        ensures incoming { OnErr result (L.incoming self.new.link ≡ L.incoming self.old.link) }
+        ensures piece { OnErr result (piece.new ≡ []) }
     {
         piece.receive(&mut self.link)
     }

@@ -1,5 +1,5 @@
 //! The tokens by which the system tells of clients and of the listener.
-ghost use Rattle.std.specs.Prelude.{◌≡◌, ◌<◌, ◌^◌, Some, None};
+ghost use Rattle.std.specs.Prelude.{◌≡◌, ◌+◌, ◌<◌, ◌^◌, Some};
 ghost use Rattle.nfs_tcp.specs.Tokens.{client_of};
 
 use mio::Token;
