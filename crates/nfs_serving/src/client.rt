@@ -20,7 +20,7 @@ use std::alloc::Global;
 use std::marker::Model;
 
 // Behind the reply with which so many bytes are owed, no more is taken.
-const MOST_OWED: usize = 65_536;
+const MOST_OWED: usize = 262_144;
 
 /// A connection over a link: what has come and is not taken yet, and what is owed.
 #[derive(Drop)]
