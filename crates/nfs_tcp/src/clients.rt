@@ -1,5 +1,6 @@
 //! The clients that a service has.
-ghost use Rattle.std.specs.Prelude.{◌≡◌, ◌⊎◌, [], ◌∷◌, ◌++◌, option_to_list, IfOk, OnOk, Some};
+ghost use Rattle.std.specs.Prelude.{◌≡◌, ◌⊎◌, [], ◌∷◌, ◌++◌, nat_lt, option_to_list, false, IfOk, OnOk, Some};
+ghost use Rattle.std.specs.Option.{option_copied_mut, option_map_or};
 ghost use Rattle.slab.specs.Slab.{get, slab_len};
 ghost use Rattle.std.specs.VecDeque.{deque_len};
 
@@ -72,7 +73,9 @@ impl Clients {
     }
 
     /// The client of a key.
-    pub fn get_mut(&mut self, key: usize) -> Option<&mut Member> {
+    pub fn get_mut(&mut self, key: usize) -> Option<&mut Member>
+        ensures value { option_copied_mut result ≡ get self.old.members key }
+    {
         self.members.get_mut(key)
     }
 
@@ -114,7 +117,9 @@ impl Clients {
     }
 
     /// Whether the client of a key was not heard of since then.
-    pub fn is_silent(&self, key: usize, since: u64) -> bool {
+    pub fn is_silent(&self, key: usize, since: u64) -> bool
+        ensures { result ≡ option_map_or (λ member. nat_lt member.heard since) (get self.now.members key) false }
+    {
         match self.members.get(key) {
             Some(member) => member.heard < since,
             None => false,
@@ -122,7 +127,9 @@ impl Clients {
     }
 
     /// Above all keys.
-    pub fn keys(&self) -> usize {
+    pub fn keys(&self) -> usize
+        ensures { result ≡ self.now.members.capacity }
+    {
         self.members.capacity()
     }
 }

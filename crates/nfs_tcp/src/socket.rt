@@ -1,5 +1,5 @@
 //! Sockets that never wait.
-ghost use Rattle.std.specs.Prelude.{None};
+ghost use Rattle.std.specs.Prelude.{◌≡◌, None, false, IfOk};
 ghost use Rattle.std.specs.Net.Socket.{socket_ip};
 ghost use Rattle.nfs_tcp.specs.Peers.{IsAddrOf};
 
@@ -19,7 +19,9 @@ pub struct Socket {
 
 impl Socket {
     /// A link over this stream. A reply goes out at once, without the delay that gathers small ones.
-    pub fn new(stream: TcpStream) -> io::Result<Socket> {
+    pub fn new(stream: TcpStream) -> io::Result<Socket>
+        ensures { IfOk result (λ socket. socket.failed ≡ false) }
+    {
         stream.set_nodelay(true)?;
         Ok(Socket {
             stream,
