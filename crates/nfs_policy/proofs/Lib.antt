@@ -15,3 +15,4 @@ pub mod Lawful
 pub mod Numbered
 pub mod Confined
 pub mod Refusals
+pub mod Complete

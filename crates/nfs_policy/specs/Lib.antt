@@ -4,3 +4,4 @@ pub mod Policy
 pub mod Naming
 pub mod Confining
 pub mod Refusals
+pub mod Complete

@@ -1,4 +1,5 @@
 //! Laws over the definitions alone.
+ghost use Rattle.nfs_policy.specs.Complete.{HasBoth, HasChanged, HasFound, HasMade, HasPath, HasVolume, OfGranted};
 ghost use Rattle.nfs_policy.specs.Confining.{ChangeIsConfined, ReadingIsConfined, RunsAreConfined};
 ghost use Rattle.nfs_policy.specs.Confining.{ServersAreConfined};
 ghost use Rattle.nfs_policy.specs.Naming.{HandlesNameForGood};
@@ -58,4 +59,15 @@ pub fn reading_is_confined()
 pub fn policy_refuses()
     ensures refuses { Refuses }
     ensures passes { PassesOver }
+{}
+
+/// The answer of a granted call has all its parts, where the definitions have a case for a part
+/// that isn't there: no call comes to it.
+pub fn answers_are_complete()
+    ensures path { OfGranted HasPath }
+    ensures found { OfGranted HasFound }
+    ensures volume { OfGranted HasVolume }
+    ensures changed { OfGranted HasChanged }
+    ensures both { OfGranted HasBoth }
+    ensures made { OfGranted HasMade }
 {}
