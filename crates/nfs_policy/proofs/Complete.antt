@@ -1,6 +1,6 @@
 -- What is there before a granted call, and after it.
-use Rattle.std.proofs.Common.{◌≡◌, ◌≢◌, ℕ, ◌-◌, ◌<◌, ◌^◌, Bool, true, false, not, List, [], ◌∷◌, Option, Some, None, is_some, option_map, slice_get, refl, sym, ap, subst, ◌∙◌}
-use Rattle.std.specs.Prelude.{IsSome, nat_eq, if◌then◌else◌}
+use Rattle.std.proofs.Common.{inl, inr, ◌⊎◌, arith, ◌≡◌, ◌≢◌, ℕ, ◌-◌, ◌<◌, ◌^◌, Bool, true, false, not, List, [], ◌∷◌, Option, Some, None, is_some, option_map, slice_get, refl, sym, ap, subst, ◌∙◌}
+use Rattle.std.specs.Prelude.{Contains, IsSome, nat_eq, if◌then◌else◌}
 use Rattle.std.proofs.lemmas.Bool.{true≢false, eqb-false}
 use Rattle.nfs_args.specs.declared.args.NfsArgs.{NfsArgs}
 use Rattle.nfs_args.specs.declared.args.NfsArgs.TheVariants as nfs
@@ -14,15 +14,15 @@ use Rattle.nfs_attrs.specs.declared.sattr.Sattr.{Sattr}
 use Rattle.nfs_handles.specs.Handles.{handle_at, handle_text}
 use Rattle.nfs_handles.specs.NumberedFiles.{TaggedFile, at as file_at}
 use Rattle.nfs_inodes.proofs.Follows.{lives_alike}
-use Rattle.nfs_inodes.proofs.Lists.{by_number, same_some, not_both}
+use Rattle.nfs_inodes.proofs.Lists.{by_number, head_or_tail, same_some, not_both}
 use Rattle.nfs_inodes.proofs.Maps.{at_next, at_with_same, at_with_other, at_without_other, at_push_same, at_push_other}
 use Rattle.nfs_inodes.proofs.Unlinks.{entry_is, empty_elsewhere, other_file}
 use Rattle.nfs_inodes.proofs.Views.{mapped}
 use Rattle.nfs_inodes.specs.Changes.{with_new_file, with_file, without_file, entered, with_entry, left, without_entry, touched, released, moved_to, moved, with_named_file, after_write_at, file_with_bytes, resized_to, after_resize, with_given, after_set, after_link, after_unlink, carried, after_rename}
 use Rattle.nfs_inodes.specs.Conditions.{MayUnlink, MayRename, MayReplace}
 use Rattle.nfs_inodes.specs.Law.{Law, Lives}
-use Rattle.nfs_inodes.specs.Reading.{attributes_of, attributes_at, entry_at, entry_named, numbered_files, path_of, path_at, totals_at, type_of}
-use Rattle.nfs_inodes.specs.Tree.{Tree, File, Kind, Regular, Directory, Link, Entry, Volume, at, on_some, entries_in, names_of, nlink}
+use Rattle.nfs_inodes.specs.Reading.{attributes_of, attributes_at, dot, dot_dot, entry_at, entry_named, listing, listing_at, numbered_files, path_of, path_at, totals_at, type_of}
+use Rattle.nfs_inodes.specs.Tree.{Tree, File, Kind, Regular, Directory, Link, Entry, Volume, at, on_some, entries_in, parent_in, is_directory, names_of, nlink}
 use Rattle.nfs_procs.specs.Changers.{set_attr, write, create, make_dir, sym_link, remove, remove_dir, rename, link, given_of, sets_something, after_settings, after_taking, after_creating}
 use Rattle.nfs_procs.specs.Doing.{Doing}
 use Rattle.nfs_procs.specs.Performing.{IsGranted}
@@ -37,7 +37,7 @@ use Rattle.nfs_rules.specs.Subjects.{Subject}
 use Rattle.nfs_rules.specs.Table.{rules_of, lookup_rules, remove_rules, remove_dir_rules}
 use Rattle.nfs_rules.specs.Tests as test
 use Rattle.nfs_rules.specs.Tests.{first, found, is_link_type}
-use Rattle.nfs_policy.specs.Complete.{OfGranted, HasPath, HasFound, HasVolume, HasChanged, HasBoth, IsShown, HasMade}
+use Rattle.nfs_policy.specs.Complete.{OfGranted, HasPath, HasFound, HasVolume, HasListed, HasChanged, HasBoth, IsShown, HasMade}
 use Rattle.nfs_policy.proofs.Granted.{AreSubjects, are_subjects, rules_kept}
 
 map_some : {A B : Type 0} (h : A → B) (o : Option A) → is_some o ≡ true → is_some (option_map h o) ≡ true
@@ -197,6 +197,35 @@ module _ (c : Scene) (law : Law c.tree) (one two : Subject) (granted : IsGranted
       let volume : IsSome (slice_get one.tree.volumes (one.file.fsid - 1)) = ap (λ k. is_some (slice_get one.tree.volumes k)) (seen_place one.tree one.file are.first.seen lives.0 lives.1) ∙ ap is_some placed.1 in
       (volume, map_some _ (slice_get one.tree.volumes (one.file.fsid - 1)) volume)
 
+  has_listed : HasListed c one two
+  has_listed a is e listed = is_shown one.tree e.number (of lives.0.kind refl (subst (λ (l : List Entry). Contains l e) (ap (λ o. on_some o [] (λ (f : File). listing one.file.fileid f.kind)) lives.1) listed))
+    where
+      lives : (h : File) × Lives one.tree one.file.fileid h
+      lives = seen_lives one.tree one.file are.first.seen
+
+      under : (parent next_cookie : ℕ) (entries : List Entry) → lives.0.kind ≡ Directory parent next_cookie entries → (o : Entry) → (o ≡ e) ⊎ Contains entries e → o.number ≡ parent → IsThere one.tree e.number
+      under parent next_cookie entries s o (inl same) number =
+          let home = lawful.homes one.file.fileid lives.0 (lives.1, ap is_directory s) in
+          let to : parent_in lives.0.kind ≡ e.number = ap parent_in s ∙ sym number ∙ ap (λ (k : Entry). k.number) same in
+          ap (λ k. is_some (at k one.tree.files)) (sym to) ∙ ap is_some home.1.0
+      under parent next_cookie entries s o (inr there) number =
+          ap is_some (lawful.entries one.file.fileid lives.0 e lives.1 (subst (λ (es : List Entry). Contains es e) (ap entries_in (sym s)) there)).1
+
+      itself : Entry
+      itself = record { cookie = 1; name = dot; number = one.file.fileid }
+
+      above : ℕ → Entry
+      above parent = record { cookie = 2; name = dot_dot; number = parent }
+
+      one_of : (parent next_cookie : ℕ) (entries : List Entry) → lives.0.kind ≡ Directory parent next_cookie entries → (itself ≡ e) ⊎ Contains (above parent ∷ entries) e → IsThere one.tree e.number
+      one_of parent next_cookie entries s (inl same) = subst (IsThere one.tree) (ap (λ (k : Entry). k.number) same) there
+      one_of parent next_cookie entries s (inr rest) = under parent next_cookie entries s (above parent) (head_or_tail (above parent) e entries rest) refl
+
+      of : (k : Kind) → lives.0.kind ≡ k → Contains (listing one.file.fileid k) e → IsThere one.tree e.number
+      of (Regular bytes) s listed = absurd (let l = listed.1 in omega (arith, l))
+      of (Link path) s listed = absurd (let l = listed.1 in omega (arith, l))
+      of (Directory parent next_cookie entries) s listed = one_of parent next_cookie entries s (head_or_tail itself e (above parent ∷ entries) listed)
+
   -- ---- the files of its handles afterwards
 
   off_unlinked : (d : ℕ) (name : List ℕ) → MayUnlink one.tree d name → (e : Entry) → entry_at one.tree d name ≡ Some e → d ≢ e.number
@@ -301,6 +330,9 @@ found_are_there c law one two granted = has_found c law one two granted
 
 pub volumes_are_there : OfGranted HasVolume
 volumes_are_there c law one two granted = has_volume c law one two granted
+
+pub listed_are_there : OfGranted HasListed
+listed_are_there c law one two granted = has_listed c law one two granted
 
 pub changed_are_there : OfGranted HasChanged
 changed_are_there c law one two granted = has_changed c law one two granted

@@ -1,17 +1,18 @@
 -- That the answers of granted calls have all their parts: cases of the definitions that no call comes to.
-use Rattle.std.specs.Prelude.{◌≡◌, ℕ, ◌-◌, ◌<◌, ◌^◌, List, Option, Some, slice_get, IsSome}
+use Rattle.std.specs.Prelude.{◌≡◌, ℕ, ◌-◌, ◌<◌, ◌^◌, List, Option, Some, slice_get, Contains, IsSome}
 use Rattle.nfs_args.specs.declared.args.NfsArgs.TheVariants as nfs
 use Rattle.nfs_args.specs.declared.create.Create.{Create}
 use Rattle.nfs_args.specs.declared.dir_op.DirOp.{DirOp}
 use Rattle.nfs_args.specs.declared.link.Link.{Link}
 use Rattle.nfs_args.specs.declared.make_dir.MakeDir.{MakeDir}
+use Rattle.nfs_args.specs.declared.read_dir.ReadDirPlus.{ReadDirPlus}
 use Rattle.nfs_args.specs.declared.rename.Rename.{Rename}
 use Rattle.nfs_args.specs.declared.sym_link.SymLink.{SymLink}
 use Rattle.nfs_attrs.specs.declared.fattr.Fattr.{Fattr}
 use Rattle.nfs_handles.specs.Handles.{handle_at}
 use Rattle.nfs_inodes.specs.Law.{Law}
-use Rattle.nfs_inodes.specs.Reading.{attributes_at, path_at, totals_at, numbered_files}
-use Rattle.nfs_inodes.specs.Tree.{Tree, on_some}
+use Rattle.nfs_inodes.specs.Reading.{attributes_at, listing_at, path_at, totals_at, numbered_files}
+use Rattle.nfs_inodes.specs.Tree.{Tree, Entry, on_some}
 use Rattle.nfs_procs.specs.Changers.{create, make_dir, sym_link, rename, link}
 use Rattle.nfs_procs.specs.Doing.{Doing}
 use Rattle.nfs_procs.specs.Performing.{IsGranted}
@@ -36,6 +37,14 @@ HasFound c one two = (a : DirOp) → c.args ≡ nfs.Lookup a → (f : Fattr) × 
 abbrev pub HasVolume : Scene → Subject → Subject → Type 0
 HasVolume c one two = (handle : List ℕ) → c.args ≡ nfs.FsStat handle → IsSome (slice_get one.tree.volumes (one.file.fsid - 1)) × IsSome (totals_at one.tree (one.file.fsid - 1))
 
+-- the attributes and the handle of a file
+abbrev pub IsShown : Tree → ℕ → Type 0
+IsShown t n = IsSome (attributes_at t n) × IsSome (handle_at (numbered_files t) n)
+
+-- READDIRPLUS: those of each file that the directory lists, of `.` and `..` too
+abbrev pub HasListed : Scene → Subject → Subject → Type 0
+HasListed c one two = (a : ReadDirPlus) → c.args ≡ nfs.ReadDirPlus a → (e : Entry) → Contains (listing_at one.tree one.file.fileid) e → IsShown one.tree e.number
+
 -- of each procedure: the attributes that the file of its first handle has afterwards
 abbrev pub HasChanged : Scene → Subject → Subject → Type 0
 HasChanged c one two = (doing : Doing) (tag : ℕ) → doing_of c.args ≡ Some doing → tag < 2 ^ 32 → IsSome (attributes_at (doing.effect one two c.now tag) one.file.fileid)
@@ -44,10 +53,6 @@ HasChanged c one two = (doing : Doing) (tag : ℕ) → doing_of c.args ≡ Some 
 abbrev pub HasBoth : Scene → Subject → Subject → Type 0
 HasBoth c one two = ((a : Rename) (tag : ℕ) → c.args ≡ nfs.Rename a → IsSome (attributes_at ((rename a).effect one two c.now tag) two.file.fileid))
     × ((a : Link) (tag : ℕ) → c.args ≡ nfs.Link a → IsSome (attributes_at ((link a).effect one two c.now tag) two.file.fileid))
-
--- the attributes and the handle of a file
-abbrev pub IsShown : Tree → ℕ → Type 0
-IsShown t n = IsSome (attributes_at t n) × IsSome (handle_at (numbered_files t) n)
 
 -- CREATE, MKDIR and SYMLINK: the attributes and the handle of the file that was made or, by CREATE, was there
 abbrev pub HasMade : Scene → Subject → Subject → Type 0

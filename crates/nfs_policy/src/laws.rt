@@ -1,5 +1,5 @@
 //! Laws over the definitions alone.
-ghost use Rattle.nfs_policy.specs.Complete.{HasBoth, HasChanged, HasFound, HasMade, HasPath, HasVolume, OfGranted};
+ghost use Rattle.nfs_policy.specs.Complete.{HasBoth, HasChanged, HasFound, HasListed, HasMade, HasPath, HasVolume, OfGranted};
 ghost use Rattle.nfs_policy.specs.Confining.{ChangeIsConfined, ReadingIsConfined, RunsAreConfined};
 ghost use Rattle.nfs_policy.specs.Confining.{ServersAreConfined};
 ghost use Rattle.nfs_policy.specs.Naming.{HandlesNameForGood};
@@ -67,6 +67,7 @@ pub fn answers_are_complete()
     ensures path { OfGranted HasPath }
     ensures found { OfGranted HasFound }
     ensures volume { OfGranted HasVolume }
+    ensures listed { OfGranted HasListed }
     ensures changed { OfGranted HasChanged }
     ensures both { OfGranted HasBoth }
     ensures made { OfGranted HasMade }
