@@ -31,11 +31,13 @@ HasPath c one two = (handle : List ℕ) → c.args ≡ nfs.ReadLink handle → I
 
 -- LOOKUP: the file under the name, and its handle
 abbrev pub HasFound : Scene → Subject → Subject → Type 0
-HasFound c one two = (a : DirOp) → c.args ≡ nfs.Lookup a → (f : Fattr) × (found one a.name ≡ Some f) × IsSome (handle_at (numbered_files one.tree) f.fileid)
+HasFound c one two = (a : DirOp) → c.args ≡ nfs.Lookup a
+    → (f : Fattr) × (found one a.name ≡ Some f) × IsSome (handle_at (numbered_files one.tree) f.fileid)
 
 -- FSSTAT: the volume's limits, and what its files have of them
 abbrev pub HasVolume : Scene → Subject → Subject → Type 0
-HasVolume c one two = (handle : List ℕ) → c.args ≡ nfs.FsStat handle → IsSome (slice_get one.tree.volumes (one.file.fsid - 1)) × IsSome (totals_at one.tree (one.file.fsid - 1))
+HasVolume c one two = (handle : List ℕ) → c.args ≡ nfs.FsStat handle
+    → IsSome (slice_get one.tree.volumes (one.file.fsid - 1)) × IsSome (totals_at one.tree (one.file.fsid - 1))
 
 -- the attributes and the handle of a file
 abbrev pub IsShown : Tree → ℕ → Type 0
@@ -43,11 +45,13 @@ IsShown t n = IsSome (attributes_at t n) × IsSome (handle_at (numbered_files t)
 
 -- READDIRPLUS: those of each file that the directory lists, of `.` and `..` too
 abbrev pub HasListed : Scene → Subject → Subject → Type 0
-HasListed c one two = (a : ReadDirPlus) → c.args ≡ nfs.ReadDirPlus a → (e : Entry) → Contains (listing_at one.tree one.file.fileid) e → IsShown one.tree e.number
+HasListed c one two = (a : ReadDirPlus) → c.args ≡ nfs.ReadDirPlus a
+    → (e : Entry) → Contains (listing_at one.tree one.file.fileid) e → IsShown one.tree e.number
 
 -- of each procedure: the attributes that the file of its first handle has afterwards
 abbrev pub HasChanged : Scene → Subject → Subject → Type 0
-HasChanged c one two = (doing : Doing) (tag : ℕ) → doing_of c.args ≡ Some doing → tag < 2 ^ 32 → IsSome (attributes_at (doing.effect one two c.now tag) one.file.fileid)
+HasChanged c one two = (doing : Doing) (tag : ℕ) → doing_of c.args ≡ Some doing → tag < 2 ^ 32
+    → IsSome (attributes_at (doing.effect one two c.now tag) one.file.fileid)
 
 -- RENAME and LINK: those of the second handle's
 abbrev pub HasBoth : Scene → Subject → Subject → Type 0
@@ -56,6 +60,7 @@ HasBoth c one two = ((a : Rename) (tag : ℕ) → c.args ≡ nfs.Rename a → Is
 
 -- CREATE, MKDIR and SYMLINK: the attributes and the handle of the file that was made or, by CREATE, was there
 abbrev pub HasMade : Scene → Subject → Subject → Type 0
-HasMade c one two = ((a : Create) (tag : ℕ) → c.args ≡ nfs.Create a → IsShown ((create a).effect one two c.now tag) (on_some (found one a.place.name) one.tree.next (λ f. f.fileid)))
+HasMade c one two = ((a : Create) (tag : ℕ) → c.args ≡ nfs.Create a
+    → IsShown ((create a).effect one two c.now tag) (on_some (found one a.place.name) one.tree.next (λ f. f.fileid)))
     × ((a : MakeDir) (tag : ℕ) → c.args ≡ nfs.MakeDir a → IsShown ((make_dir a).effect one two c.now tag) one.tree.next)
     × ((a : SymLink) (tag : ℕ) → c.args ≡ nfs.SymLink a → IsShown ((sym_link a).effect one two c.now tag) one.tree.next)
