@@ -146,12 +146,12 @@ static void take(Client *c, int client, const unsigned char *bytes, size_t n, un
         size_t some = whole - c->in < n ? whole - c->in : n;
         for (size_t i = c->in; i < 8 && i < c->in + some; i++) c->head[i] = bytes[i - c->in];
         c->in += some, bytes += some, n -= some;
+        uint32_t mark, xid;
+        memcpy(&mark, c->head, 4);
+        if (!echo && c->in >= 4 && (ntohl(mark) & 0x7fffffff) != whole - 4) fail("a reply of another length");
         if (c->in < whole) return;
         if (!echo) {
-            uint32_t mark, xid;
-            memcpy(&mark, c->head, 4);
             memcpy(&xid, c->head + 4, 4);
-            if ((ntohl(mark) & 0x7fffffff) != whole - 4) fail("a reply of another length");
             if (ntohl(xid) != (((uint32_t)client << 20) ^ (c->got & 0xfffff))) fail("a reply to another call");
         }
         if (measured < TIMES) times[measured++] = now() - c->begun[c->got % depth];

@@ -1,34 +1,44 @@
 //! The lines that tell how a connection ended.
-use nfs_serving::turn::End;
-use nfs_xdr::device::{ByteOut, write_all};
-use std::alloc::Global;
+ghost use Rattle.std.specs.Prelude.{◌≡◌, ◌+◌, ◌≤◌, ◌++◌, [], codes, OnOk};
+ghost use Rattle.arrayvec.specs.ArrayVec.{array_vec_len};
+ghost use Rattle.nfs_server.specs.FaultWords.{word_of_stream};
+ghost use Rattle.nfs_tcp.specs.Reports.{end_text};
+ghost use Rattle.nfs_xdr.specs.Known.{Grows};
 
-/// Why a connection's end can't be told.
-#[derive(Clone, Copy, Debug, PartialEq, Eq)]
-pub enum ReportFault {
-    /// The output can't be written.
-    Write,
-    /// There is no memory.
-    Memory,
+use nfs_server::serve_fault::ServeFault;
+use nfs_serving::turn::End;
+use nfs_text::line::{Line, put, put_number};
+use nfs_xdr::device::{ByteOut, DeviceFault, write_all};
+
+/// Writes `connection K calls=N`, or `connection K fault=NAME` where a fault ended it. It takes no
+/// memory, so that the server goes on where there is none.
+pub fn report<W: ByteOut>(out: &mut W, number: u64, calls: u64, end: End) -> Result<(), DeviceFault>
+    ensures { OnOk result (Grows (W.contents out.old) (end_text number calls end) (W.contents out.new)) }
+{
+    let mut line = Line::new();
+    put_end(&mut line, number, calls, end);
+    write_all(out, line.as_slice())
 }
 
-/// Writes `connection K calls=N`, or `connection K fault=NAME` where a fault ended it.
-pub fn report<W: ByteOut>(
-    alloc: Global,
-    out: &mut W,
-    number: u64,
-    calls: u64,
-    end: End,
-) -> Result<(), ReportFault> {
-    let line = match end {
-        End::Closed => format!(in alloc; "connection {number} calls={calls}\n"),
-        End::Fault(fault) => format!(in alloc; "connection {number} fault={fault}\n"),
-    };
-    let Ok(line) = line else {
-        return Err(ReportFault::Memory);
-    };
-    match write_all(out, line.as_bytes()) {
-        Ok(()) => Ok(()),
-        Err(_) => Err(ReportFault::Write),
+// The line.
+fn put_end(line: &mut Line, number: u64, calls: u64, end: End)
+    requires { line.old.items ≡ [] }
+    ensures { line.new.items ≡ end_text number calls end }
+{
+    put_number(line, b"connection ", number);
+    match end {
+        End::Closed => put_number(line, b" calls=", calls),
+        End::Fault(fault) => put_fault(line, fault),
     }
+    put(line, b"\n");
+}
+
+// Why a connection ended.
+fn put_fault(line: &mut Line, fault: ServeFault)
+    requires { array_vec_len line.old + 30 ≤ 1024 }
+    ensures items { line.new.items ≡ line.old.items ++ codes " fault=" ++ word_of_stream fault }
+    ensures len { array_vec_len line.new ≤ array_vec_len line.old + 30 }
+{
+    put(line, b" fault=");
+    put(line, fault.word().as_bytes());
 }

@@ -3,7 +3,7 @@ use crate::clients::{Clients, Member};
 use crate::clock::SystemClock;
 use crate::keys::{LISTENER, key_of, token_of};
 use crate::limits::Limits;
-use crate::report::{ReportFault, report};
+use crate::report::report;
 use crate::socket::{Socket, addr_of};
 use log::{Log, info, warn};
 use mio::net::{TcpListener, TcpStream};
@@ -14,7 +14,7 @@ use nfs_server::server::Server;
 use nfs_serving::client::Client;
 use nfs_serving::room::Room;
 use nfs_serving::turn::{End, Turn};
-use nfs_xdr::device::ByteOut;
+use nfs_xdr::device::{ByteOut, DeviceFault};
 use std::alloc::{AllocError, Global};
 use std::io::{self, ErrorKind};
 use std::net::{Net, SocketAddr};
@@ -54,12 +54,9 @@ impl From<AllocError> for ServiceFault {
     }
 }
 
-impl From<ReportFault> for ServiceFault {
-    fn from(fault: ReportFault) -> ServiceFault {
-        match fault {
-            ReportFault::Write => ServiceFault::Write,
-            ReportFault::Memory => ServiceFault::Memory,
-        }
+impl From<DeviceFault> for ServiceFault {
+    fn from(_fault: DeviceFault) -> ServiceFault {
+        ServiceFault::Write
     }
 }
 
@@ -349,7 +346,7 @@ impl<'a, R: Net + Clock + Log> Service<'a, R> {
                 info!(self.rt; "{}: connection {} ended: {fault}", member.peer, member.number);
             }
         }
-        report(self.alloc, out, member.number, member.client.calls(), end)?;
+        report(out, member.number, member.client.calls(), end)?;
         Ok(())
     }
 
