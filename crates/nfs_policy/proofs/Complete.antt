@@ -37,7 +37,7 @@ use Rattle.nfs_rules.specs.Subjects.{Subject}
 use Rattle.nfs_rules.specs.Table.{rules_of, lookup_rules, remove_rules, remove_dir_rules}
 use Rattle.nfs_rules.specs.Tests as test
 use Rattle.nfs_rules.specs.Tests.{first, found, is_link_type}
-use Rattle.nfs_policy.specs.Complete.{OfGranted, HasPath, HasFound, HasVolume, HasListed, HasChanged, HasBoth, IsShown, HasMade}
+use Rattle.nfs_policy.specs.Complete.{HasPath, HasFound, HasVolume, HasListed, HasChanged, HasBoth, IsShown, HasMade}
 use Rattle.nfs_policy.proofs.Granted.{AreSubjects, are_subjects, rules_kept}
 
 map_some : {A B : Type 0} (h : A → B) (o : Option A) → is_some o ≡ true → is_some (option_map h o) ≡ true
@@ -173,7 +173,7 @@ module _ (c : Scene) (law : Law c.tree) (one two : Subject) (granted : IsGranted
 
   -- ---- the path, the file found, the volume
 
-  has_path : HasPath c one two
+  pub has_path : HasPath c one two
   has_path handle is =
       let m = mapped (λ (h : File). attributes_of one.file.fileid h (nlink one.tree.files one.file.fileid h)) (at one.file.fileid one.tree.files) one.file are.first.seen in
       let passed : not (is_link_type one.file.file_type) ≡ false = passed_at (rules_of one two (nfs.ReadLink handle)) (kept (nfs.ReadLink handle) is) 0 (test.not_link one) refl in
@@ -185,19 +185,19 @@ module _ (c : Scene) (law : Law c.tree) (one two : Subject) (granted : IsGranted
       path_there (Directory parent next_cookie entries) e = absurd (true≢false e)
       path_there (Link path) e = refl
 
-  has_found : HasFound c one two
+  pub has_found : HasFound c one two
   has_found a is =
       let f = some_from_is_none (found one a.name) (passed_at (lookup_rules one a.name) (kept (nfs.Lookup a) is) 4 (test.no_entry one a.name) refl) in
       (f.0, f.1, shown_handle one.tree f.0.fileid (seen_there one.tree f.0 (found_seen one a.name f.0 f.1).1))
 
-  has_volume : HasVolume c one two
+  pub has_volume : HasVolume c one two
   has_volume handle is =
       let lives = seen_lives one.tree one.file are.first.seen in
       let placed = lawful.placed one.file.fileid lives.0 lives.1 in
       let volume : IsSome (slice_get one.tree.volumes (one.file.fsid - 1)) = ap (λ k. is_some (slice_get one.tree.volumes k)) (seen_place one.tree one.file are.first.seen lives.0 lives.1) ∙ ap is_some placed.1 in
       (volume, map_some _ (slice_get one.tree.volumes (one.file.fsid - 1)) volume)
 
-  has_listed : HasListed c one two
+  pub has_listed : HasListed c one two
   has_listed a is e listed = is_shown one.tree e.number (of lives.0.kind refl (subst (λ (l : List Entry). Contains l e) (ap (λ o. on_some o [] (λ (f : File). listing one.file.fileid f.kind)) lives.1) listed))
     where
       lives : (h : File) × Lives one.tree one.file.fileid h
@@ -301,16 +301,16 @@ module _ (c : Scene) (law : Law c.tree) (one two : Subject) (granted : IsGranted
       by (nfs.PathConf file) e is = told_as (path_conf file) e there
       by (nfs.Commit a) e is = told_as (commit a) e there
 
-  has_changed : HasChanged c one two
+  pub has_changed : HasChanged c one two
   has_changed doing tag e fits = shown_attributes (doing.effect one two c.now tag) d (after c.args doing tag e refl)
 
-  has_both : HasBoth c one two
+  pub has_both : HasBoth c one two
   has_both = (
     λ a tag is. shown_attributes ((rename a).effect one two c.now tag) two.file.fileid (stays_renamed two.file.fileid one.tree d two.file.fileid a.from.name a.to.name c.now (to_apart d two.file.fileid a.from.name a.to.name (may_move a is)) there_too),
     λ a tag is. shown_attributes ((link a).effect one two c.now tag) two.file.fileid (stays_entered two.file.fileid (touched one.tree d c.now) two.file.fileid d a.place.name c.now (stays_touched two.file.fileid one.tree d c.now there_too)),
   )
 
-  has_made : HasMade c one two
+  pub has_made : HasMade c one two
   has_made = (
     λ a tag is. created a tag (found one a.place.name) refl,
     λ a tag is. is_shown ((make_dir a).effect one two c.now tag) one.tree.next (new_there a.place.name _),
@@ -321,24 +321,3 @@ module _ (c : Scene) (law : Law c.tree) (one two : Subject) (granted : IsGranted
           → IsShown (on_some o (after_creating one a c.now tag) (λ f. after_taking one.tree f.fileid a.how c.now)) (on_some o one.tree.next (λ f. f.fileid))
       created a tag None e = is_shown (after_creating one a c.now tag) one.tree.next (new_there a.place.name _)
       created a tag (Some f) e = is_shown (after_taking one.tree f.fileid a.how c.now) f.fileid (stays_taken f.fileid one.tree f.fileid a.how c.now (seen_there one.tree f (found_seen one a.place.name f e).1))
-
-pub paths_are_there : OfGranted HasPath
-paths_are_there c law one two granted = has_path c law one two granted
-
-pub found_are_there : OfGranted HasFound
-found_are_there c law one two granted = has_found c law one two granted
-
-pub volumes_are_there : OfGranted HasVolume
-volumes_are_there c law one two granted = has_volume c law one two granted
-
-pub listed_are_there : OfGranted HasListed
-listed_are_there c law one two granted = has_listed c law one two granted
-
-pub changed_are_there : OfGranted HasChanged
-changed_are_there c law one two granted = has_changed c law one two granted
-
-pub both_are_there : OfGranted HasBoth
-both_are_there c law one two granted = has_both c law one two granted
-
-pub made_are_there : OfGranted HasMade
-made_are_there c law one two granted = has_made c law one two granted
