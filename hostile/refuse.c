@@ -1,6 +1,6 @@
 /* Preloaded, it refuses growths of memory: the REFUSE-th one, and with REFUSE_BEHIND all behind it too. With GROWTHS it
  * writes at the end how many there were to the file of that name. A growth is what malloc, calloc, realloc and the aligned
- * kinds are asked for; those of the C library before the program's own beginning count too, and are not refused. */
+ * kinds are asked for, once this library has begun: what the loader asks for before neither counts nor is refused. */
 #define _GNU_SOURCE
 #include <dlfcn.h>
 #include <errno.h>
