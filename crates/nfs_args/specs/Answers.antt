@@ -6,7 +6,11 @@ use Rattle.nfs_args.specs.declared.procedure.Procedure.TheVariants as proc
 use Rattle.nfs_args.specs.declared.answer.NfsAnswer.{NfsAnswer}
 use Rattle.nfs_args.specs.declared.answer.NfsAnswer.TheVariants as answer
 use Rattle.nfs_args.specs.Spelling.{Arm}
-use Rattle.nfs_args.specs.Results.{AlwaysFits, committed_text, empty_text, found_text, FoundFits, IsCommitted, IsEmpty, IsFound, IsLinked, IsLinkPath, IsMade, IsPathLimits, IsReadData, IsRenamed, IsResult, IsRights, IsRoom, IsServerLimits, IsWritten, link_path_text, linked_text, LinkPathFits, made_text, MadeFits, path_limits_text, read_data_text, ReadDataFits, renamed_text, result_text, ResultFits, rights_text, room_text, server_limits_text, written_text}
+use Rattle.nfs_args.specs.Results.{AlwaysFits, committed_text, empty_text, found_text, FoundFits, IsCommitted, IsEmpty, IsFound, IsLinked}
+use Rattle.nfs_args.specs.Results.{IsLinkPath, IsMade, IsPathLimits, IsReadData, IsRenamed, IsResult, IsRights, IsRoom, IsServerLimits}
+use Rattle.nfs_args.specs.Results.{IsWritten, link_path_text, linked_text, LinkPathFits, made_text, MadeFits, path_limits_text}
+use Rattle.nfs_args.specs.Results.{read_data_text, ReadDataFits, renamed_text, result_text, ResultFits, rights_text, room_text}
+use Rattle.nfs_args.specs.Results.{server_limits_text, written_text}
 use Rattle.nfs_args.specs.Pages.{IsPage, page_text, PageFits, IsPagePlus, page_plus_text, PagePlusFits}
 
 -- Which bytes spell which result of a procedure. NULL has none.

@@ -1,4 +1,5 @@
--- Chains: items one after another, each behind the boolean that says that it is there, and then the boolean that says that none follows (RFC 4506, section 4.19).
+-- Chains: items one after another, each behind the boolean that says that it is there, and then the boolean
+-- that says that none follows (RFC 4506, section 4.19).
 use Rattle.std.specs.Prelude.{ℕ, true, false, List, [], ◌∷◌, ◌++◌}
 use Rattle.std.specs.Int.{w32, to_be_bytes}
 use Rattle.std.specs.List.{flat_map}

@@ -26,7 +26,8 @@ abbrev pub IsEntryPlus : EntryPlus → List ℕ → Type 0
 IsEntryPlus e = IsNumber w64 e.fileid ⨾ IsString e.name ⨾ IsNumber w64 e.cookie ⨾ IsPostOpAttr e.attributes ⨾ IsOptional IsHandle e.file
 
 abbrev pub entry_plus_text : EntryPlus → List ℕ
-entry_plus_text e = to_be_bytes w64 e.fileid ++ (opaque_text e.name ++ (to_be_bytes w64 e.cookie ++ (post_op_attr_text e.attributes ++ optional_text opaque_text e.file)))
+entry_plus_text e = to_be_bytes w64 e.fileid
+    ++ (opaque_text e.name ++ (to_be_bytes w64 e.cookie ++ (post_op_attr_text e.attributes ++ optional_text opaque_text e.file)))
 
 -- what an entry says of its file
 abbrev pub IsEntryFile : Option Fattr → Option (List ℕ) → List ℕ → Type 0
@@ -56,7 +57,12 @@ page_of_text text p = page_head_text p.attributes p.verifier ++ (links_text text
 abbrev pub BeginsPage : {A : Type 0} → (A → List ℕ → Type 0) → (A → List ℕ) → Option Fattr → ℕ → Type 0
 BeginsPage {A} Spells text attributes verifier =
     (entries : List A) (eof : Bool) → AreSpelled Spells text entries
-    → IsPageOf Spells (record { attributes = attributes; verifier = verifier; entries = entries; eof = eof }) (page_head_text attributes verifier ++ (links_text text entries ++ page_end_text eof))
+    → IsPageOf Spells (record {
+      attributes = attributes;
+      verifier = verifier;
+      entries = entries;
+      eof = eof;
+    }) (page_head_text attributes verifier ++ (links_text text entries ++ page_end_text eof))
 
 abbrev pub IsPage : Page (List Entry) → List ℕ → Type 0
 IsPage = IsPageOf IsEntry

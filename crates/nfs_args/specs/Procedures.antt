@@ -32,7 +32,8 @@ procedure_number proc.Commit = 21
 
 abbrev pub procedures : List Procedure
 procedures =
-    proc.Null ∷ proc.GetAttr ∷ proc.SetAttr ∷ proc.Lookup ∷ proc.Access ∷ proc.ReadLink ∷ proc.Read ∷ proc.Write ∷ proc.Create ∷ proc.MakeDir ∷ proc.SymLink ∷ proc.MakeNode
+    proc.Null ∷ proc.GetAttr ∷ proc.SetAttr ∷ proc.Lookup ∷ proc.Access ∷ proc.ReadLink ∷ proc.Read ∷ proc.Write ∷ proc.Create
+    ∷ proc.MakeDir ∷ proc.SymLink ∷ proc.MakeNode
     ∷ proc.Remove ∷ proc.RemoveDir ∷ proc.Rename ∷ proc.Link ∷ proc.ReadDir ∷ proc.ReadDirPlus ∷ proc.FsStat ∷ proc.FsInfo ∷ proc.PathConf ∷ proc.Commit ∷ []
 
 -- of MOUNT (appendix I, section 5.2)

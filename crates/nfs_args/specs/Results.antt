@@ -106,7 +106,9 @@ read_head_text attributes count eof = post_op_attr_text attributes ++ (to_be_byt
 
 -- the head and then any count bytes with their padding are an answer
 abbrev pub BeginsReadData : Option Fattr → ℕ → Bool → Type 0
-BeginsReadData attributes count eof = (content : List ℕ) → length content ≡ count → IsReadData (record { attributes = attributes; eof = eof; content = content }) (read_head_text attributes count eof ++ fixed_text content)
+BeginsReadData attributes count eof = (content : List ℕ) → length content ≡ count
+    → IsReadData (record { attributes = attributes; eof = eof; content = content }) (read_head_text attributes count eof
+    ++ fixed_text content)
 
 abbrev pub read_data_text : ReadData → List ℕ
 read_data_text a = read_head_text a.attributes (length a.content) a.eof ++ fixed_text a.content
@@ -173,14 +175,20 @@ abbrev pub transfer_text : Transfer → List ℕ
 transfer_text a = to_be_bytes w32 a.max ++ to_be_bytes w32 a.preferred ++ to_be_bytes w32 a.multiple
 
 abbrev pub IsServerLimits : ServerLimits → List ℕ → Type 0
-IsServerLimits a = IsPostOpAttr a.attributes ⨾ IsTransfer a.read ⨾ IsTransfer a.write ⨾ IsNumber w32 a.read_dir ⨾ IsNumber w64 a.max_file_size ⨾ IsMoment a.time_delta ⨾ IsNumber w32 a.properties
+IsServerLimits a = IsPostOpAttr a.attributes ⨾ IsTransfer a.read ⨾ IsTransfer a.write ⨾ IsNumber w32 a.read_dir
+    ⨾ IsNumber w64 a.max_file_size ⨾ IsMoment a.time_delta ⨾ IsNumber w32 a.properties
 
 abbrev pub server_limits_text : ServerLimits → List ℕ
-server_limits_text a = post_op_attr_text a.attributes ++ (transfer_text a.read ++ transfer_text a.write ++ to_be_bytes w32 a.read_dir ++ to_be_bytes w64 a.max_file_size ++ moment_text a.time_delta ++ to_be_bytes w32 a.properties)
+server_limits_text a = post_op_attr_text a.attributes
+    ++ (transfer_text a.read ++ transfer_text a.write ++ to_be_bytes w32 a.read_dir ++ to_be_bytes w64 a.max_file_size
+    ++ moment_text a.time_delta ++ to_be_bytes w32 a.properties)
 
 -- PATHCONF3resok
 abbrev pub IsPathLimits : PathLimits → List ℕ → Type 0
-IsPathLimits a = IsPostOpAttr a.attributes ⨾ IsNumber w32 a.linkmax ⨾ IsNumber w32 a.name_max ⨾ IsBoolean a.no_trunc ⨾ IsBoolean a.chown_restricted ⨾ IsBoolean a.case_insensitive ⨾ IsBoolean a.case_preserving
+IsPathLimits a = IsPostOpAttr a.attributes ⨾ IsNumber w32 a.linkmax ⨾ IsNumber w32 a.name_max ⨾ IsBoolean a.no_trunc
+    ⨾ IsBoolean a.chown_restricted ⨾ IsBoolean a.case_insensitive ⨾ IsBoolean a.case_preserving
 
 abbrev pub path_limits_text : PathLimits → List ℕ
-path_limits_text a = post_op_attr_text a.attributes ++ (to_be_bytes w32 a.linkmax ++ to_be_bytes w32 a.name_max ++ boolean_text a.no_trunc ++ boolean_text a.chown_restricted ++ boolean_text a.case_insensitive ++ boolean_text a.case_preserving)
+path_limits_text a = post_op_attr_text a.attributes
+    ++ (to_be_bytes w32 a.linkmax ++ to_be_bytes w32 a.name_max ++ boolean_text a.no_trunc ++ boolean_text a.chown_restricted
+    ++ boolean_text a.case_insensitive ++ boolean_text a.case_preserving)

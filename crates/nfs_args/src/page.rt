@@ -2,7 +2,8 @@
 ghost use Rattle.std.specs.Prelude.{◌≡◌, ◌≤◌, length, option_copied};
 ghost use Rattle.nfs_xdr.specs.Written.{Appends};
 ghost use Rattle.nfs_attrs.specs.Spelling.{IsPostOpAttr, post_op_attr_text};
-ghost use Rattle.nfs_args.specs.Pages.{IsEntry, entry_text, IsEntryPlus, entry_plus_text, BeginsPage, page_head_text, page_end_text, IsPage, page_text, PageFits, IsPagePlus, page_plus_text, PagePlusFits};
+ghost use Rattle.nfs_args.specs.Pages.{IsEntry, entry_text, IsEntryPlus, entry_plus_text, BeginsPage, page_head_text, page_end_text};
+ghost use Rattle.nfs_args.specs.Pages.{IsPage, page_text, PageFits, IsPagePlus, page_plus_text, PagePlusFits};
 ghost use Rattle.nfs_args.specs.Results.{ResultFits, IsResult, result_text};
 
 use crate::entry::{Entry, write_entries};

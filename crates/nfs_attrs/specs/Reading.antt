@@ -48,7 +48,24 @@ fattr_at bytes = do
   atime ← moment_at fileid.1
   mtime ← moment_at atime.1
   ctime ← moment_at mtime.1
-  Ok (record { file_type = file_type.0; mode = mode.0; nlink = nlink.0; uid = uid.0; gid = gid.0; size = size.0; used = used.0; rdev = rdev.0; fsid = fsid.0; fileid = fileid.0; atime = atime.0; mtime = mtime.0; ctime = ctime.0 }, ctime.1)
+  Ok (
+    record {
+      file_type = file_type.0;
+      mode = mode.0;
+      nlink = nlink.0;
+      uid = uid.0;
+      gid = gid.0;
+      size = size.0;
+      used = used.0;
+      rdev = rdev.0;
+      fsid = fsid.0;
+      fileid = fileid.0;
+      atime = atime.0;
+      mtime = mtime.0;
+      ctime = ctime.0;
+    },
+    ctime.1,
+  )
 
 abbrev pub post_op_attr_at : List ℕ → Read (Option Fattr)
 post_op_attr_at = optional_at fattr_at
@@ -76,7 +93,8 @@ client_time_at bytes = do
 
 -- what follows its number
 abbrev pub time_setting_of : ℕ → List ℕ → Read TimeSetting
-time_setting_of n bytes = if nat_eq n 0 then Ok (Leave, bytes) else (if nat_eq n 1 then Ok (ServerTime, bytes) else (if nat_eq n 2 then client_time_at bytes else Err BadEnum))
+time_setting_of n bytes = if nat_eq n 0 then Ok (Leave, bytes)
+    else (if nat_eq n 1 then Ok (ServerTime, bytes) else (if nat_eq n 2 then client_time_at bytes else Err BadEnum))
 
 abbrev pub time_setting_at : List ℕ → Read TimeSetting
 time_setting_at bytes = do

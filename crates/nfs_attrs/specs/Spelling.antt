@@ -81,7 +81,8 @@ spec_data_text d = to_be_bytes w32 d.specdata1 ++ to_be_bytes w32 d.specdata2
 
 abbrev pub fattr_text : Fattr → List ℕ
 fattr_text a =
-    file_type_text a.file_type ++ to_be_bytes w32 a.mode ++ to_be_bytes w32 a.nlink ++ to_be_bytes w32 a.uid ++ to_be_bytes w32 a.gid ++ to_be_bytes w64 a.size ++ to_be_bytes w64 a.used
+    file_type_text a.file_type ++ to_be_bytes w32 a.mode ++ to_be_bytes w32 a.nlink ++ to_be_bytes w32 a.uid ++ to_be_bytes w32 a.gid
+    ++ to_be_bytes w64 a.size ++ to_be_bytes w64 a.used
     ++ spec_data_text a.rdev ++ to_be_bytes w64 a.fsid ++ to_be_bytes w64 a.fileid ++ moment_text a.atime ++ moment_text a.mtime ++ moment_text a.ctime
 
 abbrev pub post_op_attr_text : Option Fattr → List ℕ
@@ -103,5 +104,6 @@ time_setting_text (ClientTime moment) = to_be_bytes w32 2 ++ moment_text moment
 
 abbrev pub sattr_text : Sattr → List ℕ
 sattr_text s =
-    optional_text (to_be_bytes w32) s.mode ++ optional_text (to_be_bytes w32) s.uid ++ optional_text (to_be_bytes w32) s.gid ++ optional_text (to_be_bytes w64) s.size
+    optional_text (to_be_bytes w32) s.mode ++ optional_text (to_be_bytes w32) s.uid ++ optional_text (to_be_bytes w32) s.gid
+    ++ optional_text (to_be_bytes w64) s.size
     ++ time_setting_text s.atime ++ time_setting_text s.mtime

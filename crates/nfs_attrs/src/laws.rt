@@ -5,7 +5,8 @@ ghost use Rattle.nfs_xdr.specs.Reading.{Finds};
 ghost use Rattle.nfs_attrs.specs.declared.moment.Moment.{Moment};
 ghost use Rattle.nfs_attrs.specs.declared.fattr.Fattr.{Fattr};
 ghost use Rattle.nfs_attrs.specs.declared.pre_attr.PreAttr.{PreAttr};
-ghost use Rattle.nfs_attrs.specs.Spelling.{IsMoment, IsFileType, IsFattr, IsPostOpAttr, IsPreAttr, IsPreOpAttr, IsWcc, IsTimeSetting, IsSattr, moment_text, fattr_text, pre_attr_text};
+ghost use Rattle.nfs_attrs.specs.Spelling.{IsMoment, IsFileType, IsFattr, IsPostOpAttr, IsPreAttr, IsPreOpAttr, IsWcc, IsTimeSetting};
+ghost use Rattle.nfs_attrs.specs.Spelling.{IsSattr, moment_text, fattr_text, pre_attr_text};
 ghost use Rattle.nfs_attrs.specs.Reading.{moment_at, file_type_at, fattr_at, post_op_attr_at, pre_attr_at, pre_op_attr_at, wcc_at, time_setting_at, sattr_at};
 
 /// Where two spellings of attributes stand at the front of the same bytes, they are one and have

@@ -6,7 +6,8 @@ use Rattle.nfs_dirs.specs.Pages.{fits, fits_plus, chosen, is_end, is_too_small, 
 
 -- the cookies of a page, and whether the directory ends behind it
 abbrev pub cookies_told : (List Entry → Bool) → Tree → ℕ → ℕ → Option (List ℕ × Bool)
-cookies_told passes t d cookie = if is_too_small passes (left_after t d cookie) then None else Some (map (λ e. e.cookie) (chosen passes (left_after t d cookie)), is_end passes (left_after t d cookie))
+cookies_told passes t d cookie = if is_too_small passes (left_after t d cookie) then None
+    else Some (map (λ e. e.cookie) (chosen passes (left_after t d cookie)), is_end passes (left_after t d cookie))
 
 -- of the example tree, where directory 2 has lost its entries and got another one, `y`
 abbrev pub tree_y : Tree

@@ -13,7 +13,8 @@ last_cookie cookie (e ∷ es) = last_cookie e.cookie es
 -- the entries of pages, each by a bound of its own and from the cookie of the last entry before it
 abbrev pub entries_of : Tree → ℕ → ℕ → List (List Entry → Bool) → List Entry
 entries_of t d cookie [] = []
-entries_of t d cookie (passes ∷ pages) = chosen passes (left_after t d cookie) ++ entries_of t d (last_cookie cookie (chosen passes (left_after t d cookie))) pages
+entries_of t d cookie (passes ∷ pages) = chosen passes (left_after t d cookie)
+    ++ entries_of t d (last_cookie cookie (chosen passes (left_after t d cookie))) pages
 
 -- the cookie of the last of them
 abbrev pub cookie_behind : Tree → ℕ → ℕ → List (List Entry → Bool) → ℕ
@@ -22,7 +23,8 @@ cookie_behind t d cookie (passes ∷ pages) = cookie_behind t d (last_cookie coo
 
 -- their entries, one after another, and what is left behind them are what was left before them: no entry is missing, and none is there twice
 abbrev pub PagesJoin : Type 0
-PagesJoin = (t : Tree) → Law t → (d cookie : ℕ) (pages : List (List Entry → Bool)) → entries_of t d cookie pages ++ left_after t d (cookie_behind t d cookie pages) ≡ left_after t d cookie
+PagesJoin = (t : Tree) → Law t → (d cookie : ℕ) (pages : List (List Entry → Bool))
+    → entries_of t d cookie pages ++ left_after t d (cookie_behind t d cookie pages) ≡ left_after t d cookie
 
 -- from cookie 0 on all is left
 abbrev pub AllAreLeft : Type 0
@@ -30,4 +32,5 @@ AllAreLeft = (t : Tree) → Law t → (d : ℕ) → left_after t d 0 ≡ listing
 
 -- a page tells the end exactly where nothing is left behind its last entry
 abbrev pub EndsAreTold : Type 0
-EndsAreTold = (t : Tree) → Law t → (d cookie : ℕ) (passes : List Entry → Bool) → (is_end passes (left_after t d cookie) ≡ true) ↔ (left_after t d (last_cookie cookie (chosen passes (left_after t d cookie))) ≡ [])
+EndsAreTold = (t : Tree) → Law t → (d cookie : ℕ) (passes : List Entry → Bool)
+    → (is_end passes (left_after t d cookie) ≡ true) ↔ (left_after t d (last_cookie cookie (chosen passes (left_after t d cookie))) ≡ [])

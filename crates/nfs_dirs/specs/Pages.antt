@@ -1,5 +1,6 @@
 -- Pages of a directory: which entries READDIR and READDIRPLUS answer (RFC 1813, sections 3.3.16 and 3.3.17), and how.
-use Rattle.std.specs.Prelude.{◌≡◌, ℕ, zero, suc, ◌+◌, Bool, not, ◌&&◌, ◌||◌, true, false, List, ◌++◌, map, length, sum_by, take, min, nat_eq, nat_le, Option, None, Result, Ok, Err, if◌then◌else◌}
+use Rattle.std.specs.Prelude.{◌≡◌, ℕ, zero, suc, ◌+◌, Bool, not, ◌&&◌, ◌||◌, true, false, List, ◌++◌, map, length, sum_by, take, min}
+use Rattle.std.specs.Prelude.{nat_eq, nat_le, Option, None, Result, Ok, Err, if◌then◌else◌}
 use Rattle.nfs_xdr.specs.Spelling.{padding}
 use Rattle.nfs_xdr.specs.Written.{Written, Appends}
 use Rattle.nfs_attrs.specs.declared.fattr.Fattr.{Fattr}
@@ -81,12 +82,15 @@ entry_plus_with e attributes handle = record { fileid = e.number; name = e.name;
 
 -- what the file is, where the caller may search the directory
 abbrev pub entry_plus_told : Tree → Bool → Entry → told_plus.EntryPlus
-entry_plus_told t searchable e = entry_plus_with e (if searchable then attributes_at t e.number else None) (if searchable then handle_at (numbered_files t) e.number else None)
+entry_plus_told t searchable e = entry_plus_with e
+    (if searchable then attributes_at t e.number else None)
+    (if searchable then handle_at (numbered_files t) e.number else None)
 
 -- a page of what is left is appended: the longest prefix that passes, and whether that is all; or nothing is, where not even the first entry passes
 abbrev pub Answers : (List Entry → Bool) → (List Entry → List ℕ) → List Entry → Result Page TooSmall → Written → Written → Type 0
 Answers passes text left (Ok page) old new =
-    (is_too_small passes left ≡ false) × (page ≡ record { given = count_of passes left; eof = is_end passes left }) × Appends (text (chosen passes left) ++ page_end_text (is_end passes left)) old new
+    (is_too_small passes left ≡ false) × (page ≡ record { given = count_of passes left; eof = is_end passes left })
+    × Appends (text (chosen passes left) ++ page_end_text (is_end passes left)) old new
 Answers passes text left (Err refusal) old new = (is_too_small passes left ≡ true) × (new ≡ old)
 
 -- the chains of READDIR and READDIRPLUS, without their ends

@@ -19,7 +19,11 @@ abbrev pub squash_as : Squash → Options → Credential → Ids
 -- nobody's ids are mapped
 squash_as No options cred = record { uid = cred.uid; gid = cred.gid; gids = cred.gids }
 -- uid 0 and gid 0, wherever it stands
-squash_as Root options cred = record { uid = unless_root options.anonuid cred.uid; gid = unless_root options.anongid cred.gid; gids = map (unless_root options.anongid) cred.gids }
+squash_as Root options cred = record {
+  uid = unless_root options.anonuid cred.uid;
+  gid = unless_root options.anongid cred.gid;
+  gids = map (unless_root options.anongid) cred.gids;
+}
 -- everybody's, and no more groups are left
 squash_as All options cred = record { uid = options.anonuid; gid = options.anongid; gids = [] }
 

@@ -1,5 +1,6 @@
 -- Which addresses a pattern covers, and how it is written (exports(5), "Machine Name Formats").
-use Rattle.std.specs.Prelude.{ℕ, ◌-◌, ◌/◌, ◌%◌, ◌^◌, Bool, List, [], ◌∷◌, ◌++◌, Option, Some, None, option_map, if◌then◌else◌, length, nat_eq, nat_lt, bytes_eq, codes, decimal}
+use Rattle.std.specs.Prelude.{ℕ, ◌-◌, ◌/◌, ◌%◌, ◌^◌, Bool, List, [], ◌∷◌, ◌++◌, Option, Some, None, option_map, if◌then◌else◌, length}
+use Rattle.std.specs.Prelude.{nat_eq, nat_lt, bytes_eq, codes, decimal}
 use Rattle.std.specs.Borrow.{Bor}
 use Rattle.nfs_text.specs.Numbers.{decimal_of}
 use Rattle.nfs_text.specs.Pieces.{cut}

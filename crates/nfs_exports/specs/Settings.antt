@@ -58,7 +58,12 @@ squash_of root all = if unwrap_or all false then All else (if unwrap_or root tru
 
 -- what holds where nothing is said: `ro`, `root_squash`, and the ids of nobody
 abbrev pub options_of : Settings → Options
-options_of settings = record { read_only = unwrap_or settings.read_only true; squash = squash_of settings.root_squash settings.all_squash; anonuid = unwrap_or settings.anonuid 65534; anongid = unwrap_or settings.anongid 65534 }
+options_of settings = record {
+  read_only = unwrap_or settings.read_only true;
+  squash = squash_of settings.root_squash settings.all_squash;
+  anonuid = unwrap_or settings.anonuid 65534;
+  anongid = unwrap_or settings.anongid 65534;
+}
 
 -- the words of a text have a comma between each two
 abbrev pub parse_options : List ℕ → Result Options OptionsFault

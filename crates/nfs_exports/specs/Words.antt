@@ -16,7 +16,8 @@ abbrev pub ◌>>=◌ : {A B : Type 0} → Result A OptionsFault → (A → Resul
 
 -- what is not served here, with `=` or without
 abbrev pub unsupported : List (List ℕ)
-unsupported = codes "secure" ∷ codes "subtree_check" ∷ codes "no_wdelay" ∷ codes "nohide" ∷ codes "crossmnt" ∷ codes "mountpoint" ∷ codes "mp" ∷ codes "fsid" ∷ []
+unsupported = codes "secure" ∷ codes "subtree_check" ∷ codes "no_wdelay" ∷ codes "nohide" ∷ codes "crossmnt" ∷ codes "mountpoint"
+    ∷ codes "mp" ∷ codes "fsid" ∷ []
 
 abbrev pub is_unsupported : List ℕ → Bool
 is_unsupported name = list_any (λ word. bytes_eq word name) unsupported

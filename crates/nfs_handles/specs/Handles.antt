@@ -1,5 +1,6 @@
 -- File handles (RFC 1813, section 2.6, nfs_fh3): which bytes name a file, and what bytes read as.
-use Rattle.std.specs.Prelude.{◌≡◌, ℕ, Bool, not, ◌&&◌, ◌||◌, List, [], ◌∷◌, ◌++◌, length, take, drop, Option, Some, None, option_map, if◌then◌else◌, nat_eq, nat_le, bytes_eq}
+use Rattle.std.specs.Prelude.{◌≡◌, ℕ, Bool, not, ◌&&◌, ◌||◌, List, [], ◌∷◌, ◌++◌, length, take, drop, Option, Some, None, option_map}
+use Rattle.std.specs.Prelude.{if◌then◌else◌, nat_eq, nat_le, bytes_eq}
 use Rattle.std.specs.Int.{w32, w64, to_be_bytes, from_be_bytes}
 use Rattle.nfs_handles.specs.NumberedFiles.{TaggedFile, NumberedFiles, at, value_at}
 use Rattle.nfs_handles.specs.declared.number.Number.{Number}
@@ -43,7 +44,8 @@ abbrev pub live_with : {T : Type 0} → ℕ → ℕ → Option (TaggedFile T) �
 live_with tag n None = Stale
 live_with tag n (Some file) = if nat_eq tag file.tag then Live (number n) else Stale
 
--- The first of these that applies: bytes that are no handle are bad; a handle of another server is stale; a number that was not given is bad; a file that lives; and else the file is gone.
+-- The first of these that applies: bytes that are no handle are bad; a handle of another server is stale; a
+-- number that was not given is bad; a file that lives; and else the file is gone.
 abbrev pub reading : {T : Type 0} → NumberedFiles T → List ℕ → Reading
 reading t bytes =
     if not (is_shaped bytes) then Bad

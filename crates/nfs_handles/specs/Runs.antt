@@ -1,5 +1,6 @@
 -- NumberedFiles files change by change, and what holds all the way.
-use Rattle.std.specs.Prelude.{◌≡◌, ℕ, ◌-◌, ◌^◌, ◌<◌, ◌≤◌, ◌≢◌, List, [], ◌∷◌, ◌++◌, Option, Some, None, Result, IsSome, is_some, option_map, if◌then◌else◌, nat_eq}
+use Rattle.std.specs.Prelude.{◌≡◌, ℕ, ◌-◌, ◌^◌, ◌<◌, ◌≤◌, ◌≢◌, List, [], ◌∷◌, ◌++◌, Option, Some, None, Result, IsSome, is_some, option_map}
+use Rattle.std.specs.Prelude.{if◌then◌else◌, nat_eq}
 use Rattle.nfs_handles.specs.NumberedFiles.{NumberedFiles, at, tag_at, with_new, with_value, without, IsGiven, IsNumbered}
 use Rattle.nfs_handles.specs.Handles.{handle_at, reading, number}
 use Rattle.nfs_handles.specs.Changes.{Puts, Takes}
@@ -45,8 +46,10 @@ pub record CallsGo (T : Type 0) : Type 0 where
 
 -- Where each file is after a change.
 pub record FilesAre (T : Type 0) : Type 0 where
-  pub put : (t : NumberedFiles T) (tag : ℕ) (v : T) (n : ℕ) → IsNumbered t → at (with_new t tag v) n ≡ (if nat_eq t.next n then Some (record { tag = tag; value = v }) else at t n)
-  pub changed : (t : NumberedFiles T) (m : ℕ) (v : T) (n : ℕ) → at (with_value t m v) n ≡ (if nat_eq m n then option_map (λ file. record { tag = file.tag; value = v }) (at t m) else at t n)
+  pub put : (t : NumberedFiles T) (tag : ℕ) (v : T) (n : ℕ) → IsNumbered t
+      → at (with_new t tag v) n ≡ (if nat_eq t.next n then Some (record { tag = tag; value = v }) else at t n)
+  pub changed : (t : NumberedFiles T) (m : ℕ) (v : T) (n : ℕ)
+      → at (with_value t m v) n ≡ (if nat_eq m n then option_map (λ file. record { tag = file.tag; value = v }) (at t m) else at t n)
   pub taken : (t : NumberedFiles T) (m n : ℕ) → IsNumbered t → at (without t m) n ≡ (if nat_eq m n then None else at t n)
   pub given : (t : NumberedFiles T) (n : ℕ) → IsNumbered t → IsSome (at t n) → IsGiven t.next n
 
@@ -62,9 +65,12 @@ pub record RunsKeep (T : Type 0) : Type 0 where
   pub key : (t u : NumberedFiles T) (changes : List (Change T)) → Runs t changes u → u.key ≡ t.key
   pub next : (t u : NumberedFiles T) (changes : List (Change T)) → Runs t changes u → t.next ≤ u.next
 
--- A number that was given is never given again: where its file is gone it stays so, and while it lives it keeps its tag. So a handle that named a file names it for as long as it lives, and no file ever after.
+-- A number that was given is never given again: where its file is gone it stays so, and while it lives it
+-- keeps its tag. So a handle that named a file names it for as long as it lives, and no file ever after.
 pub record NumbersAreForGood (T : Type 0) : Type 0 where
   pub gone : (t u : NumberedFiles T) (changes : List (Change T)) (n : ℕ) → IsNumbered t → Runs t changes u → n < t.next → at t n ≡ None → at u n ≡ None
-  pub tag : (t u : NumberedFiles T) (changes : List (Change T)) (n : ℕ) → IsNumbered t → Runs t changes u → n < t.next → IsSome (at u n) → tag_at u n ≡ tag_at t n
-  pub handle : (t u : NumberedFiles T) (changes : List (Change T)) (n : ℕ) (handle : List ℕ) → IsNumbered t → Runs t changes u → reading t handle ≡ Live (number n)
+  pub tag : (t u : NumberedFiles T) (changes : List (Change T)) (n : ℕ) → IsNumbered t → Runs t changes u → n < t.next → IsSome (at u n)
+      → tag_at u n ≡ tag_at t n
+  pub handle : (t u : NumberedFiles T) (changes : List (Change T)) (n : ℕ) (handle : List ℕ) → IsNumbered t → Runs t changes u
+      → reading t handle ≡ Live (number n)
       → reading u handle ≡ (if is_some (at u n) then Live (number n) else Stale)

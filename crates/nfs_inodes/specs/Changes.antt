@@ -1,5 +1,6 @@
 -- What operations do to the tree.
-use Rattle.std.specs.Prelude.{◌≡◌, ℕ, ◌+◌, ◌-◌, ◌%◌, ◌<◌, ◌^◌, not, nat_eq, List, [], ◌∷◌, ◌++◌, length, take, drop, replicate, filter, Option, None, if◌then◌else◌}
+use Rattle.std.specs.Prelude.{◌≡◌, ℕ, ◌+◌, ◌-◌, ◌%◌, ◌<◌, ◌^◌, not, nat_eq, List, [], ◌∷◌, ◌++◌, length, take, drop, replicate, filter}
+use Rattle.std.specs.Prelude.{Option, None, if◌then◌else◌}
 use Rattle.nfs_attrs.specs.declared.moment.Moment.{Moment}
 use Rattle.nfs_inodes.specs.declared.given_attributes.GivenAttributes.{GivenAttributes}
 use Rattle.nfs_inodes.specs.declared.new_file.NewFile.{NewFile}
@@ -19,7 +20,8 @@ with_file t n f = record t { files = with_at n f t.files }
 -- the new entry has the next cookie, which rises by 1
 abbrev pub kind_with_entry : Kind → List ℕ → ℕ → Kind
 kind_with_entry (Regular bytes) name n = Regular bytes
-kind_with_entry (Directory parent next_cookie entries) name n = Directory parent (next_cookie + 1) (entries ++ record { cookie = next_cookie; name = name; number = n } ∷ [])
+kind_with_entry (Directory parent next_cookie entries) name n = Directory parent (next_cookie + 1) (entries
+    ++ record { cookie = next_cookie; name = name; number = n } ∷ [])
 kind_with_entry (Link path) name n = Link path
 
 -- a directory with one entry more, at this moment
@@ -79,7 +81,18 @@ zeros n = replicate n 0
 
 -- a file with these attributes, made at this moment; of the mode the low 12 bits
 abbrev pub new_file : ℕ → Kind → NewFile → Option (List ℕ) → ℕ → Moment → File
-new_file volume kind given verifier tag now = record { volume = volume; kind = kind; mode = given.mode % 4096; uid = given.uid; gid = given.gid; atime = given.atime; mtime = given.mtime; ctime = now; tag = tag; verifier = verifier }
+new_file volume kind given verifier tag now = record {
+  volume = volume;
+  kind = kind;
+  mode = given.mode % 4096;
+  uid = given.uid;
+  gid = given.gid;
+  atime = given.atime;
+  mtime = given.mtime;
+  ctime = now;
+  tag = tag;
+  verifier = verifier;
+}
 
 -- the volume of file n
 abbrev pub volume_of : Tree → ℕ → ℕ

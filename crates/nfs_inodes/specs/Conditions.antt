@@ -3,7 +3,8 @@ use Rattle.std.specs.Prelude.{◌≡◌, ◌≢◌, ◌⊎◌, ℕ, ◌+◌, ◌
 use Rattle.nfs_inodes.specs.declared.removal.Standing.{Standing}
 use Rattle.nfs_inodes.specs.Limits.{max_file_bytes, max_path_bytes, max_links, max_volumes, max_volume_path_bytes}
 use Rattle.nfs_inodes.specs.Reading.{entry_named, entry_at}
-use Rattle.nfs_inodes.specs.Tree.{Tree, File, Entry, Volume, is_directory, is_regular, parent_in, entries_in, next_cookie_in, bytes_in, names_of, nlink, bytes_of, files_of}
+use Rattle.nfs_inodes.specs.Tree.{Tree, File, Entry, Volume, is_directory, is_regular, parent_in, entries_in, next_cookie_in, bytes_in}
+use Rattle.nfs_inodes.specs.Tree.{names_of, nlink, bytes_of, files_of}
 use Rattle.nfs_inodes.specs.Law.{IsName, IsSound, Lives, LivesAsDirectory, climb}
 
 -- directory d takes an entry of this name
@@ -123,7 +124,9 @@ pub record MayReplace (t : Tree) (n : ℕ) (file : File) : Type 0 where
   pub alike : is_directory replaced.kind ≡ is_directory file.kind
   pub empty : entries_in replaced.kind ≡ []
 
--- The entry of a name in directory from may go to another name in directory to of the same volume. Where the new name names another file that one may be replaced; a directory goes neither into itself nor below itself; and a directory more is a link more for the one that takes it.
+-- The entry of a name in directory from may go to another name in directory to of the same volume. Where the
+-- new name names another file that one may be replaced; a directory goes neither into itself nor below
+-- itself; and a directory more is a link more for the one that takes it.
 pub record MayRename (t : Tree) (from : ℕ) (name : List ℕ) (to : ℕ) (new_name : List ℕ) : Type 0 where
   pub source : File
   pub at_source : LivesAsDirectory t from source

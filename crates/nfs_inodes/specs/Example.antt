@@ -12,14 +12,29 @@ abbrev pub start : Moment
 start = record { seconds = 0; nanos = 0 }
 
 abbrev pub file : ℕ → Kind → ℕ → ℕ → ℕ → File
-file volume kind mode uid gid = record { volume = volume; kind = kind; mode = mode; uid = uid; gid = gid; atime = start; mtime = start; ctime = start; tag = 0; verifier = None }
+file volume kind mode uid gid = record {
+  volume = volume;
+  kind = kind;
+  mode = mode;
+  uid = uid;
+  gid = gid;
+  atime = start;
+  mtime = start;
+  ctime = start;
+  tag = 0;
+  verifier = None;
+}
 
 abbrev pub entry : ℕ → List ℕ → ℕ → Entry
 entry cookie name number = record { cookie = cookie; name = name; number = number }
 
+abbrev pub entries_1 : List Entry
+entries_1 = entry 3 (0x70 ∷ 0x75 ∷ 0x62 ∷ []) 2 ∷ entry 4 (0x67 ∷ []) 5
+    ∷ entry 5 (0x6f ∷ 0x77 ∷ 0x6e ∷ []) 6 ∷ entry 6 (0x7a ∷ 0x65 ∷ 0x72 ∷ 0x6f ∷ []) 7 ∷ []
+
 -- mode 0755
 abbrev pub file_1 : File
-file_1 = file 0 (Directory 1 7 (entry 3 (0x70 ∷ 0x75 ∷ 0x62 ∷ []) 2 ∷ entry 4 (0x67 ∷ []) 5 ∷ entry 5 (0x6f ∷ 0x77 ∷ 0x6e ∷ []) 6 ∷ entry 6 (0x7a ∷ 0x65 ∷ 0x72 ∷ 0x6f ∷ []) 7 ∷ [])) 493 0 0
+file_1 = file 0 (Directory 1 7 entries_1) 493 0 0
 
 -- mode 0777
 abbrev pub file_2 : File
@@ -54,7 +69,8 @@ tree_e = record {
   files = (1, file_1) ∷ (2, file_2) ∷ (3, file_3) ∷ (4, file_4) ∷ (5, file_5) ∷ (6, file_6) ∷ (7, file_7) ∷ (8, file_8) ∷ [];
   next = 9;
   key = 0x01 ∷ 0x02 ∷ 0x03 ∷ 0x04 ∷ 0x05 ∷ 0x06 ∷ 0x07 ∷ 0x08 ∷ [];
-  volumes = record { path = 0x2f ∷ 0x61 ∷ []; max_bytes = 20000000; max_files = 12; root = 1 } ∷ record { path = 0x2f ∷ 0x62 ∷ []; max_bytes = 1000; max_files = 4; root = 8 } ∷ [];
+  volumes = record { path = 0x2f ∷ 0x61 ∷ []; max_bytes = 20000000; max_files = 12; root = 1 }
+      ∷ record { path = 0x2f ∷ 0x62 ∷ []; max_bytes = 1000; max_files = 4; root = 8 } ∷ [];
 }
 
 -- attributes of a file with the times 0

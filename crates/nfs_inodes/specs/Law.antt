@@ -1,7 +1,8 @@
 -- The law of the tree, where file x may as yet be named by no entry; 0 is no file.
 use Rattle.std.specs.Prelude.{suc, zero, ◌≡◌, ◌≢◌, ℕ, ◌≤◌, ◌<◌, true, false, List, [], ◌∷◌, length, Some, None, All, AllPairs, Contains, slice_get, filter}
 use Rattle.nfs_inodes.specs.Limits.{max_name_bytes, max_file_bytes, max_path_bytes, max_links, max_volumes, max_volume_path_bytes}
-use Rattle.nfs_inodes.specs.Tree.{Tree, File, Entry, Volume, at, on_some, is_directory, entries_in, parent_in, next_cookie_in, bytes_in, path_in, names_of, nlink, bytes_of, files_of}
+use Rattle.nfs_inodes.specs.Tree.{Tree, File, Entry, Volume, at, on_some, is_directory, entries_in, parent_in, next_cookie_in, bytes_in}
+use Rattle.nfs_inodes.specs.Tree.{path_in, names_of, nlink, bytes_of, files_of}
 use Rattle.nfs_inodes.specs.Reading.{numbered_files}
 use Rattle.nfs_handles.specs.NumberedFiles.{IsNumbered}
 
@@ -76,14 +77,17 @@ pub record LawBut (x : ℕ) (t : Tree) : Type 0 where
   pub entries : (d : ℕ) (f : File) (e : Entry) → Lives t d f → Contains (entries_in f.kind) e → (g : File) × Lives t e.number g × (g.volume ≡ f.volume)
   pub absent : (n : ℕ) → at n t.files ≡ None → names_of n t.files ≡ 0
   -- a root is a directory of its volume, its own parent, and no entry names it
-  pub roots : (place : ℕ) (v : Volume) → slice_get t.volumes place ≡ Some v → (f : File) × LivesAsDirectory t v.root f × (parent_in f.kind ≡ v.root) × (f.volume ≡ place) × (names_of v.root t.files ≡ 0)
+  pub roots : (place : ℕ) (v : Volume) → slice_get t.volumes place ≡ Some v
+      → (f : File) × LivesAsDirectory t v.root f × (parent_in f.kind ≡ v.root) × (f.volume ≡ place) × (names_of v.root t.files ≡ 0)
   -- every other directory is named by one entry, which stands in its parent
   pub once : (n : ℕ) (f : File) → n ≢ x → LivesAsDirectory t n f → (IsRoot t.volumes n → ⊥) → names_of n t.files ≡ 1
   pub parents : (d : ℕ) (f : File) (e : Entry) (g : File) → Lives t d f → Contains (entries_in f.kind) e → LivesAsDirectory t e.number g → parent_in g.kind ≡ d
-  pub stands : (n : ℕ) (f : File) → n ≢ x → LivesAsDirectory t n f → (IsRoot t.volumes n → ⊥) → (p : File) × Lives t (parent_in f.kind) p × (e : Entry) × Contains (entries_in p.kind) e × (e.number ≡ n)
+  pub stands : (n : ℕ) (f : File) → n ≢ x → LivesAsDirectory t n f → (IsRoot t.volumes n → ⊥)
+      → (p : File) × Lives t (parent_in f.kind) p × (e : Entry) × Contains (entries_in p.kind) e × (e.number ≡ n)
   -- a parent is a directory of the same volume, and steps to the parent lead to the root
   pub homes : (n : ℕ) (f : File) → LivesAsDirectory t n f → (p : File) × LivesAsDirectory t (parent_in f.kind) p × (p.volume ≡ f.volume)
-  pub reached : (n : ℕ) (f : File) → LivesAsDirectory t n f → (steps : ℕ) × (v : Volume) × (slice_get t.volumes f.volume ≡ Some v) × (climb steps t.files n ≡ v.root)
+  pub reached : (n : ℕ) (f : File) → LivesAsDirectory t n f
+      → (steps : ℕ) × (v : Volume) × (slice_get t.volumes f.volume ≡ Some v) × (climb steps t.files n ≡ v.root)
   -- every other file has a name
   pub named : (n : ℕ) (f : File) → n ≢ x → Lives t n f → is_directory f.kind ≡ false → 1 ≤ names_of n t.files
   pub links : (n : ℕ) (f : File) → Lives t n f → nlink t.files n f ≤ max_links

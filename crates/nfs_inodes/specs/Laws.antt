@@ -8,7 +8,8 @@ use Rattle.nfs_inodes.specs.declared.given_attributes.GivenAttributes.{GivenAttr
 use Rattle.nfs_inodes.specs.declared.new_file.NewFile.{NewFile}
 use Rattle.nfs_inodes.specs.Tree.{Tree, File, at}
 use Rattle.nfs_inodes.specs.Law.{Law, Lives, LivesAsDirectory, IsReached}
-use Rattle.nfs_inodes.specs.Changes.{after_make_file, after_make_dir, after_make_link, after_link, after_write_at, after_resize, after_set, after_unlink, after_rename, after_add_volume}
+use Rattle.nfs_inodes.specs.Changes.{after_make_file, after_make_dir, after_make_link, after_link, after_write_at, after_resize, after_set}
+use Rattle.nfs_inodes.specs.Changes.{after_unlink, after_rename, after_add_volume}
 use Rattle.nfs_inodes.specs.Conditions.{MayMake, MayMakeDirectory, MayMakeLink, MayLink, MayWrite, MayResize, MayUnlink, MayRename, MayAddVolume}
 use Rattle.nfs_inodes.specs.Reading.{number_under, numbered_files}
 
@@ -57,7 +58,8 @@ pub record ChangesFollow : Type 0 where
 -- A handle of a file that lives reads as it and as no other, and that for good: for as long as the file lives it names it, and no file ever after.
 pub record HandlesAreForGood : Type 0 where
   pub read : (t : Tree) (n : ℕ) (handle : List ℕ) → Law t → handle_at (numbered_files t) n ≡ Some handle → reading (numbered_files t) handle ≡ Live (number n)
-  pub once : (t : Tree) (m n : ℕ) (handle : List ℕ) → Law t → handle_at (numbered_files t) m ≡ Some handle → handle_at (numbered_files t) n ≡ Some handle → m ≡ n
+  pub once : (t : Tree) (m n : ℕ) (handle : List ℕ) → Law t → handle_at (numbered_files t) m ≡ Some handle
+      → handle_at (numbered_files t) n ≡ Some handle → m ≡ n
   pub for_good : (t u : Tree) (n : ℕ) (handle : List ℕ) → Law t → Follows t u → reading (numbered_files t) handle ≡ Live (number n)
       → reading (numbered_files u) handle ≡ (if is_some (at n u.files) then Live (number n) else Stale)
   pub gone : (t u : Tree) (n : ℕ) → Law t → Follows t u → n < t.next → at n t.files ≡ None → at n u.files ≡ None

@@ -1,5 +1,6 @@
 -- What is read of the tree.
-use Rattle.std.specs.Prelude.{◌≡◌, ℕ, ◌+◌, Bool, true, false, List, [], ◌∷◌, ◌++◌, length, nat_lt, bytes_eq, Option, Some, None, option_map, slice_get, map, if◌then◌else◌}
+use Rattle.std.specs.Prelude.{◌≡◌, ℕ, ◌+◌, Bool, true, false, List, [], ◌∷◌, ◌++◌, length, nat_lt, bytes_eq, Option, Some, None, option_map}
+use Rattle.std.specs.Prelude.{slice_get, map, if◌then◌else◌}
 use Rattle.std.specs.List.{filter, find}
 use Rattle.nfs_attrs.specs.declared.fattr.Fattr.{Fattr}
 use Rattle.nfs_attrs.specs.declared.file_type.FileType.{FileType}
@@ -20,7 +21,8 @@ dot_dot = 46 ∷ 46 ∷ []
 -- what directory d lists: itself, its parent, and its entries (RFC 1813, section 3.3.16)
 abbrev pub listing : ℕ → Kind → List Entry
 listing d (Regular bytes) = []
-listing d (Directory parent next_cookie entries) = record { cookie = 1; name = dot; number = d } ∷ record { cookie = 2; name = dot_dot; number = parent } ∷ entries
+listing d (Directory parent next_cookie entries) = record { cookie = 1; name = dot; number = d }
+    ∷ record { cookie = 2; name = dot_dot; number = parent } ∷ entries
 listing d (Link path) = []
 
 abbrev pub listing_at : Tree → ℕ → List Entry

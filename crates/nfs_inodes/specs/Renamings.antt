@@ -30,7 +30,8 @@ pub record Carries (files : NumberedFiles StoredFile) (stored_volumes : List Sto
 -- the entry has gone there
 pub record HasCarried (old new : NumberedFiles StoredFile) (stored_volumes : List StoredVolume) (route : Route) (name new_name : List ℕ) (now : Moment) : Type 0 where
   pub agree : Agrees (counted_tree_of new stored_volumes)
-  pub done : tree_in (counted_tree_of new stored_volumes) ≡ carried (tree_in (counted_tree_of old stored_volumes)) route.from.0 name route.number.0 route.to.0 new_name now
+  pub done : tree_in (counted_tree_of new stored_volumes)
+      ≡ carried (tree_in (counted_tree_of old stored_volumes)) route.from.0 name route.number.0 route.to.0 new_name now
 
 -- what is kept agrees with the tree, where the entry of a name may go to another, which is free or names the file to be replaced; and there is room for it
 pub record Renames (files : NumberedFiles StoredFile) (stored_volumes : List StoredVolume) (route : Route) (name new_name : List ℕ) (replaced : Option Number) : Type 0 where

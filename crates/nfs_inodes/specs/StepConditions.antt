@@ -3,7 +3,8 @@ use Rattle.std.specs.Prelude.{◌≡◌, ℕ, ◌≢◌, ◌+◌, ◌-◌, ◌<�
 use Rattle.nfs_inodes.specs.Limits.{max_file_bytes, max_path_bytes, max_links}
 use Rattle.nfs_inodes.specs.declared.stored_file.StoredFile.{StoredFile}
 use Rattle.nfs_inodes.specs.declared.stored_volume.StoredVolume.{StoredVolume}
-use Rattle.nfs_inodes.specs.Tree.{Tree, File, Kind, Entry, at, on_some, is_directory, is_regular, entries_in, parent_in, next_cookie_in, path_in, names_of, nlink, bytes_in, Volume, bytes_of, files_of}
+use Rattle.nfs_inodes.specs.Tree.{Tree, File, Kind, Entry, at, on_some, is_directory, is_regular, entries_in, parent_in, next_cookie_in}
+use Rattle.nfs_inodes.specs.Tree.{path_in, names_of, nlink, bytes_in, Volume, bytes_of, files_of}
 use Rattle.nfs_inodes.specs.Conditions.{MayMake, MayReplace, IsOff, IsNew}
 use Rattle.nfs_inodes.specs.Storage.{file_of, kind_of}
 use Rattle.nfs_inodes.specs.Law.{IsName, Lives, LivesAsDirectory}

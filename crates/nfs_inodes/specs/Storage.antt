@@ -19,7 +19,18 @@ kind_of (node.Link path) = Link path.items
 
 -- the file, under some tag
 abbrev pub file_of : ℕ → StoredFile → File
-file_of tag i = record { volume = i.volume; kind = kind_of i.node; mode = i.mode; uid = i.uid; gid = i.gid; atime = i.atime; mtime = i.mtime; ctime = i.ctime; tag = tag; verifier = i.verifier }
+file_of tag i = record {
+  volume = i.volume;
+  kind = kind_of i.node;
+  mode = i.mode;
+  uid = i.uid;
+  gid = i.gid;
+  atime = i.atime;
+  mtime = i.mtime;
+  ctime = i.ctime;
+  tag = tag;
+  verifier = i.verifier;
+}
 
 abbrev pub counted_file_of : ℕ → StoredFile → CountedFile
 counted_file_of tag i = record { file = file_of tag i; nlink = i.nlink }
@@ -44,4 +55,9 @@ abbrev pub counted_files : List (ℕ × TaggedFile StoredFile) → List (ℕ × 
 counted_files files = map (λ e. (e.0, counted_file_of e.1.tag e.1.value)) files
 
 abbrev pub counted_tree_of : NumberedFiles StoredFile → List StoredVolume → CountedTree
-counted_tree_of numbered_files stored_volumes = record { files = counted_files numbered_files.files; next = numbered_files.next; key = numbered_files.key; volumes = map counted_volume_of stored_volumes }
+counted_tree_of numbered_files stored_volumes = record {
+  files = counted_files numbered_files.files;
+  next = numbered_files.next;
+  key = numbered_files.key;
+  volumes = map counted_volume_of stored_volumes;
+}

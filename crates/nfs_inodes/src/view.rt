@@ -33,7 +33,10 @@ impl<'a> Model for FileView<'a> {
 
     ghost Value = { seen.FileView };
 
-    ghost view = { λ a. record { attributes = attributes_of a.number.0 (file_of 0 a.stored_file.now) a.stored_file.now.nlink; kind = kind_of a.stored_file.now.node } };
+    ghost view = { λ a. record {
+      attributes = attributes_of a.number.0 (file_of 0 a.stored_file.now) a.stored_file.now.nlink;
+      kind = kind_of a.stored_file.now.node;
+    } };
 
     ghost invariant = { λ a. a.stored_file.now.volume < max_volumes };
 }

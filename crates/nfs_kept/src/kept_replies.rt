@@ -1,5 +1,6 @@
 //! The kept replies, the most recently used first.
-ghost use Rattle.std.specs.Prelude.{◌≡◌, ℕ, List, false, ◌<◌, ◌≤◌, [], ◌∷◌, None, Some, length, drop, is_some, IfOk, IfSome, OnOk, OnErr, slice_get, option_map, option_copied};
+ghost use Rattle.std.specs.Prelude.{◌≡◌, ℕ, List, false, ◌<◌, ◌≤◌, [], ◌∷◌, None, Some, length, drop, is_some, IfOk, IfSome, OnOk, OnErr};
+ghost use Rattle.std.specs.Prelude.{slice_get, option_map, option_copied};
 ghost use Rattle.nfs_kept.specs.Places.{Place, place_for, kept_reply, without, with_reply, with_first, IsPartOf};
 
 use crate::key::Key;

@@ -1,5 +1,6 @@
 -- What a description says: its lines in turn, each from what those before it made.
-use Rattle.std.specs.Prelude.{◌≡◌, ◌⊎◌, ℕ, ◌+◌, ◌-◌, ◌<◌, ◌≤◌, List, [], ◌∷◌, ◌++◌, length, slice_get, Option, Some, None, option_map, Result, Ok, Err, IsOk, if◌then◌else◌, nat_eq}
+use Rattle.std.specs.Prelude.{◌≡◌, ◌⊎◌, ℕ, ◌+◌, ◌-◌, ◌<◌, ◌≤◌, List, [], ◌∷◌, ◌++◌, length, slice_get, Option, Some, None, option_map}
+use Rattle.std.specs.Prelude.{Result, Ok, Err, IsOk, if◌then◌else◌, nat_eq}
 use Rattle.nfs_exports.specs.Tables.{added, pattern_count}
 use Rattle.nfs_inodes.specs.Conditions.{MayAddVolume}
 use Rattle.nfs_inodes.specs.Tree.{Tree, Volume}

@@ -34,7 +34,8 @@ link_attributes uid gid = attributes (record { mode = 511; uid = uid; gid = gid 
 abbrev pub IsOpen : {P : Type 0} → Result P Cause → (P → Type 0) → Type 0
 IsOpen {P} found May = (place : P) × (found ≡ Ok place) × May place
 
--- a line finds where it is done, or a cause; it is done where it may be, and else the cause is Full; memory is wanted only where it may be done; a line that isn't done leaves the tree
+-- a line finds where it is done, or a cause; it is done where it may be, and else the cause is Full; memory
+-- is wanted only where it may be done; a line that isn't done leaves the tree
 abbrev pub Does : {P : Type 0} → Tree → Result P Cause → (P → Type 0) → (P → Tree → Type 0) → Result Unit Refusal → Tree → Type 0
 Does {P} t found May Made (Ok x) new = (place : P) × (found ≡ Ok place) × May place × Made place new
 Does {P} t found May Made (Err (Fault Full)) new = (place : P) × (found ≡ Ok place) × (May place → ⊥) × (new ≡ t)

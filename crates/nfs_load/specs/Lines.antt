@@ -1,5 +1,6 @@
 -- The lines of a description, as far as each alone says what it asks for.
-use Rattle.std.specs.Prelude.{ℕ, Bool, false, ◌&&◌, ◌||◌, List, [], ◌∷◌, length, Option, Some, None, option_map, Result, Ok, Err, if◌then◌else◌, nat_eq, nat_le, bytes_eq, codes}
+use Rattle.std.specs.Prelude.{ℕ, Bool, false, ◌&&◌, ◌||◌, List, [], ◌∷◌, length, Option, Some, None, option_map, Result, Ok, Err}
+use Rattle.std.specs.Prelude.{if◌then◌else◌, nat_eq, nat_le, bytes_eq, codes}
 use Rattle.std.specs.List.{list_all}
 use Rattle.nfs_text.specs.Words.{words, words_left}
 use Rattle.nfs_load.specs.declared.cause.Cause.{Cause}

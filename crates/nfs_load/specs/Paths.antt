@@ -1,5 +1,6 @@
 -- Paths: a slash, and names with a slash between each two.
-use Rattle.std.specs.Prelude.{ℕ, Bool, not, ◌&&◌, ◌||◌, List, [], ◌∷◌, length, Option, Some, None, is_some, Result, Ok, Err, if◌then◌else◌, nat_eq, nat_lt, nat_le, bytes_eq, codes}
+use Rattle.std.specs.Prelude.{ℕ, Bool, not, ◌&&◌, ◌||◌, List, [], ◌∷◌, length, Option, Some, None, is_some, Result, Ok, Err, if◌then◌else◌}
+use Rattle.std.specs.Prelude.{nat_eq, nat_lt, nat_le, bytes_eq, codes}
 use Rattle.std.specs.List.{list_all, list_any}
 use Rattle.nfs_text.specs.Pieces.{pieces}
 use Rattle.nfs_inodes.specs.Limits.{max_name_bytes, max_volume_path_bytes}
@@ -12,7 +13,8 @@ has_percent name = list_any (λ byte. nat_eq byte 37) name
 
 -- 1 to 255 bytes, none `%`, neither `.` nor `..`
 abbrev pub is_name : List ℕ → Bool
-is_name name = (nat_lt 0 (length name) && nat_le (length name) max_name_bytes) && ((not (bytes_eq name (codes ".")) && not (bytes_eq name (codes ".."))) && not (has_percent name))
+is_name name = (nat_lt 0 (length name) && nat_le (length name) max_name_bytes)
+    && ((not (bytes_eq name (codes ".")) && not (bytes_eq name (codes ".."))) && not (has_percent name))
 
 -- what stands behind a path's first slash
 abbrev pub behind_slash : List ℕ → Option (List ℕ)

@@ -61,7 +61,9 @@ pub record MountsOfE : Type 0 where
   pub long : mount_verdict tree_e exports_e (host 769) (47 ∷ map (λ n. 97) (range_with_len 0 1024)) ≡ Some rule.PathLong
   pub root : root_of tree_e a ≡ Some (codes "NFS3" ++ (0x01 ∷ 0x02 ∷ 0x03 ∷ 0x04 ∷ 0x05 ∷ 0x06 ∷ 0x07 ∷ 0x08 ∷ []) ++ word 0 ++ to_be_bytes w64 1)
   pub status : mount_text (denied_answer rule.MountPath) ≡ word 2
-  pub dump : mount_text (dump_answer tree_e mounts_e) ≡ word 1 ++ word 8 ++ codes "10.0.0.1" ++ word 2 ++ a ++ 0 ∷ 0 ∷ [] ++ word 1 ++ word 8 ++ codes "10.0.0.1" ++ word 2 ++ b ++ 0 ∷ 0 ∷ [] ++ word 0
+  pub dump : mount_text (dump_answer tree_e mounts_e)
+      ≡ word 1 ++ word 8 ++ codes "10.0.0.1" ++ word 2 ++ a ++ 0 ∷ 0 ∷ []
+      ++ word 1 ++ word 8 ++ codes "10.0.0.1" ++ word 2 ++ b ++ 0 ∷ 0 ∷ [] ++ word 0
   pub export : mount_text (export_answer tree_e exports_e) ≡
       word 1 ++ word 2 ++ a ++ 0 ∷ 0 ∷ []
       ++ word 1 ++ word 11 ++ codes "10.0.0.0/24" ++ 0 ∷ []

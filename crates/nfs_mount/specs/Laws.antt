@@ -19,7 +19,8 @@ pub record KeepsVolumes : Type 0 where
 -- a client that asks for a volume has it until it has done with it
 pub record AreMounted : Type 0 where
   -- after MNT of a volume
-  pub mnt : (t : Tree) (addr : Addr) (path : List ℕ) (place : ℕ) (mounts : List Mount) → place_named t path ≡ Some place → is_mounted t addr path (after_mnt t addr path mounts) ≡ true
+  pub mnt : (t : Tree) (addr : Addr) (path : List ℕ) (place : ℕ) (mounts : List Mount) → place_named t path ≡ Some place
+      → is_mounted t addr path (after_mnt t addr path mounts) ≡ true
   -- and MNT again changes nothing
   pub again : (t : Tree) (addr : Addr) (path : List ℕ) (mounts : List Mount) → is_mounted t addr path mounts ≡ true → after_mnt t addr path mounts ≡ mounts
   -- after UMNT and UMNTALL

@@ -41,7 +41,8 @@ denied_answer rule = answer.Mount (Err (record { status = status_of rule; shown 
 -- the volume is mounted, and its root is answered; the first rule that fails is answered; or no rule fails, the pair is new, and nothing is done
 abbrev pub Mounts : Tree → List (List Export) → Addr → List ℕ → Mounted → List Mount → List Mount → Written → Written → Type 0
 Mounts t exports addr path Granted old new before after =
-    (mount_verdict t exports addr path ≡ None) × (new ≡ after_mnt t addr path old) × (handle : List ℕ) × (root_of t path ≡ Some handle) × Appends (mount_text (granted_answer handle)) before after
+    (mount_verdict t exports addr path ≡ None) × (new ≡ after_mnt t addr path old) × (handle : List ℕ) × (root_of t path ≡ Some handle)
+    × Appends (mount_text (granted_answer handle)) before after
 Mounts t exports addr path (Denied rule) old new before after =
     (mount_verdict t exports addr path ≡ Some rule) × (new ≡ old) × Appends (mount_text (denied_answer rule)) before after
 Mounts t exports addr path Memory old new before after =

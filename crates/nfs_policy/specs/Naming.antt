@@ -10,7 +10,8 @@ use Rattle.nfs_server.specs.Steps.{Setup, State, IsRun}
 
 pub record NamesOn (t u : Tree) : Type 0 where
   -- a handle that reads as a file reads as that file while it lives, and is stale ever after
-  pub handles : (handle : List ℕ) (n : ℕ) → reading (numbered_files t) handle ≡ Live (number n) → reading (numbered_files u) handle ≡ (if is_some (at n u.files) then Live (number n) else Stale)
+  pub handles : (handle : List ℕ) (n : ℕ) → reading (numbered_files t) handle ≡ Live (number n)
+      → reading (numbered_files u) handle ≡ (if is_some (at n u.files) then Live (number n) else Stale)
   -- the number of a file that is gone is never given again
   pub gone : (n : ℕ) → n < t.next → at n t.files ≡ None → at n u.files ≡ None
   -- what is no file stays: the key of the handles, the volumes with their roots and limits, and how many numbers were given
@@ -29,4 +30,6 @@ Through setup opening (d ∷ before) state run Holds = Through setup opening bef
 
 -- from each state of a run from a lawful tree to the last
 abbrev pub HandlesNameForGood : Type 0
-HandlesNameForGood = (setup : Setup) (opening : State) → Law opening.tree → (past : List Done) (state : State) (run : IsRun setup opening past state) → HandlesNameOne state.tree × Through setup opening past state run (λ between. NamesOn between.tree state.tree)
+HandlesNameForGood = (setup : Setup) (opening : State) → Law opening.tree
+    → (past : List Done) (state : State) (run : IsRun setup opening past state)
+    → HandlesNameOne state.tree × Through setup opening past state run (λ between. NamesOn between.tree state.tree)

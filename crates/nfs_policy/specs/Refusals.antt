@@ -44,4 +44,5 @@ pub record Refuses : Type 0 where
 
 -- What it does not refuse: it speaks of files alone, so another key, other volumes and another next number pass.
 abbrev pub PassesOver : Type 0
-PassesOver = (exports : List (List Export)) (caller : Caller) (now : Moment) (t : Tree) (next : ℕ) (key : List ℕ) (volumes : List Volume) → Policy exports caller now t (record t { next = next; key = key; volumes = volumes })
+PassesOver = (exports : List (List Export)) (caller : Caller) (now : Moment) (t : Tree) (next : ℕ) (key : List ℕ) (volumes : List Volume)
+    → Policy exports caller now t (record t { next = next; key = key; volumes = volumes })

@@ -21,7 +21,8 @@ use Rattle.nfs_attrs.specs.declared.time_setting.TimeSetting.{TimeSetting}
 use Rattle.nfs_attrs.specs.declared.time_setting.TimeSetting.TheVariants.{Leave, ServerTime, ClientTime}
 use Rattle.nfs_attrs.specs.declared.wcc.Wcc.{Wcc}
 use Rattle.nfs_handles.specs.Handles.{handle_at}
-use Rattle.nfs_inodes.specs.Changes.{after_make_file, after_make_dir, after_make_link, after_link, after_write_at, after_resize, after_set, after_unlink, after_rename, zeros}
+use Rattle.nfs_inodes.specs.Changes.{after_make_file, after_make_dir, after_make_link, after_link, after_write_at, after_resize, after_set}
+use Rattle.nfs_inodes.specs.Changes.{after_unlink, after_rename, zeros}
 use Rattle.nfs_inodes.specs.Reading.{attributes_at, bytes_at, entry_at, numbered_files}
 use Rattle.nfs_inodes.specs.Tree.{Tree, on_some}
 use Rattle.nfs_inodes.specs.declared.given_attributes.GivenAttributes.{GivenAttributes}
@@ -81,7 +82,12 @@ abbrev pub write : Write → Doing
 write a = record {
   takes_memory = λ file same. grows file.tree file.file.fileid a.offset (length a.content);
   effect = λ file same now tag. after_write_at file.tree file.file.fileid a.offset a.content now;
-  granted = λ file same new. answer.Write (Ok (record { file = changed new file; count = length a.content; committed = FileSync; verifier = verifier_of file.tree }));
+  granted = λ file same new. answer.Write (Ok (record {
+    file = changed new file;
+    count = length a.content;
+    committed = FileSync;
+    verifier = verifier_of file.tree;
+  }));
   largest = largest_of proc.Write;
   denied = λ status seen. answer.Write (Err (record { status = status; shown = no_change (seen a.file) }));
 }
@@ -190,7 +196,10 @@ rename a = record {
   effect = λ from to now tag. after_rename from.tree from.file.fileid a.from.name to.file.fileid a.to.name now;
   granted = λ from to new. answer.Rename (Ok (record { from = changed new from; to = changed new to }));
   largest = largest_of proc.Rename;
-  denied = λ status seen. answer.Rename (Err (record { status = status; shown = record { from = no_change (seen a.from.dir); to = no_change (seen a.to.dir) } }));
+  denied = λ status seen. answer.Rename (Err (record {
+    status = status;
+    shown = record { from = no_change (seen a.from.dir); to = no_change (seen a.to.dir) };
+  }));
 }
 
 abbrev pub link : Link → Doing

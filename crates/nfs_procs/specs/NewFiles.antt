@@ -25,4 +25,10 @@ time_of now other = now
 
 -- a file that the caller makes at this moment; its mode where none is given
 abbrev pub new_file_of : ℕ → Ids → Moment → Sattr → NewFile
-new_file_of mode ids now given = record { mode = or_else given.mode mode; uid = uid_of ids given.uid; gid = gid_of ids given.gid; atime = time_of now given.atime; mtime = time_of now given.mtime }
+new_file_of mode ids now given = record {
+  mode = or_else given.mode mode;
+  uid = uid_of ids given.uid;
+  gid = gid_of ids given.gid;
+  atime = time_of now given.atime;
+  mtime = time_of now given.mtime;
+}

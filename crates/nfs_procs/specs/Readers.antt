@@ -53,7 +53,11 @@ abbrev pub lookup : DirOp → Doing
 lookup a = record {
   takes_memory = never;
   effect = unchanged;
-  granted = λ dir same new. answer.Lookup (Ok (record { file = on_some (found dir a.name) [] (handle_in dir.tree); attributes = found dir a.name; dir = Some dir.file }));
+  granted = λ dir same new. answer.Lookup (Ok (record {
+    file = on_some (found dir a.name) [] (handle_in dir.tree);
+    attributes = found dir a.name;
+    dir = Some dir.file;
+  }));
   largest = largest_of proc.Lookup;
   denied = λ status seen. answer.Lookup (Err (record { status = status; shown = seen a.dir }));
 }
@@ -63,7 +67,10 @@ abbrev pub access : Access → Doing
 access a = record {
   takes_memory = never;
   effect = unchanged;
-  granted = λ file same new. answer.Access (Ok (record { attributes = Some file.file; rights = access_bits file.options.read_only file.ids file.file a.rights }));
+  granted = λ file same new. answer.Access (Ok (record {
+    attributes = Some file.file;
+    rights = access_bits file.options.read_only file.ids file.file a.rights;
+  }));
   largest = largest_of proc.Access;
   denied = λ status seen. answer.Access (Err (record { status = status; shown = seen a.file }));
 }
@@ -73,7 +80,10 @@ abbrev pub read_link : List ℕ → Doing
 read_link handle = record {
   takes_memory = never;
   effect = unchanged;
-  granted = λ file same new. answer.ReadLink (Ok (record { attributes = Some file.file; path = on_some (path_at file.tree file.file.fileid) [] (λ path. path) }));
+  granted = λ file same new. answer.ReadLink (Ok (record {
+    attributes = Some file.file;
+    path = on_some (path_at file.tree file.file.fileid) [] (λ path. path);
+  }));
   largest = largest_of proc.ReadLink;
   denied = λ status seen. answer.ReadLink (Err (record { status = status; shown = seen handle }));
 }
@@ -157,7 +167,12 @@ no_space = space_of 0 0
 
 -- of the bytes and the files that a volume may have, those that its files have
 abbrev pub room_in : Option Volume → Option Totals → Fattr → Room
-room_in (Some volume) (Some totals) f = record { attributes = Some f; bytes = space_of volume.max_bytes totals.bytes; files = space_of volume.max_files totals.files; invarsec = 0 }
+room_in (Some volume) (Some totals) f = record {
+  attributes = Some f;
+  bytes = space_of volume.max_bytes totals.bytes;
+  files = space_of volume.max_files totals.files;
+  invarsec = 0;
+}
 room_in (Some volume) None f = record { attributes = Some f; bytes = no_space; files = no_space; invarsec = 0 }
 room_in None totals f = record { attributes = Some f; bytes = no_space; files = no_space; invarsec = 0 }
 
@@ -177,7 +192,15 @@ transfer = record { max = max_transfer; preferred = max_transfer; multiple = 409
 
 -- hard and symbolic links, the same for all files, and times that can be set
 abbrev pub server_limits : Fattr → ServerLimits
-server_limits f = record { attributes = Some f; read = transfer; write = transfer; read_dir = 8192; max_file_size = max_file_bytes; time_delta = record { seconds = 0; nanos = 1 }; properties = 27 }
+server_limits f = record {
+  attributes = Some f;
+  read = transfer;
+  write = transfer;
+  read_dir = 8192;
+  max_file_size = max_file_bytes;
+  time_delta = record { seconds = 0; nanos = 1 };
+  properties = 27;
+}
 
 -- FSINFO: what the server bears
 abbrev pub fs_info : List ℕ → Doing
@@ -191,7 +214,15 @@ fs_info handle = record {
 
 -- names are told apart by case, too long ones are refused, and only uid 0 gives files away
 abbrev pub path_limits : Fattr → PathLimits
-path_limits f = record { attributes = Some f; linkmax = max_links; name_max = max_name_bytes; no_trunc = true; chown_restricted = true; case_insensitive = false; case_preserving = true }
+path_limits f = record {
+  attributes = Some f;
+  linkmax = max_links;
+  name_max = max_name_bytes;
+  no_trunc = true;
+  chown_restricted = true;
+  case_insensitive = false;
+  case_preserving = true;
+}
 
 -- PATHCONF: what names may be
 abbrev pub path_conf : List ℕ → Doing

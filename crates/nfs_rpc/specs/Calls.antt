@@ -31,7 +31,8 @@ CALL = 0
 
 -- the head of a call, whose verifier is read and not judged; the arguments follow it
 abbrev pub IsCall : Call × Auth → List ℕ → Type 0
-IsCall m = IsNumber w32 m.0.xid ⨾ IsNumber w32 CALL ⨾ IsNumber w32 m.0.rpcvers ⨾ IsNumber w32 m.0.prog ⨾ IsNumber w32 m.0.vers ⨾ IsNumber w32 m.0.proc ⨾ IsAuth m.0.cred ⨾ IsAuth m.1
+IsCall m = IsNumber w32 m.0.xid ⨾ IsNumber w32 CALL ⨾ IsNumber w32 m.0.rpcvers ⨾ IsNumber w32 m.0.prog ⨾ IsNumber w32 m.0.vers
+    ⨾ IsNumber w32 m.0.proc ⨾ IsAuth m.0.cred ⨾ IsAuth m.1
 
 abbrev pub IsCallHead : Call → List ℕ → Type 0
 IsCallHead call text = (verf : Auth) × IsCall (call, verf) text

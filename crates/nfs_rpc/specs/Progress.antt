@@ -16,7 +16,8 @@ abbrev pub Leads : ℕ → Stage → List ℕ → List ℕ → Type 0
 -- whole fragments, none of them the last, and some bytes of a header
 Leads limit (Header bytes have) content text = (have < 4) × (length content ≤ limit) × Follows text content (take have bytes) []
 -- the same, and a header within the limit, and some of its fragment's bytes
-Leads limit (Body last left) content text = (length content + left ≤ limit) × (got : List ℕ) × (0 < left) × (length got + left < 2 ^ 31) × Follows text content (header last (length got + left) ++ got) got
+Leads limit (Body last left) content text = (length content + left ≤ limit) × (got : List ℕ) × (0 < left) × (length got + left < 2 ^ 31)
+    × Follows text content (header last (length got + left) ++ got) got
 -- one whole record
 Leads limit Ready content text = (length content ≤ limit) × IsRecord content text
 -- after a fault nothing is said
@@ -46,8 +47,10 @@ pub record HasRead (bytes : List ℕ) (records : List (List ℕ)) (p : Progress)
 
 -- each call of a reader keeps this: more bytes, the next record, and what it says while no record is whole
 pub record ReadersKeep : Type 0 where
-  pub feeds : (bytes taken : List ℕ) (records : List (List ℕ)) (old new : Progress) → HasRead bytes records old → Moves old taken new → HasRead (bytes ++ taken) records new
-  pub nexts : (bytes : List ℕ) (records : List (List ℕ)) (old new : Progress) → HasRead bytes records old → old.stage ≡ Ready → Unfinished [] new → HasRead bytes (records ++ old.content ∷ []) new
+  pub feeds : (bytes taken : List ℕ) (records : List (List ℕ)) (old new : Progress) → HasRead bytes records old → Moves old taken new
+      → HasRead (bytes ++ taken) records new
+  pub nexts : (bytes : List ℕ) (records : List (List ℕ)) (old new : Progress) → HasRead bytes records old → old.stage ≡ Ready
+      → Unfinished [] new → HasRead bytes (records ++ old.content ∷ []) new
 
 -- no header that brings a record above the limit was reached
 abbrev pub IsWithin : ℕ → List ℕ → Type 0

@@ -77,12 +77,15 @@ pub record Follows (text content tail got : List ℕ) : Type 0 where
 
 -- where bytes are read as records in two ways, these are one
 abbrev pub StreamsAreReadOnce : Type 0
-StreamsAreReadOnce = (bytes : List ℕ) (records others : List (List ℕ)) (rest left : List ℕ) → IsStream bytes records rest → IsStream bytes others left → (records ≡ others) × (rest ≡ left)
+StreamsAreReadOnce = (bytes : List ℕ) (records others : List (List ℕ)) (rest left : List ℕ) → IsStream bytes records rest
+    → IsStream bytes others left → (records ≡ others) × (rest ≡ left)
 
 -- more bytes at the end leave the records that were read
 abbrev pub RecordsGrow : Type 0
-RecordsGrow = (bytes : List ℕ) (records : List (List ℕ)) (rest more : List ℕ) → AreRecords bytes records rest → AreRecords (bytes ++ more) records (rest ++ more)
+RecordsGrow = (bytes : List ℕ) (records : List (List ℕ)) (rest more : List ℕ) → AreRecords bytes records rest
+    → AreRecords (bytes ++ more) records (rest ++ more)
 
 -- where the rest is one whole record, it is the next
 abbrev pub RecordsClose : Type 0
-RecordsClose = (bytes : List ℕ) (records : List (List ℕ)) (content rest : List ℕ) → AreRecords bytes records rest → IsRecord content rest → AreRecords bytes (records ++ content ∷ []) []
+RecordsClose = (bytes : List ℕ) (records : List (List ℕ)) (content rest : List ℕ) → AreRecords bytes records rest → IsRecord content rest
+    → AreRecords bytes (records ++ content ∷ []) []

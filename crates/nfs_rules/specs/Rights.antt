@@ -39,7 +39,8 @@ owns ids f = nat_eq ids.uid 0 || nat_eq ids.uid f.uid
 abbrev pub granted_bit : ℕ → ℕ → Bool → ℕ
 granted_bit asked bit granted = if nat_eq (asked / bit % 2) 1 && granted then bit else 0
 
--- READ by r, LOOKUP by x of a directory, MODIFY and EXTEND by w, DELETE by w and x of a directory, EXECUTE by x of a regular file; those that change something only where the volume is exported for writing
+-- READ by r, LOOKUP by x of a directory, MODIFY and EXTEND by w, DELETE by w and x of a directory, EXECUTE by
+-- x of a regular file; those that change something only where the volume is exported for writing
 abbrev pub access_bits : Bool → Ids → Fattr → ℕ → ℕ
 access_bits read_only ids f asked =
     granted_bit asked 1 (may ids f Read)

@@ -17,7 +17,11 @@ use Rattle.nfs_inodes.specs.Reading.{is_directory_type}
 use Rattle.nfs_inodes.specs.Tree.{Tree, on_some}
 use Rattle.nfs_rules.specs.Rights.{may}
 use Rattle.nfs_rules.specs.Subjects.{Subject}
-use Rattle.nfs_rules.specs.Tests.{Test, only_where, read_only, not_regular, not_link, not_directory, link_directory, read_right, write_right, search_right, directory_read, directory_write, guard, owner_mode, owner_uid, owner_gid, size_type, owner_time, time_right, too_big, end_of, growth, space, files, links, cookies, numbers, name_long, name_form, dot_name, dot_alone, dot_dot_alone, path_long, found, no_entry, exists, exists_other, is_directory, target_not_directory, is_empty, not_empty, too_small}
+use Rattle.nfs_rules.specs.Tests.{Test, only_where, read_only, not_regular, not_link, not_directory, link_directory, read_right}
+use Rattle.nfs_rules.specs.Tests.{write_right, search_right, directory_read, directory_write, guard, owner_mode, owner_uid, owner_gid}
+use Rattle.nfs_rules.specs.Tests.{size_type, owner_time, time_right, too_big, end_of, growth, space, files, links, cookies, numbers}
+use Rattle.nfs_rules.specs.Tests.{name_long, name_form, dot_name, dot_alone, dot_dot_alone, path_long, found, no_entry, exists}
+use Rattle.nfs_rules.specs.Tests.{exists_other, is_directory, target_not_directory, is_empty, not_empty, too_small}
 use Rattle.nfs_rules.specs.declared.rights.Right.TheVariants.{Execute}
 use Rattle.nfs_rules.specs.declared.rule.Rule.TheVariants as rule
 
@@ -30,7 +34,8 @@ set_attr_rules s a =
     ∷ too_big a.attributes.size ∷ space s (growth s a.attributes.size) ∷ []
 
 abbrev pub write_rules : Subject → Write → List Test
-write_rules s a = read_only s ∷ not_regular s ∷ write_right s ∷ too_big (end_of a.offset (length a.content)) ∷ space s (growth s (end_of a.offset (length a.content))) ∷ []
+write_rules s a = read_only s ∷ not_regular s ∷ write_right s ∷ too_big (end_of a.offset (length a.content))
+    ∷ space s (growth s (end_of a.offset (length a.content))) ∷ []
 
 -- ---- reading
 
@@ -59,7 +64,8 @@ new_file_rules s size = directory_write s ∷ files s ∷ too_big size ∷ space
 
 -- CREATE of a file that is there, which may get a size
 abbrev pub present_file_rules : Subject → CreateHow → List Test
-present_file_rules s (Unchecked attributes) = only_where (is_some attributes.size) (write_right s) ∷ too_big attributes.size ∷ space s (growth s attributes.size) ∷ []
+present_file_rules s (Unchecked attributes) = only_where (is_some attributes.size) (write_right s) ∷ too_big attributes.size
+    ∷ space s (growth s attributes.size) ∷ []
 present_file_rules s other = []
 
 abbrev pub create_rules : Subject → Create → List Test
@@ -67,10 +73,12 @@ create_rules s a = read_only s ∷ not_directory s ∷ name_long a.place.name �
     ∷ on_some (found s a.place.name) (new_file_rules s (size_in a.how)) (λ f. present_file_rules (record s { file = f }) a.how)
 
 abbrev pub make_dir_rules : Subject → List ℕ → List Test
-make_dir_rules s name = read_only s ∷ not_directory s ∷ name_long name ∷ name_form name ∷ search_right s ∷ exists s name ∷ directory_write s ∷ files s ∷ links s.file ∷ numbers s ∷ []
+make_dir_rules s name = read_only s ∷ not_directory s ∷ name_long name ∷ name_form name ∷ search_right s ∷ exists s name ∷ directory_write s
+    ∷ files s ∷ links s.file ∷ numbers s ∷ []
 
 abbrev pub sym_link_rules : Subject → List ℕ → List ℕ → List Test
-sym_link_rules s name path = read_only s ∷ not_directory s ∷ name_long name ∷ name_form name ∷ search_right s ∷ path_long path ∷ exists s name ∷ directory_write s ∷ files s ∷ numbers s ∷ []
+sym_link_rules s name path = read_only s ∷ not_directory s ∷ name_long name ∷ name_form name ∷ search_right s ∷ path_long path
+    ∷ exists s name ∷ directory_write s ∷ files s ∷ numbers s ∷ []
 
 -- ---- entries
 
@@ -79,7 +87,8 @@ remove_rules s name = read_only s ∷ not_directory s ∷ dot_name name ∷ name
     ∷ on_some (found s name) [] (λ f. is_directory f ∷ [])
 
 abbrev pub remove_dir_rules : Subject → List ℕ → List Test
-remove_dir_rules s name = read_only s ∷ not_directory s ∷ dot_alone name ∷ dot_dot_alone name ∷ name_long name ∷ name_form name ∷ search_right s ∷ no_entry s name ∷ directory_write s
+remove_dir_rules s name = read_only s ∷ not_directory s ∷ dot_alone name ∷ dot_dot_alone name ∷ name_long name ∷ name_form name
+    ∷ search_right s ∷ no_entry s name ∷ directory_write s
     ∷ on_some (found s name) [] (λ f. target_not_directory f ∷ not_empty s.tree f ∷ [])
 
 -- the file and the directory that takes the further name
@@ -108,7 +117,8 @@ incompatible to moved old = (rule.Incompatible, not (replaces to.tree moved old)
 
 -- what RENAME does with what it found: what is moved, and what the new name names
 abbrev pub move_rules : Subject → Subject → Fattr → Option Fattr → List Test
-move_rules from to moved None = into_itself to moved ∷ only_where (is_directory_type moved.file_type && not (nat_eq from.file.fileid to.file.fileid)) (links to.file) ∷ cookies to ∷ []
+move_rules from to moved None = into_itself to moved
+    ∷ only_where (is_directory_type moved.file_type && not (nat_eq from.file.fileid to.file.fileid)) (links to.file) ∷ cookies to ∷ []
 move_rules from to moved (Some old) = if nat_eq moved.fileid old.fileid then [] else (incompatible to moved old ∷ into_itself to moved ∷ cookies to ∷ [])
 
 -- by what the entries of both directories are

@@ -1,5 +1,6 @@
 -- The rules, each as a test of what a call looks at. None looks at the bytes of a regular file but at how many they are.
-use Rattle.std.specs.Prelude.{ℕ, ◌+◌, ◌-◌, ◌^◌, Bool, true, false, not, ◌&&◌, ◌||◌, List, [], ◌∷◌, length, min, Option, Some, None, option_map, is_some, is_none, nat_eq, nat_lt, nat_le, bytes_eq, slice_get, if◌then◌else◌}
+use Rattle.std.specs.Prelude.{ℕ, ◌+◌, ◌-◌, ◌^◌, Bool, true, false, not, ◌&&◌, ◌||◌, List, [], ◌∷◌, length, min, Option, Some, None}
+use Rattle.std.specs.Prelude.{option_map, is_some, is_none, nat_eq, nat_lt, nat_le, bytes_eq, slice_get, if◌then◌else◌}
 use Rattle.std.specs.List.{list_any}
 use Rattle.nfs_args.specs.Sizes.{max_page}
 use Rattle.nfs_args.specs.declared.create.CreateHow.{CreateHow}
@@ -14,7 +15,8 @@ use Rattle.nfs_attrs.specs.declared.time_setting.TimeSetting.TheVariants.{Client
 use Rattle.nfs_dirs.specs.Pages.{page_head_bytes, entry_bytes}
 use Rattle.nfs_exports.specs.Ids.{Ids}
 use Rattle.nfs_inodes.specs.Limits.{max_file_bytes, max_name_bytes, max_path_bytes, max_links}
-use Rattle.nfs_inodes.specs.Reading.{attributes_at, dot, dot_dot, entry_after, is_directory_type, is_regular_type, next_cookie_at, number_under, totals_at, verifier_at}
+use Rattle.nfs_inodes.specs.Reading.{attributes_at, dot, dot_dot, entry_after, is_directory_type, is_regular_type, next_cookie_at}
+use Rattle.nfs_inodes.specs.Reading.{number_under, totals_at, verifier_at}
 use Rattle.nfs_inodes.specs.Tree.{Tree, Volume, on_some}
 use Rattle.nfs_inodes.specs.declared.volumes.Totals.{Totals}
 use Rattle.nfs_rules.specs.Rights.{may, owns}

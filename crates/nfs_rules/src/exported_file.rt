@@ -38,7 +38,12 @@ impl<'a> Model for ExportedFile<'a> {
 
     ghost Value = { shown.Subject };
 
-    ghost view = { λ a. record { tree = a.tree.now; file = a.file.attributes; options = a.options.now; ids = ids.squash a.options.now (credential_of a.cred.now) } };
+    ghost view = { λ a. record {
+      tree = a.tree.now;
+      file = a.file.attributes;
+      options = a.options.now;
+      ids = ids.squash a.options.now (credential_of a.cred.now);
+    } };
 
     ghost invariant = { λ a. IsSeen a.tree.now a.file };
 }

@@ -29,4 +29,5 @@ reason_text (Rule rule None) = codes " uid=-" ++ rule_text rule
 reason_text Memory = words_text (codes "memory") (codes "system-err")
 
 abbrev pub line_text : AuditLine → List ℕ
-line_text a = codes "deny addr=" ++ addr_text a.addr ++ codes " xid=" ++ decimal a.xid ++ codes " prog=" ++ decimal a.program ++ codes " proc=" ++ decimal a.procedure ++ reason_text a.reason ++ codes "\n"
+line_text a = codes "deny addr=" ++ addr_text a.addr ++ codes " xid=" ++ decimal a.xid ++ codes " prog=" ++ decimal a.program
+    ++ codes " proc=" ++ decimal a.procedure ++ reason_text a.reason ++ codes "\n"

@@ -58,12 +58,14 @@ pub record WritesAll (done : List Done) (audit replies : Device) : Type 0 where
 -- The audit device failed at the newest event: of it nothing was written but some first bytes of its line.
 abbrev pub AuditBreaks : List Done → Device → Device → Type 0
 AuditBreaks [] audit replies = ⊥
-AuditBreaks (d ∷ earlier) audit replies = BreaksOff audit (lines_of earlier) (line_bytes d.answer.line) × Grows replies.before (replies_of earlier) replies.after
+AuditBreaks (d ∷ earlier) audit replies = BreaksOff audit (lines_of earlier) (line_bytes d.answer.line)
+    × Grows replies.before (replies_of earlier) replies.after
 
 -- The device for replies failed at the newest event, behind its line: of its reply some first bytes were written.
 abbrev pub ReplyBreaks : List Done → Device → Device → Type 0
 ReplyBreaks [] audit replies = ⊥
-ReplyBreaks (d ∷ earlier) audit replies = BreaksOff replies (replies_of earlier) (sealed d.answer.reply) × Grows audit.before (lines_of (d ∷ earlier)) audit.after
+ReplyBreaks (d ∷ earlier) audit replies = BreaksOff replies (replies_of earlier) (sealed d.answer.reply)
+    × Grows audit.before (lines_of (d ∷ earlier)) audit.after
 
 -- ---- what is answered
 
@@ -71,7 +73,8 @@ ReplyBreaks (d ∷ earlier) audit replies = BreaksOff replies (replies_of earlie
 abbrev pub event_at : Origin → List ℕ → Event
 event_at origin bytes = record { addr = origin.addr; moment = origin.moment; bytes = bytes }
 
--- At the front of the bytes stand records, none above the limit, and then this rest. Each was answered in its turn, the newest first, and the past with them fits.
+-- At the front of the bytes stand records, none above the limit, and then this rest. Each was answered in its
+-- turn, the newest first, and the past with them fits.
 pub record Serves (past : Past) (origin : Origin) (limit : ℕ) (bytes : List ℕ) (done : List Done) (rest : List ℕ) (s : Held) : Type 0 where
   pub records : List (List ℕ)
   pub cut : AreRecords bytes records rest

@@ -7,7 +7,8 @@ use Rattle.nfs_server.specs.Repeats.{Earlier, earlier}
 use Rattle.nfs_server.specs.Steps.{Setup, State, Step, IsRun}
 use Rattle.nfs_server.specs.declared.audit_line.AuditLine.{AuditLine}
 
--- what a server holds: beside its setup and state, the replies that are kept, the most recently used first, and the line of its last call, where that was denied
+-- what a server holds: beside its setup and state, the replies that are kept, the most recently used first,
+-- and the line of its last call, where that was denied
 pub record Held : Type 0 where
   pub setup : Setup
   pub state : State
@@ -30,13 +31,16 @@ pub record IsOpening (opening : State) : Type 0 where
 
 -- where fewer changing calls came after the earlier one of a key than there are places, its reply stands among as many of the first kept, and one more
 abbrev pub AreHeld : ℕ → List Done → List Place → Type 0
-AreHeld places past kept = (key : Key) (before : Earlier) → earlier key past ≡ Some before → before.since < places → kept_reply key (take (before.since + 1) kept) ≡ Some before.reply
+AreHeld places past kept = (key : Key) (before : Earlier) → earlier key past ≡ Some before → before.since < places
+    → kept_reply key (take (before.since + 1) kept) ≡ Some before.reply
 
 -- each kept reply is that of the earlier call of its key
 abbrev pub AreTrue : List Done → List Place → Type 0
-AreTrue past kept = (key : Key) (reply : List ℕ) → kept_reply key kept ≡ Some reply → (since : ℕ) × (earlier key past ≡ Some (record { since = since; reply = reply }))
+AreTrue past kept = (key : Key) (reply : List ℕ) → kept_reply key kept ≡ Some reply
+    → (since : ℕ) × (earlier key past ≡ Some (record { since = since; reply = reply }))
 
--- The past is a run from such an opening that ends in what the server holds, and the kept replies are those of its calls. One call moves a kept reply back by at most one place.
+-- The past is a run from such an opening that ends in what the server holds, and the kept replies are those
+-- of its calls. One call moves a kept reply back by at most one place.
 pub record Fits (past : Past) (s : Held) : Type 0 where
   pub opens : IsOpening past.opening
   pub run : IsRun s.setup past.opening past.done s.state

@@ -10,4 +10,5 @@ Follow setup past old (d ∷ later) new = (between : State) × Step setup past o
 
 -- a past that is a run is one event after another, from the opening state on
 abbrev pub RunsForward : Type 0
-RunsForward = (setup : Setup) (opening : State) (past : List Done) (state : State) → IsRun setup opening past state → Follow setup [] opening (reverse past) state
+RunsForward = (setup : Setup) (opening : State) (past : List Done) (state : State) → IsRun setup opening past state
+    → Follow setup [] opening (reverse past) state

@@ -39,7 +39,8 @@ Keeps false places key old answer new = (reply : List ℕ) × (answer.reply ≡ 
 -- By whether the call is a changing one, and the reply that is kept for it. `Anew` is what it may be answered where none is.
 abbrev pub AnswersKept : Bool → Option (List ℕ) → Type 0 → Held → Event → Answer → State → List Place → Type 0
 AnswersKept false reply Anew old event answer new kept = Anew × (kept ≡ old.kept)
-AnswersKept true (Some reply) Anew old event answer new kept = (answer ≡ granted reply) × (new ≡ old.state) × (kept ≡ place_for (key_of event) reply ∷ without (key_of event) old.kept)
+AnswersKept true (Some reply) Anew old event answer new kept = (answer ≡ granted reply) × (new ≡ old.state)
+    × (kept ≡ place_for (key_of event) reply ∷ without (key_of event) old.kept)
 AnswersKept true None Anew old event answer new kept = Anew × Keeps (is_refused answer.line) old.setup.places (key_of event) old.kept answer kept
 
 -- a call, by the first rule of RPC that fails, and what it asks for
@@ -65,7 +66,9 @@ AnswersCall c call answer new = (again : Bool) → (choice : Choice) × (choice.
 
 -- and of one of MOUNT
 abbrev pub AnswersMount : MountArgs → List (List Export) → State → Addr → Call → Answer → List Mount → Type 0
-AnswersMount args exports old addr call answer mounts = (again : Bool) → (choice : Choice) × (choice.again ≡ again) × MountPerformed args exports old addr call choice answer (record { tree = old.tree; mounts = mounts })
+AnswersMount args exports old addr call answer mounts = (again : Bool)
+    → (choice : Choice) × (choice.again ≡ again)
+    × MountPerformed args exports old addr call choice answer (record { tree = old.tree; mounts = mounts })
 
 -- the scene of a call to a server
 abbrev pub scene_for : Held → Event → Cred → NfsArgs → Scene

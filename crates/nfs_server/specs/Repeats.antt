@@ -80,9 +80,11 @@ one_later None None = None
 -- the latest event with a changing call of this address and record that was answered otherwise than by SYSTEM_ERR; the past has the newest event first
 abbrev pub earlier : Key → List Done → Option Earlier
 earlier key [] = None
-earlier key (d ∷ past) = if is_changing d.event then one_later (if same key (key_of d.event) then standing d.answer else None) (earlier key past) else earlier key past
+earlier key (d ∷ past) = if is_changing d.event
+    then one_later (if same key (key_of d.event) then standing d.answer else None) (earlier key past) else earlier key past
 
--- Its reply, where it is surely held: fewer events with changing calls came after it than there are places. Where it isn't, the server may choose to give it all the same.
+-- Its reply, where it is surely held: fewer events with changing calls came after it than there are places.
+-- Where it isn't, the server may choose to give it all the same.
 abbrev pub reply_again : ℕ → Bool → Option Earlier → Option (List ℕ)
 reply_again places again None = None
 reply_again places again (Some before) = if nat_lt before.since places || again then Some before.reply else None

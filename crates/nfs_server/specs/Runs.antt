@@ -18,7 +18,8 @@ Took takes last before [] sink = sink ≡ before
 Took {S} takes last before (d ∷ earlier) sink = (between : S) × Took takes true before earlier between × takes between d.answer last sink
 
 -- the first n events were answered and handed to a sink, the last take as said, and the past with them fits
-pub record Hands {S : Type 0} (takes : S → Answer → Bool → S → Type 0) (past : Past) (events : List Event) (n : ℕ) (last : Bool) (before sink : S) (s : Held) : Type 0 where
+pub record Hands {S : Type 0} (takes : S → Answer → Bool → S → Type 0)
+    (past : Past) (events : List Event) (n : ℕ) (last : Bool) (before sink : S) (s : Held) : Type 0 where
   pub done : List Done
   pub events_are : map (λ (d : Done). d.event) (reverse done) ≡ take n events
   pub taken : Took takes last before done sink
@@ -26,4 +27,5 @@ pub record Hands {S : Type 0} (takes : S → Answer → Bool → S → Type 0) (
 
 -- a run ends with the events, or after one whose take answered false
 abbrev pub RunsThrough : {S : Type 0} → (S → Answer → Bool → S → Type 0) → Past → List Event → ℕ → S → S → Held → Type 0
-RunsThrough takes past events n before sink s = (last : Bool) × Hands takes past events n last before sink s × (last ≡ true → n ≡ length events) × (last ≡ false → 0 < n)
+RunsThrough takes past events n before sink s = (last : Bool) × Hands takes past events n last before sink s
+    × (last ≡ true → n ≡ length events) × (last ≡ false → 0 < n)

@@ -29,4 +29,9 @@ answered NoReply bytes line = silence
 
 -- the fields of a server
 abbrev pub held : Replies → List (List Export) → Tree → List Mount → Option AuditLine → Held
-held kept exports tree mounts line = record { setup = record { places = kept.most; exports = exports }; state = record { tree = tree; mounts = mounts }; kept = kept.places; line = line }
+held kept exports tree mounts line = record {
+  setup = record { places = kept.most; exports = exports };
+  state = record { tree = tree; mounts = mounts };
+  kept = kept.places;
+  line = line;
+}

@@ -61,7 +61,8 @@ pub record HasNone (c : Scene) (call : Call) (answer : Answer) (new : Tree) : Ty
   pub new_is : new ≡ c.tree
   pub answer_is : answer ≡ denied (accepted_text call.xid SystemErr) (line_of c.caller.addr call reason.Memory)
 
--- The first rule that fails is answered by its status, and told by its name with the uid of the caller, where the rules of the handles are kept. The tree stays.
+-- The first rule that fails is answered by its status, and told by its name with the uid of the caller, where
+-- the rules of the handles are kept. The tree stays.
 pub record IsDenied (c : Scene) (doing : Doing) (call : Call) (rule : Rule) (answer : Answer) (new : Tree) : Type 0 where
   pub new_is : new ≡ c.tree
   pub answer_is : answer ≡ denied (success call (nfs_text (doing.denied (status_of rule) (seen_in c)))) (line_of c.caller.addr call (reason.Rule rule (option_map (λ s. s.0.ids.uid) (subjects_in c))))
@@ -87,11 +88,15 @@ Performed procedure c call choice answer new = Refusable (not choice.has_memory 
 abbrev pub MountDone : Call → State → MountAnswer → List Mount → Answer → State → Type 0
 MountDone call old result mounts answer new = (answer ≡ granted (success call (mount_text result))) × (new ≡ record { tree = old.tree; mounts = mounts })
 
--- MNT, by the first rule that fails, and, where none does, by whether there is memory. A rule is told without a uid. Without memory nothing is done, which is only where the pair is new.
+-- MNT, by the first rule that fails, and, where none does, by whether there is memory. A rule is told without
+-- a uid. Without memory nothing is done, which is only where the pair is new.
 abbrev pub MountDecided : Option Rule → Bool → State → Addr → List ℕ → Call → Answer → State → Type 0
-MountDecided (Some rule) has_memory old addr path call answer new = (answer ≡ denied (success call (mount_text (denied_answer rule))) (line_of addr call (reason.Rule rule None))) × (new ≡ old)
-MountDecided None true old addr path call answer new = (handle : List ℕ) × (root_of old.tree path ≡ Some handle) × MountDone call old (granted_answer handle) (after_mnt old.tree addr path old.mounts) answer new
-MountDecided None false old addr path call answer new = (is_mounted old.tree addr path old.mounts ≡ false) × (answer ≡ denied (accepted_text call.xid SystemErr) (line_of addr call reason.Memory)) × (new ≡ old)
+MountDecided (Some rule) has_memory old addr path call answer new =
+    (answer ≡ denied (success call (mount_text (denied_answer rule))) (line_of addr call (reason.Rule rule None))) × (new ≡ old)
+MountDecided None true old addr path call answer new = (handle : List ℕ) × (root_of old.tree path ≡ Some handle)
+    × MountDone call old (granted_answer handle) (after_mnt old.tree addr path old.mounts) answer new
+MountDecided None false old addr path call answer new = (is_mounted old.tree addr path old.mounts ≡ false)
+    × (answer ≡ denied (accepted_text call.xid SystemErr) (line_of addr call reason.Memory)) × (new ≡ old)
 
 -- each procedure by what it is asked for; none changes the tree
 abbrev pub MountPerformed : MountArgs → List (List Export) → State → Addr → Call → Choice → Answer → State → Type 0
@@ -116,7 +121,8 @@ Requested None setup old event call choice answer new = ⊥
 
 -- A call that fails a rule of RPC has its reply and its line, and nothing changes.
 abbrev pub Judged : Option RpcRule → Option Request → Setup → State → Event → Call → Choice → Answer → State → Type 0
-Judged (Some rule) r setup old event call choice answer new = (answer ≡ denied (rpc_reply rule call.xid) (line_of event.addr call (reason.Rpc rule))) × (new ≡ old)
+Judged (Some rule) r setup old event call choice answer new =
+    (answer ≡ denied (rpc_reply rule call.xid) (line_of event.addr call (reason.Rpc rule))) × (new ≡ old)
 Judged None r setup old event call choice answer new = Requested r setup old event call choice answer new
 
 -- a record that is no readable call has no reply, and nothing changes

@@ -35,7 +35,8 @@ course before after = record { before = before; after = after }
 -- Reads, the newest first. Each gave some bytes, and no more than one asks for.
 abbrev pub Reads : {R : Type 0} → (R → List ℕ → R → Type 0) → R → List (List ℕ) → R → Type 0
 Reads gives old [] new = new ≡ old
-Reads {R} gives old (piece ∷ earlier) new = (between : R) × Reads gives old earlier between × gives between piece new × (0 < length piece) × (length piece ≤ read_bytes)
+Reads {R} gives old (piece ∷ earlier) new = (between : R) × Reads gives old earlier between × gives between piece new × (0 < length piece)
+    × (length piece ≤ read_bytes)
 
 -- the bytes of reads, in their order
 abbrev pub bytes_read : List (List ℕ) → List ℕ
@@ -49,7 +50,8 @@ Asks {C} tells old (d ∷ earlier) new = (between : C) × Asks tells old earlier
 
 -- ---- what is answered
 
--- At the front of the bytes stand records, none above the limit, and then this rest. Each is an event from this address, answered in its turn, the newest first, and the past with them fits.
+-- At the front of the bytes stand records, none above the limit, and then this rest. Each is an event from
+-- this address, answered in its turn, the newest first, and the past with them fits.
 pub record StreamServes (past : Past) (addr : Addr) (limit : ℕ) (bytes : List ℕ) (done : List Done) (rest : List ℕ) (s : Held) : Type 0 where
   pub cut : AreRecords bytes (map (λ (d : Done). d.event.bytes) (reverse done)) rest
   pub within : AllByRecursion (λ (d : Done). (d.event.addr ≡ addr) × (length d.event.bytes ≤ limit)) done
@@ -62,7 +64,8 @@ pub record IsRest (limit : ℕ) (rest : List ℕ) : Type 0 where
 
 -- How a stream ended behind these reads, and what was written. Want of memory is met before the first read, or where a header asks for room.
 abbrev pub StreamEnds : Result Served ServeFault → List (List ℕ) → List Done → List ℕ → Device → Device → Type 0
-StreamEnds (Ok served) reads done rest audit replies = (served.calls ≡ length done) × (served.rest ≡ length rest) × IsRest max_record_bytes rest × WritesAll done audit replies
+StreamEnds (Ok served) reads done rest audit replies = (served.calls ≡ length done) × (served.rest ≡ length rest)
+    × IsRest max_record_bytes rest × WritesAll done audit replies
 StreamEnds (Err ReadFault) reads done rest audit replies = IsRest max_record_bytes rest × WritesAll done audit replies
 StreamEnds (Err TurnsSpent) reads done rest audit replies = IsRest max_record_bytes rest × WritesAll done audit replies
 StreamEnds (Err TooLong) reads done rest audit replies = ReachesTooLong max_record_bytes rest × WritesAll done audit replies
@@ -81,7 +84,9 @@ ReadsEnd gives (Err AuditFault) turns reads reader = (reads ≤ turns) × (reade
 ReadsEnd gives (Err WriteFault) turns reads reader = (reads ≤ turns) × (reader.after ≡ reader.before)
 
 -- After this past, a stream from this address that is read by so many turns at most brings this.
-pub record Streams {R C : Type 0} (gives : R → List ℕ → R → Type 0) (tells : C → Moment → C → Type 0) (past : Past) (addr : Addr) (turns : ℕ) (result : Result Served ServeFault) (s : Held) (reader : Course R) (clock : Course C) (audit replies : Device) : Type 0 where
+pub record Streams {R C : Type 0} (gives : R → List ℕ → R → Type 0) (tells : C → Moment → C → Type 0)
+    (past : Past) (addr : Addr) (turns : ℕ) (result : Result Served ServeFault) (s : Held)
+    (reader : Course R) (clock : Course C) (audit replies : Device) : Type 0 where
   pub reads : List (List ℕ)
   pub between : R
   pub read : Reads gives reader.before reads between
@@ -104,7 +109,9 @@ FailsWith reader_failed audit_failed replies_failed Memory = Unit {0}
 -- ---- some bytes of it
 
 -- what these bytes of a stream bring, the first of which were unfinished before
-pub record StreamBrings {C : Type 0} (tells : C → Moment → C → Type 0) (past : Past) (addr : Addr) (bytes : List ℕ) (result : Result ℕ SessionFault) (s : Held) (p : Progress) (clock : Course C) (audit replies : Device) : Type 0 where
+pub record StreamBrings {C : Type 0} (tells : C → Moment → C → Type 0)
+    (past : Past) (addr : Addr) (bytes : List ℕ) (result : Result ℕ SessionFault) (s : Held)
+    (p : Progress) (clock : Course C) (audit replies : Device) : Type 0 where
   pub done : List Done
   pub rest : List ℕ
   pub serves : StreamServes past addr p.limit bytes done rest s
@@ -112,9 +119,12 @@ pub record StreamBrings {C : Type 0} (tells : C → Moment → C → Type 0) (pa
   pub ends : Ends result done rest p audit replies
 
 -- The same of every past that fits, and of whatever was unfinished; where that were so many bytes, so many are unfinished now.
-abbrev pub StreamFeeds : {C : Type 0} → (C → Moment → C → Type 0) → Addr → List ℕ → Result ℕ SessionFault → Course ℕ → Course Held → Course Progress → Course C → Device → Device → Type 0
-StreamFeeds tells addr bytes result left server progress clock audit replies = (past : Past) → Fits past server.before → (text : List ℕ) → Unfinished text progress.before
-    → (b : StreamBrings tells past addr (text ++ bytes) result server.after progress.after clock audit replies) × IfOk result (λ n. length text ≡ left.before → length b.rest ≡ left.after)
+abbrev pub StreamFeeds : {C : Type 0} → (C → Moment → C → Type 0) → Addr → List ℕ → Result ℕ SessionFault → Course ℕ → Course Held
+    → Course Progress → Course C → Device → Device → Type 0
+StreamFeeds tells addr bytes result left server progress clock audit replies = (past : Past) → Fits past server.before → (text : List ℕ)
+    → Unfinished text progress.before
+    → (b : StreamBrings tells past addr (text ++ bytes) result server.after progress.after clock audit replies)
+    × IfOk result (λ n. length text ≡ left.before → length b.rest ≡ left.after)
 
 -- how many records were answered, and how many bytes are unfinished then
 abbrev pub calls_of : Result Served SessionFault → Result ℕ SessionFault

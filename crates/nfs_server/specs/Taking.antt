@@ -15,7 +15,8 @@ use Rattle.nfs_xdr.specs.Known.{Grows}
 
 -- what is written of one answer, so many bytes of it as a reply
 abbrev pub Writes : Answer → Result ℕ SessionFault → Device → Device → Type 0
-Writes a (Ok n) audit replies = (n ≡ length (sealed a.reply)) × Grows audit.before (line_bytes a.line) audit.after × Grows replies.before (sealed a.reply) replies.after
+Writes a (Ok n) audit replies = (n ≡ length (sealed a.reply)) × Grows audit.before (line_bytes a.line) audit.after
+    × Grows replies.before (sealed a.reply) replies.after
 Writes a (Err AuditFault) audit replies = BreaksOff audit [] (line_bytes a.line) × Grows replies.before [] replies.after
 Writes a (Err WriteFault) audit replies = BreaksOff replies [] (sealed a.reply) × Grows audit.before (line_bytes a.line) audit.after
 Writes a (Err TooLong) audit replies = ⊥
@@ -63,7 +64,8 @@ IsOneAtMost (d ∷ []) = Unit {0}
 IsOneAtMost (d ∷ e ∷ earlier) = ⊥
 
 abbrev pub FeedsOne : Origin → List ℕ → Result Step SessionFault → Held → Held → Progress → Progress → Device → Device → Type 0
-FeedsOne origin piece result = FeedsWith (λ done. IsOneAtMost done × IfOk result (λ step. step.replied ≡ length (replies_of done))) origin (bytes_stepped result piece) (count_stepped result)
+FeedsOne origin piece result = FeedsWith (λ done. IsOneAtMost done
+    × IfOk result (λ step. step.replied ≡ length (replies_of done))) origin (bytes_stepped result piece) (count_stepped result)
 
 -- what is left of room, if it is bounded, behind so many bytes
 abbrev pub room_after : Option ℕ → ℕ → Option ℕ

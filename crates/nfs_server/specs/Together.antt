@@ -56,7 +56,8 @@ abbrev pub own_bytes : ℕ → List Feed → List ℕ
 own_bytes conn [] = []
 own_bytes conn (f ∷ earlier) = own_bytes conn earlier ++ (if nat_eq conn f.conn then f.piece else [])
 
--- Bytes of one stream are the records of these events, in their order, and an unfinished rest. The sealed replies to them were written in their order, and nothing else.
+-- Bytes of one stream are the records of these events, in their order, and an unfinished rest. The sealed
+-- replies to them were written in their order, and nothing else.
 pub record IsServed (bytes : List ℕ) (done : List Done) (p : Progress) (sent : Device) : Type 0 where
   pub rest : List ℕ
   pub cut : AreRecords bytes (map (λ (d : Done). d.event.bytes) (reverse done)) rest
@@ -68,9 +69,11 @@ pub record AreTogether (past : Past) (texts : ℕ → List ℕ) (feeds : List Fe
   pub fed : List (Feed × List Done)
   pub feeds_are : map (λ (a : Feed × List Done). a.0) fed ≡ feeds
   pub fits : Fits (longer past (all_events fed)) new.server
-  pub served : (conn : ℕ) → IsUnbroken conn feeds → IsServed (texts conn ++ own_bytes conn feeds) (own_events conn fed) (new.progress conn) (device (old.sent conn) (new.sent conn))
+  pub served : (conn : ℕ) → IsUnbroken conn feeds
+      → IsServed (texts conn ++ own_bytes conn feeds) (own_events conn fed) (new.progress conn) (device (old.sent conn) (new.sent conn))
 
 -- Feeds on any number of connections are one past, in the order in which records become whole.
 abbrev pub FeedsAreOnePast : Type 0
-FeedsAreOnePast = (feeds : List Feed) (old new : Stand) → AreFeeds feeds old new → (past : Past) → Fits past old.server → (texts : ℕ → List ℕ) → ((conn : ℕ) → Unfinished (texts conn) (old.progress conn))
+FeedsAreOnePast = (feeds : List Feed) (old new : Stand) → AreFeeds feeds old new → (past : Past) → Fits past old.server
+    → (texts : ℕ → List ℕ) → ((conn : ℕ) → Unfinished (texts conn) (old.progress conn))
     → AreTogether past texts feeds old new

@@ -29,7 +29,8 @@ pub record IsOneTurn {L : Type 0} (outgoing incoming : L → Option (List ℕ)) 
 -- one turn after another, the newest first
 abbrev pub AreTurns : {L : Type 0} → (L → Option (List ℕ)) → (L → Option (List ℕ)) → List Turned → Stand L → Stand L → Type 0
 AreTurns outgoing incoming [] old new = new ≡ old
-AreTurns {L} outgoing incoming (t ∷ earlier) old new = (between : Stand L) × AreTurns outgoing incoming earlier old between × IsOneTurn outgoing incoming t between new
+AreTurns {L} outgoing incoming (t ∷ earlier) old new = (between : Stand L) × AreTurns outgoing incoming earlier old between
+    × IsOneTurn outgoing incoming t between new
 
 -- the bytes that came on a connection, in their order
 abbrev pub own_bytes : ℕ → List Turned → List ℕ
@@ -50,7 +51,9 @@ abbrev pub own_events : ℕ → List Heard → List Done
 own_events conn [] = []
 own_events conn (h ∷ earlier) = (if nat_eq conn h.conn then h.done else []) ++ own_events conn earlier
 
--- What came on a connection is what was taken and what is not. What was taken is the records of these events, in their order, and an unfinished rest; what was sent and what is owed is the sealed replies to them, in their order, and nothing else.
+-- What came on a connection is what was taken and what is not. What was taken is the records of these events,
+-- in their order, and an unfinished rest; what was sent and what is owed is the sealed replies to them, in
+-- their order, and nothing else.
 pub record IsClientServed {L : Type 0} (outgoing : L → Option (List ℕ)) (bytes : List ℕ) (done : List Done) (first now : Standing L) : Type 0 where
   pub taken : List ℕ
   pub bytes_are : bytes ≡ taken ++ now.piece
@@ -65,8 +68,10 @@ pub record IsNew {L : Type 0} (c : Standing L) : Type 0 where
 pub record AreTogether {L : Type 0} (outgoing : L → Option (List ℕ)) (past : Past) (turns : List Turned) (old new : Stand L) : Type 0 where
   pub heard : List Heard
   pub fits : Fits (longer past (all_events heard)) new.server
-  pub served : (conn : ℕ) → (new.client conn).connection.ended ≡ false → IsClientServed outgoing (own_bytes conn turns) (own_events conn heard) (old.client conn) (new.client conn)
+  pub served : (conn : ℕ) → (new.client conn).connection.ended ≡ false
+      → IsClientServed outgoing (own_bytes conn turns) (own_events conn heard) (old.client conn) (new.client conn)
 
 -- The turns of any number of clients are one past.
 abbrev pub TurnsAreOnePast : {L : Type 0} → (L → Option (List ℕ)) → (L → Option (List ℕ)) → Type 0
-TurnsAreOnePast {L} outgoing incoming = (turns : List Turned) (old new : Stand L) → ((conn : ℕ) → IsNew (old.client conn)) → AreTurns outgoing incoming turns old new → (past : Past) → Fits past old.server → AreTogether outgoing past turns old new
+TurnsAreOnePast {L} outgoing incoming = (turns : List Turned) (old new : Stand L) → ((conn : ℕ) → IsNew (old.client conn))
+    → AreTurns outgoing incoming turns old new → (past : Past) → Fits past old.server → AreTogether outgoing past turns old new

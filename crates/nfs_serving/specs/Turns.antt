@@ -33,8 +33,10 @@ pub record Rests {L : Type 0} (outgoing incoming : L → Option (List ℕ)) (cam
   pub connection_stays : new.connection ≡ old.connection
   pub passes : Passes (outgoing old.outlet.link) old.outlet.owed (outgoing new.outlet.link) new.outlet.owed
 
--- These bytes came, and some were taken, in their order. That happens only behind all that was owed. What the records that they make whole are answered was sent or is owed.
-pub record Takes {L : Type 0} (outgoing incoming : L → Option (List ℕ)) (moment : Moment) (came : List ℕ) (old new : Standing L) (server served : Held) (audit : Device) : Type 0 where
+-- These bytes came, and some were taken, in their order. That happens only behind all that was owed. What the
+-- records that they make whole are answered was sent or is owed.
+pub record Takes {L : Type 0} (outgoing incoming : L → Option (List ℕ))
+    (moment : Moment) (came : List ℕ) (old new : Standing L) (server served : Held) (audit : Device) : Type 0 where
   pub comes : Shrinks (incoming old.outlet.link) came (incoming new.outlet.link)
   pub taken : List ℕ
   pub in_order : old.piece ++ came ≡ taken ++ new.piece
@@ -49,7 +51,9 @@ pub record Takes {L : Type 0} (outgoing incoming : L → Option (List ℕ)) (mom
 
 -- a turn in which these bytes came; one that takes nothing leaves the server and writes no line
 abbrev pub TurnsBy : {L : Type 0} → (L → Option (List ℕ)) → (L → Option (List ℕ)) → Moment → List ℕ → Standing L → Standing L → Held → Held → Device → Type 0
-TurnsBy outgoing incoming moment came old new server served audit = (Rests outgoing incoming came old new × (served ≡ server) × (audit.after ≡ audit.before)) ⊎ Takes outgoing incoming moment came old new server served audit
+TurnsBy outgoing incoming moment came old new server served audit =
+    (Rests outgoing incoming came old new × (served ≡ server) × (audit.after ≡ audit.before))
+    ⊎ Takes outgoing incoming moment came old new server served audit
 
 abbrev pub Turns : {L : Type 0} → (L → Option (List ℕ)) → (L → Option (List ℕ)) → Moment → Standing L → Standing L → Held → Held → Device → Type 0
 Turns outgoing incoming moment old new server served audit = (came : List ℕ) × TurnsBy outgoing incoming moment came old new server served audit

@@ -1,5 +1,6 @@
 -- Reading from left to right: the value and the bytes after it, or the first fault that is met.
-use Rattle.std.specs.Prelude.{suc, zero, ◌≡◌, ℕ, ◌+◌, ◌<◌, Bool, true, false, List, [], ◌∷◌, ◌++◌, length, take, drop, Option, Some, None, Result, Ok, Err, if◌then◌else◌, nat_lt, nat_eq, slice_index}
+use Rattle.std.specs.Prelude.{suc, zero, ◌≡◌, ℕ, ◌+◌, ◌<◌, Bool, true, false, List, [], ◌∷◌, ◌++◌, length, take, drop, Option, Some, None}
+use Rattle.std.specs.Prelude.{Result, Ok, Err, if◌then◌else◌, nat_lt, nat_eq, slice_index}
 use Rattle.std.specs.Int.{Width, w32, byte_len, from_be_bytes}
 use Rattle.nfs_xdr.specs.declared.fault.XdrFault.{XdrFault}
 use Rattle.nfs_xdr.specs.declared.fault.XdrFault.TheVariants.{Short, TooLong, BadBool, BadEnum}
