@@ -1,17 +1,18 @@
 -- An entry that goes to another name, in what is kept.
-use Rattle.std.proofs.Common.{◌≡◌, ◌≢◌, ℕ, ◌+◌, ◌<◌, ◌≤◌, Bool, true, false, List, map, Some, refl, sym, ap, subst, ◌∙◌, arith}
+use Rattle.std.proofs.Common.{◌≡◌, ◌≢◌, ℕ, ◌+◌, ◌<◌, ◌≤◌, Bool, true, false, List, map, Some, option_map, refl, sym, ap, subst, ◌∙◌, arith}
 use Rattle.nfs_attrs.specs.declared.moment.Moment.{Moment}
 use Rattle.nfs_handles.specs.NumberedFiles.{NumberedFiles, TaggedFile, value_at}
 use Rattle.nfs_handles.specs.NumberedFiles as numbered
 use Rattle.nfs_inodes.specs.declared.stored_file.StoredFile.{StoredFile}
 use Rattle.nfs_inodes.specs.declared.stored_volume.StoredVolume.{StoredVolume}
 use Rattle.nfs_inodes.specs.declared.renaming.Route.{Route}
-use Rattle.nfs_inodes.specs.Tree.{Tree, File, at, on_some, one_when, is_directory, next_cookie_in, names_of, nlink}
+use Rattle.nfs_inodes.specs.Tree.{Tree, File, at, on_some, one_when, entries_in, is_directory, next_cookie_in, names_of, nlink}
 use Rattle.nfs_inodes.specs.Law.{Law, Lives, LivesAsDirectory}
 use Rattle.nfs_inodes.specs.Changes.{with_file, with_entry, moved_to, entered, carried}
 use Rattle.nfs_inodes.specs.Counts.{CountedFile, CountedTree, Agrees, tree_in}
 use Rattle.nfs_inodes.specs.Storage.{file_of, kind_of, counted_volume_of, counted_tree_of}
-use Rattle.nfs_inodes.specs.StoredFiles.{Revalues, TakesEntry, Enters}
+use Rattle.nfs_inodes.specs.StoredFiles.{Revalues, TakesEntry, HasNoEntry, Enters}
+use Rattle.nfs_inodes.specs.Reading.{entry_named}
 use Rattle.nfs_inodes.specs.StepConditions.{retagged}
 use Rattle.nfs_inodes.specs.Removals.{HasRoomAt, Leaves}
 use Rattle.nfs_inodes.specs.Renamings.{MovesTo, Carries, HasCarried}
@@ -26,6 +27,7 @@ use Rattle.nfs_inodes.proofs.Carries as carries
 use Rattle.nfs_inodes.proofs.CountedCarries.{counted_moved, agrees_moved, counted_entered, agrees_entered}
 use Rattle.nfs_inodes.proofs.KeptLeavings as leavings
 use Rattle.nfs_inodes.proofs.KeptLeavings.{NamesFile, room_revalued}
+use Rattle.nfs_inodes.proofs.Tests.{no_entry_named}
 use Rattle.nfs_inodes.proofs.Views.{kept_at}
 
 module _ (a : NumberedFiles StoredFile) (olds : List StoredVolume) (route : Route) (name new_name : List ℕ) (c : Carries a olds route name new_name) where
@@ -145,6 +147,13 @@ module _ (a : NumberedFiles StoredFile) (olds : List StoredVolume) (route : Rout
         where
           in_k2 : Lives (tree_in k2) to dir
           in_k2 = ap (λ (u : Tree). at to u.files) view_2 ∙ at_dir.0
+
+      pub fresh_there : HasNoEntry b2 route.to.0 new_name
+      fresh_there i v =
+          let is : in_b2.0.value ≡ i = same_some (sym (ap (option_map (λ (f : TaggedFile StoredFile). f.value)) in_b2.1) ∙ v) in
+          ap (λ (i : StoredFile). entry_named new_name (entries_in (kind_of i.node))) (sym is)
+          ∙ ap (λ (f : File). entry_named new_name (entries_in f.kind)) in_b2.2
+          ∙ no_entry_named new_name (entries_in dir.kind) (carries.target_now t from name to new_name now c.agree.law c.may).fresh
 
       pub room_there_still : HasRoomAt b2 route.to.0
       room_there_still = room_revalued b b2 n moves moves.from.room to (room_revalued a b from leaves leaves.from.room to c.room)

@@ -1,15 +1,11 @@
 -- What is found in a directory lives.
-use Rattle.std.proofs.Common.{◌≡◌, ℕ, ◌+◌, zero, suc, Bool, true, cond, List, [], ◌∷◌, bytes_eq, Option, Some, None, option_map, refl, sym, ap, ◌∙◌, arith}
-use Rattle.std.specs.Prelude.{slice_get}
-use Rattle.std.proofs.lemmas.Option.{slice_get_within, get_or_from_slice_get}
-use Rattle.std.proofs.lemmas.Slice.Eq.{bytes_eq-Decides}
+use Rattle.std.proofs.Common.{◌≡◌, ℕ, Bool, true, cond, List, [], bytes_eq, Option, Some, None, option_map, refl, sym, ap, ◌∙◌}
 use Rattle.std.specs.List.{find}
 use Rattle.nfs_inodes.specs.Tree.{Tree, File, Kind, Entry, Regular, Directory, Link, at, on_some, entries_in, is_directory, parent_in, nlink}
-use Rattle.nfs_inodes.specs.Law.{Law, Lives, AreApart}
+use Rattle.nfs_inodes.specs.Law.{Law, Lives}
 use Rattle.nfs_inodes.specs.Laws.{LiveTogether}
-use Rattle.nfs_inodes.specs.Reading.{dot, dot_dot, number_under, place_of_name, listing, attributes_of, attributes_at}
-use Rattle.nfs_inodes.proofs.Lists.{by_test, if_true, if_false, same_some, not_both, find_contains}
-use Rattle.nfs_inodes.proofs.Losses.{apart_behind}
+use Rattle.nfs_inodes.specs.Reading.{dot, dot_dot, number_under, listing, attributes_of, attributes_at}
+use Rattle.nfs_inodes.proofs.Lists.{by_test, same_some, not_both, find_contains}
 use Rattle.nfs_inodes.proofs.Views.{mapped}
 
 module _ (t : Tree) (law : Law t) (d n : ℕ) (name : List ℕ) where
@@ -58,32 +54,3 @@ module _ (t : Tree) (law : Law t) (d n : ℕ) (name : List ℕ) where
 pub found_shown : (t : Tree) → Law t → (d n : ℕ) (name : List ℕ) → number_under t d name ≡ Some n → attributes_at t n ≡ None → ⊥
 found_shown t law d n name e none = let both = found_lives t law d n name e in
     not_both none (ap (option_map (λ (f : File). attributes_of n f (nlink t.files n f))) both.at_file)
-
--- ---- where names differ
-
--- no entry behind another has its name
-clash : (name : List ℕ) (x : Entry) (xs : List Entry) (i : ℕ) (e : Entry) → AreApart (x ∷ xs) → slice_get xs i ≡ Some e → bytes_eq e.name name ≡ true → bytes_eq x.name name ≡ true → ⊥
-clash name x xs i e apart at_i is y =
-    apart 0 (suc i) e (omega arith) (let less = slice_get_within xs i e at_i in omega (arith, less))
-    ((bytes_eq-Decides x.name name).0 y ∙ sym ((bytes_eq-Decides e.name name).0 is) ∙ ap (λ (e : Entry). e.name) (sym (get_or_from_slice_get xs i e e at_i)))
-
--- an entry of a name is the one that is found
-pub found_at : (name : List ℕ) (es : List Entry) (i : ℕ) (e : Entry) → AreApart es → slice_get es i ≡ Some e → bytes_eq e.name name ≡ true → find (λ e. bytes_eq e.name name) es ≡ Some e
-found_at name [] i e apart at_i is = absurd (not_both refl at_i)
-found_at name (x ∷ xs) zero e apart at_i is =
-    let first : x ≡ e = same_some at_i in
-    if_true (Some x) (find (λ e. bytes_eq e.name name) xs) (ap (λ (e : Entry). bytes_eq e.name name) first ∙ is) ∙ ap Some first
-found_at name (x ∷ xs) (suc i) e apart at_i is =
-    by_test (bytes_eq x.name name)
-    (λ y. absurd (clash name x xs i e apart at_i is y))
-    (λ n. if_false (Some x) (find (λ e. bytes_eq e.name name) xs) n ∙ found_at name xs i e (apart_behind x xs apart) at_i is)
-
--- and its place is the name's
-pub placed_at : (name : List ℕ) (es : List Entry) (i : ℕ) (e : Entry) → AreApart es → slice_get es i ≡ Some e → bytes_eq e.name name ≡ true → place_of_name name es ≡ Some i
-placed_at name [] i e apart at_i is = absurd (not_both refl at_i)
-placed_at name (x ∷ xs) zero e apart at_i is =
-    if_true (Some 0) (option_map (λ n. n + 1) (place_of_name name xs)) (ap (λ (e : Entry). bytes_eq e.name name) (same_some at_i) ∙ is)
-placed_at name (x ∷ xs) (suc i) e apart at_i is =
-    by_test (bytes_eq x.name name)
-    (λ y. absurd (clash name x xs i e apart at_i is y))
-    (λ n. if_false (Some 0) (option_map (λ n. n + 1) (place_of_name name xs)) n ∙ ap (option_map (λ n. n + 1)) (placed_at name xs i e (apart_behind x xs apart) at_i is) ∙ ap Some (omega arith))

@@ -1,5 +1,5 @@
 -- What readers find in what is kept, and so in the tree.
-use Rattle.std.proofs.Common.{◌≡◌, ℕ, zero, suc, ◌<◌, List, [], ◌∷◌, map, length, drop, Option, Some, None, option_map, refl, sym, ap, subst, ◌∙◌, arith, append-nil}
+use Rattle.std.proofs.Common.{◌≡◌, ℕ, zero, suc, ◌<◌, List, [], ◌∷◌, map, length, drop, Option, Some, None, option_map, refl, sym, ap, ◌∙◌, arith, append-nil}
 use Rattle.std.specs.Prelude.{slice_get, not, if◌then◌else◌, ◌||◌, nat_eq, nat_le, bytes_eq}
 use Rattle.std.proofs.lemmas.Option.{slice_get-map, slice_get_within}
 use Rattle.nfs_handles.specs.NumberedFiles.{NumberedFiles, TaggedFile, at, value_at}
@@ -12,7 +12,6 @@ use Rattle.nfs_inodes.specs.declared.stored_file.StoredFile.{StoredFile}
 use Rattle.nfs_inodes.specs.declared.stored_volume.StoredVolume.{StoredVolume}
 use Rattle.nfs_inodes.specs.declared.volumes.Totals.{Totals}
 use Rattle.nfs_inodes.specs.Tree.{Tree, File, Kind, Volume, on_some, nlink, entries_in, bytes_in, bytes_of, files_of}
-use Rattle.nfs_inodes.specs.Law.{Law, AreApart, CookiesRise}
 use Rattle.nfs_inodes.specs.Tree as tree
 use Rattle.nfs_inodes.specs.Counts.{CountedFile, CountedVolume, Agrees, tree_in, files_in}
 use Rattle.nfs_inodes.specs.Storage.{file_of, kind_of, counted_files, counted_volume_of, volume_of, counted_tree_of}
@@ -56,28 +55,6 @@ attributes_there a stored_volumes t view keeps n i e = let f = filed a n i e in
 
 pub attributes_none : (a : NumberedFiles StoredFile) (stored_volumes : List StoredVolume) (t : Tree) → tree_in (counted_tree_of a stored_volumes) ≡ t → (n : ℕ) → None ≡ value_at a n → None ≡ attributes_at t n
 attributes_none a stored_volumes t view n e = sym (ap (option_map (λ (f : File). attributes_of n f (nlink t.files n f))) (none_there a stored_volumes t view n e))
-
--- ---- names
-
--- the names in a directory differ
-pub names_apart : (a : NumberedFiles StoredFile) (stored_volumes : List StoredVolume) (t : Tree) → tree_in (counted_tree_of a stored_volumes) ≡ t → Law t → (n : ℕ) (i : StoredFile) → Some i ≡ value_at a n → AreApart (entries_in (kind_of i.node))
-names_apart a stored_volumes t view law n i e = let f = filed a n i e in
-    let sound = law.sound n (file_of f.0.tag f.0.value) (lives_there a stored_volumes t view n f.0 f.1) in
-    subst (λ (i : StoredFile). AreApart (entries_in (kind_of i.node))) f.2 (λ j k d less within. (sound.apart j k d less within).0)
-
--- and the cookies rise
-pub rising : (a : NumberedFiles StoredFile) (stored_volumes : List StoredVolume) (t : Tree) → tree_in (counted_tree_of a stored_volumes) ≡ t → Law t → (n : ℕ) (i : StoredFile) → Some i ≡ value_at a n → CookiesRise (entries_in (kind_of i.node))
-rising a stored_volumes t view law n i e = let f = filed a n i e in
-    let sound = law.sound n (file_of f.0.tag f.0.value) (lives_there a stored_volumes t view n f.0 f.1) in
-    subst (λ (i : StoredFile). CookiesRise (entries_in (kind_of i.node))) f.2 (λ j k d less within. (sound.apart j k d less within).1)
-
--- and so in a directory that is seen
-pub cookies_rise : (t : Tree) → Law t → (v : FileView) → IsSeen t v → CookiesRise (entries_in (kind_seen v))
-cookies_rise t law v s = of (tree.at v.attributes.fileid t.files) refl s.1
-  where
-    of : (o : Option File) → tree.at v.attributes.fileid t.files ≡ o → on_some o None (λ (f : File). Some f.kind) ≡ Some (kind_seen v) → CookiesRise (entries_in (kind_seen v))
-    of None e k = absurd (not_both refl k)
-    of (Some f) e k = subst (λ (k : Kind). CookiesRise (entries_in k)) (same_some k) (λ i j d less within. ((law.sound v.attributes.fileid f e).apart i j d less within).1)
 
 -- ---- files that are seen
 

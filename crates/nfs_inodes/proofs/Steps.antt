@@ -1,21 +1,22 @@
 -- A new file, in what is kept.
-use Rattle.std.proofs.Common.{◌≡◌, ℕ, ◌<◌, Bool, true, List, [], ◌∷◌, ◌++◌, map, length, Option, Some, None, option_map, refl, sym, ap, subst, ◌∙◌, arith}
+use Rattle.std.proofs.Common.{◌≡◌, ℕ, ◌<◌, Bool, true, List, [], ◌∷◌, ◌++◌, ◌≢◌, map, length, Option, Some, None, option_map, refl, sym, ap, subst, ◌∙◌, arith}
 use Rattle.std.proofs.Common.{Fits, w64}
-use Rattle.nfs_inodes.specs.declared.stored_entry.StoredEntry.{StoredEntry}
-use Rattle.std.specs.Prelude.{slice_get, if◌then◌else◌}
+use Rattle.nfs_entries.specs.Listing.{Listed}
+use Rattle.std.specs.Prelude.{All, slice_get, if◌then◌else◌}
 use Rattle.nfs_attrs.specs.declared.moment.Moment.{Moment}
 use Rattle.nfs_handles.specs.NumberedFiles.{NumberedFiles, value_at}
 use Rattle.nfs_inodes.specs.declared.stored_file.StoredFile.{StoredFile}
 use Rattle.nfs_inodes.specs.declared.stored_volume.StoredVolume.{StoredVolume}
-use Rattle.nfs_inodes.specs.Tree.{Tree, File, Kind, Directory, Volume, is_directory, bytes_in, next_cookie_in, nlink, bytes_of, files_of}
-use Rattle.nfs_inodes.specs.Law.{IsSound, LivesAsDirectory}
+use Rattle.nfs_inodes.specs.Tree.{Tree, File, Kind, Directory, Entry, Volume, is_directory, bytes_in, entries_in, next_cookie_in, nlink, bytes_of, files_of}
+use Rattle.nfs_inodes.specs.Law.{IsSound, Lives, LivesAsDirectory}
+use Rattle.nfs_inodes.specs.Reading.{entry_named}
 use Rattle.nfs_inodes.specs.Changes.{with_named_file, Makes, entered, new_file, after_link, after_write_at, file_with_bytes, with_file, after_add_volume, with_new_volume}
 use Rattle.nfs_inodes.specs.Changes as changes
 use Rattle.nfs_inodes.specs.declared.new_file.NewFile.{NewFile}
 use Rattle.nfs_inodes.specs.Conditions.{MayEnter, MayMake, MayLink, MayAddVolume, IsNew}
 use Rattle.nfs_inodes.specs.Counts.{CountedFile, CountedVolume, CountedTree, Agrees, tree_in, with_totals}
-use Rattle.nfs_inodes.specs.Storage.{file_of, entry_of, counted_file_of, counted_files, counted_volume_of, counted_tree_of}
-use Rattle.nfs_inodes.specs.StoredFiles.{TakesEntry, Revalues, SameFile, SameFiles, AddsFile, TakesLink, LinksFile}
+use Rattle.nfs_inodes.specs.Storage.{file_of, counted_file_of, counted_files, counted_volume_of, counted_tree_of}
+use Rattle.nfs_inodes.specs.StoredFiles.{TakesEntry, HasNoEntry, Revalues, SameFile, SameFiles, AddsFile, TakesLink, LinksFile}
 use Rattle.nfs_inodes.specs.StepConditions.{MayAdd, MayAddKind, HasRoomFor, IsFresh, retagged}
 use Rattle.nfs_inodes.proofs.Lists.{same_some}
 use Rattle.nfs_handles.specs.Changes.{Adds}
@@ -27,6 +28,7 @@ use Rattle.nfs_inodes.proofs.CountsMore.{counted_after_link, CountsLink, view_af
 use Rattle.nfs_inodes.proofs.Operations.{apart_kinds}
 use Rattle.nfs_inodes.proofs.NewFiles.{new_here, may_be_founded}
 use Rattle.nfs_inodes.proofs.Births.{MayBeFounded}
+use Rattle.nfs_inodes.proofs.Tests.{like_there, no_entry_named}
 use Rattle.nfs_inodes.proofs.Views.{lives, kept_at, mapped, place_there, stored_volume_at, stored_volume_counted}
 
 pub counted_parts : (k l : CountedTree) → l.files ≡ k.files → l.next ≡ k.next → l.key ≡ k.key → l.volumes ≡ k.volumes → l ≡ k
@@ -56,6 +58,11 @@ takes_entry_at a stored_volumes d dir keeps at_dir low =
       nlink = omega (arith, few, are, same);
       below = (rising_bounds 0 a.next t.files d dir keeps.law.rising at_dir.0).1;
     }
+
+-- no entry of directory d has a name that is fresh there
+pub fresh_at : (a : NumberedFiles StoredFile) (stored_volumes : List StoredVolume) (t : Tree) → tree_in (counted_tree_of a stored_volumes) ≡ t → (d : ℕ) (name : List ℕ) (dir : File) → Lives t d dir → All (λ (e : Entry). e.name ≢ name) (entries_in dir.kind) → HasNoEntry a d name
+fresh_at a stored_volumes t view d name dir at_dir fresh i e =
+    ap (λ k. entry_named name (entries_in k)) (like_there a stored_volumes t view d i (sym e) dir at_dir).1 ∙ no_entry_named name (entries_in dir.kind) fresh
 
 pub takes_entry : (a : NumberedFiles StoredFile) (stored_volumes : List StoredVolume) (d : ℕ) (name : List ℕ) → Agrees (counted_tree_of a stored_volumes) → MayEnter (tree_in (counted_tree_of a stored_volumes)) d name → TakesEntry a d
 takes_entry a stored_volumes d name keeps enter = takes_entry_at a stored_volumes d enter.dir keeps enter.at_dir enter.cookie
@@ -241,9 +248,9 @@ unchanged a b stored_volumes news e f keeps = subst (λ (b : NumberedFiles Store
 pub may_found : (a : NumberedFiles StoredFile) (stored_volumes : List StoredVolume) (max_files : ℕ) (path given : List ℕ) (t : Tree) → tree_in (counted_tree_of a stored_volumes) ≡ t → path ≡ given → MayAddVolume t given max_files → MayAddVolume (tree_in (counted_tree_of a stored_volumes)) path max_files
 may_found a stored_volumes max_files path given t view is may = subst (λ (t : Tree). MayAddVolume t path max_files) (sym view) (subst (λ (path : List ℕ). MayAddVolume t path max_files) (sym is) may)
 
-pub root_file : (f : File) (place places next number : ℕ) (given : NewFile) (now : Moment) (entries : List StoredEntry) → place ≡ places → next ≡ number → entries ≡ [] → f ≡ new_file place (Directory next 3 (map entry_of entries)) given None 0 now → f ≡ new_file places (Directory number 3 []) given None 0 now
-root_file f place places next number given now entries a b e is =
-    is ∙ ap (λ es. new_file place (Directory next 3 (map entry_of es)) given None 0 now) e
+pub root_file : (f : File) (place places next number : ℕ) (given : NewFile) (now : Moment) (entries : Listed) → place ≡ places → next ≡ number → entries.next ≡ 3 → entries.entries ≡ [] → f ≡ new_file place (Directory next entries.next entries.entries) given None 0 now → f ≡ new_file places (Directory number 3 []) given None 0 now
+root_file f place places next number given now entries a b c e is =
+    is ∙ (λ k. new_file place (Directory next (c k) (e k)) given None 0 now)
     ∙ ap (λ n. new_file place (Directory n 3 []) given None 0 now) b
     ∙ ap (λ n. new_file n (Directory number 3 []) given None 0 now) a
 

@@ -9,10 +9,11 @@ use Rattle.nfs_handles.specs.Changes.{Adds, Puts}
 use Rattle.nfs_handles.specs.declared.fault.PutFault.{PutFault}
 use Rattle.nfs_handles.specs.declared.fault.PutFault.TheVariants.{Spent, Memory}
 use Rattle.nfs_inodes.specs.Changes.{entered, file_with_bytes}
-use Rattle.nfs_inodes.specs.Tree.{File, with_at, one_when, is_directory, is_regular, bytes_in, next_cookie_in}
+use Rattle.nfs_inodes.specs.Tree.{File, with_at, one_when, is_directory, is_regular, bytes_in, entries_in, next_cookie_in}
 use Rattle.nfs_inodes.specs.Counts.{CountedFile}
-use Rattle.nfs_inodes.specs.Storage.{file_of, counted_file_of, counted_files, HasRoom}
-use Rattle.nfs_inodes.specs.StoredFiles.{TakesEntry, Revalues, SameFile, SameFiles, Enters, AddsFile, TakesLink, GainsLink, LinksFile, TakesBytes, Writes}
+use Rattle.nfs_inodes.specs.Reading.{entry_named}
+use Rattle.nfs_inodes.specs.Storage.{file_of, kind_of, counted_file_of, counted_files, HasRoom}
+use Rattle.nfs_inodes.specs.StoredFiles.{TakesEntry, HasNoEntry, Revalues, SameFile, SameFiles, Enters, AddsFile, TakesLink, GainsLink, LinksFile, TakesBytes, Writes}
 use Rattle.nfs_inodes.specs.declared.stored_files.Growth.{Growth}
 use Rattle.nfs_inodes.proofs.Lists.{same_some}
 use Rattle.nfs_inodes.proofs.Bytes.{length_put}
@@ -114,6 +115,9 @@ module _ (t1 t2 : NumberedFiles StoredFile) (d : ℕ) (stored_file : StoredFile)
   pub room_still : ((i : StoredFile) → value_at t1 d ≡ Some i → HasRoom i) → (i : StoredFile) → value_at t2 d ≡ Some i → HasRoom i
   room_still has i v = has i (ap (option_map (λ (f : TaggedFile StoredFile). f.value)) (sym (on_new t1 t2 stored_file adds d apart)) ∙ v)
 
+  pub fresh_still : (name : List ℕ) → HasNoEntry t1 d name → HasNoEntry t2 d name
+  fresh_still name fresh i v = fresh i (ap (option_map (λ (f : TaggedFile StoredFile). f.value)) (sym (on_new t1 t2 stored_file adds d apart)) ∙ v)
+
   pub added : (t3 : NumberedFiles StoredFile) (name : List ℕ) (number links : ℕ) (now : Moment) → Revalues t2 d (Enters name number links now) t3 → number ≡ t1.next → links ≡ one_when (is_directory (file_of 0 stored_file).kind) → AddsFile t1 d name stored_file now t3
   added t3 name number links now enters is_number are_links =
       let was : enters.was ≡ takes.dir = same_some (sym enters.at_was ∙ at_2) in
@@ -183,6 +187,13 @@ module _ (t0 t1 t2 : NumberedFiles StoredFile) (n d : ℕ) (now : Moment) (takes
 
     pub room_for_link : ((i : StoredFile) → value_at t1 d ≡ Some i → HasRoom i) → (i : StoredFile) → value_at t2 d ≡ Some i → HasRoom i
     room_for_link has i v = has i (ap (option_map (λ (f : TaggedFile StoredFile). f.value)) (at_dir_1 ∙ sym at_dir_2) ∙ v)
+
+    pub fresh_for_link : (name : List ℕ) → HasNoEntry t0 d name → HasNoEntry t2 d name
+    fresh_for_link name fresh i v =
+        let is : reserved.value ≡ i = same_some (sym (ap (option_map (λ (f : TaggedFile StoredFile). f.value)) at_dir_2) ∙ v) in
+        ap (λ (i : StoredFile). entry_named name (entries_in (kind_of i.node))) (sym is)
+        ∙ ap (λ (f : File). entry_named name (entries_in f.kind)) same_dir_file
+        ∙ fresh takes.dir.value (ap (option_map (λ (f : TaggedFile StoredFile). f.value)) takes.at_dir)
 
     pub linked_files : (t3 : NumberedFiles StoredFile) (name : List ℕ) → Revalues t2 d (Enters name n 0 now) t3 → LinksFile t0 n d name now t3
     linked_files t3 name enters =

@@ -1,5 +1,5 @@
 -- What the tests of conditions tell: each is true just where its condition holds.
-use Rattle.std.proofs.Common.{◌≡◌, ◌≢◌, ℕ, ◌+◌, ◌-◌, ◌<◌, ◌≤◌, Bool, true, false, true≢false, List, [], ◌∷◌, map, length, Vec, Global, Option, Some, None, option_map, refl, sym, ap, subst, ◌∙◌, arith}
+use Rattle.std.proofs.Common.{◌≡◌, ◌≢◌, ℕ, ◌+◌, ◌-◌, ◌<◌, ◌≤◌, Bool, true, false, true≢false, List, [], ◌∷◌, map, length, Option, Some, None, option_map, refl, sym, ap, subst, ◌∙◌, arith}
 use Rattle.std.specs.Prelude.{◌&&◌, bytes_eq, cond, slice_get, All, not, is_some, is_none}
 use Rattle.std.specs.Bool.{Decides}
 use Rattle.std.specs.List.{find}
@@ -7,7 +7,7 @@ use Rattle.std.proofs.lemmas.Bool.Decides.{Decides-at, Decides-like, Decides-not
 use Rattle.std.proofs.lemmas.Slice.Eq.{bytes_eq-Decides}
 use Rattle.std.proofs.lemmas.Option.{slice_get-map}
 use Rattle.nfs_handles.specs.NumberedFiles.{NumberedFiles, value_at}
-use Rattle.nfs_inodes.specs.declared.stored_entry.StoredEntry.{StoredEntry}
+use Rattle.nfs_entries.specs.Listing.{Listed}
 use Rattle.nfs_inodes.specs.declared.stored_file.StoredFile.{StoredFile}
 use Rattle.nfs_inodes.specs.declared.stored_file.Node.TheVariants as node
 use Rattle.nfs_inodes.specs.declared.stored_volume.StoredVolume.{StoredVolume}
@@ -15,9 +15,9 @@ use Rattle.nfs_inodes.specs.Tree.{Tree, File, Kind, Directory, Entry, Volume, en
 use Rattle.nfs_inodes.specs.Law.{Law, IsName, Lives}
 use Rattle.nfs_inodes.specs.Conditions.{MayEnter, MayMake, MayMakeDirectory, MayLink, MayWrite, MayResize}
 use Rattle.nfs_inodes.specs.Counts.{CountedVolume, Agrees, tree_in}
-use Rattle.nfs_inodes.specs.Storage.{file_of, kind_of, entry_of, counted_tree_of, counted_volume_of, volume_of}
+use Rattle.nfs_inodes.specs.Storage.{file_of, kind_of, counted_tree_of, counted_volume_of, volume_of}
 use Rattle.nfs_inodes.specs.StepConditions.{TakesName, TakesFile, MayGainLink, HasSpaceIn, HasRoomIn}
-use Rattle.nfs_inodes.specs.Reading.{place_where}
+use Rattle.nfs_inodes.specs.Reading.{entry_named, number_named, place_where}
 use Rattle.nfs_inodes.proofs.Lists.{by_number, same_some, not_both, if_false}
 use Rattle.nfs_inodes.proofs.Views.{filed, lives_there, none_there, stored_volume_at, stored_volume_counted}
 use Rattle.nfs_inodes.proofs.StoredFiles.{counted_file, at_counted_file}
@@ -69,13 +69,21 @@ none_alike f g (Some x) (Some y) e = refl
 
 -- ---- entries
 
+-- where all have other names, none is found
+pub no_entry_named : (name : List ℕ) (es : List Entry) → All (λ (e : Entry). e.name ≢ name) es → entry_named name es ≡ None
+no_entry_named name es fresh = is_none_of (entry_named name es) ((unlisted name es).1 fresh)
+  where
+    is_none_of : (o : Option Entry) → is_none o ≡ true → o ≡ None
+    is_none_of None e = refl
+    is_none_of (Some x) e = cc
+
 -- the kept directory takes the name where no entry has it
-pub takes_name : {X : Type 0} (g : X → ℕ) (i : StoredFile) (parent next_cookie : ℕ) (entries : Vec StoredEntry Global) (es : List StoredEntry) (name : List ℕ) (o : Option X) (b : Bool) → i.node ≡ node.Directory parent next_cookie entries → es ≡ entries.items → next_cookie < 18446744073709551615 → IsName name →
-    option_map g o ≡ option_map (λ e. e.number) (find (λ e. bytes_eq e.name name) (map entry_of es)) → is_some o ≡ not b → Decides b (TakesName i name)
-takes_name g i parent next_cookie entries es name o b is same below is_name search none =
-    let kind : kind_of i.node ≡ Directory parent next_cookie (map entry_of es) = ap kind_of is ∙ ap (λ es. Directory parent next_cookie (map entry_of es)) (sym same) in
-    Decides-at b (is_none (find (λ e. bytes_eq e.name name) (map entry_of es))) (none_told o b none ∙ none_alike g (λ e. e.number) o (find (λ e. bytes_eq e.name name) (map entry_of es)) search)
-    (Decides-like (is_none (find (λ e. bytes_eq e.name name) (map entry_of es)))
+pub takes_name : (i : StoredFile) (parent : ℕ) (entries : Listed) (name : List ℕ) (o : Option ℕ) (b : Bool) → i.node ≡ node.Directory parent entries → entries.next < 18446744073709551615 → IsName name →
+    o ≡ number_named name entries.entries → is_some o ≡ not b → Decides b (TakesName i name)
+takes_name i parent entries name o b is below is_name search none =
+    let kind : kind_of i.node ≡ Directory parent entries.next entries.entries = ap kind_of is in
+    Decides-at b (is_none (entry_named name entries.entries)) (none_told o b none ∙ none_alike (λ n. n) (λ (e : Entry). e.number) o (entry_named name entries.entries) (itself o ∙ search))
+    (Decides-like (is_none (entry_named name entries.entries))
     (λ all. record {
       directory = ap is_directory kind;
       cookie = subst (λ (k : Kind). next_cookie_in k < 18446744073709551615) (sym kind) below;
@@ -83,7 +91,11 @@ takes_name g i parent next_cookie entries es name o b is same below is_name sear
       fresh = subst (λ (k : Kind). All (λ (e : Entry). e.name ≢ name) (entries_in k)) (sym kind) all;
     })
     (λ takes. subst (λ (k : Kind). All (λ (e : Entry). e.name ≢ name) (entries_in k)) kind takes.fresh)
-    (unlisted name (map entry_of es)))
+    (unlisted name entries.entries))
+  where
+    itself : (o : Option ℕ) → option_map (λ n. n) o ≡ o
+    itself None = refl
+    itself (Some n) = refl
 
 -- ---- what is kept, and the tree
 

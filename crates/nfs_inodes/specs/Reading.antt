@@ -1,10 +1,11 @@
 -- What is read of the tree.
 use Rattle.std.specs.Prelude.{◌≡◌, ℕ, ◌+◌, Bool, true, false, List, [], ◌∷◌, ◌++◌, length, nat_lt, bytes_eq, Option, Some, None, option_map}
 use Rattle.std.specs.Prelude.{slice_get, map, if◌then◌else◌}
-use Rattle.std.specs.List.{filter, find}
+use Rattle.std.specs.List.{find}
 use Rattle.nfs_attrs.specs.declared.fattr.Fattr.{Fattr}
 use Rattle.nfs_attrs.specs.declared.file_type.FileType.{FileType}
 use Rattle.nfs_attrs.specs.declared.file_type.FileType.TheVariants as file_type
+pub use Rattle.nfs_entries.specs.Listing.{has_name, entry_named, number_named, entries_behind}
 use Rattle.nfs_handles.specs.NumberedFiles.{NumberedFiles}
 use Rattle.nfs_inodes.specs.declared.volumes.Totals.{Totals}
 use Rattle.nfs_inodes.specs.Tree.{Tree, File, Kind, Entry, Volume, Regular, Directory, Link, at, on_some, entries_in, bytes_in, nlink, bytes_of, files_of}
@@ -28,25 +29,9 @@ listing d (Link path) = []
 abbrev pub listing_at : Tree → ℕ → List Entry
 listing_at t d = on_some (at d t.files) [] (λ f. listing d f.kind)
 
--- whether an entry has a name
-abbrev pub has_name : List ℕ → Entry → Bool
-has_name name e = bytes_eq e.name name
-
--- the entry of a name among some entries
-abbrev pub entry_named : List ℕ → List Entry → Option Entry
-entry_named name es = find (has_name name) es
-
--- the number under a name among some entries
-abbrev pub number_named : List ℕ → List Entry → Option ℕ
-number_named name es = option_map (λ (e : Entry). e.number) (entry_named name es)
-
 -- the first of some entries after a cookie
 abbrev pub first_after : ℕ → List Entry → Option Entry
 first_after cookie es = find (λ e. nat_lt cookie e.cookie) es
-
--- those of some entries with cookies above this one
-abbrev pub entries_behind : ℕ → List Entry → List Entry
-entries_behind cookie es = filter (λ e. nat_lt cookie e.cookie) es
 
 -- the number under a name in directory d
 abbrev pub number_under : Tree → ℕ → List ℕ → Option ℕ
@@ -150,14 +135,6 @@ verifier_at t n = on_some (at n t.files) None (λ f. f.verifier)
 abbrev pub place_where : {X : Type 0} → (X → Bool) → List X → Option ℕ
 place_where p [] = None
 place_where p (x ∷ xs) = if p x then Some 0 else option_map (λ n. n + 1) (place_where p xs)
-
--- the place of a name among some entries
-abbrev pub place_of_name : List ℕ → List Entry → Option ℕ
-place_of_name name es = place_where (λ (e : Entry). bytes_eq e.name name) es
-
--- the place of a name in what directory d lists
-abbrev pub place_under : Tree → ℕ → List ℕ → Option ℕ
-place_under t d name = place_of_name name (listing_at t d)
 
 -- the place of the volume of a path
 abbrev pub place_named : Tree → List ℕ → Option ℕ

@@ -1,20 +1,16 @@
 -- What is kept, as clients see it.
-use Rattle.std.specs.Prelude.{ℕ, ◌<◌, List, map, vec_len, vec_capacity}
-use Rattle.nfs_inodes.specs.declared.stored_entry.StoredEntry.{StoredEntry}
+use Rattle.std.specs.Prelude.{ℕ, ◌<◌, List, map}
 use Rattle.nfs_inodes.specs.declared.stored_file.StoredFile.{StoredFile}
 use Rattle.nfs_inodes.specs.declared.stored_file.Node.{Node}
 use Rattle.nfs_inodes.specs.declared.stored_file.Node.TheVariants as node
 use Rattle.nfs_inodes.specs.declared.stored_volume.StoredVolume.{StoredVolume}
-use Rattle.nfs_inodes.specs.Tree.{File, Kind, Entry, Volume, Regular, Directory, Link}
+use Rattle.nfs_inodes.specs.Tree.{File, Kind, Volume, Regular, Directory, Link}
 use Rattle.nfs_inodes.specs.Counts.{CountedFile, CountedVolume, CountedTree}
 use Rattle.nfs_handles.specs.NumberedFiles.{NumberedFiles, TaggedFile}
 
-abbrev pub entry_of : StoredEntry → Entry
-entry_of l = record { cookie = l.cookie; name = l.name.items; number = l.number }
-
 abbrev pub kind_of : Node → Kind
 kind_of (node.Regular bytes) = Regular bytes.items
-kind_of (node.Directory parent next_cookie entries) = Directory parent next_cookie (map entry_of entries.items)
+kind_of (node.Directory parent entries) = Directory parent entries.next entries.entries
 kind_of (node.Link path) = Link path.items
 
 -- the file, under some tag
@@ -44,7 +40,7 @@ counted_volume_of s = record { volume = volume_of s; bytes = s.bytes; files = s.
 -- a directory takes an entry with no growth
 abbrev pub has_room : Node → Type 0
 has_room (node.Regular bytes) = ⊥
-has_room (node.Directory parent next_cookie entries) = vec_len entries < vec_capacity entries
+has_room (node.Directory parent entries) = 0 < entries.spare
 has_room (node.Link path) = ⊥
 
 abbrev pub HasRoom : StoredFile → Type 0

@@ -1,14 +1,15 @@
 -- What is done to the kept files of a tree.
-use Rattle.std.specs.Prelude.{◌≡◌, ℕ, ◌≢◌, ◌+◌, ◌-◌, ◌<◌, ◌≤◌, ◌^◌, true, List, [], ◌∷◌, ◌++◌, length, Some}
+use Rattle.std.specs.Prelude.{◌≡◌, ℕ, ◌≢◌, ◌+◌, ◌-◌, ◌<◌, ◌≤◌, ◌^◌, true, List, [], ◌∷◌, ◌++◌, length, Some, None}
 use Rattle.nfs_attrs.specs.declared.moment.Moment.{Moment}
-use Rattle.nfs_handles.specs.NumberedFiles.{NumberedFiles, TaggedFile, at, with_value}
+use Rattle.nfs_handles.specs.NumberedFiles.{NumberedFiles, TaggedFile, at, value_at, with_value}
 use Rattle.nfs_inodes.specs.Limits.{max_file_bytes, max_links}
 use Rattle.nfs_inodes.specs.declared.given_attributes.GivenAttributes.{GivenAttributes}
 use Rattle.nfs_inodes.specs.declared.stored_file.StoredFile.{StoredFile}
-use Rattle.nfs_inodes.specs.Tree.{with_at, one_when, is_directory, is_regular, bytes_in, next_cookie_in}
+use Rattle.nfs_inodes.specs.Reading.{entry_named}
+use Rattle.nfs_inodes.specs.Tree.{with_at, one_when, is_directory, is_regular, bytes_in, entries_in, next_cookie_in}
 use Rattle.nfs_inodes.specs.declared.stored_files.Growth.{Growth}
 use Rattle.nfs_inodes.specs.Changes.{entered, file_with_bytes, resized_to, with_given}
-use Rattle.nfs_inodes.specs.Storage.{file_of, counted_file_of, counted_files}
+use Rattle.nfs_inodes.specs.Storage.{file_of, kind_of, counted_file_of, counted_files}
 
 -- number d is that of a directory, which takes an entry more
 pub record TakesEntry (files : NumberedFiles StoredFile) (d : ℕ) : Type 0 where
@@ -18,6 +19,10 @@ pub record TakesEntry (files : NumberedFiles StoredFile) (d : ℕ) : Type 0 wher
   pub next_cookie : next_cookie_in (file_of 0 dir.value).kind + 1 < 2 ^ 64
   pub nlink : dir.value.nlink ≤ max_links
   pub below : d < files.next
+
+-- no entry of directory d has this name
+abbrev pub HasNoEntry : NumberedFiles StoredFile → ℕ → List ℕ → Type 0
+HasNoEntry files d name = (dir : StoredFile) → value_at files d ≡ Some dir → entry_named name (entries_in (kind_of dir.node)) ≡ None
 
 -- of the file under a number the kept value has changed, from one to another
 pub record Revalues (old : NumberedFiles StoredFile) (n : ℕ) (From : StoredFile → StoredFile → Type 0) (new : NumberedFiles StoredFile) : Type 0 where

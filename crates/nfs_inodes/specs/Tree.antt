@@ -2,12 +2,7 @@
 use Rattle.std.specs.Prelude.{ℕ, ◌+◌, Bool, true, false, List, [], length, sum_by, nat_eq, Option, Some, None, if◌then◌else◌}
 use Rattle.std.specs.Map.{lookup, set_value, remove_entry}
 use Rattle.nfs_attrs.specs.declared.moment.Moment.{Moment}
-
--- an entry of a directory
-pub record Entry : Type 0 where
-  pub cookie : ℕ
-  pub name : List ℕ
-  pub number : ℕ
+pub use Rattle.nfs_entries.specs.Listing.{Entry}
 
 -- what a file is: its bytes; its parent, its next cookie and its entries; or a path
 pub data Kind : Type 0 where

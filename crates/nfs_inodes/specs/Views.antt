@@ -1,8 +1,8 @@
 -- What readers lend, as values.
-use Rattle.std.specs.Prelude.{◌≡◌, ℕ, ◌||◌, nat_le, List, Some, map}
-use Rattle.nfs_inodes.specs.Tree.{Tree, Kind, Entry, Volume, bytes_in}
+use Rattle.std.specs.Prelude.{◌≡◌, ℕ, ◌||◌, nat_le, List, [], Some}
+use Rattle.nfs_inodes.specs.Tree.{Tree, Kind, Entry, Volume, on_some, bytes_in}
 use Rattle.nfs_attrs.specs.declared.fattr.Fattr.{Fattr}
-use Rattle.nfs_inodes.specs.Storage.{entry_of}
+use Rattle.nfs_entries.specs.Seen as directory
 use Rattle.nfs_inodes.specs.Reading.{attributes_at, is_directory_type, kind_at, numbered_files}
 use Rattle.nfs_handles.specs.Handles.{reading, number}
 use Rattle.nfs_handles.specs.declared.reading.Reading.TheVariants.{Live}
@@ -16,7 +16,7 @@ entry_seen e = record { cookie = e.cookie; name = e.name.now; number = e.number.
 
 -- those that are to come
 abbrev pub entries_left : Entries → List Entry
-entries_left it = map entry_of it.entries.now
+entries_left it = on_some it.entries [] directory.entries_left
 
 abbrev pub volume_seen : VolumeView → Volume
 volume_seen v = record { path = v.path.now; max_bytes = v.max_bytes; max_files = v.max_files; root = v.root.0 }

@@ -15,7 +15,6 @@ ghost use Rattle.nfs_inodes.specs.Reading.{entries_at};
 ghost use Rattle.nfs_inodes.specs.Storage.{kind_of};
 ghost use Rattle.nfs_inodes.specs.Tree.{File, entries_in};
 
-use crate::directory::named;
 use crate::limits::{
     MAX_FILE_BYTES, MAX_LINKS, MAX_PATH_BYTES, MAX_VOLUME_PATH_BYTES, MAX_VOLUMES,
 };
@@ -401,18 +400,14 @@ fn takes_entry(stored_file: &StoredFile, name: &[u8]) -> bool
     ensures { IsTrue result ↔ TakesName stored_file.now name.now }
 {
     match &stored_file.node {
-        Node::Directory {
-            next_cookie,
-            entries,
-            ..
-        } => {
-            if *next_cookie >= u64::MAX {
+        Node::Directory { entries, .. } => {
+            if entries.next() >= u64::MAX {
                 return false;
             }
             if !is_name(name) {
                 return false;
             }
-            named(entries.as_slice(), name).is_none()
+            entries.number(name).is_none()
         }
         _ => false,
     }

@@ -16,7 +16,6 @@ pub mod name;
 pub mod new_file;
 pub mod removal;
 pub mod renaming;
-mod stored_entry;
 mod stored_file;
 mod stored_files;
 mod stored_volume;

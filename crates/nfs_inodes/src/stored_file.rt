@@ -1,19 +1,20 @@
 //! A file as it is kept, and what is done to it alone.
 ghost use Rattle.std.specs.Prelude.{◌≡◌, ◌+◌, ◌<◌, ◌≤◌, ◌^◌, ◌*◌, OnOk, OnErr, length, IsTrue};
-ghost use Rattle.std.specs.Prelude.{◌%◌, if◌then◌else◌, map, vec_len, vec_capacity};
+ghost use Rattle.std.specs.Prelude.{◌%◌, if◌then◌else◌, None};
 ghost use Rattle.nfs_inodes.specs.Limits.{max_file_bytes, max_links};
-ghost use Rattle.nfs_inodes.specs.Tree.{is_directory, is_regular, next_cookie_in, bytes_in};
+ghost use Rattle.nfs_inodes.specs.Tree.{is_directory, is_regular, entries_in, next_cookie_in, bytes_in};
 ghost use Rattle.nfs_inodes.specs.Tree.{one_when, on_some};
 ghost use Rattle.nfs_inodes.specs.Changes.{entered, file_with_bytes, new_file};
-ghost use Rattle.nfs_inodes.specs.Changes.{left, entries_without, moved_to, resized_to};
+ghost use Rattle.nfs_inodes.specs.Changes.{left, moved_to, resized_to};
 ghost use Rattle.nfs_inodes.specs.Changes.{with_given};
-ghost use Rattle.nfs_inodes.specs.Storage.{entry_of, file_of, kind_of, HasRoom};
+ghost use Rattle.nfs_inodes.specs.Reading.{entry_named};
+ghost use Rattle.nfs_inodes.specs.Storage.{file_of, kind_of, HasRoom};
 
 use crate::content::{put, resize};
 use crate::given_attributes::GivenAttributes;
 use crate::new_file::NewFile;
-use crate::stored_entry::StoredEntry;
 use nfs_attrs::moment::Moment;
+use nfs_entries::directory_entries::DirectoryEntries;
 use std::alloc::AllocError;
 
 /// What a file is, as it is kept.
@@ -22,8 +23,7 @@ pub(crate) enum Node {
     Regular(Vec<u8>),
     Directory {
         parent: u64,
-        next_cookie: u64,
-        entries: Vec<StoredEntry>,
+        entries: DirectoryEntries,
     },
     Link(Vec<u8>),
 }
@@ -107,7 +107,7 @@ pub(crate) fn reserve_entry(stored_file: &mut StoredFile) -> Result<(), AllocErr
     ensures nlink { stored_file.new.nlink ≡ stored_file.old.nlink }
 {
     match &mut stored_file.node {
-        Node::Directory { entries, .. } => entries.reserve(1),
+        Node::Directory { entries, .. } => entries.reserve(),
         _ => unreachable!(),
     }
 }
@@ -123,6 +123,7 @@ pub(crate) fn add_entry(
 )
     requires dir { IsTrue (is_directory (file_of 0 stored_file.old).kind) }
     requires room { HasRoom stored_file.old }
+    requires fresh { entry_named name.items (entries_in (file_of 0 stored_file.old).kind) ≡ None }
     requires next { next_cookie_in (file_of 0 stored_file.old).kind + 1 < 2 ^ 64 }
     requires links { stored_file.old.nlink ≤ max_links }
     ensures file { file_of 0 stored_file.new ≡ entered (file_of 0 stored_file.old) name.items number now }
@@ -134,21 +135,7 @@ pub(crate) fn add_entry(
         stored_file.nlink += 1;
     }
     match &mut stored_file.node {
-        Node::Directory {
-            next_cookie,
-            entries,
-            ..
-        } => {
-            let cookie = *next_cookie;
-            *next_cookie += 1;
-            entries
-                .push(StoredEntry {
-                    cookie,
-                    name,
-                    number,
-                })
-                .unwrap();
-        }
+        Node::Directory { entries, .. } => entries.push(name, number),
         _ => unreachable!(),
     }
 }
@@ -170,7 +157,7 @@ pub(crate) fn remove_entry(
         stored_file.nlink -= 1;
     }
     match &mut stored_file.node {
-        Node::Directory { entries, .. } => remove_named(entries, name),
+        Node::Directory { entries, .. } => entries.remove(name),
         _ => {}
     }
     stored_file.mtime = now;
@@ -188,14 +175,6 @@ pub(crate) fn set_parent(stored_file: &mut StoredFile, dir: u64, now: Moment)
         _ => {}
     }
     stored_file.ctime = now;
-}
-
-// The entries of other names, with room for one more where there was room.
-fn remove_named(entries: &mut Vec<StoredEntry>, name: &[u8])
-    ensures others { map entry_of entries.new.items ≡ entries_without name.now (map entry_of entries.old.items) }
-    ensures room { vec_len entries.old < vec_capacity entries.old → vec_len entries.new < vec_capacity entries.new }
-{
-    entries.retain(|entry| entry.name.as_slice() != name);
 }
 
 /// Puts bytes at an offset of a regular file, zeros in a gap before them. Refused only without

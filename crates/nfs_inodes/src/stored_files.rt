@@ -4,7 +4,7 @@ ghost use Rattle.nfs_handles.specs.NumberedFiles.{value_at};
 ghost use Rattle.nfs_inodes.specs.declared.stored_file.StoredFile.{StoredFile};
 ghost use Rattle.nfs_inodes.specs.Tree.{one_when};
 ghost use Rattle.nfs_inodes.specs.Storage.{HasRoom};
-ghost use Rattle.nfs_inodes.specs.StoredFiles.{TakesEntry, Revalues, SameFile, Enters, AddsFile};
+ghost use Rattle.nfs_inodes.specs.StoredFiles.{TakesEntry, HasNoEntry, Revalues, SameFile, Enters, AddsFile};
 ghost use Rattle.nfs_inodes.specs.StoredFiles.{SameFiles, TakesLink, LinksFile, GainsLink};
 ghost use Rattle.nfs_inodes.specs.StoredFiles.{TakesBytes, TakesGrowth, Writes};
 ghost use Rattle.nfs_inodes.specs.StoredFiles.{IsThere, SetsAttributes};
@@ -31,6 +31,7 @@ pub(crate) fn add(
 ) -> Result<Number, AllocError>
     requires dir { TakesEntry files.old dir.0 }
     requires room { (parent : StoredFile) → value_at files.old dir.0 ≡ Some parent → HasRoom parent }
+    requires fresh { HasNoEntry files.old dir.0 name.items }
     requires number { files.old.next < 2 ^ 64 - 1 }
     ensures ok { OnOk result (AddsFile files.old dir.0 name.items stored_file now files.new) }
     ensures number { IfOk result (λ n. n.0 ≡ files.old.next) }
@@ -55,6 +56,7 @@ pub(crate) fn link(
     now: Moment,
 ) -> Result<(), AllocError>
     requires dir { TakesEntry files.old dir.0 }
+    requires fresh { HasNoEntry files.old dir.0 name.items }
     requires file { TakesLink files.old number.0 dir.0 }
     ensures ok { OnOk result (LinksFile files.old number.0 dir.0 name.items now files.new) }
     ensures err { OnErr result (SameFiles files.old files.new) }
@@ -182,6 +184,7 @@ pub(crate) fn enter(
 )
     requires dir { TakesEntry files.old dir.0 }
     requires room { (stored_file : StoredFile) → value_at files.old dir.0 ≡ Some stored_file → HasRoom stored_file }
+    requires fresh { HasNoEntry files.old dir.0 name.items }
     ensures { Revalues files.old dir.0 (Enters name.items number (one_when subdirectory) now) files.new }
 {
     match files.get_mut(dir) {

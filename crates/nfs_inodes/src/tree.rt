@@ -20,6 +20,7 @@ use crate::stored_file::{Node, StoredFile};
 use crate::stored_files::{add, link, reserve, resize, set, write};
 use crate::stored_volume::StoredVolume;
 use nfs_attrs::moment::Moment;
+use nfs_entries::directory_entries::DirectoryEntries;
 use nfs_handles::files::Files;
 use nfs_handles::number::Number;
 use std::alloc::{AllocError, Global};
@@ -119,8 +120,7 @@ impl Tree {
         let name = copied(self.alloc, name)?;
         let node = Node::Directory {
             parent: dir.0,
-            next_cookie: FIRST_COOKIE,
-            entries: Vec::new(self.alloc),
+            entries: DirectoryEntries::new(self.alloc, FIRST_COOKIE),
         };
         self.make(dir, name, node, given, None, now)
     }
@@ -228,8 +228,7 @@ impl Tree {
         self.volumes.reserve(1)?;
         let node = Node::Directory {
             parent: self.files.next(),
-            next_cookie: FIRST_COOKIE,
-            entries: Vec::new(self.alloc),
+            entries: DirectoryEntries::new(self.alloc, FIRST_COOKIE),
         };
         let stored_file = StoredFile::new(self.volumes.len(), node, given, None, now);
         let root = match self.files.put(stored_file) {

@@ -6,7 +6,7 @@ ghost use Rattle.nfs_load.specs.Effects.{attributes, link_attributes, link_place
 
 use crate::cause::Cause;
 use crate::path::Path;
-use crate::place::{Hints, Place, find_file, find_free_place, is_directory};
+use crate::place::{Place, find_file, find_free_place, is_directory};
 use crate::refusal::Refusal;
 use crate::statement::{DirLine, FileLine, Given, HardLine, LinkLine, VolumeLine};
 use nfs_attrs::moment::Moment;
@@ -41,15 +41,10 @@ pub fn add_volume(tree: &mut Tree, line: &VolumeLine<'_>) -> Result<(), Refusal>
 
 /// A `dir` line, in the volume of this root: a new directory. The first of these: `NoParent`,
 /// `NameTaken`, `Full` where no directory may be made there, `Memory`.
-pub fn make_dir(
-    tree: &mut Tree,
-    hints: &mut Hints,
-    root: Number,
-    line: &DirLine<'_>,
-) -> Result<(), Refusal>
+pub fn make_dir(tree: &mut Tree, root: Number, line: &DirLine<'_>) -> Result<(), Refusal>
     ensures { MakesDir tree.old root.0 line.now result tree.new }
 {
-    let place = find_free_place(tree, hints, root, &line.path)?;
+    let place = find_free_place(tree, root, &line.path)?;
     if !tree.may_make_dir(place.dir, place.name) {
         return Err(Refusal::Fault(Cause::Full));
     }
@@ -60,12 +55,7 @@ pub fn make_dir(
 /// A `file` line, in the volume of this root: a new regular file, whose content becomes the
 /// line's. The first of these: `NoParent`, `NameTaken`, `Full` where no file of this content may be
 /// made there, `Memory`.
-pub fn make_file(
-    tree: &mut Tree,
-    hints: &mut Hints,
-    root: Number,
-    line: FileLine<'_>,
-) -> Result<(), Refusal>
+pub fn make_file(tree: &mut Tree, root: Number, line: FileLine<'_>) -> Result<(), Refusal>
     ensures { MakesFile tree.old root.0 (file_of line.entry) result tree.new }
 {
     let FileLine {
@@ -73,7 +63,7 @@ pub fn make_file(
         given,
         content,
     } = line;
-    let place = find_free_place(tree, hints, root, &path)?;
+    let place = find_free_place(tree, root, &path)?;
     if !tree.may_make(place.dir, place.name, content.len()) {
         return Err(Refusal::Fault(Cause::Full));
     }
@@ -84,15 +74,10 @@ pub fn make_file(
 
 /// A `link` line, in the volume of this root: a new symbolic link. The first of these: `NoParent`,
 /// `NameTaken`, `Full` where no link may be made there, `Memory`.
-pub fn make_link(
-    tree: &mut Tree,
-    hints: &mut Hints,
-    root: Number,
-    line: &LinkLine<'_>,
-) -> Result<(), Refusal>
+pub fn make_link(tree: &mut Tree, root: Number, line: &LinkLine<'_>) -> Result<(), Refusal>
     ensures { MakesLink tree.old root.0 (link_of line.now) result tree.new }
 {
-    let place = find_free_place(tree, hints, root, &line.path)?;
+    let place = find_free_place(tree, root, &line.path)?;
     if !tree.may_make_link(place.dir, place.name, line.target) {
         return Err(Refusal::Fault(Cause::Full));
     }
@@ -104,15 +89,10 @@ pub fn make_link(
 /// A `hard` line, in the volume of this root: a further name of a file. The first of these:
 /// `NoParent`, `NameTaken`, `NoTarget` where the other path names no file or a directory, `Full`
 /// where no such name may be added, `Memory`.
-pub(crate) fn add_name(
-    tree: &mut Tree,
-    hints: &mut Hints,
-    root: Number,
-    line: &HardLine<'_>,
-) -> Result<(), Refusal>
+pub(crate) fn add_name(tree: &mut Tree, root: Number, line: &HardLine<'_>) -> Result<(), Refusal>
     ensures { AddsName tree.old root.0 line.now result tree.new }
 {
-    let (place, file) = find_link_place(tree, hints, root, &line.path, &line.old)?;
+    let (place, file) = find_link_place(tree, root, &line.path, &line.old)?;
     if !tree.may_link(file, place.dir, place.name) {
         return Err(Refusal::Fault(Cause::Full));
     }
@@ -123,15 +103,14 @@ pub(crate) fn add_name(
 // A free place, and a file that is no directory.
 fn find_link_place<'a>(
     tree: &Tree,
-    hints: &mut Hints,
     root: Number,
     path: &Path<'a>,
     old: &Path<'_>,
 ) -> Result<(Place<'a>, Number), Cause>
     ensures { links_found result ≡ link_place tree.now root.0 path.now old.now }
 {
-    let place = find_free_place(tree, hints, root, path)?;
-    let Some(file) = find_file(tree, hints, root, old) else {
+    let place = find_free_place(tree, root, path)?;
+    let Some(file) = find_file(tree, root, old) else {
         return Err(Cause::NoTarget);
     };
     if is_directory(tree, file) {

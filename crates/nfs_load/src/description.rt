@@ -12,7 +12,6 @@ use crate::fields::Fields;
 use crate::line::{Keyword, Line, read_line};
 use crate::load_error::LoadError;
 use crate::loaded::Loaded;
-use crate::place::Hints;
 use crate::refusal::Refusal;
 use crate::statement::{DirLine, ExportLine, FileLine, HardLine, LinkLine, VolumeLine};
 use nfs_exports::limits::MAX_PATTERNS;
@@ -32,12 +31,11 @@ pub fn load(alloc: Global, text: &[u8]) -> Result<Loaded, LoadError>
     ensures lists { IfOk result (λ loaded. length loaded.table ≡ length loaded.tree.volumes) }
 {
     let mut described = None;
-    let mut hints = Hints::default();
     let mut number = 0;
     let mut lines = Lines::new(text);
     while let Some(line) = lines.next() {
         number += 1;
-        if let Err(refusal) = take_line(alloc, &mut described, &mut hints, line) {
+        if let Err(refusal) = take_line(alloc, &mut described, line) {
             return Err(refusal.at(number));
         }
     }
@@ -62,12 +60,7 @@ fn finish(described: Option<Loaded>) -> Result<Loaded, Cause>
 }
 
 // One line more.
-fn take_line(
-    alloc: Global,
-    described: &mut Option<Loaded>,
-    hints: &mut Hints,
-    line: &[u8],
-) -> Result<(), Refusal>
+fn take_line(alloc: Global, described: &mut Option<Loaded>, line: &[u8]) -> Result<(), Refusal>
     requires { IfSome described.old (λ l. length l.table ≡ length l.tree.volumes) }
     ensures done { LineDone described.old line.now result described.new }
     ensures lists { OnOk result (IfSome described.new (λ l. length l.table ≡ length l.tree.volumes)) }
@@ -76,7 +69,7 @@ fn take_line(
         return Ok(());
     };
     match described {
-        Some(loaded) => go_on(alloc, loaded, hints, line),
+        Some(loaded) => go_on(alloc, loaded, line),
         None => {
             *described = Some(begin(alloc, line)?);
             Ok(())
@@ -99,12 +92,7 @@ fn begin(alloc: Global, line: Line<'_>) -> Result<Loaded, Cause>
 }
 
 // A line behind the server's.
-fn go_on(
-    alloc: Global,
-    loaded: &mut Loaded,
-    hints: &mut Hints,
-    line: Line<'_>,
-) -> Result<(), Refusal>
+fn go_on(alloc: Global, loaded: &mut Loaded, line: Line<'_>) -> Result<(), Refusal>
     requires { length loaded.old.table ≡ length loaded.old.tree.volumes }
     ensures done { GoesOn loaded.old line.entry.keyword (words_left line.entry.fields) result loaded.new }
     ensures lists { OnOk result (length loaded.new.table ≡ length loaded.new.tree.volumes) }
@@ -114,10 +102,10 @@ fn go_on(
         Keyword::Server => Err(Refusal::Fault(Cause::ServerTwice)),
         Keyword::Volume => take_volume(loaded, &mut fields),
         Keyword::Export => take_export(loaded, &mut fields),
-        Keyword::Dir => take_dir(loaded, hints, &mut fields),
-        Keyword::File => take_file(alloc, loaded, hints, &mut fields),
-        Keyword::Link => take_link(loaded, hints, &mut fields),
-        Keyword::Hard => take_hard(loaded, hints, &mut fields),
+        Keyword::Dir => take_dir(loaded, &mut fields),
+        Keyword::File => take_file(alloc, loaded, &mut fields),
+        Keyword::Link => take_link(loaded, &mut fields),
+        Keyword::Hard => take_hard(loaded, &mut fields),
     }
 }
 
@@ -147,49 +135,44 @@ fn take_export(loaded: &mut Loaded, fields: &mut Fields<'_>) -> Result<(), Refus
     Ok(())
 }
 
-fn take_dir(loaded: &mut Loaded, hints: &mut Hints, fields: &mut Fields<'_>) -> Result<(), Refusal>
+fn take_dir(loaded: &mut Loaded, fields: &mut Fields<'_>) -> Result<(), Refusal>
     requires { length loaded.old.table ≡ length loaded.old.tree.volumes }
     ensures done { GoesOn loaded.old Keyword.Dir fields.old result loaded.new }
     ensures lists { OnOk result (length loaded.new.table ≡ length loaded.new.tree.volumes) }
 {
     let root = last_root(&loaded.tree)?;
     let line = DirLine::read(fields)?;
-    make_dir(&mut loaded.tree, hints, root, &line)
+    make_dir(&mut loaded.tree, root, &line)
 }
 
-fn take_file(
-    alloc: Global,
-    loaded: &mut Loaded,
-    hints: &mut Hints,
-    fields: &mut Fields<'_>,
-) -> Result<(), Refusal>
+fn take_file(alloc: Global, loaded: &mut Loaded, fields: &mut Fields<'_>) -> Result<(), Refusal>
     requires { length loaded.old.table ≡ length loaded.old.tree.volumes }
     ensures done { GoesOn loaded.old Keyword.File fields.old result loaded.new }
     ensures lists { OnOk result (length loaded.new.table ≡ length loaded.new.tree.volumes) }
 {
     let root = last_root(&loaded.tree)?;
     let line = FileLine::read(alloc, fields)?;
-    make_file(&mut loaded.tree, hints, root, line)
+    make_file(&mut loaded.tree, root, line)
 }
 
-fn take_link(loaded: &mut Loaded, hints: &mut Hints, fields: &mut Fields<'_>) -> Result<(), Refusal>
+fn take_link(loaded: &mut Loaded, fields: &mut Fields<'_>) -> Result<(), Refusal>
     requires { length loaded.old.table ≡ length loaded.old.tree.volumes }
     ensures done { GoesOn loaded.old Keyword.Link fields.old result loaded.new }
     ensures lists { OnOk result (length loaded.new.table ≡ length loaded.new.tree.volumes) }
 {
     let root = last_root(&loaded.tree)?;
     let line = LinkLine::read(fields)?;
-    make_link(&mut loaded.tree, hints, root, &line)
+    make_link(&mut loaded.tree, root, &line)
 }
 
-fn take_hard(loaded: &mut Loaded, hints: &mut Hints, fields: &mut Fields<'_>) -> Result<(), Refusal>
+fn take_hard(loaded: &mut Loaded, fields: &mut Fields<'_>) -> Result<(), Refusal>
     requires { length loaded.old.table ≡ length loaded.old.tree.volumes }
     ensures done { GoesOn loaded.old Keyword.Hard fields.old result loaded.new }
     ensures lists { OnOk result (length loaded.new.table ≡ length loaded.new.tree.volumes) }
 {
     let root = last_root(&loaded.tree)?;
     let line = HardLine::read(fields)?;
-    add_name(&mut loaded.tree, hints, root, &line)
+    add_name(&mut loaded.tree, root, &line)
 }
 
 // The root of the last volume. `NoVolume` where there is none.

@@ -17,8 +17,8 @@ may : (c : goal.After-append) → MayAddVolume (tree_in (counted_tree_of c.self.
 may c = may_found c.self.inside.files c.self.inside.volumes.items c.args.max_files c.in_ok-path.path.items c.args.path.now c.args.self.now c.self.view_is c.in_ok-path.ensures c.requires
 
 its_root : (c : goal.After-append) → file_of 0 c.new-stored_file.result ≡ new_file (length c.self.inside.volumes.items) (Directory c.self.inside.files.next 3 []) c.args.given.now None 0 c.args.now
-its_root c = root_file (file_of 0 c.new-stored_file.result) c.len.result (length c.self.inside.volumes.items) c.next.result c.self.inside.files.next c.args.given.now c.args.now c.new.result.items
-    (c.len.ensures ∙ c.reserve.new.self.ok.0 ∙ ap length c.reserve.ensures.items) c.next.ensures c.new.ensures.items c.new-stored_file.ensures.file
+its_root c = root_file (file_of 0 c.new-stored_file.result) c.len.result (length c.self.inside.volumes.items) c.next.result c.self.inside.files.next c.args.given.now c.args.now c.new.result
+    (c.len.ensures ∙ c.reserve.new.self.ok.0 ∙ ap length c.reserve.ensures.items) c.next.ensures c.new.ensures.next c.new.ensures.entries c.new-stored_file.ensures.file
 
 is_counted : (c : goal.After-append) → counted_volume_of (the_share c) ≡ record { volume = record { path = c.in_ok-path.path.items; max_bytes = c.args.max_bytes; max_files = c.args.max_files; root = c.self.inside.files.next }; bytes = 0; files = 1 }
 is_counted c = ap (counted_at c.in_ok-path.path.items c.args.max_bytes c.args.max_files) c.in-Ok.ensures.0

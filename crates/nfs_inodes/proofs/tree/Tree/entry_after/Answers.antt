@@ -3,11 +3,8 @@ use Rattle.std.specs.List.{find}
 use Rattle.nfs_inodes.specs.Tree.{File, Entry}
 use Rattle.nfs_inodes.specs.Storage.{kind_of}
 use Rattle.nfs_inodes.specs.Reading.{listing}
-use Rattle.nfs_inodes.proofs.Readers.{rising, seen, unseen}
+use Rattle.nfs_inodes.proofs.Readers.{seen, unseen}
 use Rattle.nfs_inodes.proofs.tree.Tree.entry_after.Goals as goal
-
-pub after_cookie-requires : goal.after_cookie-requires
-after_cookie-requires c = rising c.self.inside.files c.self.inside.volumes.items c.args.self.now c.self.view_is c.law.ensures c.args.dir.0 c.in-Some.stored_file.now c.in-Some.ensures
 
 pub returns-in-Some : goal.returns-in-Some
 returns-in-Some c = c.after_cookie.ensures ∙ ap (λ (l : List Entry). find (λ (e : Entry). nat_lt c.args.cookie e.cookie) l)

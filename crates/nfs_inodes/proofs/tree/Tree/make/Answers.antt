@@ -1,10 +1,10 @@
-use Rattle.std.proofs.Common.{sym, ap, subst, ◌∙◌, map}
+use Rattle.std.proofs.Common.{refl, sym, ap, subst, ◌∙◌, map}
 use Rattle.nfs_inodes.specs.Tree.{File}
 use Rattle.nfs_inodes.specs.Storage.{kind_of, counted_volume_of, counted_tree_of}
 use Rattle.nfs_inodes.specs.Counts.{Agrees, with_totals, tree_in}
 use Rattle.nfs_inodes.specs.StepConditions.{HasRoomFor}
 use Rattle.nfs_inodes.proofs.StoredFiles.{on_err}
-use Rattle.nfs_inodes.proofs.Steps.{same_counted, takes_here, room_here, stored_agree_after_make, stored_view_after_make, takes_entry_seen, view_still, agree_still, may_add_still, makes_still}
+use Rattle.nfs_inodes.proofs.Steps.{same_counted, fresh_at, takes_here, room_here, stored_agree_after_make, stored_view_after_make, takes_entry_seen, view_still, agree_still, may_add_still, makes_still}
 use Rattle.nfs_inodes.proofs.tree.Tree.make.Goals as goal
 
 pub reserve-requires : goal.reserve-requires
@@ -18,6 +18,11 @@ returns-in_err-place-clause-err c = on_err c.from_residual.result (view_still c.
 
 pub add-requires-clause-dir : goal.add-requires-clause-dir
 add-requires-clause-dir c = takes_here c.reserve.new.files c.self.inside.volumes.items c.args.dir.0 c.args.name.items c.new-stored_file.result (agree_still c.self.inside.files c.self.inside.volumes.items c.args.self.now c.self.view_is c.self.invariant c.args.dir.0 c.reserve.new.files c.reserve.ensures.same) (may_add_still c.self.inside.files c.self.inside.volumes.items c.args.self.now c.self.view_is c.self.invariant c.args.dir.0 c.reserve.new.files c.reserve.ensures.same c.args.name.items (kind_of c.args.node) c.args.given.now c.args.verifier c.args.now c.new-stored_file.result c.in_ok-place.place c.in_ok-place.ensures.place c.new-stored_file.ensures.file c.new-stored_file.ensures.nlink c.requires)
+
+pub add-requires-clause-fresh : goal.add-requires-clause-fresh
+add-requires-clause-fresh c =
+    let still = may_add_still c.self.inside.files c.self.inside.volumes.items c.args.self.now c.self.view_is c.self.invariant c.args.dir.0 c.reserve.new.files c.reserve.ensures.same c.args.name.items (kind_of c.args.node) c.args.given.now c.args.verifier c.args.now c.new-stored_file.result c.in_ok-place.place c.in_ok-place.ensures.place c.new-stored_file.ensures.file c.new-stored_file.ensures.nlink c.requires in
+    fresh_at c.reserve.new.files c.self.inside.volumes.items (tree_in (counted_tree_of c.reserve.new.files c.self.inside.volumes.items)) refl c.args.dir.0 c.args.name.items still.may.enter.dir still.may.enter.at_dir.0 still.may.enter.fresh
 
 pub invariant_of-self-in_err-number : goal.invariant_of-self-in_err-number
 invariant_of-self-in_err-number c = subst Agrees (sym (same_counted c.reserve.new.files c.add.new.files c.self.inside.volumes.items c.in_err-number.ensures.err)) (agree_still c.self.inside.files c.self.inside.volumes.items c.args.self.now c.self.view_is c.self.invariant c.args.dir.0 c.reserve.new.files c.reserve.ensures.same)

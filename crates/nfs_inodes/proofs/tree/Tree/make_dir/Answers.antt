@@ -1,11 +1,10 @@
-use Rattle.std.proofs.Common.{List, ℕ, [], map, sym, ap, subst}
+use Rattle.std.proofs.Common.{List, ℕ, [], sym, subst}
 use Rattle.nfs_inodes.specs.Tree.{Kind, Directory}
-use Rattle.nfs_inodes.specs.Storage.{entry_of}
 use Rattle.nfs_inodes.specs.StepConditions.{MayAddKind}
 use Rattle.nfs_inodes.proofs.NewFiles.{fresh_directory}
 use Rattle.nfs_inodes.proofs.tree.Tree.make_dir.Goals as goal
 
 pub make-requires : goal.make-requires
-make-requires c = subst (λ (k : Kind). MayAddKind c.args.self.now c.args.dir.0 c.in_ok-name.name.items k) (ap (λ es. Directory c.args.dir.0 3 (map entry_of es)) (sym c.new.ensures.items))
+make-requires c = subst (λ (k : Kind). MayAddKind c.args.self.now c.args.dir.0 c.in_ok-name.name.items k) (λ i. Directory c.args.dir.0 (sym c.new.ensures.next i) (sym c.new.ensures.entries i))
     (subst (λ (name : List ℕ). MayAddKind c.args.self.now c.args.dir.0 name (Directory c.args.dir.0 3 [])) (sym c.in_ok-name.ensures)
     (record { may = c.requires.make; fresh = fresh_directory c.args.dir.0; links = λ y. c.requires.links }))

@@ -1,0 +1,20 @@
+use Rattle.std.proofs.Common.{ap, sym, ◌∙◌}
+use Rattle.nfs_entries.specs.Listing.{Listed, listed, without}
+use Rattle.nfs_entries.proofs.Rows.{none_listed}
+use Rattle.nfs_entries.proofs.Removals.{removed, without_none}
+use Rattle.nfs_entries.proofs.directory_entries.DirectoryEntries.remove.Goals as goal
+
+pub returns-in_default-clause-others : goal.returns-in_default-clause-others
+returns-in_default-clause-others c =
+    sym (ap (λ (v : Listed). v.entries) c.self.view_is)
+    ∙ sym (without_none c.args.name.now (listed c.self.inside.rows.entries c.self.inside.places.items) (none_listed c.args.name.now c.self.inside.rows.entries c.self.inside.places.items c.in_default.ensures.none))
+    ∙ ap (λ (v : Listed). without c.args.name.now v.entries) c.self.view_is
+
+pub invariant_of-self : goal.invariant_of-self
+invariant_of-self c = (removed c.args.name.now c.self.inside.rows.entries c.swap_remove_index.new.self.entries c.self.inside.places.items c.settle.new.places.items c.thin.new.places.items c.self.inside.next _ _ c.self.invariant c.in-Some.ensures.found
+    c.swap_remove_index.result c.swap_remove_index.ensures.entry c.swap_remove_index.ensures.entries c.settle.ensures.items c.thin.ensures.items).1
+
+pub returns-clause-others : goal.returns-clause-others
+returns-clause-others c = (removed c.args.name.now c.self.inside.rows.entries c.swap_remove_index.new.self.entries c.self.inside.places.items c.settle.new.places.items c.thin.new.places.items c.self.inside.next _ _ c.self.invariant c.in-Some.ensures.found
+    c.swap_remove_index.result c.swap_remove_index.ensures.entry c.swap_remove_index.ensures.entries c.settle.ensures.items c.thin.ensures.items).0
+    ∙ ap (λ (v : Listed). without c.args.name.now v.entries) c.self.view_is

@@ -1,0 +1,282 @@
+//! The entries of a directory: rows with an index of their names, and places by rising cookie that
+//! lead to them. An entry that goes leaves its place behind, dead; where half of them are, they go.
+ghost use Rattle.std.specs.Prelude.{ℕ, IsTrue, ◌↔◌, ◌≡◌, ◌+◌, ◌<◌, ◌≤◌, ◌++◌, ◌∷◌, [], OnOk, OnErr, IfSome, IfNone, ◌⊎◌, None};
+ghost use Rattle.std.specs.Prelude.{nat_le, nat_lt, option_map, slice_get, filter, vec_len, vec_capacity, ◌^◌};
+ghost use Rattle.std.specs.Iterator.{YieldsFirstBy, item_count};
+ghost use Rattle.nfs_entries.specs.Listing.{entries_behind, entry_named, number_named, without, listed, led, is_live, settled, IsRowOf, HasNo, Rises};
+ghost use Rattle.nfs_entries.specs.Listing as spec;
+ghost use Rattle.nfs_entries.specs.Seen.{entry_seen, entries_left};
+
+use crate::kept::{Kept, Place};
+use indexmap::IndexMap;
+use std::alloc::{AllocError, Global};
+use std::marker::Model;
+
+// So many dead places are left where there are few entries.
+const FEW: usize = 16;
+
+/// An entry.
+#[derive(Clone, Copy)]
+pub struct EntryView<'a> {
+    /// Where a listing goes on after it.
+    pub cookie: u64,
+    /// Its name.
+    pub name: &'a [u8],
+    /// The file that it names.
+    pub number: u64,
+}
+
+/// The entries of a directory, by rising cookie. A name is found by the index.
+#[derive(Drop)]
+pub struct DirectoryEntries {
+    rows: IndexMap<Vec<u8>, Kept>,
+    places: Vec<Place>,
+    next: u64,
+}
+
+impl Model for DirectoryEntries {
+    ghost use Rattle.std.specs.Prelude.{◌-◌, min, vec_len, vec_capacity};
+    ghost use Rattle.indexmap.specs.IndexMap.{spare as room};
+    ghost use Rattle.nfs_entries.specs.Listing.{Listed, listed, IsKept};
+
+    ghost Value = { Listed };
+
+    ghost view = { λ m. record {
+      entries = listed m.rows.entries m.places.items;
+      next = m.next;
+      spare = min (room m.rows) (vec_capacity m.places - vec_len m.places);
+    } };
+
+    ghost invariant = { λ m. IsKept m.rows.entries m.places.items m.next };
+}
+
+impl DirectoryEntries {
+    /// No entries, where the first one takes this cookie.
+    pub fn new(alloc: Global, first: u64) -> DirectoryEntries
+        ensures entries { result.entries ≡ [] }
+        ensures next { result.next ≡ first }
+    {
+        DirectoryEntries {
+            rows: IndexMap::new(alloc),
+            places: Vec::new(alloc),
+            next: first,
+        }
+    }
+
+    /// The cookie that the next entry takes.
+    #[inline(always)]
+    pub fn next(&self) -> u64
+        ensures { result ≡ self.now.next }
+    {
+        self.next
+    }
+
+    /// Whether there are none.
+    pub fn is_empty(&self) -> bool
+        ensures { IsTrue result ↔ (self.now.entries ≡ []) }
+    {
+        self.rows.is_empty()
+    }
+
+    /// The number of the file that the entry of a name names. `None` where no entry has the name.
+    pub fn number(&self, name: &[u8]) -> Option<u64>
+        ensures { result ≡ number_named name.now self.now.entries }
+    {
+        match row_named(&self.rows, name) {
+            Some((_, number)) => Some(number),
+            None => None,
+        }
+    }
+
+    /// The entries, by rising cookie.
+    pub fn entries(&self) -> Entries<'_>
+        ensures { entries_left result ≡ self.now.entries }
+    {
+        Entries {
+            rows: &self.rows,
+            places: self.places.as_slice(),
+        }
+    }
+
+    /// Those with cookies above this one. The first of them is found by halving.
+    pub fn after(&self, cookie: u64) -> Entries<'_>
+        ensures { entries_left result ≡ entries_behind cookie self.now.entries }
+    {
+        Entries {
+            rows: &self.rows,
+            places: behind(self.places.as_slice(), cookie),
+        }
+    }
+
+    /// Room for one entry more. Refused only without memory where there is none.
+    pub fn reserve(&mut self) -> Result<(), AllocError>
+        ensures ok { OnOk result (0 < self.new.spare) }
+        ensures full { OnErr result (self.old.spare ≡ 0) }
+        ensures entries { self.new.entries ≡ self.old.entries }
+        ensures next { self.new.next ≡ self.old.next }
+    {
+        self.rows.reserve(1)?;
+        self.places.reserve(1)
+    }
+
+    /// One entry more, for which there is room. It goes last.
+    pub fn push(&mut self, name: Vec<u8>, number: u64)
+        requires room { 0 < self.old.spare }
+        requires absent { entry_named name.items self.old.entries ≡ None }
+        requires next { self.old.next + 1 < 2 ^ 64 }
+        ensures entries { self.new.entries ≡ self.old.entries ++ (record { cookie = self.old.next; name = name.items; number = number }) ∷ [] }
+        ensures next { self.new.next ≡ self.old.next + 1 }
+    {
+        let cookie = self.next;
+        self.next += 1;
+        let index = self.rows.len();
+        self.rows.insert(name, Kept { cookie, number }).unwrap();
+        self.places.push(Place { cookie, index }).unwrap();
+    }
+
+    /// Takes the entry of a name out, if there is one. It takes no memory, and leaves room for an
+    /// entry where there was room.
+    pub fn remove(&mut self, name: &[u8])
+        ensures others { self.new.entries ≡ without name.now self.old.entries }
+        ensures next { self.new.next ≡ self.old.next }
+        ensures room { 0 < self.old.spare → 0 < self.new.spare }
+    {
+        let Some((index, _)) = row_named(&self.rows, name) else {
+            return;
+        };
+        self.rows.swap_remove_index(index);
+        settle(&mut self.places, &self.rows, index);
+        thin(&mut self.places, &self.rows);
+    }
+}
+
+/// Gives entries in turn, by rising cookie.
+#[derive(Drop)]
+pub struct Entries<'a> {
+    rows: &'a IndexMap<Vec<u8>, Kept>,
+    places: &'a [Place],
+}
+
+impl<'a> Iterator for Entries<'a> {
+    type Item = EntryView<'a>;
+
+    ghost next_gives = { YieldsFirstBy entry_seen entries_left };
+
+    ghost remaining = { item_count entries_left };
+
+    #[inline(always)]
+    fn next(&mut self) -> Option<EntryView<'a>> {
+        let (entry, rest) = first_live(self.rows, self.places)?;
+        self.places = rest;
+        Some(entry)
+    }
+}
+
+// Those with cookies above this one, which come last.
+fn behind(places: &[Place], cookie: u64) -> &[Place]
+    requires { (next : ℕ) × Rises 0 places.now next }
+    ensures { result.now ≡ filter (λ p. nat_lt cookie p.cookie) places.now }
+{
+    let first = places.partition_point(
+        |place: &Place| -> bool
+            ensures { result ≡ nat_le place.now.cookie cookie }
+        { place.cookie <= cookie },
+    );
+    &places[first..]
+}
+
+// The first of the entries that still stand at some places, and the places behind it.
+#[inline(always)]
+fn first_live<'a>(
+    rows: &'a IndexMap<Vec<u8>, Kept>,
+    places: &'a [Place],
+) -> Option<(EntryView<'a>, &'a [Place])>
+    ensures some { IfSome result (λ f. listed rows.now.entries places.now ≡ entry_seen f.0 ∷ listed rows.now.entries f.1.now) }
+    ensures none { IfNone result (listed rows.now.entries places.now ≡ []) }
+{
+    for (at, place) in places.iter().enumerate() {
+        if let Some(entry) = standing(rows, place) {
+            return Some((entry, &places[at + 1..]));
+        }
+    }
+    None
+}
+
+// The index of the row of a name, and the number there.
+fn row_named(rows: &IndexMap<Vec<u8>, Kept>, name: &[u8]) -> Option<(usize, u64)>
+    ensures found { IfSome result (λ f. IsRowOf rows.now.entries name.now f.0 f.1) }
+    ensures none { IfNone result (HasNo rows.now.entries name.now) }
+{
+    match rows.get_full(name) {
+        Some((index, _, kept)) => Some((index, kept.number)),
+        None => None,
+    }
+}
+
+// The place of the row that came to an index, if one did, leads there.
+fn settle(places: &mut Vec<Place>, rows: &IndexMap<Vec<u8>, Kept>, index: usize)
+    requires { (next : ℕ) × Rises 0 places.old.items next }
+    ensures items { places.new.items ≡ settled index (slice_get rows.now.entries index) places.old.items }
+    ensures len { vec_len places.new ≡ vec_len places.old }
+    ensures capacity { vec_capacity places.new ≡ vec_capacity places.old }
+{
+    if let Some((_, kept)) = rows.get_index(index) {
+        lead(places, kept.cookie, index);
+    }
+}
+
+// The place of a cookie leads to this row.
+fn lead(places: &mut Vec<Place>, cookie: u64, index: usize)
+    requires { (next : ℕ) × Rises 0 places.old.items next }
+    ensures items { places.new.items ≡ led cookie index places.old.items }
+    ensures len { vec_len places.new ≡ vec_len places.old }
+    ensures capacity { vec_capacity places.new ≡ vec_capacity places.old }
+{
+    let at = places.as_slice().partition_point(
+        |place: &Place| -> bool
+            ensures { result ≡ nat_lt place.now.cookie cookie }
+        { place.cookie < cookie },
+    );
+    if at < places.len() && places[at].cookie == cookie {
+        places[at] = Place { cookie, index };
+    }
+}
+
+// Takes the dead places out where they are more than half, in no memory.
+fn thin(places: &mut Vec<Place>, rows: &IndexMap<Vec<u8>, Kept>)
+    ensures items { places.new.items ≡ places.old.items ⊎ places.new.items ≡ filter (is_live rows.now.entries) places.old.items }
+    ensures len { vec_len places.new ≤ vec_len places.old }
+    ensures capacity { vec_capacity places.new ≡ vec_capacity places.old }
+{
+    if places.len() / 2 > rows.len().saturating_add(FEW) {
+        close_up(places, rows);
+    }
+}
+
+// Takes the dead places out, in no memory.
+fn close_up(places: &mut Vec<Place>, rows: &IndexMap<Vec<u8>, Kept>)
+    ensures items { places.new.items ≡ filter (is_live rows.now.entries) places.old.items }
+    ensures len { vec_len places.new ≤ vec_len places.old }
+    ensures capacity { vec_capacity places.new ≡ vec_capacity places.old }
+{
+    places.retain(
+        |place: &Place| -> bool
+            ensures { result ≡ is_live rows.entry.now.entries place.now }
+        { standing(rows, place).is_some() },
+    );
+}
+
+// The entry that still stands at a place.
+#[inline(always)]
+fn standing<'a>(rows: &'a IndexMap<Vec<u8>, Kept>, place: &Place) -> Option<EntryView<'a>>
+    ensures { option_map entry_seen result ≡ spec.standing rows.now.entries place.now }
+{
+    match rows.get_index(place.index) {
+        Some((name, kept)) if kept.cookie == place.cookie => Some(EntryView {
+            cookie: kept.cookie,
+            name: name.as_slice(),
+            number: kept.number,
+        }),
+        _ => None,
+    }
+}

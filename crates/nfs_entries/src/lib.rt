@@ -1,0 +1,5 @@
+//! The entries of a directory: by rising cookie, and by name.
+#![tactic(auto)]
+
+pub mod directory_entries;
+pub mod kept;
