@@ -1,5 +1,6 @@
 pub mod Numbers
-pub mod Untagged
+pub mod Places
+pub mod Slotted
 pub mod Lookups
 pub mod Handles
 pub mod Runs

@@ -12,13 +12,13 @@ use Rattle.std.proofs.lemmas.Map.Keys.{IsDistinct-from_sorted}
 use Rattle.nfs_handles.specs.NumberedFiles.{TaggedFile, NumberedFiles, at, with_new, revalued, with_value, without, IsGiven, IsNumbered}
 use Rattle.nfs_handles.specs.Runs.{FilesAre}
 
-one_number : (m x y : ℕ) → nat_eq m x ≡ true → nat_eq m y ≡ nat_eq x y
+pub one_number : (m x y : ℕ) → nat_eq m x ≡ true → nat_eq m y ≡ nat_eq x y
 one_number m x y e = ap (λ k. nat_eq k y) (eqb-true m x e)
 
-compared : nat_eq ≡ eq_by_cmp nat_cmp
+pub compared : nat_eq ≡ eq_by_cmp nat_cmp
 compared = λ i m n. unsigned_ties m n i
 
-numbers_equal : IsEquivalence nat_eq
+pub numbers_equal : IsEquivalence nat_eq
 numbers_equal = subst IsEquivalence (sym compared) (eq_by_cmp_equiv nat_cmp_total)
 
 turned : (m n : ℕ) → nat_eq m n ≡ nat_eq n m
@@ -33,7 +33,7 @@ module _ {X : Type 0} where
       by true is some rest = subst P (sym (eqb-true n e.0 is)) (All-head P e.0 (keys_of es) a)
       by false is some rest = rest some
 
-  lookup_last : (n : ℕ) (es : List (ℕ × X)) (m : ℕ) (x : X) → lookup (nat_eq n) (es ++ (m, x) ∷ []) ≡ cond (is_some (lookup (nat_eq n) es)) (lookup (nat_eq n) es) (cond (nat_eq n m) (Some x) None)
+  pub lookup_last : (n : ℕ) (es : List (ℕ × X)) (m : ℕ) (x : X) → lookup (nat_eq n) (es ++ (m, x) ∷ []) ≡ cond (is_some (lookup (nat_eq n) es)) (lookup (nat_eq n) es) (cond (nat_eq n m) (Some x) None)
   lookup_last n [] m x = refl
   lookup_last n (e ∷ es) m x = by (nat_eq n e.0) (lookup_last n es m x)
     where

@@ -1,5 +1,6 @@
 pub mod NumberedFiles
 pub mod Handles
-pub mod Untagged
+pub mod Slotted
+pub mod Lending
 pub mod Changes
 pub mod Runs

@@ -1,6 +1,6 @@
-//! NumberedFiles files: a map from numbers to values.
+//! Numbered files: slots with their values, and a map from numbers to slots.
 ghost use Rattle.std.specs.Prelude.{not, ◌||◌, nat_eq, nat_le};
-ghost use Rattle.std.specs.Prelude.{◌≡◌, ℕ, ◌^◌, ◌<◌, ◌≤◌, ◌≢◌, Some, IsSome, IfSome, IfNone, IfOk};
+ghost use Rattle.std.specs.Prelude.{◌≡◌, ℕ, ◌%◌, ◌^◌, ◌<◌, ◌≤◌, ◌≢◌, Some, IsSome, IfSome, IfNone, IfOk};
 ghost use Rattle.std.specs.Prelude.{IfErr, true, length, bytes_eq, option_copied};
 ghost use Rattle.std.specs.Borrow.{sem};
 ghost use Rattle.std.specs.Option.{option_copied_mut};
@@ -8,11 +8,13 @@ ghost use Rattle.nfs_handles.specs.NumberedFiles.{NumberedFiles, at, value_at, u
 ghost use Rattle.nfs_handles.specs.Handles.{handle_at, is_shaped, key_in, live_with, Names};
 ghost use Rattle.nfs_handles.specs.Handles.{LivesWith, reading, reading_without};
 ghost use Rattle.nfs_handles.specs.declared.reading.Reading.TheVariants.{Stale};
+ghost use Rattle.nfs_handles.specs.Slotted.{LeadsOr};
 ghost use Rattle.nfs_handles.specs.Changes.{Puts, Takes, LendsValue};
 
 use crate::fault::PutFault;
 use crate::number::Number;
 use crate::reading::{NoFile, Reading};
+use crate::slots::Slots;
 use std::alloc::Global;
 use std::collections::BTreeMap;
 use std::marker::Model;
@@ -20,24 +22,29 @@ use std::marker::Model;
 // The first bytes of each handle.
 const MAGIC: [u8; 4] = *b"NFS3";
 
+// How many tags there are.
+const TAGS: usize = 1 << 32;
+
 /// Files that each have a number of their own, beside the number of the next and the key of the
-/// server whose files they are. No number is given twice.
+/// server whose files they are. No number is given twice. A handle's tag is the slot of its file, so
+/// the file that it names is found without the map.
 #[derive(Drop)]
 pub struct Files<T> {
-    values: BTreeMap<u64, T>,
+    slots: Slots<T>,
+    places: BTreeMap<u64, usize>,
     next: u64,
     key: [u8; 8],
 }
 
 impl<T> Model for Files<T> {
-    ghost use Rattle.nfs_handles.specs.NumberedFiles.{NumberedFiles, IsNumbered};
-    ghost use Rattle.nfs_handles.specs.Untagged.{untagged};
+    ghost use Rattle.nfs_handles.specs.NumberedFiles.{NumberedFiles};
+    ghost use Rattle.nfs_handles.specs.Slotted.{IsKept, slotted};
 
     ghost Value = { NumberedFiles T };
 
-    ghost view = { λ f. untagged f.values.entries f.next f.key };
+    ghost view = { λ f. slotted f.slots f.places.entries f.next f.key };
 
-    ghost invariant = { λ f. IsNumbered (untagged f.values.entries f.next f.key) };
+    ghost invariant = { λ f. IsKept f.slots f.places.entries f.next f.key };
 }
 
 impl<T: Drop> Files<T> {
@@ -47,7 +54,8 @@ impl<T: Drop> Files<T> {
         ensures { result ≡ unused first key }
     {
         Files {
-            values: BTreeMap::new(alloc),
+            slots: Slots::new(alloc),
+            places: BTreeMap::new(alloc),
             next: first,
             key,
         }
@@ -84,15 +92,16 @@ impl<T: Drop> Files<T> {
             return Err(PutFault::Spent(value));
         }
         let number = self.next;
-        match self.values.insert(number, value) {
+        let Ok(slot) = self.slots.reserve() else {
+            return Err(PutFault::Memory(value));
+        };
+        match self.places.insert(number, slot) {
             Ok(_) => {
+                self.slots.fill(number, value);
                 self.next += 1;
                 Ok(Number(number))
             }
-            Err(failed) => {
-                let (_, value) = failed.value;
-                Err(PutFault::Memory(value))
-            }
+            Err(_) => Err(PutFault::Memory(value)),
         }
     }
 
@@ -150,16 +159,23 @@ impl<T: Drop> Files<T> {
         number != 0 && number < self.next
     }
 
-    // The file that lives under a number that was given, where it has this tag.
+    // The file that lives under a number that was given, where it has this tag: sought in the slot
+    // that the tag names, and by the map where another number stands there.
     #[inline(always)]
     fn living(&self, tag: u32, number: u64) -> Option<&T>
         ensures found { IfSome result (λ value. LivesWith self.now tag number value.now) }
         ensures none { IfNone result (live_with tag number (at self.now number) ≡ Stale) }
     {
-        let Some(value) = self.values.get(&number) else {
+        if let Some(stored) = self.slots.get(tag as usize) {
+            if stored.number == number {
+                return Some(&stored.value);
+            }
+        }
+        let slot = *self.places.get(&number)?;
+        if tag_of(slot) != tag {
             return None;
-        };
-        if tag == 0 { Some(value) } else { None }
+        }
+        self.slots.value(slot)
     }
 
     /// The handle of a file that lives. It never names another.
@@ -168,11 +184,17 @@ impl<T: Drop> Files<T> {
         requires { IsSome (at self.now number.0) }
         ensures { handle_at self.now number.0 ≡ Some result }
     {
-        let mut handle = [0; 24];
-        handle[..4].copy_from_slice(&MAGIC);
-        handle[4..12].copy_from_slice(&self.key);
-        handle[16..].copy_from_slice(&number.0.to_be_bytes());
-        handle
+        let tag = match self.places.get(&number.0) {
+            Some(slot) => tag_of(*slot),
+            None => unreachable!(),
+        };
+        let k = self.key;
+        let t = tag.to_be_bytes();
+        let n = number.0.to_be_bytes();
+        [
+            MAGIC[0], MAGIC[1], MAGIC[2], MAGIC[3], k[0], k[1], k[2], k[3], k[4], k[5], k[6], k[7],
+            t[0], t[1], t[2], t[3], n[0], n[1], n[2], n[3], n[4], n[5], n[6], n[7],
+        ]
     }
 
     /// The file of a number, if it lives.
@@ -180,7 +202,7 @@ impl<T: Drop> Files<T> {
     pub fn get(&self, number: Number) -> Option<&T>
         ensures { option_copied result ≡ value_at self.now number.0 }
     {
-        self.values.get(&number.0)
+        self.slots.value(*self.places.get(&number.0)?)
     }
 
     /// The file of a number, if it lives, to be changed; it keeps its number and its handle.
@@ -189,7 +211,8 @@ impl<T: Drop> Files<T> {
         ensures* writes_back { sem 𝓛 (LendsValue T.row self.entry number.0 result) }
         ensures value { option_copied_mut result ≡ value_at self.old number.0 }
     {
-        self.values.get_mut(&number.0)
+        let slot = slot_of(&self.slots, &self.places, number);
+        self.slots.value_mut(slot)
     }
 
     /// Takes the file of a number away, if it lives. From then on its handle is stale.
@@ -197,8 +220,28 @@ impl<T: Drop> Files<T> {
     pub fn take(&mut self, number: Number) -> Option<T>
         ensures { Takes self.old number.0 result self.new }
     {
-        self.values.remove(&number.0)
+        let slot = self.places.remove(&number.0)?;
+        self.slots.take(slot)
     }
+}
+
+// The slot that a number leads to, or else a vacant one.
+#[inline(always)]
+fn slot_of<T: Drop>(slots: &Slots<T>, places: &BTreeMap<u64, usize>, number: Number) -> usize
+    ensures { LeadsOr slots.now places.now.entries number.0 result }
+{
+    match places.get(&number.0) {
+        Some(slot) => *slot,
+        None => slots.vacant(),
+    }
+}
+
+// The tag of a file in a slot.
+#[inline(always)]
+fn tag_of(slot: usize) -> u32
+    ensures { result ≡ slot % 2 ^ 32 }
+{
+    (slot % TAGS) as u32
 }
 
 // Whether bytes have the length of a handle and begin as one.

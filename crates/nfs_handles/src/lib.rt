@@ -1,4 +1,4 @@
-//! NumberedFiles files, and the handles that name them (RFC 1813, section 2.6).
+//! Numbered files, and the handles that name them (RFC 1813, section 2.6).
 #![tactic(auto)]
 
 pub mod fault;
@@ -6,3 +6,4 @@ pub mod files;
 pub mod laws;
 pub mod number;
 pub mod reading;
+pub mod slots;

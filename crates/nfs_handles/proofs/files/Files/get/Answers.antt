@@ -1,6 +1,10 @@
-use Rattle.std.proofs.Common.{◌∙◌, sym}
-use Rattle.nfs_handles.proofs.Untagged.{value_untagged}
+use Rattle.std.proofs.Common.{sym, ap, ◌∙◌}
+use Rattle.std.specs.Option.{option_copied}
+use Rattle.nfs_handles.proofs.Slotted.{value_slotted, value_there}
 use Rattle.nfs_handles.proofs.files.Files.get.Goals as goal
 
+pub returns-in_err-get : goal.returns-in_err-get
+returns-in_err-get g c = rw (← c.self.view_is) (ap option_copied c.from_residual.ensures ∙ sym (value_slotted c.self.inside.slots c.self.inside.places.entries c.self.inside.next c.self.inside.key c.self.invariant c.args.number.0 _ c.in_err-get.ensures.value))
+
 pub returns : goal.returns
-returns g c = rw (← c.self.view_is) (c.get.ensures.value ∙ sym (value_untagged c.self.inside.values.entries c.self.inside.next c.self.inside.key c.args.number.0))
+returns g c = rw (← c.self.view_is) (c.value.ensures ∙ sym (value_there c.self.inside.slots c.self.inside.places.entries c.self.inside.next c.self.inside.key c.self.invariant c.args.number.0 _ c.in_ok-get.ensures.value))

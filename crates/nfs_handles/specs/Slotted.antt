@@ -1,0 +1,46 @@
+-- How files are kept: each in a slot with its number, and for each number the slot that it leads to.
+use Rattle.std.specs.Prelude.{◌≡◌, ℕ, ◌%◌, ◌^◌, ◌⊎◌, List, [], ◌∷◌, Option, Some, None, option_map, nat_eq}
+use Rattle.std.specs.List.{filter_map}
+use Rattle.std.specs.Map.{lookup}
+use Rattle.std.specs.BTreeMap.{is_at}
+use Rattle.std.specs.Ordering.{nat_cmp}
+use Rattle.slab.specs.Slab.{Slab, get}
+use Rattle.nfs_handles.specs.NumberedFiles.{TaggedFile, NumberedFiles, IsNumbered}
+use Rattle.nfs_handles.specs.declared.slots.Stored.{Stored}
+
+module _ {T : Type 0} where
+  -- the value in a slot
+  abbrev pub value_in : Slab (Stored T) → ℕ → Option T
+  value_in slots slot = option_map (λ stored. stored.value) (get slots slot)
+
+  -- a file's tag is its slot modulo 2^32
+  abbrev pub tagged : ℕ → Stored T → TaggedFile T
+  tagged slot stored = record { tag = slot % 2 ^ 32; value = stored.value }
+
+  -- a number with the file in the slot that it leads to
+  abbrev pub file_in : Slab (Stored T) → ℕ × ℕ → Option (ℕ × TaggedFile T)
+  file_in slots place = option_map (λ stored. (place.0, tagged place.1 stored)) (get slots place.1)
+
+  abbrev pub filed : Slab (Stored T) → List (ℕ × ℕ) → List (ℕ × TaggedFile T)
+  filed slots places = filter_map (file_in slots) places
+
+  abbrev pub slotted : Slab (Stored T) → List (ℕ × ℕ) → ℕ → List ℕ → NumberedFiles T
+  slotted slots places next key = record { files = filed slots places; next = next; key = key }
+
+  -- a number leads to a slot with a file of this number
+  abbrev pub Leads : Slab (Stored T) → ℕ × ℕ → Type 0
+  Leads slots place = (stored : Stored T) × (get slots place.1 ≡ Some stored) × (stored.number ≡ place.0)
+
+  abbrev pub AllLead : Slab (Stored T) → List (ℕ × ℕ) → Type 0
+  AllLead slots [] = Unit {0}
+  AllLead slots (place ∷ places) = Leads slots place × AllLead slots places
+
+  -- a number leads to this slot, or it leads nowhere and this one is vacant
+  abbrev pub LeadsOr : Slab (Stored T) → List (ℕ × ℕ) → ℕ → ℕ → Type 0
+  LeadsOr slots places n slot = (lookup (is_at (nat_cmp n)) places ≡ Some slot) ⊎ ((lookup (is_at (nat_cmp n)) places ≡ None) × (get slots slot ≡ None))
+
+  -- each number leads to the slot of its file, and so does the number of the file in each slot
+  pub record IsKept (slots : Slab (Stored T)) (places : List (ℕ × ℕ)) (next : ℕ) (key : List ℕ) : Type 0 where
+    pub numbered : IsNumbered (slotted slots places next key)
+    pub lead : AllLead slots places
+    pub led : (slot : ℕ) (stored : Stored T) → get slots slot ≡ Some stored → lookup (nat_eq stored.number) places ≡ Some slot
