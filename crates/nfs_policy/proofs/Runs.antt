@@ -61,7 +61,7 @@ module _ (f : ℕ) (c : Scene) (other : Tree) (agree : AgreeOutside f c.tree oth
       let new' = doing.effect o.0 o.1 c.now choice.tag in
       let same : AgreeOutside f new new' = ap (blank (nat_eq f)) h.new_is ∙ same_effect f c other agree doing is h.one h.two o.0 o.1 c.now choice.tag o.3 o.4 in
       let same_answer_is = same_answer f c other agree doing is h.one h.two o.0 o.1 new new' o.3 o.4 same
-          (λ a e. apart f c other agree h.one.file.fileid (reads a h.one h.two e (record { subjects = h.subjects; verdict = v }))) in (
+      (λ a e. apart f c other agree h.one.file.fileid (reads a h.one h.two e (record { subjects = h.subjects; verdict = v }))) in (
         new',
         record {
           one = o.0;

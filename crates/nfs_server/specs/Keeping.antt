@@ -82,9 +82,10 @@ PerformsAnew c call answer old new = AnswersCall c call answer new.state.tree ×
 abbrev pub AnswersChange : Scene → Call → Held → Event → Answer → Held → Type 0
 AnswersChange c call old event answer new = AnswersKept true (kept_reply (key_of event) old.kept) (PerformsAnew c call answer old new) old event answer new.state new.kept
 
--- this is written, and these are the mounts afterwards
+-- this is written, as it is spelled, and these are the mounts afterwards
 abbrev pub Leaves : MountAnswer → List Mount → Mounted → List Mount → Written → Written → Type 0
-Leaves result mounts came new before after = (came ≡ Granted) × (new ≡ mounts) × Appends (mount_text result) before after × IsMountSpelled result
+Leaves result mounts came new before after =
+    (came ≡ Granted) × (new ≡ mounts) × Appends (mount_text result) before after × IsMountSpelled result
 
 -- what becomes of a call of MOUNT, of the mounts, and of the room for its result
 abbrev pub MountsAs : MountArgs → Tree → List (List Export) → Addr → Mounted → List Mount → List Mount → Written → Written → Type 0
