@@ -1,10 +1,11 @@
 -- What an entry of READDIRPLUS tells of its file.
 use Rattle.std.proofs.Common.{◌≡◌, ℕ, Bool, true, false, List, [], ◌∷◌, map, Option, Some, None, ◌++◌, if◌then◌else◌, option_map, is_some, refl, sym, subst, arith}
 use Rattle.std.specs.Int.{w64}
-use Rattle.nfs_xdr.specs.Spelling.{opaque_text, optional_text}
-use Rattle.nfs_xdr.specs.Written.{Written, Appends}
+use Rattle.nfs_args.specs.declared.entry_plus.EntryPlus.{EntryPlus}
 use Rattle.nfs_xdr.proofs.Items.{opaque_written}
 use Rattle.nfs_xdr.proofs.Writing.{followed, number_written}
+use Rattle.nfs_xdr.specs.Spelling.{opaque_text, optional_text}
+use Rattle.nfs_xdr.specs.Written.{Written, Appends}
 use Rattle.nfs_attrs.specs.Spelling.{post_op_attr_text}
 use Rattle.nfs_attrs.specs.declared.fattr.Fattr.{Fattr}
 use Rattle.nfs_handles.specs.Handles.{handle_text, handle_at}
@@ -14,7 +15,6 @@ use Rattle.nfs_inodes.specs.Reading.{attributes_at, attributes_of, numbered_file
 use Rattle.nfs_inodes.proofs.Follows.{lives_alike}
 use Rattle.nfs_args.specs.Chains.{Each, chained_text}
 use Rattle.nfs_args.specs.Pages.{IsEntry, IsEntryFile, IsEntryPlus, entry_text, entry_file_text, entry_plus_text}
-use Rattle.nfs_args.specs.declared.entry_plus.EntryPlus.{EntryPlus}
 use Rattle.nfs_args.proofs.Entries.{entry_plus_parts}
 use Rattle.nfs_dirs.specs.Pages.{entry_told, entry_plus_told, entry_plus_with}
 

@@ -14,8 +14,8 @@ use Rattle.nfs_inodes.specs.Tree.{Tree, on_some}
 use Rattle.nfs_mount.specs.MountAnswers.{IsMountSpelled, root_of, dump_answer, export_answer, granted_answer}
 use Rattle.nfs_mount.specs.MountRules.{mount_verdict}
 use Rattle.nfs_mount.specs.Mounts.{after_mnt, after_umnt, is_mounted, without_addr}
-use Rattle.nfs_procs.specs.Performing.{IsSpelled}
 use Rattle.nfs_procs.specs.Doing.{Doing}
+use Rattle.nfs_procs.specs.Performing.{IsSpelled}
 use Rattle.nfs_procs.specs.Procedures.{doing_of}
 use Rattle.nfs_procs.specs.Scenes.{Scene, verdict_in}
 use Rattle.nfs_rpc.specs.Calls.{Call, head_at}

@@ -1,7 +1,7 @@
 -- A file has a further name, or another one.
 use Rattle.std.proofs.Common.{◌≡◌, ℕ, List, Option, Some, refl, sym, ap, subst, arith, ◌∙◌}
-use Rattle.std.specs.Prelude.{Ok}
 use Rattle.std.specs.Int.{w32, to_be_bytes}
+use Rattle.std.specs.Prelude.{Ok}
 use Rattle.nfs_args.specs.Results.{IsLinked, IsRenamed, linked_text, renamed_text}
 use Rattle.nfs_args.specs.declared.answer.NfsAnswer.TheVariants as answer
 use Rattle.nfs_args.specs.declared.link.Link.{Link}

@@ -1,7 +1,7 @@
 -- Entries of a directory, behind what stands in front of them.
 use Rattle.std.proofs.Common.{◌++◌, List}
-use Rattle.std.specs.Prelude.{Ok}
 use Rattle.std.specs.Int.{w32, to_be_bytes}
+use Rattle.std.specs.Prelude.{Ok}
 use Rattle.nfs_args.specs.Chains.{AreSpelled, links_text}
 use Rattle.nfs_args.specs.Pages.{BeginsPage, IsEntry, IsEntryPlus, IsPage, IsPagePlus, entry_text, entry_plus_text, page_end_text, page_head_text, page_text, page_plus_text}
 use Rattle.nfs_args.specs.declared.answer.NfsAnswer.TheVariants as answer

@@ -3,10 +3,10 @@ use Rattle.std.proofs.Common.{◌≡◌, ◌≤◌, ℕ, List, length, [], ◌�
 use Rattle.std.specs.Prelude.{Result, Err}
 use Rattle.nfs_args.specs.declared.answer.NfsAnswer.{NfsAnswer}
 use Rattle.nfs_args.specs.declared.args.NfsArgs.{NfsArgs}
-use Rattle.nfs_attrs.specs.declared.fattr.Fattr.{Fattr}
 use Rattle.nfs_args.specs.declared.failed.Failed.{Failed}
-use Rattle.nfs_attrs.specs.declared.wcc.Wcc.{Wcc}
+use Rattle.nfs_attrs.specs.declared.fattr.Fattr.{Fattr}
 use Rattle.nfs_attrs.specs.declared.moment.Moment.{Moment}
+use Rattle.nfs_attrs.specs.declared.wcc.Wcc.{Wcc}
 use Rattle.nfs_inodes.proofs.Lists.{same_some, not_both}
 use Rattle.nfs_inodes.specs.Law.{Law}
 use Rattle.nfs_inodes.specs.Reading.{path_at, path_of}

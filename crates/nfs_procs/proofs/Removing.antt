@@ -1,8 +1,8 @@
 -- An entry is taken away.
 use Rattle.std.proofs.Common.{◌≡◌, ℕ, List, [], ◌∷◌, Some, None, sym, ap, subst, arith, ◌∙◌}
 use Rattle.std.specs.Prelude.{Result, Ok, Err, IfOk}
-use Rattle.nfs_attrs.specs.declared.fattr.Fattr.{Fattr}
 use Rattle.nfs_args.specs.declared.answer.NfsAnswer.{NfsAnswer}
+use Rattle.nfs_attrs.specs.declared.fattr.Fattr.{Fattr}
 use Rattle.nfs_args.specs.declared.args.NfsArgs.{NfsArgs}
 use Rattle.nfs_attrs.specs.declared.wcc.Wcc.{Wcc}
 use Rattle.nfs_inodes.specs.Changes.{after_unlink}

@@ -1,7 +1,7 @@
 -- Results as they are spelled.
 use Rattle.std.proofs.Common.{◌≡◌, ℕ, ◌<◌, List, ◌++◌, refl, subst, arith}
-use Rattle.std.specs.Prelude.{Result, Ok, Err}
 use Rattle.std.specs.Int.{w32, to_be_bytes}
+use Rattle.std.specs.Prelude.{Result, Ok, Err}
 use Rattle.nfs_args.specs.Results.{IsFailed, IsResult}
 use Rattle.nfs_args.specs.Spelling.{Arm}
 use Rattle.nfs_args.specs.declared.answer.NfsAnswer.{NfsAnswer}
@@ -9,8 +9,8 @@ use Rattle.nfs_args.specs.declared.failed.Failed.{Failed}
 use Rattle.nfs_rules.specs.Rules.{status_of}
 use Rattle.nfs_rules.specs.declared.rule.Rule.{Rule}
 use Rattle.nfs_rules.specs.declared.rule.Rule.TheVariants as rule
-use Rattle.nfs_xdr.specs.Spelling.{IsNumber}
 use Rattle.nfs_xdr.proofs.Writing.{followed, number_written}
+use Rattle.nfs_xdr.specs.Spelling.{IsNumber}
 
 -- ---- the arms of a result
 

@@ -1,7 +1,7 @@
 -- A link is made.
 use Rattle.std.proofs.Common.{◌≡◌, ℕ, Some, sym, ap, subst, ◌∙◌}
-use Rattle.std.specs.Prelude.{Ok}
 use Rattle.std.specs.Int.{w32, to_be_bytes}
+use Rattle.std.specs.Prelude.{Ok}
 use Rattle.nfs_args.specs.Results.{IsMade, made_text}
 use Rattle.nfs_args.specs.declared.answer.NfsAnswer.TheVariants as answer
 use Rattle.nfs_args.specs.declared.sym_link.SymLink.{SymLink}

@@ -2,12 +2,12 @@ use Rattle.std.proofs.Common.{◌-◌, true, min, ◌++◌, refl, ap, ◌∙◌,
 use Rattle.nfs_args.specs.Chains.{chained_text}
 use Rattle.nfs_args.specs.Pages.{IsEntry, entry_text}
 use Rattle.nfs_args.specs.declared.entry.Entry.{Entry}
+use Rattle.nfs_dirs.proofs.Shown.{each_push}
 use Rattle.nfs_inodes.specs.Views.{entry_seen}
 use Rattle.nfs_args.specs.Sizes.{max_page}
 use Rattle.nfs_dirs.specs.Pages.{entry_bytes, entry_told, entries_text, EntriesSpelled, fits, left_after}
 use Rattle.nfs_dirs.specs.Walk.{left_of}
 use Rattle.nfs_dirs.proofs.Walks.{walk_cut_off, walk_ended, walked_on}
-use Rattle.nfs_dirs.proofs.Shown.{each_push}
 use Rattle.nfs_dirs.proofs.Sizes.{few_entries, narrows_fits, fits_more, fits_no_more, links_push}
 use Rattle.nfs_dirs.proofs.read_dir.page.Goals as goal
 

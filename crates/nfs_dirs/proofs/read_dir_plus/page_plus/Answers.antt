@@ -3,12 +3,12 @@ use Rattle.std.proofs.lemmas.List.Sums.{sum_by_push}
 use Rattle.nfs_args.specs.Chains.{chained_text}
 use Rattle.nfs_args.specs.Pages.{IsEntryPlus, entry_plus_text}
 use Rattle.nfs_args.specs.declared.entry_plus.EntryPlus.{EntryPlus}
+use Rattle.nfs_dirs.proofs.Shown.{each_push}
 use Rattle.nfs_inodes.specs.Views.{entry_seen}
 use Rattle.nfs_args.specs.Sizes.{max_page}
 use Rattle.nfs_dirs.specs.Pages.{entry_bytes, entry_plus_told, entries_plus_text, EntriesPlusSpelled, fits_plus, left_after}
 use Rattle.nfs_dirs.specs.Walk.{left_of}
 use Rattle.nfs_dirs.proofs.Walks.{nothing_written, walk_cut_off, walk_ended, walked_on}
-use Rattle.nfs_dirs.proofs.Shown.{each_push}
 use Rattle.nfs_dirs.proofs.Sizes.{all_bytes, few_entries_plus, named_within, narrows_fits_plus, fits_none, fits_plus_more, no_room, above_named, links_push}
 use Rattle.nfs_dirs.proofs.read_dir_plus.page_plus.Goals as goal
 

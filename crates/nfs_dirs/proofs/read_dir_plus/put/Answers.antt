@@ -3,8 +3,8 @@ use Rattle.nfs_args.specs.Chains.{chained_text}
 use Rattle.nfs_args.specs.Pages.{IsEntryPlus, entry_plus_text}
 use Rattle.nfs_args.specs.declared.entry_plus.EntryPlus.{EntryPlus}
 use Rattle.nfs_inodes.specs.Views.{entry_seen}
-use Rattle.nfs_xdr.specs.Written.{Appends}
 use Rattle.nfs_dirs.proofs.Shown.{shown, shown_spelled, told_living, told_hidden, told_gone}
+use Rattle.nfs_xdr.specs.Written.{Appends}
 use Rattle.nfs_dirs.proofs.read_dir_plus.put.Goals.{then-searchable+in_default, else-searchable}
 use Rattle.nfs_dirs.proofs.read_dir_plus.put.Goals as goal
 

@@ -1,13 +1,13 @@
 use Rattle.std.proofs.Common.{ℕ, Some, subst}
-use Rattle.nfs_args.specs.Results.{IsCommitted, committed_text}
-use Rattle.nfs_procs.specs.Doing.{no_change}
-use Rattle.nfs_xdr.proofs.Writing.{appends_then}
 use Rattle.std.specs.Prelude.{Ok}
+use Rattle.nfs_args.specs.Results.{IsCommitted, committed_text}
+use Rattle.nfs_args.specs.declared.answer.NfsAnswer.TheVariants as answer
 use Rattle.nfs_attrs.specs.Spelling.{IsWcc}
 use Rattle.nfs_attrs.specs.declared.wcc.Wcc.{Wcc}
-use Rattle.nfs_args.specs.declared.answer.NfsAnswer.TheVariants as answer
-use Rattle.nfs_procs.specs.Performing.{AppendsAnswer}
 use Rattle.nfs_procs.proofs.Spelled.{granted_spelled}
+use Rattle.nfs_procs.specs.Doing.{no_change}
+use Rattle.nfs_procs.specs.Performing.{AppendsAnswer}
+use Rattle.nfs_xdr.proofs.Writing.{appends_then}
 use Rattle.nfs_procs.proofs.commit.write_granted.Goals as goal
 
 pub returns : goal.returns

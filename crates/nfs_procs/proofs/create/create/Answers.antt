@@ -1,14 +1,14 @@
 use Rattle.std.proofs.Common.{Some, ap, ◌∙◌, refl}
-use Rattle.nfs_args.specs.declared.args.NfsArgs.TheVariants as nfs
-use Rattle.nfs_procs.proofs.Creations.{created}
-use Rattle.nfs_procs.specs.Doing.{change}
-use Rattle.nfs_procs.specs.Scenes.{scene}
-use Rattle.nfs_procs.proofs.Reading.{denies, with_change}
-use Rattle.nfs_procs.proofs.Spelled.{denied_spelled}
-use Rattle.nfs_attrs.specs.Spelling.{IsWcc}
 use Rattle.nfs_args.specs.Results.{IsMade}
 use Rattle.nfs_args.specs.declared.answer.NfsAnswer.TheVariants as answer
+use Rattle.nfs_args.specs.declared.args.NfsArgs.TheVariants as nfs
+use Rattle.nfs_attrs.specs.Spelling.{IsWcc}
+use Rattle.nfs_procs.proofs.Creations.{created}
+use Rattle.nfs_procs.proofs.Reading.{denies, with_change}
+use Rattle.nfs_procs.proofs.Spelled.{denied_spelled}
 use Rattle.nfs_procs.specs.Changers as procedure
+use Rattle.nfs_procs.specs.Doing.{change}
+use Rattle.nfs_procs.specs.Scenes.{scene}
 use Rattle.nfs_procs.proofs.create.create.Goals as goal
 
 pub returns : goal.returns

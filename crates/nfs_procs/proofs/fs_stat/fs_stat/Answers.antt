@@ -1,15 +1,15 @@
 use Rattle.std.proofs.Common.{◌-◌, Ok, refl, sym, subst}
 use Rattle.std.specs.Prelude.{slice_get}
+use Rattle.nfs_args.specs.Results.{IsRoom}
 use Rattle.nfs_args.specs.declared.answer.NfsAnswer.TheVariants as answer
 use Rattle.nfs_args.specs.declared.args.NfsArgs.TheVariants as nfs
 use Rattle.nfs_attrs.specs.declared.fattr.Fattr.{Fattr}
 use Rattle.nfs_attrs.specs.Spelling.{IsPostOpAttr}
 use Rattle.nfs_inodes.specs.Reading.{totals_at}
-use Rattle.nfs_procs.specs.Performing.{AppendsAnswer}
 use Rattle.nfs_procs.proofs.Reading.{reads_freely, denies_handle, with_attributes}
-use Rattle.nfs_procs.specs.Readers as procedure
-use Rattle.nfs_args.specs.Results.{IsRoom}
 use Rattle.nfs_procs.proofs.Spelled.{denied_spelled}
+use Rattle.nfs_procs.specs.Performing.{AppendsAnswer}
+use Rattle.nfs_procs.specs.Readers as procedure
 use Rattle.nfs_procs.proofs.fs_stat.fs_stat.Goals as goal
 
 pub returns-in-Ok : goal.returns-in-Ok

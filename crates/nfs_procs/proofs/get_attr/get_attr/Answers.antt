@@ -1,9 +1,9 @@
 use Rattle.std.proofs.Common.{Ok, refl, subst}
 use Rattle.nfs_args.specs.declared.answer.NfsAnswer.TheVariants as answer
 use Rattle.nfs_args.specs.declared.args.NfsArgs.TheVariants as nfs
-use Rattle.nfs_procs.specs.Performing.{AppendsAnswer}
 use Rattle.nfs_procs.proofs.Judged.{denied_by_handle}
 use Rattle.nfs_procs.proofs.Reading.{reads_freely}
+use Rattle.nfs_procs.specs.Performing.{AppendsAnswer}
 use Rattle.nfs_procs.specs.Readers as procedure
 use Rattle.nfs_procs.proofs.get_attr.get_attr.Goals as goal
 

@@ -1,8 +1,8 @@
-use Rattle.nfs_xdr.proofs.Writing.{appends_then}
 use Rattle.nfs_args.specs.Results.{IsEmpty}
-use Rattle.nfs_attrs.specs.Spelling.{IsFattr, fattr_text}
 use Rattle.nfs_args.specs.declared.answer.NfsAnswer.TheVariants as answer
+use Rattle.nfs_attrs.specs.Spelling.{IsFattr, fattr_text}
 use Rattle.nfs_procs.proofs.Spelled.{granted_spelled}
+use Rattle.nfs_xdr.proofs.Writing.{appends_then}
 use Rattle.nfs_procs.proofs.get_attr.write_granted.Goals as goal
 
 pub returns : goal.returns

@@ -1,15 +1,15 @@
 use Rattle.std.proofs.Common.{Some, ap, ◌∙◌, refl}
-use Rattle.nfs_args.specs.declared.args.NfsArgs.TheVariants as nfs
-use Rattle.nfs_procs.proofs.Linking.{links}
-use Rattle.nfs_procs.specs.Doing.{change, no_change}
-use Rattle.nfs_procs.specs.Scenes.{scene}
 use Rattle.std.specs.Prelude.{Err}
-use Rattle.nfs_procs.proofs.Reading.{denies_pair}
-use Rattle.nfs_procs.proofs.Spelled.{denied_spelled}
-use Rattle.nfs_rules.specs.Rules.{status_of}
 use Rattle.nfs_args.specs.Results.{IsLinked}
 use Rattle.nfs_args.specs.declared.answer.NfsAnswer.TheVariants as answer
+use Rattle.nfs_args.specs.declared.args.NfsArgs.TheVariants as nfs
+use Rattle.nfs_procs.proofs.Linking.{links}
+use Rattle.nfs_procs.proofs.Reading.{denies_pair}
+use Rattle.nfs_procs.proofs.Spelled.{denied_spelled}
 use Rattle.nfs_procs.specs.Changers as procedure
+use Rattle.nfs_procs.specs.Doing.{change, no_change}
+use Rattle.nfs_procs.specs.Scenes.{scene}
+use Rattle.nfs_rules.specs.Rules.{status_of}
 use Rattle.nfs_procs.proofs.link.link.Goals as goal
 
 pub returns : goal.returns

@@ -1,16 +1,16 @@
 use Rattle.std.proofs.Common.{ℕ, List, Option, [], Some, Ok, refl, sym, ap, subst, ◌∙◌}
+use Rattle.nfs_args.specs.Results.{IsFound}
 use Rattle.nfs_args.specs.declared.answer.NfsAnswer.TheVariants as answer
 use Rattle.nfs_args.specs.declared.args.NfsArgs.TheVariants as nfs
+use Rattle.nfs_attrs.specs.Spelling.{IsPostOpAttr}
 use Rattle.nfs_attrs.specs.declared.fattr.Fattr.{Fattr}
 use Rattle.nfs_inodes.specs.Tree.{on_some}
-use Rattle.nfs_procs.specs.Performing.{AppendsAnswer}
 use Rattle.nfs_procs.proofs.Reading.{reads, denies, with_attributes}
+use Rattle.nfs_procs.proofs.Spelled.{denied_spelled}
+use Rattle.nfs_procs.specs.Performing.{AppendsAnswer}
 use Rattle.nfs_procs.specs.Readers as procedure
 use Rattle.nfs_procs.specs.Scenes.{scene}
 use Rattle.nfs_rules.specs.Subjects.{Subject}
-use Rattle.nfs_procs.proofs.Spelled.{denied_spelled}
-use Rattle.nfs_attrs.specs.Spelling.{IsPostOpAttr}
-use Rattle.nfs_args.specs.Results.{IsFound}
 use Rattle.nfs_procs.proofs.lookup.lookup.Goals as goal
 
 pub returns-in-Ok : goal.returns-in-Ok

@@ -1,11 +1,11 @@
 use Rattle.std.proofs.Common.{Some, subst}
-use Rattle.nfs_args.specs.Results.{IsFound, found_text}
-use Rattle.nfs_xdr.proofs.Writing.{appends_then}
 use Rattle.std.specs.Prelude.{Ok}
-use Rattle.nfs_attrs.specs.Spelling.{IsPostOpAttr}
+use Rattle.nfs_args.specs.Results.{IsFound, found_text}
 use Rattle.nfs_args.specs.declared.answer.NfsAnswer.TheVariants as answer
-use Rattle.nfs_procs.specs.Performing.{AppendsAnswer}
+use Rattle.nfs_attrs.specs.Spelling.{IsPostOpAttr}
 use Rattle.nfs_procs.proofs.Spelled.{granted_spelled}
+use Rattle.nfs_procs.specs.Performing.{AppendsAnswer}
+use Rattle.nfs_xdr.proofs.Writing.{appends_then}
 use Rattle.nfs_procs.proofs.lookup.write_granted.Goals as goal
 
 pub returns : goal.returns

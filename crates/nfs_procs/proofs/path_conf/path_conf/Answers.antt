@@ -1,12 +1,12 @@
 use Rattle.std.proofs.Common.{Ok, refl, subst}
+use Rattle.nfs_args.specs.Results.{IsPathLimits}
 use Rattle.nfs_args.specs.declared.answer.NfsAnswer.TheVariants as answer
 use Rattle.nfs_args.specs.declared.args.NfsArgs.TheVariants as nfs
 use Rattle.nfs_attrs.specs.Spelling.{IsPostOpAttr}
-use Rattle.nfs_procs.specs.Performing.{AppendsAnswer}
 use Rattle.nfs_procs.proofs.Reading.{reads_freely, denies_handle, with_attributes}
-use Rattle.nfs_procs.specs.Readers as procedure
-use Rattle.nfs_args.specs.Results.{IsPathLimits}
 use Rattle.nfs_procs.proofs.Spelled.{denied_spelled}
+use Rattle.nfs_procs.specs.Performing.{AppendsAnswer}
+use Rattle.nfs_procs.specs.Readers as procedure
 use Rattle.nfs_procs.proofs.path_conf.path_conf.Goals as goal
 
 pub returns-in-Ok : goal.returns-in-Ok

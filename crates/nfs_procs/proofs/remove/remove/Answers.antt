@@ -1,14 +1,14 @@
 use Rattle.std.proofs.Common.{refl, sym, subst, arith}
+use Rattle.std.specs.Prelude.{Ok}
+use Rattle.nfs_args.specs.declared.answer.NfsAnswer.TheVariants as answer
 use Rattle.nfs_args.specs.declared.args.NfsArgs.TheVariants as nfs
+use Rattle.nfs_attrs.specs.Spelling.{IsWcc, wcc_text}
 use Rattle.nfs_inodes.specs.Conditions.{MayUnlinkSeen}
+use Rattle.nfs_procs.proofs.Reading.{denies, with_change}
 use Rattle.nfs_procs.proofs.Removing.{removes}
+use Rattle.nfs_procs.proofs.Spelled.{granted_spelled, denied_spelled}
 use Rattle.nfs_procs.specs.Changers as procedure
 use Rattle.nfs_procs.specs.Scenes.{scene}
-use Rattle.std.specs.Prelude.{Ok}
-use Rattle.nfs_attrs.specs.Spelling.{IsWcc, wcc_text}
-use Rattle.nfs_args.specs.declared.answer.NfsAnswer.TheVariants as answer
-use Rattle.nfs_procs.proofs.Spelled.{granted_spelled, denied_spelled}
-use Rattle.nfs_procs.proofs.Reading.{denies, with_change}
 use Rattle.nfs_procs.proofs.remove.remove.Goals as goal
 
 pub remove_entry-requires : goal.remove_entry-requires

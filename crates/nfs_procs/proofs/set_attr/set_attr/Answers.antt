@@ -1,13 +1,13 @@
 use Rattle.std.proofs.Common.{Some, ap, ◌∙◌, refl}
+use Rattle.nfs_args.specs.declared.answer.NfsAnswer.TheVariants as answer
 use Rattle.nfs_args.specs.declared.args.NfsArgs.TheVariants as nfs
+use Rattle.nfs_attrs.specs.Spelling.{IsWcc, wcc_text}
 use Rattle.nfs_procs.proofs.GivenSettings.{has_set}
+use Rattle.nfs_procs.proofs.Reading.{denies, with_change}
+use Rattle.nfs_procs.proofs.Spelled.{granted_spelled, denied_spelled}
+use Rattle.nfs_procs.specs.Changers as procedure
 use Rattle.nfs_procs.specs.Doing.{change}
 use Rattle.nfs_procs.specs.Scenes.{scene}
-use Rattle.nfs_attrs.specs.Spelling.{IsWcc, wcc_text}
-use Rattle.nfs_args.specs.declared.answer.NfsAnswer.TheVariants as answer
-use Rattle.nfs_procs.proofs.Spelled.{granted_spelled, denied_spelled}
-use Rattle.nfs_procs.proofs.Reading.{denies, with_change}
-use Rattle.nfs_procs.specs.Changers as procedure
 use Rattle.nfs_procs.proofs.set_attr.set_attr.Goals as goal
 
 pub returns : goal.returns

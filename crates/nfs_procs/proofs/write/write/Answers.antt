@@ -1,17 +1,17 @@
 use Rattle.std.proofs.Common.{ap, ◌∙◌, length, refl}
 use Rattle.std.specs.Int.{w64, from_be_bytes}
 use Rattle.std.specs.Prelude.{Some}
-use Rattle.nfs_args.specs.declared.args.NfsArgs.TheVariants as nfs
-use Rattle.nfs_inodes.specs.Changes.{after_write_at}
-use Rattle.nfs_procs.proofs.WrittenBytes.{wrote, unwritten}
-use Rattle.nfs_procs.specs.Doing.{change}
-use Rattle.nfs_procs.specs.Scenes.{scene}
-use Rattle.nfs_procs.proofs.Reading.{denies, with_change}
-use Rattle.nfs_procs.proofs.Spelled.{denied_spelled}
-use Rattle.nfs_attrs.specs.Spelling.{IsWcc}
 use Rattle.nfs_args.specs.Results.{IsWritten}
 use Rattle.nfs_args.specs.declared.answer.NfsAnswer.TheVariants as answer
+use Rattle.nfs_args.specs.declared.args.NfsArgs.TheVariants as nfs
+use Rattle.nfs_attrs.specs.Spelling.{IsWcc}
+use Rattle.nfs_inodes.specs.Changes.{after_write_at}
+use Rattle.nfs_procs.proofs.Reading.{denies, with_change}
+use Rattle.nfs_procs.proofs.Spelled.{denied_spelled}
+use Rattle.nfs_procs.proofs.WrittenBytes.{wrote, unwritten}
 use Rattle.nfs_procs.specs.Changers as procedure
+use Rattle.nfs_procs.specs.Doing.{change}
+use Rattle.nfs_procs.specs.Scenes.{scene}
 use Rattle.nfs_procs.proofs.write.write.Goals as goal
 
 pub returns : goal.returns
