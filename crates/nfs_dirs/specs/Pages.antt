@@ -7,9 +7,9 @@ use Rattle.nfs_attrs.specs.declared.fattr.Fattr.{Fattr}
 use Rattle.nfs_handles.specs.Handles.{handle_at}
 use Rattle.nfs_inodes.specs.Tree.{Tree, Entry}
 use Rattle.nfs_inodes.specs.Reading.{listing_at, entries_behind, attributes_at, numbered_files}
-use Rattle.nfs_args.specs.Chains.{links_text}
+use Rattle.nfs_args.specs.Chains.{AreSpelled, links_text}
 use Rattle.nfs_args.specs.Sizes.{max_page}
-use Rattle.nfs_args.specs.Pages.{entry_text, entry_plus_text, page_end_text}
+use Rattle.nfs_args.specs.Pages.{IsEntry, IsEntryPlus, entry_text, entry_plus_text, page_end_text}
 use Rattle.nfs_args.specs.declared.entry.Entry as told
 use Rattle.nfs_args.specs.declared.entry_plus.EntryPlus as told_plus
 use Rattle.nfs_dirs.specs.declared.answer.Page.{Page}
@@ -86,12 +86,14 @@ entry_plus_told t searchable e = entry_plus_with e
     (if searchable then attributes_at t e.number else None)
     (if searchable then handle_at (numbered_files t) e.number else None)
 
--- a page of what is left is appended: the longest prefix that passes, and whether that is all; or nothing is, where not even the first entry passes
-abbrev pub Answers : (List Entry → Bool) → (List Entry → List ℕ) → List Entry → Result Page TooSmall → Written → Written → Type 0
-Answers passes text left (Ok page) old new =
+-- A page of what is left is appended: the longest prefix that passes, each entry of it as it is spelled, and
+-- whether that is all. Or nothing is, where not even the first entry passes.
+abbrev pub Answers : (List Entry → Bool) → (List Entry → List ℕ) → (List Entry → Type 0) → List Entry → Result Page TooSmall
+    → Written → Written → Type 0
+Answers passes text Spelled left (Ok page) old new =
     (is_too_small passes left ≡ false) × (page ≡ record { given = count_of passes left; eof = is_end passes left })
-    × Appends (text (chosen passes left) ++ page_end_text (is_end passes left)) old new
-Answers passes text left (Err refusal) old new = (is_too_small passes left ≡ true) × (new ≡ old)
+    × Appends (text (chosen passes left) ++ page_end_text (is_end passes left)) old new × Spelled (chosen passes left)
+Answers passes text Spelled left (Err refusal) old new = (is_too_small passes left ≡ true) × (new ≡ old)
 
 -- the chains of READDIR and READDIRPLUS, without their ends
 abbrev pub entries_text : List Entry → List ℕ
@@ -99,3 +101,10 @@ entries_text es = links_text entry_text (map entry_told es)
 
 abbrev pub entries_plus_text : Tree → Bool → List Entry → List ℕ
 entries_plus_text t searchable es = links_text entry_plus_text (map (entry_plus_told t searchable) es)
+
+-- their texts are spellings
+abbrev pub EntriesSpelled : List Entry → Type 0
+EntriesSpelled es = AreSpelled IsEntry entry_text (map entry_told es)
+
+abbrev pub EntriesPlusSpelled : Tree → Bool → List Entry → Type 0
+EntriesPlusSpelled t searchable es = AreSpelled IsEntryPlus entry_plus_text (map (entry_plus_told t searchable) es)

@@ -2,10 +2,10 @@
 ghost use Rattle.std.specs.Prelude.{◌≡◌, ◌+◌, ◌≤◌};
 ghost use Rattle.nfs_xdr.specs.Written.{Appends};
 ghost use Rattle.nfs_args.specs.Chains.{chained_text};
-ghost use Rattle.nfs_args.specs.Pages.{entry_text};
+ghost use Rattle.nfs_args.specs.Pages.{IsEntry, entry_text};
 ghost use Rattle.nfs_inodes.specs.Views.{entry_seen, IsSeen};
 ghost use Rattle.nfs_args.specs.Sizes.{max_page};
-ghost use Rattle.nfs_dirs.specs.Pages.{page_front_bytes, entry_bytes, entry_told, entries_text, fits, left_after, Answers};
+ghost use Rattle.nfs_dirs.specs.Pages.{page_front_bytes, entry_bytes, entry_told, entries_text, EntriesSpelled, fits, left_after, Answers};
 
 use crate::answer::{Page, TooSmall, cut_off};
 use crate::limits::{PAGE_HEAD_BYTES, entry_bytes};
@@ -31,7 +31,8 @@ pub fn page(
 ) -> Result<Page, TooSmall>
     requires seen { IsSeen tree.now dir.now }
     requires room { max_page ≤ out.old.room + page_front_bytes }
-    ensures { Answers (fits count) entries_text (left_after tree.now dir.now.attributes.fileid cookie) result out.old out.new }
+    ensures { Answers (fits count) entries_text EntriesSpelled (left_after tree.now dir.now.attributes.fileid cookie) result
+        out.old out.new }
 {
     let bound = (count as usize).min(MAX_PAGE_BYTES);
     if bound < PAGE_HEAD_BYTES {
@@ -59,6 +60,7 @@ pub(crate) fn put(out: &mut Output, entry: &EntryView<'_>)
     requires room { entry_bytes (entry_seen entry.now) ≤ out.old.room }
     requires bound { entry_bytes (entry_seen entry.now) ≤ max_page }
     ensures text { Appends (chained_text entry_text (entry_told (entry_seen entry.now))) out.old out.new }
+    ensures spelled { IsEntry (entry_told (entry_seen entry.now)) (entry_text (entry_told (entry_seen entry.now))) }
     ensures room { out.new.room + entry_bytes (entry_seen entry.now) ≡ out.old.room }
 {
     let entry = Entry {

@@ -2,10 +2,11 @@
 ghost use Rattle.std.specs.Prelude.{◌≡◌, ◌+◌, ◌≤◌, ◌&&◌, nat_lt};
 ghost use Rattle.nfs_xdr.specs.Written.{Appends};
 ghost use Rattle.nfs_args.specs.Chains.{chained_text};
-ghost use Rattle.nfs_args.specs.Pages.{entry_plus_text};
+ghost use Rattle.nfs_args.specs.Pages.{IsEntryPlus, entry_plus_text};
 ghost use Rattle.nfs_inodes.specs.Views.{entry_seen, IsSeen};
 ghost use Rattle.nfs_args.specs.Sizes.{max_page};
-ghost use Rattle.nfs_dirs.specs.Pages.{page_front_bytes, entry_bytes, plus_bytes, entry_plus_told, entries_plus_text, fits_plus, left_after, Answers};
+ghost use Rattle.nfs_dirs.specs.Pages.{page_front_bytes, entry_bytes, plus_bytes, entry_plus_told, entries_plus_text};
+ghost use Rattle.nfs_dirs.specs.Pages.{EntriesPlusSpelled, fits_plus, left_after, Answers};
 
 use crate::answer::{Page, TooSmall, cut_off};
 use crate::limits::{PAGE_HEAD_BYTES, entry_bytes, plus_bytes};
@@ -37,7 +38,7 @@ pub fn page_plus(
     requires seen { IsSeen tree.now dir.now }
     requires room { max_page ≤ out.old.room + page_front_bytes }
     ensures { Answers (fits_plus dircount maxcount searchable) (entries_plus_text tree.now searchable)
-        (left_after tree.now dir.now.attributes.fileid cookie) result out.old out.new }
+        (EntriesPlusSpelled tree.now searchable) (left_after tree.now dir.now.attributes.fileid cookie) result out.old out.new }
 {
     let bound = (maxcount as usize).min(MAX_PAGE_BYTES);
     if bound < PAGE_HEAD_BYTES {
@@ -79,6 +80,8 @@ fn put(tree: &Tree, searchable: bool, entry: &EntryView<'_>, out: &mut Output)
     requires room { entry_bytes (entry_seen entry.now) + plus_bytes searchable ≤ out.old.room }
     requires bound { entry_bytes (entry_seen entry.now) ≤ max_page }
     ensures text { Appends (chained_text entry_plus_text (entry_plus_told tree.now searchable (entry_seen entry.now))) out.old out.new }
+    ensures spelled { IsEntryPlus (entry_plus_told tree.now searchable (entry_seen entry.now))
+        (entry_plus_text (entry_plus_told tree.now searchable (entry_seen entry.now))) }
     ensures room { out.old.room ≤ out.new.room + (entry_bytes (entry_seen entry.now) + plus_bytes searchable) }
 {
     put_entry(out, entry);

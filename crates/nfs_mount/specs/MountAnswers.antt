@@ -1,7 +1,7 @@
 -- What the procedures of MOUNT do and answer (RFC 1813, appendix I, section 5.2).
 use Rattle.std.specs.Prelude.{◌≡◌, ℕ, false, List, [], length, map, slice_get, Option, Some, None, Ok, Err}
 use Rattle.std.specs.List.{range_with_len}
-use Rattle.nfs_args.specs.MountAnswers.{mount_text}
+use Rattle.nfs_args.specs.MountAnswers.{IsMountAnswerOf, mount_answered, mount_text}
 use Rattle.nfs_args.specs.declared.exported.Exported.{Exported}
 use Rattle.nfs_args.specs.declared.mount_answer.MountAnswer.{MountAnswer}
 use Rattle.nfs_args.specs.declared.mount_answer.MountAnswer.TheVariants as answer
@@ -23,6 +23,10 @@ use Rattle.nfs_rules.specs.Rules.{status_of}
 use Rattle.nfs_rules.specs.declared.rule.Rule.{Rule}
 use Rattle.nfs_xdr.specs.Written.{Written, Appends}
 
+-- the text that is written for an answer is a spelling of it
+abbrev pub IsMountSpelled : MountAnswer → Type 0
+IsMountSpelled value = IsMountAnswerOf (mount_answered value) value (mount_text value)
+
 -- ---- MNT
 
 -- the handle of the root of the volume at a place, and of a path
@@ -42,9 +46,10 @@ denied_answer rule = answer.Mount (Err (record { status = status_of rule; shown 
 abbrev pub Mounts : Tree → List (List Export) → Addr → List ℕ → Mounted → List Mount → List Mount → Written → Written → Type 0
 Mounts t exports addr path Granted old new before after =
     (mount_verdict t exports addr path ≡ None) × (new ≡ after_mnt t addr path old) × (handle : List ℕ) × (root_of t path ≡ Some handle)
-    × Appends (mount_text (granted_answer handle)) before after
+    × Appends (mount_text (granted_answer handle)) before after × IsMountSpelled (granted_answer handle)
 Mounts t exports addr path (Denied rule) old new before after =
-    (mount_verdict t exports addr path ≡ Some rule) × (new ≡ old) × Appends (mount_text (denied_answer rule)) before after
+    (mount_verdict t exports addr path ≡ Some rule) × (new ≡ old)
+    × Appends (mount_text (denied_answer rule)) before after × IsMountSpelled (denied_answer rule)
 Mounts t exports addr path Memory old new before after =
     (mount_verdict t exports addr path ≡ None) × (is_mounted t addr path old ≡ false) × (new ≡ old) × (after ≡ before)
 

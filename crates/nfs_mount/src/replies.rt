@@ -2,7 +2,7 @@
 ghost use Rattle.std.specs.Prelude.{◌≡◌, ◌+◌, ◌≤◌};
 ghost use Rattle.nfs_args.specs.Chains.{chained_text};
 ghost use Rattle.nfs_args.specs.MountAnswers.{IsMounted, mount_text, mounted_text};
-ghost use Rattle.nfs_mount.specs.MountAnswers.{client, denied_answer, granted_answer};
+ghost use Rattle.nfs_mount.specs.MountAnswers.{IsMountSpelled, client, denied_answer, granted_answer};
 ghost use Rattle.nfs_xdr.specs.Written.{Appends};
 
 use crate::mount::Mount;
@@ -20,7 +20,8 @@ use nfs_xdr::output::Output;
 /// Writes the result of an MNT that fails this rule.
 pub(crate) fn write_denied(out: &mut Output, rule: Rule)
     requires { 40 ≤ out.old.room }
-    ensures { Appends (mount_text (denied_answer rule)) out.old out.new }
+    ensures text { Appends (mount_text (denied_answer rule)) out.old out.new }
+    ensures spelled { IsMountSpelled (denied_answer rule) }
 {
     let failed = Failed {
         status: rule.status(),
@@ -32,7 +33,8 @@ pub(crate) fn write_denied(out: &mut Output, rule: Rule)
 /// Writes the result of an MNT of the volume whose root has this handle.
 pub(crate) fn write_granted(out: &mut Output, handle: &[u8; 24])
     requires { 40 ≤ out.old.room }
-    ensures { Appends (mount_text (granted_answer handle.now)) out.old out.new }
+    ensures text { Appends (mount_text (granted_answer handle.now)) out.old out.new }
+    ensures spelled { IsMountSpelled (granted_answer handle.now) }
 {
     write_mount(out, &MountAnswer::Mount(Ok(Opaque::new(handle))));
 }

@@ -1,7 +1,6 @@
 -- What calls do and answer in a tree without some bytes.
 use Rattle.std.proofs.Common.{◌≡◌, ◌≢◌, ℕ, ◌-◌, Bool, true, false, List, [], map, length, take, drop, Option, Some, None, option_map, refl, sym, ap, subst, ◌∙◌}
 use Rattle.std.specs.Prelude.{nat_eq, min, slice_get, Ok, if◌then◌else◌}
-use Rattle.nfs_args.specs.Answers.{nfs_text}
 use Rattle.nfs_args.specs.declared.answer.NfsAnswer.TheVariants as answer
 use Rattle.nfs_args.specs.declared.args.NfsArgs.{NfsArgs}
 use Rattle.nfs_args.specs.declared.args.NfsArgs.TheVariants as nfs
@@ -23,7 +22,7 @@ use Rattle.nfs_inodes.specs.Tree.{Tree, File, Entry, at, on_some, bytes_in}
 use Rattle.nfs_procs.specs.Changers.{changed, given_of, sets_something, after_settings, set_attr, write, made_of, after_taking, after_creating, create, make_dir, sym_link, remove, remove_dir, rename, link, file_mode, directory_mode, link_mode, attributes_in, verifier_in}
 use Rattle.nfs_procs.specs.Doing.{Doing, change}
 use Rattle.nfs_procs.specs.NewFiles.{new_file_of}
-use Rattle.nfs_procs.specs.Performing.{Performs}
+use Rattle.nfs_procs.specs.Performing.{AppendsAnswer, Performs}
 use Rattle.nfs_procs.specs.Procedures.{PerformsAs, doing_of}
 use Rattle.nfs_procs.specs.Readers.{handle_in, get_attr, lookup, access, read_link, read, data_of, page_at, read_dir, page_plus_at, read_dir_plus, make_node, room_in, fs_stat, fs_info, path_conf, commit, max_transfer, verifier_of}
 use Rattle.nfs_procs.specs.Scenes.{Scene, verdict_in, subjects_in, seen_in}
@@ -36,7 +35,7 @@ use Rattle.nfs_rules.specs.Table.{size_in}
 use Rattle.nfs_rules.specs.Tests.{found}
 use Rattle.nfs_rules.specs.Verdicts.{handles_in, subjects_at, verdict}
 use Rattle.nfs_rules.specs.declared.rights.Right.TheVariants.{Execute}
-use Rattle.nfs_xdr.specs.Written.{Written, Appends}
+use Rattle.nfs_xdr.specs.Written.{Written}
 use Rattle.nfs_policy.specs.Shape.{blank, blank_where, AgreeOutside}
 use Rattle.nfs_policy.specs.Reading.{ReadsNot, CallsAreConfined}
 use Rattle.nfs_policy.proofs.Blanks.{at_blank, attributes_blank, listing_blank, handle_blank, path_blank, totals_blank}
@@ -272,7 +271,7 @@ module _ (f : ℕ) (c : Scene) (other : Tree) (agree : AgreeOutside f c.tree oth
             tag = h.tag;
             fits = h.fits;
             new_is = refl;
-            written = subst (λ a. Appends (nfs_text a) before after) (same_answer h.one h.two o.0 o.1 new new' o.3 o.4 same (λ a e. apart h.one.file.fileid (reads a h.one h.two e h.granted))) h.written;
+            written = subst (λ a. AppendsAnswer a before after) (same_answer h.one h.two o.0 o.1 new new' o.3 o.4 same (λ a e. apart h.one.file.fileid (reads a h.one h.two e h.granted))) h.written;
           },
           same,
         )
@@ -282,7 +281,7 @@ module _ (f : ℕ) (c : Scene) (other : Tree) (agree : AgreeOutside f c.tree oth
         verdict = sym same_verdict ∙ h.verdict;
         uid_is = h.uid_is ∙ same_uid;
         new_is = refl;
-        written = subst (λ s. Appends (nfs_text (doing.denied (status_of rule) s)) before after) same_seen h.written;
+        written = subst (λ s. AppendsAnswer (doing.denied (status_of rule) s) before after) same_seen h.written;
       },
       stays new h.new_is,
     )

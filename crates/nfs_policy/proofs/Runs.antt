@@ -11,10 +11,11 @@ use Rattle.nfs_args.specs.declared.mount_answer.MountAnswer.TheVariants as resul
 use Rattle.nfs_mount.specs.declared.mount.Mount.{Mount}
 use Rattle.nfs_inodes.specs.Reading.{place_named}
 use Rattle.nfs_inodes.specs.Tree.{Tree, on_some}
-use Rattle.nfs_mount.specs.MountAnswers.{root_of, dump_answer, export_answer, granted_answer}
+use Rattle.nfs_mount.specs.MountAnswers.{IsMountSpelled, root_of, dump_answer, export_answer, granted_answer}
 use Rattle.nfs_mount.specs.MountRules.{mount_verdict}
 use Rattle.nfs_mount.specs.Mounts.{after_mnt, after_umnt, is_mounted, without_addr}
 use Rattle.nfs_procs.specs.Doing.{Doing}
+use Rattle.nfs_procs.specs.Performing.{IsSpelled}
 use Rattle.nfs_procs.specs.Procedures.{doing_of}
 use Rattle.nfs_procs.specs.Scenes.{Scene, verdict_in}
 use Rattle.nfs_rpc.specs.Calls.{Call, head_at}
@@ -51,21 +52,24 @@ module _ (f : ℕ) (c : Scene) (other : Tree) (agree : AgreeOutside f c.tree oth
     record {
       new_is = refl;
       answer_is = h.answer_is ∙ (λ i. denied (success call (nfs_text (doing.denied (status_of rule) (same_seen f c other agree i)))) (line_of c.caller.addr call (reason.Rule rule (same_uid f c other agree i))));
+      spelled = subst (λ s. IsSpelled (doing.denied (status_of rule) s)) (same_seen f c other agree) h.spelled;
     },
     ap (blank (nat_eq f)) h.new_is ∙ agree,
   )
   decided reads doing is None v h =
       let o = others f c other agree h.one h.two h.subjects in
       let new' = doing.effect o.0 o.1 c.now choice.tag in
-      let same : AgreeOutside f new new' = ap (blank (nat_eq f)) h.new_is ∙ same_effect f c other agree doing is h.one h.two o.0 o.1 c.now choice.tag o.3 o.4 in (
+      let same : AgreeOutside f new new' = ap (blank (nat_eq f)) h.new_is ∙ same_effect f c other agree doing is h.one h.two o.0 o.1 c.now choice.tag o.3 o.4 in
+      let same_answer_is = same_answer f c other agree doing is h.one h.two o.0 o.1 new new' o.3 o.4 same
+      (λ a e. apart f c other agree h.one.file.fileid (reads a h.one h.two e (record { subjects = h.subjects; verdict = v }))) in (
         new',
         record {
           one = o.0;
           two = o.1;
           subjects = o.2;
           new_is = refl;
-          answer_is = h.answer_is ∙ ap (λ a. granted (success call (nfs_text a))) (same_answer f c other agree doing is h.one h.two o.0 o.1 new new' o.3 o.4 same
-              (λ a e. apart f c other agree h.one.file.fileid (reads a h.one h.two e (record { subjects = h.subjects; verdict = v }))));
+          answer_is = h.answer_is ∙ ap (λ a. granted (success call (nfs_text a))) same_answer_is;
+          spelled = subst IsSpelled same_answer_is h.spelled;
         },
         same,
       )
@@ -101,13 +105,13 @@ module _ (f : ℕ) (setup : Setup) (old : State) (other : Tree) (agree : AgreeOu
   mount_done : (call : Call) (result : Tree → MountAnswer) (mounts : Tree → List Mount) → result old.tree ≡ result other → mounts old.tree ≡ mounts other → MountDone call old (result old.tree) (mounts old.tree) answer new → To (λ new. MountDone call over (result other) (mounts other) answer new)
   mount_done call result mounts e g h = (
     record { tree = other; mounts = mounts other },
-    (subst (λ r. answer ≡ granted (success call (mount_text r))) e h.0, refl),
+    (subst (λ r. answer ≡ granted (success call (mount_text r))) e h.0, refl, subst IsMountSpelled e h.2),
     ap (λ (s : State). blank (nat_eq f) s.tree) h.1 ∙ agree,
     sym g ∙ ap (λ (s : State). s.mounts) (sym h.1),
   )
 
   mount_decided : (v : Option Rule) (has_memory : Bool) (path : List ℕ) (call : Call) → MountDecided v has_memory old event.addr path call answer new → To (λ new. MountDecided v has_memory over event.addr path call answer new)
-  mount_decided (Some rule) has_memory path call h = unchanged (λ new. MountDecided (Some rule) has_memory over event.addr path call answer new) (h.0, refl) h.1
+  mount_decided (Some rule) has_memory path call h = unchanged (λ new. MountDecided (Some rule) has_memory over event.addr path call answer new) (h.0, refl, h.2) h.1
   mount_decided None true path call h =
       let m = mount_done call (λ t. granted_answer h.0) (λ t. after_mnt t event.addr path old.mounts) refl (same_look (λ t. after_mnt t event.addr path old.mounts) (λ t. refl)) h.2 in
       (m.0, (h.0, sym (same_look (λ t. root_of t path) (root_blank path)) ∙ h.1, m.1), m.2, m.3)

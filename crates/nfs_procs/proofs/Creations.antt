@@ -1,10 +1,13 @@
 -- Regular files are made, or taken where they are there.
 use Rattle.std.proofs.Common.{◌≡◌, ℕ, Option, Some, None, refl, sym, ap, subst, ◌∙◌}
 use Rattle.std.specs.Int.{w32, to_be_bytes}
-use Rattle.nfs_args.specs.Results.{made_text}
+use Rattle.std.specs.Prelude.{Ok}
+use Rattle.nfs_args.specs.Results.{IsMade, made_text}
+use Rattle.nfs_args.specs.declared.answer.NfsAnswer.TheVariants as answer
 use Rattle.nfs_args.specs.declared.create.Create.{Create}
 use Rattle.nfs_args.specs.declared.create.CreateHow.{CreateHow}
 use Rattle.nfs_args.specs.declared.create.CreateHow.TheVariants.{Unchecked, Guarded, Exclusive}
+use Rattle.nfs_attrs.specs.Spelling.{IsWcc}
 use Rattle.nfs_attrs.specs.declared.fattr.Fattr.{Fattr}
 use Rattle.nfs_attrs.specs.declared.wcc.Wcc.{Wcc}
 use Rattle.nfs_inodes.specs.Changes.{Makes}
@@ -12,11 +15,12 @@ use Rattle.nfs_inodes.specs.Law.{Law}
 use Rattle.nfs_inodes.specs.Reading.{attributes_at}
 use Rattle.nfs_inodes.specs.Tree.{Tree}
 use Rattle.nfs_inodes.specs.declared.new_file.NewFile.{NewFile}
-use Rattle.nfs_procs.proofs.Made.{shown_of, shows_made}
-use Rattle.nfs_procs.specs.Changers.{create, attributes_in, file_mode}
+use Rattle.nfs_procs.proofs.Made.{shows_made}
+use Rattle.nfs_procs.proofs.Spelled.{granted_spelled}
+use Rattle.nfs_procs.specs.Changers.{create, attributes_in, file_mode, new_file_in}
 use Rattle.nfs_procs.specs.Doing.{change}
 use Rattle.nfs_procs.specs.NewFiles.{new_file_of}
-use Rattle.nfs_procs.specs.Performing.{IsGranted, HasEffect}
+use Rattle.nfs_procs.specs.Performing.{AppendsAnswer, IsGranted, HasEffect}
 use Rattle.nfs_procs.specs.Plans.{MayTake, MayMakeOrTake, PlansFile, after_making_or_taking, number_of}
 use Rattle.nfs_procs.specs.Scenes.{Scene}
 use Rattle.nfs_procs.specs.declared.plan.FilePlan.{FilePlan}
@@ -45,9 +49,9 @@ planned dir present given = record { dir = dir; present = present; given = given
 pub created : (c : Scene) (a : Create) (s : Subject) (plan : FilePlan) (new : Tree) (n : ℕ) (dir : Wcc) (x y z : Written) → IsGranted c s s → PlansFile c.tree c.now a plan s
     → Makes (after_making_or_taking c.tree plan a c.now) new → n ≡ number_of c.tree plan.present
     → dir ≡ change (Some plan.dir) (attributes_at new plan.dir.fileid)
-    → Appends (to_be_bytes w32 0) x y → Appends (made_text (shown_of new n dir)) y z
+    → Appends (to_be_bytes w32 0) x y → Appends (made_text (new_file_in new n dir)) y z → IsMade (new_file_in new n dir) (made_text (new_file_in new n dir))
     → HasEffect c (create a) new x z
-created c a s plan new n dir x y z granted plans makes number shown status made = record {
+created c a s plan new n dir x y z granted plans makes number shown status made spelled = record {
   one = s;
   two = s;
   granted = granted;
@@ -58,7 +62,10 @@ created c a s plan new n dir x y z granted plans makes number shown status made 
       ∙ ap (λ present. after_making_or_taking c.tree (planned s.file present plan.given) a c.now makes.tag) plans.present
       ∙ ap (λ given. after_making_or_taking c.tree (planned s.file (found s a.place.name) given) a c.now makes.tag) plans.given
       ∙ ap (λ t. after_making_or_taking t (planned s.file (found s a.place.name) (new_file_of file_mode s.ids c.now (attributes_in a.how))) a c.now makes.tag) (sym plans.tree);
-  written = appends_then _ _ x y z status (subst (λ m. Appends (made_text m) y z) (shows_made new n (number_of s.tree (found s a.place.name)) s plan.dir dir plans.dir numbered shown) made);
+  written = subst (λ m. AppendsAnswer (answer.Create (Ok m)) x z) (shows_made new n (number_of s.tree (found s a.place.name)) s plan.dir dir plans.dir numbered shown) (record {
+    text = appends_then _ _ x y z status made;
+    spelled = granted_spelled answer.Create IsMade IsWcc made_text (new_file_in new n dir) spelled;
+  });
 }
   where
     numbered : n ≡ number_of s.tree (found s a.place.name)

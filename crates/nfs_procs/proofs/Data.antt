@@ -1,16 +1,20 @@
 -- Bytes of a file that are written run after run, behind what says how many they are.
 use Rattle.std.proofs.Common.{◌≡◌, ℕ, ◌+◌, ◌-◌, ◌≤◌, min, Bool, true, false, List, [], ◌++◌, length, take, drop, Option, Some, None, refl, sym, ap, subst, ◌∙◌, arith, length-drop}
-use Rattle.std.specs.Prelude.{nat_le, option_map}
+use Rattle.std.specs.Prelude.{Ok, nat_le, option_map}
 use Rattle.std.specs.Int.{w32, to_be_bytes}
 use Rattle.std.proofs.Math.Seq.{take-add, drop-drop, take-length}
 use Rattle.std.proofs.lemmas.List.{take-append-le, take_all, length-take-le}
 use Rattle.std.proofs.lemmas.Bool.{le-leb, leb-true, leb-false}
 use Rattle.std.proofs.Math.Dec.{leb}
-use Rattle.nfs_args.specs.Results.{read_head_text, read_data_text}
+use Rattle.nfs_args.specs.Results.{BeginsReadData, IsReadData, read_head_text, read_data_text}
+use Rattle.nfs_args.specs.declared.answer.NfsAnswer.TheVariants as answer
+use Rattle.nfs_attrs.specs.Spelling.{IsPostOpAttr}
 use Rattle.nfs_attrs.specs.declared.fattr.Fattr.{Fattr}
 use Rattle.nfs_inodes.proofs.Lists.{by_test, same_some}
 use Rattle.nfs_inodes.specs.Reading.{IsFirstChunk, attributes_of, attributes_at, bytes_at, type_of, size_of, is_regular_type}
 use Rattle.nfs_inodes.specs.Tree.{Tree, File, Kind, Regular, Directory, Link, at, on_some, bytes_in, nlink}
+use Rattle.nfs_procs.proofs.Spelled.{granted_spelled}
+use Rattle.nfs_procs.specs.Performing.{AppendsAnswer}
 use Rattle.nfs_procs.specs.Readers.{data_of}
 use Rattle.nfs_xdr.proofs.Writing.{appends_then}
 use Rattle.nfs_xdr.specs.Spelling.{pad_text}
@@ -43,24 +47,29 @@ same_end size offset n = bools_agree _ _
     (λ t. let l = leb-true size (offset + n) t in le-leb (size - offset) n (omega (arith, l)))
 
 pub parts_written : (f : Fattr) (offset n : ℕ) (eof : Bool) (bytes : List ℕ) (a b c d e : Written) → n ≡ length bytes → eof ≡ nat_le f.size (offset + length bytes)
-    → Appends (to_be_bytes w32 0) a b → Appends (read_head_text (Some f) n eof) b c → Appends bytes c d → Appends (pad_text n) d e → Appends (to_be_bytes w32 0 ++ read_data_text (data_of f offset bytes)) a e
-parts_written f offset n eof bytes a b c d e same end status head content pad =
+    → Appends (to_be_bytes w32 0) a b → Appends (read_head_text (Some f) n eof) b c → Appends bytes c d → Appends (pad_text n) d e → BeginsReadData (Some f) n eof → AppendsAnswer (answer.Read (Ok (data_of f offset bytes))) a e
+parts_written f offset n eof bytes a b c d e same end status head content pad begins =
     let head' = subst (λ k. Appends (read_head_text (Some f) k (nat_le f.size (offset + length bytes))) b c) same (subst (λ k. Appends (read_head_text (Some f) n k) b c) end head) in
     let pad' = subst (λ k. Appends (pad_text k) d e) same pad in
-    appends_then _ _ a b e status (appends_then _ _ b c e head' (appends_then _ _ c d e content pad'))
+    let begins' : BeginsReadData (Some f) (length bytes) (nat_le f.size (offset + length bytes)) =
+    subst (λ k. BeginsReadData (Some f) k (nat_le f.size (offset + length bytes))) same (subst (λ k. BeginsReadData (Some f) n k) end begins) in
+    record {
+      text = appends_then _ _ a b e status (appends_then _ _ b c e head' (appends_then _ _ c d e content pad'));
+      spelled = granted_spelled answer.Read IsReadData IsPostOpAttr read_data_text (data_of f offset bytes) (begins' bytes refl);
+    }
 
 pub read_written : (f : Fattr) (offset count left len : ℕ) (all : List ℕ) (a b c d e : Written) → f.size ≡ length all → left ≡ f.size - offset → len ≡ min left (min count 65536)
     → Appends (to_be_bytes w32 0) a b → Appends (read_head_text (Some f) len (nat_le left len)) b c → Appends (take len (drop offset all)) c d → Appends (pad_text len) d e
-    → Appends (to_be_bytes w32 0 ++ read_data_text (data_of f offset (take (min count 65536) (drop offset all)))) a e
-read_written f offset count left len all a b c d e size is least status head content pad =
+    → BeginsReadData (Some f) len (nat_le left len) → AppendsAnswer (answer.Read (Ok (data_of f offset (take (min count 65536) (drop offset all))))) a e
+read_written f offset count left len all a b c d e size is least status head content pad begins =
     let there : left ≡ length (drop offset all) = is ∙ ap (λ n. n - offset) size ∙ sym (length-drop offset all) in
     let n : len ≡ min (length (drop offset all)) (min count 65536) = least ∙ ap (λ n. min n (min count 65536)) there in
     let whole : take len (drop offset all) ≡ take (min count 65536) (drop offset all) = ap (λ n. take n (drop offset all)) n ∙ take_least (min count 65536) (drop offset all) in
     let within : len ≤ length (drop offset all) = omega (arith, n) in
     let long : len ≡ length (take len (drop offset all)) = sym (length-take-le len (drop offset all) within) in
     let end : nat_le left len ≡ nat_le f.size (offset + length (take len (drop offset all))) = ap (λ n. nat_le n len) is ∙ same_end f.size offset len ∙ ap (λ n. nat_le f.size (offset + n)) long in
-    subst (λ bytes. Appends (to_be_bytes w32 0 ++ read_data_text (data_of f offset bytes)) a e) whole
-    (parts_written f offset len (nat_le left len) (take len (drop offset all)) a b c d e long end status head content pad)
+    subst (λ bytes. AppendsAnswer (answer.Read (Ok (data_of f offset bytes))) a e) whole
+    (parts_written f offset len (nat_le left len) (take len (drop offset all)) a b c d e long end status head content pad begins)
 
 -- ---- the size of a regular file
 

@@ -1,6 +1,5 @@
 -- Attributes are set.
 use Rattle.std.proofs.Common.{◌≡◌, ℕ, Option, Some, None, Ok, sym, ap, subst, ◌∙◌, arith}
-use Rattle.nfs_args.specs.Answers.{nfs_text}
 use Rattle.nfs_args.specs.declared.answer.NfsAnswer.TheVariants as answer
 use Rattle.nfs_args.specs.declared.set_attr.SetAttr.{SetAttr}
 use Rattle.nfs_attrs.specs.declared.fattr.Fattr.{Fattr}
@@ -14,11 +13,11 @@ use Rattle.nfs_inodes.specs.Reading.{attributes_at}
 use Rattle.nfs_inodes.specs.Tree.{Tree, File, on_some}
 use Rattle.nfs_procs.specs.Changers.{set_attr, after_settings}
 use Rattle.nfs_procs.specs.Doing.{change}
-use Rattle.nfs_procs.specs.Performing.{IsGranted, HasEffect}
+use Rattle.nfs_procs.specs.Performing.{AppendsAnswer, IsGranted, HasEffect}
 use Rattle.nfs_procs.specs.Plans.{PlansSettings}
 use Rattle.nfs_procs.specs.Scenes.{Scene}
 use Rattle.nfs_rules.specs.Subjects.{Subject}
-use Rattle.nfs_xdr.specs.Written.{Written, Appends}
+use Rattle.nfs_xdr.specs.Written.{Written}
 
 -- a file that gets a size still lives
 pub lives_sized : (t : Tree) (n : ℕ) (size : Option ℕ) (now : Moment) (f : File) → Lives t n f → (g : File) × Lives (on_some size t (λ size. after_resize t n size now)) n g
@@ -27,7 +26,7 @@ lives_sized t n (Some size) now f at_f = (resized_to f size now, subst (λ u. Li
 
 pub has_set : (c : Scene) (a : SetAttr) (s : Subject) (file : Fattr) (new : Tree) (shown : Wcc) (x y : Written) → IsGranted c s s → PlansSettings c.tree a file s
     → new ≡ after_settings c.tree file.fileid a.attributes c.now → shown ≡ change (Some file) (attributes_at new file.fileid)
-    → Appends (nfs_text (answer.SetAttr (Ok shown))) x y → HasEffect c (set_attr a) new x y
+    → AppendsAnswer (answer.SetAttr (Ok shown)) x y → HasEffect c (set_attr a) new x y
 has_set c a s file new shown x y granted plans is shows written = record {
   one = s;
   two = s;
@@ -37,5 +36,5 @@ has_set c a s file new shown x y granted plans is shows written = record {
   new_is = is
       ∙ ap (λ (f : Fattr). after_settings c.tree f.fileid a.attributes c.now) plans.same
       ∙ ap (λ t. after_settings t s.file.fileid a.attributes c.now) (sym plans.tree);
-  written = subst (λ w. Appends (nfs_text (answer.SetAttr (Ok w))) x y) (shows ∙ ap (λ (f : Fattr). change (Some f) (attributes_at new f.fileid)) plans.same) written;
+  written = subst (λ w. AppendsAnswer (answer.SetAttr (Ok w)) x y) (shows ∙ ap (λ (f : Fattr). change (Some f) (attributes_at new f.fileid)) plans.same) written;
 }

@@ -1,7 +1,9 @@
 pub mod Judged
+pub mod Spelled
 pub mod Pairs
 pub mod Reading
 pub mod Data
+pub mod Pages
 pub mod MakeDir
 pub mod Removing
 pub mod Linking

@@ -1,7 +1,9 @@
 -- A file has a further name, or another one.
 use Rattle.std.proofs.Common.{◌≡◌, ℕ, List, Option, Some, refl, sym, ap, subst, arith, ◌∙◌}
 use Rattle.std.specs.Int.{w32, to_be_bytes}
-use Rattle.nfs_args.specs.Results.{linked_text, renamed_text}
+use Rattle.std.specs.Prelude.{Ok}
+use Rattle.nfs_args.specs.Results.{IsLinked, IsRenamed, linked_text, renamed_text}
+use Rattle.nfs_args.specs.declared.answer.NfsAnswer.TheVariants as answer
 use Rattle.nfs_args.specs.declared.link.Link.{Link}
 use Rattle.nfs_args.specs.declared.rename.Rename.{Rename}
 use Rattle.nfs_attrs.specs.declared.fattr.Fattr.{Fattr}
@@ -11,9 +13,10 @@ use Rattle.nfs_inodes.specs.Conditions.{NameApart}
 use Rattle.nfs_inodes.specs.Reading.{attributes_at}
 use Rattle.nfs_inodes.specs.Tree.{Tree}
 use Rattle.nfs_procs.proofs.Growth.{they_differ}
+use Rattle.nfs_procs.proofs.Spelled.{granted_spelled}
 use Rattle.nfs_procs.specs.Changers.{changed, link, rename}
 use Rattle.nfs_procs.specs.Doing.{change}
-use Rattle.nfs_procs.specs.Performing.{IsGranted, HasEffect, HasNoMemory}
+use Rattle.nfs_procs.specs.Performing.{AppendsAnswer, IsGranted, HasEffect, HasNoMemory}
 use Rattle.nfs_procs.specs.Plans.{PlansLink, PlansRename}
 use Rattle.nfs_procs.specs.Scenes.{Scene}
 use Rattle.nfs_rules.specs.Subjects.{Subject}
@@ -23,8 +26,9 @@ use Rattle.nfs_xdr.specs.Written.{Written, Appends}
 pub links : (c : Scene) (a : Link) (plan : Fattr × Fattr) (s u : Subject) (new : Tree) (bytes : List ℕ) (attributes : Option Fattr) (dir : Wcc) (x y z : Written)
     → IsGranted c s u → PlansLink c.tree a.place.name plan s u → bytes ≡ a.place.name → new ≡ after_link c.tree plan.0.fileid plan.1.fileid bytes c.now
     → attributes ≡ attributes_at new plan.0.fileid → dir ≡ change (Some plan.1) (attributes_at new plan.1.fileid)
-    → Appends (to_be_bytes w32 0) x y → Appends (linked_text (record { attributes = attributes; dir = dir })) y z → HasEffect c (link a) new x z
-links c a plan s u new bytes attributes dir x y z granted plans same is shown wcc status written = record {
+    → Appends (to_be_bytes w32 0) x y → Appends (linked_text (record { attributes = attributes; dir = dir })) y z → IsLinked (record { attributes = attributes; dir = dir }) (linked_text (record { attributes = attributes; dir = dir }))
+    → HasEffect c (link a) new x z
+links c a plan s u new bytes attributes dir x y z granted plans same is shown wcc status written spelled = record {
   one = s;
   two = u;
   granted = granted;
@@ -34,16 +38,17 @@ links c a plan s u new bytes attributes dir x y z granted plans same is shown wc
       ∙ ap (λ (f : Fattr). after_link c.tree f.fileid plan.1.fileid a.place.name c.now) plans.file_is
       ∙ ap (λ (f : Fattr). after_link c.tree s.file.fileid f.fileid a.place.name c.now) plans.dir_is
       ∙ ap (λ t. after_link t s.file.fileid u.file.fileid a.place.name c.now) (sym plans.tree);
-  written = appends_then _ _ x y z status
-      (subst (λ o. Appends (linked_text (record { attributes = o; dir = changed new u })) y z) (shown ∙ ap (λ (f : Fattr). attributes_at new f.fileid) plans.file_is)
-      (subst (λ w. Appends (linked_text (record { attributes = attributes; dir = w })) y z) (wcc ∙ ap (λ (f : Fattr). change (Some f) (attributes_at new f.fileid)) plans.dir_is) written));
+  written = subst (λ o. AppendsAnswer (answer.Link (Ok (record { attributes = o; dir = changed new u }))) x z) (shown ∙ ap (λ (f : Fattr). attributes_at new f.fileid) plans.file_is)
+      (subst (λ w. AppendsAnswer (answer.Link (Ok (record { attributes = attributes; dir = w }))) x z) (wcc ∙ ap (λ (f : Fattr). change (Some f) (attributes_at new f.fileid)) plans.dir_is)
+      (record { text = appends_then _ _ x y z status written; spelled = granted_spelled answer.Link IsLinked IsLinked linked_text (record { attributes = attributes; dir = dir }) spelled }));
 }
 
 pub renames : (c : Scene) (a : Rename) (plan : Fattr × Fattr) (s u : Subject) (new : Tree) (bytes others : List ℕ) (from to : Wcc) (x y z : Written)
     → IsGranted c s u → PlansRename c.tree a plan s u → bytes ≡ a.from.name → others ≡ a.to.name → new ≡ after_rename c.tree plan.0.fileid bytes plan.1.fileid others c.now
     → from ≡ change (Some plan.0) (attributes_at new plan.0.fileid) → to ≡ change (Some plan.1) (attributes_at new plan.1.fileid)
-    → Appends (to_be_bytes w32 0) x y → Appends (renamed_text (record { from = from; to = to })) y z → HasEffect c (rename a) new x z
-renames c a plan s u new bytes others from to x y z granted plans same same_too is wcc wcc_too status written = record {
+    → Appends (to_be_bytes w32 0) x y → Appends (renamed_text (record { from = from; to = to })) y z → IsRenamed (record { from = from; to = to }) (renamed_text (record { from = from; to = to }))
+    → HasEffect c (rename a) new x z
+renames c a plan s u new bytes others from to x y z granted plans same same_too is wcc wcc_too status written spelled = record {
   one = s;
   two = u;
   granted = granted;
@@ -53,9 +58,9 @@ renames c a plan s u new bytes others from to x y z granted plans same same_too 
       ∙ ap (λ (f : Fattr). after_rename c.tree f.fileid a.from.name plan.1.fileid a.to.name c.now) plans.from_is
       ∙ ap (λ (f : Fattr). after_rename c.tree s.file.fileid a.from.name f.fileid a.to.name c.now) plans.to_is
       ∙ ap (λ t. after_rename t s.file.fileid a.from.name u.file.fileid a.to.name c.now) (sym plans.tree);
-  written = appends_then _ _ x y z status
-      (subst (λ w. Appends (renamed_text (record { from = w; to = changed new u })) y z) (wcc ∙ ap (λ (f : Fattr). change (Some f) (attributes_at new f.fileid)) plans.from_is)
-      (subst (λ w. Appends (renamed_text (record { from = from; to = w })) y z) (wcc_too ∙ ap (λ (f : Fattr). change (Some f) (attributes_at new f.fileid)) plans.to_is) written));
+  written = subst (λ w. AppendsAnswer (answer.Rename (Ok (record { from = w; to = changed new u }))) x z) (wcc ∙ ap (λ (f : Fattr). change (Some f) (attributes_at new f.fileid)) plans.from_is)
+      (subst (λ w. AppendsAnswer (answer.Rename (Ok (record { from = from; to = w }))) x z) (wcc_too ∙ ap (λ (f : Fattr). change (Some f) (attributes_at new f.fileid)) plans.to_is)
+      (record { text = appends_then _ _ x y z status written; spelled = granted_spelled answer.Rename IsRenamed IsRenamed renamed_text (record { from = from; to = to }) spelled }));
 }
 
 -- where there is no memory for another name

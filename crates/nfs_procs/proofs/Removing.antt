@@ -1,11 +1,10 @@
 -- An entry is taken away.
-use Rattle.std.proofs.Common.{◌≡◌, ℕ, List, [], ◌∷◌, ◌++◌, Some, None, sym, ap, subst, arith, ◌∙◌}
+use Rattle.std.proofs.Common.{◌≡◌, ℕ, List, [], ◌∷◌, Some, None, sym, ap, subst, arith, ◌∙◌}
 use Rattle.std.specs.Prelude.{Result, Ok, Err, IfOk}
-use Rattle.std.specs.Int.{w32, to_be_bytes}
-use Rattle.nfs_args.specs.Answers.{nfs_text}
-use Rattle.nfs_attrs.specs.Spelling.{wcc_text}
+use Rattle.nfs_args.specs.declared.answer.NfsAnswer.{NfsAnswer}
 use Rattle.nfs_attrs.specs.declared.fattr.Fattr.{Fattr}
 use Rattle.nfs_args.specs.declared.args.NfsArgs.{NfsArgs}
+use Rattle.nfs_attrs.specs.declared.wcc.Wcc.{Wcc}
 use Rattle.nfs_inodes.specs.Changes.{after_unlink}
 use Rattle.nfs_inodes.specs.Conditions.{MayUnlinkSeen}
 use Rattle.nfs_inodes.specs.Reading.{attributes_at}
@@ -15,7 +14,7 @@ use Rattle.nfs_procs.proofs.Judged.{denied_by_rule, granted_by_rules}
 use Rattle.nfs_procs.specs.Changers.{changed}
 use Rattle.nfs_procs.specs.Denials.{IsNamed, Decides}
 use Rattle.nfs_procs.specs.Doing.{Doing, change}
-use Rattle.nfs_procs.specs.Performing.{IsGranted, HasEffect}
+use Rattle.nfs_procs.specs.Performing.{AppendsAnswer, IsGranted, HasEffect}
 use Rattle.nfs_procs.specs.Plans.{PlansEntry, PlansRemoval}
 use Rattle.nfs_procs.specs.Scenes.{Scene, scene}
 use Rattle.nfs_procs.specs.declared.call.Call.{Call}
@@ -27,12 +26,12 @@ use Rattle.nfs_rules.specs.Table.{rules_of}
 use Rattle.nfs_rules.specs.Tests.{first, found}
 use Rattle.nfs_rules.specs.Verdicts.{handles_in}
 use Rattle.nfs_rules.specs.declared.rule.Rule.{Rule}
-use Rattle.nfs_xdr.specs.Written.{Written, Appends}
+use Rattle.nfs_xdr.specs.Written.{Written}
 
-pub removes : (c : Scene) (doing : Doing) (name bytes : List ℕ) (plan : RemovalPlan) (s : Subject) (new : Tree) (x y : Written) → IsGranted c s s → PlansRemoval c.tree name plan s → bytes ≡ name
-    → doing.effect s s c.now 0 ≡ after_unlink s.tree s.file.fileid name c.now → nfs_text (doing.granted s s new) ≡ to_be_bytes w32 0 ++ wcc_text (changed new s)
-    → new ≡ after_unlink c.tree plan.dir.fileid bytes c.now → Appends (to_be_bytes w32 0 ++ wcc_text (change (Some plan.dir) (attributes_at new plan.dir.fileid))) x y → HasEffect c doing new x y
-removes c doing name bytes plan s new x y granted plans same effect text is written = record {
+pub removes : (c : Scene) (doing : Doing) (answer : Wcc → NfsAnswer) (name bytes : List ℕ) (plan : RemovalPlan) (s : Subject) (new : Tree) (x y : Written) → IsGranted c s s → PlansRemoval c.tree name plan s → bytes ≡ name
+    → doing.effect s s c.now 0 ≡ after_unlink s.tree s.file.fileid name c.now → doing.granted s s new ≡ answer (changed new s)
+    → new ≡ after_unlink c.tree plan.dir.fileid bytes c.now → AppendsAnswer (answer (change (Some plan.dir) (attributes_at new plan.dir.fileid))) x y → HasEffect c doing new x y
+removes c doing answer name bytes plan s new x y granted plans same effect tells is written = record {
   one = s;
   two = s;
   granted = granted;
@@ -40,7 +39,7 @@ removes c doing name bytes plan s new x y granted plans same effect text is writ
   fits = omega arith;
   new_is = is ∙ ap (λ b. after_unlink c.tree plan.dir.fileid b c.now) same ∙ ap (λ (f : Fattr). after_unlink c.tree f.fileid name c.now) plans.dir
       ∙ ap (λ t. after_unlink t s.file.fileid name c.now) (sym plans.tree) ∙ sym effect;
-  written = subst (λ t. Appends t x y) (sym text) (subst (λ (f : Fattr). Appends (to_be_bytes w32 0 ++ wcc_text (change (Some f) (attributes_at new f.fileid))) x y) plans.dir written);
+  written = subst (λ a. AppendsAnswer a x y) (sym tells) (subst (λ (f : Fattr). AppendsAnswer (answer (change (Some f) (attributes_at new f.fileid))) x y) plans.dir written);
 }
 
 -- ---- what is decided of a removal

@@ -1,18 +1,22 @@
 -- A link is made.
 use Rattle.std.proofs.Common.{◌≡◌, ℕ, Some, sym, ap, subst, ◌∙◌}
 use Rattle.std.specs.Int.{w32, to_be_bytes}
-use Rattle.nfs_args.specs.Results.{made_text}
+use Rattle.std.specs.Prelude.{Ok}
+use Rattle.nfs_args.specs.Results.{IsMade, made_text}
+use Rattle.nfs_args.specs.declared.answer.NfsAnswer.TheVariants as answer
 use Rattle.nfs_args.specs.declared.sym_link.SymLink.{SymLink}
+use Rattle.nfs_attrs.specs.Spelling.{IsWcc}
 use Rattle.nfs_attrs.specs.declared.fattr.Fattr.{Fattr}
 use Rattle.nfs_attrs.specs.declared.wcc.Wcc.{Wcc}
 use Rattle.nfs_inodes.specs.Changes.{Makes, after_make_link}
 use Rattle.nfs_inodes.specs.Reading.{attributes_at}
 use Rattle.nfs_inodes.specs.Tree.{Tree}
-use Rattle.nfs_procs.proofs.Made.{shown_of, shows_made}
-use Rattle.nfs_procs.specs.Changers.{sym_link, link_mode}
+use Rattle.nfs_procs.proofs.Made.{shows_made}
+use Rattle.nfs_procs.proofs.Spelled.{granted_spelled}
+use Rattle.nfs_procs.specs.Changers.{sym_link, link_mode, new_file_in}
 use Rattle.nfs_procs.specs.Doing.{change}
 use Rattle.nfs_procs.specs.NewFiles.{new_file_of}
-use Rattle.nfs_procs.specs.Performing.{IsGranted, HasEffect}
+use Rattle.nfs_procs.specs.Performing.{AppendsAnswer, IsGranted, HasEffect}
 use Rattle.nfs_procs.specs.Plans.{PlansSymLink}
 use Rattle.nfs_procs.specs.Scenes.{Scene}
 use Rattle.nfs_procs.specs.declared.plan.Plan.{Plan}
@@ -23,9 +27,9 @@ use Rattle.nfs_xdr.specs.Written.{Written, Appends}
 pub made_link : (c : Scene) (a : SymLink) (s : Subject) (plan : Plan) (new : Tree) (n : ℕ) (dir : Wcc) (x y z : Written) → IsGranted c s s → PlansSymLink c.tree c.now a plan s
     → Makes (λ tag. after_make_link c.tree plan.dir.fileid a.place.name a.path plan.given tag c.now) new → n ≡ c.tree.next
     → dir ≡ change (Some plan.dir) (attributes_at new plan.dir.fileid)
-    → Appends (to_be_bytes w32 0) x y → Appends (made_text (shown_of new n dir)) y z
+    → Appends (to_be_bytes w32 0) x y → Appends (made_text (new_file_in new n dir)) y z → IsMade (new_file_in new n dir) (made_text (new_file_in new n dir))
     → HasEffect c (sym_link a) new x z
-made_link c a s plan new n dir x y z granted plans makes number shown status made = record {
+made_link c a s plan new n dir x y z granted plans makes number shown status made spelled = record {
   one = s;
   two = s;
   granted = granted;
@@ -35,5 +39,8 @@ made_link c a s plan new n dir x y z granted plans makes number shown status mad
       ∙ ap (λ (d : Fattr). after_make_link c.tree d.fileid a.place.name a.path plan.given makes.tag c.now) plans.dir
       ∙ ap (λ g. after_make_link c.tree s.file.fileid a.place.name a.path g makes.tag c.now) plans.given
       ∙ ap (λ t. after_make_link t s.file.fileid a.place.name a.path (record (new_file_of link_mode s.ids c.now a.attributes) { mode = link_mode }) makes.tag c.now) (sym plans.tree);
-  written = appends_then _ _ x y z status (subst (λ m. Appends (made_text m) y z) (shows_made new n s.tree.next s plan.dir dir plans.dir (number ∙ ap (λ (t : Tree). t.next) (sym plans.tree)) shown) made);
+  written = subst (λ m. AppendsAnswer (answer.SymLink (Ok m)) x z) (shows_made new n s.tree.next s plan.dir dir plans.dir (number ∙ ap (λ (t : Tree). t.next) (sym plans.tree)) shown) (record {
+    text = appends_then _ _ x y z status made;
+    spelled = granted_spelled answer.SymLink IsMade IsWcc made_text (new_file_in new n dir) spelled;
+  });
 }

@@ -1,7 +1,6 @@
 -- Bytes are written.
 use Rattle.std.proofs.Common.{◌≡◌, ℕ, List, refl, sym, ap, subst, ◌∙◌, arith}
 use Rattle.std.specs.Prelude.{Some, Ok, length}
-use Rattle.nfs_args.specs.Answers.{nfs_text}
 use Rattle.nfs_args.specs.declared.answer.NfsAnswer.TheVariants as answer
 use Rattle.nfs_args.specs.declared.write.Stability.TheVariants.{FileSync}
 use Rattle.nfs_args.specs.declared.write.Write.{Write}
@@ -15,12 +14,11 @@ use Rattle.nfs_inodes.specs.Tree.{Tree}
 use Rattle.nfs_procs.proofs.Growth.{it_grows}
 use Rattle.nfs_procs.specs.Changers.{write, changed}
 use Rattle.nfs_procs.specs.Doing.{change}
-use Rattle.nfs_procs.specs.Performing.{IsGranted, HasEffect, HasNoMemory}
+use Rattle.nfs_procs.specs.Performing.{AppendsAnswer, IsGranted, HasEffect, HasNoMemory}
 use Rattle.nfs_procs.specs.Plans.{PlansBytes}
 use Rattle.nfs_procs.specs.Readers.{verifier_of}
 use Rattle.nfs_procs.specs.Scenes.{Scene}
 use Rattle.nfs_rules.specs.Subjects.{Subject}
-use Rattle.nfs_xdr.specs.Written.{Appends}
 use Rattle.nfs_xdr.specs.Written as output
 
 -- what is answered of it
@@ -30,7 +28,7 @@ answer_of file count verifier = record { file = file; count = count; committed =
 pub wrote : (c : Scene) (a : Write) (s : Subject) (file : Fattr) (new : Tree) (shown : Wcc) (count verifier : ℕ) (x y : output.Written) → IsGranted c s s → PlansBytes c.tree a file s
     → new ≡ after_write_at c.tree file.fileid a.offset a.content c.now
     → shown ≡ change (Some file) (attributes_at new file.fileid) → count ≡ length a.content → verifier ≡ verifier_of c.tree
-    → Appends (nfs_text (answer.Write (Ok (answer_of shown count verifier)))) x y → HasEffect c (write a) new x y
+    → AppendsAnswer (answer.Write (Ok (answer_of shown count verifier))) x y → HasEffect c (write a) new x y
 wrote c a s file new shown count verifier x y granted plans is shows counts verifies written = record {
   one = s;
   two = s;
@@ -40,7 +38,7 @@ wrote c a s file new shown count verifier x y granted plans is shows counts veri
   new_is = is
       ∙ ap (λ (f : Fattr). after_write_at c.tree f.fileid a.offset a.content c.now) plans.same
       ∙ ap (λ t. after_write_at t s.file.fileid a.offset a.content c.now) (sym plans.tree);
-  written = subst (λ w. Appends (nfs_text (answer.Write (Ok w))) x y) same written;
+  written = subst (λ w. AppendsAnswer (answer.Write (Ok w)) x y) same written;
 }
   where
     same : answer_of shown count verifier ≡ answer_of (changed new s) (length a.content) (verifier_of s.tree)

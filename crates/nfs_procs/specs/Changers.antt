@@ -94,9 +94,13 @@ write a = record {
 
 -- ---- new files
 
--- a file that was made or taken, and the directory of its name
+-- a file, and what became of the directory of its name
+abbrev pub new_file_in : Tree → ℕ → Wcc → Made
+new_file_in new n dir = record { file = handle_at (numbered_files new) n; attributes = attributes_at new n; dir = dir }
+
+-- a file that was made or taken
 abbrev pub made_of : Tree → ℕ → Subject → Made
-made_of new n dir = record { file = handle_at (numbered_files new) n; attributes = attributes_at new n; dir = changed new dir }
+made_of new n dir = new_file_in new n (changed new dir)
 
 -- the modes of a file and of a directory where none is given, 0600 and 0700, and that of each link, 0777
 abbrev pub file_mode : ℕ

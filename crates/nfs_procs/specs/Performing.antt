@@ -1,6 +1,7 @@
 -- What becomes of a call.
 use Rattle.std.specs.Prelude.{◌≡◌, ℕ, ◌<◌, ◌^◌, true, Option, Some, None, option_map}
-use Rattle.nfs_args.specs.Answers.{nfs_text}
+use Rattle.nfs_args.specs.Answers.{IsAnswerOf, answered, nfs_text}
+use Rattle.nfs_args.specs.declared.answer.NfsAnswer.{NfsAnswer}
 use Rattle.nfs_inodes.specs.Tree.{Tree}
 use Rattle.nfs_procs.specs.Doing.{Doing}
 use Rattle.nfs_procs.specs.Scenes.{Scene, verdict_in, subjects_in, seen_in}
@@ -16,6 +17,15 @@ pub record IsGranted (c : Scene) (one two : Subject) : Type 0 where
   pub subjects : subjects_in c ≡ Some (one, two)
   pub verdict : verdict_in c ≡ None
 
+-- the text that is written for an answer is a spelling of it (RFC 1813, section 3.3)
+abbrev pub IsSpelled : NfsAnswer → Type 0
+IsSpelled value = IsAnswerOf (answered value) value (nfs_text value)
+
+-- an answer is written, and so it is spelled
+pub record AppendsAnswer (value : NfsAnswer) (before after : Written) : Type 0 where
+  pub text : Appends (nfs_text value) before after
+  pub spelled : IsSpelled value
+
 -- the procedure is done and answered; the tag of a new file is chosen freely
 pub record HasEffect (c : Scene) (doing : Doing) (new : Tree) (before after : Written) : Type 0 where
   pub one : Subject
@@ -24,14 +34,14 @@ pub record HasEffect (c : Scene) (doing : Doing) (new : Tree) (before after : Wr
   pub tag : ℕ
   pub fits : tag < 2 ^ 32
   pub new_is : new ≡ doing.effect one two c.now tag
-  pub written : Appends (nfs_text (doing.granted one two new)) before after
+  pub written : AppendsAnswer (doing.granted one two new) before after
 
 -- the first rule that fails is answered by its status, and the tree stays; the uid is known where the rules of the handles are kept
 pub record HasFailed (c : Scene) (doing : Doing) (rule : Rule) (uid : Option ℕ) (new : Tree) (before after : Written) : Type 0 where
   pub verdict : verdict_in c ≡ Some rule
   pub uid_is : uid ≡ option_map (λ s. s.0.ids.uid) (subjects_in c)
   pub new_is : new ≡ c.tree
-  pub written : Appends (nfs_text (doing.denied (status_of rule) (seen_in c))) before after
+  pub written : AppendsAnswer (doing.denied (status_of rule) (seen_in c)) before after
 
 -- no rule fails, but there is no memory for what grows; the tree stays, and nothing is written
 pub record HasNoMemory (c : Scene) (doing : Doing) (new : Tree) (before after : Written) : Type 0 where

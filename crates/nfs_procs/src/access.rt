@@ -1,14 +1,12 @@
 //! ACCESS: the rights of the caller (RFC 1813, section 3.3.4).
 ghost use Rattle.std.specs.Prelude.{◌≡◌, ◌≤◌, Some, Ok};
-ghost use Rattle.nfs_args.specs.Answers.{nfs_text};
 ghost use Rattle.nfs_args.specs.Sizes.{largest_of};
 ghost use Rattle.nfs_args.specs.declared.procedure.Procedure.TheVariants as proc;
 ghost use Rattle.nfs_args.specs.declared.answer.NfsAnswer.TheVariants as answer;
 ghost use Rattle.nfs_args.specs.declared.args.NfsArgs.TheVariants as nfs;
-ghost use Rattle.nfs_procs.specs.Performing.{Performs};
+ghost use Rattle.nfs_procs.specs.Performing.{AppendsAnswer, Performs};
 ghost use Rattle.nfs_procs.specs.Readers as procedure;
 ghost use Rattle.nfs_procs.specs.Scenes.{scene};
-ghost use Rattle.nfs_xdr.specs.Written.{Appends};
 
 use crate::call::Call;
 use crate::done::Done;
@@ -37,7 +35,7 @@ pub(crate) fn access(tree: &Tree, call: &Call<'_>, args: &Access<'_>, out: &mut 
 
 fn write_granted(out: &mut Output, file: &Fattr, rights: u32)
     requires { largest_of proc.Access ≤ out.old.room }
-    ensures { Appends (nfs_text (answer.Access (Ok (record { attributes = Some file.now; rights = rights })))) out.old out.new }
+    ensures { AppendsAnswer (answer.Access (Ok (record { attributes = Some file.now; rights = rights }))) out.old out.new }
 {
     out.u32(0);
     write_rights(

@@ -1,17 +1,15 @@
 //! COMMIT: bytes made safe, as all are at once (RFC 1813, section 3.3.21).
 ghost use Rattle.std.specs.Prelude.{◌≡◌, ◌≤◌, Some, Ok};
-ghost use Rattle.nfs_args.specs.Answers.{nfs_text};
 ghost use Rattle.nfs_args.specs.Sizes.{largest_of};
 ghost use Rattle.nfs_args.specs.declared.procedure.Procedure.TheVariants as proc;
 ghost use Rattle.nfs_args.specs.declared.answer.NfsAnswer.TheVariants as answer;
 ghost use Rattle.nfs_args.specs.declared.args.NfsArgs.TheVariants as nfs;
 ghost use Rattle.nfs_procs.specs.Denials.{Decides};
 ghost use Rattle.nfs_procs.specs.Doing.{no_change};
-ghost use Rattle.nfs_procs.specs.Performing.{Performs};
+ghost use Rattle.nfs_procs.specs.Performing.{AppendsAnswer, Performs};
 ghost use Rattle.nfs_procs.specs.Plans.{PlansReading};
 ghost use Rattle.nfs_procs.specs.Readers as procedure;
 ghost use Rattle.nfs_procs.specs.Scenes.{scene};
-ghost use Rattle.nfs_xdr.specs.Written.{Appends};
 
 use crate::call::Call;
 use crate::denial::Denial;
@@ -52,8 +50,8 @@ fn decide<'a>(tree: &'a Tree, call: &Call<'a>, args: &ByteRange<'_>) -> Result<S
 
 fn write_granted(out: &mut Output, tree: &Tree, file: &Fattr)
     requires { largest_of proc.Commit ≤ out.old.room }
-    ensures { Appends (nfs_text (answer.Commit (Ok
-        (record { file = no_change (Some file.now); verifier = procedure.verifier_of tree.now })))) out.old out.new }
+    ensures { AppendsAnswer (answer.Commit (Ok
+        (record { file = no_change (Some file.now); verifier = procedure.verifier_of tree.now }))) out.old out.new }
 {
     out.u32(0);
     write_committed(

@@ -1,14 +1,12 @@
 //! FSINFO: what the server bears (RFC 1813, section 3.3.19).
 ghost use Rattle.std.specs.Prelude.{◌≡◌, ◌≤◌, Ok};
-ghost use Rattle.nfs_args.specs.Answers.{nfs_text};
 ghost use Rattle.nfs_args.specs.Sizes.{largest_of};
 ghost use Rattle.nfs_args.specs.declared.procedure.Procedure.TheVariants as proc;
 ghost use Rattle.nfs_args.specs.declared.answer.NfsAnswer.TheVariants as answer;
 ghost use Rattle.nfs_args.specs.declared.args.NfsArgs.TheVariants as nfs;
-ghost use Rattle.nfs_procs.specs.Performing.{Performs};
+ghost use Rattle.nfs_procs.specs.Performing.{AppendsAnswer, Performs};
 ghost use Rattle.nfs_procs.specs.Readers as procedure;
 ghost use Rattle.nfs_procs.specs.Scenes.{scene};
-ghost use Rattle.nfs_xdr.specs.Written.{Appends};
 
 use crate::call::Call;
 use crate::done::Done;
@@ -43,7 +41,7 @@ const PROPERTIES: u32 = 0x1b;
 
 fn write_granted(out: &mut Output, file: &Fattr)
     requires { largest_of proc.FsInfo ≤ out.old.room }
-    ensures { Appends (nfs_text (answer.FsInfo (Ok (procedure.server_limits file.now)))) out.old out.new }
+    ensures { AppendsAnswer (answer.FsInfo (Ok (procedure.server_limits file.now))) out.old out.new }
 {
     out.u32(0);
     write_server_limits(out, &server_limits(file));

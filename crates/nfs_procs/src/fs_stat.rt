@@ -1,16 +1,14 @@
 //! FSSTAT: the room of a volume (RFC 1813, section 3.3.18).
 ghost use Rattle.std.specs.Prelude.{◌≡◌, ◌-◌, ◌≤◌, Ok, slice_get, option_map};
-ghost use Rattle.nfs_args.specs.Answers.{nfs_text};
 ghost use Rattle.nfs_args.specs.Sizes.{largest_of};
 ghost use Rattle.nfs_args.specs.declared.procedure.Procedure.TheVariants as proc;
 ghost use Rattle.nfs_args.specs.declared.answer.NfsAnswer.TheVariants as answer;
 ghost use Rattle.nfs_args.specs.declared.args.NfsArgs.TheVariants as nfs;
 ghost use Rattle.nfs_inodes.specs.Reading.{totals_at};
 ghost use Rattle.nfs_inodes.specs.Views.{volume_seen};
-ghost use Rattle.nfs_procs.specs.Performing.{Performs};
+ghost use Rattle.nfs_procs.specs.Performing.{AppendsAnswer, Performs};
 ghost use Rattle.nfs_procs.specs.Readers as procedure;
 ghost use Rattle.nfs_procs.specs.Scenes.{scene};
-ghost use Rattle.nfs_xdr.specs.Written.{Appends};
 
 use crate::call::Call;
 use crate::done::Done;
@@ -39,8 +37,8 @@ pub(crate) fn fs_stat(tree: &Tree, call: &Call<'_>, handle: &Opaque<'_>, out: &m
 
 fn write_granted(out: &mut Output, tree: &Tree, file: &Fattr)
     requires { largest_of proc.FsStat ≤ out.old.room }
-    ensures { Appends (nfs_text (answer.FsStat (Ok
-        (procedure.room_in (slice_get tree.now.volumes (file.now.fsid - 1)) (totals_at tree.now (file.now.fsid - 1)) file.now)))) out.old
+    ensures { AppendsAnswer (answer.FsStat (Ok
+        (procedure.room_in (slice_get tree.now.volumes (file.now.fsid - 1)) (totals_at tree.now (file.now.fsid - 1)) file.now))) out.old
         out.new }
 {
     out.u32(0);

@@ -1,15 +1,13 @@
 //! GETATTR: the attributes of a file (RFC 1813, section 3.3.1).
 ghost use Rattle.std.specs.Prelude.{◌≡◌, ◌≤◌, Ok, Err};
-ghost use Rattle.nfs_args.specs.Answers.{nfs_text};
 ghost use Rattle.nfs_args.specs.Sizes.{largest_of, status_size};
 ghost use Rattle.nfs_args.specs.declared.procedure.Procedure.TheVariants as proc;
 ghost use Rattle.nfs_args.specs.declared.answer.NfsAnswer.TheVariants as answer;
 ghost use Rattle.nfs_args.specs.declared.args.NfsArgs.TheVariants as nfs;
-ghost use Rattle.nfs_procs.specs.Performing.{Performs};
+ghost use Rattle.nfs_procs.specs.Performing.{AppendsAnswer, Performs};
 ghost use Rattle.nfs_procs.specs.Readers as procedure;
 ghost use Rattle.nfs_procs.specs.Scenes.{scene};
 ghost use Rattle.nfs_rules.specs.Rules.{status_of};
-ghost use Rattle.nfs_xdr.specs.Written.{Appends};
 
 use crate::call::Call;
 use crate::done::Done;
@@ -39,7 +37,7 @@ pub(crate) fn get_attr(tree: &Tree, call: &Call<'_>, handle: &Opaque<'_>, out: &
 
 fn write_granted(out: &mut Output, file: &Fattr)
     requires { largest_of proc.GetAttr ≤ out.old.room }
-    ensures { Appends (nfs_text (answer.GetAttr (Ok file.now))) out.old out.new }
+    ensures { AppendsAnswer (answer.GetAttr (Ok file.now)) out.old out.new }
 {
     out.u32(0);
     write_fattr(out, file);
@@ -47,7 +45,7 @@ fn write_granted(out: &mut Output, file: &Fattr)
 
 fn write_denied(out: &mut Output, rule: Rule)
     requires { status_size ≤ out.old.room }
-    ensures { Appends (nfs_text (answer.GetAttr (Err (record { status = status_of rule; shown = tt })))) out.old out.new }
+    ensures { AppendsAnswer (answer.GetAttr (Err (record { status = status_of rule; shown = tt }))) out.old out.new }
 {
     out.u32(rule.status());
 }

@@ -1,7 +1,7 @@
 //! LINK: a further name for a file (RFC 1813, section 3.3.15).
 ghost use Rattle.std.specs.Prelude.{◌≡◌, ◌≤◌, ◌++◌};
 ghost use Rattle.std.specs.Int.{w32, to_be_bytes};
-ghost use Rattle.nfs_args.specs.Results.{linked_text};
+ghost use Rattle.nfs_args.specs.Results.{IsFailed, IsLinked, linked_text};
 ghost use Rattle.nfs_args.specs.Sizes.{largest_of};
 ghost use Rattle.nfs_args.specs.declared.procedure.Procedure.TheVariants as proc;
 ghost use Rattle.nfs_args.specs.declared.args.NfsArgs.TheVariants as nfs;
@@ -64,6 +64,11 @@ fn write_denied(out: &mut Output, denial: &PairDenial) -> Done
     requires { largest_of proc.Link ≤ out.old.room }
     ensures text { Appends (to_be_bytes w32 (status_of denial.now.rule) ++ linked_text
         (record { attributes = denial.now.one; dir = doing.no_change denial.now.two })) out.old out.new }
+    ensures spelled { IsFailed IsLinked (record {
+      status = status_of denial.now.rule;
+      shown = record { attributes = denial.now.one; dir = doing.no_change denial.now.two };
+    }) (to_be_bytes w32 (status_of denial.now.rule) ++ linked_text
+        (record { attributes = denial.now.one; dir = doing.no_change denial.now.two })) }
     ensures done { result ≡ done.Denied denial.now.rule denial.now.uid }
 {
     out.u32(denial.rule.status());

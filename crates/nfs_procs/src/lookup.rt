@@ -1,16 +1,14 @@
 //! LOOKUP: the file under a name (RFC 1813, section 3.3.3).
 ghost use Rattle.std.specs.Prelude.{◌≡◌, ◌≤◌, Some, Ok};
-ghost use Rattle.nfs_args.specs.Answers.{nfs_text};
 ghost use Rattle.nfs_args.specs.Sizes.{largest_of};
 ghost use Rattle.nfs_args.specs.declared.procedure.Procedure.TheVariants as proc;
 ghost use Rattle.nfs_args.specs.declared.answer.NfsAnswer.TheVariants as answer;
 ghost use Rattle.nfs_args.specs.declared.args.NfsArgs.TheVariants as nfs;
 ghost use Rattle.nfs_procs.specs.Denials.{Decides};
-ghost use Rattle.nfs_procs.specs.Performing.{Performs};
+ghost use Rattle.nfs_procs.specs.Performing.{AppendsAnswer, Performs};
 ghost use Rattle.nfs_procs.specs.Plans.{PlansFound};
 ghost use Rattle.nfs_procs.specs.Readers as procedure;
 ghost use Rattle.nfs_procs.specs.Scenes.{scene};
-ghost use Rattle.nfs_xdr.specs.Written.{Appends};
 
 use crate::call::Call;
 use crate::denial::Denial;
@@ -59,8 +57,8 @@ fn decide<'a>(
 
 fn write_granted(out: &mut Output, handle: &[u8; 24], file: &Fattr, dir: &Fattr)
     requires { largest_of proc.Lookup ≤ out.old.room }
-    ensures { Appends (nfs_text (answer.Lookup (Ok
-        (record { file = handle.now; attributes = Some file.now; dir = Some dir.now })))) out.old out.new }
+    ensures { AppendsAnswer (answer.Lookup (Ok
+        (record { file = handle.now; attributes = Some file.now; dir = Some dir.now }))) out.old out.new }
 {
     out.u32(0);
     write_found(

@@ -1,14 +1,12 @@
 //! PATHCONF: what names may be (RFC 1813, section 3.3.20).
 ghost use Rattle.std.specs.Prelude.{◌≡◌, ◌≤◌, Ok};
-ghost use Rattle.nfs_args.specs.Answers.{nfs_text};
 ghost use Rattle.nfs_args.specs.Sizes.{largest_of};
 ghost use Rattle.nfs_args.specs.declared.procedure.Procedure.TheVariants as proc;
 ghost use Rattle.nfs_args.specs.declared.answer.NfsAnswer.TheVariants as answer;
 ghost use Rattle.nfs_args.specs.declared.args.NfsArgs.TheVariants as nfs;
-ghost use Rattle.nfs_procs.specs.Performing.{Performs};
+ghost use Rattle.nfs_procs.specs.Performing.{AppendsAnswer, Performs};
 ghost use Rattle.nfs_procs.specs.Readers as procedure;
 ghost use Rattle.nfs_procs.specs.Scenes.{scene};
-ghost use Rattle.nfs_xdr.specs.Written.{Appends};
 
 use crate::call::Call;
 use crate::done::Done;
@@ -37,7 +35,7 @@ pub(crate) fn path_conf(tree: &Tree, call: &Call<'_>, handle: &Opaque<'_>, out: 
 
 fn write_granted(out: &mut Output, file: &Fattr)
     requires { largest_of proc.PathConf ≤ out.old.room }
-    ensures { Appends (nfs_text (answer.PathConf (Ok (procedure.path_limits file.now)))) out.old out.new }
+    ensures { AppendsAnswer (answer.PathConf (Ok (procedure.path_limits file.now))) out.old out.new }
 {
     out.u32(0);
     write_path_limits(out, &path_limits(file));

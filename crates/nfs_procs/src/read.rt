@@ -1,6 +1,5 @@
 //! READ: bytes of a file (RFC 1813, section 3.3.6).
 ghost use Rattle.std.specs.Prelude.{◌≡◌, ◌+◌, ◌^◌, ◌<◌, ◌≤◌, true, Some, Ok, length, take, drop, min, nat_le};
-ghost use Rattle.nfs_args.specs.Answers.{nfs_text};
 ghost use Rattle.nfs_args.specs.Sizes.{largest_of};
 ghost use Rattle.nfs_args.specs.declared.procedure.Procedure.TheVariants as proc;
 ghost use Rattle.nfs_args.specs.declared.answer.NfsAnswer.TheVariants as answer;
@@ -8,7 +7,7 @@ ghost use Rattle.nfs_args.specs.declared.args.NfsArgs.TheVariants as nfs;
 ghost use Rattle.nfs_procs.specs.Denials.{Decides};
 ghost use Rattle.nfs_inodes.specs.Reading.{bytes_at, is_regular_type};
 ghost use Rattle.nfs_inodes.specs.Views.{IsSeen, bytes_seen};
-ghost use Rattle.nfs_procs.specs.Performing.{Performs};
+ghost use Rattle.nfs_procs.specs.Performing.{AppendsAnswer, Performs};
 ghost use Rattle.nfs_procs.specs.Plans.{PlansData};
 ghost use Rattle.nfs_procs.specs.Readers as procedure;
 ghost use Rattle.nfs_procs.specs.Scenes.{scene};
@@ -58,9 +57,9 @@ fn write_data(out: &mut Output, tree: &Tree, file: &FileView<'_>, offset: u64, c
     requires seen { IsSeen tree.now file.now }
     requires regular { is_regular_type file.now.attributes.file_type ≡ true }
     requires room { largest_of proc.Read ≤ out.old.room }
-    ensures { Appends (nfs_text (answer.Read (Ok
+    ensures { AppendsAnswer (answer.Read (Ok
         (procedure.data_of file.now.attributes offset (take (min count procedure.max_transfer)
-        (drop offset (bytes_at tree.now file.now.attributes.fileid))))))) out.old out.new }
+        (drop offset (bytes_at tree.now file.now.attributes.fileid)))))) out.old out.new }
 {
     let attributes = file.attributes();
     let left = attributes.size.saturating_sub(offset);

@@ -1,6 +1,5 @@
 //! READDIR: entries of a directory (RFC 1813, section 3.3.16).
 ghost use Rattle.std.specs.Prelude.{◌≡◌, ◌≤◌, false, Ok};
-ghost use Rattle.nfs_args.specs.Answers.{nfs_text};
 ghost use Rattle.nfs_args.specs.Sizes.{largest_of};
 ghost use Rattle.nfs_args.specs.declared.procedure.Procedure.TheVariants as proc;
 ghost use Rattle.nfs_args.specs.declared.answer.NfsAnswer.TheVariants as answer;
@@ -8,11 +7,10 @@ ghost use Rattle.nfs_args.specs.declared.args.NfsArgs.TheVariants as nfs;
 ghost use Rattle.nfs_dirs.specs.Pages.{fits, is_too_small, left_after};
 ghost use Rattle.nfs_inodes.specs.Views.{IsSeen};
 ghost use Rattle.nfs_procs.specs.Denials.{Decides};
-ghost use Rattle.nfs_procs.specs.Performing.{Performs};
+ghost use Rattle.nfs_procs.specs.Performing.{AppendsAnswer, Performs};
 ghost use Rattle.nfs_procs.specs.Plans.{PlansPage};
 ghost use Rattle.nfs_procs.specs.Readers as procedure;
 ghost use Rattle.nfs_procs.specs.Scenes.{scene};
-ghost use Rattle.nfs_xdr.specs.Written.{Appends};
 
 use crate::call::Call;
 use crate::denial::Denial;
@@ -59,7 +57,7 @@ fn write_granted(out: &mut Output, tree: &Tree, dir: &FileView<'_>, cookie: u64,
     requires seen { IsSeen tree.now dir.now }
     requires large { is_too_small (fits count) (left_after tree.now dir.now.attributes.fileid cookie) ≡ false }
     requires room { largest_of proc.ReadDir ≤ out.old.room }
-    ensures { Appends (nfs_text (answer.ReadDir (Ok (procedure.page_at tree.now dir.now.attributes cookie count)))) out.old out.new }
+    ensures { AppendsAnswer (answer.ReadDir (Ok (procedure.page_at tree.now dir.now.attributes cookie count))) out.old out.new }
 {
     out.u32(0);
     write_page_head(out, Some(&dir.attributes()), COOKIE_VERIFIER);

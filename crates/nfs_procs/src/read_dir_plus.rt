@@ -1,6 +1,5 @@
 //! READDIRPLUS: entries of a directory with what their files are (RFC 1813, section 3.3.17).
 ghost use Rattle.std.specs.Prelude.{◌≡◌, ◌≤◌, false, Ok};
-ghost use Rattle.nfs_args.specs.Answers.{nfs_text};
 ghost use Rattle.nfs_args.specs.Sizes.{largest_of};
 ghost use Rattle.nfs_args.specs.declared.procedure.Procedure.TheVariants as proc;
 ghost use Rattle.nfs_args.specs.declared.answer.NfsAnswer.TheVariants as answer;
@@ -8,11 +7,10 @@ ghost use Rattle.nfs_args.specs.declared.args.NfsArgs.TheVariants as nfs;
 ghost use Rattle.nfs_dirs.specs.Pages.{fits_plus, is_too_small, left_after};
 ghost use Rattle.nfs_inodes.specs.Views.{IsSeen};
 ghost use Rattle.nfs_procs.specs.Denials.{Decides};
-ghost use Rattle.nfs_procs.specs.Performing.{Performs};
+ghost use Rattle.nfs_procs.specs.Performing.{AppendsAnswer, Performs};
 ghost use Rattle.nfs_procs.specs.Plans.{PlansPagePlus};
 ghost use Rattle.nfs_procs.specs.Readers as procedure;
 ghost use Rattle.nfs_procs.specs.Scenes.{scene};
-ghost use Rattle.nfs_xdr.specs.Written.{Appends};
 
 use crate::call::Call;
 use crate::denial::Denial;
@@ -75,8 +73,9 @@ fn write_granted(
     requires large { is_too_small (fits_plus args.now.dircount args.now.maxcount searchable)
         (left_after tree.now dir.now.attributes.fileid args.now.cookie) ≡ false }
     requires room { largest_of proc.ReadDirPlus ≤ out.old.room }
-    ensures { Appends (nfs_text (answer.ReadDirPlus
-        (Ok (procedure.page_plus_at tree.now dir.now.attributes searchable args.now.cookie args.now.dircount args.now.maxcount)))) out.old out.new }
+    ensures { AppendsAnswer (answer.ReadDirPlus
+        (Ok (procedure.page_plus_at tree.now dir.now.attributes searchable args.now.cookie args.now.dircount args.now.maxcount)))
+        out.old out.new }
 {
     let (dircount, maxcount) = (args.dircount, args.maxcount);
     out.u32(0);

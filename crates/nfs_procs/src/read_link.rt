@@ -1,6 +1,5 @@
 //! READLINK: the path of a symbolic link (RFC 1813, section 3.3.5).
 ghost use Rattle.std.specs.Prelude.{◌≡◌, ◌≤◌, [], length, Some, Ok};
-ghost use Rattle.nfs_args.specs.Answers.{nfs_text};
 ghost use Rattle.nfs_args.specs.Sizes.{largest_of, max_path};
 ghost use Rattle.nfs_args.specs.declared.procedure.Procedure.TheVariants as proc;
 ghost use Rattle.nfs_args.specs.declared.answer.NfsAnswer.TheVariants as answer;
@@ -8,11 +7,10 @@ ghost use Rattle.nfs_args.specs.declared.args.NfsArgs.TheVariants as nfs;
 ghost use Rattle.nfs_inodes.specs.Reading.{path_at};
 ghost use Rattle.nfs_inodes.specs.Tree.{on_some};
 ghost use Rattle.nfs_procs.specs.Denials.{Decides};
-ghost use Rattle.nfs_procs.specs.Performing.{Performs};
+ghost use Rattle.nfs_procs.specs.Performing.{AppendsAnswer, Performs};
 ghost use Rattle.nfs_procs.specs.Plans.{PlansReading};
 ghost use Rattle.nfs_procs.specs.Readers as procedure;
 ghost use Rattle.nfs_procs.specs.Scenes.{scene};
-ghost use Rattle.nfs_xdr.specs.Written.{Appends};
 
 use crate::call::Call;
 use crate::denial::Denial;
@@ -54,8 +52,8 @@ fn decide<'a>(tree: &'a Tree, call: &Call<'a>, handle: &Opaque<'_>) -> Result<Su
 
 fn write_granted(out: &mut Output, tree: &Tree, file: &Fattr)
     requires { largest_of proc.ReadLink ≤ out.old.room }
-    ensures { Appends (nfs_text (answer.ReadLink (Ok
-        (record { attributes = Some file.now; path = on_some (path_at tree.now file.now.fileid) [] (λ path. path) })))) out.old out.new }
+    ensures { AppendsAnswer (answer.ReadLink (Ok
+        (record { attributes = Some file.now; path = on_some (path_at tree.now file.now.fileid) [] (λ path. path) }))) out.old out.new }
 {
     let path = path_of(tree, Number(file.fileid));
     out.u32(0);

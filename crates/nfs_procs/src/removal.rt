@@ -2,7 +2,7 @@
 ghost use Rattle.std.specs.Prelude.{◌≡◌, ◌+◌, ◌≤◌, ◌++◌, Some};
 ghost use Rattle.std.specs.Int.{w32, to_be_bytes};
 ghost use Rattle.nfs_args.specs.Sizes.{change_size, status_size};
-ghost use Rattle.nfs_attrs.specs.Spelling.{wcc_text};
+ghost use Rattle.nfs_attrs.specs.Spelling.{IsWcc, wcc_text};
 ghost use Rattle.nfs_inodes.specs.Changes.{after_unlink};
 ghost use Rattle.nfs_inodes.specs.Conditions.{MayUnlinkSeen};
 ghost use Rattle.nfs_inodes.specs.Reading.{attributes_at};
@@ -53,6 +53,8 @@ pub(crate) fn remove_entry(
     ensures tree { tree.new ≡ after_unlink tree.old plan.now.dir.fileid name.now now }
     ensures text { Appends (to_be_bytes w32 0 ++ wcc_text (doing.change (Some plan.now.dir) (attributes_at tree.new plan.now.dir.fileid)))
         out.old out.new }
+    ensures spelled { IsWcc (doing.change (Some plan.now.dir) (attributes_at tree.new plan.now.dir.fileid))
+        (wcc_text (doing.change (Some plan.now.dir) (attributes_at tree.new plan.now.dir.fileid))) }
 {
     let dir = Number(plan.dir.fileid);
     tree.unlink_seen(dir, name, plan.number, plan.file, now);

@@ -1,17 +1,15 @@
 //! WRITE: bytes into a file, which are safe at once (RFC 1813, section 3.3.7).
 ghost use Rattle.std.specs.Prelude.{◌≡◌, ◌<◌, ◌≤◌, ◌^◌, Ok};
-ghost use Rattle.nfs_args.specs.Answers.{nfs_text};
 ghost use Rattle.nfs_args.specs.Sizes.{largest_of};
 ghost use Rattle.nfs_args.specs.declared.procedure.Procedure.TheVariants as proc;
 ghost use Rattle.nfs_args.specs.declared.answer.NfsAnswer.TheVariants as answer;
 ghost use Rattle.nfs_args.specs.declared.args.NfsArgs.TheVariants as nfs;
 ghost use Rattle.nfs_args.specs.declared.write.Stability.TheVariants.{FileSync};
 ghost use Rattle.nfs_procs.specs.Denials.{Decides};
-ghost use Rattle.nfs_procs.specs.Performing.{Performs};
+ghost use Rattle.nfs_procs.specs.Performing.{AppendsAnswer, Performs};
 ghost use Rattle.nfs_procs.specs.Plans.{PlansBytes};
 ghost use Rattle.nfs_procs.specs.Changers as procedure;
 ghost use Rattle.nfs_procs.specs.Scenes.{scene};
-ghost use Rattle.nfs_xdr.specs.Written.{Appends};
 
 use crate::call::Call;
 use crate::denial::Denial;
@@ -65,8 +63,8 @@ fn decide(tree: &Tree, call: &Call<'_>, args: &Write<'_>) -> Result<Fattr, Denia
 fn write_granted(out: &mut Output, file: Wcc, count: usize, verifier: u64)
     requires room { largest_of proc.Write ≤ out.old.room }
     requires count { count < 2 ^ 32 }
-    ensures { Appends (nfs_text (answer.Write (Ok
-        (record { file = file; count = count; committed = FileSync; verifier = verifier })))) out.old out.new }
+    ensures { AppendsAnswer (answer.Write (Ok
+        (record { file = file; count = count; committed = FileSync; verifier = verifier }))) out.old out.new }
 {
     out.u32(0);
     write_written(

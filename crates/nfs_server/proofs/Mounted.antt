@@ -78,13 +78,13 @@ module _ (t : Tree) (exports : List (List Export)) (addr : Addr) (call : Call) (
   Replies = (text : List ℕ) → after.bytes ≡ before.bytes ++ text → reply ≡ success call text
 
   left : (answer : MountAnswer) (mounts : List Mount) → Leaves answer mounts came new before after → Replies → MountDone call (StateOf old) answer mounts (told reply None) (StateOf new)
-  left answer mounts l wrote = (ap granted (wrote (mount_text answer) l.2.bytes), ap StateOf l.1)
+  left answer mounts l wrote = (ap granted (wrote (mount_text answer) l.2.bytes), ap StateOf l.1, l.3)
 
   pub granted_mount : (args : MountArgs) → came ≡ Granted → MountsAs args t exports addr came old new before after → Replies → AnswersMount args exports (StateOf old) addr call (told reply None) new
   granted_mount asked.Null e m wrote = λ again. (no_choice again, refl, left result.Null old m wrote)
   granted_mount (asked.Mount path) e m wrote =
       let g : Mounts t exports addr path Granted old new before after = subst (λ x. Mounts t exports addr path x old new before after) e m in
-      λ again. (no_choice again, refl, subst (λ v. MountDecided v true (StateOf old) addr path call (told reply None) (StateOf new)) (sym g.0) (g.2, g.3, (ap granted (wrote (mount_text (granted_answer g.2)) g.4.bytes), ap StateOf g.1)))
+      λ again. (no_choice again, refl, subst (λ v. MountDecided v true (StateOf old) addr path call (told reply None) (StateOf new)) (sym g.0) (g.2, g.3, (ap granted (wrote (mount_text (granted_answer g.2)) g.4.bytes), ap StateOf g.1, g.5)))
   granted_mount asked.Dump e m wrote = λ again. (no_choice again, refl, left (dump_answer t old) old m wrote)
   granted_mount (asked.Unmount path) e m wrote = λ again. (no_choice again, refl, left result.Unmount (after_umnt t addr path old) m wrote)
   granted_mount asked.UnmountAll e m wrote = λ again. (no_choice again, refl, left result.UnmountAll (without_addr addr old) m wrote)
@@ -96,7 +96,7 @@ module _ (t : Tree) (exports : List (List Export)) (addr : Addr) (call : Call) (
   denied_mount (asked.Mount path) line rule e m wrote line_is =
       let d : Mounts t exports addr path (Denied rule) old new before after = subst (λ x. Mounts t exports addr path x old new before after) e m in
       let text = mount_text (denied_answer rule) in
-      λ again. (no_choice again, refl, subst (λ v. MountDecided v true (StateOf old) addr path call (told reply (Some line)) (StateOf new)) (sym d.0) (ap (λ r. denied r line) (wrote text d.2.bytes) ∙ ap (denied (success call text)) line_is, ap StateOf d.1))
+      λ again. (no_choice again, refl, subst (λ v. MountDecided v true (StateOf old) addr path call (told reply (Some line)) (StateOf new)) (sym d.0) (ap (λ r. denied r line) (wrote text d.2.bytes) ∙ ap (denied (success call text)) line_is, ap StateOf d.1, d.3))
   denied_mount asked.Dump line rule e m wrote line_is = absurd (true≢false (ap is_granted (sym m.0 ∙ e)))
   denied_mount (asked.Unmount path) line rule e m wrote line_is = absurd (true≢false (ap is_granted (sym m.0 ∙ e)))
   denied_mount asked.UnmountAll line rule e m wrote line_is = absurd (true≢false (ap is_granted (sym m.0 ∙ e)))

@@ -37,8 +37,8 @@ pub room_kept : (c : Scene) (o : Option Doing) (came : Option Done) (new : Tree)
 room_kept c None None new before after p = ap (λ (w : Written). length w.bytes + w.room) p.1
 room_kept c None (Some came) new before after p = absurd p
 room_kept c (Some doing) None new before after p = absurd p
-room_kept c (Some doing) (Some Granted) new before after p = appends_room _ before after p.written
-room_kept c (Some doing) (Some (Denied rule uid)) new before after p = appends_room _ before after p.written
+room_kept c (Some doing) (Some Granted) new before after p = appends_room _ before after p.written.text
+room_kept c (Some doing) (Some (Denied rule uid)) new before after p = appends_room _ before after p.written.text
 room_kept c (Some doing) (Some Memory) new before after p = ap (λ (w : Written). length w.bytes + w.room) p.written
 
 longer : (text : List ℕ) (before after : Written) → Appends text before after → length before.bytes ≤ length after.bytes
@@ -48,8 +48,8 @@ pub none_lost : (c : Scene) (o : Option Doing) (came : Option Done) (new : Tree)
 none_lost c None None new before after p = omega (arith, ap (λ (w : Written). length w.bytes) p.1)
 none_lost c None (Some came) new before after p = absurd p
 none_lost c (Some doing) None new before after p = absurd p
-none_lost c (Some doing) (Some Granted) new before after p = longer _ before after p.written
-none_lost c (Some doing) (Some (Denied rule uid)) new before after p = longer _ before after p.written
+none_lost c (Some doing) (Some Granted) new before after p = longer _ before after p.written.text
+none_lost c (Some doing) (Some (Denied rule uid)) new before after p = longer _ before after p.written.text
 none_lost c (Some doing) (Some Memory) new before after p = omega (arith, ap (λ (w : Written). length w.bytes) p.written)
 
 -- ---- the reply
@@ -116,7 +116,7 @@ granted_done c (Some doing) came new before after call reply e performs wrote =
       choice,
       refl,
       subst (λ v. Decided v c doing call h.tag (told reply None) new) (sym h.granted.verdict)
-          (record { one = h.one; two = h.two; subjects = h.granted.subjects; new_is = h.new_is; answer_is = ap granted (wrote _ h.written.bytes) }),
+          (record { one = h.one; two = h.two; subjects = h.granted.subjects; new_is = h.new_is; answer_is = ap granted (wrote _ h.written.text.bytes); spelled = h.written.spelled }),
     )
 
 pub denied_done : (c : Scene) (o : Option Doing) (came : Option Done) (new : Tree) (before after : Written) (call : Call) (reply : List ℕ) (line : AuditLine) (rule : Rule) (uid : Option ℕ) → came ≡ Some (Denied rule uid) → PerformsAs c o came new before after
@@ -132,7 +132,8 @@ denied_done c (Some doing) came new before after call reply line rule uid e perf
       subst (λ v. Decided v c doing call 0 (told reply (Some line)) new) (sym h.verdict)
           (record {
             new_is = h.new_is;
-            answer_is = ap (λ r. denied r line) (wrote text h.written.bytes) ∙ ap (denied (success call text)) (line_is ∙ ap (λ u. line_of c.caller.addr call (reason.Rule rule u)) h.uid_is);
+            spelled = h.written.spelled;
+            answer_is = ap (λ r. denied r line) (wrote text h.written.text.bytes) ∙ ap (denied (success call text)) (line_is ∙ ap (λ u. line_of c.caller.addr call (reason.Rule rule u)) h.uid_is);
           }),
     )
 

@@ -11,7 +11,7 @@ use Rattle.nfs_exports.specs.declared.addr.Addr.{Addr}
 use Rattle.nfs_exports.specs.declared.table.Export.{Export}
 use Rattle.nfs_inodes.specs.Tree.{Tree}
 use Rattle.nfs_kept.specs.Places.{Key, Place, kept_reply, place_for, without}
-use Rattle.nfs_mount.specs.MountAnswers.{Mounts, dump_answer, export_answer}
+use Rattle.nfs_mount.specs.MountAnswers.{IsMountSpelled, Mounts, dump_answer, export_answer}
 use Rattle.nfs_mount.specs.Mounts.{after_umnt, without_addr}
 use Rattle.nfs_mount.specs.declared.mount.Mount.{Mount}
 use Rattle.nfs_mount.specs.declared.mounted.Mounted.{Mounted}
@@ -82,9 +82,10 @@ PerformsAnew c call answer old new = AnswersCall c call answer new.state.tree ×
 abbrev pub AnswersChange : Scene → Call → Held → Event → Answer → Held → Type 0
 AnswersChange c call old event answer new = AnswersKept true (kept_reply (key_of event) old.kept) (PerformsAnew c call answer old new) old event answer new.state new.kept
 
--- this is written, and these are the mounts afterwards
+-- this is written, as it is spelled, and these are the mounts afterwards
 abbrev pub Leaves : MountAnswer → List Mount → Mounted → List Mount → Written → Written → Type 0
-Leaves result mounts came new before after = (came ≡ Granted) × (new ≡ mounts) × Appends (mount_text result) before after
+Leaves result mounts came new before after =
+    (came ≡ Granted) × (new ≡ mounts) × Appends (mount_text result) before after × IsMountSpelled result
 
 -- what becomes of a call of MOUNT, of the mounts, and of the room for its result
 abbrev pub MountsAs : MountArgs → Tree → List (List Export) → Addr → Mounted → List Mount → List Mount → Written → Written → Type 0

@@ -10,11 +10,12 @@ use Rattle.nfs_args.specs.declared.mount_args.MountArgs.TheVariants as asked
 use Rattle.nfs_exports.specs.declared.addr.Addr.{Addr}
 use Rattle.nfs_exports.specs.declared.table.Export.{Export}
 use Rattle.nfs_inodes.specs.Tree.{Tree}
-use Rattle.nfs_mount.specs.MountAnswers.{denied_answer, dump_answer, export_answer, granted_answer, root_of}
+use Rattle.nfs_mount.specs.MountAnswers.{IsMountSpelled, denied_answer, dump_answer, export_answer, granted_answer, root_of}
 use Rattle.nfs_mount.specs.MountRules.{mount_verdict}
 use Rattle.nfs_mount.specs.Mounts.{after_mnt, after_umnt, is_mounted, without_addr}
 use Rattle.nfs_mount.specs.declared.mount.Mount.{Mount}
 use Rattle.nfs_procs.specs.Doing.{Doing}
+use Rattle.nfs_procs.specs.Performing.{IsSpelled}
 use Rattle.nfs_procs.specs.Procedures.{doing_of}
 use Rattle.nfs_procs.specs.Scenes.{Scene, verdict_in, subjects_in, seen_in}
 use Rattle.nfs_rpc.specs.Calls.{Call, head_at}
@@ -48,13 +49,14 @@ pub record State : Type 0 where
 abbrev pub success : Call → List ℕ → List ℕ
 success call result = accepted_text call.xid Success ++ result
 
--- The tree has the effect of the procedure, and the reply its result; both are of what the handles name.
+-- The tree has the effect of the procedure, and the reply its result, as it is spelled; both are of what the handles name.
 pub record HasDone (c : Scene) (doing : Doing) (call : Call) (tag : ℕ) (answer : Answer) (new : Tree) : Type 0 where
   pub one : Subject
   pub two : Subject
   pub subjects : subjects_in c ≡ Some (one, two)
   pub new_is : new ≡ doing.effect one two c.now tag
   pub answer_is : answer ≡ granted (success call (nfs_text (doing.granted one two new)))
+  pub spelled : IsSpelled (doing.granted one two new)
 
 -- Without memory, for its place among the kept replies or for what it adds, a call is answered SYSTEM_ERR, and the tree stays.
 pub record HasNone (c : Scene) (call : Call) (answer : Answer) (new : Tree) : Type 0 where
@@ -66,6 +68,7 @@ pub record HasNone (c : Scene) (call : Call) (answer : Answer) (new : Tree) : Ty
 pub record IsDenied (c : Scene) (doing : Doing) (call : Call) (rule : Rule) (answer : Answer) (new : Tree) : Type 0 where
   pub new_is : new ≡ c.tree
   pub answer_is : answer ≡ denied (success call (nfs_text (doing.denied (status_of rule) (seen_in c)))) (line_of c.caller.addr call (reason.Rule rule (option_map (λ s. s.0.ids.uid) (subjects_in c))))
+  pub spelled : IsSpelled (doing.denied (status_of rule) (seen_in c))
 
 -- by the first rule that fails
 abbrev pub Decided : Option Rule → Scene → Doing → Call → ℕ → Answer → Tree → Type 0
@@ -84,15 +87,17 @@ Performed procedure c call choice answer new = Refusable (not choice.has_memory 
 
 -- ---- a call of MOUNT
 
--- The reply has this result, and these are the mounts afterwards.
+-- The reply has this result, as it is spelled, and these are the mounts afterwards.
 abbrev pub MountDone : Call → State → MountAnswer → List Mount → Answer → State → Type 0
-MountDone call old result mounts answer new = (answer ≡ granted (success call (mount_text result))) × (new ≡ record { tree = old.tree; mounts = mounts })
+MountDone call old result mounts answer new =
+    (answer ≡ granted (success call (mount_text result))) × (new ≡ record { tree = old.tree; mounts = mounts }) × IsMountSpelled result
 
 -- MNT, by the first rule that fails, and, where none does, by whether there is memory. A rule is told without
 -- a uid. Without memory nothing is done, which is only where the pair is new.
 abbrev pub MountDecided : Option Rule → Bool → State → Addr → List ℕ → Call → Answer → State → Type 0
 MountDecided (Some rule) has_memory old addr path call answer new =
     (answer ≡ denied (success call (mount_text (denied_answer rule))) (line_of addr call (reason.Rule rule None))) × (new ≡ old)
+    × IsMountSpelled (denied_answer rule)
 MountDecided None true old addr path call answer new = (handle : List ℕ) × (root_of old.tree path ≡ Some handle)
     × MountDone call old (granted_answer handle) (after_mnt old.tree addr path old.mounts) answer new
 MountDecided None false old addr path call answer new = (is_mounted old.tree addr path old.mounts ≡ false)

@@ -1,16 +1,15 @@
 use Rattle.std.proofs.Common.{Ok, refl, subst}
-use Rattle.nfs_args.specs.Answers.{nfs_text}
 use Rattle.nfs_args.specs.declared.answer.NfsAnswer.TheVariants as answer
 use Rattle.nfs_args.specs.declared.args.NfsArgs.TheVariants as nfs
-use Rattle.nfs_xdr.specs.Written.{Appends}
 use Rattle.nfs_procs.proofs.Judged.{denied_by_handle}
 use Rattle.nfs_procs.proofs.Reading.{reads_freely}
+use Rattle.nfs_procs.specs.Performing.{AppendsAnswer}
 use Rattle.nfs_procs.specs.Readers as procedure
 use Rattle.nfs_procs.proofs.get_attr.get_attr.Goals as goal
 
 pub returns-in-Ok : goal.returns-in-Ok
 returns-in-Ok c = reads_freely c.args.tree.now c.args.call.now (nfs.GetAttr c.args.handle.now) procedure.get_attr c.args.handle.now refl c.in-Ok.file _ _ refl refl c.in-Ok.ensures
-    (subst (λ file. Appends (nfs_text (answer.GetAttr (Ok file))) c.args.out.now c.write_granted.new.out) c.attributes.ensures c.write_granted.ensures)
+    (subst (λ file. AppendsAnswer (answer.GetAttr (Ok file)) c.args.out.now c.write_granted.new.out) c.attributes.ensures c.write_granted.ensures)
 
 pub returns-in-Err : goal.returns-in-Err
 returns-in-Err c =

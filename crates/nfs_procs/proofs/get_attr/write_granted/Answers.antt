@@ -1,5 +1,12 @@
+use Rattle.nfs_args.specs.Results.{IsEmpty}
+use Rattle.nfs_args.specs.declared.answer.NfsAnswer.TheVariants as answer
+use Rattle.nfs_attrs.specs.Spelling.{IsFattr, fattr_text}
+use Rattle.nfs_procs.proofs.Spelled.{granted_spelled}
 use Rattle.nfs_xdr.proofs.Writing.{appends_then}
 use Rattle.nfs_procs.proofs.get_attr.write_granted.Goals as goal
 
 pub returns : goal.returns
-returns c = appends_then _ _ _ _ _ c.u32.ensures.text c.write_fattr.ensures.text
+returns c = record {
+  text = appends_then _ _ _ _ _ c.u32.ensures.text c.write_fattr.ensures.text;
+  spelled = granted_spelled answer.GetAttr IsFattr IsEmpty fattr_text _ c.write_fattr.ensures.spelled;
+}

@@ -1,9 +1,16 @@
 use Rattle.std.proofs.Common.{Some, subst}
-use Rattle.nfs_args.specs.Results.{found_text}
+use Rattle.std.specs.Prelude.{Ok}
+use Rattle.nfs_args.specs.Results.{IsFound, found_text}
+use Rattle.nfs_args.specs.declared.answer.NfsAnswer.TheVariants as answer
+use Rattle.nfs_attrs.specs.Spelling.{IsPostOpAttr}
+use Rattle.nfs_procs.proofs.Spelled.{granted_spelled}
+use Rattle.nfs_procs.specs.Performing.{AppendsAnswer}
 use Rattle.nfs_xdr.proofs.Writing.{appends_then}
-use Rattle.nfs_xdr.specs.Written.{Appends}
 use Rattle.nfs_procs.proofs.lookup.write_granted.Goals as goal
 
 pub returns : goal.returns
-returns c = appends_then _ _ _ _ _ c.u32.ensures.text
-    (subst (λ file. Appends (found_text (record { file = file; attributes = Some c.args.file.now; dir = Some c.args.dir.now })) c.u32.new.self c.write_found.new.out) c.new.ensures c.write_found.ensures.text)
+returns c =
+    subst (λ file. AppendsAnswer (answer.Lookup (Ok (record { file = file; attributes = Some c.args.file.now; dir = Some c.args.dir.now }))) c.args.out.now c.write_found.new.out) c.new.ensures (record {
+      text = appends_then _ _ _ _ _ c.u32.ensures.text c.write_found.ensures.text;
+      spelled = granted_spelled answer.Lookup IsFound IsPostOpAttr found_text _ c.write_found.ensures.spelled;
+    })

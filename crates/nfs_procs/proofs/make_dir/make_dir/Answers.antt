@@ -1,5 +1,11 @@
-use Rattle.std.proofs.Common.{Some, ap, subst, ◌∙◌}
+use Rattle.std.proofs.Common.{Some, ap, subst, ◌∙◌, refl}
+use Rattle.nfs_args.specs.Results.{IsMade}
+use Rattle.nfs_args.specs.declared.answer.NfsAnswer.TheVariants as answer
+use Rattle.nfs_attrs.specs.Spelling.{IsWcc}
 use Rattle.nfs_inodes.specs.Changes.{Makes, after_make_dir}
+use Rattle.nfs_procs.proofs.Reading.{denies, with_change}
+use Rattle.nfs_procs.proofs.Spelled.{denied_spelled}
+use Rattle.nfs_procs.specs.Changers as procedure
 use Rattle.nfs_procs.specs.Doing.{change}
 use Rattle.nfs_args.specs.declared.args.NfsArgs.TheVariants as nfs
 use Rattle.nfs_procs.proofs.MakeDir.{made_directory}
@@ -11,4 +17,10 @@ returns c =
     let plans = c.in-Ok.ensures in
     made_directory (scene c.args.tree.now c.args.call.now (nfs.MakeDir c.args.args.now)) c.args.args.now plans.0 c.in-Ok.plan c.make_dir.new.self c.in-Ok-make_dir.made.0 c.change.result _ _ _ plans.1 plans.2
     (subst (λ name. Makes (λ tag. after_make_dir c.args.tree.now c.in-Ok.plan.dir.fileid name c.in-Ok.plan.given tag c.args.call.now.moment) c.make_dir.new.self) c.bytes.ensures c.in-Ok-make_dir.ensures.ok)
-    c.in-Ok-make_dir.ensures.number (c.change.ensures ∙ ap (change (Some c.in-Ok.plan.dir)) c.attributes.ensures) c.u32.ensures.text c.write_new_file.ensures
+    c.in-Ok-make_dir.ensures.number (c.change.ensures ∙ ap (change (Some c.in-Ok.plan.dir)) c.attributes.ensures) c.u32.ensures.text c.write_new_file.ensures.text c.write_new_file.ensures.spelled
+
+pub returns-in-Err : goal.returns-in-Err
+returns-in-Err c =
+    let a = c.args.args.now in
+    denies (scene c.args.tree.now c.args.call.now (nfs.MakeDir a)) (procedure.make_dir a) a.place.dir c.in-Err.denial c.write_denied_change.result (with_change answer.MakeDir c.in-Err.denial.rule) _ _ c.in-Err.ensures refl
+    (record { text = c.write_denied_change.ensures.text; spelled = denied_spelled answer.MakeDir IsMade IsWcc _ _ c.write_denied_change.ensures.spelled }) c.write_denied_change.ensures.done

@@ -1,8 +1,15 @@
 use Rattle.std.proofs.Common.{subst}
-use Rattle.nfs_args.specs.Results.{path_limits_text}
+use Rattle.std.specs.Prelude.{Ok}
+use Rattle.nfs_args.specs.Results.{IsPathLimits, path_limits_text}
+use Rattle.nfs_args.specs.declared.answer.NfsAnswer.TheVariants as answer
+use Rattle.nfs_attrs.specs.Spelling.{IsPostOpAttr}
+use Rattle.nfs_procs.proofs.Spelled.{granted_spelled}
+use Rattle.nfs_procs.specs.Performing.{AppendsAnswer}
 use Rattle.nfs_xdr.proofs.Writing.{appends_then}
-use Rattle.nfs_xdr.specs.Written.{Appends}
 use Rattle.nfs_procs.proofs.path_conf.write_granted.Goals as goal
 
 pub returns : goal.returns
-returns c = appends_then _ _ _ _ _ c.u32.ensures.text (subst (λ limits. Appends (path_limits_text limits) c.u32.new.self c.write_path_limits.new.out) c.path_limits.ensures c.write_path_limits.ensures.text)
+returns c = subst (λ value. AppendsAnswer (answer.PathConf (Ok value)) c.args.out.now c.write_path_limits.new.out) c.path_limits.ensures (record {
+  text = appends_then _ _ _ _ _ c.u32.ensures.text c.write_path_limits.ensures.text;
+  spelled = granted_spelled answer.PathConf IsPathLimits IsPostOpAttr path_limits_text _ c.write_path_limits.ensures.spelled;
+})

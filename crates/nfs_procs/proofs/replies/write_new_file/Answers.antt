@@ -1,14 +1,22 @@
 use Rattle.std.proofs.Common.{subst, ◌∙◌}
-use Rattle.nfs_args.specs.Results.{made_text}
+use Rattle.nfs_args.specs.Results.{IsMade, made_text}
 use Rattle.nfs_args.specs.declared.made.Made.{Made}
 use Rattle.nfs_procs.proofs.Made.{shows_seen, shows_none}
 use Rattle.nfs_xdr.specs.Written.{Appends}
 use Rattle.nfs_procs.proofs.replies.write_new_file.Goals as goal
 
-pub returns-in-Some : goal.returns-in-Some
-returns-in-Some c = subst (λ (m : Made). Appends (made_text m) c.args.out.now c.write_made.new.out)
+pub returns-in-Some-clause-text : goal.returns-in-Some-clause-text
+returns-in-Some-clause-text c = subst (λ (m : Made). Appends (made_text m) c.args.out.now c.write_made.new.out)
     (shows_seen c.args.tree.now c.args.file.0 c.args.dir c.in-Some.file c.new.result c.handle-handle.result c.attributes.result c.in-Some.ensures.some c.in-Some.ensures.number c.handle-handle.ensures (c.new.ensures ∙ c.as_slice.ensures) c.attributes.ensures)
     c.write_made.ensures.text
 
-pub returns-in-None : goal.returns-in-None
-returns-in-None c = subst (λ (m : Made). Appends (made_text m) c.args.out.now c.write_made-in-None.new.out) (shows_none c.args.tree.now c.args.file.0 c.args.dir c.in-None.ensures.none) c.write_made-in-None.ensures.text
+pub returns-in-None-clause-text : goal.returns-in-None-clause-text
+returns-in-None-clause-text c = subst (λ (m : Made). Appends (made_text m) c.args.out.now c.write_made-in-None.new.out) (shows_none c.args.tree.now c.args.file.0 c.args.dir c.in-None.ensures.none) c.write_made-in-None.ensures.text
+
+pub returns-in-Some-clause-spelled : goal.returns-in-Some-clause-spelled
+returns-in-Some-clause-spelled c = subst (λ (m : Made). IsMade m (made_text m))
+    (shows_seen c.args.tree.now c.args.file.0 c.args.dir c.in-Some.file c.new.result c.handle-handle.result c.attributes.result c.in-Some.ensures.some c.in-Some.ensures.number c.handle-handle.ensures (c.new.ensures ∙ c.as_slice.ensures) c.attributes.ensures)
+    c.write_made.ensures.spelled
+
+pub returns-in-None-clause-spelled : goal.returns-in-None-clause-spelled
+returns-in-None-clause-spelled c = subst (λ (m : Made). IsMade m (made_text m)) (shows_none c.args.tree.now c.args.file.0 c.args.dir c.in-None.ensures.none) c.write_made-in-None.ensures.spelled

@@ -1,9 +1,15 @@
-use Rattle.std.proofs.Common.{ap, ◌∙◌, length}
+use Rattle.std.proofs.Common.{ap, ◌∙◌, length, refl}
 use Rattle.std.specs.Int.{w64, from_be_bytes}
 use Rattle.std.specs.Prelude.{Some}
+use Rattle.nfs_args.specs.Results.{IsWritten}
+use Rattle.nfs_args.specs.declared.answer.NfsAnswer.TheVariants as answer
 use Rattle.nfs_args.specs.declared.args.NfsArgs.TheVariants as nfs
+use Rattle.nfs_attrs.specs.Spelling.{IsWcc}
 use Rattle.nfs_inodes.specs.Changes.{after_write_at}
+use Rattle.nfs_procs.proofs.Reading.{denies, with_change}
+use Rattle.nfs_procs.proofs.Spelled.{denied_spelled}
 use Rattle.nfs_procs.proofs.WrittenBytes.{wrote, unwritten}
+use Rattle.nfs_procs.specs.Changers as procedure
 use Rattle.nfs_procs.specs.Doing.{change}
 use Rattle.nfs_procs.specs.Scenes.{scene}
 use Rattle.nfs_procs.proofs.write.write.Goals as goal
@@ -27,3 +33,9 @@ returns-in_default c =
     let plans = c.in-Ok.ensures in
     unwritten (scene c.args.tree.now c.args.call.now (nfs.Write a)) a plans.0 c.in-Ok.file c.write_at.new.self c.bytes-bytes.result.now _ plans.1 plans.2 c.bytes-bytes.ensures
     c.in_default.ensures.err c.in_default.ensures.full
+
+pub returns-in-Err : goal.returns-in-Err
+returns-in-Err c =
+    let a = c.args.args.now in
+    denies (scene c.args.tree.now c.args.call.now (nfs.Write a)) (procedure.write a) a.file c.in-Err.denial c.write_denied_change.result (with_change answer.Write c.in-Err.denial.rule) _ _ c.in-Err.ensures refl
+    (record { text = c.write_denied_change.ensures.text; spelled = denied_spelled answer.Write IsWritten IsWcc _ _ c.write_denied_change.ensures.spelled }) c.write_denied_change.ensures.done
