@@ -2,11 +2,12 @@
 use Rattle.std.proofs.Common.{ℕ, ◌≡◌, ◌<◌, ◌≤◌, false, List, [], length, Result, Ok, Err, cond, ap, ◌∙◌, refl, arith}
 use Rattle.std.specs.Prelude.{bytes_eq, codes}
 use Rattle.std.proofs.lemmas.Bool.{lt-leb, le-leb}
-use Rattle.hex.specs.Hex.{decode_of}
+use Rattle.std.proofs.lemmas.List.Sums.{AllPass-from_list_all, list_all-from_AllPass}
+use Rattle.hex.specs.Hex.{decode_of, is_hex_digit}
 use Rattle.hex.specs.declared.error.FromHexError.{FromHexError}
-use Rattle.hex.proofs.HexLemmas.{decode_of-ok}
+use Rattle.hex.proofs.HexLemmas.{decode_of-digits, decode_of-ok}
 use Rattle.nfs_load.specs.declared.cause.Cause.TheVariants.{BadContent}
-use Rattle.nfs_load.specs.Fields.{content_in, within}
+use Rattle.nfs_load.specs.Fields.{ArePairs, SaysBytes, content_in, within}
 
 too_large : (field : List ℕ) (decoded : Result (List ℕ) FromHexError) → decode_of field ≡ decoded → 33554432 < length field → within decoded ≡ Err BadContent
 too_large field (Ok content) e many =
@@ -22,3 +23,17 @@ content_of_digits field content digits few e =
     let twice = (decode_of-ok field content e).2 in
     ap (λ b. cond b (Ok []) (within (decode_of field))) digits ∙ ap within e
     ∙ ap (λ b. cond b (Ok content) (Err BadContent)) (le-leb (length content) 16777216 (omega (arith, twice, few)))
+
+-- digits in pairs, no more than there may be, say bytes
+pub pairs_say : (field : List ℕ) → bytes_eq field (codes "-") ≡ false → length field ≤ 33554432 → ArePairs field → SaysBytes field
+pairs_say field digits few pairs =
+    let content = decode_of-digits field pairs.0 (AllPass-from_list_all is_hex_digit field pairs.1) in
+    (digits, content.0, content_of_digits field content.0 digits few content.1)
+
+-- and other fields say none
+pub others_say_none : (field : List ℕ) → bytes_eq field (codes "-") ≡ false → (ArePairs field → ⊥) → content_in field ≡ Err BadContent
+others_say_none field digits other = ap (λ b. cond b (Ok []) (within (decode_of field))) digits ∙ by (decode_of field) refl
+  where
+    by : (decoded : Result (List ℕ) FromHexError) → decode_of field ≡ decoded → within decoded ≡ Err BadContent
+    by (Ok content) e = let ok = decode_of-ok field content e in absurd (other (ok.0, list_all-from_AllPass is_hex_digit field ok.1))
+    by (Err fault) e = refl

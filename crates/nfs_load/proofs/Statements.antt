@@ -5,7 +5,7 @@ use Rattle.nfs_load.specs.declared.refusal.Refusal.{Refusal}
 use Rattle.nfs_load.specs.declared.refusal.Refusal.TheVariants.{Fault, Memory}
 use Rattle.nfs_load.specs.declared.statement.FileLine as kept
 use Rattle.nfs_load.specs.declared.statement.Given.{Given}
-use Rattle.nfs_load.specs.Fields.{MaySayBytes, OfNext, TakesIfRoom, by, content_in}
+use Rattle.nfs_load.specs.Fields.{SaysBytes, OfNext, TakesIfRoom, by, content_in}
 use Rattle.nfs_load.specs.Paths.{path_in}
 use Rattle.nfs_load.specs.Statements.{WantsContent, dir_in, file_in, file_of, given_in}
 
@@ -15,7 +15,7 @@ front_is fields path behind given rest p g = rw (p, g)
 
 pub content_refused : {X : Type 0} (view : X → List ℕ) (fields path behind : List (List ℕ)) (given : Given) (rest left : List (List ℕ)) (refusal : Refusal) (result : Result kept.FileLine Refusal)
     → by path_in fields ≡ Ok (path, behind) → given_in behind ≡ Ok (given, rest)
-    → TakesIfRoom view (OfNext MaySayBytes rest) left (Err refusal) (by content_in rest)
+    → TakesIfRoom view (OfNext SaysBytes rest) left (Err refusal) (by content_in rest)
     → IsErr result × IsErrAnd result (λ r. r ≡ refusal)
     → TakesIfRoom file_of (WantsContent fields) left result (file_in fields)
 content_refused view fields path behind given rest left refusal (Ok x) p g e f = absurd (false≢true f.0)

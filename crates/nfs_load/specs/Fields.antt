@@ -1,9 +1,9 @@
 -- Fields that are a key or numbers: the value, or the cause.
-use Rattle.std.specs.Prelude.{◌≡◌, ◌≤◌, ◌*◌, ◌%◌, ℕ, Bool, false, ◌&&◌, List, [], ◌∷◌, length, Option, Some, None, Result, Ok, Err}
+use Rattle.std.specs.Prelude.{◌≡◌, ◌≤◌, ◌*◌, ◌%◌, ℕ, Bool, true, false, ◌&&◌, List, [], ◌∷◌, length, Option, Some, None, Result, Ok, Err}
 use Rattle.std.specs.Prelude.{if◌then◌else◌, nat_lt, nat_le, bytes_eq, codes}
 use Rattle.std.specs.List.{list_all}
 use Rattle.std.specs.Str.Parse.{digits_value}
-use Rattle.hex.specs.Hex.{decode_of, decode_sized}
+use Rattle.hex.specs.Hex.{decode_of, decode_sized, is_hex_digit}
 use Rattle.hex.specs.declared.error.FromHexError.{FromHexError}
 use Rattle.nfs_text.specs.Numbers.{decimal_of}
 use Rattle.nfs_exports.specs.Options.{default_options}
@@ -107,9 +107,13 @@ TakesIfRoom view Wants rest (Ok x) read = read ≡ Ok (view x, rest)
 TakesIfRoom view Wants rest (Err (Fault cause)) read = read ≡ Err cause
 TakesIfRoom view Wants rest (Err Memory) read = Wants
 
--- a content that takes memory: as many digits as say bytes, before they are looked at
-abbrev pub MaySayBytes : List ℕ → Type 0
-MaySayBytes field = (bytes_eq field (codes "-") ≡ false) × (length field ≤ 2 * max_file_bytes) × (length field % 2 ≡ 0)
+-- a content that takes memory: a field that says bytes
+abbrev pub SaysBytes : List ℕ → Type 0
+SaysBytes field = (bytes_eq field (codes "-") ≡ false) × (content : List ℕ) × (content_in field ≡ Ok content)
+
+-- two hexadecimal digits for each byte
+abbrev pub ArePairs : List ℕ → Type 0
+ArePairs field = (length field % 2 ≡ 0) × (list_all is_hex_digit field ≡ true)
 
 -- what holds of the next field, which is there
 abbrev pub OfNext : (List ℕ → Type 0) → List (List ℕ) → Type 0

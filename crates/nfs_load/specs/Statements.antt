@@ -8,7 +8,7 @@ use Rattle.nfs_load.specs.declared.statement.VolumeLine as volume
 use Rattle.nfs_load.specs.declared.statement.LinkLine as link
 use Rattle.nfs_load.specs.declared.statement.FileLine as file
 use Rattle.nfs_load.specs.declared.statement.ExportLine.{ExportLine}
-use Rattle.nfs_load.specs.Fields.{by, ◌>>=◌, MaySayBytes, OfNext, content_in, mode_in, number_in, options_at, pattern_in, target_in}
+use Rattle.nfs_load.specs.Fields.{by, ◌>>=◌, SaysBytes, OfNext, content_in, mode_in, number_in, options_at, pattern_in, target_in}
 use Rattle.nfs_load.specs.Paths.{path_in, volume_path_in}
 
 -- a value and the fields behind it, or a cause
@@ -74,7 +74,7 @@ pub record WantsContent (fields : List (List ℕ)) : Type 0 where
   pub line : DirLine
   pub rest : List (List ℕ)
   pub front : dir_in fields ≡ Ok (line, rest)
-  pub content : OfNext MaySayBytes rest
+  pub content : OfNext SaysBytes rest
 
 -- PATH UID GID TARGET
 pub record LinkLine : Type 0 where

@@ -1,6 +1,9 @@
 //! Fields that are a key or numbers.
-ghost use Rattle.std.specs.Prelude.{◌≡◌};
-ghost use Rattle.nfs_load.specs.Fields.{content_in, key_in, mode_in, number_in, GivesIfRoom, MaySayBytes};
+ghost use Rattle.std.specs.Prelude.{◌≡◌, ◌≤◌, ◌*◌, ◌↔◌, IsTrue, Err, false, bytes_eq, codes, length};
+ghost use Rattle.hex.specs.Hex.{is_hex_digit};
+ghost use Rattle.nfs_inodes.specs.Limits.{max_file_bytes};
+ghost use Rattle.nfs_load.specs.Fields.{content_in, key_in, mode_in, number_in};
+ghost use Rattle.nfs_load.specs.Fields.{GivesIfRoom, SaysBytes, ArePairs};
 
 use crate::cause::Cause;
 use crate::limits::{MAX_CONTENT_DIGITS, MAX_MODE_DIGITS};
@@ -50,7 +53,7 @@ pub(crate) fn read_number(field: &[u8], min: u64, max: u64) -> Result<u64, Cause
 /// A file's bytes, two hexadecimal digits each, or `-` for none. `BadContent` where the field is
 /// neither, or says more than 16,777,216 bytes; `Memory` where there is none.
 pub(crate) fn read_content(alloc: Global, field: &[u8]) -> Result<Vec<u8>, Refusal>
-    ensures { GivesIfRoom (λ content. content.items) (MaySayBytes field.now) result (content_in field.now) }
+    ensures { GivesIfRoom (λ content. content.items) (SaysBytes field.now) result (content_in field.now) }
 {
     if field == b"-".as_slice() {
         return Ok(Vec::new(alloc));
@@ -60,7 +63,42 @@ pub(crate) fn read_content(alloc: Global, field: &[u8]) -> Result<Vec<u8>, Refus
     }
     match hex::decode(alloc, field) {
         Ok(content) => Ok(content),
-        Err(hex::FromHexError::OutOfMemory) => Err(Refusal::Memory),
+        Err(hex::FromHexError::OutOfMemory) => Err(without_memory(field)),
         Err(_) => Err(Refusal::Fault(Cause::BadContent)),
     }
+}
+
+// Why a field is refused whose bytes there is no memory for: it says none, or there is none.
+fn without_memory(field: &[u8]) -> Refusal
+    requires digits { bytes_eq field.now (codes "-") ≡ false }
+    requires few { length field.now ≤ 2 * max_file_bytes }
+    ensures { GivesIfRoom (λ content. content) (SaysBytes field.now) (Err result) (content_in field.now) }
+{
+    if are_pairs(field) {
+        Refusal::Memory
+    } else {
+        Refusal::Fault(Cause::BadContent)
+    }
+}
+
+// Whether a byte is a hexadecimal digit of either case.
+fn is_digit(byte: u8) -> bool
+    ensures { result ≡ is_hex_digit byte }
+{
+    match byte {
+        b'A'..=b'F' | b'a'..=b'f' | b'0'..=b'9' => true,
+        _ => false,
+    }
+}
+
+// Whether a field has two hexadecimal digits for each byte.
+fn are_pairs(field: &[u8]) -> bool
+    ensures { IsTrue result ↔ ArePairs field.now }
+{
+    for digit in field {
+        if !is_digit(*digit) {
+            return false;
+        }
+    }
+    field.len() % 2 == 0
 }

@@ -1,7 +1,7 @@
 //! The fields of a line, read from left to right.
 ghost use Rattle.std.specs.Prelude.{◌≡◌, Ok};
 ghost use Rattle.nfs_text.specs.Words.{words_left};
-ghost use Rattle.nfs_load.specs.Fields.{by, content_in, key_in, mode_in, number_in, options_at, pattern_in, target_in, MaySayBytes, OfNext, Takes, TakesIfRoom};
+ghost use Rattle.nfs_load.specs.Fields.{by, content_in, key_in, mode_in, number_in, options_at, pattern_in, target_in, SaysBytes, OfNext, Takes, TakesIfRoom};
 ghost use Rattle.nfs_load.specs.Paths.{path_in, volume_path_in};
 
 use crate::cause::Cause;
@@ -129,7 +129,7 @@ impl<'a> Fields<'a> {
     /// A file's bytes, two hexadecimal digits each, or `-` for none. `BadContent` where the field
     /// is neither, or says more than 16,777,216 bytes.
     pub fn content(&mut self, alloc: Global) -> Result<Vec<u8>, Refusal>
-        ensures { TakesIfRoom (λ content. content.items) (OfNext MaySayBytes self.old) self.new result (by content_in self.old) }
+        ensures { TakesIfRoom (λ content. content.items) (OfNext SaysBytes self.old) self.new result (by content_in self.old) }
     {
         read_content(alloc, self.next()?)
     }
