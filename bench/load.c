@@ -57,7 +57,7 @@ static size_t words(unsigned char *to, size_t at, const uint32_t *from, size_t n
 static size_t begin(unsigned char *to, uint32_t proc, uint32_t file) {
     uint32_t head[] = {0, 0, 0, 2, 100003, 3, proc};
     uint32_t credential[] = {1, 20, 0, 0, 9, 9, 0, 0, 0};
-    uint32_t handle[] = {24, 0x4e465333, 0x01020304, 0x05060708, 0, 0, file};
+    uint32_t handle[] = {24, 0x4e465333, 0x01020304, 0x05060708, file - 1, 0, file};
     size_t at = words(to, 0, head, 7);
     if (proc == 0) {
         uint32_t none[] = {0, 0, 0, 0};

@@ -64,6 +64,7 @@ static void opaque(Record *r, const void *bytes, uint32_t len) {
 static void handle(Record *r) {
     unsigned char h[24] = "NFS3\1\2\3\4\5\6\7\10";
     h[23] = (unsigned char)(1 + any(8));
+    h[15] = h[23] - 1;
     opaque(r, h, 24);
 }
 
@@ -209,7 +210,7 @@ static int send_batch(int peer) {
 static void ask(int peer, uint32_t xid, Record *first) {
     static Record r, reply;
     unsigned char h[24] = "NFS3\1\2\3\4\5\6\7\10";
-    h[23] = 6;
+    h[15] = 5, h[23] = 6;
     r.len = 0;
     word(&r, 0x80000000u | 100), word(&r, xid), word(&r, 0), word(&r, 2), word(&r, 100003), word(&r, 3), word(&r, 6);
     word(&r, 1), word(&r, 20), word(&r, 0), word(&r, 0), word(&r, 9), word(&r, 9), word(&r, 0), word(&r, 0), word(&r, 0);

@@ -1,3 +1,4 @@
 pub mod Tokens
 pub mod Peers
 pub mod Reports
+pub mod Queues

@@ -1,8 +1,10 @@
 //! The clients that a service has.
-ghost use Rattle.std.specs.Prelude.{◌≡◌, ◌⊎◌, [], ◌∷◌, ◌++◌, nat_lt, option_to_list, false, IfOk, OnOk, Some};
+ghost use Rattle.std.specs.Prelude.{◌≡◌, ◌⊎◌, ◌<◌, ◌≤◌, ◌↔◌, [], ◌∷◌, ◌++◌, nat_lt, option_to_list};
+ghost use Rattle.std.specs.Prelude.{true, false, IfOk, OnOk, Some, IsSome};
 ghost use Rattle.std.specs.Option.{option_copied_mut, option_map_or};
 ghost use Rattle.slab.specs.Slab.{get, slab_len};
-ghost use Rattle.std.specs.VecDeque.{deque_len};
+ghost use Rattle.std.specs.VecDeque.{deque_len, deque_capacity};
+ghost use Rattle.nfs_tcp.specs.Queues.{is_waiting};
 
 use crate::socket::Socket;
 use nfs_serving::client::Client;
@@ -40,6 +42,7 @@ impl Clients {
     /// No clients, with room for the queue of so many.
     pub fn new(alloc: Global, most: usize) -> Result<Clients, AllocError>
         ensures ready { IfOk result (λ clients. clients.ready.items ≡ []) }
+        ensures room { IfOk result (λ clients. most ≤ deque_capacity clients.ready) }
     {
         Ok(Clients {
             members: Slab::new(alloc),
@@ -89,7 +92,10 @@ impl Clients {
 
     /// Has the client of a key wait for a turn behind the others, if it doesn't wait yet.
     pub fn make_ready(&mut self, key: usize)
-        ensures { (self.new.ready.items ≡ self.old.ready.items) ⊎ (self.new.ready.items ≡ self.old.ready.items ++ key ∷ []) }
+        ensures waits { is_waiting self.old key ≡ true → self.new.ready.items ≡ self.old.ready.items }
+        ensures joins { is_waiting self.old key ≡ false → deque_len self.old.ready < deque_capacity self.old.ready
+            → self.new.ready.items ≡ self.old.ready.items ++ key ∷ [] }
+        ensures either { (self.new.ready.items ≡ self.old.ready.items) ⊎ (self.new.ready.items ≡ self.old.ready.items ++ key ∷ []) }
     {
         if let Some(member) = self.members.get_mut(key) {
             if !member.is_ready {
@@ -107,7 +113,8 @@ impl Clients {
 
     /// The key of the client whose turn it is.
     pub fn next(&mut self) -> Option<usize>
-        ensures { self.old.ready.items ≡ option_to_list result ++ self.new.ready.items }
+        ensures front { self.old.ready.items ≡ option_to_list result ++ self.new.ready.items }
+        ensures some { IsSome result ↔ (0 < deque_len self.old.ready) }
     {
         let key = self.ready.pop_front()?;
         if let Some(member) = self.members.get_mut(key) {

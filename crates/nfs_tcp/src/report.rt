@@ -1,9 +1,9 @@
 //! The lines that tell how a connection ended.
-ghost use Rattle.std.specs.Prelude.{◌≡◌, ◌+◌, ◌≤◌, ◌++◌, [], codes, OnOk};
+ghost use Rattle.std.specs.Prelude.{◌≡◌, ◌+◌, ◌≤◌, ◌++◌, [], codes, true, OnOk, OnErr};
 ghost use Rattle.arrayvec.specs.ArrayVec.{array_vec_len};
 ghost use Rattle.nfs_server.specs.FaultWords.{word_of_stream};
 ghost use Rattle.nfs_tcp.specs.Reports.{end_text};
-ghost use Rattle.nfs_xdr.specs.Known.{Grows};
+ghost use Rattle.nfs_xdr.specs.Known.{Grows, GrowsByPart};
 
 use nfs_server::serve_fault::ServeFault;
 use nfs_serving::turn::End;
@@ -13,7 +13,10 @@ use nfs_xdr::device::{ByteOut, DeviceFault, write_all};
 /// Writes `connection K calls=N`, or `connection K fault=NAME` where a fault ended it. It takes no
 /// memory, so that the server goes on where there is none.
 pub fn report<W: ByteOut>(out: &mut W, number: u64, calls: u64, end: End) -> Result<(), DeviceFault>
-    ensures { OnOk result (Grows (W.contents out.old) (end_text number calls end) (W.contents out.new)) }
+    ensures ok { OnOk result (Grows (W.contents out.old) (end_text number calls end) (W.contents out.new)) }
+    ensures part { OnErr result (GrowsByPart (W.contents out.old) (end_text number calls end) (W.contents out.new)) }
+    ensures fault { OnErr result (W.failed out.new ≡ true) }
+    ensures alive { OnOk result (W.failed out.new ≡ W.failed out.old) }
 {
     let mut line = Line::new();
     put_end(&mut line, number, calls, end);

@@ -39,6 +39,11 @@ pub enum ServiceFault {
 }
 
 impl From<io::Error> for ServiceFault {
+    ghost use Rattle.std.specs.Prelude.{◌≡◌, ◌⊎◌};
+    ghost use Rattle.nfs_tcp.specs.declared.service.ServiceFault.TheVariants.{Memory, Network};
+
+    ghost from_gives = { λ error fault. (fault ≡ Network error) ⊎ (fault ≡ Memory) };
+
     fn from(error: io::Error) -> ServiceFault {
         if error.kind() == ErrorKind::OutOfMemory {
             ServiceFault::Memory
@@ -49,12 +54,22 @@ impl From<io::Error> for ServiceFault {
 }
 
 impl From<AllocError> for ServiceFault {
+    ghost use Rattle.std.specs.Prelude.{◌≡◌};
+    ghost use Rattle.nfs_tcp.specs.declared.service.ServiceFault.TheVariants.{Memory};
+
+    ghost from_gives = { λ _ fault. fault ≡ Memory };
+
     fn from(_error: AllocError) -> ServiceFault {
         ServiceFault::Memory
     }
 }
 
 impl From<DeviceFault> for ServiceFault {
+    ghost use Rattle.std.specs.Prelude.{◌≡◌};
+    ghost use Rattle.nfs_tcp.specs.declared.service.ServiceFault.TheVariants.{Write};
+
+    ghost from_gives = { λ _ fault. fault ≡ Write };
+
     fn from(_fault: DeviceFault) -> ServiceFault {
         ServiceFault::Write
     }
@@ -72,6 +87,11 @@ enum Refusal {
 }
 
 impl From<AllocError> for Refusal {
+    ghost use Rattle.std.specs.Prelude.{◌≡◌};
+    ghost use Rattle.nfs_tcp.specs.declared.service.Refusal.TheVariants.{Memory};
+
+    ghost from_gives = { λ _ refusal. refusal ≡ Memory };
+
     fn from(_error: AllocError) -> Refusal {
         Refusal::Memory
     }
