@@ -6,6 +6,7 @@ use crate::exposure::warn_of_open_volumes;
 use crate::fault::ReplayFault;
 use crate::replay::replay;
 use crate::serve::{Serving, call_self, serve};
+use crate::text_file;
 use clap::error::ErrorKind;
 use clap::{Arg, ArgAction, ArgMatches, Command, value_parser};
 use log::Log;
@@ -15,12 +16,11 @@ use nfs_server::server::Server;
 use nfs_tcp::limits::Limits;
 use nfs_xdr::device::Device;
 use std::alloc::{AllocError, Global};
-use std::io::{BufWriter, Write};
+use std::io::{self, BufWriter, Write};
 use std::net::{IpAddr, Net, SocketAddr, TcpListener, TcpStream};
 use std::process::ExitCode;
 use std::rt::Files;
 use std::time::Clock;
-use std::{fs, io};
 
 // How much output is written at once.
 const RUN_BYTES: usize = 65_536;
@@ -159,20 +159,13 @@ fn places(words: &ArgMatches<'_>) -> usize
 }
 
 // The file that a word names.
-fn read_file<R: Files + AllocGlobal>(
+fn read_file<R: Files>(
     rt: &R,
     alloc: Global,
     words: &ArgMatches<'_>,
     word: &str,
 ) -> Result<Vec<u8>, ReplayFault> {
-    let name = words.get_str(word).unwrap_or("");
-    match fs::read(rt, name) {
-        Ok(bytes) => Ok(bytes),
-        Err(error) if error.kind() == io::ErrorKind::OutOfMemory => {
-            Err(ReplayFault::Memory(AllocError))
-        }
-        Err(_) => Err(ReplayFault::CannotRead(name.to_string(alloc)?)),
-    }
+    text_file::read(rt, alloc, words.get_str(word).unwrap_or(""))
 }
 
 fn command<'a>(alloc: Global) -> Result<Command<'a>, AllocError> {

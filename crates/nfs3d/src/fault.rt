@@ -36,6 +36,9 @@ pub enum ReplayFault {
     /// A file can't be read.
     #[error("nfs3d: cannot read {0}")]
     CannotRead(String),
+    /// A file is longer than any that is read.
+    #[error("nfs3d: {0} is longer than 1 GiB")]
+    TooLong(String),
     /// A file can't be written.
     #[error("nfs3d: cannot write {0}")]
     CannotWrite(String),
@@ -68,6 +71,7 @@ impl ReplayFault {
             | ReplayFault::NoHandle(_) => 1,
             ReplayFault::NoText => 2,
             ReplayFault::CannotRead(_)
+            | ReplayFault::TooLong(_)
             | ReplayFault::CannotWrite(_)
             | ReplayFault::Network { .. }
             | ReplayFault::Write

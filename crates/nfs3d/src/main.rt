@@ -11,6 +11,7 @@ mod printing;
 mod replay;
 mod script;
 mod serve;
+mod text_file;
 
 use crate::fault::ReplayFault;
 use std::alloc::AllocError;
