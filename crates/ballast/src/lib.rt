@@ -24,6 +24,10 @@ impl Model for Ballast {
 /// How many blocks there may be.
 const MOST: usize = 100_000;
 
+// Up to here each size is tried, since the allocator keeps pieces that were freed for requests of just
+// their size.
+const SMALL: usize = 4_096;
+
 impl Ballast {
     /// Takes all memory that there is, in blocks that get smaller and smaller. Refused where
     /// there is none for the list of blocks.
@@ -40,6 +44,7 @@ impl Ballast {
                     }
                 }
                 Err(_) if size <= 8 => break,
+                Err(_) if size <= SMALL => size -= 8,
                 Err(_) => size /= 2,
             }
         }
