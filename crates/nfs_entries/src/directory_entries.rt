@@ -124,7 +124,8 @@ impl DirectoryEntries {
         requires room { 0 < self.old.spare }
         requires absent { entry_named name.items self.old.entries ≡ None }
         requires next { self.old.next + 1 < 2 ^ 64 }
-        ensures entries { self.new.entries ≡ self.old.entries ++ (record { cookie = self.old.next; name = name.items; number = number }) ∷ [] }
+        ensures entries { self.new.entries
+            ≡ self.old.entries ++ (record { cookie = self.old.next; name = name.items; number = number }) ∷ [] }
         ensures next { self.new.next ≡ self.old.next + 1 }
     {
         let cookie = self.next;

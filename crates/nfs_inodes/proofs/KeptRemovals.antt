@@ -1,6 +1,6 @@
 -- An entry that goes, and its file, in what is kept.
-use Rattle.std.proofs.Common.{inl, inr, ◌≡◌, ◌≢◌, ◌⊎◌, ℕ, ◌+◌, ◌-◌, ◌<◌, ◌≤◌, Bool, true, false, List, [], ◌∷◌, map, length, Some, None, option_map, refl, sym, ap, subst, ◌∙◌, arith}
-use Rattle.std.specs.Prelude.{nat_eq, nat_le, ◌||◌, slice_get, filter, if◌then◌else◌}
+use Rattle.std.proofs.Common.{inl, inr, ◌≡◌, ◌≢◌, ◌⊎◌, ℕ, ◌+◌, ◌-◌, ◌<◌, ◌≤◌, Bool, true, false, List, map, length, Some, None, option_map, refl, sym, ap, subst, ◌∙◌, arith}
+use Rattle.std.specs.Prelude.{nat_eq, nat_le, ◌||◌, slice_get}
 use Rattle.std.proofs.lemmas.Bool.{eq-eqb, leb-true, leb-false}
 use Rattle.nfs_attrs.specs.declared.moment.Moment.{Moment}
 use Rattle.nfs_handles.specs.NumberedFiles.{NumberedFiles, TaggedFile, value_at, with_value, without}
@@ -32,17 +32,6 @@ use Rattle.nfs_inodes.proofs.KeptLeavings.{NamesFile, room_revalued, room_withou
 use Rattle.nfs_inodes.proofs.Unlinks.{entry_is, unlinked_is, other_file, may_be_released}
 use Rattle.nfs_inodes.proofs.CountedRemovals.{counted_gone, agrees_gone, view_gone, counted_kept, agrees_kept}
 use Rattle.nfs_inodes.proofs.Steps.{stored_volume_of}
-
--- ---- entries
-
--- the entries that are kept show those of other names
-pub map_filter : {X Y : Type 0} (f : X → Y) (p : Y → Bool) (xs : List X) → map f (filter (λ x. p (f x)) xs) ≡ filter p (map f xs)
-map_filter f p [] = refl
-map_filter f p (x ∷ xs) = step (p (f x)) ∙ ap (λ l. if p (f x) then f x ∷ l else l) (map_filter f p xs)
-  where
-    step : (b : Bool) → map f (if b then x ∷ filter (λ x. p (f x)) xs else filter (λ x. p (f x)) xs) ≡ (if b then f x ∷ map f (filter (λ x. p (f x)) xs) else map f (filter (λ x. p (f x)) xs))
-    step true = refl
-    step false = refl
 
 -- ---- one kept file
 

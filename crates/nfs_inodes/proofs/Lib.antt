@@ -25,7 +25,6 @@ pub mod SizeChanges
 pub mod Tests
 pub mod EntryTests
 pub mod Lookups
-pub mod Behind
 pub mod Readers
 pub mod Example
 pub mod Climbs

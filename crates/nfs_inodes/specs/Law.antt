@@ -18,10 +18,6 @@ pub record IsName (name : List ℕ) : Type 0 where
 abbrev pub AreApart : List Entry → Type 0
 AreApart entries = AllPairs (λ e g. e.name ≢ g.name) entries
 
--- each later entry has a greater cookie
-abbrev pub CookiesRise : List Entry → Type 0
-CookiesRise entries = AllPairs (λ e g. e.cookie < g.cookie) entries
-
 -- what is true of one file alone
 pub record IsSound (f : File) : Type 0 where
   pub mode : f.mode < 4096

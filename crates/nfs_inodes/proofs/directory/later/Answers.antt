@@ -1,8 +1,8 @@
 use Rattle.std.proofs.Common.{Some, List, option_map, nat_lt, ap, sym, ◌∙◌}
 use Rattle.std.specs.Prelude.{slice_get}
+use Rattle.nfs_entries.proofs.Rows.{first_passes}
 use Rattle.nfs_inodes.specs.Tree.{Entry}
 use Rattle.nfs_inodes.specs.Views.{entry_seen}
-use Rattle.nfs_inodes.proofs.Behind.{first_passes}
 use Rattle.nfs_inodes.proofs.directory.later.Goals as goal
 
 pub returns-in_err-entry : goal.returns-in_err-entry
