@@ -64,8 +64,8 @@ pub(crate) fn served(alloc: Global) -> io::Result<Server> {
 }
 
 fn make(tree: &mut Tree, bytes: Vec<u8>) -> Result<(), AllocError> {
-    if tree.may_make(Number(PUB), b"large", bytes.len()) {
-        tree.make_file(Number(PUB), b"large", bytes, &GIVEN, None, START)?;
+    if tree.may_make(Number::new(PUB), b"large", bytes.len()) {
+        tree.make_file(Number::new(PUB), b"large", bytes, &GIVEN, None, START)?;
     }
     Ok(())
 }

@@ -36,7 +36,7 @@ pub(crate) fn fixed<R: Print + AllocGlobal>(rt: &R) -> io::Result<()> {
     let links = attributes(&tree, 3);
     let found = look_up(&tree, 3);
     write(&mut tree, &[7; 1000], 3);
-    let length = tree.bytes_at(Number(3), 0).len();
+    let length = tree.bytes_at(Number::new(3), 0).len();
     println!(rt;
         "made {} files, {links} links, found {found}, wrote {length} bytes",
         tree.next_number().saturating_sub(1)
@@ -102,10 +102,10 @@ pub(crate) fn fill(
     files: u32,
 ) -> Result<(), AllocError> {
     let name = letters(place);
-    if !tree.may_make_dir(Number(1), &name) {
+    if !tree.may_make_dir(Number::new(1), &name) {
         return Ok(());
     }
-    let dir = tree.make_dir(Number(1), &name, &GIVEN, START)?;
+    let dir = tree.make_dir(Number::new(1), &name, &GIVEN, START)?;
     for file in 0..files {
         let name = letters(file);
         if tree.may_make(dir, &name, 0) {
@@ -126,7 +126,7 @@ fn attributes(tree: &Tree, rounds: u32) -> u64 {
     let mut links = 0u64;
     let mut number = 1u64;
     for _ in 0..rounds {
-        match tree.attributes(Number(number)) {
+        match tree.attributes(Number::new(number)) {
             Some(attributes) => {
                 links = links.saturating_add(u64::from(attributes.nlink));
                 number = number.saturating_add(1);
@@ -141,7 +141,7 @@ fn attributes(tree: &Tree, rounds: u32) -> u64 {
 fn look_up(tree: &Tree, rounds: u32) -> u64 {
     let mut found = 0u64;
     for round in 0..rounds {
-        if tree.lookup(Number(2), &letters(round % FILES)).is_some() {
+        if tree.lookup(Number::new(2), &letters(round % FILES)).is_some() {
             found = found.saturating_add(1);
         }
     }
@@ -151,8 +151,8 @@ fn look_up(tree: &Tree, rounds: u32) -> u64 {
 // So many times these bytes over those of the first file.
 fn write(tree: &mut Tree, bytes: &[u8], rounds: u32) {
     for _ in 0..rounds {
-        if tree.may_write(Number(3), 0, bytes.len()) {
-            let _ = tree.write_at(Number(3), 0, bytes, START);
+        if tree.may_write(Number::new(3), 0, bytes.len()) {
+            let _ = tree.write_at(Number::new(3), 0, bytes, START);
         }
     }
 }

@@ -43,7 +43,7 @@ abbrev pub Row : Type 0
 Row = Vec ℕ Global × Kept
 
 abbrev pub entry_of : Row → Entry
-entry_of r = record { cookie = r.1.cookie; name = r.0.items; number = r.1.number }
+entry_of r = record { cookie = r.1.cookie; name = r.0.items; number = r.1.number.0 }
 
 -- a row, if it has this cookie
 abbrev pub of_cookie : ℕ → Option Row → Option Entry
@@ -78,7 +78,7 @@ pub record IsRowOf (rows : List Row) (name : List ℕ) (index number : ℕ) : Ty
   pub row : Row
   pub at_row : slice_get rows index ≡ Some row
   pub named : bytes_eq row.0.items name ≡ true
-  pub number_is : number ≡ row.1.number
+  pub number_is : number ≡ row.1.number.0
 
 -- no row has this name
 abbrev pub HasNo : List Row → List ℕ → Type 0

@@ -5,7 +5,7 @@ use Rattle.nfs_entries.specs.declared.directory_entries.EntryView.{EntryView}
 use Rattle.nfs_entries.specs.Listing.{Entry, listed}
 
 abbrev pub entry_seen : EntryView → Entry
-entry_seen e = record { cookie = e.cookie; name = e.name.now; number = e.number }
+entry_seen e = record { cookie = e.cookie; name = e.name.now; number = e.number.0 }
 
 -- those that are to come
 abbrev pub entries_left : Entries → List Entry

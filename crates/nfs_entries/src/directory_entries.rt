@@ -9,6 +9,7 @@ ghost use Rattle.nfs_entries.specs.Seen.{entry_seen, entries_left};
 
 use crate::kept::{Kept, Place};
 use indexmap::IndexMap;
+use nfs_handles::number::Number;
 use std::alloc::{AllocError, Global};
 use std::marker::Model;
 
@@ -23,7 +24,7 @@ pub struct EntryView<'a> {
     /// Its name.
     pub name: &'a [u8],
     /// The file that it names.
-    pub number: u64,
+    pub number: Number,
 }
 
 /// The entries of a directory, by rising cookie. A name is found by the index.
@@ -79,8 +80,8 @@ impl DirectoryEntries {
     }
 
     /// The number of the file that the entry of a name names. `None` where no entry has the name.
-    pub fn number(&self, name: &[u8]) -> Option<u64>
-        ensures { result ≡ number_named name.now self.now.entries }
+    pub fn number(&self, name: &[u8]) -> Option<Number>
+        ensures { option_map (λ n. n.0) result ≡ number_named name.now self.now.entries }
     {
         match row_named(&self.rows, name) {
             Some((_, number)) => Some(number),
@@ -120,12 +121,12 @@ impl DirectoryEntries {
     }
 
     /// One entry more, for which there is room. It goes last.
-    pub fn push(&mut self, name: Vec<u8>, number: u64)
+    pub fn push(&mut self, name: Vec<u8>, number: Number)
         requires room { 0 < self.old.spare }
         requires absent { entry_named name.items self.old.entries ≡ None }
         requires next { self.old.next + 1 < 2 ^ 64 }
         ensures entries { self.new.entries
-            ≡ self.old.entries ++ (record { cookie = self.old.next; name = name.items; number = number }) ∷ [] }
+            ≡ self.old.entries ++ (record { cookie = self.old.next; name = name.items; number = number.0 }) ∷ [] }
         ensures next { self.new.next ≡ self.old.next + 1 }
     {
         let cookie = self.next;
@@ -204,8 +205,8 @@ fn first_live<'a>(
 }
 
 // The index of the row of a name, and the number there.
-fn row_named(rows: &IndexMap<Vec<u8>, Kept>, name: &[u8]) -> Option<(usize, u64)>
-    ensures found { IfSome result (λ f. IsRowOf rows.now.entries name.now f.0 f.1) }
+fn row_named(rows: &IndexMap<Vec<u8>, Kept>, name: &[u8]) -> Option<(usize, Number)>
+    ensures found { IfSome result (λ f. IsRowOf rows.now.entries name.now f.0 f.1.0) }
     ensures none { IfNone result (HasNo rows.now.entries name.now) }
 {
     match rows.get_full(name) {

@@ -19,7 +19,7 @@ use Rattle.nfs_handles.specs.Handles.{handle_text, handle_at, live_with, number,
 use Rattle.nfs_handles.specs.declared.reading.Reading.TheVariants.{Live, Stale}
 use Rattle.nfs_handles.specs.declared.slots.Stored.{Stored}
 use Rattle.nfs_handles.specs.Lending.{with_value_in}
-use Rattle.nfs_handles.specs.Slotted.{value_in, tagged, filed, slotted, Leads, LeadsOr, AllLead, IsKept}
+use Rattle.nfs_handles.specs.Slotted.{value_in, tagged, filed, slotted, Leads, LeadsOr, AllLead, AllLeadBack, IsKept}
 use Rattle.nfs_handles.specs.Changes.{Adds, Takes}
 use Rattle.nfs_handles.proofs.Lookups.{compared, numbers_equal, one_number, none_is_next}
 use Rattle.nfs_handles.proofs.Numbers.{greater, below_next, numbered_new, numbered_value, numbered_without}
@@ -45,6 +45,10 @@ searched n = is_at (nat_cmp n)
 
 searched_is : (n : ℕ) → nat_eq n ≡ searched n
 searched_is n = λ i m. unsigned_ties n m i
+
+-- the number of a file that is found in a slot leads there
+pub leads_back : {T : Type 0} (slots : Slab (Stored T)) (places : List (ℕ × ℕ)) → AllLeadBack slots places → (slot n : ℕ) (s : Stored T) → Some s ≡ get slots slot → s.number ≡ n → Some slot ≡ lookup (searched n) places
+leads_back slots places led slot n s there its = sym (ap (λ test. lookup test places) (sym (searched_is n)) ∙ ap (λ m. lookup (nat_eq m) places) (sym its) ∙ led slot s (sym there))
 
 eight : (key rest : List ℕ) → length key ≡ 8 → get_or key 0 0 ∷ get_or key 1 0 ∷ get_or key 2 0 ∷ get_or key 3 0 ∷ get_or key 4 0 ∷ get_or key 5 0 ∷ get_or key 6 0 ∷ get_or key 7 0 ∷ rest ≡ key ++ rest
 eight (a ∷ b ∷ c ∷ d ∷ e ∷ f ∷ g ∷ h ∷ []) rest l = refl
@@ -108,10 +112,6 @@ module _ {T : Type 0} where
 
     pub value_there : (n slot : ℕ) → Some slot ≡ lookup (searched n) places → value_at t n ≡ option_map (λ (s : Stored T). s.value) (get slots slot)
     value_there n slot found = value_slotted n (Some slot) found ∙ values slot (get slots slot)
-
-    -- the file in the slot that its tag names
-    pub at_tag : (slot n : ℕ) (s : Stored T) → get slots slot ≡ Some s → s.number ≡ n → at t n ≡ Some (tagged slot s)
-    at_tag slot n s there its = at_slotted n (Some slot) (sym (searched_for n ∙ ap (λ m. lookup (nat_eq m) places) (sym its) ∙ h.led slot s there)) ∙ ap (option_map (tagged slot)) there
 
     -- ---- a file comes
 
@@ -214,11 +214,6 @@ module _ {T : Type 0} where
     value_or n slot (inr vacant) = ap (option_map (λ (s : Stored T). s.value)) vacant.1 ∙ sym (value_slotted n None (sym vacant.0))
 
     -- ---- a handle's file
-
-    pub lives_at_tag : (tag n : ℕ) (s : Stored T) → tag < 2 ^ 32 → Some s ≡ get slots tag → s.number ≡ n → LivesWith t tag n s.value
-    lives_at_tag tag n s fits there its =
-        let found = at_tag tag n s (sym there) its in
-        (ap (live_with tag n) found ∙ if_true (Live (number n)) Stale (eq-eqb tag (tag % 2 ^ 32) (omega (arith, fits))), ap (option_map (λ (f : TaggedFile T). f.value)) found)
 
     pub gone_from : (tag n : ℕ) → None ≡ lookup (searched n) places → live_with tag n (at t n) ≡ Stale
     gone_from tag n none = ap (live_with tag n) (at_slotted n None none)

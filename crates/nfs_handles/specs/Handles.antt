@@ -36,8 +36,9 @@ number_in bytes = from_be_bytes w64 (take 8 (drop 16 bytes))
 abbrev pub is_shaped : List ℕ → Bool
 is_shaped bytes = nat_eq (length bytes) 24 && bytes_eq (magic_in bytes) magic
 
+-- a number with no hint
 abbrev pub number : ℕ → Number
-number n = record { 0 = n }
+number n = record { 0 = n; 1 = 0 }
 
 -- the file that lives at n, where it has this tag; else its handle has outlived it
 abbrev pub live_with : {T : Type 0} → ℕ → ℕ → Option (TaggedFile T) → Reading
@@ -60,7 +61,7 @@ reading_without no_file.Bad = Bad
 
 -- bytes read as file n, which has this value
 abbrev pub Names : {T : Type 0} → NumberedFiles T → List ℕ → Number → T → Type 0
-Names t bytes n v = (reading t bytes ≡ Live n) × (value_at t n.0 ≡ Some v)
+Names t bytes n v = (reading t bytes ≡ Live (number n.0)) × (value_at t n.0 ≡ Some v)
 
 -- a file with this tag lives at n, and has this value
 abbrev pub LivesWith : {T : Type 0} → NumberedFiles T → ℕ → ℕ → T → Type 0

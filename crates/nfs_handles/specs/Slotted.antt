@@ -39,8 +39,12 @@ module _ {T : Type 0} where
   abbrev pub LeadsOr : Slab (Stored T) → List (ℕ × ℕ) → ℕ → ℕ → Type 0
   LeadsOr slots places n slot = (lookup (is_at (nat_cmp n)) places ≡ Some slot) ⊎ ((lookup (is_at (nat_cmp n)) places ≡ None) × (get slots slot ≡ None))
 
+  -- the number of the file in each slot leads to it
+  abbrev pub AllLeadBack : Slab (Stored T) → List (ℕ × ℕ) → Type 0
+  AllLeadBack slots places = (slot : ℕ) (stored : Stored T) → get slots slot ≡ Some stored → lookup (nat_eq stored.number) places ≡ Some slot
+
   -- each number leads to the slot of its file, and so does the number of the file in each slot
   pub record IsKept (slots : Slab (Stored T)) (places : List (ℕ × ℕ)) (next : ℕ) (key : List ℕ) : Type 0 where
     pub numbered : IsNumbered (slotted slots places next key)
     pub lead : AllLead slots places
-    pub led : (slot : ℕ) (stored : Stored T) → get slots slot ≡ Some stored → lookup (nat_eq stored.number) places ≡ Some slot
+    pub led : AllLeadBack slots places

@@ -2,13 +2,16 @@
 ghost use Rattle.std.specs.Prelude.{not, ◌||◌, nat_eq, nat_le};
 ghost use Rattle.std.specs.Prelude.{◌≡◌, ℕ, ◌%◌, ◌^◌, ◌<◌, ◌≤◌, ◌≢◌, Some, IsSome, IfSome, IfNone, IfOk};
 ghost use Rattle.std.specs.Prelude.{IfErr, true, length, bytes_eq, option_copied};
+ghost use Rattle.std.specs.BTreeMap.{is_at};
 ghost use Rattle.std.specs.Borrow.{sem};
+ghost use Rattle.std.specs.Map.{lookup};
+ghost use Rattle.std.specs.Ordering.{nat_cmp};
 ghost use Rattle.std.specs.Option.{option_copied_mut};
 ghost use Rattle.nfs_handles.specs.NumberedFiles.{NumberedFiles, at, value_at, unused, IsNumbered};
 ghost use Rattle.nfs_handles.specs.Handles.{handle_at, is_shaped, key_in, live_with, Names};
 ghost use Rattle.nfs_handles.specs.Handles.{LivesWith, reading, reading_without};
 ghost use Rattle.nfs_handles.specs.declared.reading.Reading.TheVariants.{Stale};
-ghost use Rattle.nfs_handles.specs.Slotted.{LeadsOr};
+ghost use Rattle.nfs_handles.specs.Slotted.{AllLeadBack, LeadsOr};
 ghost use Rattle.nfs_handles.specs.Changes.{Puts, Takes, LendsValue};
 
 use crate::fault::PutFault;
@@ -99,7 +102,7 @@ impl<T: Drop> Files<T> {
             Ok(_) => {
                 self.slots.fill(number, value);
                 self.next += 1;
-                Ok(Number(number))
+                Ok(Number(number, tag_of(slot)))
             }
             Err(_) => Err(PutFault::Memory(value)),
         }
@@ -110,7 +113,7 @@ impl<T: Drop> Files<T> {
         ensures { result ≡ reading self.now handle.now }
     {
         match self.find(handle) {
-            Ok((number, _)) => Reading::Live(number),
+            Ok((number, _)) => Reading::Live(Number::new(number.0)),
             Err(NoFile::Stale) => Reading::Stale,
             Err(NoFile::Bad) => Reading::Bad,
         }
@@ -135,8 +138,9 @@ impl<T: Drop> Files<T> {
         if !self.was_given(number) {
             return Err(NoFile::Bad);
         }
+        let number = Number(number, tag);
         match self.living(tag, number) {
-            Some(value) => Ok((Number(number), value)),
+            Some(value) => Ok((number, value)),
             None => Err(NoFile::Stale),
         }
     }
@@ -159,19 +163,13 @@ impl<T: Drop> Files<T> {
         number != 0 && number < self.next
     }
 
-    // The file that lives under a number that was given, where it has this tag: sought in the slot
-    // that the tag names, and by the map where another number stands there.
+    // The file that lives under a number that was given, where it has this tag.
     #[inline(always)]
-    fn living(&self, tag: u32, number: u64) -> Option<&T>
-        ensures found { IfSome result (λ value. LivesWith self.now tag number value.now) }
-        ensures none { IfNone result (live_with tag number (at self.now number) ≡ Stale) }
+    fn living(&self, tag: u32, number: Number) -> Option<&T>
+        ensures found { IfSome result (λ value. LivesWith self.now tag number.0 value.now) }
+        ensures none { IfNone result (live_with tag number.0 (at self.now number.0) ≡ Stale) }
     {
-        if let Some(stored) = self.slots.get(tag as usize) {
-            if stored.number == number {
-                return Some(&stored.value);
-            }
-        }
-        let slot = *self.places.get(&number)?;
+        let slot = slot_at(&self.slots, &self.places, number)?;
         if tag_of(slot) != tag {
             return None;
         }
@@ -184,8 +182,8 @@ impl<T: Drop> Files<T> {
         requires { IsSome (at self.now number.0) }
         ensures { handle_at self.now number.0 ≡ Some result }
     {
-        let tag = match self.places.get(&number.0) {
-            Some(slot) => tag_of(*slot),
+        let tag = match slot_at(&self.slots, &self.places, number) {
+            Some(slot) => tag_of(slot),
             None => unreachable!(),
         };
         let k = self.key;
@@ -202,7 +200,8 @@ impl<T: Drop> Files<T> {
     pub fn get(&self, number: Number) -> Option<&T>
         ensures { option_copied result ≡ value_at self.now number.0 }
     {
-        self.slots.value(*self.places.get(&number.0)?)
+        self.slots
+            .value(slot_at(&self.slots, &self.places, number)?)
     }
 
     /// The file of a number, if it lives, to be changed; it keeps its number and its handle.
@@ -225,13 +224,33 @@ impl<T: Drop> Files<T> {
     }
 }
 
+// The slot that a number leads to: the one of its hint, where this number stands there, and else by
+// the map.
+#[inline(always)]
+fn slot_at<T: Drop>(
+    slots: &Slots<T>,
+    places: &BTreeMap<u64, usize>,
+    number: Number,
+) -> Option<usize>
+    requires { AllLeadBack slots.now places.now.entries }
+    ensures { result ≡ lookup (is_at (nat_cmp number.0)) places.now.entries }
+{
+    if let Some(stored) = slots.get(number.1 as usize) {
+        if stored.number == number.0 {
+            return Some(number.1 as usize);
+        }
+    }
+    places.get(&number.0).copied()
+}
+
 // The slot that a number leads to, or else a vacant one.
 #[inline(always)]
 fn slot_of<T: Drop>(slots: &Slots<T>, places: &BTreeMap<u64, usize>, number: Number) -> usize
+    requires { AllLeadBack slots.now places.now.entries }
     ensures { LeadsOr slots.now places.now.entries number.0 result }
 {
-    match places.get(&number.0) {
-        Some(slot) => *slot,
+    match slot_at(slots, places, number) {
+        Some(slot) => slot,
         None => slots.vacant(),
     }
 }

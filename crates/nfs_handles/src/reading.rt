@@ -2,7 +2,7 @@
 use crate::number::Number;
 
 /// What the bytes of a handle say.
-#[derive(Clone, Copy, Debug, PartialEq)]
+#[derive(Clone, Copy, Debug)]
 pub enum Reading {
     /// The file of this number, which lives.
     Live(Number),

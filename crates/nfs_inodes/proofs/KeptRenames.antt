@@ -51,7 +51,7 @@ module _ (a : NumberedFiles StoredFile) (olds : List StoredVolume) (route : Rout
     its = mapped (λ (e : Entry). e.number) named old.0 (sym r.names ∙ ap (option_map (λ (n : Number). n.0)) is)
 
     other : its.0.number ≢ may.entry.number
-    other s = r.other (is ∙ ap (λ m. Some (number m)) (sym its.2 ∙ s ∙ sym r.number))
+    other s = r.other (ap (option_map (λ (n : Number). n.0)) is ∙ ap Some (sym its.2 ∙ s ∙ sym r.number))
 
     abbrev may_unlink : MayUnlink t route.to.0 new_name
     may_unlink = renames.may_unlink t route.from.0 name route.to.0 new_name now may r.agree.law its.0 its.1 other
@@ -85,10 +85,8 @@ module _ (t : Tree) (from : ℕ) (name : List ℕ) (to : ℕ) (new_name : List �
   found_to : entry_at t to new_name ≡ entry_named new_name (entries_in may.target.kind)
   found_to = entry_is t to new_name may.target may.at_target.0
 
-  pub names_other : replaced ≢ Some n → NamesOther t to new_name may.entry.number
-  names_other other old is s =
-      let m = mapped (λ (m : Number). m.0) replaced old.number (names ∙ ap (option_map (λ (e : Entry). e.number)) is) in
-      other (m.1 ∙ ap (λ m. Some (number m)) (m.2 ∙ s ∙ sym its_number))
+  pub names_other : option_map (λ (m : Number). m.0) replaced ≢ Some n.0 → NamesOther t to new_name may.entry.number
+  names_other other old is s = other (names ∙ ap (option_map (λ (e : Entry). e.number)) is ∙ ap Some (s ∙ sym its_number))
 
   abbrev pub IsRoute : Tree → List ℕ → Type 0
   IsRoute u new = (m : MayRename u from name to new) × (n.0 ≡ m.entry.number) × (option_map (λ (m : Number). m.0) replaced ≡ option_map (λ (e : Entry). e.number) (entry_named new (entries_in m.target.kind)))
@@ -103,7 +101,7 @@ takes_target a olds t from to name new_name view agree may other =
     takes_entry_at a olds to may.target agree (low.0, may.at_target.1) low.1
 
 pub renames_found : (a b : NumberedFiles StoredFile) (olds : List StoredVolume) (t : Tree) (from to : Number) (name given new_name : List ℕ) (now : Moment) → tree_in (counted_tree_of a olds) ≡ t → Agrees (counted_tree_of a olds) → (may : MayRename t from.0 name to.0 given) → (n : Number) → Some n.0 ≡ option_map (λ (e : Entry). e.number) (entry_at t from.0 name) →
-    (replaced : Option Number) → option_map (λ (m : Number). m.0) replaced ≡ option_map (λ (e : Entry). e.number) (entry_at t to.0 given) → replaced ≢ Some n → new_name ≡ given → SameFiles a b → HasRoomAt b to.0 →
+    (replaced : Option Number) → option_map (λ (m : Number). m.0) replaced ≡ option_map (λ (e : Entry). e.number) (entry_at t to.0 given) → option_map (λ (m : Number). m.0) replaced ≢ Some n.0 → new_name ≡ given → SameFiles a b → HasRoomAt b to.0 →
     Renames b olds (record { number = n; from = from; to = to }) name new_name replaced
 renames_found a b olds t from to name given new_name now view agree may n found replaced names other copy same room =
     let counted = same_counted a b olds same in

@@ -160,7 +160,7 @@ reading_there a stored_volumes t view bytes = reading_kept a stored_volumes byte
 
 -- the file that a handle reads as, with what is kept of it
 pub found_there : (a : NumberedFiles StoredFile) (stored_volumes : List StoredVolume) (t : Tree) → tree_in (counted_tree_of a stored_volumes) ≡ t → Agrees (counted_tree_of a stored_volumes) → (bytes : List ℕ) (n : Number) (i : StoredFile) (v : FileView)
-    → reading a bytes ≡ Live n → value_at a n.0 ≡ Some i → v.attributes ≡ attributes_of n.0 (file_of 0 i) i.nlink → kind_seen v ≡ kind_of i.node
+    → reading a bytes ≡ Live (number n.0) → value_at a n.0 ≡ Some i → v.attributes ≡ attributes_of n.0 (file_of 0 i) i.nlink → kind_seen v ≡ kind_of i.node
     → (reading (numbered_files t) bytes ≡ Live (number v.attributes.fileid)) × IsSeen t v
 found_there a stored_volumes t view keeps bytes n i v reads at_number e k = (
   sym (reading_there a stored_volumes t view bytes) ∙ reads ∙ ap (λ m. Live (number m)) (sym (ap (λ (f : Fattr). f.fileid) e)),

@@ -6,6 +6,7 @@ use Rattle.std.specs.List.{find}
 use Rattle.std.proofs.lemmas.Bool.Decides.{Decides-at, Decides-like, Decides-not, Decides-by_and}
 use Rattle.std.proofs.lemmas.Slice.Eq.{bytes_eq-Decides}
 use Rattle.std.proofs.lemmas.Option.{slice_get-map}
+use Rattle.nfs_handles.specs.declared.number.Number.{Number}
 use Rattle.nfs_handles.specs.NumberedFiles.{NumberedFiles, value_at}
 use Rattle.nfs_entries.specs.Listing.{Listed}
 use Rattle.nfs_inodes.specs.declared.stored_file.StoredFile.{StoredFile}
@@ -78,11 +79,11 @@ no_entry_named name es fresh = is_none_of (entry_named name es) ((unlisted name 
     is_none_of (Some x) e = cc
 
 -- the kept directory takes the name where no entry has it
-pub takes_name : (i : StoredFile) (parent : ℕ) (entries : Listed) (name : List ℕ) (o : Option ℕ) (b : Bool) → i.node ≡ node.Directory parent entries → entries.next < 18446744073709551615 → IsName name →
-    o ≡ number_named name entries.entries → is_some o ≡ not b → Decides b (TakesName i name)
+pub takes_name : (i : StoredFile) (parent : Number) (entries : Listed) (name : List ℕ) (o : Option Number) (b : Bool) → i.node ≡ node.Directory parent entries → entries.next < 18446744073709551615 → IsName name →
+    option_map (λ (n : Number). n.0) o ≡ number_named name entries.entries → is_some o ≡ not b → Decides b (TakesName i name)
 takes_name i parent entries name o b is below is_name search none =
-    let kind : kind_of i.node ≡ Directory parent entries.next entries.entries = ap kind_of is in
-    Decides-at b (is_none (entry_named name entries.entries)) (none_told o b none ∙ none_alike (λ n. n) (λ (e : Entry). e.number) o (entry_named name entries.entries) (itself o ∙ search))
+    let kind : kind_of i.node ≡ Directory parent.0 entries.next entries.entries = ap kind_of is in
+    Decides-at b (is_none (entry_named name entries.entries)) (none_told o b none ∙ none_alike (λ (n : Number). n.0) (λ (e : Entry). e.number) o (entry_named name entries.entries) search)
     (Decides-like (is_none (entry_named name entries.entries))
     (λ all. record {
       directory = ap is_directory kind;

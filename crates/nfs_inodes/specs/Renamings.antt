@@ -39,5 +39,5 @@ pub record Renames (files : NumberedFiles StoredFile) (stored_volumes : List Sto
   pub may : MayRename (tree_in (counted_tree_of files stored_volumes)) route.from.0 name route.to.0 new_name
   pub number : route.number.0 ≡ may.entry.number
   pub names : option_map (λ (n : Number). n.0) replaced ≡ option_map (λ (e : Entry). e.number) (entry_named new_name (entries_in may.target.kind))
-  pub other : replaced ≢ Some route.number
+  pub other : option_map (λ (n : Number). n.0) replaced ≢ Some route.number.0
   pub room : HasRoomAt files route.to.0

@@ -10,7 +10,7 @@ use Rattle.nfs_handles.specs.NumberedFiles.{NumberedFiles, TaggedFile}
 
 abbrev pub kind_of : Node → Kind
 kind_of (node.Regular bytes) = Regular bytes.items
-kind_of (node.Directory parent entries) = Directory parent entries.next entries.entries
+kind_of (node.Directory parent entries) = Directory parent.0 entries.next entries.entries
 kind_of (node.Link path) = Link path.items
 
 -- the file, under some tag
@@ -32,7 +32,7 @@ abbrev pub counted_file_of : ℕ → StoredFile → CountedFile
 counted_file_of tag i = record { file = file_of tag i; nlink = i.nlink }
 
 abbrev pub volume_of : StoredVolume → Volume
-volume_of s = record { path = s.path.items; max_bytes = s.max_bytes; max_files = s.max_files; root = s.root }
+volume_of s = record { path = s.path.items; max_bytes = s.max_bytes; max_files = s.max_files; root = s.root.0 }
 
 abbrev pub counted_volume_of : StoredVolume → CountedVolume
 counted_volume_of s = record { volume = volume_of s; bytes = s.bytes; files = s.files }

@@ -18,13 +18,13 @@ impl Tree {
         ensures off { result ≡ false → IsOff self.now dir.0 above.0 }
     {
         self.law();
-        let mut at = dir.0;
+        let mut at = dir;
         for step in 0..self.next_number() {
-            if at == above.0 {
+            if at.0 == above.0 {
                 return true;
             }
             let parent = self.parent(at);
-            if parent == at {
+            if parent.0 == at.0 {
                 return false;
             }
             at = parent;
@@ -33,21 +33,21 @@ impl Tree {
     }
 
     // The parent of a directory; of a root the root itself.
-    fn parent(&self, dir: u64) -> u64
-        ensures { result ≡ parent_of self.now.files dir }
+    fn parent(&self, dir: Number) -> Number
+        ensures { result.0 ≡ parent_of self.now.files dir.0 }
     {
-        match self.files.get(Number(dir)) {
+        match self.files.get(dir) {
             Some(stored_file) => parent_of(&stored_file.node),
-            None => 0,
+            None => Number::new(0),
         }
     }
 }
 
-fn parent_of(node: &Node) -> u64
-    ensures { result ≡ parent_in (kind_of node.now) }
+fn parent_of(node: &Node) -> Number
+    ensures { result.0 ≡ parent_in (kind_of node.now) }
 {
     match node {
         Node::Directory { parent, .. } => *parent,
-        _ => 0,
+        _ => Number::new(0),
     }
 }

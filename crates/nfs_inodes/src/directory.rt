@@ -165,7 +165,7 @@ pub(crate) fn under_name(node: &Node, dir: Number, name: &[u8]) -> Option<Number
             if name == b".".as_slice() {
                 Some(dir)
             } else if name == b"..".as_slice() {
-                Some(Number(*parent))
+                Some(*parent)
             } else {
                 named(entries, name)
             }
@@ -177,10 +177,7 @@ pub(crate) fn under_name(node: &Node, dir: Number, name: &[u8]) -> Option<Number
 fn named(entries: &DirectoryEntries, name: &[u8]) -> Option<Number>
     ensures { option_map (λ n. n.0) result ≡ number_named name.now entries.now.entries }
 {
-    match entries.number(name) {
-        Some(number) => Some(Number(number)),
-        None => None,
-    }
+    entries.number(name)
 }
 
 fn after_cookie(node: &Node, dir: Number, cookie: u64) -> Option<EntryView<'_>>
@@ -202,7 +199,7 @@ fn after_cookie(node: &Node, dir: Number, cookie: u64) -> Option<EntryView<'_>>
                 Some(EntryView {
                     cookie: 2,
                     name: b"..",
-                    number: Number(*parent),
+                    number: *parent,
                 })
             } else {
                 later(entries, cookie)
@@ -226,6 +223,6 @@ fn entry_view<'a>(entry: &directory_entries::EntryView<'a>) -> EntryView<'a>
     EntryView {
         cookie: entry.cookie,
         name: entry.name,
-        number: Number(entry.number),
+        number: entry.number,
     }
 }

@@ -1,5 +1,5 @@
 //! Entries that go from one name to another.
-ghost use Rattle.std.specs.Prelude.{◌≡◌, ◌↔◌, IsTrue, List, OnOk, OnErr, Some};
+ghost use Rattle.std.specs.Prelude.{◌≡◌, ◌↔◌, IsTrue, List, OnOk, OnErr, Some, option_map};
 ghost use Rattle.nfs_inodes.specs.declared.stored_volume.StoredVolume.{StoredVolume};
 ghost use Rattle.nfs_inodes.specs.Changes.{after_rename, carried};
 ghost use Rattle.nfs_inodes.specs.Conditions.{MayRename, NameApart};
@@ -70,7 +70,7 @@ pub(crate) struct Route {
 
 // Whether a file was found, and it is this one.
 fn is_number(found: Option<Number>, number: Number) -> bool
-    ensures { IsTrue result ↔ (found ≡ Some number) }
+    ensures { IsTrue result ↔ (option_map (λ n. n.0) found ≡ Some number.0) }
 {
     match found {
         Some(found) => found.0 == number.0,
@@ -120,7 +120,7 @@ fn carry(files: &mut Files<StoredFile>, route: Route, name: &[u8], new_name: Vec
     let subdirectory = is_directory(files, route.number);
     leave(files, route.from, name, subdirectory, now);
     move_to(files, route.number, route.to, now);
-    enter(files, route.to, new_name, route.number.0, subdirectory, now);
+    enter(files, route.to, new_name, route.number, subdirectory, now);
 }
 
 // A file comes into directory `dir`.
@@ -129,7 +129,7 @@ fn move_to(files: &mut Files<StoredFile>, number: Number, dir: Number, now: Mome
     ensures { Revalues files.old number.0 (MovesTo dir.0 now) files.new }
 {
     match files.get_mut(number) {
-        Some(stored_file) => set_parent(stored_file, dir.0, now),
+        Some(stored_file) => set_parent(stored_file, dir, now),
         None => unreachable!(),
     }
 }

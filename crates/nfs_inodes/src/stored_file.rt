@@ -15,6 +15,7 @@ use crate::given_attributes::GivenAttributes;
 use crate::new_file::NewFile;
 use nfs_attrs::moment::Moment;
 use nfs_entries::directory_entries::DirectoryEntries;
+use nfs_handles::number::Number;
 use std::alloc::AllocError;
 
 /// What a file is, as it is kept.
@@ -22,7 +23,7 @@ use std::alloc::AllocError;
 pub(crate) enum Node {
     Regular(Vec<u8>),
     Directory {
-        parent: u64,
+        parent: Number,
         entries: DirectoryEntries,
     },
     Link(Vec<u8>),
@@ -117,7 +118,7 @@ pub(crate) fn reserve_entry(stored_file: &mut StoredFile) -> Result<(), AllocErr
 pub(crate) fn add_entry(
     stored_file: &mut StoredFile,
     name: Vec<u8>,
-    number: u64,
+    number: Number,
     subdirectory: bool,
     now: Moment,
 )
@@ -126,7 +127,7 @@ pub(crate) fn add_entry(
     requires fresh { entry_named name.items (entries_in (file_of 0 stored_file.old).kind) ≡ None }
     requires next { next_cookie_in (file_of 0 stored_file.old).kind + 1 < 2 ^ 64 }
     requires links { stored_file.old.nlink ≤ max_links }
-    ensures file { file_of 0 stored_file.new ≡ entered (file_of 0 stored_file.old) name.items number now }
+    ensures file { file_of 0 stored_file.new ≡ entered (file_of 0 stored_file.old) name.items number.0 now }
     ensures nlink { stored_file.new.nlink ≡ stored_file.old.nlink + one_when subdirectory }
 {
     stored_file.mtime = now;
@@ -165,8 +166,8 @@ pub(crate) fn remove_entry(
 }
 
 /// A file that comes into directory `dir`, which is then a directory's parent.
-pub(crate) fn set_parent(stored_file: &mut StoredFile, dir: u64, now: Moment)
-    ensures file { file_of 0 stored_file.new ≡ moved_to (file_of 0 stored_file.old) dir now }
+pub(crate) fn set_parent(stored_file: &mut StoredFile, dir: Number, now: Moment)
+    ensures file { file_of 0 stored_file.new ≡ moved_to (file_of 0 stored_file.old) dir.0 now }
     ensures nlink { stored_file.new.nlink ≡ stored_file.old.nlink }
     ensures room { HasRoom stored_file.old → HasRoom stored_file.new }
 {

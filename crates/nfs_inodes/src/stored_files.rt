@@ -42,7 +42,7 @@ pub(crate) fn add(
         Ok(number) => number,
         Err(_) => return Err(AllocError),
     };
-    enter(files, dir, name, number.0, subdirectory, now);
+    enter(files, dir, name, number, subdirectory, now);
     Ok(number)
 }
 
@@ -63,7 +63,7 @@ pub(crate) fn link(
 {
     reserve(files, dir)?;
     gain_link(files, number, dir, now);
-    enter(files, dir, name, number.0, false, now);
+    enter(files, dir, name, number, false, now);
     Ok(())
 }
 
@@ -178,14 +178,14 @@ pub(crate) fn enter(
     files: &mut Files<StoredFile>,
     dir: Number,
     name: Vec<u8>,
-    number: u64,
+    number: Number,
     subdirectory: bool,
     now: Moment,
 )
     requires dir { TakesEntry files.old dir.0 }
     requires room { (stored_file : StoredFile) → value_at files.old dir.0 ≡ Some stored_file → HasRoom stored_file }
     requires fresh { HasNoEntry files.old dir.0 name.items }
-    ensures { Revalues files.old dir.0 (Enters name.items number (one_when subdirectory) now) files.new }
+    ensures { Revalues files.old dir.0 (Enters name.items number.0 (one_when subdirectory) now) files.new }
 {
     match files.get_mut(dir) {
         Some(parent) => add_entry(parent, name, number, subdirectory, now),

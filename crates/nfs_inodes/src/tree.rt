@@ -119,7 +119,7 @@ impl Tree {
     {
         let name = copied(self.alloc, name)?;
         let node = Node::Directory {
-            parent: dir.0,
+            parent: dir,
             entries: DirectoryEntries::new(self.alloc, FIRST_COOKIE),
         };
         self.make(dir, name, node, given, None, now)
@@ -226,8 +226,9 @@ impl Tree {
     {
         let path = copied(self.alloc, path)?;
         self.volumes.reserve(1)?;
+        let parent = Number::new(self.files.next());
         let node = Node::Directory {
-            parent: self.files.next(),
+            parent,
             entries: DirectoryEntries::new(self.alloc, FIRST_COOKIE),
         };
         let stored_file = StoredFile::new(self.volumes.len(), node, given, None, now);
@@ -241,7 +242,7 @@ impl Tree {
                 path,
                 max_bytes,
                 max_files,
-                root: root.0,
+                root,
                 bytes: 0,
                 files: 1,
             },

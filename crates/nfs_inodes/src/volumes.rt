@@ -85,7 +85,7 @@ fn view_of(stored_volume: &StoredVolume) -> VolumeView<'_>
         path: stored_volume.path.as_slice(),
         max_bytes: stored_volume.max_bytes,
         max_files: stored_volume.max_files,
-        root: Number(stored_volume.root),
+        root: stored_volume.root,
     }
 }
 

@@ -11,7 +11,7 @@ use nfs_inodes::volumes::Totals;
 pub(crate) fn agrees(tree: &Tree) -> bool {
     let directories = directories(tree);
     for number in 0..tree.next_number() {
-        if !is_kept(tree, Number(number), directories) {
+        if !is_kept(tree, Number::new(number), directories) {
             return false;
         }
     }
@@ -22,7 +22,7 @@ pub(crate) fn agrees(tree: &Tree) -> bool {
 pub(crate) fn links(tree: &Tree) -> u64 {
     let mut links = 0u64;
     for number in 0..tree.next_number() {
-        if let Some(file) = tree.attributes(Number(number)) {
+        if let Some(file) = tree.attributes(Number::new(number)) {
             links = links.saturating_add(u64::from(file.nlink));
         }
     }
@@ -55,7 +55,7 @@ fn reaches_root(tree: &Tree, file: &Fattr, names: u64, directories: u64) -> bool
     match tree.volume(place_of(file)) {
         Some(volume) if volume.root.0 == file.fileid => names == 0,
         Some(volume) => {
-            names == 1 && climbs(tree, Number(file.fileid), volume.root, directories)
+            names == 1 && climbs(tree, Number::new(file.fileid), volume.root, directories)
         }
         None => false,
     }
@@ -81,7 +81,7 @@ fn climbs(tree: &Tree, dir: Number, root: Number, steps: u64) -> bool {
 fn directories(tree: &Tree) -> u64 {
     let mut count = 0u64;
     for number in 0..tree.next_number() {
-        if tree.next_cookie(Number(number)).is_some() {
+        if tree.next_cookie(Number::new(number)).is_some() {
             count = count.saturating_add(1);
         }
     }
@@ -92,7 +92,7 @@ fn directories(tree: &Tree) -> u64 {
 fn names(tree: &Tree, number: Number) -> u64 {
     let mut count = 0u64;
     for dir in 0..tree.next_number() {
-        count = count.saturating_add(names_in(tree, Number(dir), number));
+        count = count.saturating_add(names_in(tree, Number::new(dir), number));
     }
     count
 }
@@ -137,7 +137,7 @@ fn totals_agree(tree: &Tree) -> bool {
 fn counted(tree: &Tree, place: usize) -> Totals {
     let mut totals = Totals { bytes: 0, files: 0 };
     for number in 0..tree.next_number() {
-        match tree.attributes(Number(number)) {
+        match tree.attributes(Number::new(number)) {
             Some(file) if place_of(&file) == place => add(&mut totals, &file),
             _ => {}
         }

@@ -61,12 +61,12 @@ impl Numbered {
     }
 
     fn get(&self, words: &mut SplitWhitespace<'_>) -> Option<String> {
-        let value = self.files.get(Number(number(words)?));
+        let value = self.files.get(Number::new(number(words)?));
         told(self.alloc, value)
     }
 
     fn halve(&mut self, words: &mut SplitWhitespace<'_>) -> Option<String> {
-        match self.files.get_mut(Number(number(words)?)) {
+        match self.files.get_mut(Number::new(number(words)?)) {
             Some(value) => *value /= 2,
             None => return text(self.alloc, "None"),
         }
@@ -74,12 +74,12 @@ impl Numbered {
     }
 
     fn take(&mut self, words: &mut SplitWhitespace<'_>) -> Option<String> {
-        let value = self.files.take(Number(number(words)?));
+        let value = self.files.take(Number::new(number(words)?));
         told(self.alloc, value)
     }
 
     fn handle(&self, words: &mut SplitWhitespace<'_>) -> Option<String> {
-        let number = Number(number(words)?);
+        let number = Number::new(number(words)?);
         self.files.law();
         if self.files.get(number).is_none() {
             return text(self.alloc, "None");

@@ -107,13 +107,13 @@ impl<'a> Served<'a> {
 // What is read of a file.
 fn read(alloc: Global, tree: &Tree, verb: &str, words: &mut SplitWhitespace<'_>) -> Option<String> {
     match verb {
-        "attributes" => told(alloc, tree.attributes(Number(number(words)?))),
-        "links" => told(alloc, links(tree, Number(number(words)?))),
+        "attributes" => told(alloc, tree.attributes(Number::new(number(words)?))),
+        "links" => told(alloc, links(tree, Number::new(number(words)?))),
         "below" => told(alloc, below(tree, number(words)?, number(words)?)),
-        "is-empty" => told(alloc, tree.is_empty(Number(number(words)?))),
+        "is-empty" => told(alloc, tree.is_empty(Number::new(number(words)?))),
         "lookup" => lookup(alloc, tree, words),
         "entry" => entry(alloc, tree, words),
-        "cookie" => told(alloc, tree.next_cookie(Number(number(words)?))),
+        "cookie" => told(alloc, tree.next_cookie(Number::new(number(words)?))),
         "content" => content(alloc, tree, words),
         "path" => path(alloc, tree, words),
         "verifier" => verifier(alloc, tree, words),
@@ -131,22 +131,22 @@ fn links(tree: &Tree, number: Number) -> Option<u32> {
 
 // Whether a file is a directory or above it; `None` where that is no directory.
 fn below(tree: &Tree, dir: u64, above: u64) -> Option<bool> {
-    if tree.next_cookie(Number(dir)).is_none() {
+    if tree.next_cookie(Number::new(dir)).is_none() {
         return None;
     }
-    Some(tree.is_below(Number(dir), Number(above)))
+    Some(tree.is_below(Number::new(dir), Number::new(above)))
 }
 
 // The file of a name in a directory.
 fn lookup(alloc: Global, tree: &Tree, words: &mut SplitWhitespace<'_>) -> Option<String> {
-    let dir = Number(number(words)?);
+    let dir = Number::new(number(words)?);
     let name = name(alloc, words)?;
     told(alloc, tree.lookup(dir, name.as_slice()))
 }
 
 // The cookie and the number of the first entry of a directory after a cookie.
 fn entry(alloc: Global, tree: &Tree, words: &mut SplitWhitespace<'_>) -> Option<String> {
-    let dir = Number(number(words)?);
+    let dir = Number::new(number(words)?);
     match tree.entry_after(dir, number(words)?) {
         Some(entry) => told(alloc, (entry.cookie, entry.number.0)),
         None => text(alloc, "None"),
@@ -155,13 +155,13 @@ fn entry(alloc: Global, tree: &Tree, words: &mut SplitWhitespace<'_>) -> Option<
 
 // The bytes of a file from an offset.
 fn content(alloc: Global, tree: &Tree, words: &mut SplitWhitespace<'_>) -> Option<String> {
-    let number = Number(number(words)?);
+    let number = Number::new(number(words)?);
     digits(alloc, tree.bytes_at(number, size(words)?))
 }
 
 // The path of a link.
 fn path(alloc: Global, tree: &Tree, words: &mut SplitWhitespace<'_>) -> Option<String> {
-    match tree.link_path(Number(number(words)?)) {
+    match tree.link_path(Number::new(number(words)?)) {
         Some(path) => digits(alloc, path),
         None => text(alloc, "None"),
     }
@@ -169,7 +169,7 @@ fn path(alloc: Global, tree: &Tree, words: &mut SplitWhitespace<'_>) -> Option<S
 
 // The verifier that a file was made with.
 fn verifier(alloc: Global, tree: &Tree, words: &mut SplitWhitespace<'_>) -> Option<String> {
-    match tree.verifier(Number(number(words)?)) {
+    match tree.verifier(Number::new(number(words)?)) {
         Some(verifier) => digits(alloc, &verifier),
         None => text(alloc, "None"),
     }
@@ -215,7 +215,7 @@ fn volumes(
 // `may-make DIRECTORY NAME SIZE`, `may-write NUMBER OFFSET COUNT`, `may-resize NUMBER SIZE`,
 // `may-unlink DIRECTORY NAME` and `may-rename DIRECTORY NAME DIRECTORY NAME`.
 fn may(alloc: Global, tree: &Tree, verb: &str, words: &mut SplitWhitespace<'_>) -> Option<String> {
-    let file = Number(number(words)?);
+    let file = Number::new(number(words)?);
     match verb {
         "may-write" => told(alloc, tree.may_write(file, size(words)?, size(words)?)),
         "may-resize" => told(alloc, tree.may_resize(file, size(words)?)),
@@ -242,7 +242,7 @@ fn may_rename(
     words: &mut SplitWhitespace<'_>,
 ) -> Option<String> {
     let old_name = name(alloc, words)?;
-    let to = Number(number(words)?);
+    let to = Number::new(number(words)?);
     let new_name = name(alloc, words)?;
     told(
         alloc,
@@ -252,7 +252,7 @@ fn may_rename(
 
 // `make-file DIRECTORY NAME SIZE [VERIFIER]`.
 fn make_file(alloc: Global, tree: &mut Tree, words: &mut SplitWhitespace<'_>) -> Option<u64> {
-    let dir = Number(number(words)?);
+    let dir = Number::new(number(words)?);
     let name = name(alloc, words)?;
     let size = size(words)?;
     let verifier = bytes(alloc, words)?.first_chunk::<8>().copied();
@@ -266,7 +266,7 @@ fn make_file(alloc: Global, tree: &mut Tree, words: &mut SplitWhitespace<'_>) ->
 
 // `make-dir DIRECTORY NAME`.
 fn make_dir(alloc: Global, tree: &mut Tree, words: &mut SplitWhitespace<'_>) -> Option<u64> {
-    let dir = Number(number(words)?);
+    let dir = Number::new(number(words)?);
     let name = name(alloc, words)?;
     directory(tree, dir, name.as_slice())
 }
@@ -282,7 +282,7 @@ pub(crate) fn directory(tree: &mut Tree, dir: Number, name: &[u8]) -> Option<u64
 
 // `make-dirs DIRECTORY COUNT`: so many directories, with numbers as names; how many were made.
 fn make_dirs(alloc: Global, tree: &mut Tree, words: &mut SplitWhitespace<'_>) -> Option<u64> {
-    let dir = Number(number(words)?);
+    let dir = Number::new(number(words)?);
     let mut made = 0u64;
     for index in 0..word(words)? {
         let name = format!(in alloc; "{index}").ok()?;
@@ -295,7 +295,7 @@ fn make_dirs(alloc: Global, tree: &mut Tree, words: &mut SplitWhitespace<'_>) ->
 
 // `make-link DIRECTORY NAME PATH`.
 fn make_link(alloc: Global, tree: &mut Tree, words: &mut SplitWhitespace<'_>) -> Option<u64> {
-    let dir = Number(number(words)?);
+    let dir = Number::new(number(words)?);
     let name_of_link = name(alloc, words)?;
     let path = name(alloc, words)?;
     if !tree.may_make_link(dir, name_of_link.as_slice(), path.as_slice()) {
@@ -307,8 +307,8 @@ fn make_link(alloc: Global, tree: &mut Tree, words: &mut SplitWhitespace<'_>) ->
 
 // `link NUMBER DIRECTORY NAME`: the number.
 fn link(alloc: Global, tree: &mut Tree, words: &mut SplitWhitespace<'_>) -> Option<u64> {
-    let file = Number(number(words)?);
-    let dir = Number(number(words)?);
+    let file = Number::new(number(words)?);
+    let dir = Number::new(number(words)?);
     let name = name(alloc, words)?;
     if !tree.may_link(file, dir, name.as_slice()) {
         return None;
@@ -319,7 +319,7 @@ fn link(alloc: Global, tree: &mut Tree, words: &mut SplitWhitespace<'_>) -> Opti
 
 // `write NUMBER OFFSET BYTES`: the number.
 fn write(alloc: Global, tree: &mut Tree, words: &mut SplitWhitespace<'_>) -> Option<u64> {
-    let file = Number(number(words)?);
+    let file = Number::new(number(words)?);
     let offset = size(words)?;
     let content = bytes(alloc, words)?;
     if !tree.may_write(file, offset, content.len()) {
@@ -331,7 +331,7 @@ fn write(alloc: Global, tree: &mut Tree, words: &mut SplitWhitespace<'_>) -> Opt
 
 // `resize NUMBER SIZE`: the number.
 fn resize(tree: &mut Tree, words: &mut SplitWhitespace<'_>) -> Option<u64> {
-    let file = Number(number(words)?);
+    let file = Number::new(number(words)?);
     let size = size(words)?;
     if !tree.may_resize(file, size) {
         return None;
@@ -342,7 +342,7 @@ fn resize(tree: &mut Tree, words: &mut SplitWhitespace<'_>) -> Option<u64> {
 
 // `set-mode NUMBER MODE`, the mode decimal: the number.
 fn set_mode(tree: &mut Tree, words: &mut SplitWhitespace<'_>) -> Option<u64> {
-    let file = Number(number(words)?);
+    let file = Number::new(number(words)?);
     let given = mode_alone(word(words)?);
     if tree.attributes(file).is_none() {
         return None;
@@ -363,7 +363,7 @@ fn mode_alone(mode: u32) -> GivenAttributes {
 
 // `unlink DIRECTORY NAME`: the directory's number.
 fn unlink(alloc: Global, tree: &mut Tree, words: &mut SplitWhitespace<'_>) -> Option<u64> {
-    let dir = Number(number(words)?);
+    let dir = Number::new(number(words)?);
     let name = name(alloc, words)?;
     if !tree.may_unlink(dir, name.as_slice()) {
         return None;
@@ -374,9 +374,9 @@ fn unlink(alloc: Global, tree: &mut Tree, words: &mut SplitWhitespace<'_>) -> Op
 
 // `rename DIRECTORY NAME DIRECTORY NAME`: the number of the second directory.
 fn rename(alloc: Global, tree: &mut Tree, words: &mut SplitWhitespace<'_>) -> Option<u64> {
-    let from = Number(number(words)?);
+    let from = Number::new(number(words)?);
     let old_name = name(alloc, words)?;
-    let to = Number(number(words)?);
+    let to = Number::new(number(words)?);
     let new_name = name(alloc, words)?;
     if !tree.may_rename(from, old_name.as_slice(), to, new_name.as_slice()) {
         return None;

@@ -41,7 +41,7 @@ impl Exported {
         let addr = Addr(address(words)?);
         let cred = user(word(words)?);
         let caller = Caller { addr, cred: &cred };
-        let files = (Number(number(words)?), Number(number(words)?));
+        let files = (Number::new(number(words)?), Number::new(number(words)?));
         let procedure = Procedure::of(word(words)?)?;
         let record = bytes(self.alloc, words)?;
         let args = read_nfs(procedure, Input::new(record.as_slice())).ok()?;

@@ -15,9 +15,9 @@ pub(crate) fn answer(
     words: &mut SplitWhitespace<'_>,
 ) -> Option<String> {
     let said = match words.next()? {
-        "of" => of(alloc, tree, Number(number(words)?)),
+        "of" => of(alloc, tree, Number::new(number(words)?)),
         "find" => find(alloc, tree, words),
-        "handle" => handle(alloc, tree, Number(number(words)?)),
+        "handle" => handle(alloc, tree, Number::new(number(words)?)),
         "content" => content(alloc, tree, words),
         _ => return None,
     };
@@ -36,7 +36,7 @@ fn of(alloc: Global, tree: &Tree, number: Number) -> Option<String> {
 
 // The number of the file under a name in a directory.
 fn find(alloc: Global, tree: &Tree, words: &mut SplitWhitespace<'_>) -> Option<String> {
-    let dir = tree.view(Number(number(words)?))?;
+    let dir = tree.view(Number::new(number(words)?))?;
     let name = name(alloc, words)?;
     let found = tree.find_in(&dir, name.as_slice())?.attributes().fileid;
     told(alloc, found)
@@ -49,6 +49,6 @@ fn handle(alloc: Global, tree: &Tree, number: Number) -> Option<String> {
 
 // The bytes of a file from an offset.
 fn content(alloc: Global, tree: &Tree, words: &mut SplitWhitespace<'_>) -> Option<String> {
-    let file = tree.view(Number(number(words)?))?;
+    let file = tree.view(Number::new(number(words)?))?;
     digits(alloc, file.bytes_at(size(words)?))
 }

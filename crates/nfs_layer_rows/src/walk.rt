@@ -87,7 +87,7 @@ impl Walk {
 
     // A directory down to five below a root, the root of the large volume three times out of four.
     fn dir(&mut self) -> Number {
-        let mut dir = Number(if self.next() & 3 == 0 { 2 } else { 1 });
+        let mut dir = Number::new(if self.next() & 3 == 0 { 2 } else { 1 });
         for _ in 0..self.next() % 6 {
             let name = self.name();
             dir = self.child(dir, &name);

@@ -34,7 +34,7 @@ pub fn listing<W: ByteOut>(tree: &Tree, out: &mut W) -> Result<(), WriteFault>
 {
     let mut line = Line::new();
     for number in 1..tree.next_number() {
-        write_number(tree, Number(number), &mut line, out)?;
+        write_number(tree, Number(number, 0), &mut line, out)?;
     }
     Ok(())
 }

@@ -77,8 +77,8 @@ fn handed_back(alloc: Global) -> Result<Option<u32>, AllocError> {
     let mut ballast = Ballast::new(alloc)?;
     for refused in 0..ROUNDS {
         match put(&mut files) {
-            Ok(Some(7)) if files.get(Number(7)) == Some(&10) => return Ok(Some(refused)),
-            Ok(None) if files.get(Number(7)).is_none() && ballast.lighten() => {}
+            Ok(Some(7)) if files.get(Number::new(7)) == Some(&10) => return Ok(Some(refused)),
+            Ok(None) if files.get(Number::new(7)).is_none() && ballast.lighten() => {}
             _ => return Ok(None),
         }
     }

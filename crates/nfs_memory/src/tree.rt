@@ -40,10 +40,10 @@ pub(crate) struct Seen {
 
 pub(crate) fn look(tree: &Tree) -> Seen {
     Seen {
-        directory: tree.attributes(Number(2)),
-        cookie: tree.next_cookie(Number(2)),
-        file: tree.attributes(Number(3)),
-        length: tree.bytes_at(Number(3), 0).len(),
+        directory: tree.attributes(Number::new(2)),
+        cookie: tree.next_cookie(Number::new(2)),
+        file: tree.attributes(Number::new(3)),
+        length: tree.bytes_at(Number::new(3), 0).len(),
         totals: tree.totals(0),
         volumes: tree.volumes(),
         number: tree.next_number(),
@@ -52,7 +52,7 @@ pub(crate) fn look(tree: &Tree) -> Seen {
 
 // One operation of each kind, by its number.
 fn operate(alloc: Global, tree: &mut Tree, operation: u32) -> Result<(), AllocError> {
-    let dir = Number(2);
+    let dir = Number::new(2);
     match operation {
         0 if tree.may_make(dir, b"y", 100) => {
             tree.make_file(dir, b"y", zeroed(alloc, 100)?, &GIVEN, None, NOW)?;
@@ -63,12 +63,12 @@ fn operate(alloc: Global, tree: &mut Tree, operation: u32) -> Result<(), AllocEr
         2 if tree.may_make_link(dir, b"y", b"to") => {
             tree.make_link(dir, b"y", b"to", &GIVEN, NOW)?;
         }
-        3 if tree.may_link(Number(3), dir, b"y") => tree.link(Number(3), dir, b"y", NOW)?,
-        4 if tree.may_write(Number(3), 100, 3) => tree.write_at(Number(3), 100, b"end", NOW)?,
+        3 if tree.may_link(Number::new(3), dir, b"y") => tree.link(Number::new(3), dir, b"y", NOW)?,
+        4 if tree.may_write(Number::new(3), 100, 3) => tree.write_at(Number::new(3), 100, b"end", NOW)?,
         5 if tree.may_add_volume(b"/c", 1) => {
             tree.add_volume(b"/c", 1, 1, &GIVEN, NOW)?;
         }
-        6 if tree.may_resize(Number(3), 1_000) => tree.resize(Number(3), 1_000, NOW)?,
+        6 if tree.may_resize(Number::new(3), 1_000) => tree.resize(Number::new(3), 1_000, NOW)?,
         7 if tree.may_rename(dir, b"x", dir, b"y") => tree.rename(dir, b"x", dir, b"y", NOW)?,
         _ => (),
     }

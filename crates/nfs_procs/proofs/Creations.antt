@@ -44,11 +44,11 @@ may_make_or_take s law seen a none (Some f) is = may_take a.how refl
     may_take (Exclusive verifier) e = tt
 
 abbrev planned : Fattr → Option Fattr → NewFile → FilePlan
-planned dir present given = record { dir = dir; present = present; given = given }
+planned dir present given = record { dir = record { attributes = dir; tag = 0 }; present = present; given = given }
 
 pub created : (c : Scene) (a : Create) (s : Subject) (plan : FilePlan) (new : Tree) (n : ℕ) (dir : Wcc) (x y z : Written) → IsGranted c s s → PlansFile c.tree c.now a plan s
     → Makes (after_making_or_taking c.tree plan a c.now) new → n ≡ number_of c.tree plan.present
-    → dir ≡ change (Some plan.dir) (attributes_at new plan.dir.fileid)
+    → dir ≡ change (Some plan.dir.attributes) (attributes_at new plan.dir.attributes.fileid)
     → Appends (to_be_bytes w32 0) x y → Appends (made_text (new_file_in new n dir)) y z → IsMade (new_file_in new n dir) (made_text (new_file_in new n dir))
     → HasEffect c (create a) new x z
 created c a s plan new n dir x y z granted plans makes number shown status made spelled = record {
@@ -62,7 +62,7 @@ created c a s plan new n dir x y z granted plans makes number shown status made 
       ∙ ap (λ present. after_making_or_taking c.tree (planned s.file present plan.given) a c.now makes.tag) plans.present
       ∙ ap (λ given. after_making_or_taking c.tree (planned s.file (found s a.place.name) given) a c.now makes.tag) plans.given
       ∙ ap (λ t. after_making_or_taking t (planned s.file (found s a.place.name) (new_file_of file_mode s.ids c.now (attributes_in a.how))) a c.now makes.tag) (sym plans.tree);
-  written = subst (λ m. AppendsAnswer (answer.Create (Ok m)) x z) (shows_made new n (number_of s.tree (found s a.place.name)) s plan.dir dir plans.dir numbered shown) (record {
+  written = subst (λ m. AppendsAnswer (answer.Create (Ok m)) x z) (shows_made new n (number_of s.tree (found s a.place.name)) s plan.dir.attributes dir plans.dir numbered shown) (record {
     text = appends_then _ _ x y z status made;
     spelled = granted_spelled answer.Create IsMade IsWcc made_text (new_file_in new n dir) spelled;
   });

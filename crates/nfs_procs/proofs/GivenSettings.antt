@@ -14,6 +14,7 @@ use Rattle.nfs_inodes.specs.Tree.{Tree, File, on_some}
 use Rattle.nfs_procs.specs.Changers.{set_attr, after_settings}
 use Rattle.nfs_procs.specs.Doing.{change}
 use Rattle.nfs_procs.specs.Performing.{AppendsAnswer, IsGranted, HasEffect}
+use Rattle.nfs_procs.specs.declared.plan.FileBefore.{FileBefore}
 use Rattle.nfs_procs.specs.Plans.{PlansSettings}
 use Rattle.nfs_procs.specs.Scenes.{Scene}
 use Rattle.nfs_rules.specs.Subjects.{Subject}
@@ -24,8 +25,8 @@ pub lives_sized : (t : Tree) (n : ℕ) (size : Option ℕ) (now : Moment) (f : F
 lives_sized t n None now f at_f = (f, at_f)
 lives_sized t n (Some size) now f at_f = (resized_to f size now, subst (λ u. Lives u n (resized_to f size now)) (sym (resized_is t n size now f at_f)) (at_with_same n f (resized_to f size now) t.files at_f))
 
-pub has_set : (c : Scene) (a : SetAttr) (s : Subject) (file : Fattr) (new : Tree) (shown : Wcc) (x y : Written) → IsGranted c s s → PlansSettings c.tree a file s
-    → new ≡ after_settings c.tree file.fileid a.attributes c.now → shown ≡ change (Some file) (attributes_at new file.fileid)
+pub has_set : (c : Scene) (a : SetAttr) (s : Subject) (file : FileBefore) (new : Tree) (shown : Wcc) (x y : Written) → IsGranted c s s → PlansSettings c.tree a file s
+    → new ≡ after_settings c.tree file.attributes.fileid a.attributes c.now → shown ≡ change (Some file.attributes) (attributes_at new file.attributes.fileid)
     → AppendsAnswer (answer.SetAttr (Ok shown)) x y → HasEffect c (set_attr a) new x y
 has_set c a s file new shown x y granted plans is shows written = record {
   one = s;

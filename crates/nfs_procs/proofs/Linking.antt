@@ -17,15 +17,16 @@ use Rattle.nfs_procs.proofs.Spelled.{granted_spelled}
 use Rattle.nfs_procs.specs.Changers.{changed, link, rename}
 use Rattle.nfs_procs.specs.Doing.{change}
 use Rattle.nfs_procs.specs.Performing.{AppendsAnswer, IsGranted, HasEffect, HasNoMemory}
+use Rattle.nfs_procs.specs.declared.plan.FileBefore.{FileBefore}
 use Rattle.nfs_procs.specs.Plans.{PlansLink, PlansRename}
 use Rattle.nfs_procs.specs.Scenes.{Scene}
 use Rattle.nfs_rules.specs.Subjects.{Subject}
 use Rattle.nfs_xdr.proofs.Writing.{appends_then}
 use Rattle.nfs_xdr.specs.Written.{Written, Appends}
 
-pub links : (c : Scene) (a : Link) (plan : Fattr × Fattr) (s u : Subject) (new : Tree) (bytes : List ℕ) (attributes : Option Fattr) (dir : Wcc) (x y z : Written)
-    → IsGranted c s u → PlansLink c.tree a.place.name plan s u → bytes ≡ a.place.name → new ≡ after_link c.tree plan.0.fileid plan.1.fileid bytes c.now
-    → attributes ≡ attributes_at new plan.0.fileid → dir ≡ change (Some plan.1) (attributes_at new plan.1.fileid)
+pub links : (c : Scene) (a : Link) (plan : FileBefore × FileBefore) (s u : Subject) (new : Tree) (bytes : List ℕ) (attributes : Option Fattr) (dir : Wcc) (x y z : Written)
+    → IsGranted c s u → PlansLink c.tree a.place.name plan s u → bytes ≡ a.place.name → new ≡ after_link c.tree plan.0.attributes.fileid plan.1.attributes.fileid bytes c.now
+    → attributes ≡ attributes_at new plan.0.attributes.fileid → dir ≡ change (Some plan.1.attributes) (attributes_at new plan.1.attributes.fileid)
     → Appends (to_be_bytes w32 0) x y → Appends (linked_text (record { attributes = attributes; dir = dir })) y z → IsLinked (record { attributes = attributes; dir = dir }) (linked_text (record { attributes = attributes; dir = dir }))
     → HasEffect c (link a) new x z
 links c a plan s u new bytes attributes dir x y z granted plans same is shown wcc status written spelled = record {
@@ -34,8 +35,8 @@ links c a plan s u new bytes attributes dir x y z granted plans same is shown wc
   granted = granted;
   tag = 0;
   fits = omega arith;
-  new_is = is ∙ ap (λ b. after_link c.tree plan.0.fileid plan.1.fileid b c.now) same
-      ∙ ap (λ (f : Fattr). after_link c.tree f.fileid plan.1.fileid a.place.name c.now) plans.file_is
+  new_is = is ∙ ap (λ b. after_link c.tree plan.0.attributes.fileid plan.1.attributes.fileid b c.now) same
+      ∙ ap (λ (f : Fattr). after_link c.tree f.fileid plan.1.attributes.fileid a.place.name c.now) plans.file_is
       ∙ ap (λ (f : Fattr). after_link c.tree s.file.fileid f.fileid a.place.name c.now) plans.dir_is
       ∙ ap (λ t. after_link t s.file.fileid u.file.fileid a.place.name c.now) (sym plans.tree);
   written = subst (λ o. AppendsAnswer (answer.Link (Ok (record { attributes = o; dir = changed new u }))) x z) (shown ∙ ap (λ (f : Fattr). attributes_at new f.fileid) plans.file_is)
@@ -43,9 +44,9 @@ links c a plan s u new bytes attributes dir x y z granted plans same is shown wc
       (record { text = appends_then _ _ x y z status written; spelled = granted_spelled answer.Link IsLinked IsLinked linked_text (record { attributes = attributes; dir = dir }) spelled }));
 }
 
-pub renames : (c : Scene) (a : Rename) (plan : Fattr × Fattr) (s u : Subject) (new : Tree) (bytes others : List ℕ) (from to : Wcc) (x y z : Written)
-    → IsGranted c s u → PlansRename c.tree a plan s u → bytes ≡ a.from.name → others ≡ a.to.name → new ≡ after_rename c.tree plan.0.fileid bytes plan.1.fileid others c.now
-    → from ≡ change (Some plan.0) (attributes_at new plan.0.fileid) → to ≡ change (Some plan.1) (attributes_at new plan.1.fileid)
+pub renames : (c : Scene) (a : Rename) (plan : FileBefore × FileBefore) (s u : Subject) (new : Tree) (bytes others : List ℕ) (from to : Wcc) (x y z : Written)
+    → IsGranted c s u → PlansRename c.tree a plan s u → bytes ≡ a.from.name → others ≡ a.to.name → new ≡ after_rename c.tree plan.0.attributes.fileid bytes plan.1.attributes.fileid others c.now
+    → from ≡ change (Some plan.0.attributes) (attributes_at new plan.0.attributes.fileid) → to ≡ change (Some plan.1.attributes) (attributes_at new plan.1.attributes.fileid)
     → Appends (to_be_bytes w32 0) x y → Appends (renamed_text (record { from = from; to = to })) y z → IsRenamed (record { from = from; to = to }) (renamed_text (record { from = from; to = to }))
     → HasEffect c (rename a) new x z
 renames c a plan s u new bytes others from to x y z granted plans same same_too is wcc wcc_too status written spelled = record {
@@ -54,8 +55,8 @@ renames c a plan s u new bytes others from to x y z granted plans same same_too 
   granted = granted;
   tag = 0;
   fits = omega arith;
-  new_is = is ∙ ap (λ b. after_rename c.tree plan.0.fileid b plan.1.fileid others c.now) same ∙ ap (λ b. after_rename c.tree plan.0.fileid a.from.name plan.1.fileid b c.now) same_too
-      ∙ ap (λ (f : Fattr). after_rename c.tree f.fileid a.from.name plan.1.fileid a.to.name c.now) plans.from_is
+  new_is = is ∙ ap (λ b. after_rename c.tree plan.0.attributes.fileid b plan.1.attributes.fileid others c.now) same ∙ ap (λ b. after_rename c.tree plan.0.attributes.fileid a.from.name plan.1.attributes.fileid b c.now) same_too
+      ∙ ap (λ (f : Fattr). after_rename c.tree f.fileid a.from.name plan.1.attributes.fileid a.to.name c.now) plans.from_is
       ∙ ap (λ (f : Fattr). after_rename c.tree s.file.fileid a.from.name f.fileid a.to.name c.now) plans.to_is
       ∙ ap (λ t. after_rename t s.file.fileid a.from.name u.file.fileid a.to.name c.now) (sym plans.tree);
   written = subst (λ w. AppendsAnswer (answer.Rename (Ok (record { from = w; to = changed new u }))) x z) (wcc ∙ ap (λ (f : Fattr). change (Some f) (attributes_at new f.fileid)) plans.from_is)
@@ -64,8 +65,8 @@ renames c a plan s u new bytes others from to x y z granted plans same same_too 
 }
 
 -- where there is no memory for another name
-pub unrenamed : (c : Scene) (a : Rename) (plan : Fattr × Fattr) (s u : Subject) (new : Tree) (bytes others : List ℕ) (x : Written)
-    → IsGranted c s u → PlansRename c.tree a plan s u → bytes ≡ a.from.name → others ≡ a.to.name → new ≡ c.tree → NameApart c.tree plan.0.fileid bytes plan.1.fileid others
+pub unrenamed : (c : Scene) (a : Rename) (plan : FileBefore × FileBefore) (s u : Subject) (new : Tree) (bytes others : List ℕ) (x : Written)
+    → IsGranted c s u → PlansRename c.tree a plan s u → bytes ≡ a.from.name → others ≡ a.to.name → new ≡ c.tree → NameApart c.tree plan.0.attributes.fileid bytes plan.1.attributes.fileid others
     → HasNoMemory c (rename a) new x x
 unrenamed c a plan s u new bytes others x granted plans same same_too is apart = record {
   one = s;
@@ -75,8 +76,8 @@ unrenamed c a plan s u new bytes others x granted plans same same_too is apart =
       (subst (λ b. NameApart s.tree s.file.fileid b u.file.fileid a.to.name) same
       (subst (λ b. NameApart s.tree s.file.fileid bytes u.file.fileid b) same_too
       (subst (λ (f : Fattr). NameApart s.tree f.fileid bytes u.file.fileid others) plans.from_is
-      (subst (λ (f : Fattr). NameApart s.tree plan.0.fileid bytes f.fileid others) plans.to_is
-      (subst (λ t. NameApart t plan.0.fileid bytes plan.1.fileid others) (sym plans.tree) apart)))));
+      (subst (λ (f : Fattr). NameApart s.tree plan.0.attributes.fileid bytes f.fileid others) plans.to_is
+      (subst (λ t. NameApart t plan.0.attributes.fileid bytes plan.1.attributes.fileid others) (sym plans.tree) apart)))));
   new_is = is;
   written = refl;
 }

@@ -30,14 +30,14 @@ use Rattle.nfs_xdr.specs.Written.{Written}
 
 pub removes : (c : Scene) (doing : Doing) (answer : Wcc → NfsAnswer) (name bytes : List ℕ) (plan : RemovalPlan) (s : Subject) (new : Tree) (x y : Written) → IsGranted c s s → PlansRemoval c.tree name plan s → bytes ≡ name
     → doing.effect s s c.now 0 ≡ after_unlink s.tree s.file.fileid name c.now → doing.granted s s new ≡ answer (changed new s)
-    → new ≡ after_unlink c.tree plan.dir.fileid bytes c.now → AppendsAnswer (answer (change (Some plan.dir) (attributes_at new plan.dir.fileid))) x y → HasEffect c doing new x y
+    → new ≡ after_unlink c.tree plan.dir.attributes.fileid bytes c.now → AppendsAnswer (answer (change (Some plan.dir.attributes) (attributes_at new plan.dir.attributes.fileid))) x y → HasEffect c doing new x y
 removes c doing answer name bytes plan s new x y granted plans same effect tells is written = record {
   one = s;
   two = s;
   granted = granted;
   tag = 0;
   fits = omega arith;
-  new_is = is ∙ ap (λ b. after_unlink c.tree plan.dir.fileid b c.now) same ∙ ap (λ (f : Fattr). after_unlink c.tree f.fileid name c.now) plans.dir
+  new_is = is ∙ ap (λ b. after_unlink c.tree plan.dir.attributes.fileid b c.now) same ∙ ap (λ (f : Fattr). after_unlink c.tree f.fileid name c.now) plans.dir
       ∙ ap (λ t. after_unlink t s.file.fileid name c.now) (sym plans.tree) ∙ sym effect;
   written = subst (λ a. AppendsAnswer a x y) (sym tells) (subst (λ (f : Fattr). AppendsAnswer (answer (change (Some f) (attributes_at new f.fileid))) x y) plans.dir written);
 }

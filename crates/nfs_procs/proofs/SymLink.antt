@@ -25,8 +25,8 @@ use Rattle.nfs_xdr.proofs.Writing.{appends_then}
 use Rattle.nfs_xdr.specs.Written.{Written, Appends}
 
 pub made_link : (c : Scene) (a : SymLink) (s : Subject) (plan : Plan) (new : Tree) (n : ℕ) (dir : Wcc) (x y z : Written) → IsGranted c s s → PlansSymLink c.tree c.now a plan s
-    → Makes (λ tag. after_make_link c.tree plan.dir.fileid a.place.name a.path plan.given tag c.now) new → n ≡ c.tree.next
-    → dir ≡ change (Some plan.dir) (attributes_at new plan.dir.fileid)
+    → Makes (λ tag. after_make_link c.tree plan.dir.attributes.fileid a.place.name a.path plan.given tag c.now) new → n ≡ c.tree.next
+    → dir ≡ change (Some plan.dir.attributes) (attributes_at new plan.dir.attributes.fileid)
     → Appends (to_be_bytes w32 0) x y → Appends (made_text (new_file_in new n dir)) y z → IsMade (new_file_in new n dir) (made_text (new_file_in new n dir))
     → HasEffect c (sym_link a) new x z
 made_link c a s plan new n dir x y z granted plans makes number shown status made spelled = record {
@@ -39,7 +39,7 @@ made_link c a s plan new n dir x y z granted plans makes number shown status mad
       ∙ ap (λ (d : Fattr). after_make_link c.tree d.fileid a.place.name a.path plan.given makes.tag c.now) plans.dir
       ∙ ap (λ g. after_make_link c.tree s.file.fileid a.place.name a.path g makes.tag c.now) plans.given
       ∙ ap (λ t. after_make_link t s.file.fileid a.place.name a.path (record (new_file_of link_mode s.ids c.now a.attributes) { mode = link_mode }) makes.tag c.now) (sym plans.tree);
-  written = subst (λ m. AppendsAnswer (answer.SymLink (Ok m)) x z) (shows_made new n s.tree.next s plan.dir dir plans.dir (number ∙ ap (λ (t : Tree). t.next) (sym plans.tree)) shown) (record {
+  written = subst (λ m. AppendsAnswer (answer.SymLink (Ok m)) x z) (shows_made new n s.tree.next s plan.dir.attributes dir plans.dir (number ∙ ap (λ (t : Tree). t.next) (sym plans.tree)) shown) (record {
     text = appends_then _ _ x y z status made;
     spelled = granted_spelled answer.SymLink IsMade IsWcc made_text (new_file_in new n dir) spelled;
   });

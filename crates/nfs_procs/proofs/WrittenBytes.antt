@@ -15,6 +15,7 @@ use Rattle.nfs_procs.proofs.Growth.{it_grows}
 use Rattle.nfs_procs.specs.Changers.{write, changed}
 use Rattle.nfs_procs.specs.Doing.{change}
 use Rattle.nfs_procs.specs.Performing.{AppendsAnswer, IsGranted, HasEffect, HasNoMemory}
+use Rattle.nfs_procs.specs.declared.plan.FileBefore.{FileBefore}
 use Rattle.nfs_procs.specs.Plans.{PlansBytes}
 use Rattle.nfs_procs.specs.Readers.{verifier_of}
 use Rattle.nfs_procs.specs.Scenes.{Scene}
@@ -25,9 +26,9 @@ use Rattle.nfs_xdr.specs.Written as output
 abbrev pub answer_of : Wcc → ℕ → ℕ → Written
 answer_of file count verifier = record { file = file; count = count; committed = FileSync; verifier = verifier }
 
-pub wrote : (c : Scene) (a : Write) (s : Subject) (file : Fattr) (new : Tree) (shown : Wcc) (count verifier : ℕ) (x y : output.Written) → IsGranted c s s → PlansBytes c.tree a file s
-    → new ≡ after_write_at c.tree file.fileid a.offset a.content c.now
-    → shown ≡ change (Some file) (attributes_at new file.fileid) → count ≡ length a.content → verifier ≡ verifier_of c.tree
+pub wrote : (c : Scene) (a : Write) (s : Subject) (file : FileBefore) (new : Tree) (shown : Wcc) (count verifier : ℕ) (x y : output.Written) → IsGranted c s s → PlansBytes c.tree a file s
+    → new ≡ after_write_at c.tree file.attributes.fileid a.offset a.content c.now
+    → shown ≡ change (Some file.attributes) (attributes_at new file.attributes.fileid) → count ≡ length a.content → verifier ≡ verifier_of c.tree
     → AppendsAnswer (answer.Write (Ok (answer_of shown count verifier))) x y → HasEffect c (write a) new x y
 wrote c a s file new shown count verifier x y granted plans is shows counts verifies written = record {
   one = s;
@@ -47,8 +48,8 @@ wrote c a s file new shown count verifier x y granted plans is shows counts veri
         ∙ ap (answer_of (changed new s) (length a.content)) (verifies ∙ ap verifier_of (sym plans.tree))
 
 -- where there is no memory for what the file grows by
-pub unwritten : (c : Scene) (a : Write) (s : Subject) (file : Fattr) (new : Tree) (bytes : List ℕ) (x : output.Written) → IsGranted c s s → PlansBytes c.tree a file s → bytes ≡ a.content
-    → new ≡ c.tree → Grows c.tree file.fileid a.offset (length bytes) → HasNoMemory c (write a) new x x
+pub unwritten : (c : Scene) (a : Write) (s : Subject) (file : FileBefore) (new : Tree) (bytes : List ℕ) (x : output.Written) → IsGranted c s s → PlansBytes c.tree a file s → bytes ≡ a.content
+    → new ≡ c.tree → Grows c.tree file.attributes.fileid a.offset (length bytes) → HasNoMemory c (write a) new x x
 unwritten c a s file new bytes x granted plans same is full = record {
   one = s;
   two = s;
@@ -56,7 +57,7 @@ unwritten c a s file new bytes x granted plans same is full = record {
   takes = it_grows s.tree s.file.fileid a.offset (length a.content)
       (subst (λ b. Grows s.tree s.file.fileid a.offset (length b)) same
       (subst (λ (f : Fattr). Grows s.tree f.fileid a.offset (length bytes)) plans.same
-      (subst (λ t. Grows t file.fileid a.offset (length bytes)) (sym plans.tree) full)));
+      (subst (λ t. Grows t file.attributes.fileid a.offset (length bytes)) (sym plans.tree) full)));
   new_is = is;
   written = refl;
 }

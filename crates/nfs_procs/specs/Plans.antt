@@ -23,6 +23,7 @@ use Rattle.nfs_procs.specs.NewFiles.{new_file_of}
 use Rattle.nfs_procs.specs.Changers.{file_mode, directory_mode, link_mode, attributes_in, verifier_in, after_taking}
 use Rattle.nfs_procs.specs.declared.denial.Denial.{Denial}
 use Rattle.nfs_procs.specs.declared.plan.Plan.{Plan}
+use Rattle.nfs_procs.specs.declared.plan.FileBefore.{FileBefore}
 use Rattle.nfs_procs.specs.declared.plan.FilePlan.{FilePlan}
 use Rattle.nfs_procs.specs.declared.plan.RemovalPlan.{RemovalPlan}
 use Rattle.nfs_rules.specs.Rights.{may}
@@ -35,7 +36,7 @@ use Rattle.nfs_rules.specs.declared.rule.Rule.{Rule}
 -- a new directory
 pub record PlansDirectory (t : Tree) (now : Moment) (a : MakeDir) (plan : Plan) (s : Subject) : Type 0 where
   pub tree : s.tree ≡ t
-  pub dir : plan.dir ≡ s.file
+  pub dir : plan.dir.attributes ≡ s.file
   pub given : plan.given ≡ new_file_of directory_mode s.ids now a.attributes
   pub may : MayMakeDirectory t s.file.fileid a.place.name
 
@@ -71,41 +72,41 @@ pub record PlansPagePlus (t : Tree) (a : ReadDirPlus) (plan s : Subject) : Type 
 -- an entry that is taken away: its directory, and what is known of its file
 pub record PlansRemoval (t : Tree) (name : List ℕ) (plan : RemovalPlan) (s : Subject) : Type 0 where
   pub tree : s.tree ≡ t
-  pub dir : plan.dir ≡ s.file
-  pub may : MayUnlinkSeen t plan.dir.fileid name plan.number.0 plan.file
+  pub dir : plan.dir.attributes ≡ s.file
+  pub may : MayUnlinkSeen t plan.dir.attributes.fileid name plan.number.0 plan.file
 
 -- an entry that the rules grant to be taken away, or the denial by the first of them that fails
 abbrev pub PlansEntry : Subject → Result FileView Rule → Result RemovalPlan Denial → Type 0
-PlansEntry s (Ok file) (Ok plan) = (plan.dir ≡ s.file) × (plan.number.0 ≡ file.attributes.fileid) × (plan.file ≡ standing_of file.attributes)
+PlansEntry s (Ok file) (Ok plan) = (plan.dir.attributes ≡ s.file) × (plan.number.0 ≡ file.attributes.fileid) × (plan.file ≡ standing_of file.attributes)
 PlansEntry s (Err rule) (Err denial) = denial ≡ record { rule = rule; uid = Some s.ids.uid; shown = Some s.file }
 PlansEntry s (Ok file) (Err denial) = ⊥
 PlansEntry s (Err rule) (Ok plan) = ⊥
 
 -- a further name: the file, and the directory of the name
-pub record PlansLink (t : Tree) (name : List ℕ) (plan : Fattr × Fattr) (file dir : Subject) : Type 0 where
+pub record PlansLink (t : Tree) (name : List ℕ) (plan : FileBefore × FileBefore) (file dir : Subject) : Type 0 where
   pub tree : file.tree ≡ t
-  pub file_is : plan.0 ≡ file.file
-  pub dir_is : plan.1 ≡ dir.file
-  pub may : MayLink t plan.0.fileid plan.1.fileid name
+  pub file_is : plan.0.attributes ≡ file.file
+  pub dir_is : plan.1.attributes ≡ dir.file
+  pub may : MayLink t plan.0.attributes.fileid plan.1.attributes.fileid name
 
 -- a name that is changed: both directories
-pub record PlansRename (t : Tree) (a : Rename) (plan : Fattr × Fattr) (from to : Subject) : Type 0 where
+pub record PlansRename (t : Tree) (a : Rename) (plan : FileBefore × FileBefore) (from to : Subject) : Type 0 where
   pub tree : from.tree ≡ t
-  pub from_is : plan.0 ≡ from.file
-  pub to_is : plan.1 ≡ to.file
-  pub may : MayRename t plan.0.fileid a.from.name plan.1.fileid a.to.name
+  pub from_is : plan.0.attributes ≡ from.file
+  pub to_is : plan.1.attributes ≡ to.file
+  pub may : MayRename t plan.0.attributes.fileid a.from.name plan.1.attributes.fileid a.to.name
 
 -- a new link
 pub record PlansSymLink (t : Tree) (now : Moment) (a : SymLink) (plan : Plan) (s : Subject) : Type 0 where
   pub tree : s.tree ≡ t
-  pub dir : plan.dir ≡ s.file
+  pub dir : plan.dir.attributes ≡ s.file
   pub given : plan.given ≡ record (new_file_of link_mode s.ids now a.attributes) { mode = link_mode }
   pub may : MayMakeLink t s.file.fileid a.place.name a.path
 
 -- bytes for a file that is there
-pub record PlansBytes (t : Tree) (a : Write) (file : Fattr) (s : Subject) : Type 0 where
+pub record PlansBytes (t : Tree) (a : Write) (file : FileBefore) (s : Subject) : Type 0 where
   pub tree : s.tree ≡ t
-  pub same : file ≡ s.file
+  pub same : file.attributes ≡ s.file
   pub may : MayWrite t s.file.fileid a.offset (length a.content)
 
 -- a file that is there may have a size, where there is one
@@ -113,9 +114,9 @@ abbrev pub MayTakeSize : Tree → ℕ → Option ℕ → Type 0
 MayTakeSize t n size = (bytes : ℕ) → size ≡ Some bytes → MayResize t n bytes
 
 -- attributes of a file that is there
-pub record PlansSettings (t : Tree) (a : SetAttr) (file : Fattr) (s : Subject) : Type 0 where
+pub record PlansSettings (t : Tree) (a : SetAttr) (file : FileBefore) (s : Subject) : Type 0 where
   pub tree : s.tree ≡ t
-  pub same : file ≡ s.file
+  pub same : file.attributes ≡ s.file
   pub lives : (f : File) × Lives t s.file.fileid f
   pub may : MayTakeSize t s.file.fileid a.attributes.size
 
@@ -130,7 +131,7 @@ MayMakeOrTake t d a None = MayMake t d a.place.name (on_some (size_in a.how) 0 (
 MayMakeOrTake t d a (Some f) = MayTake t f.fileid a.how
 
 abbrev pub after_making : Tree → FilePlan → Create → Moment → ℕ → Tree
-after_making t plan a now tag = after_make_file t plan.dir.fileid a.place.name (zeros (on_some (size_in a.how) 0 (λ size. size))) plan.given (verifier_in a.how) tag now
+after_making t plan a now tag = after_make_file t plan.dir.attributes.fileid a.place.name (zeros (on_some (size_in a.how) 0 (λ size. size))) plan.given (verifier_in a.how) tag now
 
 abbrev pub after_making_or_taking : Tree → FilePlan → Create → Moment → ℕ → Tree
 after_making_or_taking t plan a now tag = on_some plan.present (after_making t plan a now tag) (λ f. after_taking t f.fileid a.how now)
@@ -142,7 +143,7 @@ number_of t present = on_some present t.next (λ f. f.fileid)
 -- a regular file
 pub record PlansFile (t : Tree) (now : Moment) (a : Create) (plan : FilePlan) (s : Subject) : Type 0 where
   pub tree : s.tree ≡ t
-  pub dir : plan.dir ≡ s.file
+  pub dir : plan.dir.attributes ≡ s.file
   pub present : plan.present ≡ found s a.place.name
   pub given : plan.given ≡ new_file_of file_mode s.ids now (attributes_in a.how)
-  pub may : MayMakeOrTake t plan.dir.fileid a plan.present
+  pub may : MayMakeOrTake t plan.dir.attributes.fileid a plan.present

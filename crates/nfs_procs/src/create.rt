@@ -12,7 +12,7 @@ use crate::creation::make_or_take;
 use crate::denial::Denial;
 use crate::done::Done;
 use crate::new_files::new_file_of;
-use crate::plan::FilePlan;
+use crate::plan::{FileBefore, FilePlan};
 use crate::replies::{change, write_denied_change, write_new_file};
 use crate::subjects::subject_of;
 use nfs_args::create::{Create, CreateHow};
@@ -40,7 +40,8 @@ pub(crate) fn create(tree: &mut Tree, call: &Call<'_>, args: &Create<'_>, out: &
     let Ok(file) = make_or_take(tree, &plan, args, call.moment) else {
         return Done::Memory;
     };
-    let dir = change(Some(plan.dir), tree.attributes(Number(plan.dir.fileid)));
+    let dir = Number(plan.dir.attributes.fileid, plan.dir.tag);
+    let dir = change(Some(plan.dir.attributes), tree.attributes(dir));
     out.u32(0);
     write_new_file(out, tree, file, dir);
     Done::Granted
@@ -53,7 +54,7 @@ fn decide(tree: &Tree, call: &Call<'_>, args: &Create<'_>) -> Result<FilePlan, D
     let dir = subject_of(tree, call, &args.place.dir)?;
     match create_rules(&dir, args) {
         Ok(present) => Ok(FilePlan {
-            dir: dir.attributes(),
+            dir: FileBefore::of(dir.view()),
             present: attributes_of(&present),
             given: new_file_of(FILE_MODE, &dir, call.moment, &given_in(&args.how)),
         }),

@@ -25,7 +25,7 @@ pub(crate) fn make_or_take(
     args: &Create<'_>,
     now: Moment,
 ) -> Result<Number, AllocError>
-    requires { MayMakeOrTake tree.old plan.now.dir.fileid args.now plan.now.present }
+    requires { MayMakeOrTake tree.old plan.now.dir.attributes.fileid args.now plan.now.present }
     ensures ok { OnOk result (Makes (after_making_or_taking tree.old plan.now args.now now) tree.new) }
     ensures number { IfOk result (λ n. n.0 ≡ number_of tree.old plan.now.present) }
     ensures err { OnErr result (tree.new ≡ tree.old) }
@@ -34,7 +34,7 @@ pub(crate) fn make_or_take(
     match plan.present {
         None => make(tree, plan, args, now),
         Some(file) => {
-            let number = Number(file.fileid);
+            let number = Number(file.fileid, 0);
             take(tree, number, &args.how, now)?;
             Ok(number)
         }
@@ -48,14 +48,14 @@ fn make(
     args: &Create<'_>,
     now: Moment,
 ) -> Result<Number, AllocError>
-    requires { MayMake tree.old plan.now.dir.fileid args.now.place.name (on_some (size_in args.now.how) 0 (λ size. size)) }
+    requires { MayMake tree.old plan.now.dir.attributes.fileid args.now.place.name (on_some (size_in args.now.how) 0 (λ size. size)) }
     ensures ok { OnOk result (Makes (after_making tree.old plan.now args.now now) tree.new) }
     ensures number { IfOk result (λ n. n.0 ≡ tree.old.next) }
     ensures err { OnErr result (tree.new ≡ tree.old) }
 {
     let content = zeroed(tree.allocator(), size_of(&args.how) as usize)?;
     tree.make_file(
-        Number(plan.dir.fileid),
+        Number(plan.dir.attributes.fileid, plan.dir.tag),
         args.place.name.bytes(),
         content,
         &plan.given,

@@ -18,11 +18,11 @@ ghost use Rattle.nfs_xdr.specs.Written.{Appends};
 use crate::call::Call;
 use crate::denial::PairDenial;
 use crate::done::Done;
+use crate::plan::FileBefore;
 use crate::replies::change;
 use crate::subjects::pair_of;
 use nfs_args::link::Link;
 use nfs_args::linked::{Linked, write_linked};
-use nfs_attrs::fattr::Fattr;
 use nfs_handles::number::Number;
 use nfs_inodes::tree::Tree;
 use nfs_rules::table::link_rules;
@@ -37,25 +37,29 @@ pub(crate) fn link(tree: &mut Tree, call: &Call<'_>, args: &Link<'_>, out: &mut 
         Ok(plan) => plan,
         Err(denial) => return write_denied(out, &denial),
     };
-    let number = Number(file.fileid);
-    let place = Number(dir.fileid);
+    let number = Number(file.attributes.fileid, file.tag);
+    let place = Number(dir.attributes.fileid, dir.tag);
     let Ok(()) = tree.link(number, place, args.place.name.bytes(), call.moment) else {
         return Done::Memory;
     };
     let attributes = tree.attributes(number);
-    let dir = change(Some(dir), tree.attributes(place));
+    let dir = change(Some(dir.attributes), tree.attributes(place));
     out.u32(0);
     write_linked(out, &Linked { attributes, dir });
     Done::Granted
 }
 
-fn decide(tree: &Tree, call: &Call<'_>, args: &Link<'_>) -> Result<(Fattr, Fattr), PairDenial>
+fn decide(
+    tree: &Tree,
+    call: &Call<'_>,
+    args: &Link<'_>,
+) -> Result<(FileBefore, FileBefore), PairDenial>
     ensures { DecidesPair (scene tree.now call.now (nfs.Link args.now)) args.now.file args.now.place.dir
         (PlansLink tree.now args.now.place.name) result }
 {
     let (file, dir) = pair_of(tree, call, &args.file, &args.place.dir)?;
     match link_rules(&file, &dir, args.place.name.bytes()) {
-        Ok(()) => Ok((file.attributes(), dir.attributes())),
+        Ok(()) => Ok((FileBefore::of(file.view()), FileBefore::of(dir.view()))),
         Err(rule) => Err(PairDenial::of_rule(&file, &dir, rule)),
     }
 }

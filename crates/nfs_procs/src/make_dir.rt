@@ -11,7 +11,7 @@ use crate::call::Call;
 use crate::denial::Denial;
 use crate::done::Done;
 use crate::new_files::new_file_of;
-use crate::plan::Plan;
+use crate::plan::{FileBefore, Plan};
 use crate::replies::{change, write_denied_change, write_new_file};
 use crate::subjects::subject_of;
 use nfs_args::make_dir::MakeDir;
@@ -37,7 +37,7 @@ pub(crate) fn make_dir(
         Ok(plan) => plan,
         Err(denial) => return write_denied_change(out, &denial),
     };
-    let dir = Number(plan.dir.fileid);
+    let dir = Number(plan.dir.attributes.fileid, plan.dir.tag);
     let Ok(made) = tree.make_dir(dir, args.place.name.bytes(), &plan.given, call.moment) else {
         return Done::Memory;
     };
@@ -46,7 +46,7 @@ pub(crate) fn make_dir(
         out,
         tree,
         made,
-        change(Some(plan.dir), tree.attributes(dir)),
+        change(Some(plan.dir.attributes), tree.attributes(dir)),
     );
     Done::Granted
 }
@@ -58,7 +58,7 @@ fn decide(tree: &Tree, call: &Call<'_>, args: &MakeDir<'_>) -> Result<Plan, Deni
     let dir = subject_of(tree, call, &args.place.dir)?;
     match make_dir_rules(&dir, args.place.name.bytes()) {
         Ok(()) => Ok(Plan {
-            dir: dir.attributes(),
+            dir: FileBefore::of(dir.view()),
             given: new_file_of(DIRECTORY_MODE, &dir, call.moment, &args.attributes),
         }),
         Err(rule) => Err(Denial::of_rule(&dir, rule)),

@@ -1,14 +1,39 @@
 //! What is to be done once the rules are kept.
+ghost use Rattle.std.specs.Prelude.{◌≡◌};
+
 use nfs_attrs::fattr::Fattr;
 use nfs_handles::number::Number;
 use nfs_inodes::new_file::NewFile;
 use nfs_inodes::removal::Standing;
+use nfs_inodes::view::FileView;
+
+/// A file as it is before the call, with the hint by which it is found again without a search.
+#[derive(Clone, Copy)]
+pub struct FileBefore {
+    /// Its attributes.
+    pub attributes: Fattr,
+    /// Its tag.
+    pub tag: u32,
+}
+
+impl FileBefore {
+    /// What is known of a file that was found.
+    #[inline(always)]
+    pub(crate) fn of(file: &FileView<'_>) -> FileBefore
+        ensures { result.attributes ≡ file.now.attributes }
+    {
+        FileBefore {
+            attributes: file.attributes(),
+            tag: file.number().1,
+        }
+    }
+}
 
 /// A new file: the directory of its name, and what it is like.
 #[derive(Clone, Copy)]
 pub struct Plan {
-    /// The directory before the call.
-    pub dir: Fattr,
+    /// The directory.
+    pub dir: FileBefore,
     /// What the file is like.
     pub given: NewFile,
 }
@@ -16,8 +41,8 @@ pub struct Plan {
 /// A name that is taken away: its directory, and the file that it names.
 #[derive(Clone, Copy)]
 pub struct RemovalPlan {
-    /// The directory before the call.
-    pub dir: Fattr,
+    /// The directory.
+    pub dir: FileBefore,
     /// The file's number.
     pub number: Number,
     /// What its removal has to know of it.
@@ -27,8 +52,8 @@ pub struct RemovalPlan {
 /// A regular file: the directory of its name, and the file that is there, or what a new one is like.
 #[derive(Clone, Copy)]
 pub struct FilePlan {
-    /// The directory before the call.
-    pub dir: Fattr,
+    /// The directory.
+    pub dir: FileBefore,
     /// The file that is taken, if there is one, before the call.
     pub present: Option<Fattr>,
     /// What a new file is like.

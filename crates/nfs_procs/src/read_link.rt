@@ -55,7 +55,7 @@ fn write_granted(out: &mut Output, tree: &Tree, file: &Fattr)
     ensures { AppendsAnswer (answer.ReadLink (Ok
         (record { attributes = Some file.now; path = on_some (path_at tree.now file.now.fileid) [] (λ path. path) }))) out.old out.new }
 {
-    let path = path_of(tree, Number(file.fileid));
+    let path = path_of(tree, Number(file.fileid, 0));
     out.u32(0);
     write_link_path(
         out,

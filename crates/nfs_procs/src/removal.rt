@@ -11,7 +11,7 @@ ghost use Rattle.nfs_procs.specs.Plans.{PlansEntry};
 ghost use Rattle.nfs_xdr.specs.Written.{Appends};
 
 use crate::denial::Denial;
-use crate::plan::RemovalPlan;
+use crate::plan::{FileBefore, RemovalPlan};
 use crate::replies::change;
 use nfs_attrs::moment::Moment;
 use nfs_attrs::wcc::write_wcc;
@@ -31,7 +31,7 @@ pub(crate) fn plan_of(
 {
     match judged {
         Ok(file) => Ok(RemovalPlan {
-            dir: dir.attributes(),
+            dir: FileBefore::of(dir.view()),
             number: file.number(),
             file: file.standing(),
         }),
@@ -48,16 +48,19 @@ pub(crate) fn remove_entry(
     now: Moment,
     out: &mut Output,
 )
-    requires may { MayUnlinkSeen tree.old plan.now.dir.fileid name.now plan.now.number.0 plan.now.file }
+    requires may { MayUnlinkSeen tree.old plan.now.dir.attributes.fileid name.now plan.now.number.0 plan.now.file }
     requires room { status_size + change_size ≤ out.old.room }
-    ensures tree { tree.new ≡ after_unlink tree.old plan.now.dir.fileid name.now now }
-    ensures text { Appends (to_be_bytes w32 0 ++ wcc_text (doing.change (Some plan.now.dir) (attributes_at tree.new plan.now.dir.fileid)))
+    ensures tree { tree.new ≡ after_unlink tree.old plan.now.dir.attributes.fileid name.now now }
+    ensures text { Appends (to_be_bytes w32 0 ++ wcc_text (doing.change (Some plan.now.dir.attributes) (attributes_at tree.new plan.now.dir.attributes.fileid)))
         out.old out.new }
-    ensures spelled { IsWcc (doing.change (Some plan.now.dir) (attributes_at tree.new plan.now.dir.fileid))
-        (wcc_text (doing.change (Some plan.now.dir) (attributes_at tree.new plan.now.dir.fileid))) }
+    ensures spelled { IsWcc (doing.change (Some plan.now.dir.attributes) (attributes_at tree.new plan.now.dir.attributes.fileid))
+        (wcc_text (doing.change (Some plan.now.dir.attributes) (attributes_at tree.new plan.now.dir.attributes.fileid))) }
 {
-    let dir = Number(plan.dir.fileid);
+    let dir = Number(plan.dir.attributes.fileid, plan.dir.tag);
     tree.unlink_seen(dir, name, plan.number, plan.file, now);
     out.u32(0);
-    write_wcc(out, &change(Some(plan.dir), tree.attributes(dir)));
+    write_wcc(
+        out,
+        &change(Some(plan.dir.attributes), tree.attributes(dir)),
+    );
 }

@@ -18,11 +18,11 @@ ghost use Rattle.nfs_xdr.specs.Written.{Appends};
 use crate::call::Call;
 use crate::denial::PairDenial;
 use crate::done::Done;
+use crate::plan::FileBefore;
 use crate::replies::change;
 use crate::subjects::pair_of;
 use nfs_args::rename::Rename;
 use nfs_args::renamed::{Renamed, write_renamed};
-use nfs_attrs::fattr::Fattr;
 use nfs_handles::number::Number;
 use nfs_inodes::tree::Tree;
 use nfs_rules::table::rename_rules;
@@ -37,25 +37,30 @@ pub(crate) fn rename(tree: &mut Tree, call: &Call<'_>, args: &Rename<'_>, out: &
         Ok(plan) => plan,
         Err(denial) => return write_denied(out, &denial),
     };
-    let (one, two) = (Number(from.fileid), Number(to.fileid));
+    let one = Number(from.attributes.fileid, from.tag);
+    let two = Number(to.attributes.fileid, to.tag);
     let (name, new_name) = (args.from.name.bytes(), args.to.name.bytes());
     let Ok(()) = tree.rename(one, name, two, new_name, call.moment) else {
         return Done::Memory;
     };
-    let from = change(Some(from), tree.attributes(one));
-    let to = change(Some(to), tree.attributes(two));
+    let from = change(Some(from.attributes), tree.attributes(one));
+    let to = change(Some(to.attributes), tree.attributes(two));
     out.u32(0);
     write_renamed(out, &Renamed { from, to });
     Done::Granted
 }
 
-fn decide(tree: &Tree, call: &Call<'_>, args: &Rename<'_>) -> Result<(Fattr, Fattr), PairDenial>
+fn decide(
+    tree: &Tree,
+    call: &Call<'_>,
+    args: &Rename<'_>,
+) -> Result<(FileBefore, FileBefore), PairDenial>
     ensures { DecidesPair (scene tree.now call.now (nfs.Rename args.now)) args.now.from.dir args.now.to.dir
         (PlansRename tree.now args.now) result }
 {
     let (from, to) = pair_of(tree, call, &args.from.dir, &args.to.dir)?;
     match rename_rules(&from, &to, args) {
-        Ok(()) => Ok((from.attributes(), to.attributes())),
+        Ok(()) => Ok((FileBefore::of(from.view()), FileBefore::of(to.view()))),
         Err(rule) => Err(PairDenial::of_rule(&from, &to, rule)),
     }
 }

@@ -10,11 +10,11 @@ ghost use Rattle.nfs_procs.specs.Scenes.{scene};
 use crate::call::Call;
 use crate::denial::Denial;
 use crate::done::Done;
+use crate::plan::FileBefore;
 use crate::replies::{change, write_denied_change, write_granted_change};
 use crate::settings::set_given;
 use crate::subjects::subject_of;
 use nfs_args::set_attr::SetAttr;
-use nfs_attrs::fattr::Fattr;
 use nfs_handles::number::Number;
 use nfs_inodes::tree::Tree;
 use nfs_rules::table::set_attr_rules;
@@ -34,22 +34,22 @@ pub(crate) fn set_attr(
         Ok(file) => file,
         Err(denial) => return write_denied_change(out, &denial),
     };
-    let number = Number(file.fileid);
+    let number = Number(file.attributes.fileid, file.tag);
     let Ok(()) = set_given(tree, number, &args.attributes, call.moment) else {
         return Done::Memory;
     };
-    write_granted_change(out, change(Some(file), tree.attributes(number)));
+    write_granted_change(out, change(Some(file.attributes), tree.attributes(number)));
     Done::Granted
 }
 
 // The file before the call.
-fn decide(tree: &Tree, call: &Call<'_>, args: &SetAttr<'_>) -> Result<Fattr, Denial>
+fn decide(tree: &Tree, call: &Call<'_>, args: &SetAttr<'_>) -> Result<FileBefore, Denial>
     ensures { Decides (scene tree.now call.now (nfs.SetAttr args.now)) args.now.file
         (PlansSettings tree.now args.now) result }
 {
     let file = subject_of(tree, call, &args.file)?;
     match set_attr_rules(&file, args) {
-        Ok(()) => Ok(file.attributes()),
+        Ok(()) => Ok(FileBefore::of(file.view())),
         Err(rule) => Err(Denial::of_rule(&file, rule)),
     }
 }

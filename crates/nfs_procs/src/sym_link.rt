@@ -11,7 +11,7 @@ use crate::call::Call;
 use crate::denial::Denial;
 use crate::done::Done;
 use crate::new_files::new_file_of;
-use crate::plan::Plan;
+use crate::plan::{FileBefore, Plan};
 use crate::replies::{change, write_denied_change, write_new_file};
 use crate::subjects::subject_of;
 use nfs_args::sym_link::SymLink;
@@ -38,7 +38,7 @@ pub(crate) fn sym_link(
         Ok(plan) => plan,
         Err(denial) => return write_denied_change(out, &denial),
     };
-    let dir = Number(plan.dir.fileid);
+    let dir = Number(plan.dir.attributes.fileid, plan.dir.tag);
     let Ok(made) = tree.make_link(
         dir,
         args.place.name.bytes(),
@@ -53,7 +53,7 @@ pub(crate) fn sym_link(
         out,
         tree,
         made,
-        change(Some(plan.dir), tree.attributes(dir)),
+        change(Some(plan.dir.attributes), tree.attributes(dir)),
     );
     Done::Granted
 }
@@ -65,7 +65,7 @@ fn decide(tree: &Tree, call: &Call<'_>, args: &SymLink<'_>) -> Result<Plan, Deni
     let dir = subject_of(tree, call, &args.place.dir)?;
     match sym_link_rules(&dir, args.place.name.bytes(), args.path.bytes()) {
         Ok(()) => Ok(Plan {
-            dir: dir.attributes(),
+            dir: FileBefore::of(dir.view()),
             given: NewFile {
                 mode: LINK_MODE,
                 ..new_file_of(LINK_MODE, &dir, call.moment, &args.attributes)

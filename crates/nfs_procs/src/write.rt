@@ -14,11 +14,11 @@ ghost use Rattle.nfs_procs.specs.Scenes.{scene};
 use crate::call::Call;
 use crate::denial::Denial;
 use crate::done::Done;
+use crate::plan::FileBefore;
 use crate::replies::{change, write_denied_change};
 use crate::subjects::subject_of;
 use nfs_args::write::{Stability, Write};
 use nfs_args::written::{Written, write_written};
-use nfs_attrs::fattr::Fattr;
 use nfs_attrs::wcc::Wcc;
 use nfs_handles::number::Number;
 use nfs_inodes::tree::Tree;
@@ -34,7 +34,7 @@ pub(crate) fn write(tree: &mut Tree, call: &Call<'_>, args: &Write<'_>, out: &mu
         Ok(file) => file,
         Err(denial) => return write_denied_change(out, &denial),
     };
-    let number = Number(file.fileid);
+    let number = Number(file.attributes.fileid, file.tag);
     let bytes = args.content.bytes();
     let verifier = u64::from_be_bytes(tree.key());
     let Ok(()) = tree.write_at(number, args.offset as usize, bytes, call.moment) else {
@@ -42,7 +42,7 @@ pub(crate) fn write(tree: &mut Tree, call: &Call<'_>, args: &Write<'_>, out: &mu
     };
     write_granted(
         out,
-        change(Some(file), tree.attributes(number)),
+        change(Some(file.attributes), tree.attributes(number)),
         bytes.len(),
         verifier,
     );
@@ -50,12 +50,12 @@ pub(crate) fn write(tree: &mut Tree, call: &Call<'_>, args: &Write<'_>, out: &mu
 }
 
 // The file before the call.
-fn decide(tree: &Tree, call: &Call<'_>, args: &Write<'_>) -> Result<Fattr, Denial>
+fn decide(tree: &Tree, call: &Call<'_>, args: &Write<'_>) -> Result<FileBefore, Denial>
     ensures { Decides (scene tree.now call.now (nfs.Write args.now)) args.now.file (PlansBytes tree.now args.now) result }
 {
     let file = subject_of(tree, call, &args.file)?;
     match write_rules(&file, args) {
-        Ok(()) => Ok(file.attributes()),
+        Ok(()) => Ok(FileBefore::of(file.view())),
         Err(rule) => Err(Denial::of_rule(&file, rule)),
     }
 }

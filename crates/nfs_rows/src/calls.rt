@@ -182,7 +182,7 @@ fn events_of(alloc: Global, records: &[Record]) -> Option<Vec<Event<'_>>> {
 // Whether two trees have the same numbers, attributes, handles and totals.
 fn is_same(tree: &Tree, other: &Tree) -> bool {
     for number in 0..10u64 {
-        if tree.attributes(Number(number)) != other.attributes(Number(number)) {
+        if tree.attributes(Number::new(number)) != other.attributes(Number::new(number)) {
             return false;
         }
         if tree.handle_of(number) != other.handle_of(number) {

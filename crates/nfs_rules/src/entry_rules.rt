@@ -89,7 +89,7 @@ impl<'a> Subject<'a> {
     fn was_made_by(&self, file: &Fattr, verifier: &[u8]) -> bool
         ensures { result ≡ on_some (verifier_at self.now.tree file.now.fileid) false (bytes_eq verifier.now) }
     {
-        match self.tree.verifier(Number(file.fileid)) {
+        match self.tree.verifier(Number(file.fileid, 0)) {
             Some(made_by) => verifier == made_by.as_slice(),
             None => false,
         }
@@ -106,7 +106,7 @@ impl<'a> Subject<'a> {
         ensures { result ≡ test.is_empty self.now.tree dir.now }
     {
         self.tree
-            .entry_after(Number(dir.fileid), LAST_DOT_COOKIE)
+            .entry_after(Number(dir.fileid, 0), LAST_DOT_COOKIE)
             .is_none()
     }
 }

@@ -96,5 +96,5 @@ fn is_above(tree: &Tree, above: &Fattr, dir: &Fattr) -> bool
     ensures { result ≡ table.is_above tree.now above.now.fileid dir.now.fileid }
 {
     tree.law();
-    tree.is_below(Number(dir.fileid), Number(above.fileid))
+    tree.is_below(Number(dir.fileid, 0), Number(above.fileid, 0))
 }

@@ -38,10 +38,10 @@ impl<'a> Subject<'a> {
         if bound < PAGE_HEAD_BYTES {
             return false;
         }
-        match self
-            .tree
-            .entry_after(Number(self.attributes().fileid), cookie)
-        {
+        match self.tree.entry_after(
+            Number(self.attributes().fileid, self.file.number().1),
+            cookie,
+        ) {
             Some(entry) => PAGE_HEAD_BYTES + entry_bytes(entry.name) + beside <= bound,
             None => true,
         }

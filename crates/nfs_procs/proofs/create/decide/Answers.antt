@@ -19,10 +19,10 @@ returns-in-Ok c =
       granted_by_rules c.args.tree.now c.args.call.now (nfs.Create a) a.place.dir refl s named kept,
       record {
         tree = named.tree;
-        dir = c.attributes.ensures;
+        dir = c.of.ensures ∙ c.view.ensures.attributes;
         present = present;
         given = c.new_file_of.ensures ∙ ap (new_file_of file_mode s.ids c.args.call.now.moment) c.given_in.ensures;
-        may = subst (λ (f : Fattr). MayMakeOrTake c.args.tree.now f.fileid a c.attributes_of.result) (sym c.attributes.ensures)
+        may = subst (λ (f : Fattr). MayMakeOrTake c.args.tree.now f.fileid a c.attributes_of.result) (sym (c.of.ensures ∙ c.view.ensures.attributes))
             (subst (λ t. MayMakeOrTake t s.file.fileid a c.attributes_of.result) named.tree (may_make_or_take s named.law named.file a kept c.attributes_of.result present));
       },
     )

@@ -1,4 +1,4 @@
-use Rattle.std.proofs.Common.{◌≡◌, Some, None, refl, sym, subst}
+use Rattle.std.proofs.Common.{◌≡◌, Some, None, refl, sym, subst, ◌∙◌}
 use Rattle.nfs_args.specs.declared.args.NfsArgs.TheVariants as nfs
 use Rattle.nfs_attrs.specs.declared.fattr.Fattr.{Fattr}
 use Rattle.nfs_inodes.specs.Conditions.{MayLink}
@@ -25,10 +25,10 @@ returns-in-Ok c =
       pair_granted tree c.args.call.now (nfs.Link a) a.file a.place.dir refl s u named kept,
       record {
         tree = one.tree;
-        file_is = c.attributes.ensures;
-        dir_is = c.attributes-in-Ok.ensures;
-        may = subst (λ (f : Fattr). MayLink tree f.fileid c.attributes-in-Ok.result.fileid a.place.name) (sym c.attributes.ensures)
-            (subst (λ (f : Fattr). MayLink tree s.file.fileid f.fileid a.place.name) (sym c.attributes-in-Ok.ensures)
+        file_is = c.of.ensures ∙ c.view.ensures.attributes;
+        dir_is = (c.of-in-Ok.ensures ∙ c.view-in-Ok.ensures.attributes);
+        may = subst (λ (f : Fattr). MayLink tree f.fileid c.of-in-Ok.result.attributes.fileid a.place.name) (sym (c.of.ensures ∙ c.view.ensures.attributes))
+            (subst (λ (f : Fattr). MayLink tree s.file.fileid f.fileid a.place.name) (sym (c.of-in-Ok.ensures ∙ c.view-in-Ok.ensures.attributes))
             (may_link tree (subst Law one.tree one.law) s u one.tree two.tree one.file two.file named.volume a.place.name kept));
       },
     )

@@ -1,7 +1,7 @@
 use Rattle.nfs_args.specs.declared.args.NfsArgs.TheVariants as nfs
 use Rattle.nfs_procs.specs.Plans.{PlansDirectory}
 use Rattle.nfs_procs.proofs.Judged.{denied_by_rule, denied_through, granted_by_rules}
-use Rattle.std.proofs.Common.{◌≡◌, Some, None, refl, subst}
+use Rattle.std.proofs.Common.{◌≡◌, Some, None, refl, subst, ◌∙◌}
 use Rattle.nfs_inodes.specs.Conditions.{MayMakeDirectory}
 use Rattle.nfs_rules.proofs.NewFiles.{may_make_directory}
 use Rattle.nfs_rules.specs.Table.{make_dir_rules}
@@ -18,7 +18,7 @@ returns-in-Ok c =
       granted_by_rules c.args.tree.now c.args.call.now (nfs.MakeDir a) a.place.dir refl s named kept,
       record {
         tree = named.tree;
-        dir = c.attributes.ensures;
+        dir = c.of.ensures ∙ c.view.ensures.attributes;
         given = c.new_file_of.ensures;
         may = subst (λ t. MayMakeDirectory t s.file.fileid a.place.name) named.tree (may_make_directory s named.law named.file a.place.name kept);
       },

@@ -8,7 +8,7 @@ use Rattle.nfs_procs.proofs.removal.remove_entry.Goals as goal
 
 pub returns-clause-text : goal.returns-clause-text
 returns-clause-text c = appends_then _ _ _ _ _ c.u32.ensures.text
-    (subst (λ wcc. Appends (wcc_text wcc) c.u32.new.self c.write_wcc.new.out) (c.change.ensures ∙ ap (change (Some c.args.plan.now.dir)) c.attributes.ensures) c.write_wcc.ensures.text)
+    (subst (λ wcc. Appends (wcc_text wcc) c.u32.new.self c.write_wcc.new.out) (c.change.ensures ∙ ap (change (Some c.args.plan.now.dir.attributes)) c.attributes.ensures) c.write_wcc.ensures.text)
 
 pub returns-clause-spelled : goal.returns-clause-spelled
-returns-clause-spelled c = subst (λ (wcc : Wcc). IsWcc wcc (wcc_text wcc)) (c.change.ensures ∙ ap (change (Some c.args.plan.now.dir)) c.attributes.ensures) c.write_wcc.ensures.spelled
+returns-clause-spelled c = subst (λ (wcc : Wcc). IsWcc wcc (wcc_text wcc)) (c.change.ensures ∙ ap (change (Some c.args.plan.now.dir.attributes)) c.attributes.ensures) c.write_wcc.ensures.spelled

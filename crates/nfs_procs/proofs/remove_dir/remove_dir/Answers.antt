@@ -13,7 +13,7 @@ use Rattle.nfs_procs.proofs.remove_dir.remove_dir.Goals as goal
 
 pub remove_entry-requires : goal.remove_entry-requires
 remove_entry-requires c = record {
-  may = subst (λ name. MayUnlinkSeen c.args.tree.now c.in-Ok.plan.dir.fileid name c.in-Ok.plan.number.0 c.in-Ok.plan.file) (sym c.bytes.ensures) c.in-Ok.ensures.2.may;
+  may = subst (λ name. MayUnlinkSeen c.args.tree.now c.in-Ok.plan.dir.attributes.fileid name c.in-Ok.plan.number.0 c.in-Ok.plan.file) (sym c.bytes.ensures) c.in-Ok.ensures.2.may;
   room = omega (arith, c.requires);
 }
 

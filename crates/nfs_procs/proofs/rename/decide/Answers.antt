@@ -1,4 +1,4 @@
-use Rattle.std.proofs.Common.{refl, sym, subst}
+use Rattle.std.proofs.Common.{refl, sym, subst, ◌∙◌}
 use Rattle.nfs_args.specs.declared.args.NfsArgs.TheVariants as nfs
 use Rattle.nfs_attrs.specs.declared.fattr.Fattr.{Fattr}
 use Rattle.nfs_inodes.specs.Conditions.{MayRename}
@@ -22,10 +22,10 @@ returns-in-Ok c =
       pair_granted tree c.args.call.now (nfs.Rename a) a.from.dir a.to.dir refl s u named c.in-Ok.ensures,
       record {
         tree = one.tree;
-        from_is = c.attributes.ensures;
-        to_is = c.attributes-in-Ok.ensures;
-        may = subst (λ (f : Fattr). MayRename tree f.fileid a.from.name c.attributes-in-Ok.result.fileid a.to.name) (sym c.attributes.ensures)
-            (subst (λ (f : Fattr). MayRename tree s.file.fileid a.from.name f.fileid a.to.name) (sym c.attributes-in-Ok.ensures)
+        from_is = c.of.ensures ∙ c.view.ensures.attributes;
+        to_is = (c.of-in-Ok.ensures ∙ c.view-in-Ok.ensures.attributes);
+        may = subst (λ (f : Fattr). MayRename tree f.fileid a.from.name c.of-in-Ok.result.attributes.fileid a.to.name) (sym (c.of.ensures ∙ c.view.ensures.attributes))
+            (subst (λ (f : Fattr). MayRename tree s.file.fileid a.from.name f.fileid a.to.name) (sym (c.of-in-Ok.ensures ∙ c.view-in-Ok.ensures.attributes))
             (may_rename tree (subst Law one.tree one.law) s u one.tree two.tree one.file two.file named.volume a c.in-Ok.ensures));
       },
     )

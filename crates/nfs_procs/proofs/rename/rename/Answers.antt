@@ -17,7 +17,7 @@ returns c =
     let plans = c.in-Ok.ensures in
     renames (scene c.args.tree.now c.args.call.now (nfs.Rename c.args.args.now)) c.args.args.now c.in-Ok.plan plans.0 plans.1 c.rename.new.self c.bytes-name.result.now c.bytes-new_name.result.now c.change-from.result c.change-to.result _ _ _ plans.2 plans.3
     c.bytes-name.ensures c.bytes-new_name.ensures c.in-Ok-rename.ensures.ok
-    (c.change-from.ensures ∙ ap (change (Some c.in-Ok.plan.0)) c.attributes.ensures) (c.change-to.ensures ∙ ap (change (Some c.in-Ok.plan.1)) c.attributes-2.ensures) c.u32.ensures.text c.write_renamed.ensures.text c.write_renamed.ensures.spelled
+    (c.change-from.ensures ∙ ap (change (Some c.in-Ok.plan.0.attributes)) c.attributes.ensures) (c.change-to.ensures ∙ ap (change (Some c.in-Ok.plan.1.attributes)) c.attributes-2.ensures) c.u32.ensures.text c.write_renamed.ensures.text c.write_renamed.ensures.spelled
 
 -- where there is no memory
 pub returns-in_default : goal.returns-in_default

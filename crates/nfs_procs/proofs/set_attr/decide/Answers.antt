@@ -1,6 +1,6 @@
 use Rattle.nfs_args.specs.declared.args.NfsArgs.TheVariants as nfs
 use Rattle.nfs_procs.proofs.Judged.{denied_by_rule, denied_through, granted_by_rules}
-use Rattle.std.proofs.Common.{refl, subst}
+use Rattle.std.proofs.Common.{refl, subst, ◌∙◌}
 use Rattle.nfs_inodes.specs.Law.{Lives}
 use Rattle.nfs_inodes.specs.Tree.{File}
 use Rattle.nfs_procs.specs.Plans.{MayTakeSize, PlansSettings}
@@ -18,7 +18,7 @@ returns-in-Ok c =
       granted_by_rules c.args.tree.now c.args.call.now (nfs.SetAttr a) a.file refl s named kept,
       record {
         tree = named.tree;
-        same = c.attributes.ensures;
+        same = c.of.ensures ∙ c.view.ensures.attributes;
         lives = subst (λ t. (f : File) × Lives t s.file.fileid f) named.tree (seen_lives s.tree s.file named.file);
         may = subst (λ t. MayTakeSize t s.file.fileid a.attributes.size) named.tree (may_set_size s named.law named.file a kept);
       },

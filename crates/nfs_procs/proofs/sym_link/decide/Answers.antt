@@ -1,7 +1,7 @@
 use Rattle.nfs_args.specs.declared.args.NfsArgs.TheVariants as nfs
 use Rattle.nfs_procs.specs.Plans.{PlansSymLink}
 use Rattle.nfs_procs.proofs.Judged.{denied_by_rule, denied_through, granted_by_rules}
-use Rattle.std.proofs.Common.{◌≡◌, Some, None, refl, ap, subst}
+use Rattle.std.proofs.Common.{◌≡◌, Some, None, refl, ap, subst, ◌∙◌}
 use Rattle.nfs_inodes.specs.Conditions.{MayMakeLink}
 use Rattle.nfs_inodes.specs.declared.new_file.NewFile.{NewFile}
 use Rattle.nfs_procs.specs.Changers.{link_mode}
@@ -21,7 +21,7 @@ returns-in-Ok c =
       granted_by_rules c.args.tree.now c.args.call.now (nfs.SymLink a) a.place.dir refl s named kept,
       record {
         tree = named.tree;
-        dir = c.attributes.ensures;
+        dir = c.of.ensures ∙ c.view.ensures.attributes;
         given = ap (λ (given : NewFile). record given { mode = link_mode }) c.new_file_of.ensures;
         may = subst (λ t. MayMakeLink t s.file.fileid a.place.name a.path) named.tree (may_make_link s named.law named.file a.place.name a.path kept);
       },

@@ -1,7 +1,7 @@
 use Rattle.nfs_args.specs.declared.args.NfsArgs.TheVariants as nfs
 use Rattle.nfs_procs.specs.Plans.{PlansBytes}
 use Rattle.nfs_procs.proofs.Judged.{denied_by_rule, denied_through, granted_by_rules}
-use Rattle.std.proofs.Common.{refl, subst}
+use Rattle.std.proofs.Common.{refl, subst, ◌∙◌}
 use Rattle.std.specs.Prelude.{length}
 use Rattle.nfs_inodes.specs.Conditions.{MayWrite}
 use Rattle.nfs_rules.proofs.Sizes.{may_write}
@@ -17,7 +17,7 @@ returns-in-Ok c =
       granted_by_rules c.args.tree.now c.args.call.now (nfs.Write a) a.file refl s named kept,
       record {
         tree = named.tree;
-        same = c.attributes.ensures;
+        same = c.of.ensures ∙ c.view.ensures.attributes;
         may = subst (λ t. MayWrite t s.file.fileid a.offset (length a.content)) named.tree (may_write s named.law named.file a kept);
       },
     )

@@ -20,8 +20,8 @@ returns c =
     let a = c.args.args.now in
     let file = c.in-Ok.file in
     wrote (scene c.args.tree.now c.args.call.now (nfs.Write c.args.args.now)) a plans.0 file c.write_at.new.self c.change.result (length c.bytes-bytes.result.now) c.from_be_bytes-verifier.result c.args.out.now c.write_granted.new.out plans.1 plans.2
-    (c.in-Ok-write_at.ensures.ok ∙ ap (λ bytes. after_write_at c.args.tree.now file.fileid a.offset bytes c.args.call.now.moment) c.bytes-bytes.ensures)
-    (c.change.ensures ∙ ap (change (Some file)) c.attributes.ensures)
+    (c.in-Ok-write_at.ensures.ok ∙ ap (λ bytes. after_write_at c.args.tree.now file.attributes.fileid a.offset bytes c.args.call.now.moment) c.bytes-bytes.ensures)
+    (c.change.ensures ∙ ap (change (Some file.attributes)) c.attributes.ensures)
     (ap length c.bytes-bytes.ensures)
     (c.from_be_bytes-verifier.ensures ∙ ap (from_be_bytes w64) c.key.ensures)
     c.write_granted.ensures

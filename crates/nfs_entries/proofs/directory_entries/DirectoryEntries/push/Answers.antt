@@ -40,4 +40,4 @@ returns-clause-entries c =
     let pushed : c.push.new.self.items ≡ places ++ (record { cookie = c.self.inside.next; index = c.len-index.result }) ∷ [] = c.push.ensures.items ∙ ap (λ r. if is_ok r then places ++ (record { cookie = c.self.inside.next; index = c.len-index.result }) ∷ [] else places) c.unwrap-2.ensures in
     let new_places : c.push.new.self.items ≡ places ++ place_of row (length rows) ∷ [] = pushed ∙ ap (λ n. places ++ (record { cookie = c.self.inside.next; index = n }) ∷ []) c.len-index.ensures.len in
     (λ i. listed (new_rows i) (new_places i)) ∙ listed_more rows places row c.self.invariant absent
-    ∙ ap (λ (v : Listed). v.entries ++ (record { cookie = v.next; name = c.args.name.items; number = c.args.number }) ∷ []) c.self.view_is
+    ∙ ap (λ (v : Listed). v.entries ++ (record { cookie = v.next; name = c.args.name.items; number = c.args.number.0 }) ∷ []) c.self.view_is

@@ -1,9 +1,10 @@
 use Rattle.std.proofs.Common.{sym, ap, ◌∙◌}
 use Rattle.nfs_handles.specs.Handles.{reading_without}
+use Rattle.nfs_handles.specs.declared.reading.Reading.TheVariants.{Live}
 use Rattle.nfs_handles.proofs.files.Files.read.Goals as goal
 
 pub returns-in-Ok : goal.returns-in-Ok
-returns-in-Ok g c = sym c.in-Ok.ensures.found.0
+returns-in-Ok g c = ap Live c.new.ensures ∙ sym c.in-Ok.ensures.found.0
 
 pub returns-in-Err-Stale : goal.returns-in-Err-Stale
 returns-in-Err-Stale g c = sym (c.in-Err-Stale.ensures.none ∙ ap reading_without c.in-Err-Stale.field-0-is)

@@ -1,4 +1,5 @@
 use Rattle.std.proofs.Common.{None, ◌≡◌, List, ℕ, [], ◌∷◌, ◌++◌, length, sym, subst, ap, ◌∙◌}
+use Rattle.nfs_handles.specs.declared.number.Number.{Number}
 use Rattle.nfs_inodes.specs.Tree.{Tree}
 use Rattle.nfs_inodes.specs.declared.stored_volume.StoredVolume.{StoredVolume}
 use Rattle.nfs_inodes.specs.Tree.{Directory}
@@ -11,14 +12,14 @@ use Rattle.nfs_inodes.proofs.Steps.{unchanged, stored_agree_after_add_volume, st
 use Rattle.nfs_inodes.proofs.tree.Tree.add_volume.Goals as goal
 
 abbrev the_share : goal.After-append → StoredVolume
-the_share c = record { path = c.in_ok-path.path; max_bytes = c.args.max_bytes; max_files = c.args.max_files; root = c.in-Ok.root.0; bytes = 0; files = 1 }
+the_share c = record { path = c.in_ok-path.path; max_bytes = c.args.max_bytes; max_files = c.args.max_files; root = c.in-Ok.root; bytes = 0; files = 1 }
 
 may : (c : goal.After-append) → MayAddVolume (tree_in (counted_tree_of c.self.inside.files c.self.inside.volumes.items)) c.in_ok-path.path.items c.args.max_files
 may c = may_found c.self.inside.files c.self.inside.volumes.items c.args.max_files c.in_ok-path.path.items c.args.path.now c.args.self.now c.self.view_is c.in_ok-path.ensures c.requires
 
 its_root : (c : goal.After-append) → file_of 0 c.new-stored_file.result ≡ new_file (length c.self.inside.volumes.items) (Directory c.self.inside.files.next 3 []) c.args.given.now None 0 c.args.now
-its_root c = root_file (file_of 0 c.new-stored_file.result) c.len.result (length c.self.inside.volumes.items) c.next.result c.self.inside.files.next c.args.given.now c.args.now c.new.result
-    (c.len.ensures ∙ c.reserve.new.self.ok.0 ∙ ap length c.reserve.ensures.items) c.next.ensures c.new.ensures.next c.new.ensures.entries c.new-stored_file.ensures.file
+its_root c = root_file (file_of 0 c.new-stored_file.result) c.len.result (length c.self.inside.volumes.items) c.new-parent.result.0 c.self.inside.files.next c.args.given.now c.args.now c.new.result
+    (c.len.ensures ∙ c.reserve.new.self.ok.0 ∙ ap length c.reserve.ensures.items) (ap (λ (n : Number). n.0) c.new-parent.ensures ∙ c.next.ensures) c.new.ensures.next c.new.ensures.entries c.new-stored_file.ensures.file
 
 is_counted : (c : goal.After-append) → counted_volume_of (the_share c) ≡ record { volume = record { path = c.in_ok-path.path.items; max_bytes = c.args.max_bytes; max_files = c.args.max_files; root = c.self.inside.files.next }; bytes = 0; files = 1 }
 is_counted c = ap (counted_at c.in_ok-path.path.items c.args.max_bytes c.args.max_files) c.in-Ok.ensures.0
