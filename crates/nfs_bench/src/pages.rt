@@ -15,7 +15,7 @@ use std::rt::Clock;
 use std::time::Instant;
 
 // The first directory below the root.
-const DIR: Number = Number::new(2);
+const DIR: Number = Number(2, 0);
 
 // The bytes of a page of which a whole directory is read.
 const COUNT: u32 = 8_192;

@@ -1,0 +1,4 @@
+pub mod Kept
+pub mod Overwriting
+pub mod Cutting
+pub mod Shown

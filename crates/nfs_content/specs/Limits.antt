@@ -1,0 +1,6 @@
+-- How large contents may be.
+use Rattle.std.specs.Prelude.{ℕ}
+
+-- the most bytes of a content
+abbrev pub max_content : ℕ
+max_content = 16777216

@@ -1,0 +1,7 @@
+//! The content of a regular file: bytes, whole or in pages.
+#![tactic(auto)]
+
+pub mod content;
+pub mod limits;
+pub mod pages;
+mod table;

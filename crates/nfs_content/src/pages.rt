@@ -1,0 +1,118 @@
+//! Contents in pages: what was never written takes no memory.
+ghost use Rattle.std.specs.Prelude.{◌≡◌, ◌≤◌, IfOk, length};
+ghost use Rattle.nfs_content.specs.Bytes.{zeros};
+ghost use Rattle.nfs_content.specs.Limits.{max_content};
+
+use crate::content::Content;
+use crate::limits::PAGE_BYTES;
+use crate::table::{cut, hold, one, page_at, put};
+use std::alloc::{AllocError, Global};
+use std::marker::Model;
+
+// A page that was never written.
+static ZEROS: [u8; PAGE_BYTES] = [0; PAGE_BYTES];
+
+/// Bytes in pages of 4,096. Of a page its first bytes are kept, up to the last that was written; a
+/// hole takes none.
+#[derive(Drop)]
+pub struct Pages {
+    alloc: Global,
+    pages: Vec<Vec<u8>>,
+    len: usize,
+}
+
+impl Model for Pages {
+    ghost use Rattle.std.specs.Prelude.{ℕ, List};
+    ghost use Rattle.nfs_content.specs.Paged.{kept, shown, IsPaged};
+
+    ghost Value = { List ℕ };
+
+    ghost view = { λ p. shown (kept p.pages.items) p.len };
+
+    ghost invariant = { λ p. IsPaged (kept p.pages.items) p.len };
+}
+
+impl Pages {
+    /// So many zeros, in no page.
+    pub fn zeros(alloc: Global, len: usize) -> Pages
+        ensures { result ≡ zeros len }
+    {
+        Pages {
+            alloc,
+            pages: Vec::new(alloc),
+            len,
+        }
+    }
+
+    /// These bytes, at most 16,777,216. Refused without memory.
+    pub fn of(alloc: Global, bytes: Vec<u8>) -> Result<Pages, AllocError>
+        requires { length bytes.items ≤ max_content }
+        ensures { IfOk result (λ pages. pages ≡ bytes.items) }
+    {
+        if bytes.len() > PAGE_BYTES {
+            let mut pages = Pages::zeros(alloc, 0);
+            pages.put_at(0, bytes.as_slice())?;
+            return Ok(pages);
+        }
+        let len = bytes.len();
+        let pages = one(alloc, bytes)?;
+        Ok(Pages { alloc, pages, len })
+    }
+
+    /// How many pages are kept.
+    pub fn held(&self) -> usize {
+        self.pages.iter().filter(|page| !page.is_empty()).count()
+    }
+}
+
+impl Content for Pages {
+    ghost bytes = { λ p. p };
+
+    #[inline(always)]
+    fn len(&self) -> usize {
+        self.len
+    }
+
+    fn run_at(&self, offset: usize) -> &[u8] {
+        if offset >= self.len {
+            return &[];
+        }
+        let first = offset % PAGE_BYTES;
+        let most = (self.len - offset).min(PAGE_BYTES - first);
+        let page = page_at(self.pages.as_slice(), offset / PAGE_BYTES);
+        if first < page.len() {
+            &page[first..page.len().min(first + most)]
+        } else {
+            unwritten(most)
+        }
+    }
+
+    fn put_at(&mut self, offset: usize, new: &[u8]) -> Result<(), AllocError> {
+        if new.is_empty() {
+            return Ok(());
+        }
+        let end = offset + new.len();
+        hold(&mut self.pages, self.alloc, offset, end)?;
+        put(&mut self.pages, offset, new);
+        self.len = self.len.max(end);
+        Ok(())
+    }
+
+    fn set_len(&mut self, len: usize) -> Result<(), AllocError> {
+        if len < self.len {
+            cut(&mut self.pages, len);
+            self.len = len;
+            return Ok(());
+        }
+        self.len = len;
+        Ok(())
+    }
+}
+
+// So many bytes of a page that was never written.
+fn unwritten(len: usize) -> &'static [u8]
+    requires { len ≤ 4096 }
+    ensures { result.now ≡ zeros len }
+{
+    &ZEROS[..len]
+}
