@@ -23,7 +23,6 @@ pub mod AttributeChanges
 pub mod ByteChanges
 pub mod SizeChanges
 pub mod Tests
-pub mod EntryTests
 pub mod Lookups
 pub mod Readers
 pub mod Example

@@ -1,6 +1,9 @@
 //! The tree of files: what is read of it, and what its operations do.
 
 use nfs_attrs::moment::Moment;
+use nfs_conditions::bytes::{may_resize, may_write};
+use nfs_conditions::entries::{is_empty, may_unlink};
+use nfs_conditions::moves;
 use nfs_handles::number::Number;
 use nfs_inodes::content::zeroed;
 use nfs_inodes::given_attributes::GivenAttributes;
@@ -110,7 +113,7 @@ fn read(alloc: Global, tree: &Tree, verb: &str, words: &mut SplitWhitespace<'_>)
         "attributes" => told(alloc, tree.attributes(Number(number(words)?))),
         "links" => told(alloc, links(tree, Number(number(words)?))),
         "below" => told(alloc, below(tree, number(words)?, number(words)?)),
-        "is-empty" => told(alloc, tree.is_empty(Number(number(words)?))),
+        "is-empty" => told(alloc, is_empty(tree, Number(number(words)?))),
         "lookup" => lookup(alloc, tree, words),
         "entry" => entry(alloc, tree, words),
         "cookie" => told(alloc, tree.next_cookie(Number(number(words)?))),
@@ -217,10 +220,13 @@ fn volumes(
 fn may(alloc: Global, tree: &Tree, verb: &str, words: &mut SplitWhitespace<'_>) -> Option<String> {
     let file = Number(number(words)?);
     match verb {
-        "may-write" => told(alloc, tree.may_write(file, size(words)?, size(words)?)),
-        "may-resize" => told(alloc, tree.may_resize(file, size(words)?)),
+        "may-write" => told(alloc, may_write(tree, file, size(words)?, size(words)?)),
+        "may-resize" => told(alloc, may_resize(tree, file, size(words)?)),
         "may-make" => may_make(alloc, tree, file, words),
-        "may-unlink" => told(alloc, tree.may_unlink(file, name(alloc, words)?.as_slice())),
+        "may-unlink" => told(
+            alloc,
+            may_unlink(tree, file, name(alloc, words)?.as_slice()),
+        ),
         _ => may_rename(alloc, tree, file, words),
     }
 }
@@ -246,7 +252,7 @@ fn may_rename(
     let new_name = name(alloc, words)?;
     told(
         alloc,
-        tree.may_rename(from, old_name.as_slice(), to, new_name.as_slice()),
+        moves::may_rename(tree, from, old_name.as_slice(), to, new_name.as_slice()),
     )
 }
 
@@ -322,7 +328,7 @@ fn write(alloc: Global, tree: &mut Tree, words: &mut SplitWhitespace<'_>) -> Opt
     let file = Number(number(words)?);
     let offset = size(words)?;
     let content = bytes(alloc, words)?;
-    if !tree.may_write(file, offset, content.len()) {
+    if !may_write(tree, file, offset, content.len()) {
         return None;
     }
     tree.write_at(file, offset, content.as_slice(), NOW).ok()?;
@@ -333,7 +339,7 @@ fn write(alloc: Global, tree: &mut Tree, words: &mut SplitWhitespace<'_>) -> Opt
 fn resize(tree: &mut Tree, words: &mut SplitWhitespace<'_>) -> Option<u64> {
     let file = Number(number(words)?);
     let size = size(words)?;
-    if !tree.may_resize(file, size) {
+    if !may_resize(tree, file, size) {
         return None;
     }
     tree.resize(file, size, NOW).ok()?;
@@ -365,7 +371,7 @@ fn mode_alone(mode: u32) -> GivenAttributes {
 fn unlink(alloc: Global, tree: &mut Tree, words: &mut SplitWhitespace<'_>) -> Option<u64> {
     let dir = Number(number(words)?);
     let name = name(alloc, words)?;
-    if !tree.may_unlink(dir, name.as_slice()) {
+    if !may_unlink(tree, dir, name.as_slice()) {
         return None;
     }
     tree.unlink(dir, name.as_slice(), NOW);
@@ -378,7 +384,7 @@ fn rename(alloc: Global, tree: &mut Tree, words: &mut SplitWhitespace<'_>) -> Op
     let old_name = name(alloc, words)?;
     let to = Number(number(words)?);
     let new_name = name(alloc, words)?;
-    if !tree.may_rename(from, old_name.as_slice(), to, new_name.as_slice()) {
+    if !moves::may_rename(tree, from, old_name.as_slice(), to, new_name.as_slice()) {
         return None;
     }
     let done = tree.rename(from, old_name.as_slice(), to, new_name.as_slice(), NOW);

@@ -4,6 +4,8 @@ use crate::described::loaded;
 use ballast::Ballast;
 use nfs_attrs::fattr::Fattr;
 use nfs_attrs::moment::Moment;
+use nfs_conditions::bytes::{may_resize, may_write};
+use nfs_conditions::moves::may_rename;
 use nfs_handles::number::Number;
 use nfs_inodes::content::zeroed;
 use nfs_inodes::new_file::NewFile;
@@ -64,12 +66,12 @@ fn operate(alloc: Global, tree: &mut Tree, operation: u32) -> Result<(), AllocEr
             tree.make_link(dir, b"y", b"to", &GIVEN, NOW)?;
         }
         3 if tree.may_link(Number(3), dir, b"y") => tree.link(Number(3), dir, b"y", NOW)?,
-        4 if tree.may_write(Number(3), 100, 3) => tree.write_at(Number(3), 100, b"end", NOW)?,
+        4 if may_write(tree, Number(3), 100, 3) => tree.write_at(Number(3), 100, b"end", NOW)?,
         5 if tree.may_add_volume(b"/c", 1) => {
             tree.add_volume(b"/c", 1, 1, &GIVEN, NOW)?;
         }
-        6 if tree.may_resize(Number(3), 1_000) => tree.resize(Number(3), 1_000, NOW)?,
-        7 if tree.may_rename(dir, b"x", dir, b"y") => tree.rename(dir, b"x", dir, b"y", NOW)?,
+        6 if may_resize(tree, Number(3), 1_000) => tree.resize(Number(3), 1_000, NOW)?,
+        7 if may_rename(tree, dir, b"x", dir, b"y") => tree.rename(dir, b"x", dir, b"y", NOW)?,
         _ => (),
     }
     Ok(())
