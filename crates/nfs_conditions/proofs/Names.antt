@@ -11,7 +11,7 @@ use Rattle.nfs_inodes.specs.Law.{Law, IsName, Lives, LivesAsDirectory}
 use Rattle.nfs_inodes.specs.Conditions.{MayUnlink}
 use Rattle.nfs_inodes.specs.Reading.{dot, dot_dot, has_name, entry_named, number_named, number_under, listing, first_after, entry_after, entry_at, entries_at}
 use Rattle.nfs_inodes.proofs.Lists.{by_test, if_true, if_false, same_some, not_both, none_from, find_contains}
-use Rattle.nfs_inodes.proofs.Unlinks.{entry_is}
+use Rattle.nfs_inodes.proofs.law.Unlinks.{entry_is}
 use Rattle.nfs_inodes.proofs.Views.{mapped}
 use Rattle.nfs_inodes.proofs.Tests.{never}
 use Rattle.nfs_conditions.proofs.Files.{always, by_option}

@@ -10,7 +10,7 @@ use Rattle.nfs_inodes.specs.Law.{Law, Lives, climb}
 use Rattle.nfs_inodes.specs.Conditions.{MayReplace, MayRename, NamesOther}
 use Rattle.nfs_inodes.specs.Reading.{has_name, entry_named, entry_at, entries_at, attributes_at, is_directory_type, cookie_of_next, next_cookie_at}
 use Rattle.nfs_inodes.proofs.Lists.{by_number, same_some, not_both, true_and_false, find_contains}
-use Rattle.nfs_inodes.proofs.Unlinks.{entry_is}
+use Rattle.nfs_inodes.proofs.law.Unlinks.{entry_is}
 use Rattle.nfs_inodes.proofs.Views.{mapped}
 use Rattle.nfs_conditions.specs.Parts.{IsDirectoryIn, IsNear, HasCookieLeft, MayHaveLink, ReplacesFile, MayArrive, MayGo, is_directory_at}
 use Rattle.nfs_conditions.proofs.Files.{by_option, directory_is, none_lives, lives, of_type, fsid, links}

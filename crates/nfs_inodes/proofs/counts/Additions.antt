@@ -12,11 +12,11 @@ use Rattle.nfs_inodes.specs.Conditions.{MayLink}
 use Rattle.nfs_inodes.specs.Counts.{CountedFile, CountedVolume, CountedTree, Agrees, IsCounted, files_in, tree_in}
 use Rattle.nfs_inodes.proofs.Lists.{by_number, by_test, if_true, same_some, get_push}
 use Rattle.nfs_inodes.proofs.Maps.{shows_with, shows_push, with_back, push_back, at_with_other, at_with_same, rising_with}
-use Rattle.nfs_inodes.proofs.Alike.{alike_itself, bytes_changed, count_changed, nlink_alike, one_alike}
-use Rattle.nfs_inodes.proofs.Gains.{entered_placed, entered_bytes, gained_is, nlink_there, nlink_elsewhere, one_other}
-use Rattle.nfs_inodes.proofs.Births.{nlink_born, nlink_new, bytes_born, files_born, law_with_new_volume, MayBeFounded, no_bytes_yet, no_files_yet}
-use Rattle.nfs_inodes.proofs.Operations.{law_after_link, linked_is, touch_alike, apart_kinds}
-use Rattle.nfs_inodes.proofs.Counts.{shown, free_number}
+use Rattle.nfs_inodes.proofs.law.Alike.{alike_itself, bytes_changed, count_changed, nlink_alike, one_alike}
+use Rattle.nfs_inodes.proofs.law.WithEntry.{entered_placed, entered_bytes, gained_is, nlink_there, nlink_elsewhere, one_other}
+use Rattle.nfs_inodes.proofs.law.WithNewFile.{nlink_born, nlink_new, bytes_born, files_born, law_with_new_volume, MayBeFounded, no_bytes_yet, no_files_yet}
+use Rattle.nfs_inodes.proofs.law.Operations.{law_after_link, linked_is, touch_alike, apart_kinds}
+use Rattle.nfs_inodes.proofs.counts.Operations.{shown, free_number}
 
 -- ---- a link
 

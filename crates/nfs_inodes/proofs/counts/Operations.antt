@@ -10,10 +10,10 @@ use Rattle.nfs_inodes.specs.Conditions.{IsNew, MayMake}
 use Rattle.nfs_inodes.specs.Counts.{CountedFile, CountedVolume, CountedTree, Agrees, IsCounted, files_in, tree_in, with_totals}
 use Rattle.nfs_inodes.proofs.Lists.{by_number, by_test, if_true, if_false, same_some, not_both}
 use Rattle.nfs_inodes.proofs.Maps.{at_shows, shows_with, shows_push, with_back, push_back, at_push_other, rising_push}
-use Rattle.nfs_inodes.proofs.Alike.{bytes_changed, count_changed}
-use Rattle.nfs_inodes.proofs.Gains.{entered_placed, entered_bytes, gained_is, nlink_there, nlink_elsewhere, one_other}
-use Rattle.nfs_inodes.proofs.Births.{next_free, live_apart, stays, new_lives, nlink_born, nlink_new, bytes_born, files_born}
-use Rattle.nfs_inodes.proofs.Operations.{law_with_named_file}
+use Rattle.nfs_inodes.proofs.law.Alike.{bytes_changed, count_changed}
+use Rattle.nfs_inodes.proofs.law.WithEntry.{entered_placed, entered_bytes, gained_is, nlink_there, nlink_elsewhere, one_other}
+use Rattle.nfs_inodes.proofs.law.WithNewFile.{next_free, live_apart, stays, new_lives, nlink_born, nlink_new, bytes_born, files_born}
+use Rattle.nfs_inodes.proofs.law.Operations.{law_with_named_file}
 
 -- the file of what is kept under a number
 pub shown : (k : CountedTree) (n : ℕ) (h : CountedFile) → at n k.files ≡ Some h → Lives (tree_in k) n h.file

@@ -8,9 +8,9 @@ use Rattle.nfs_inodes.specs.Changes.{with_new_file, with_file, with_entry, with_
 use Rattle.nfs_inodes.specs.Conditions.{IsNew, MayMake, MayLink, MayWrite}
 use Rattle.nfs_inodes.proofs.Lists.{if_true, true_and_false, not_both, same_some}
 use Rattle.nfs_inodes.proofs.Maps.{at_with_same, at_with_other}
-use Rattle.nfs_inodes.proofs.Alike.{Alike, law_with_file, room_same, one_alike}
-use Rattle.nfs_inodes.proofs.Gains.{MayGain, law_with_entry}
-use Rattle.nfs_inodes.proofs.Births.{MayBeBorn, law_with_new_file, next_free, stays, new_lives, names_born, subdirectories_born}
+use Rattle.nfs_inodes.proofs.law.Alike.{Alike, law_with_file, room_same, one_alike}
+use Rattle.nfs_inodes.proofs.law.WithEntry.{MayGain, law_with_entry}
+use Rattle.nfs_inodes.proofs.law.WithNewFile.{MayBeBorn, law_with_new_file, next_free, stays, new_lives, names_born, subdirectories_born}
 use Rattle.nfs_inodes.proofs.Bytes.{length_put}
 
 pub may_be_born : (t : Tree) (d size : ℕ) (name : List ℕ) (f : File) (may : MayMake t d name size) → IsNew d size may.enter.dir f → MayBeBorn t f

@@ -9,13 +9,13 @@ use Rattle.nfs_inodes.specs.Reading.{entry_named}
 use Rattle.nfs_inodes.specs.Counts.{CountedFile, CountedVolume, CountedTree, Agrees, IsCounted, files_in, tree_in, with_totals}
 use Rattle.nfs_inodes.proofs.Lists.{by_test, if_false}
 use Rattle.nfs_inodes.proofs.Maps.{apart_number, shows_without, without_back, rising_shown, sum_without}
-use Rattle.nfs_inodes.proofs.Alike.{alike_itself, one_alike, nlink_alike, bytes_here, bytes_elsewhere}
-use Rattle.nfs_inodes.proofs.Gains.{one_other}
-use Rattle.nfs_inodes.proofs.Operations.{touch_alike, law_touched}
-use Rattle.nfs_inodes.proofs.Counts.{shown}
-use Rattle.nfs_inodes.proofs.Leavings.{names_apart, left_placed, left_bytes, nlink_less_there, nlink_less_elsewhere, law_without_entry}
-use Rattle.nfs_inodes.proofs.Departures.{MayBeRemoved, nlink_gone, law_without_file, law_whole}
-use Rattle.nfs_inodes.proofs.Recounts.{AgreesBut, agrees_but_none, agrees_whole, recounted, agrees_recounted, same_totals, totals_moved, volumes_moved, totals_nothing}
+use Rattle.nfs_inodes.proofs.law.Alike.{alike_itself, one_alike, nlink_alike, bytes_here, bytes_elsewhere}
+use Rattle.nfs_inodes.proofs.law.WithEntry.{one_other}
+use Rattle.nfs_inodes.proofs.law.Operations.{touch_alike, law_touched}
+use Rattle.nfs_inodes.proofs.counts.Operations.{shown}
+use Rattle.nfs_inodes.proofs.law.WithoutEntry.{names_apart, left_placed, left_bytes, nlink_less_there, nlink_less_elsewhere, law_without_entry}
+use Rattle.nfs_inodes.proofs.law.WithoutFile.{MayBeRemoved, nlink_gone, law_without_file, law_whole}
+use Rattle.nfs_inodes.proofs.counts.FileChanged.{AgreesBut, agrees_but_none, agrees_whole, recounted, agrees_recounted, same_totals, totals_moved, volumes_moved, totals_nothing}
 
 -- ---- an entry less
 

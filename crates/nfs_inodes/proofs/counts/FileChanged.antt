@@ -12,8 +12,8 @@ use Rattle.nfs_inodes.specs.Storage.{file_of, counted_file_of, counted_volume_of
 use Rattle.nfs_inodes.specs.StoredFiles.{Revalues}
 use Rattle.nfs_inodes.proofs.Lists.{by_number, same_some, same_tail, not_both}
 use Rattle.nfs_inodes.proofs.Maps.{shows_with, with_back, rising_bounds}
-use Rattle.nfs_inodes.proofs.Alike.{Alike, alike_itself, one_alike, nlink_alike, bytes_changed, count_changed}
-use Rattle.nfs_inodes.proofs.Counts.{shown, volumes_stay}
+use Rattle.nfs_inodes.proofs.law.Alike.{Alike, alike_itself, one_alike, nlink_alike, bytes_changed, count_changed}
+use Rattle.nfs_inodes.proofs.counts.Operations.{shown, volumes_stay}
 use Rattle.nfs_inodes.proofs.StoredFiles.{counted_file, with_value_is}
 
 abbrev pub AreLimits : Volume → Type 0

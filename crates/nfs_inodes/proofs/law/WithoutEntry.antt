@@ -11,8 +11,8 @@ use Rattle.nfs_inodes.specs.Reading.{has_name, entry_named}
 use Rattle.nfs_inodes.proofs.Lists.{by_test, by_number, if_true, if_false, same_some, find_contains}
 use Rattle.nfs_inodes.proofs.Maps.{at_with_same, at_with_other, rising_with, sum_with, with_back}
 use Rattle.nfs_inodes.proofs.Numbers.{numbers_changed}
-use Rattle.nfs_inodes.proofs.Alike.{Placed, placed_itself, subdirectories_same, parent_changed, directory_changed, count_changed, bytes_changed}
-use Rattle.nfs_inodes.proofs.Losses.{HasLess, law_less, left_was, left_or_named, found_is, sum_less}
+use Rattle.nfs_inodes.proofs.law.Alike.{Placed, placed_itself, subdirectories_same, parent_changed, directory_changed, count_changed, bytes_changed}
+use Rattle.nfs_inodes.proofs.law.EntryLess.{HasLess, law_less, left_was, left_or_named, found_is, sum_less}
 
 -- ---- a directory without an entry
 

@@ -14,7 +14,7 @@ use Rattle.nfs_handles.specs.NumberedFiles.{IsNumbered}
 use Rattle.nfs_inodes.proofs.Numbers.{numbers_changed}
 use Rattle.nfs_inodes.proofs.Lists.{by_test, by_number, if_true, if_false, same_some, not_both, none_from}
 use Rattle.nfs_inodes.proofs.Maps.{at_with_same, at_with_other, rising_with, sum_with, with_back}
-use Rattle.nfs_inodes.proofs.Alike.{Placed, placed_itself, climb_alike, not_root, subdirectories_same, parent_changed, directory_changed, count_changed, bytes_changed}
+use Rattle.nfs_inodes.proofs.law.Alike.{Placed, placed_itself, climb_alike, not_root, subdirectories_same, parent_changed, directory_changed, count_changed, bytes_changed}
 
 -- the new tree has one entry more, in directory d
 pub record HasMore (d : ℕ) (new_entry : Entry) (old new : Tree) : Type 0 where

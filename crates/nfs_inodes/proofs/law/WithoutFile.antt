@@ -10,10 +10,10 @@ use Rattle.nfs_inodes.specs.Changes.{with_file, without_file, touched, released}
 use Rattle.nfs_inodes.proofs.Lists.{by_test, by_number, if_true, if_false, true_and_false, same_some, not_both, not_in_empty}
 use Rattle.nfs_inodes.proofs.Maps.{rising_without, at_with_other, at_without_other, without_back, sum_without, sum_some}
 use Rattle.nfs_inodes.proofs.Numbers.{numbers_gone}
-use Rattle.nfs_inodes.proofs.Alike.{nlink_by, nlink_alike, alike_itself, climb_alike, parent_changed, one_alike}
-use Rattle.nfs_inodes.proofs.Gains.{one_same}
-use Rattle.nfs_inodes.proofs.Births.{sum_in}
-use Rattle.nfs_inodes.proofs.Operations.{touch_alike, touched_is, law_touched}
+use Rattle.nfs_inodes.proofs.law.Alike.{nlink_by, nlink_alike, alike_itself, climb_alike, parent_changed, one_alike}
+use Rattle.nfs_inodes.proofs.law.WithEntry.{one_same}
+use Rattle.nfs_inodes.proofs.law.WithNewFile.{sum_in}
+use Rattle.nfs_inodes.proofs.law.Operations.{touch_alike, touched_is, law_touched}
 
 -- a file that an entry names has a name
 pub named_by : (t : Tree) (d : ℕ) (f : File) (e : Entry) → Lives t d f → Contains (entries_in f.kind) e → 1 ≤ names_of e.number t.files

@@ -8,8 +8,8 @@ use Rattle.nfs_inodes.specs.Changes.{with_file, kind_with_parent, moved_to, move
 use Rattle.nfs_inodes.proofs.Lists.{by_test, by_number, same_some, none_from, not_both}
 use Rattle.nfs_inodes.proofs.Maps.{at_with_same, at_with_other, rising_with, sum_with, with_back}
 use Rattle.nfs_inodes.proofs.Numbers.{numbers_changed}
-use Rattle.nfs_inodes.proofs.Alike.{Alike, law_with_file, room_same, nlink_by, subdirectories_same, directory_changed, count_changed, bytes_changed}
-use Rattle.nfs_inodes.proofs.Departures.{not_named}
+use Rattle.nfs_inodes.proofs.law.Alike.{Alike, law_with_file, room_same, nlink_by, subdirectories_same, directory_changed, count_changed, bytes_changed}
+use Rattle.nfs_inodes.proofs.law.WithoutFile.{not_named}
 
 -- ---- a file with another parent
 

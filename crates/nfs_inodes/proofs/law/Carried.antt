@@ -10,14 +10,14 @@ use Rattle.nfs_inodes.specs.Conditions.{MayCarry}
 use Rattle.nfs_inodes.specs.Reading.{has_name}
 use Rattle.nfs_inodes.proofs.Lists.{by_test, by_number, if_true, if_false, same_some, find_contains}
 use Rattle.nfs_inodes.proofs.Maps.{at_with_same, at_with_other}
-use Rattle.nfs_inodes.proofs.Alike.{climb_alike, parent_changed}
-use Rattle.nfs_inodes.proofs.Climbs.{climb_stuck}
-use Rattle.nfs_inodes.proofs.Gains.{MayGain, one_same, law_with_entry}
-use Rattle.nfs_inodes.proofs.Births.{live_some}
-use Rattle.nfs_inodes.proofs.Operations.{apart_kinds}
-use Rattle.nfs_inodes.proofs.Leavings.{left_placed, left_entries, left_cookie, left_is, names_apart, one_less, nlink_less_there, nlink_less_elsewhere, law_without_entry}
-use Rattle.nfs_inodes.proofs.Unlinks.{not_a_root}
-use Rattle.nfs_inodes.proofs.Moves.{MayMove, moved_parent, moved_is, has_moved, names_moved, nlink_moved, law_moved}
+use Rattle.nfs_inodes.proofs.law.Alike.{climb_alike, parent_changed}
+use Rattle.nfs_inodes.proofs.law.Ancestors.{climb_stuck}
+use Rattle.nfs_inodes.proofs.law.WithEntry.{MayGain, one_same, law_with_entry}
+use Rattle.nfs_inodes.proofs.law.WithNewFile.{live_some}
+use Rattle.nfs_inodes.proofs.law.Operations.{apart_kinds}
+use Rattle.nfs_inodes.proofs.law.WithoutEntry.{left_placed, left_entries, left_cookie, left_is, names_apart, one_less, nlink_less_there, nlink_less_elsewhere, law_without_entry}
+use Rattle.nfs_inodes.proofs.law.Unlinks.{not_a_root}
+use Rattle.nfs_inodes.proofs.law.Moved.{MayMove, moved_parent, moved_is, has_moved, names_moved, nlink_moved, law_moved}
 
 -- no entry names its own directory
 pub not_itself : (t : Tree) (d : ℕ) (f : File) (e : Entry) → Law t → LivesAsDirectory t d f → Contains (entries_in f.kind) e → e.number ≢ d

@@ -9,9 +9,9 @@ use Rattle.nfs_inodes.specs.Changes.{entries_without}
 use Rattle.nfs_inodes.specs.Reading.{numbered_files, has_name, entry_named}
 use Rattle.nfs_handles.specs.NumberedFiles.{IsNumbered}
 use Rattle.nfs_inodes.proofs.Lists.{by_test, if_true, if_false, true_and_false, same_some, not_both, none_from, in_head, in_tail, head_or_tail}
-use Rattle.nfs_inodes.proofs.Alike.{Placed, climb_alike, not_root}
-use Rattle.nfs_inodes.proofs.Gains.{one_other, FitsAfter}
-use Rattle.nfs_inodes.proofs.Births.{live_some}
+use Rattle.nfs_inodes.proofs.law.Alike.{Placed, climb_alike, not_root}
+use Rattle.nfs_inodes.proofs.law.WithEntry.{one_other, FitsAfter}
+use Rattle.nfs_inodes.proofs.law.WithNewFile.{live_some}
 
 -- ---- the entries of other names
 

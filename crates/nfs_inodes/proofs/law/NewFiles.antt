@@ -9,8 +9,8 @@ use Rattle.nfs_inodes.specs.Changes.{after_make_file, after_make_dir, after_make
 use Rattle.nfs_inodes.specs.Changes as changes
 use Rattle.nfs_inodes.specs.Conditions.{MayMake, MayMakeDirectory, MayMakeLink, MayAddVolume, IsNew}
 use Rattle.nfs_inodes.specs.StepConditions.{IsFresh}
-use Rattle.nfs_inodes.proofs.Births.{law_with_new_volume, MayBeFounded}
-use Rattle.nfs_inodes.proofs.Operations.{law_with_named_file}
+use Rattle.nfs_inodes.proofs.law.WithNewFile.{law_with_new_volume, MayBeFounded}
+use Rattle.nfs_inodes.proofs.law.Operations.{law_with_named_file}
 
 fresh_sound : (f : File) (d size : ℕ) → IsFresh d size f.kind → f.mode < 4096 → size ≤ 16777216 → IsSound f
 fresh_sound f d size fresh mode large = let long = fresh.bytes in record {

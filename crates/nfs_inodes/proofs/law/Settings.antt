@@ -9,7 +9,7 @@ use Rattle.nfs_inodes.specs.Tree.{Tree, File, Kind, Regular, Directory, Link, on
 use Rattle.nfs_inodes.specs.Law.{Law, IsSound, Lives}
 use Rattle.nfs_inodes.specs.Changes.{with_file, zeros, kind_with_bytes, sized, resized_to, after_resize, with_given, after_set}
 use Rattle.nfs_inodes.specs.Conditions.{MayResize}
-use Rattle.nfs_inodes.proofs.Alike.{Alike, law_with_file, room_same}
+use Rattle.nfs_inodes.proofs.law.Alike.{Alike, law_with_file, room_same}
 use Rattle.nfs_inodes.proofs.Bytes.{length_zeros}
 
 -- ---- its size

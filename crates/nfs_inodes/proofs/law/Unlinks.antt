@@ -9,10 +9,10 @@ use Rattle.nfs_inodes.specs.Conditions.{MayUnlink}
 use Rattle.nfs_inodes.specs.Reading.{has_name, entry_named, entry_at}
 use Rattle.nfs_inodes.proofs.Lists.{find_contains, not_both, same_some}
 use Rattle.nfs_inodes.proofs.Maps.{at_with_other}
-use Rattle.nfs_inodes.proofs.Gains.{one_same}
-use Rattle.nfs_inodes.proofs.Births.{live_some}
-use Rattle.nfs_inodes.proofs.Leavings.{one_less, names_apart, left_is, law_without_entry}
-use Rattle.nfs_inodes.proofs.Departures.{MayBeReleased, named_by, law_released}
+use Rattle.nfs_inodes.proofs.law.WithEntry.{one_same}
+use Rattle.nfs_inodes.proofs.law.WithNewFile.{live_some}
+use Rattle.nfs_inodes.proofs.law.WithoutEntry.{one_less, names_apart, left_is, law_without_entry}
+use Rattle.nfs_inodes.proofs.law.WithoutFile.{MayBeReleased, named_by, law_released}
 
 pub entry_is : (t : Tree) (d : ℕ) (name : List ℕ) (f : File) → Lives t d f → entry_at t d name ≡ entry_named name (entries_in f.kind)
 entry_is t d name f at_d = ap (λ o. on_some o None (λ f. entry_named name (entries_in f.kind))) at_d

@@ -8,10 +8,10 @@ use Rattle.nfs_inodes.specs.Law.{Law, LivesAsDirectory}
 use Rattle.nfs_inodes.specs.Changes.{with_file, entered, moved_to}
 use Rattle.nfs_inodes.specs.Counts.{CountedFile, CountedTree, Agrees, tree_in}
 use Rattle.nfs_inodes.proofs.Lists.{by_number, by_test, if_false, same_some}
-use Rattle.nfs_inodes.proofs.Gains.{entered_placed, entered_bytes, nlink_there, nlink_elsewhere, one_other}
-use Rattle.nfs_inodes.proofs.Counts.{shown}
-use Rattle.nfs_inodes.proofs.Moves.{MayMove, has_moved, nlink_moved, law_moved}
-use Rattle.nfs_inodes.proofs.Recounts.{AgreesBut, agrees_whole, recounted, agrees_recounted, same_totals}
+use Rattle.nfs_inodes.proofs.law.WithEntry.{entered_placed, entered_bytes, nlink_there, nlink_elsewhere, one_other}
+use Rattle.nfs_inodes.proofs.counts.Operations.{shown}
+use Rattle.nfs_inodes.proofs.law.Moved.{MayMove, has_moved, nlink_moved, law_moved}
+use Rattle.nfs_inodes.proofs.counts.FileChanged.{AgreesBut, agrees_whole, recounted, agrees_recounted, same_totals}
 
 -- ---- another directory
 

@@ -12,13 +12,13 @@ use Rattle.nfs_inodes.specs.Conditions.{MayUnlink, MayCarry, MayReplace, MayRena
 use Rattle.nfs_inodes.specs.Reading.{has_name, entry_named, entry_at}
 use Rattle.nfs_inodes.proofs.Lists.{by_test, by_number, if_true, if_false, true_and_false, same_some, not_both, find_contains}
 use Rattle.nfs_inodes.proofs.Maps.{at_with_same, at_with_other, apart_number}
-use Rattle.nfs_inodes.proofs.Alike.{climb_alike, parent_changed}
-use Rattle.nfs_inodes.proofs.Operations.{apart_kinds}
-use Rattle.nfs_inodes.proofs.Losses.{found_is}
-use Rattle.nfs_inodes.proofs.Leavings.{left_placed, left_entries, left_cookie, names_apart, nlink_less_there, law_without_entry}
-use Rattle.nfs_inodes.proofs.Departures.{LeavesOthers, others_released}
-use Rattle.nfs_inodes.proofs.Unlinks.{entry_is, empty_elsewhere, unlinked_is, other_file, may_be_released, law_after_unlink}
-use Rattle.nfs_inodes.proofs.Carries.{law_carried}
+use Rattle.nfs_inodes.proofs.law.Alike.{climb_alike, parent_changed}
+use Rattle.nfs_inodes.proofs.law.Operations.{apart_kinds}
+use Rattle.nfs_inodes.proofs.law.EntryLess.{found_is}
+use Rattle.nfs_inodes.proofs.law.WithoutEntry.{left_placed, left_entries, left_cookie, names_apart, nlink_less_there, law_without_entry}
+use Rattle.nfs_inodes.proofs.law.WithoutFile.{LeavesOthers, others_released}
+use Rattle.nfs_inodes.proofs.law.Unlinks.{entry_is, empty_elsewhere, unlinked_is, other_file, may_be_released, law_after_unlink}
+use Rattle.nfs_inodes.proofs.law.Carried.{law_carried}
 
 -- ---- names among entries
 

@@ -12,7 +12,7 @@ use Rattle.nfs_inodes.specs.Changes.{with_new_file, with_new_volume}
 use Rattle.nfs_inodes.proofs.Lists.{by_test, by_number, same_some, not_in_empty, get_push, get_push_old, get_push_new}
 use Rattle.nfs_inodes.proofs.Numbers.{numbers_born}
 use Rattle.nfs_inodes.proofs.Maps.{at_push_same, at_push_other, at_next, rising_push, rising_bounds, sum_push, sum_zero, push_back}
-use Rattle.nfs_inodes.proofs.Alike.{bytes_here, bytes_elsewhere, nlink_by}
+use Rattle.nfs_inodes.proofs.law.Alike.{bytes_here, bytes_elsewhere, nlink_by}
 
 pub next_free : {x : ℕ} (t : Tree) → LawBut x t → at t.next t.files ≡ None
 next_free t law = at_next 0 t.next t.files law.rising
