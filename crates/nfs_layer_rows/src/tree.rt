@@ -10,7 +10,7 @@ use nfs_inodes::given_attributes::GivenAttributes;
 use nfs_inodes::new_file::NewFile;
 use nfs_inodes::tree::Tree;
 use nfs_load::description::load;
-use rows::answers::{digits, text, told};
+use rows::answers::{debug_text, digits, text};
 use rows::words::{bytes, name, number, size, word};
 use std::alloc::Global;
 use std::str::SplitWhitespace;
@@ -103,25 +103,25 @@ impl<'a> Served<'a> {
             "rename" => rename(self.alloc, &mut self.tree, words),
             _ => add_volume(self.alloc, &mut self.tree, words),
         };
-        told(self.alloc, done)
+        debug_text(self.alloc, done)
     }
 }
 
 // What is read of a file.
 fn read(alloc: Global, tree: &Tree, verb: &str, words: &mut SplitWhitespace<'_>) -> Option<String> {
     match verb {
-        "attributes" => told(alloc, tree.attributes(Number(number(words)?))),
-        "links" => told(alloc, links(tree, Number(number(words)?))),
-        "below" => told(alloc, below(tree, number(words)?, number(words)?)),
-        "is-empty" => told(alloc, is_empty(tree, Number(number(words)?))),
+        "attributes" => debug_text(alloc, tree.attributes(Number(number(words)?))),
+        "links" => debug_text(alloc, links(tree, Number(number(words)?))),
+        "below" => debug_text(alloc, below(tree, number(words)?, number(words)?)),
+        "is-empty" => debug_text(alloc, is_empty(tree, Number(number(words)?))),
         "lookup" => lookup(alloc, tree, words),
         "entry" => entry(alloc, tree, words),
-        "cookie" => told(alloc, tree.next_cookie(Number(number(words)?))),
+        "cookie" => debug_text(alloc, tree.next_cookie(Number(number(words)?))),
         "content" => content(alloc, tree, words),
         "path" => path(alloc, tree, words),
         "verifier" => verifier(alloc, tree, words),
         "handle" => handle(alloc, tree, words),
-        "reading" => told(alloc, tree.read_handle(bytes(alloc, words)?.as_slice())),
+        "reading" => debug_text(alloc, tree.read_handle(bytes(alloc, words)?.as_slice())),
         "named" => named(alloc, tree, words),
         _ => None,
     }
@@ -144,14 +144,14 @@ fn below(tree: &Tree, dir: u64, above: u64) -> Option<bool> {
 fn lookup(alloc: Global, tree: &Tree, words: &mut SplitWhitespace<'_>) -> Option<String> {
     let dir = Number(number(words)?);
     let name = name(alloc, words)?;
-    told(alloc, tree.lookup(dir, name.as_slice()))
+    debug_text(alloc, tree.lookup(dir, name.as_slice()))
 }
 
 // The cookie and the number of the first entry of a directory after a cookie.
 fn entry(alloc: Global, tree: &Tree, words: &mut SplitWhitespace<'_>) -> Option<String> {
     let dir = Number(number(words)?);
     match tree.entry_after(dir, number(words)?) {
-        Some(entry) => told(alloc, (entry.cookie, entry.number.0)),
+        Some(entry) => debug_text(alloc, (entry.cookie, entry.number.0)),
         None => text(alloc, "None"),
     }
 }
@@ -189,8 +189,8 @@ fn handle(alloc: Global, tree: &Tree, words: &mut SplitWhitespace<'_>) -> Option
 fn named(alloc: Global, tree: &Tree, words: &mut SplitWhitespace<'_>) -> Option<String> {
     let handle = bytes(alloc, words)?;
     match tree.find(handle.as_slice()) {
-        Ok(file) => told(alloc, file.attributes()),
-        Err(why) => told(alloc, why),
+        Ok(file) => debug_text(alloc, file.attributes()),
+        Err(why) => debug_text(alloc, why),
     }
 }
 
@@ -204,12 +204,12 @@ fn volumes(
     words: &mut SplitWhitespace<'_>,
 ) -> Option<String> {
     match verb {
-        "volumes" => told(alloc, tree.volumes()),
-        "next" => told(alloc, tree.next_number()),
-        "totals" => told(alloc, tree.totals(size(words)?)),
-        "place" => told(alloc, tree.volume_named(name(alloc, words)?.as_slice())),
+        "volumes" => debug_text(alloc, tree.volumes()),
+        "next" => debug_text(alloc, tree.next_number()),
+        "totals" => debug_text(alloc, tree.totals(size(words)?)),
+        "place" => debug_text(alloc, tree.volume_named(name(alloc, words)?.as_slice())),
         _ => match tree.volume(size(words)?) {
-            Some(volume) => told(alloc, (volume.max_bytes, volume.max_files, volume.root.0)),
+            Some(volume) => debug_text(alloc, (volume.max_bytes, volume.max_files, volume.root.0)),
             None => text(alloc, "None"),
         },
     }
@@ -220,10 +220,10 @@ fn volumes(
 fn may(alloc: Global, tree: &Tree, verb: &str, words: &mut SplitWhitespace<'_>) -> Option<String> {
     let file = Number(number(words)?);
     match verb {
-        "may-write" => told(alloc, may_write(tree, file, size(words)?, size(words)?)),
-        "may-resize" => told(alloc, may_resize(tree, file, size(words)?)),
+        "may-write" => debug_text(alloc, may_write(tree, file, size(words)?, size(words)?)),
+        "may-resize" => debug_text(alloc, may_resize(tree, file, size(words)?)),
         "may-make" => may_make(alloc, tree, file, words),
-        "may-unlink" => told(
+        "may-unlink" => debug_text(
             alloc,
             may_unlink(tree, file, name(alloc, words)?.as_slice()),
         ),
@@ -238,7 +238,7 @@ fn may_make(
     words: &mut SplitWhitespace<'_>,
 ) -> Option<String> {
     let name = name(alloc, words)?;
-    told(alloc, tree.may_make(dir, name.as_slice(), size(words)?))
+    debug_text(alloc, tree.may_make(dir, name.as_slice(), size(words)?))
 }
 
 fn may_rename(
@@ -250,7 +250,7 @@ fn may_rename(
     let old_name = name(alloc, words)?;
     let to = Number(number(words)?);
     let new_name = name(alloc, words)?;
-    told(
+    debug_text(
         alloc,
         moves::may_rename(tree, from, old_name.as_slice(), to, new_name.as_slice()),
     )

@@ -27,7 +27,7 @@ pub(crate) fn answer(alloc: Global, words: &mut SplitWhitespace<'_>) -> Option<S
     let steps = number(words)?;
     let mut walk = Walk::new(alloc, seed)?;
     walk.run(steps);
-    walk.told()
+    walk.report()
 }
 
 // A volume of few bytes and files, so that some steps are refused.
@@ -62,7 +62,7 @@ impl Walk {
         }
     }
 
-    fn told(&self) -> Option<String> {
+    fn report(&self) -> Option<String> {
         let verdict = if agrees(&self.tree) {
             "agrees"
         } else {

@@ -14,8 +14,8 @@ use Rattle.nfs_kept.specs.Places.{Key, Place, kept_reply, place_for, without}
 use Rattle.nfs_mount.specs.MountAnswers.{IsMountSpelled, Mounts, dump_answer, export_answer}
 use Rattle.nfs_mount.specs.Mounts.{after_umnt, without_addr}
 use Rattle.nfs_mount.specs.declared.mount.Mount.{Mount}
-use Rattle.nfs_mount.specs.declared.mounted.Mounted.{Mounted}
-use Rattle.nfs_mount.specs.declared.mounted.Mounted.TheVariants.{Granted}
+use Rattle.nfs_mount.specs.declared.outcome.MountOutcome.{MountOutcome}
+use Rattle.nfs_mount.specs.declared.outcome.MountOutcome.TheVariants.{Granted}
 use Rattle.nfs_procs.specs.Procedures.{doing_of}
 use Rattle.nfs_procs.specs.Scenes.{Scene}
 use Rattle.nfs_rpc.specs.AuthSys.{credential_of}
@@ -53,8 +53,8 @@ abbrev pub AnswersCalled : Result (Call × List ℕ) RpcFault → Held → Event
 AnswersCalled head old event answer new = (choice : Choice) × (choice.again ≡ is_some (kept_reply (key_of event) old.kept))
     × AnswersKept (calls_change event.addr head) (kept_reply (key_of event) old.kept) (Called head old.setup old.state event choice answer new.state) old event answer new.state new.kept
 
-abbrev pub Answers : Held → Event → Answer → Held → Type 0
-Answers old event answer new = (new.setup ≡ old.setup) × AnswersCalled (head_at event.bytes) old event answer new
+abbrev pub AnswersRecord : Held → Event → Answer → Held → Type 0
+AnswersRecord old event answer new = (new.setup ≡ old.setup) × AnswersCalled (head_at event.bytes) old event answer new
 
 -- the same of a call with its arguments, of which these rules of RPC are still to be looked at
 abbrev pub AnswersBy : List RpcRule → Held → Event → Call → List ℕ → Answer → Held → Type 0
@@ -83,12 +83,12 @@ abbrev pub AnswersChange : Scene → Call → Held → Event → Answer → Held
 AnswersChange c call old event answer new = AnswersKept true (kept_reply (key_of event) old.kept) (PerformsAnew c call answer old new) old event answer new.state new.kept
 
 -- this is written, as it is spelled, and these are the mounts afterwards
-abbrev pub Leaves : MountAnswer → List Mount → Mounted → List Mount → Written → Written → Type 0
+abbrev pub Leaves : MountAnswer → List Mount → MountOutcome → List Mount → Written → Written → Type 0
 Leaves result mounts came new before after =
     (came ≡ Granted) × (new ≡ mounts) × Appends (mount_text result) before after × IsMountSpelled result
 
 -- what becomes of a call of MOUNT, of the mounts, and of the room for its result
-abbrev pub MountsAs : MountArgs → Tree → List (List Export) → Addr → Mounted → List Mount → List Mount → Written → Written → Type 0
+abbrev pub MountsAs : MountArgs → Tree → List (List Export) → Addr → MountOutcome → List Mount → List Mount → Written → Written → Type 0
 MountsAs asked.Null t exports addr came old new before after = Leaves result.Null old came new before after
 MountsAs (asked.Mount path) t exports addr came old new before after = Mounts t exports addr path came old new before after
 MountsAs asked.Dump t exports addr came old new before after = Leaves (dump_answer t old) old came new before after

@@ -3,7 +3,7 @@ use nfs_rules::rule::Rule;
 
 /// What became of an MNT.
 #[derive(Clone, Copy, Debug, PartialEq, Eq)]
-pub enum Mounted {
+pub enum MountOutcome {
     /// The volume is mounted.
     Granted,
     /// It fails this rule, the first that it fails.
