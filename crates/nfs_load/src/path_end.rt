@@ -1,8 +1,8 @@
 //! Where a path leads in a volume.
 ghost use Rattle.std.specs.Prelude.{◌≡◌, option_map};
 ghost use Rattle.nfs_inodes.specs.Reading.{attributes_at};
-ghost use Rattle.nfs_load.specs.Places as spec;
-ghost use Rattle.nfs_load.specs.Places.{file_at, free_place, place_at, place_of, places_of};
+ghost use Rattle.nfs_load.specs.PathEnds as spec;
+ghost use Rattle.nfs_load.specs.PathEnds.{file_at, free_end, end_at, end_of, ends_of};
 
 use crate::cause::Cause;
 use crate::path::Path;
@@ -12,7 +12,7 @@ use nfs_inodes::tree::Tree;
 
 /// A directory, and a name in it.
 #[derive(Drop)]
-pub struct Place<'a> {
+pub struct PathEnd<'a> {
     /// The directory.
     pub dir: Number,
     /// The name, which may be taken or not.
@@ -21,8 +21,8 @@ pub struct Place<'a> {
 
 /// The directory in which a path ends, and the name that it ends with, from a root on. `None`
 /// where a name on the way is missing, or what has to be a directory is none.
-pub(crate) fn find_place<'a>(tree: &Tree, root: Number, path: &Path<'a>) -> Option<Place<'a>>
-    ensures { option_map place_of result ≡ place_at tree.now root.0 path.now }
+pub(crate) fn find_path_end<'a>(tree: &Tree, root: Number, path: &Path<'a>) -> Option<PathEnd<'a>>
+    ensures { option_map end_of result ≡ end_at tree.now root.0 path.now }
 {
     let mut names = path.names();
     let mut name = names.next()?;
@@ -34,33 +34,33 @@ pub(crate) fn find_place<'a>(tree: &Tree, root: Number, path: &Path<'a>) -> Opti
     if !is_directory(tree, dir) {
         return None;
     }
-    Some(Place { dir, name })
+    Some(PathEnd { dir, name })
 }
 
-/// A place whose name is not taken. The first of these: `NoParent` where there is no such place,
+/// An end whose name is not taken. The first of these: `NoParent` where there is no such end,
 /// `NameTaken`.
-pub(crate) fn find_free_place<'a>(
+pub(crate) fn find_free_end<'a>(
     tree: &Tree,
     root: Number,
     path: &Path<'a>,
-) -> Result<Place<'a>, Cause>
-    ensures { places_of result ≡ free_place tree.now root.0 path.now }
+) -> Result<PathEnd<'a>, Cause>
+    ensures { ends_of result ≡ free_end tree.now root.0 path.now }
 {
-    let Some(place) = find_place(tree, root, path) else {
+    let Some(end) = find_path_end(tree, root, path) else {
         return Err(Cause::NoParent);
     };
-    if tree.lookup(place.dir, place.name).is_some() {
+    if tree.lookup(end.dir, end.name).is_some() {
         return Err(Cause::NameTaken);
     }
-    Ok(place)
+    Ok(end)
 }
 
 /// The file that a path names, from a root on. `None` where there is none.
 pub(crate) fn find_file(tree: &Tree, root: Number, path: &Path<'_>) -> Option<Number>
     ensures { option_map (λ n. n.0) result ≡ file_at tree.now root.0 path.now }
 {
-    let place = find_place(tree, root, path)?;
-    tree.lookup(place.dir, place.name)
+    let end = find_path_end(tree, root, path)?;
+    tree.lookup(end.dir, end.name)
 }
 
 /// Whether a file is a directory.
