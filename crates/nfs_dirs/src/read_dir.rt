@@ -5,7 +5,8 @@ ghost use Rattle.nfs_args.specs.Chains.{chained_text};
 ghost use Rattle.nfs_args.specs.Pages.{IsEntry, entry_text};
 ghost use Rattle.nfs_inodes.specs.Views.{entry_seen, IsSeen};
 ghost use Rattle.nfs_args.specs.Sizes.{max_page};
-ghost use Rattle.nfs_dirs.specs.Pages.{page_front_bytes, entry_bytes, entry_told, entries_text, EntriesSpelled, fits, left_after, AnswersPage};
+ghost use Rattle.nfs_dirs.specs.Pages.{page_front_bytes, entry_bytes, entry_told, entries_text, EntriesSpelled};
+ghost use Rattle.nfs_dirs.specs.Pages.{fits, left_after, AnswersPage};
 
 use crate::answer::{Page, TooSmall, cut_off};
 use crate::limits::{PAGE_HEAD_BYTES, entry_bytes};

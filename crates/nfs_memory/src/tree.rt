@@ -30,7 +30,7 @@ const GIVEN: NewFile = NewFile {
 // What the tests see of a tree: directory 2 with the cookie of its next entry, file 3 and its
 // length, the first volume's totals, the volumes and the next number.
 #[derive(Clone, Copy, Debug, PartialEq)]
-pub(crate) struct Seen {
+pub(crate) struct Snapshot {
     directory: Option<Fattr>,
     cookie: Option<u64>,
     file: Option<Fattr>,
@@ -40,8 +40,8 @@ pub(crate) struct Seen {
     number: u64,
 }
 
-pub(crate) fn look(tree: &Tree) -> Seen {
-    Seen {
+pub(crate) fn snapshot_of(tree: &Tree) -> Snapshot {
+    Snapshot {
         directory: tree.attributes(Number(2)),
         cookie: tree.next_cookie(Number(2)),
         file: tree.attributes(Number(3)),
@@ -81,17 +81,17 @@ fn operate(alloc: Global, tree: &mut Tree, operation: u32) -> Result<(), AllocEr
 // changed what is seen, or did nothing.
 fn refusals(alloc: Global, operation: u32) -> Result<Option<u32>, AllocError> {
     let mut tree = loaded(alloc)?.tree;
-    let before = look(&tree);
+    let before = snapshot_of(&tree);
     let mut ballast = Ballast::new(alloc)?;
     for refused in 0..ROUNDS {
         if operate(alloc, &mut tree, operation).is_ok() {
-            return Ok(if look(&tree) == before {
+            return Ok(if snapshot_of(&tree) == before {
                 None
             } else {
                 Some(refused)
             });
         }
-        if look(&tree) != before || !ballast.lighten() {
+        if snapshot_of(&tree) != before || !ballast.lighten() {
             break;
         }
     }

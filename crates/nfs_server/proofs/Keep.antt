@@ -7,7 +7,7 @@ use Rattle.nfs_kept.proofs.Lookups.{found_cut, found_more, found_whole, none_som
 use Rattle.nfs_rpc.specs.Calls.{head_at}
 use Rattle.nfs_server.specs.Events.{Event, Answer, Choice, Done}
 use Rattle.nfs_server.specs.Fits.{AreHeld, AreTrue, Held, Past, Fits, GoesOn}
-use Rattle.nfs_server.specs.Keeping.{AnswersRecord, AnswersKept, Keeps}
+use Rattle.nfs_server.specs.OneEvent.{AnswersRecord, AnswersKept, Keeps}
 use Rattle.nfs_server.specs.Repeats.{Earlier, earlier, first_reply, is_changing, is_refused, key_of, one_later, reply_again, standing}
 use Rattle.nfs_server.specs.Steps.{Called, IsRun, Repeated, Step}
 

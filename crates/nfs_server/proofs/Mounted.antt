@@ -26,9 +26,9 @@ use Rattle.nfs_rpc.specs.declared.reply.Accept.TheVariants.{SystemErr}
 use Rattle.nfs_rules.specs.declared.rule.Rule.{Rule}
 use Rattle.nfs_server.specs.AuditLines.{line_of}
 use Rattle.nfs_server.specs.Events.{Choice, granted, denied}
-use Rattle.nfs_server.specs.Keeping.{AnswersMount, Leaves, MountsAs}
+use Rattle.nfs_server.specs.OneEvent.{AnswersMount, Leaves, MountsAs}
 use Rattle.nfs_server.specs.Requests.{mount_args_in, read_args}
-use Rattle.nfs_server.specs.Seen.{told}
+use Rattle.nfs_server.specs.InMemory.{told}
 use Rattle.nfs_server.specs.Steps.{MountDecided, MountDone, State, success}
 use Rattle.nfs_server.specs.declared.audit_line.AuditLine.{AuditLine}
 use Rattle.nfs_server.specs.declared.audit_line.Reason.TheVariants as reason

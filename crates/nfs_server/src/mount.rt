@@ -2,10 +2,10 @@
 ghost use Rattle.std.specs.Prelude.{◌≡◌, ◌+◌, ◌≤◌, length};
 ghost use Rattle.std.specs.Result.{result_ok};
 ghost use Rattle.nfs_rpc.specs.Calls.{call_of};
-ghost use Rattle.nfs_server.specs.Keeping.{AnswersMount, MountsAs};
+ghost use Rattle.nfs_server.specs.OneEvent.{AnswersMount, MountsAs};
 ghost use Rattle.nfs_server.specs.ReplyRoom.{IsBegun, IsReply, reply_in};
 ghost use Rattle.nfs_server.specs.Requests.{mount_args_in};
-ghost use Rattle.nfs_server.specs.Seen.{told};
+ghost use Rattle.nfs_server.specs.InMemory.{told};
 
 use crate::audit_line::{AuditLine, Reason};
 use crate::reply::give_up;

@@ -3,7 +3,7 @@ ghost use Rattle.std.specs.Prelude.{◌≡◌, ◌<◌, ◌≤◌, ◌↔◌, le
 ghost use Rattle.nfs_server.specs.AuditLines.{line_text};
 ghost use Rattle.nfs_server.specs.Connections.{IsBetween};
 ghost use Rattle.nfs_server.specs.Feeding.{device, event_at, EndsWith};
-ghost use Rattle.nfs_server.specs.Seen.{event_of, told};
+ghost use Rattle.nfs_server.specs.InMemory.{event_of, told};
 ghost use Rattle.nfs_server.specs.Taking.{AnswersEvent, BeginsAnew, FeedsOne, FeedsSome, Writes};
 ghost use Rattle.nfs_server.specs.Taking.{room_after as room_behind};
 ghost use Rattle.nfs_xdr.specs.Known.{Grows, GrowsByPart};

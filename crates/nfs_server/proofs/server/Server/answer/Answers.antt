@@ -3,10 +3,10 @@ use Rattle.nfs_kept.specs.Places.{kept_reply}
 use Rattle.nfs_rpc.specs.Calls.{head_at}
 use Rattle.nfs_server.specs.Events.{Answer, silence}
 use Rattle.nfs_server.specs.Fits.{Held}
-use Rattle.nfs_server.specs.Keeping.{AnswersRecord, AnswersCalled}
+use Rattle.nfs_server.specs.OneEvent.{AnswersRecord, AnswersCalled}
 use Rattle.nfs_server.specs.Repeats.{key_of}
 use Rattle.nfs_server.specs.ReplyRoom.{reply_in}
-use Rattle.nfs_server.specs.Seen.{event_of, held, told}
+use Rattle.nfs_server.specs.InMemory.{event_of, held, told}
 use Rattle.nfs_server.proofs.Performed.{no_choice}
 use Rattle.nfs_server.proofs.server.Server.answer.Goals as goal
 
