@@ -1,6 +1,9 @@
 //! What changes the tree: names that come, go and move, attributes and sizes.
 
 use crate::tree::{GIVEN, ROUNDS, START, grown, letters};
+use nfs_conditions::bytes::may_resize;
+use nfs_conditions::entries::may_unlink;
+use nfs_conditions::moves::may_rename;
 use nfs_handles::number::Number;
 use nfs_inodes::given_attributes::GivenAttributes;
 use nfs_inodes::tree::Tree;
@@ -95,19 +98,19 @@ fn make(alloc: Global, tree: &mut Tree, dir: Number, name: &[u8]) {
 }
 
 fn unlink(tree: &mut Tree, dir: Number, name: &[u8]) {
-    if tree.may_unlink(dir, name) {
+    if may_unlink(tree, dir, name) {
         tree.unlink(dir, name, START);
     }
 }
 
 fn rename(tree: &mut Tree, from: Number, name: &[u8], to: Number, new_name: &[u8]) {
-    if tree.may_rename(from, name, to, new_name) {
+    if may_rename(tree, from, name, to, new_name) {
         let _ = tree.rename(from, name, to, new_name, START);
     }
 }
 
 fn resize(tree: &mut Tree, file: Number, size: usize) {
-    if tree.may_resize(file, size) {
+    if may_resize(tree, file, size) {
         let _ = tree.resize(file, size, START);
     }
 }

@@ -1,6 +1,7 @@
 //! The tree: what is read of small and of large ones, and bytes that are written.
 
 use nfs_attrs::moment::Moment;
+use nfs_conditions::bytes::may_write;
 use nfs_handles::number::Number;
 use nfs_inodes::new_file::NewFile;
 use nfs_inodes::tree::Tree;
@@ -151,7 +152,7 @@ fn look_up(tree: &Tree, rounds: u32) -> u64 {
 // So many times these bytes over those of the first file.
 fn write(tree: &mut Tree, bytes: &[u8], rounds: u32) {
     for _ in 0..rounds {
-        if tree.may_write(Number::new(3), 0, bytes.len()) {
+        if may_write(tree, Number::new(3), 0, bytes.len()) {
             let _ = tree.write_at(Number::new(3), 0, bytes, START);
         }
     }

@@ -11,7 +11,7 @@ use Rattle.nfs_inodes.specs.Tree.{Entry}
 use Rattle.nfs_dirs.specs.declared.answer.Page.{Page}
 use Rattle.nfs_dirs.specs.declared.answer.TooSmall.{TooSmall}
 use Rattle.nfs_dirs.specs.declared.listed.Listed.{Listed}
-use Rattle.nfs_dirs.specs.Pages.{page_head_bytes, count_of, chosen, is_too_small, is_end, Answers}
+use Rattle.nfs_dirs.specs.Pages.{page_head_bytes, count_of, chosen, is_too_small, is_end, AnswersPage}
 use Rattle.nfs_dirs.specs.Walk.{left_of, IsCutOff}
 use Rattle.nfs_dirs.proofs.Prefixes.{Narrows, all_chosen, some_chosen, chosen_are, not_too_small}
 
@@ -39,7 +39,7 @@ no_entries (x ∷ es) e = absurd (omega (arith, e))
 
 module _ (passes : List Entry → Bool) (narrows : Narrows passes) (text : List Entry → List ℕ) (Spelled : List Entry → Type 0) (left es : List Entry) (fit : passes es ≡ true) (old mid new : Written) (before : Appends (text es) old mid) (spelled : Spelled es) where
   answered : (rest : List Entry) → left ≡ es ++ rest → count_of passes left ≡ length es → is_too_small passes left ≡ false → (eof : Bool) → nat_eq (length es) (length left) ≡ eof → Appends (page_end_text eof) mid new
-      → (page : Page) → page ≡ record { given = length es; eof = eof } → Answers passes text Spelled left (Ok page) old new
+      → (page : Page) → page ≡ record { given = length es; eof = eof } → AnswersPage passes text Spelled left (Ok page) old new
   answered rest e count large eof end after page is = let ended : is_end passes left ≡ eof = ap (λ n. nat_eq n (length left)) count ∙ end in (
     large,
     is ∙ ap (λ n. record { given = n; eof = eof }) (sym count) ∙ ap (λ b. record { given = count_of passes left; eof = b }) (sym ended),
@@ -48,7 +48,7 @@ module _ (passes : List Entry → Bool) (narrows : Narrows passes) (text : List 
   )
 
   -- the directory ends behind the entries
-  pub walk_ended : left ≡ es ++ [] → Appends (page_end_text true) mid new → (page : Page) → page ≡ record { given = length es; eof = true } → Answers passes text Spelled left (Ok page) old new
+  pub walk_ended : left ≡ es ++ [] → Appends (page_end_text true) mid new → (page : Page) → page ≡ record { given = length es; eof = true } → AnswersPage passes text Spelled left (Ok page) old new
   walk_ended e after page is = let same : length es ≡ length left = ap length (sym (append-nil es) ∙ sym e) in
       answered [] e (all_chosen passes narrows left es fit e) (large es refl) true (eq-eqb (length es) (length left) same) after page is
     where
@@ -57,7 +57,7 @@ module _ (passes : List Entry → Bool) (narrows : Narrows passes) (text : List 
       large (x ∷ l) some = not_too_small passes narrows left es fit [] e (let n = ap length some in omega (arith, n))
 
   -- the next entry doesn't fit
-  pub walk_cut_off : (text [] ≡ []) → (x : Entry) (rest : List Entry) → left ≡ es ++ x ∷ rest → passes (es ++ x ∷ []) ≡ false → (given : ℕ) → given ≡ length es → (result : Result Page TooSmall) → IsCutOff given result mid new → Answers passes text Spelled left result old new
+  pub walk_cut_off : (text [] ≡ []) → (x : Entry) (rest : List Entry) → left ≡ es ++ x ∷ rest → passes (es ++ x ∷ []) ≡ false → (given : ℕ) → given ≡ length es → (result : Result Page TooSmall) → IsCutOff given result mid new → AnswersPage passes text Spelled left result old new
   walk_cut_off none x rest e unfit given count (Ok page) cut =
       let some : 0 < length es = omega (arith, cut.0, count) in
       let more : length left ≡ length es + length (x ∷ rest) = ap length e ∙ length-append es (x ∷ rest) in

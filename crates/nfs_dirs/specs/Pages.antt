@@ -88,12 +88,12 @@ entry_plus_told t searchable e = entry_plus_with e
 
 -- A page of what is left is appended: the longest prefix that passes, each entry of it as it is spelled, and
 -- whether that is all. Or nothing is, where not even the first entry passes.
-abbrev pub Answers : (List Entry → Bool) → (List Entry → List ℕ) → (List Entry → Type 0) → List Entry → Result Page TooSmall
+abbrev pub AnswersPage : (List Entry → Bool) → (List Entry → List ℕ) → (List Entry → Type 0) → List Entry → Result Page TooSmall
     → Written → Written → Type 0
-Answers passes text Spelled left (Ok page) old new =
+AnswersPage passes text Spelled left (Ok page) old new =
     (is_too_small passes left ≡ false) × (page ≡ record { given = count_of passes left; eof = is_end passes left })
     × Appends (text (chosen passes left) ++ page_end_text (is_end passes left)) old new × Spelled (chosen passes left)
-Answers passes text Spelled left (Err refusal) old new = (is_too_small passes left ≡ true) × (new ≡ old)
+AnswersPage passes text Spelled left (Err refusal) old new = (is_too_small passes left ≡ true) × (new ≡ old)
 
 -- the chains of READDIR and READDIRPLUS, without their ends
 abbrev pub entries_text : List Entry → List ℕ

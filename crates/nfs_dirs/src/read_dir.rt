@@ -5,7 +5,8 @@ ghost use Rattle.nfs_args.specs.Chains.{chained_text};
 ghost use Rattle.nfs_args.specs.Pages.{IsEntry, entry_text};
 ghost use Rattle.nfs_inodes.specs.Views.{entry_seen, IsSeen};
 ghost use Rattle.nfs_args.specs.Sizes.{max_page};
-ghost use Rattle.nfs_dirs.specs.Pages.{page_front_bytes, entry_bytes, entry_told, entries_text, EntriesSpelled, fits, left_after, Answers};
+ghost use Rattle.nfs_dirs.specs.Pages.{page_front_bytes, entry_bytes, entry_told, entries_text, EntriesSpelled};
+ghost use Rattle.nfs_dirs.specs.Pages.{fits, left_after, AnswersPage};
 
 use crate::answer::{Page, TooSmall, cut_off};
 use crate::limits::{PAGE_HEAD_BYTES, entry_bytes};
@@ -31,7 +32,7 @@ pub fn page(
 ) -> Result<Page, TooSmall>
     requires seen { IsSeen tree.now dir.now }
     requires room { max_page ≤ out.old.room + page_front_bytes }
-    ensures { Answers (fits count) entries_text EntriesSpelled (left_after tree.now dir.now.attributes.fileid cookie) result
+    ensures { AnswersPage (fits count) entries_text EntriesSpelled (left_after tree.now dir.now.attributes.fileid cookie) result
         out.old out.new }
 {
     let bound = (count as usize).min(MAX_PAGE_BYTES);

@@ -6,7 +6,7 @@ ghost use Rattle.nfs_args.specs.Pages.{IsEntryPlus, entry_plus_text};
 ghost use Rattle.nfs_inodes.specs.Views.{entry_seen, IsSeen};
 ghost use Rattle.nfs_args.specs.Sizes.{max_page};
 ghost use Rattle.nfs_dirs.specs.Pages.{page_front_bytes, entry_bytes, plus_bytes, entry_plus_told, entries_plus_text};
-ghost use Rattle.nfs_dirs.specs.Pages.{EntriesPlusSpelled, fits_plus, left_after, Answers};
+ghost use Rattle.nfs_dirs.specs.Pages.{EntriesPlusSpelled, fits_plus, left_after, AnswersPage};
 
 use crate::answer::{Page, TooSmall, cut_off};
 use crate::limits::{PAGE_HEAD_BYTES, entry_bytes, plus_bytes};
@@ -37,7 +37,7 @@ pub fn page_plus(
 ) -> Result<Page, TooSmall>
     requires seen { IsSeen tree.now dir.now }
     requires room { max_page ≤ out.old.room + page_front_bytes }
-    ensures { Answers (fits_plus dircount maxcount searchable) (entries_plus_text tree.now searchable)
+    ensures { AnswersPage (fits_plus dircount maxcount searchable) (entries_plus_text tree.now searchable)
         (EntriesPlusSpelled tree.now searchable) (left_after tree.now dir.now.attributes.fileid cookie) result out.old out.new }
 {
     let bound = (maxcount as usize).min(MAX_PAGE_BYTES);

@@ -12,10 +12,10 @@ use Rattle.nfs_inodes.specs.Counts.{CountedFile, Agrees, tree_in}
 use Rattle.nfs_inodes.specs.Storage.{counted_file_of, counted_volume_of, counted_tree_of}
 use Rattle.nfs_inodes.specs.StoredFiles.{Revalues, IsThere, SetsAttributes}
 use Rattle.nfs_inodes.specs.StepConditions.{retagged}
-use Rattle.nfs_inodes.proofs.Alike.{Alike}
-use Rattle.nfs_inodes.proofs.Settings.{given_alike, set_is, law_after_set}
+use Rattle.nfs_inodes.proofs.law.Alike.{Alike}
+use Rattle.nfs_inodes.proofs.law.Settings.{given_alike, set_is, law_after_set}
 use Rattle.nfs_inodes.proofs.StoredFiles.{counted_file, at_counted_file}
-use Rattle.nfs_inodes.proofs.Recounts.{agrees_alike, agrees_but_none, same_totals, view_recounted, kept_revalued}
+use Rattle.nfs_inodes.proofs.counts.FileChanged.{agrees_alike, agrees_but_none, same_totals, view_recounted, kept_revalued}
 use Rattle.nfs_inodes.proofs.Views.{kept_at, lives}
 
 -- a file of the tree is kept

@@ -16,12 +16,12 @@ use Rattle.nfs_inodes.specs.StoredFiles.{Revalues, TakesBytes, Writes}
 use Rattle.nfs_inodes.specs.declared.stored_files.Growth.{Growth}
 use Rattle.nfs_inodes.specs.StepConditions.{HasRoomFor, retagged}
 use Rattle.nfs_inodes.proofs.Lists.{same_some}
-use Rattle.nfs_inodes.proofs.Alike.{Alike, bytes_changed, count_changed}
+use Rattle.nfs_inodes.proofs.law.Alike.{Alike, bytes_changed, count_changed}
 use Rattle.nfs_inodes.proofs.StoredFiles.{counted_file, at_counted_file}
-use Rattle.nfs_inodes.proofs.Operations.{overwritten_alike, overwritten_bytes, law_after_write_at}
+use Rattle.nfs_inodes.proofs.law.Operations.{overwritten_alike, overwritten_bytes, law_after_write_at}
 use Rattle.nfs_inodes.proofs.Bytes.{length_put}
-use Rattle.nfs_inodes.proofs.NewFiles.{impossible}
-use Rattle.nfs_inodes.proofs.Recounts.{AreLimits, agrees_alike, agrees_but_none, totals_moved, totals_nothing, volumes_moved, view_recounted, kept_revalued}
+use Rattle.nfs_inodes.proofs.law.NewFiles.{impossible}
+use Rattle.nfs_inodes.proofs.counts.FileChanged.{AreLimits, agrees_alike, agrees_but_none, totals_moved, totals_nothing, volumes_moved, view_recounted, kept_revalued}
 use Rattle.nfs_inodes.proofs.Views.{kept_at, lives}
 use Rattle.nfs_inodes.proofs.Steps.{stored_volume_of}
 

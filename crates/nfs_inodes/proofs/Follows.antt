@@ -19,13 +19,13 @@ use Rattle.nfs_inodes.specs.Laws.{Follows, ChangesFollow, HandlesAreForGood}
 use Rattle.nfs_inodes.proofs.Lists.{by_test, by_number, if_true, if_false}
 use Rattle.nfs_inodes.proofs.Maps.{at_shows, at_with_other}
 use Rattle.nfs_inodes.proofs.Numbers.{numbered_born, numbered_changed, numbered_gone}
-use Rattle.nfs_inodes.proofs.Births.{stays}
-use Rattle.nfs_inodes.proofs.Gains.{gained_is}
-use Rattle.nfs_inodes.proofs.Operations.{apart_kinds, linked_is, touched_is}
-use Rattle.nfs_inodes.proofs.Settings.{resized_is, set_is}
-use Rattle.nfs_inodes.proofs.Unlinks.{unlinked_is, may_be_released, law_after_unlink}
-use Rattle.nfs_inodes.proofs.Carries.{first, second, carried_is, may_move, may_gain}
-use Rattle.nfs_inodes.proofs.Renames.{Ready, renamed_new, renamed_same, renamed_over, ready_new, ready_over, may_unlink}
+use Rattle.nfs_inodes.proofs.law.WithNewFile.{stays}
+use Rattle.nfs_inodes.proofs.law.WithEntry.{gained_is}
+use Rattle.nfs_inodes.proofs.law.Operations.{apart_kinds, linked_is, touched_is}
+use Rattle.nfs_inodes.proofs.law.Settings.{resized_is, set_is}
+use Rattle.nfs_inodes.proofs.law.Unlinks.{unlinked_is, may_be_released, law_after_unlink}
+use Rattle.nfs_inodes.proofs.law.Carried.{first, second, carried_is, may_move, may_gain}
+use Rattle.nfs_inodes.proofs.law.Renames.{Ready, renamed_new, renamed_same, renamed_over, ready_new, ready_over, may_unlink}
 
 itself : (t : Tree) → Follows t t
 itself t = record { changes = []; run = refl }

@@ -18,13 +18,13 @@ use Rattle.nfs_inodes.specs.Removals.{HasRoomAt, Leaves}
 use Rattle.nfs_inodes.specs.Renamings.{MovesTo, Carries, HasCarried}
 use Rattle.nfs_inodes.proofs.Lists.{if_false, same_some}
 use Rattle.nfs_inodes.proofs.Maps.{at_with_same, at_with_other, rising_bounds}
-use Rattle.nfs_inodes.proofs.Gains.{gained_is}
+use Rattle.nfs_inodes.proofs.law.WithEntry.{gained_is}
 use Rattle.nfs_inodes.proofs.StoredFiles.{at_counted_file}
-use Rattle.nfs_inodes.proofs.Recounts.{AgreesBut, recounted, view_recounted, kept_as}
-use Rattle.nfs_inodes.proofs.Leavings.{names_apart, nlink_less_elsewhere}
-use Rattle.nfs_inodes.proofs.Moves.{MayMove, has_moved, names_moved, nlink_moved}
-use Rattle.nfs_inodes.proofs.Carries as carries
-use Rattle.nfs_inodes.proofs.CountedCarries.{counted_moved, agrees_moved, counted_entered, agrees_entered}
+use Rattle.nfs_inodes.proofs.counts.FileChanged.{AgreesBut, recounted, view_recounted, kept_as}
+use Rattle.nfs_inodes.proofs.law.WithoutEntry.{names_apart, nlink_less_elsewhere}
+use Rattle.nfs_inodes.proofs.law.Moved.{MayMove, has_moved, names_moved, nlink_moved}
+use Rattle.nfs_inodes.proofs.law.Carried as carries
+use Rattle.nfs_inodes.proofs.counts.Carried.{counted_moved, agrees_moved, counted_entered, agrees_entered}
 use Rattle.nfs_inodes.proofs.KeptLeavings as leavings
 use Rattle.nfs_inodes.proofs.KeptLeavings.{NamesFile, room_revalued}
 use Rattle.nfs_inodes.proofs.Tests.{no_entry_named}

@@ -16,11 +16,11 @@ use Rattle.nfs_inodes.specs.StepConditions.{retagged}
 use Rattle.nfs_inodes.specs.Removals.{HasRoomAt, LosesEntry, Leaves}
 use Rattle.nfs_inodes.proofs.Lists.{by_number, same_some}
 use Rattle.nfs_inodes.proofs.Maps.{at_with_other, at_without_other}
-use Rattle.nfs_inodes.proofs.Gains.{one_same}
+use Rattle.nfs_inodes.proofs.law.WithEntry.{one_same}
 use Rattle.nfs_inodes.proofs.StoredFiles.{counted_file, at_counted_file, at_value_same, at_value_other}
-use Rattle.nfs_inodes.proofs.Recounts.{AgreesBut, view_recounted, kept_as}
-use Rattle.nfs_inodes.proofs.Leavings.{names_apart, one_less, nlink_less_there}
-use Rattle.nfs_inodes.proofs.CountedRemovals.{counted_left, agrees_left}
+use Rattle.nfs_inodes.proofs.counts.FileChanged.{AgreesBut, view_recounted, kept_as}
+use Rattle.nfs_inodes.proofs.law.WithoutEntry.{names_apart, one_less, nlink_less_there}
+use Rattle.nfs_inodes.proofs.counts.Removals.{counted_left, agrees_left}
 use Rattle.nfs_inodes.proofs.Views.{kept_at, lives}
 
 -- ---- room for an entry

@@ -22,15 +22,15 @@ use Rattle.nfs_inodes.specs.StepConditions.{retagged}
 use Rattle.nfs_inodes.specs.Removals.{HasRoomAt, Leaves, LosesLink, Goes, Stays, is_last, HasEntries, HasTotals, Removes, Stands}
 use Rattle.nfs_inodes.proofs.Lists.{by_test, if_true, if_false, same_some, not_both, true_and_false}
 use Rattle.nfs_inodes.proofs.Maps.{apart_number, shows_without, sum_some}
-use Rattle.nfs_inodes.proofs.Alike.{bytes_here}
-use Rattle.nfs_inodes.proofs.Operations.{touched_is}
+use Rattle.nfs_inodes.proofs.law.Alike.{bytes_here}
+use Rattle.nfs_inodes.proofs.law.Operations.{touched_is}
 use Rattle.nfs_inodes.proofs.StoredFiles.{counted_file, value_found}
-use Rattle.nfs_inodes.proofs.Recounts.{AgreesBut, recounted, view_recounted, kept_as, totals_nothing}
-use Rattle.nfs_inodes.proofs.Departures.{MayBeReleased, MayBeRemoved}
+use Rattle.nfs_inodes.proofs.counts.FileChanged.{AgreesBut, recounted, view_recounted, kept_as, totals_nothing}
+use Rattle.nfs_inodes.proofs.law.WithoutFile.{MayBeReleased, MayBeRemoved}
 use Rattle.nfs_inodes.proofs.KeptLeavings as leavings
 use Rattle.nfs_inodes.proofs.KeptLeavings.{NamesFile, room_revalued, room_without}
-use Rattle.nfs_inodes.proofs.Unlinks.{entry_is, unlinked_is, other_file, may_be_released}
-use Rattle.nfs_inodes.proofs.CountedRemovals.{counted_gone, agrees_gone, view_gone, counted_kept, agrees_kept}
+use Rattle.nfs_inodes.proofs.law.Unlinks.{entry_is, unlinked_is, other_file, may_be_released}
+use Rattle.nfs_inodes.proofs.counts.Removals.{counted_gone, agrees_gone, view_gone, counted_kept, agrees_kept}
 use Rattle.nfs_inodes.proofs.Steps.{stored_volume_of}
 
 -- ---- one kept file

@@ -18,8 +18,8 @@ use Rattle.nfs_inodes.specs.StoredFiles.{SameFiles, TakesEntry}
 use Rattle.nfs_inodes.specs.Removals.{HasRoomAt, Removes}
 use Rattle.nfs_inodes.specs.Renamings.{Carries, HasCarried, Renames}
 use Rattle.nfs_inodes.proofs.Lists.{same_some, none_from, not_both}
-use Rattle.nfs_inodes.proofs.Unlinks.{entry_is, other_file}
-use Rattle.nfs_inodes.proofs.Renames as renames
+use Rattle.nfs_inodes.proofs.law.Unlinks.{entry_is, other_file}
+use Rattle.nfs_inodes.proofs.law.Renames as renames
 use Rattle.nfs_inodes.proofs.Views.{mapped}
 use Rattle.nfs_inodes.proofs.Steps.{same_counted, takes_entry_at}
 

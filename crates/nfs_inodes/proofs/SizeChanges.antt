@@ -16,10 +16,10 @@ use Rattle.nfs_inodes.specs.StoredFiles.{Revalues, TakesSize, TakesGrowth, Resiz
 use Rattle.nfs_inodes.specs.StepConditions.{HasBytes, retagged}
 use Rattle.nfs_inodes.proofs.Lists.{same_some}
 use Rattle.nfs_inodes.proofs.Maps.{sum_some}
-use Rattle.nfs_inodes.proofs.Alike.{Alike, bytes_here, bytes_changed, count_changed}
-use Rattle.nfs_inodes.proofs.Settings.{resized_alike, length_resized, resized_is, law_after_resize}
+use Rattle.nfs_inodes.proofs.law.Alike.{Alike, bytes_here, bytes_changed, count_changed}
+use Rattle.nfs_inodes.proofs.law.Settings.{resized_alike, length_resized, resized_is, law_after_resize}
 use Rattle.nfs_inodes.proofs.StoredFiles.{counted_file, at_counted_file, value_found}
-use Rattle.nfs_inodes.proofs.Recounts.{AreLimits, agrees_alike, agrees_but_none, totals_moved, volumes_moved, view_recounted, kept_revalued}
+use Rattle.nfs_inodes.proofs.counts.FileChanged.{AreLimits, agrees_alike, agrees_but_none, totals_moved, volumes_moved, view_recounted, kept_revalued}
 use Rattle.nfs_inodes.proofs.Views.{kept_at, lives, lives_there}
 use Rattle.nfs_inodes.proofs.Steps.{stored_volume_of}
 

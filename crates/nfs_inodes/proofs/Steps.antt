@@ -23,11 +23,11 @@ use Rattle.nfs_handles.specs.Changes.{Adds}
 use Rattle.std.proofs.lemmas.List.{map-append, length-map}
 use Rattle.nfs_inodes.proofs.Maps.{rising_bounds, shows_push}
 use Rattle.nfs_inodes.proofs.StoredFiles.{counted_file, at_counted_file, same_files}
-use Rattle.nfs_inodes.proofs.Counts.{CountsNewFile, counted_after_make, view_after_make, agree_after_make}
-use Rattle.nfs_inodes.proofs.CountsMore.{counted_after_link, CountsLink, view_after_link, agree_after_link, counted_after_add_volume, view_after_add_volume, agree_after_add_volume}
-use Rattle.nfs_inodes.proofs.Operations.{apart_kinds}
-use Rattle.nfs_inodes.proofs.NewFiles.{new_here, may_be_founded}
-use Rattle.nfs_inodes.proofs.Births.{MayBeFounded}
+use Rattle.nfs_inodes.proofs.counts.Operations.{CountsNewFile, counted_after_make, view_after_make, agree_after_make}
+use Rattle.nfs_inodes.proofs.counts.Additions.{counted_after_link, CountsLink, view_after_link, agree_after_link, counted_after_add_volume, view_after_add_volume, agree_after_add_volume}
+use Rattle.nfs_inodes.proofs.law.Operations.{apart_kinds}
+use Rattle.nfs_inodes.proofs.law.NewFiles.{new_here, may_be_founded}
+use Rattle.nfs_inodes.proofs.law.WithNewFile.{MayBeFounded}
 use Rattle.nfs_inodes.proofs.Tests.{like_there, no_entry_named}
 use Rattle.nfs_inodes.proofs.Views.{lives, kept_at, mapped, place_there, stored_volume_at, stored_volume_counted}
 

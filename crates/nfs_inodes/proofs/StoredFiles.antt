@@ -17,7 +17,7 @@ use Rattle.nfs_inodes.specs.StoredFiles.{TakesEntry, HasNoEntry, Revalues, SameF
 use Rattle.nfs_inodes.specs.declared.stored_files.Growth.{Growth}
 use Rattle.nfs_inodes.proofs.Lists.{same_some}
 use Rattle.nfs_inodes.proofs.Bytes.{length_put}
-use Rattle.nfs_inodes.proofs.Operations.{overwritten_bytes}
+use Rattle.nfs_inodes.proofs.law.Operations.{overwritten_bytes}
 use Rattle.nfs_inodes.proofs.Maps.{at_shows, shows_with, shows_push, at_with_same, at_with_other, at_push_other}
 
 -- what is shown of a kept file

@@ -1,5 +1,5 @@
 -- What the tests of conditions tell: each is true just where its condition holds.
-use Rattle.std.proofs.Common.{◌≡◌, ◌≢◌, ℕ, ◌+◌, ◌-◌, ◌<◌, ◌≤◌, Bool, true, false, true≢false, List, [], ◌∷◌, map, length, Option, Some, None, option_map, refl, sym, ap, subst, ◌∙◌, arith}
+use Rattle.std.proofs.Common.{◌≡◌, ◌≢◌, ℕ, ◌+◌, ◌<◌, ◌≤◌, Bool, true, false, true≢false, List, [], ◌∷◌, map, Option, Some, None, option_map, refl, sym, ap, subst, ◌∙◌, arith}
 use Rattle.std.specs.Prelude.{◌&&◌, bytes_eq, cond, slice_get, All, not, is_some, is_none}
 use Rattle.std.specs.Bool.{Decides}
 use Rattle.std.specs.List.{find}
@@ -12,24 +12,20 @@ use Rattle.nfs_entries.specs.Listing.{Listed}
 use Rattle.nfs_inodes.specs.declared.stored_file.StoredFile.{StoredFile}
 use Rattle.nfs_inodes.specs.declared.stored_file.Node.TheVariants as node
 use Rattle.nfs_inodes.specs.declared.stored_volume.StoredVolume.{StoredVolume}
-use Rattle.nfs_inodes.specs.Tree.{Tree, File, Kind, Directory, Entry, Volume, entries_in, bytes_in, next_cookie_in, is_directory, is_regular, nlink, names_of, bytes_of, files_of}
-use Rattle.nfs_inodes.specs.Law.{Law, IsName, Lives}
-use Rattle.nfs_inodes.specs.Conditions.{MayEnter, MayMake, MayMakeDirectory, MayLink, MayWrite, MayResize}
+use Rattle.nfs_inodes.specs.Tree.{Tree, File, Kind, Directory, Entry, Volume, entries_in, next_cookie_in, is_directory, nlink, names_of, bytes_of, files_of}
+use Rattle.nfs_inodes.specs.Law.{IsName, Lives}
+use Rattle.nfs_inodes.specs.Conditions.{MayEnter, MayMake, MayMakeDirectory, MayLink}
 use Rattle.nfs_inodes.specs.Counts.{CountedVolume, Agrees, tree_in}
 use Rattle.nfs_inodes.specs.Storage.{file_of, kind_of, counted_tree_of, counted_volume_of, volume_of}
-use Rattle.nfs_inodes.specs.StepConditions.{TakesName, TakesFile, MayGainLink, HasSpaceIn, HasRoomIn}
+use Rattle.nfs_inodes.specs.StepConditions.{TakesName, TakesFile, MayGainLink, HasRoomIn}
 use Rattle.nfs_inodes.specs.Reading.{entry_named, number_named, place_where}
-use Rattle.nfs_inodes.proofs.Lists.{by_number, same_some, not_both, if_false}
+use Rattle.nfs_inodes.proofs.Lists.{same_some, not_both, if_false}
 use Rattle.nfs_inodes.proofs.Views.{filed, lives_there, none_there, stored_volume_at, stored_volume_counted}
 use Rattle.nfs_inodes.proofs.StoredFiles.{counted_file, at_counted_file}
 
 -- `false`, where it can't hold
 pub never : {P : Type 0} → (P → ⊥) → Decides false P
 never refuted = (λ e. absurd (true≢false (sym e)), λ p. absurd (refuted p))
-
--- `true`, where it holds
-pub always : {P : Type 0} → P → Decides true P
-always holds = (λ e. holds, λ p. refl)
 
 -- ---- searches that find nothing
 
@@ -134,13 +130,13 @@ module _ (a : NumberedFiles StoredFile) (stored_volumes : List StoredVolume) (t 
   makes d size i name e takes =
       let enter = enters d i name e takes.entry in
       let room : HasRoomIn t enter.dir.volume size = subst (λ p. HasRoomIn t p size) (like_there d i e enter.dir enter.at_dir.0).0 takes.room in
-      record { enter = enter; number = takes.number; volume = room.space.volume; at_volume = room.space.at_volume; files = room.files; bytes = room.space.bytes; large = takes.large }
+      record { enter = enter; number = takes.number; volume = room.volume; at_volume = room.at_volume; files = room.files; bytes = room.bytes; large = takes.large }
 
   with_named_file : (d size : ℕ) (i : StoredFile) (name : List ℕ) → Some i ≡ value_at a d → MayMake t d name size → TakesFile t i name size
   with_named_file d size i name e may = record {
     entry = entered d i name e may.enter;
     number = may.number;
-    room = subst (λ p. HasRoomIn t p size) (sym (like_there d i e may.enter.dir may.enter.at_dir.0).0) (record { space = record { volume = may.volume; at_volume = may.at_volume; bytes = may.bytes }; files = may.files });
+    room = subst (λ p. HasRoomIn t p size) (sym (like_there d i e may.enter.dir may.enter.at_dir.0).0) (record { volume = may.volume; at_volume = may.at_volume; files = may.files; bytes = may.bytes });
     large = may.large;
   }
 
@@ -198,28 +194,22 @@ module _ (a : NumberedFiles StoredFile) (stored_volumes : List StoredVolume) (t 
     files_there : (place : ℕ) (s : StoredVolume) → slice_get stored_volumes place ≡ Some s → s.files ≡ files_of place t.files
     files_there place s e = (keeps.totals place (counted_volume_of s) (stored_volume_counted stored_volumes place s e)).files ∙ ap (λ (t : Tree). files_of place t.files) view
 
-    pub space_there : (place size : ℕ) (s : StoredVolume) (b : Bool) → slice_get stored_volumes place ≡ Some s → Decides b (s.bytes + size ≤ s.max_bytes) → Decides b (HasSpaceIn t place size)
-    space_there place size s b e fits = Decides-like b
-        (λ fits. let has = bytes_there place s e in record { volume = volume_of s; at_volume = volume_there place s e; bytes = omega (arith, has, fits) })
-        (λ (space : HasSpaceIn t place size). let has = bytes_there place s e in let fits = space.bytes in
-        let limit : s.max_bytes ≡ space.volume.max_bytes = ap (λ (v : Volume). v.max_bytes) (its_limits place s space.volume e space.at_volume) in
+    pub room_there : (place size : ℕ) (s : StoredVolume) (b : Bool) → slice_get stored_volumes place ≡ Some s → s.files < s.max_files → Decides b (s.bytes + size ≤ s.max_bytes) → Decides b (HasRoomIn t place size)
+    room_there place size s b e few fits = Decides-like b
+        (λ fits. let bytes = bytes_there place s e in let files = files_there place s e in
+        record { volume = volume_of s; at_volume = volume_there place s e; files = omega (arith, files, few); bytes = omega (arith, bytes, fits) })
+        (λ (room : HasRoomIn t place size). let has = bytes_there place s e in let fits = room.bytes in
+        let limit : s.max_bytes ≡ room.volume.max_bytes = ap (λ (v : Volume). v.max_bytes) (its_limits place s room.volume e room.at_volume) in
         omega (arith, has, fits, limit))
         fits
 
-    pub room_there : (place size : ℕ) (s : StoredVolume) (b : Bool) → slice_get stored_volumes place ≡ Some s → s.files < s.max_files → Decides b (s.bytes + size ≤ s.max_bytes) → Decides b (HasRoomIn t place size)
-    room_there place size s b e few fits = Decides-like b
-        (λ space. let limit : s.max_files ≡ space.volume.max_files = ap (λ (v : Volume). v.max_files) (its_limits place s space.volume e space.at_volume) in
-        let has = files_there place s e in record { space = space; files = omega (arith, has, few, limit) })
-        (λ (room : HasRoomIn t place size). room.space)
-        (space_there place size s b e fits)
-
     pub full : (place size : ℕ) (s : StoredVolume) → slice_get stored_volumes place ≡ Some s → s.max_files ≤ s.files → HasRoomIn t place size → ⊥
     full place size s e many room =
-        let limit : s.max_files ≡ room.space.volume.max_files = ap (λ (v : Volume). v.max_files) (its_limits place s room.space.volume e room.space.at_volume) in
+        let limit : s.max_files ≡ room.volume.max_files = ap (λ (v : Volume). v.max_files) (its_limits place s room.volume e room.at_volume) in
         let has = files_there place s e in let few = room.files in omega (arith, has, many, few, limit)
 
-  pub no_space : (place size : ℕ) → slice_get stored_volumes place ≡ None → HasSpaceIn t place size → ⊥
-  no_space place size e space = let s = stored_volume_at stored_volumes place space.volume (subst (λ (t : Tree). slice_get t.volumes place ≡ Some space.volume) (sym view) space.at_volume) in not_both e s.1
+  pub no_room : (place size : ℕ) → slice_get stored_volumes place ≡ None → HasRoomIn t place size → ⊥
+  no_room place size e room = let s = stored_volume_at stored_volumes place room.volume (subst (λ (t : Tree). slice_get t.volumes place ≡ Some room.volume) (sym view) room.at_volume) in not_both e s.1
 
   -- ---- tests of an entry for a file that is there
 
@@ -244,56 +234,3 @@ module _ (a : NumberedFiles StoredFile) (stored_volumes : List StoredVolume) (t 
     volume = may.volume ∙ sym (like_there d i e may.enter.dir may.enter.at_dir.0).0;
     links = may.links;
   }
-
-  -- ---- tests of bytes
-
-  pub writes_there : (n offset count grown : ℕ) (i : StoredFile) (b : Bool) → Some i ≡ value_at a n → is_regular (kind_of i.node) ≡ true → (0 < count → offset + count ≤ 16777216) → 0 < count → grown ≡ offset + count - length (bytes_in (kind_of i.node)) → Decides b (HasSpaceIn t i.volume grown) → Decides b (MayWrite t n offset count)
-  writes_there n offset count grown i b e regular large some is space = Decides-like b
-      (λ (space : HasSpaceIn t i.volume grown). let s = shown_there n i e in record {
-        file = file_of s.0 i;
-        at_file = s.1;
-        regular = regular;
-        large = large;
-        volume = space.volume;
-        at_volume = space.at_volume;
-        room = λ more. let room = space.bytes in omega (arith, room, is);
-      })
-      (λ (may : MayWrite t n offset count). let like = like_there n i e may.file may.at_file in
-      let room = may.room some in
-      let long : length (bytes_in (kind_of i.node)) ≡ length (bytes_in may.file.kind) = ap (λ k. length (bytes_in k)) like.1 in
-      let total : bytes_of i.volume t.files ≡ bytes_of may.file.volume t.files = ap (λ p. bytes_of p t.files) like.0 in
-      record { volume = may.volume; at_volume = ap (slice_get t.volumes) like.0 ∙ may.at_volume; bytes = omega (arith, room, is, long, total) })
-      space
-
-  pub written_to : (n offset count : ℕ) (i : StoredFile) → Some i ≡ value_at a n → MayWrite t n offset count → (is_regular (kind_of i.node) ≡ true) × (0 < count → offset + count ≤ 16777216)
-  written_to n offset count i e may = (ap is_regular (like_there n i e may.file may.at_file).1 ∙ may.regular, may.large)
-
-  -- no bytes need no room
-  pub writes_none : Agrees (counted_tree_of a stored_volumes) → (n offset : ℕ) (i : StoredFile) → Some i ≡ value_at a n → is_regular (kind_of i.node) ≡ true → MayWrite t n offset 0
-  writes_none keeps n offset i e regular =
-      let s = shown_there n i e in
-      let v = (subst Law view keeps.law).placed n (file_of s.0 i) s.1 in
-      record { file = file_of s.0 i; at_file = s.1; regular = regular; large = λ more. absurd (omega (arith, more)); volume = v.0; at_volume = v.1; room = λ more. absurd (omega (arith, more)) }
-
-  -- ---- tests of a size
-
-  pub resizes_there : (n size grown : ℕ) (i : StoredFile) (b : Bool) → Some i ≡ value_at a n → is_regular (kind_of i.node) ≡ true → (0 < size → 0 + size ≤ 16777216) → grown ≡ size - length (bytes_in (kind_of i.node)) → Decides b (HasSpaceIn t i.volume grown) → Decides b (MayResize t n size)
-  resizes_there n size grown i b e regular large is space = Decides-like b
-      (λ (space : HasSpaceIn t i.volume grown). let s = shown_there n i e in let room = space.bytes in record {
-        file = file_of s.0 i;
-        at_file = s.1;
-        regular = regular;
-        large = by_number size 0 (λ s. omega (arith, s)) (λ o. let l = large (omega (arith, o)) in omega (arith, l));
-        volume = space.volume;
-        at_volume = space.at_volume;
-        room = omega (arith, room, is);
-      })
-      (λ (may : MayResize t n size). let like = like_there n i e may.file may.at_file in
-      let room = may.room in
-      let long : length (bytes_in (kind_of i.node)) ≡ length (bytes_in may.file.kind) = ap (λ k. length (bytes_in k)) like.1 in
-      let total : bytes_of i.volume t.files ≡ bytes_of may.file.volume t.files = ap (λ p. bytes_of p t.files) like.0 in
-      record { volume = may.volume; at_volume = ap (slice_get t.volumes) like.0 ∙ may.at_volume; bytes = omega (arith, room, is, long, total) })
-      space
-
-  pub resized_to : (n size : ℕ) (i : StoredFile) → Some i ≡ value_at a n → MayResize t n size → (is_regular (kind_of i.node) ≡ true) × (0 < size → 0 + size ≤ 16777216)
-  resized_to n size i e may = let large = may.large in (ap is_regular (like_there n i e may.file may.at_file).1 ∙ may.regular, λ some. omega (arith, large))

@@ -14,7 +14,7 @@ use Rattle.nfs_inodes.specs.Storage.{file_of, counted_files, counted_volume_of, 
 use Rattle.nfs_inodes.proofs.Lists.{same_some, not_both}
 use Rattle.nfs_inodes.proofs.Maps.{at_shows}
 use Rattle.nfs_inodes.proofs.StoredFiles.{counted_file, at_counted_file}
-use Rattle.nfs_inodes.proofs.Counts.{shown}
+use Rattle.nfs_inodes.proofs.counts.Operations.{shown}
 
 -- a look-up shows nothing where there is nothing, and what it shows is of something
 pub mapped : {X Y : Type 0} (f : X → Y) (o : Option X) (y : Y) → option_map f o ≡ Some y → (x : X) × (o ≡ Some x) × (f x ≡ y)

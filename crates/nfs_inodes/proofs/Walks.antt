@@ -4,7 +4,7 @@ use Rattle.std.proofs.lemmas.Bool.{cases_lt}
 use Rattle.nfs_inodes.specs.Tree.{Tree, File, is_directory, parent_in, on_some}
 use Rattle.nfs_inodes.specs.Law.{Law, LivesAsDirectory, AreRising, climb, parent_of, directories}
 use Rattle.nfs_inodes.proofs.Lists.{by_number, by_test, if_true, if_false}
-use Rattle.nfs_inodes.proofs.Climbs.{climb_add, climb_stuck, reached_in_few}
+use Rattle.nfs_inodes.proofs.law.Ancestors.{climb_add, climb_stuck, reached_in_few}
 
 -- so many steps have led from a directory to a number, each to another one, and none from the number that is looked for
 pub record Climbed (files : List (ℕ × File)) (dir above here steps : ℕ) : Type 0 where

@@ -1,14 +1,13 @@
 -- What the tree's own steps need.
-use Rattle.std.specs.Prelude.{◌≡◌, ℕ, ◌≢◌, ◌+◌, ◌-◌, ◌<◌, ◌≤◌, ◌^◌, All, Bool, true, false, List, [], Some, None, slice_get, length, if◌then◌else◌}
+use Rattle.std.specs.Prelude.{◌≡◌, ℕ, ◌≢◌, ◌+◌, ◌-◌, ◌<◌, ◌≤◌, ◌^◌, All, true, false, List, [], Some, slice_get, length, if◌then◌else◌}
 use Rattle.nfs_inodes.specs.Limits.{max_file_bytes, max_path_bytes, max_links}
 use Rattle.nfs_inodes.specs.declared.stored_file.StoredFile.{StoredFile}
 use Rattle.nfs_inodes.specs.declared.stored_volume.StoredVolume.{StoredVolume}
-use Rattle.nfs_inodes.specs.Tree.{Tree, File, Kind, Entry, at, on_some, is_directory, is_regular, entries_in, parent_in, next_cookie_in}
+use Rattle.nfs_inodes.specs.Tree.{Tree, File, Kind, is_directory, entries_in, parent_in, next_cookie_in}
 use Rattle.nfs_inodes.specs.Tree.{path_in, names_of, nlink, bytes_in, Volume, bytes_of, files_of}
-use Rattle.nfs_inodes.specs.Conditions.{MayMake, MayReplace, IsOff, IsNew}
+use Rattle.nfs_inodes.specs.Conditions.{MayMake, IsNew}
 use Rattle.nfs_inodes.specs.Storage.{file_of, kind_of}
-use Rattle.nfs_inodes.specs.Law.{IsName, Lives, LivesAsDirectory}
-use Rattle.nfs_inodes.specs.Reading.{entry_at}
+use Rattle.nfs_inodes.specs.Law.{IsName, Lives}
 
 -- the file with this tag
 abbrev pub retagged : File → ℕ → File
@@ -60,20 +59,12 @@ pub record TakesName (stored_file : StoredFile) (name : List ℕ) : Type 0 where
 abbrev pub TakesLinkIn : StoredFile → ℕ → Type 0
 TakesLinkIn f place = (is_directory (kind_of f.node) ≡ false) × (f.volume ≡ place) × (f.nlink < max_links)
 
--- a kept file is regular, and so many bytes at an offset, if any, are within the limit
-abbrev pub TakesCount : StoredFile → ℕ → ℕ → Type 0
-TakesCount f offset count = (is_regular (kind_of f.node) ≡ true) × (0 < count → offset + count ≤ max_file_bytes)
-
--- the volume at a place may have so many bytes more
-pub record HasSpaceIn (t : Tree) (place size : ℕ) : Type 0 where
+-- the volume at a place may have one file more, with so many bytes
+pub record HasRoomIn (t : Tree) (place size : ℕ) : Type 0 where
   pub volume : Volume
   pub at_volume : slice_get t.volumes place ≡ Some volume
+  pub files : files_of place t.files < volume.max_files
   pub bytes : bytes_of place t.files + size ≤ volume.max_bytes
-
--- and one file more
-pub record HasRoomIn (t : Tree) (place size : ℕ) : Type 0 where
-  pub space : HasSpaceIn t place size
-  pub files : files_of place t.files < space.volume.max_files
 
 -- a new file of so many bytes may have an entry of this name in a kept file, a directory
 pub record TakesFile (t : Tree) (stored_file : StoredFile) (name : List ℕ) (size : ℕ) : Type 0 where
@@ -89,61 +80,3 @@ pub record MayGainLink (t : Tree) (n place : ℕ) : Type 0 where
   pub not_directory : is_directory file.kind ≡ false
   pub volume : file.volume ≡ place
   pub links : names_of n t.files < max_links
-
--- ---- an entry that goes to another name
-
--- whether file n is a directory
-abbrev pub is_directory_at : Tree → ℕ → Bool
-is_directory_at t n = on_some (at n t.files) false (λ f. is_directory f.kind)
-
--- file n is a directory of the volume at a place
-pub record IsDirectoryIn (t : Tree) (n place : ℕ) : Type 0 where
-  pub dir : File
-  pub at_dir : LivesAsDirectory t n dir
-  pub volume : place ≡ dir.volume
-
--- file n lives, and d is a directory of its volume
-pub record IsNear (t : Tree) (n d : ℕ) : Type 0 where
-  pub file : File
-  pub at_file : Lives t n file
-  pub directory : IsDirectoryIn t d file.volume
-
--- directory d has a cookie left for an entry
-abbrev pub HasCookieLeft : Tree → ℕ → Type 0
-HasCookieLeft t d = (dir : File) → LivesAsDirectory t d dir → next_cookie_in dir.kind < 2 ^ 64 - 1
-
--- where file n is a directory, neither directory d nor any above it is n
-abbrev pub IsOffDirectory : Tree → ℕ → ℕ → Type 0
-IsOffDirectory t d n = (file : File) → LivesAsDirectory t n file → IsOff t d n
-
--- directory d may have a link more
-abbrev pub MayHaveLink : Tree → ℕ → Type 0
-MayHaveLink t d = (dir : File) → Lives t d dir → nlink t.files d dir < max_links
-
--- directory d may have a link more where file n of directory from, a directory, comes into another
-abbrev pub HasLinkFor : Tree → ℕ → ℕ → ℕ → Type 0
-HasLinkFor t n from d = d ≢ from → is_directory_at t n ≡ true → MayHaveLink t d
-
--- file n may take the place of file old
-abbrev pub ReplacesFile : Tree → ℕ → ℕ → Type 0
-ReplacesFile t old n = (file : File) → Lives t n file → MayReplace t old file
-
--- file n may come into directory d
-pub record MayArrive (t : Tree) (n d : ℕ) : Type 0 where
-  pub cookie : HasCookieLeft t d
-  pub off : IsOffDirectory t d n
-
--- file n may have a name of file old in directory to: it is the same file, or may take its place
-abbrev pub MayGoOver : Tree → ℕ → ℕ → ℕ → Type 0
-MayGoOver t n old to = old ≢ n → ReplacesFile t old n × MayArrive t n to
-
--- file n of directory from may have a name in directory to that is free
-abbrev pub MayGoTo : Tree → ℕ → ℕ → ℕ → Type 0
-MayGoTo t n from to = HasLinkFor t n from to × MayArrive t n to
-
--- file n of directory from may have this name in directory to
-pub record MayGo (t : Tree) (n from to : ℕ) (name : List ℕ) : Type 0 where
-  pub is_name : IsName name
-  pub near : IsNear t n to
-  pub over : (old : Entry) → entry_at t to name ≡ Some old → MayGoOver t n old.number to
-  pub free : entry_at t to name ≡ None → MayGoTo t n from to

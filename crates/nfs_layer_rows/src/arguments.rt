@@ -17,7 +17,7 @@ use nfs_args::set_attr::SetAttr;
 use nfs_args::sym_link::SymLink;
 use nfs_args::write::{Stability, Write};
 use nfs_xdr::input::Input;
-use rows::answers::{digits, text, then, told, with};
+use rows::answers::{debug_text, digits, text, then, with};
 use rows::words::{bytes, word};
 use std::alloc::Global;
 use std::str::SplitWhitespace;
@@ -85,7 +85,7 @@ fn cuts(alloc: Global, called: Called, bytes: &[u8]) -> Option<String> {
             unreadable = unreadable.saturating_add(1);
         }
     }
-    told(alloc, unreadable)
+    debug_text(alloc, unreadable)
 }
 
 // The positions at which a byte ff changes nothing.
@@ -103,7 +103,7 @@ fn positions(alloc: Global, called: Called, bytes: &[u8], want: &str) -> Option<
             positions.push(position).ok()?;
         }
     }
-    told(alloc, positions.as_slice())
+    debug_text(alloc, positions.as_slice())
 }
 
 // The bytes with ff at a position.

@@ -14,7 +14,7 @@ use nfs_attrs::time_setting::{read_time_setting, size_time_setting, write_time_s
 use nfs_attrs::wcc::{read_wcc, size_wcc, write_wcc};
 use nfs_xdr::input::Input;
 use nfs_xdr::output::Output;
-use rows::answers::{digits, left, text, told, with};
+use rows::answers::{debug_text, digits, left, text, with};
 use rows::words::{bytes, size};
 use std::alloc::Global;
 use std::str::SplitWhitespace;
@@ -42,15 +42,15 @@ fn read(alloc: Global, kind: &str, text: &[u8]) -> Option<String> {
 
 fn read_item(alloc: Global, kind: &str, input: &mut Input<'_>) -> Option<String> {
     match kind {
-        "ftype3" => told(alloc, read_file_type(input)),
-        "nfstime3" => told(alloc, read_moment(input)),
-        "fattr3" => told(alloc, read_fattr(input)),
-        "post_op_attr" => told(alloc, read_post_op_attr(input)),
-        "sattr3" => told(alloc, read_sattr(input)),
-        "set_time" => told(alloc, read_time_setting(input)),
-        "wcc_attr" => told(alloc, read_pre_attr(input)),
-        "pre_op_attr" => told(alloc, read_pre_op_attr(input)),
-        "wcc_data" => told(alloc, read_wcc(input)),
+        "ftype3" => debug_text(alloc, read_file_type(input)),
+        "nfstime3" => debug_text(alloc, read_moment(input)),
+        "fattr3" => debug_text(alloc, read_fattr(input)),
+        "post_op_attr" => debug_text(alloc, read_post_op_attr(input)),
+        "sattr3" => debug_text(alloc, read_sattr(input)),
+        "set_time" => debug_text(alloc, read_time_setting(input)),
+        "wcc_attr" => debug_text(alloc, read_pre_attr(input)),
+        "pre_op_attr" => debug_text(alloc, read_pre_op_attr(input)),
+        "wcc_data" => debug_text(alloc, read_wcc(input)),
         _ => None,
     }
 }
@@ -67,7 +67,7 @@ fn cuts(alloc: Global, words: &mut SplitWhitespace<'_>) -> Option<String> {
             short = short.saturating_add(1);
         }
     }
-    told(alloc, short)
+    debug_text(alloc, short)
 }
 
 // The item of a kind that the bytes spell, written; its size, and the room that is left.

@@ -1,7 +1,7 @@
 //! Credentials of AUTH_SYS.
 
 use nfs_rpc::auth_sys::{Cred, read_auth_sys};
-use rows::answers::{told, with};
+use rows::answers::{debug_text, with};
 use rows::words::bytes;
 use std::alloc::Global;
 use std::str::SplitWhitespace;
@@ -19,7 +19,7 @@ pub(crate) fn answer(alloc: Global, words: &mut SplitWhitespace<'_>) -> Option<S
 
 // User, group and groups.
 fn said(alloc: Global, cred: &Cred) -> Option<String> {
-    let ids = told(alloc, (cred.uid, cred.gid))?;
+    let ids = debug_text(alloc, (cred.uid, cred.gid))?;
     with(alloc, ids, "and", cred.gids.as_slice())
 }
 
@@ -28,7 +28,7 @@ fn of(alloc: Global, words: &mut SplitWhitespace<'_>) -> Option<String> {
     let body = bytes(alloc, words)?;
     match read_auth_sys(body.as_slice()) {
         Ok(cred) => said(alloc, &cred),
-        Err(fault) => told(alloc, fault),
+        Err(fault) => debug_text(alloc, fault),
     }
 }
 
@@ -40,7 +40,7 @@ fn again(alloc: Global, words: &mut SplitWhitespace<'_>) -> Option<String> {
     cred.read(first.as_slice()).ok()?;
     match cred.read(second.as_slice()) {
         Ok(()) => said(alloc, &cred),
-        Err(fault) => told(alloc, fault),
+        Err(fault) => debug_text(alloc, fault),
     }
 }
 
@@ -53,5 +53,5 @@ fn cuts(alloc: Global, words: &mut SplitWhitespace<'_>) -> Option<String> {
             refused = refused.saturating_add(1);
         }
     }
-    told(alloc, refused)
+    debug_text(alloc, refused)
 }

@@ -2,7 +2,7 @@
 
 use nfs_rpc::framer::{Fed, Framer};
 use nfs_rpc::record::seal_record;
-use rows::answers::{digits, text, then, told};
+use rows::answers::{debug_text, digits, text, then};
 use rows::words::{bytes, size, word};
 use std::alloc::Global;
 use std::str::SplitWhitespace;
@@ -48,8 +48,8 @@ impl Framing {
     fn feed(&mut self, words: &mut SplitWhitespace<'_>) -> Option<String> {
         let piece = bytes(self.alloc, words)?;
         match self.framer.feed(piece.as_slice()) {
-            Ok(fed) => told(self.alloc, (fed.used, fed.ready)),
-            Err(fault) => told(self.alloc, fault),
+            Ok(fed) => debug_text(self.alloc, (fed.used, fed.ready)),
+            Err(fault) => debug_text(self.alloc, fault),
         }
     }
 

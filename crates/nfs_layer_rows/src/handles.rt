@@ -2,7 +2,7 @@
 
 use nfs_handles::files::Files;
 use nfs_handles::number::Number;
-use rows::answers::{digits, text, told};
+use rows::answers::{debug_text, digits, text};
 use rows::words::{bytes, number};
 use std::alloc::Global;
 use std::str::SplitWhitespace;
@@ -52,17 +52,17 @@ impl Numbered {
 
     fn next(&self) -> Option<String> {
         let next = self.files.next();
-        told(self.alloc, next)
+        debug_text(self.alloc, next)
     }
 
     fn put(&mut self, words: &mut SplitWhitespace<'_>) -> Option<String> {
         let put = self.files.put(number(words)?);
-        told(self.alloc, put)
+        debug_text(self.alloc, put)
     }
 
     fn get(&self, words: &mut SplitWhitespace<'_>) -> Option<String> {
         let value = self.files.get(Number::new(number(words)?));
-        told(self.alloc, value)
+        debug_text(self.alloc, value)
     }
 
     fn halve(&mut self, words: &mut SplitWhitespace<'_>) -> Option<String> {
@@ -75,7 +75,7 @@ impl Numbered {
 
     fn take(&mut self, words: &mut SplitWhitespace<'_>) -> Option<String> {
         let value = self.files.take(Number::new(number(words)?));
-        told(self.alloc, value)
+        debug_text(self.alloc, value)
     }
 
     fn handle(&self, words: &mut SplitWhitespace<'_>) -> Option<String> {
@@ -90,12 +90,12 @@ impl Numbered {
     fn read(&self, words: &mut SplitWhitespace<'_>) -> Option<String> {
         let handle = bytes(self.alloc, words)?;
         let reading = self.files.read(handle.as_slice());
-        told(self.alloc, reading)
+        debug_text(self.alloc, reading)
     }
 
     fn find(&self, words: &mut SplitWhitespace<'_>) -> Option<String> {
         let handle = bytes(self.alloc, words)?;
         let found = self.files.find(handle.as_slice());
-        told(self.alloc, found)
+        debug_text(self.alloc, found)
     }
 }

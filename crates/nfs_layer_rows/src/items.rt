@@ -5,7 +5,7 @@ use nfs_xdr::fault::XdrFault;
 use nfs_xdr::input::Input;
 use nfs_xdr::output::{Output, halves};
 use nfs_xdr::stutter::Stutter;
-use rows::answers::{digits, left, text, then, told, with};
+use rows::answers::{debug_text, digits, left, text, then, with};
 use rows::words::{bytes, number, size, word};
 use std::alloc::{AllocError, Global};
 use std::str::SplitWhitespace;
@@ -25,9 +25,9 @@ pub(crate) fn item(alloc: Global, words: &mut SplitWhitespace<'_>) -> Option<Str
 
 fn read(alloc: Global, kind: &str, bound: u32, input: &mut Input<'_>) -> Option<String> {
     match kind {
-        "u32" => told(alloc, input.u32()),
-        "u64" => told(alloc, input.u64()),
-        "boolean" => told(alloc, input.boolean()),
+        "u32" => debug_text(alloc, input.u32()),
+        "u64" => debug_text(alloc, input.u64()),
+        "boolean" => debug_text(alloc, input.boolean()),
         "fixed" => opaque_text(alloc, input.fixed(bound as usize)),
         "opaque" => opaque_text(alloc, input.opaque(bound)),
         _ => None,
@@ -38,7 +38,7 @@ fn read(alloc: Global, kind: &str, bound: u32, input: &mut Input<'_>) -> Option<
 fn opaque_text(alloc: Global, got: Result<&[u8], XdrFault>) -> Option<String> {
     match got {
         Ok(item) => digits(alloc, item),
-        Err(fault) => told(alloc, Err::<(), XdrFault>(fault)),
+        Err(fault) => debug_text(alloc, Err::<(), XdrFault>(fault)),
     }
 }
 
@@ -161,7 +161,7 @@ pub(crate) fn device(alloc: Global, words: &mut SplitWhitespace<'_>) -> Option<S
     let all = write_all(&mut out, text.as_slice());
     let next = out.write(b"x");
     let last = out.write(b"x");
-    let answer = told(alloc, (all, next, last))?;
+    let answer = debug_text(alloc, (all, next, last))?;
     let taken = digits(alloc, out.into_inner().into_inner().as_slice())?;
     then(answer, taken.as_str())
 }
@@ -185,6 +185,6 @@ pub(crate) fn reader(alloc: Global, words: &mut SplitWhitespace<'_>) -> Option<S
 fn read_text(alloc: Global, read: Result<usize, DeviceFault>, buffer: &[u8]) -> Option<String> {
     match read {
         Ok(n) => digits(alloc, buffer.get(..n)?),
-        Err(fault) => told(alloc, fault),
+        Err(fault) => debug_text(alloc, fault),
     }
 }

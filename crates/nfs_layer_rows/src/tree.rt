@@ -1,13 +1,16 @@
 //! The tree of files: what is read of it, and what its operations do.
 
 use nfs_attrs::moment::Moment;
+use nfs_conditions::bytes::{may_resize, may_write};
+use nfs_conditions::entries::{is_empty, may_unlink};
+use nfs_conditions::moves;
 use nfs_handles::number::Number;
 use nfs_inodes::content::zeroed;
 use nfs_inodes::given_attributes::GivenAttributes;
 use nfs_inodes::new_file::NewFile;
 use nfs_inodes::tree::Tree;
 use nfs_load::description::load;
-use rows::answers::{digits, text, told};
+use rows::answers::{debug_text, digits, text};
 use rows::words::{bytes, name, number, size, word};
 use std::alloc::Global;
 use std::str::SplitWhitespace;
@@ -100,25 +103,25 @@ impl<'a> Served<'a> {
             "rename" => rename(self.alloc, &mut self.tree, words),
             _ => add_volume(self.alloc, &mut self.tree, words),
         };
-        told(self.alloc, done)
+        debug_text(self.alloc, done)
     }
 }
 
 // What is read of a file.
 fn read(alloc: Global, tree: &Tree, verb: &str, words: &mut SplitWhitespace<'_>) -> Option<String> {
     match verb {
-        "attributes" => told(alloc, tree.attributes(Number::new(number(words)?))),
-        "links" => told(alloc, links(tree, Number::new(number(words)?))),
-        "below" => told(alloc, below(tree, number(words)?, number(words)?)),
-        "is-empty" => told(alloc, tree.is_empty(Number::new(number(words)?))),
+        "attributes" => debug_text(alloc, tree.attributes(Number::new(number(words)?))),
+        "links" => debug_text(alloc, links(tree, Number::new(number(words)?))),
+        "below" => debug_text(alloc, below(tree, number(words)?, number(words)?)),
+        "is-empty" => debug_text(alloc, is_empty(tree, Number::new(number(words)?))),
         "lookup" => lookup(alloc, tree, words),
         "entry" => entry(alloc, tree, words),
-        "cookie" => told(alloc, tree.next_cookie(Number::new(number(words)?))),
+        "cookie" => debug_text(alloc, tree.next_cookie(Number::new(number(words)?))),
         "content" => content(alloc, tree, words),
         "path" => path(alloc, tree, words),
         "verifier" => verifier(alloc, tree, words),
         "handle" => handle(alloc, tree, words),
-        "reading" => told(alloc, tree.read_handle(bytes(alloc, words)?.as_slice())),
+        "reading" => debug_text(alloc, tree.read_handle(bytes(alloc, words)?.as_slice())),
         "named" => named(alloc, tree, words),
         _ => None,
     }
@@ -141,14 +144,14 @@ fn below(tree: &Tree, dir: u64, above: u64) -> Option<bool> {
 fn lookup(alloc: Global, tree: &Tree, words: &mut SplitWhitespace<'_>) -> Option<String> {
     let dir = Number::new(number(words)?);
     let name = name(alloc, words)?;
-    told(alloc, tree.lookup(dir, name.as_slice()))
+    debug_text(alloc, tree.lookup(dir, name.as_slice()))
 }
 
 // The cookie and the number of the first entry of a directory after a cookie.
 fn entry(alloc: Global, tree: &Tree, words: &mut SplitWhitespace<'_>) -> Option<String> {
     let dir = Number::new(number(words)?);
     match tree.entry_after(dir, number(words)?) {
-        Some(entry) => told(alloc, (entry.cookie, entry.number.0)),
+        Some(entry) => debug_text(alloc, (entry.cookie, entry.number.0)),
         None => text(alloc, "None"),
     }
 }
@@ -186,8 +189,8 @@ fn handle(alloc: Global, tree: &Tree, words: &mut SplitWhitespace<'_>) -> Option
 fn named(alloc: Global, tree: &Tree, words: &mut SplitWhitespace<'_>) -> Option<String> {
     let handle = bytes(alloc, words)?;
     match tree.find(handle.as_slice()) {
-        Ok(file) => told(alloc, file.attributes()),
-        Err(why) => told(alloc, why),
+        Ok(file) => debug_text(alloc, file.attributes()),
+        Err(why) => debug_text(alloc, why),
     }
 }
 
@@ -201,12 +204,12 @@ fn volumes(
     words: &mut SplitWhitespace<'_>,
 ) -> Option<String> {
     match verb {
-        "volumes" => told(alloc, tree.volumes()),
-        "next" => told(alloc, tree.next_number()),
-        "totals" => told(alloc, tree.totals(size(words)?)),
-        "place" => told(alloc, tree.volume_named(name(alloc, words)?.as_slice())),
+        "volumes" => debug_text(alloc, tree.volumes()),
+        "next" => debug_text(alloc, tree.next_number()),
+        "totals" => debug_text(alloc, tree.totals(size(words)?)),
+        "place" => debug_text(alloc, tree.volume_named(name(alloc, words)?.as_slice())),
         _ => match tree.volume(size(words)?) {
-            Some(volume) => told(alloc, (volume.max_bytes, volume.max_files, volume.root.0)),
+            Some(volume) => debug_text(alloc, (volume.max_bytes, volume.max_files, volume.root.0)),
             None => text(alloc, "None"),
         },
     }
@@ -217,10 +220,13 @@ fn volumes(
 fn may(alloc: Global, tree: &Tree, verb: &str, words: &mut SplitWhitespace<'_>) -> Option<String> {
     let file = Number::new(number(words)?);
     match verb {
-        "may-write" => told(alloc, tree.may_write(file, size(words)?, size(words)?)),
-        "may-resize" => told(alloc, tree.may_resize(file, size(words)?)),
+        "may-write" => debug_text(alloc, may_write(tree, file, size(words)?, size(words)?)),
+        "may-resize" => debug_text(alloc, may_resize(tree, file, size(words)?)),
         "may-make" => may_make(alloc, tree, file, words),
-        "may-unlink" => told(alloc, tree.may_unlink(file, name(alloc, words)?.as_slice())),
+        "may-unlink" => debug_text(
+            alloc,
+            may_unlink(tree, file, name(alloc, words)?.as_slice()),
+        ),
         _ => may_rename(alloc, tree, file, words),
     }
 }
@@ -232,7 +238,7 @@ fn may_make(
     words: &mut SplitWhitespace<'_>,
 ) -> Option<String> {
     let name = name(alloc, words)?;
-    told(alloc, tree.may_make(dir, name.as_slice(), size(words)?))
+    debug_text(alloc, tree.may_make(dir, name.as_slice(), size(words)?))
 }
 
 fn may_rename(
@@ -244,9 +250,9 @@ fn may_rename(
     let old_name = name(alloc, words)?;
     let to = Number::new(number(words)?);
     let new_name = name(alloc, words)?;
-    told(
+    debug_text(
         alloc,
-        tree.may_rename(from, old_name.as_slice(), to, new_name.as_slice()),
+        moves::may_rename(tree, from, old_name.as_slice(), to, new_name.as_slice()),
     )
 }
 
@@ -322,7 +328,7 @@ fn write(alloc: Global, tree: &mut Tree, words: &mut SplitWhitespace<'_>) -> Opt
     let file = Number::new(number(words)?);
     let offset = size(words)?;
     let content = bytes(alloc, words)?;
-    if !tree.may_write(file, offset, content.len()) {
+    if !may_write(tree, file, offset, content.len()) {
         return None;
     }
     tree.write_at(file, offset, content.as_slice(), NOW).ok()?;
@@ -333,7 +339,7 @@ fn write(alloc: Global, tree: &mut Tree, words: &mut SplitWhitespace<'_>) -> Opt
 fn resize(tree: &mut Tree, words: &mut SplitWhitespace<'_>) -> Option<u64> {
     let file = Number::new(number(words)?);
     let size = size(words)?;
-    if !tree.may_resize(file, size) {
+    if !may_resize(tree, file, size) {
         return None;
     }
     tree.resize(file, size, NOW).ok()?;
@@ -365,7 +371,7 @@ fn mode_alone(mode: u32) -> GivenAttributes {
 fn unlink(alloc: Global, tree: &mut Tree, words: &mut SplitWhitespace<'_>) -> Option<u64> {
     let dir = Number::new(number(words)?);
     let name = name(alloc, words)?;
-    if !tree.may_unlink(dir, name.as_slice()) {
+    if !may_unlink(tree, dir, name.as_slice()) {
         return None;
     }
     tree.unlink(dir, name.as_slice(), NOW);
@@ -378,7 +384,7 @@ fn rename(alloc: Global, tree: &mut Tree, words: &mut SplitWhitespace<'_>) -> Op
     let old_name = name(alloc, words)?;
     let to = Number::new(number(words)?);
     let new_name = name(alloc, words)?;
-    if !tree.may_rename(from, old_name.as_slice(), to, new_name.as_slice()) {
+    if !moves::may_rename(tree, from, old_name.as_slice(), to, new_name.as_slice()) {
         return None;
     }
     let done = tree.rename(from, old_name.as_slice(), to, new_name.as_slice(), NOW);

@@ -2,7 +2,7 @@
 
 use nfs_handles::number::Number;
 use nfs_inodes::tree::Tree;
-use rows::answers::{digits, text, told};
+use rows::answers::{debug_text, digits, text};
 use rows::words::{name, number, size};
 use std::alloc::Global;
 use std::str::SplitWhitespace;
@@ -31,7 +31,7 @@ pub(crate) fn answer(
 fn of(alloc: Global, tree: &Tree, number: Number) -> Option<String> {
     let file = tree.view(number)?;
     let attributes = file.attributes();
-    told(alloc, (file.number(), attributes.mode, attributes.size))
+    debug_text(alloc, (file.number(), attributes.mode, attributes.size))
 }
 
 // The number of the file under a name in a directory.
@@ -39,7 +39,7 @@ fn find(alloc: Global, tree: &Tree, words: &mut SplitWhitespace<'_>) -> Option<S
     let dir = tree.view(Number::new(number(words)?))?;
     let name = name(alloc, words)?;
     let found = tree.find_in(&dir, name.as_slice())?.attributes().fileid;
-    told(alloc, found)
+    debug_text(alloc, found)
 }
 
 fn handle(alloc: Global, tree: &Tree, number: Number) -> Option<String> {

@@ -2,6 +2,9 @@
 
 use crate::counts::{agrees, links};
 use crate::tree::{GIVEN, NOW, directory};
+use nfs_conditions::bytes::may_resize;
+use nfs_conditions::entries::may_unlink;
+use nfs_conditions::moves::may_rename;
 use nfs_handles::number::Number;
 use nfs_inodes::content::zeroed;
 use nfs_inodes::tree::Tree;
@@ -24,7 +27,7 @@ pub(crate) fn answer(alloc: Global, words: &mut SplitWhitespace<'_>) -> Option<S
     let steps = number(words)?;
     let mut walk = Walk::new(alloc, seed)?;
     walk.run(steps);
-    walk.told()
+    walk.report()
 }
 
 // A volume of few bytes and files, so that some steps are refused.
@@ -59,7 +62,7 @@ impl Walk {
         }
     }
 
-    fn told(&self) -> Option<String> {
+    fn report(&self) -> Option<String> {
         let verdict = if agrees(&self.tree) {
             "agrees"
         } else {
@@ -150,14 +153,14 @@ impl Walk {
     fn rename(&mut self, dir: Number, name: &[u8]) -> Option<()> {
         let to = self.dir();
         let new_name = self.name();
-        if !self.tree.may_rename(dir, name, to, &new_name) {
+        if !may_rename(&self.tree, dir, name, to, &new_name) {
             return None;
         }
         self.tree.rename(dir, name, to, &new_name, NOW).ok()
     }
 
     fn unlink(&mut self, dir: Number, name: &[u8]) -> Option<()> {
-        if !self.tree.may_unlink(dir, name) {
+        if !may_unlink(&self.tree, dir, name) {
             return None;
         }
         self.tree.unlink(dir, name, NOW);
@@ -167,7 +170,7 @@ impl Walk {
     fn resize(&mut self, dir: Number, name: &[u8]) -> Option<()> {
         let size = (self.next() & 127) as usize;
         let file = self.tree.lookup(dir, name)?;
-        if !self.tree.may_resize(file, size) {
+        if !may_resize(&self.tree, file, size) {
             return None;
         }
         self.tree.resize(file, size, NOW).ok()

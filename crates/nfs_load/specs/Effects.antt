@@ -10,13 +10,13 @@ use Rattle.nfs_load.specs.declared.cause.Cause.{Cause}
 use Rattle.nfs_load.specs.declared.cause.Cause.TheVariants.{VolumeTwice, NoTarget, Full}
 use Rattle.nfs_load.specs.declared.refusal.Refusal.{Refusal}
 use Rattle.nfs_load.specs.declared.refusal.Refusal.TheVariants.{Fault, Memory}
-use Rattle.nfs_load.specs.declared.place.Place as kept
+use Rattle.nfs_load.specs.declared.path_end.PathEnd as kept
 use Rattle.nfs_load.specs.declared.statement.Given.{Given}
 use Rattle.nfs_load.specs.declared.statement.DirLine.{DirLine}
 use Rattle.nfs_load.specs.declared.statement.HardLine.{HardLine}
 use Rattle.nfs_handles.specs.declared.number.Number.{Number}
 use Rattle.nfs_load.specs.Fields.{◌>>=◌}
-use Rattle.nfs_load.specs.Places.{Place, file_at, free_place, is_directory, place_of}
+use Rattle.nfs_load.specs.PathEnds.{PathEnd, file_at, free_end, is_directory, end_of}
 use Rattle.nfs_load.specs.Statements.{VolumeLine, FileLine, LinkLine}
 
 -- the time of everything that a description makes
@@ -32,13 +32,13 @@ link_attributes uid gid = attributes (record { mode = 511; uid = uid; gid = gid 
 
 -- where a line is done is found, and it may be done there
 abbrev pub IsOpen : {P : Type 0} → Result P Cause → (P → Type 0) → Type 0
-IsOpen {P} found May = (place : P) × (found ≡ Ok place) × May place
+IsOpen {P} found May = (it : P) × (found ≡ Ok it) × May it
 
 -- a line finds where it is done, or a cause; it is done where it may be, and else the cause is Full; memory
 -- is wanted only where it may be done; a line that isn't done leaves the tree
 abbrev pub Does : {P : Type 0} → Tree → Result P Cause → (P → Type 0) → (P → Tree → Type 0) → Result Unit Refusal → Tree → Type 0
-Does {P} t found May Made (Ok x) new = (place : P) × (found ≡ Ok place) × May place × Made place new
-Does {P} t found May Made (Err (Fault Full)) new = (place : P) × (found ≡ Ok place) × (May place → ⊥) × (new ≡ t)
+Does {P} t found May Made (Ok x) new = (it : P) × (found ≡ Ok it) × May it × Made it new
+Does {P} t found May Made (Err (Fault Full)) new = (it : P) × (found ≡ Ok it) × (May it → ⊥) × (new ≡ t)
 Does {P} t found May Made (Err (Fault cause)) new = (found ≡ Err cause) × (new ≡ t)
 Does {P} t found May Made (Err Memory) new = IsOpen found May × (new ≡ t)
 
@@ -52,14 +52,14 @@ named_file t None = Err NoTarget
 named_file t (Some n) = if is_directory (attributes_at t n) then Err NoTarget else Ok n
 
 -- where a further name goes, and the file that it names
-abbrev pub link_place : Tree → ℕ → List (List ℕ) → List (List ℕ) → Result (Place × ℕ) Cause
-link_place t root path old = do
-  place ← free_place t root path
+abbrev pub link_end : Tree → ℕ → List (List ℕ) → List (List ℕ) → Result (PathEnd × ℕ) Cause
+link_end t root path old = do
+  end ← free_end t root path
   n ← named_file t (file_at t root old)
-  Ok (place, n)
+  Ok (end, n)
 
-abbrev pub links_found : Result (kept.Place × Number) Cause → Result (Place × ℕ) Cause
-links_found (Ok it) = Ok (place_of it.0, it.1.0)
+abbrev pub links_found : Result (kept.PathEnd × Number) Cause → Result (PathEnd × ℕ) Cause
+links_found (Ok it) = Ok (end_of it.0, it.1.0)
 links_found (Err cause) = Err cause
 
 -- ---- the lines, in the volume of a root
@@ -70,22 +70,22 @@ AddsVolume t line result new = Does t (free_path t line.path)
     (λ path. Makes (λ tag. after_add_volume t path line.max_bytes line.max_files (attributes line.given) tag start)) result new
 
 abbrev pub MakesDir : Tree → ℕ → DirLine → Result Unit Refusal → Tree → Type 0
-MakesDir t root line result new = Does t (free_place t root line.path)
-    (λ place. MayMakeDirectory t place.dir place.name)
-    (λ place. Makes (λ tag. after_make_dir t place.dir place.name (attributes line.given) tag start)) result new
+MakesDir t root line result new = Does t (free_end t root line.path)
+    (λ end. MayMakeDirectory t end.dir end.name)
+    (λ end. Makes (λ tag. after_make_dir t end.dir end.name (attributes line.given) tag start)) result new
 
 abbrev pub MakesFile : Tree → ℕ → FileLine → Result Unit Refusal → Tree → Type 0
-MakesFile t root line result new = Does t (free_place t root line.path)
-    (λ place. MayMake t place.dir place.name (length line.content))
-    (λ place. Makes (λ tag. after_make_file t place.dir place.name line.content (attributes line.given) None tag start)) result new
+MakesFile t root line result new = Does t (free_end t root line.path)
+    (λ end. MayMake t end.dir end.name (length line.content))
+    (λ end. Makes (λ tag. after_make_file t end.dir end.name line.content (attributes line.given) None tag start)) result new
 
 abbrev pub MakesLink : Tree → ℕ → LinkLine → Result Unit Refusal → Tree → Type 0
-MakesLink t root line result new = Does t (free_place t root line.path)
-    (λ place. MayMakeLink t place.dir place.name line.target)
-    (λ place. Makes (λ tag. after_make_link t place.dir place.name line.target (link_attributes line.uid line.gid) tag start)) result new
+MakesLink t root line result new = Does t (free_end t root line.path)
+    (λ end. MayMakeLink t end.dir end.name line.target)
+    (λ end. Makes (λ tag. after_make_link t end.dir end.name line.target (link_attributes line.uid line.gid) tag start)) result new
 
 -- a further name of a file
 abbrev pub AddsName : Tree → ℕ → HardLine → Result Unit Refusal → Tree → Type 0
-AddsName t root line result new = Does t (link_place t root line.path line.old)
+AddsName t root line result new = Does t (link_end t root line.path line.old)
     (λ it. MayLink t it.1 it.0.dir it.0.name)
     (λ it u. u ≡ after_link t it.1 it.0.dir it.0.name start) result new

@@ -3,7 +3,7 @@ pub mod Lines
 pub mod Fields
 pub mod Paths
 pub mod Statements
-pub mod Places
+pub mod PathEnds
 pub mod Effects
 pub mod Errors
 pub mod Descriptions

@@ -2,11 +2,11 @@
 ghost use Rattle.std.specs.Prelude.{◌≡◌};
 ghost use Rattle.nfs_load.specs.Statements.{file_of, link_of, volume_of};
 ghost use Rattle.nfs_load.specs.Effects.{AddsName, AddsVolume, MakesDir, MakesFile, MakesLink};
-ghost use Rattle.nfs_load.specs.Effects.{attributes, link_attributes, link_place, links_found};
+ghost use Rattle.nfs_load.specs.Effects.{attributes, link_attributes, link_end, links_found};
 
 use crate::cause::Cause;
 use crate::path::Path;
-use crate::place::{Place, find_file, find_free_place, is_directory};
+use crate::path_end::{PathEnd, find_file, find_free_end, is_directory};
 use crate::refusal::Refusal;
 use crate::statement::{DirLine, FileLine, Given, HardLine, LinkLine, VolumeLine};
 use nfs_attrs::moment::Moment;
@@ -44,11 +44,11 @@ pub fn add_volume(tree: &mut Tree, line: &VolumeLine<'_>) -> Result<(), Refusal>
 pub fn make_dir(tree: &mut Tree, root: Number, line: &DirLine<'_>) -> Result<(), Refusal>
     ensures { MakesDir tree.old root.0 line.now result tree.new }
 {
-    let place = find_free_place(tree, root, &line.path)?;
-    if !tree.may_make_dir(place.dir, place.name) {
+    let end = find_free_end(tree, root, &line.path)?;
+    if !tree.may_make_dir(end.dir, end.name) {
         return Err(Refusal::Fault(Cause::Full));
     }
-    tree.make_dir(place.dir, place.name, &attributes_of(line.given), START)?;
+    tree.make_dir(end.dir, end.name, &attributes_of(line.given), START)?;
     Ok(())
 }
 
@@ -63,12 +63,12 @@ pub fn make_file(tree: &mut Tree, root: Number, line: FileLine<'_>) -> Result<()
         given,
         content,
     } = line;
-    let place = find_free_place(tree, root, &path)?;
-    if !tree.may_make(place.dir, place.name, content.len()) {
+    let end = find_free_end(tree, root, &path)?;
+    if !tree.may_make(end.dir, end.name, content.len()) {
         return Err(Refusal::Fault(Cause::Full));
     }
     let given = attributes_of(given);
-    tree.make_file(place.dir, place.name, content, &given, None, START)?;
+    tree.make_file(end.dir, end.name, content, &given, None, START)?;
     Ok(())
 }
 
@@ -77,12 +77,12 @@ pub fn make_file(tree: &mut Tree, root: Number, line: FileLine<'_>) -> Result<()
 pub fn make_link(tree: &mut Tree, root: Number, line: &LinkLine<'_>) -> Result<(), Refusal>
     ensures { MakesLink tree.old root.0 (link_of line.now) result tree.new }
 {
-    let place = find_free_place(tree, root, &line.path)?;
-    if !tree.may_make_link(place.dir, place.name, line.target) {
+    let end = find_free_end(tree, root, &line.path)?;
+    if !tree.may_make_link(end.dir, end.name, line.target) {
         return Err(Refusal::Fault(Cause::Full));
     }
     let given = attributes_of_link(line.uid, line.gid);
-    tree.make_link(place.dir, place.name, line.target, &given, START)?;
+    tree.make_link(end.dir, end.name, line.target, &given, START)?;
     Ok(())
 }
 
@@ -92,31 +92,31 @@ pub fn make_link(tree: &mut Tree, root: Number, line: &LinkLine<'_>) -> Result<(
 pub(crate) fn add_name(tree: &mut Tree, root: Number, line: &HardLine<'_>) -> Result<(), Refusal>
     ensures { AddsName tree.old root.0 line.now result tree.new }
 {
-    let (place, file) = find_link_place(tree, root, &line.path, &line.old)?;
-    if !tree.may_link(file, place.dir, place.name) {
+    let (end, file) = find_link_end(tree, root, &line.path, &line.old)?;
+    if !tree.may_link(file, end.dir, end.name) {
         return Err(Refusal::Fault(Cause::Full));
     }
-    tree.link(file, place.dir, place.name, START)?;
+    tree.link(file, end.dir, end.name, START)?;
     Ok(())
 }
 
-// A free place, and a file that is no directory.
-fn find_link_place<'a>(
+// The free end of a path, and a file that is no directory.
+fn find_link_end<'a>(
     tree: &Tree,
     root: Number,
     path: &Path<'a>,
     old: &Path<'_>,
-) -> Result<(Place<'a>, Number), Cause>
-    ensures { links_found result ≡ link_place tree.now root.0 path.now old.now }
+) -> Result<(PathEnd<'a>, Number), Cause>
+    ensures { links_found result ≡ link_end tree.now root.0 path.now old.now }
 {
-    let place = find_free_place(tree, root, path)?;
+    let end = find_free_end(tree, root, path)?;
     let Some(file) = find_file(tree, root, old) else {
         return Err(Cause::NoTarget);
     };
     if is_directory(tree, file) {
         return Err(Cause::NoTarget);
     }
-    Ok((place, file))
+    Ok((end, file))
 }
 
 // The attributes of a new file.

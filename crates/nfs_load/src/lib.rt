@@ -13,6 +13,6 @@ mod listing_line;
 pub mod load_error;
 pub mod loaded;
 pub mod path;
-pub mod place;
+pub mod path_end;
 pub mod refusal;
 pub mod statement;

@@ -1,7 +1,7 @@
 //! Each growth of a call that changes the tree refused in turn.
 use crate::ROUNDS;
 use crate::described::loaded;
-use crate::tree::look;
+use crate::tree::snapshot_of;
 use ballast::Ballast;
 use nfs_attrs::moment::Moment;
 use nfs_exports::addr::Addr;
@@ -117,7 +117,7 @@ fn refusals(alloc: Global, procedure: u32, args: &[&[u8]; 4]) -> Result<Option<u
         },
         bytes: record.as_slice(),
     };
-    let before = look(server.tree());
+    let before = snapshot_of(server.tree());
     let mut ballast = Ballast::new(alloc)?;
     for refused in 0..ROUNDS {
         server.handle(event, &mut reply);
@@ -126,7 +126,7 @@ fn refusals(alloc: Global, procedure: u32, args: &[&[u8]; 4]) -> Result<Option<u
             let again = is_answered_again(alloc, &mut server, event, &mut reply)?;
             return Ok(again.then_some(refused));
         }
-        if look(server.tree()) != before || !ballast.lighten() {
+        if snapshot_of(server.tree()) != before || !ballast.lighten() {
             break;
         }
     }

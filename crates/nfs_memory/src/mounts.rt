@@ -2,7 +2,7 @@
 use crate::ROUNDS;
 use crate::calls::{SUCCESS, is_refused};
 use crate::described::loaded;
-use crate::tree::look;
+use crate::tree::snapshot_of;
 use ballast::Ballast;
 use nfs_attrs::moment::Moment;
 use nfs_exports::addr::Addr;
@@ -68,7 +68,7 @@ fn refusals(alloc: Global, clients: u8) -> Result<Option<u32>, AllocError> {
     let mut reply = ReplyBuf::new(alloc)?;
     let mut server = server_of(alloc, &mut reply, clients)?;
     let list = dumped(alloc, &mut server, &mut reply)?;
-    let before = look(server.tree());
+    let before = snapshot_of(server.tree());
     let mut ballast = Ballast::new(alloc)?;
     for refused in 0..ROUNDS {
         server.handle(event(HOST, MNT), &mut reply);
@@ -78,7 +78,7 @@ fn refusals(alloc: Global, clients: u8) -> Result<Option<u32>, AllocError> {
             return Ok(if done && longer { Some(refused) } else { None });
         }
         let same = tells(&mut server, &mut reply, list.len(), list.as_slice());
-        if !same || look(server.tree()) != before || !ballast.lighten() {
+        if !same || snapshot_of(server.tree()) != before || !ballast.lighten() {
             break;
         }
     }

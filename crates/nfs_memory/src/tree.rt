@@ -4,6 +4,8 @@ use crate::described::loaded;
 use ballast::Ballast;
 use nfs_attrs::fattr::Fattr;
 use nfs_attrs::moment::Moment;
+use nfs_conditions::bytes::{may_resize, may_write};
+use nfs_conditions::moves::may_rename;
 use nfs_handles::number::Number;
 use nfs_inodes::content::zeroed;
 use nfs_inodes::new_file::NewFile;
@@ -28,7 +30,7 @@ const GIVEN: NewFile = NewFile {
 // What the tests see of a tree: directory 2 with the cookie of its next entry, file 3 and its
 // length, the first volume's totals, the volumes and the next number.
 #[derive(Clone, Copy, Debug, PartialEq)]
-pub(crate) struct Seen {
+pub(crate) struct Snapshot {
     directory: Option<Fattr>,
     cookie: Option<u64>,
     file: Option<Fattr>,
@@ -38,8 +40,8 @@ pub(crate) struct Seen {
     number: u64,
 }
 
-pub(crate) fn look(tree: &Tree) -> Seen {
-    Seen {
+pub(crate) fn snapshot_of(tree: &Tree) -> Snapshot {
+    Snapshot {
         directory: tree.attributes(Number::new(2)),
         cookie: tree.next_cookie(Number::new(2)),
         file: tree.attributes(Number::new(3)),
@@ -64,12 +66,12 @@ fn operate(alloc: Global, tree: &mut Tree, operation: u32) -> Result<(), AllocEr
             tree.make_link(dir, b"y", b"to", &GIVEN, NOW)?;
         }
         3 if tree.may_link(Number::new(3), dir, b"y") => tree.link(Number::new(3), dir, b"y", NOW)?,
-        4 if tree.may_write(Number::new(3), 100, 3) => tree.write_at(Number::new(3), 100, b"end", NOW)?,
+        4 if may_write(tree, Number::new(3), 100, 3) => tree.write_at(Number::new(3), 100, b"end", NOW)?,
         5 if tree.may_add_volume(b"/c", 1) => {
             tree.add_volume(b"/c", 1, 1, &GIVEN, NOW)?;
         }
-        6 if tree.may_resize(Number::new(3), 1_000) => tree.resize(Number::new(3), 1_000, NOW)?,
-        7 if tree.may_rename(dir, b"x", dir, b"y") => tree.rename(dir, b"x", dir, b"y", NOW)?,
+        6 if may_resize(tree, Number::new(3), 1_000) => tree.resize(Number::new(3), 1_000, NOW)?,
+        7 if may_rename(tree, dir, b"x", dir, b"y") => tree.rename(dir, b"x", dir, b"y", NOW)?,
         _ => (),
     }
     Ok(())
@@ -79,17 +81,17 @@ fn operate(alloc: Global, tree: &mut Tree, operation: u32) -> Result<(), AllocEr
 // changed what is seen, or did nothing.
 fn refusals(alloc: Global, operation: u32) -> Result<Option<u32>, AllocError> {
     let mut tree = loaded(alloc)?.tree;
-    let before = look(&tree);
+    let before = snapshot_of(&tree);
     let mut ballast = Ballast::new(alloc)?;
     for refused in 0..ROUNDS {
         if operate(alloc, &mut tree, operation).is_ok() {
-            return Ok(if look(&tree) == before {
+            return Ok(if snapshot_of(&tree) == before {
                 None
             } else {
                 Some(refused)
             });
         }
-        if look(&tree) != before || !ballast.lighten() {
+        if snapshot_of(&tree) != before || !ballast.lighten() {
             break;
         }
     }

@@ -5,7 +5,7 @@ use Rattle.nfs_args.specs.MountAnswers.{IsMountAnswerOf, mount_answered, mount_t
 use Rattle.nfs_args.specs.declared.exported.Exported.{Exported}
 use Rattle.nfs_args.specs.declared.mount_answer.MountAnswer.{MountAnswer}
 use Rattle.nfs_args.specs.declared.mount_answer.MountAnswer.TheVariants as answer
-use Rattle.nfs_args.specs.declared.mounted.Mounted as told
+use Rattle.nfs_args.specs.declared.mounted.Mounted.{Mounted}
 use Rattle.nfs_exports.specs.Addresses.{addr_text}
 use Rattle.nfs_exports.specs.Patterns.{pattern_text}
 use Rattle.nfs_exports.specs.Tables.{exports_of}
@@ -17,8 +17,8 @@ use Rattle.nfs_inodes.specs.Tree.{Tree, on_some}
 use Rattle.nfs_mount.specs.MountRules.{mount_verdict}
 use Rattle.nfs_mount.specs.Mounts.{is_mounted, after_mnt}
 use Rattle.nfs_mount.specs.declared.mount.Mount.{Mount}
-use Rattle.nfs_mount.specs.declared.mounted.Mounted.{Mounted}
-use Rattle.nfs_mount.specs.declared.mounted.Mounted.TheVariants.{Granted, Denied, Memory}
+use Rattle.nfs_mount.specs.declared.outcome.MountOutcome.{MountOutcome}
+use Rattle.nfs_mount.specs.declared.outcome.MountOutcome.TheVariants.{Granted, Denied, Memory}
 use Rattle.nfs_rules.specs.Rules.{status_of}
 use Rattle.nfs_rules.specs.declared.rule.Rule.{Rule}
 use Rattle.nfs_xdr.specs.Written.{Written, Appends}
@@ -43,7 +43,7 @@ abbrev pub denied_answer : Rule → MountAnswer
 denied_answer rule = answer.Mount (Err (record { status = status_of rule; shown = tt }))
 
 -- the volume is mounted, and its root is answered; the first rule that fails is answered; or no rule fails, the pair is new, and nothing is done
-abbrev pub Mounts : Tree → List (List Export) → Addr → List ℕ → Mounted → List Mount → List Mount → Written → Written → Type 0
+abbrev pub Mounts : Tree → List (List Export) → Addr → List ℕ → MountOutcome → List Mount → List Mount → Written → Written → Type 0
 Mounts t exports addr path Granted old new before after =
     (mount_verdict t exports addr path ≡ None) × (new ≡ after_mnt t addr path old) × (handle : List ℕ) × (root_of t path ≡ Some handle)
     × Appends (mount_text (granted_answer handle)) before after × IsMountSpelled (granted_answer handle)
@@ -60,7 +60,7 @@ abbrev pub path_at : Tree → ℕ → List ℕ
 path_at t place = on_some (slice_get t.volumes place) [] (λ v. v.path)
 
 -- the address in dotted decimal form, and the path
-abbrev pub client : Tree → Mount → told.Mounted
+abbrev pub client : Tree → Mount → Mounted
 client t m = record { host = addr_text m.addr; path = path_at t m.volume }
 
 abbrev pub dump_answer : Tree → List Mount → MountAnswer

@@ -7,7 +7,7 @@ pub mod laws;
 pub mod limits;
 pub mod mount;
 pub mod mount_list;
-pub mod mounted;
+pub mod outcome;
 mod replies;
 mod rules;
 mod volumes;

@@ -8,7 +8,7 @@ ghost use Rattle.nfs_xdr.specs.Written.{Appends};
 
 use crate::limits::{MAX_DUMP_BYTES, MAX_MOUNT_BYTES, MAX_MOUNTS};
 use crate::mount::Mount;
-use crate::mounted::Mounted;
+use crate::outcome::MountOutcome;
 use crate::replies::{write_client, write_denied, write_granted};
 use crate::rules::volume_for;
 use crate::volumes::root_handle;
@@ -69,7 +69,7 @@ impl MountList {
         addr: Addr,
         path: &[u8],
         out: &mut Output,
-    ) -> Mounted
+    ) -> MountOutcome
         requires { MAX_MOUNT_BYTES ≤ out.old.room }
         ensures { Mounts tree.now table.now addr path.now result self.old self.new out.old out.new }
     {
@@ -77,14 +77,14 @@ impl MountList {
             Ok(volume) => volume,
             Err(rule) => {
                 write_denied(out, rule);
-                return Mounted::Denied(rule);
+                return MountOutcome::Denied(rule);
             }
         };
         if self.add(Mount { addr, volume }).is_err() {
-            return Mounted::Memory;
+            return MountOutcome::Memory;
         }
         write_granted(out, &root_handle(tree, volume));
-        Mounted::Granted
+        MountOutcome::Granted
     }
 
     /// UMNT (RFC 1813, appendix I, section 5.2.3): without the pair of this address and the volume of

@@ -10,7 +10,7 @@ use Rattle.nfs_inodes.specs.Changes.{volume_of}
 use Rattle.nfs_handles.specs.NumberedFiles.{TaggedFile}
 use Rattle.nfs_handles.specs.NumberedFiles as numbered
 use Rattle.nfs_inodes.proofs.Maps.{at_shows, same_number}
-use Rattle.nfs_inodes.proofs.Alike.{sum_same}
+use Rattle.nfs_inodes.proofs.law.Alike.{sum_same}
 use Rattle.nfs_inodes.specs.Law.{parent_of}
 use Rattle.nfs_inodes.specs.Reading.{attributes_of, attributes_at, listing, listing_at, entry_named, entry_at, cookie_of_next, next_cookie_at, path_at, path_of, verifier_at, totals_at, numbered_files}
 use Rattle.nfs_inodes.specs.Tree.{Tree, File, Kind, Entry, Volume, Regular, Directory, Link, at, on_some, entries_in, bytes_in, parent_in, is_directory, names_in, names_of, names_directory, subdirectories, nlink, bytes_for, one_for, bytes_of, files_of, one_when}

@@ -16,7 +16,7 @@ use Rattle.nfs_handles.specs.NumberedFiles.{TaggedFile, at as file_at}
 use Rattle.nfs_inodes.proofs.Follows.{lives_alike}
 use Rattle.nfs_inodes.proofs.Lists.{by_number, head_or_tail, same_some, not_both}
 use Rattle.nfs_inodes.proofs.Maps.{at_next, at_with_same, at_with_other, at_without_other, at_push_same, at_push_other}
-use Rattle.nfs_inodes.proofs.Unlinks.{entry_is, empty_elsewhere, other_file}
+use Rattle.nfs_inodes.proofs.law.Unlinks.{entry_is, empty_elsewhere, other_file}
 use Rattle.nfs_inodes.proofs.Views.{mapped}
 use Rattle.nfs_inodes.specs.Changes.{with_new_file, with_file, without_file, entered, with_entry, left, without_entry, touched, released, moved_to, moved, with_named_file, after_write_at, file_with_bytes, resized_to, after_resize, with_given, after_set, after_link, after_unlink, carried, after_rename}
 use Rattle.nfs_inodes.specs.Conditions.{MayUnlink, MayRename, MayReplace}

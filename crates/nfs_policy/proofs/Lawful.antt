@@ -12,11 +12,11 @@ use Rattle.nfs_attrs.specs.declared.moment.Moment.{Moment}
 use Rattle.nfs_exports.specs.declared.table.Export.{Export}
 use Rattle.nfs_inodes.proofs.Lists.{same_some, not_both}
 use Rattle.nfs_inodes.proofs.Maps.{at_with_same}
-use Rattle.nfs_inodes.proofs.NewFiles.{law_after_make_file, law_after_make_dir, law_after_make_link}
-use Rattle.nfs_inodes.proofs.Operations.{law_after_link, law_after_write_at}
-use Rattle.nfs_inodes.proofs.Renames.{law_after_rename}
-use Rattle.nfs_inodes.proofs.Settings.{law_after_resize, law_after_set, resized_is}
-use Rattle.nfs_inodes.proofs.Unlinks.{law_after_unlink}
+use Rattle.nfs_inodes.proofs.law.NewFiles.{law_after_make_file, law_after_make_dir, law_after_make_link}
+use Rattle.nfs_inodes.proofs.law.Operations.{law_after_link, law_after_write_at}
+use Rattle.nfs_inodes.proofs.law.Renames.{law_after_rename}
+use Rattle.nfs_inodes.proofs.law.Settings.{law_after_resize, law_after_set, resized_is}
+use Rattle.nfs_inodes.proofs.law.Unlinks.{law_after_unlink}
 use Rattle.nfs_inodes.specs.Changes.{resized_to, after_resize, after_set, zeros}
 use Rattle.nfs_inodes.specs.Conditions.{MayMake, MayResize}
 use Rattle.nfs_inodes.specs.Law.{Law, Lives}

@@ -5,13 +5,13 @@ use Rattle.std.proofs.lemmas.List.Elements.{All-head, All-tail, All-contains}
 use Rattle.std.proofs.lemmas.Slice.Eq.{bytes_eq-Decides}
 use Rattle.nfs_attrs.specs.declared.moment.Moment.{Moment}
 use Rattle.nfs_exports.specs.Ids.{Ids}
-use Rattle.nfs_inodes.proofs.Gains.{entered_entries}
-use Rattle.nfs_inodes.proofs.Leavings.{left_is, left_entries, left_placed, left_cookie}
+use Rattle.nfs_inodes.proofs.law.WithEntry.{entered_entries}
+use Rattle.nfs_inodes.proofs.law.WithoutEntry.{left_is, left_entries, left_placed, left_cookie}
 use Rattle.nfs_inodes.proofs.Lists.{by_test, by_number, if_false, same_some, not_both, find_contains, in_head, in_tail}
 use Rattle.nfs_inodes.proofs.Maps.{at_next, at_with_same, at_with_other, at_without_other, rising_with}
-use Rattle.nfs_inodes.proofs.Births.{stays}
-use Rattle.nfs_inodes.proofs.Renames.{none_left, renamed_new, renamed_same, renamed_over, may_unlink}
-use Rattle.nfs_inodes.proofs.Unlinks.{entry_is, other_file}
+use Rattle.nfs_inodes.proofs.law.WithNewFile.{stays}
+use Rattle.nfs_inodes.proofs.law.Renames.{none_left, renamed_new, renamed_same, renamed_over, may_unlink}
+use Rattle.nfs_inodes.proofs.law.Unlinks.{entry_is, other_file}
 use Rattle.nfs_inodes.specs.Changes.{with_file, with_new_file, entered, with_entry, left, without_entry, without_file, touched, released, entries_without, kind_with_parent, moved_to, moved, with_named_file, after_link, after_unlink, carried, after_rename}
 use Rattle.nfs_inodes.specs.Conditions.{MayUnlink, MayRename}
 use Rattle.nfs_inodes.specs.Law.{Law, Lives, LivesAsDirectory, AreRising}

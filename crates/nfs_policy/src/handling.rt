@@ -2,7 +2,7 @@
 ghost use Rattle.nfs_policy.specs.Confining.{Leaves};
 ghost use Rattle.nfs_policy.specs.Naming.{NamesOn};
 ghost use Rattle.nfs_server.specs.Fits.{Fits, Past};
-ghost use Rattle.nfs_server.specs.Seen.{event_of};
+ghost use Rattle.nfs_server.specs.InMemory.{event_of};
 
 use nfs_server::event::{Event, Handled};
 use nfs_server::reply_buf::ReplyBuf;

@@ -6,7 +6,7 @@ use Rattle.nfs_attrs.specs.declared.fattr.Fattr.{Fattr}
 use Rattle.nfs_attrs.specs.declared.moment.Moment.{Moment}
 use Rattle.nfs_attrs.specs.declared.wcc.Wcc.{Wcc}
 use Rattle.nfs_inodes.proofs.Maps.{at_with_same}
-use Rattle.nfs_inodes.proofs.Settings.{resized_is}
+use Rattle.nfs_inodes.proofs.law.Settings.{resized_is}
 use Rattle.nfs_inodes.specs.Changes.{after_resize, resized_to}
 use Rattle.nfs_inodes.specs.Law.{Lives}
 use Rattle.nfs_inodes.specs.Reading.{attributes_at}

@@ -9,7 +9,7 @@ use nfs_load::description::load;
 use nfs_server::event::{Event, Handled};
 use nfs_server::reply_buf::ReplyBuf;
 use nfs_server::server::Server;
-use rows::answers::{digits, text, then, told, with};
+use rows::answers::{debug_text, digits, text, then, with};
 use rows::words::{size, word};
 use std::alloc::Global;
 use std::str::SplitWhitespace;
@@ -94,7 +94,7 @@ impl<'a> Calls<'a> {
             return None;
         }
         let status = u32::from_be_bytes([status[0], status[1], status[2], status[3]]);
-        told(self.alloc, status)
+        debug_text(self.alloc, status)
     }
 
     // `long ADDRESS SECONDS BYTES`: the reply to a READ of a made file, its data as the first
@@ -135,13 +135,13 @@ impl<'a> Calls<'a> {
         let done = self
             .server
             .run(events.as_slice(), &mut self.reply, &mut kept);
-        then(told(self.alloc, done)?, kept.text())
+        then(debug_text(self.alloc, done)?, kept.text())
     }
 
     // `kept`: whether the tree is that of the example.
     fn kept(&self) -> Option<String> {
         let example = load(self.alloc, self.example).ok()?;
-        told(self.alloc, is_same(self.server.tree(), &example.tree))
+        debug_text(self.alloc, is_same(self.server.tree(), &example.tree))
     }
 
     // `line WORD..`: a line of the next description.

@@ -9,7 +9,7 @@ use nfs_server::server::Server;
 use nfs_server::sessions::Sessions;
 use nfs_xdr::device::Device;
 use nfs_xdr::stutter::Stutter;
-use rows::answers::{digits, text, then, told};
+use rows::answers::{debug_text, digits, text, then};
 use rows::words::{address, number, size, word};
 use std::alloc::Global;
 use std::str::SplitWhitespace;
@@ -72,13 +72,13 @@ impl<'a> Connections<'a> {
         let conn = word(words)?;
         let addr = Addr(address(words)?);
         let attached = self.sessions.attach(conn, addr);
-        told(self.alloc, attached)
+        debug_text(self.alloc, attached)
     }
 
     // `detach CONNECTION`: whether it was there.
     fn detach(&mut self, words: &mut SplitWhitespace<'_>) -> Option<String> {
         let detached = self.sessions.detach(word(words)?);
-        told(self.alloc, detached)
+        debug_text(self.alloc, detached)
     }
 
     // `CONNECTION SECONDS BYTES`.
@@ -101,7 +101,7 @@ impl<'a> Connections<'a> {
             .sessions
             .feed(conn, moment, piece, &mut out, &mut audit);
         let replies = digits(self.alloc, out.into_inner().as_slice())?;
-        then(told(self.alloc, fed)?, replies.as_str())
+        then(debug_text(self.alloc, fed)?, replies.as_str())
     }
 
     // `feed CONNECTION SECONDS BYTES`.
@@ -155,7 +155,7 @@ impl<'a> Connections<'a> {
             .sessions
             .feed(stream.conn, stream.moment, bytes, &mut out, &mut audit);
         let written = digits(self.alloc, out.into_inner().into_inner().as_slice())?;
-        then(told(self.alloc, fed)?, written.as_str())
+        then(debug_text(self.alloc, fed)?, written.as_str())
     }
 
     // `audit STEP K CONNECTION SECONDS BYTES`: as `feed`, with audit lines written to such a device:
@@ -172,7 +172,7 @@ impl<'a> Connections<'a> {
             .feed(stream.conn, stream.moment, bytes, &mut out, &mut audit);
         let written = digits(self.alloc, out.into_inner().as_slice())?;
         let lines = digits(self.alloc, audit.into_inner().into_inner().as_slice())?;
-        let all = then(told(self.alloc, fed)?, written.as_str())?;
+        let all = then(debug_text(self.alloc, fed)?, written.as_str())?;
         then(all, lines.as_str())
     }
 
@@ -181,6 +181,6 @@ impl<'a> Connections<'a> {
         let record = record_of(self.alloc, self.sessions.server().tree(), words)?;
         let mut kept = Kept::new(self.alloc, 0);
         let done = self.sessions.run(&[record.event()], &mut kept);
-        then(told(self.alloc, done)?, kept.text())
+        then(debug_text(self.alloc, done)?, kept.text())
     }
 }

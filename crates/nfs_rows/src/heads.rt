@@ -2,7 +2,7 @@
 
 use nfs_rpc::call::{RpcFault, read_call};
 use nfs_server::rpc_rules::admit;
-use rows::answers::{digits, text, then, told, with};
+use rows::answers::{debug_text, digits, text, then, with};
 use rows::words::bytes;
 use std::alloc::Global;
 use std::str::SplitWhitespace;
@@ -13,10 +13,10 @@ pub(crate) fn head(alloc: Global, words: &mut SplitWhitespace<'_>) -> Option<Str
     let message = bytes(alloc, words)?;
     let head = match read_call(message.as_slice()) {
         Ok(head) => head,
-        Err(fault) => return told(alloc, fault),
+        Err(fault) => return debug_text(alloc, fault),
     };
     let versions = (head.xid, head.rpcvers, head.prog, head.vers);
-    let numbers = told(alloc, (versions, head.proc, head.flavor))?;
+    let numbers = debug_text(alloc, (versions, head.proc, head.flavor))?;
     let body = digits(alloc, head.body)?;
     let args = digits(alloc, head.args.rest())?;
     let fields = then(then(numbers, body.as_str())?, args.as_str())?;
@@ -30,7 +30,7 @@ pub(crate) fn heads(alloc: Global, words: &mut SplitWhitespace<'_>) -> Option<St
     for len in 0..message.len() {
         let fault = read_call(&message[..len]).err();
         if fault != Some(RpcFault::Unreadable) {
-            found = then(found, told(alloc, (len, fault))?.as_str())?;
+            found = then(found, debug_text(alloc, (len, fault))?.as_str())?;
         }
     }
     Some(found)

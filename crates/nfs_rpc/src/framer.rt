@@ -1,10 +1,11 @@
 //! Records from the pieces of a stream.
-ghost use Rattle.std.specs.Prelude.{◌≡◌, ◌≢◌, ℕ, ◌+◌, ◌<◌, ◌≤◌, ◌↔◌, ◌⊎◌, [], ◌++◌, true, nat_lt, length, take, IfOk, IfErr, IsTrue, IsErr, IsErrOf};
+ghost use Rattle.std.specs.Prelude.{◌≡◌, ◌≢◌, ℕ, ◌+◌, ◌<◌, ◌≤◌, ◌↔◌, ◌⊎◌, [], ◌++◌, true, nat_lt, length, take, vec_len, vec_capacity};
+ghost use Rattle.std.specs.Prelude.{IfOk, IfErr, OnOk, OnErr, IsTrue, IsErr, IsErrOf};
 ghost use Rattle.nfs_rpc.specs.Progress.{Progress, Unfinished, Moves, BringsTooLong, AsksForRoom};
 ghost use Rattle.nfs_rpc.specs.Stages.{stage_of};
 
 use crate::record::read_header;
-use std::alloc::Global;
+use std::alloc::{AllocError, Global};
 use std::marker::Model;
 use thiserror::Error;
 
@@ -170,7 +171,7 @@ impl Framer {
             self.stage = Stage::Failed;
             return Err(FrameFault::TooLong);
         }
-        if self.content.reserve(left).is_err() {
+        if make_room(&mut self.content, left, self.limit).is_err() {
             self.stage = Stage::Failed;
             return Err(FrameFault::Memory);
         }
@@ -211,6 +212,24 @@ impl Framer {
         self.content.clear();
         self.stage = Stage::START;
     }
+}
+
+// Makes room for so many bytes more: just for these, but at least twice what there was, so that the
+// bytes of many small fragments are moved a few times only, and at most for `limit` in all.
+fn make_room(content: &mut Vec<u8>, more: usize, limit: usize) -> Result<(), AllocError>
+    requires { vec_len content.old + more ≤ limit }
+    ensures items { content.new.items ≡ content.old.items }
+    ensures len { vec_len content.new ≡ vec_len content.old }
+    ensures room { OnOk result (vec_len content.new + more ≤ vec_capacity content.new) }
+    ensures bound { vec_capacity content.old ≤ limit → vec_capacity content.new ≤ limit }
+    ensures full { OnErr result (vec_capacity content.old < vec_len content.old + more) }
+{
+    let (len, room) = (content.len(), content.capacity());
+    if more <= room - len {
+        return Ok(());
+    }
+    let wanted = (len + more).max(room.saturating_mul(2)).min(limit);
+    content.reserve_exact(wanted - len)
 }
 
 // What comes next where so many bytes of a fragment are left.

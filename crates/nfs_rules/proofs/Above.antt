@@ -8,7 +8,7 @@ use Rattle.nfs_inodes.specs.Tree.{Tree, File, Kind, Regular, Directory, Link, at
 use Rattle.nfs_inodes.specs.Law.{Law, LivesAsDirectory, climb, parent_of}
 use Rattle.nfs_inodes.specs.Conditions.{IsOff}
 use Rattle.nfs_inodes.proofs.Lists.{by_test, same_some, not_both}
-use Rattle.nfs_inodes.proofs.Climbs.{climb_add, climb_stuck, reached_in_few}
+use Rattle.nfs_inodes.proofs.law.Ancestors.{climb_add, climb_stuck, reached_in_few}
 use Rattle.nfs_inodes.proofs.Walks.{few_directories}
 use Rattle.nfs_rules.specs.Table.{is_above_within, is_above}
 

@@ -10,7 +10,7 @@ use Rattle.nfs_inodes.specs.Tree.{File, on_some, entries_in, bytes_of}
 use Rattle.nfs_inodes.specs.Law.{Law, LivesAsDirectory}
 use Rattle.nfs_inodes.specs.Conditions.{MayEnter, MayMake, MayMakeDirectory, MayMakeLink}
 use Rattle.nfs_inodes.specs.Reading.{attributes_at}
-use Rattle.nfs_inodes.proofs.Renames.{none_named}
+use Rattle.nfs_inodes.proofs.law.Renames.{none_named}
 use Rattle.nfs_rules.specs.Subjects.{Subject}
 use Rattle.nfs_rules.specs.Tests.{Test, first, read_only, not_directory, search_right, name_long, name_form, found, exists, takes, files, links, numbers, cookies, too_big, space, path_long}
 use Rattle.nfs_rules.specs.Table.{make_dir_rules, sym_link_rules, create_rules, new_file_rules, present_file_rules, size_in}

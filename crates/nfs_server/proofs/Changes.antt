@@ -6,7 +6,7 @@ use Rattle.nfs_procs.specs.Scenes.{Scene}
 use Rattle.nfs_rpc.specs.Calls.{Call}
 use Rattle.nfs_server.specs.Events.{Event, Answer}
 use Rattle.nfs_server.specs.Fits.{Held}
-use Rattle.nfs_server.specs.Keeping.{AnswersChange, AnswersKept, Keeps, PerformsAnew}
+use Rattle.nfs_server.specs.OneEvent.{AnswersChange, AnswersKept, Keeps, PerformsAnew}
 use Rattle.nfs_server.specs.Repeats.{is_refused, key_of}
 
 module _ (c : Scene) (call : Call) (old : Held) (event : Event) (answer : Answer) (new : Held) (none : kept_reply (key_of event) old.kept ≡ None) (anew : PerformsAnew c call answer old new) where

@@ -4,7 +4,7 @@ use Rattle.std.proofs.Math.ListN.{get_or, get_or-map}
 use Rattle.std.proofs.lemmas.List.{take_more, length-map, map-append, reverse-append}
 use Rattle.nfs_server.specs.declared.event.Event as seen
 use Rattle.nfs_server.specs.Events.{Event, Answer, Choice, Done}
-use Rattle.nfs_server.specs.Seen.{event_of}
+use Rattle.nfs_server.specs.InMemory.{event_of}
 use Rattle.nfs_server.specs.Fits.{Held, Past, Fits, GoesOn}
 use Rattle.nfs_server.specs.Runs.{events_of, longer, Hands}
 

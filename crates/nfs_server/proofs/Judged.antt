@@ -17,11 +17,11 @@ use Rattle.nfs_rpc.specs.declared.reply.Accept.TheVariants.{Success}
 use Rattle.nfs_server.specs.AuditLines.{line_of}
 use Rattle.nfs_server.specs.Events.{Event, Answer, Choice, granted, denied}
 use Rattle.nfs_server.specs.Fits.{Held}
-use Rattle.nfs_server.specs.Keeping.{AnswersBy, AnswersChange, AnswersJudged, AnswersKept, AnswersMount, PerformsAnew, scene_for}
+use Rattle.nfs_server.specs.OneEvent.{AnswersBy, AnswersChange, AnswersJudged, AnswersKept, AnswersMount, PerformsAnew, scene_for}
 use Rattle.nfs_server.specs.Repeats.{key_of, may_change}
 use Rattle.nfs_server.specs.Requests.{Request, Nothing, OfNfs, OfMount, args_in, asked, is_nfs, is_null, lacks_args, mount_args_in, request_of}
 use Rattle.nfs_server.specs.RpcRules.{AUTH_NONE, AUTH_SYS, caller_rules, fails_rpc, head_rules, rpc_reply}
-use Rattle.nfs_server.specs.Seen.{told}
+use Rattle.nfs_server.specs.InMemory.{told}
 use Rattle.nfs_server.specs.Steps.{MountPerformed, Requested}
 use Rattle.nfs_server.specs.declared.audit_line.AuditLine.{AuditLine}
 use Rattle.nfs_server.specs.declared.audit_line.Reason.TheVariants as reason

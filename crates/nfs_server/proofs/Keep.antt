@@ -7,7 +7,7 @@ use Rattle.nfs_kept.proofs.Lookups.{found_cut, found_more, found_whole, none_som
 use Rattle.nfs_rpc.specs.Calls.{head_at}
 use Rattle.nfs_server.specs.Events.{Event, Answer, Choice, Done}
 use Rattle.nfs_server.specs.Fits.{AreHeld, AreTrue, Held, Past, Fits, GoesOn}
-use Rattle.nfs_server.specs.Keeping.{Answers, AnswersKept, Keeps}
+use Rattle.nfs_server.specs.OneEvent.{AnswersRecord, AnswersKept, Keeps}
 use Rattle.nfs_server.specs.Repeats.{Earlier, earlier, first_reply, is_changing, is_refused, key_of, one_later, reply_again, standing}
 use Rattle.nfs_server.specs.Steps.{Called, IsRun, Repeated, Step}
 
@@ -180,7 +180,7 @@ module _ (past : Past) (old : Held) (event : Event) (choice : Choice) (answer : 
   goes_by true None c k again a = goes_anew (is_refused answer.line) c k again a.0 refl a.1
 
 -- what the server does is a step after any past that fits, and the past with this event fits after
-pub answers_go : (past : Past) (old : Held) (event : Event) (answer : Answer) (new : Held) → Fits past old → Answers old event answer new
+pub answers_go : (past : Past) (old : Held) (event : Event) (answer : Answer) (new : Held) → Fits past old → AnswersRecord old event answer new
     → (choice : Choice) × GoesOn past old event choice answer new
 answers_go past old event answer new fits a =
     (a.1.0, goes_by past old event a.1.0 answer new fits a.0 (is_changing event) (kept_reply (key_of event) old.kept) refl refl a.1.1 a.1.2)

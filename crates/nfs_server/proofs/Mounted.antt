@@ -18,17 +18,17 @@ use Rattle.nfs_inodes.specs.Tree.{Tree, on_some}
 use Rattle.nfs_mount.specs.MountAnswers.{Mounts, denied_answer, dump_answer, export_answer, granted_answer}
 use Rattle.nfs_mount.specs.Mounts.{after_umnt, without_addr}
 use Rattle.nfs_mount.specs.declared.mount.Mount.{Mount}
-use Rattle.nfs_mount.specs.declared.mounted.Mounted.{Mounted}
-use Rattle.nfs_mount.specs.declared.mounted.Mounted.TheVariants.{Granted, Denied, Memory}
+use Rattle.nfs_mount.specs.declared.outcome.MountOutcome.{MountOutcome}
+use Rattle.nfs_mount.specs.declared.outcome.MountOutcome.TheVariants.{Granted, Denied, Memory}
 use Rattle.nfs_rpc.specs.Calls.{Call}
 use Rattle.nfs_rpc.specs.Replies.{accepted_text}
 use Rattle.nfs_rpc.specs.declared.reply.Accept.TheVariants.{SystemErr}
 use Rattle.nfs_rules.specs.declared.rule.Rule.{Rule}
 use Rattle.nfs_server.specs.AuditLines.{line_of}
 use Rattle.nfs_server.specs.Events.{Choice, granted, denied}
-use Rattle.nfs_server.specs.Keeping.{AnswersMount, Leaves, MountsAs}
+use Rattle.nfs_server.specs.OneEvent.{AnswersMount, Leaves, MountsAs}
 use Rattle.nfs_server.specs.Requests.{mount_args_in, read_args}
-use Rattle.nfs_server.specs.Seen.{told}
+use Rattle.nfs_server.specs.InMemory.{told}
 use Rattle.nfs_server.specs.Steps.{MountDecided, MountDone, State, success}
 use Rattle.nfs_server.specs.declared.audit_line.AuditLine.{AuditLine}
 use Rattle.nfs_server.specs.declared.audit_line.Reason.TheVariants as reason
@@ -38,10 +38,10 @@ use Rattle.nfs_xdr.specs.Written.{Written, Appends}
 
 -- ---- the room
 
-leaves_room : (answer : MountAnswer) (mounts : List Mount) (came : Mounted) (new : List Mount) (before after : Written) → Leaves answer mounts came new before after → length after.bytes + after.room ≡ length before.bytes + before.room
+leaves_room : (answer : MountAnswer) (mounts : List Mount) (came : MountOutcome) (new : List Mount) (before after : Written) → Leaves answer mounts came new before after → length after.bytes + after.room ≡ length before.bytes + before.room
 leaves_room answer mounts came new before after l = appends_room (mount_text answer) before after l.2
 
-pub mount_room : (args : MountArgs) (t : Tree) (exports : List (List Export)) (addr : Addr) (came : Mounted) (old new : List Mount) (before after : Written) → MountsAs args t exports addr came old new before after → length after.bytes + after.room ≡ length before.bytes + before.room
+pub mount_room : (args : MountArgs) (t : Tree) (exports : List (List Export)) (addr : Addr) (came : MountOutcome) (old new : List Mount) (before after : Written) → MountsAs args t exports addr came old new before after → length after.bytes + after.room ≡ length before.bytes + before.room
 mount_room asked.Null t exports addr came old new before after m = leaves_room result.Null old came new before after m
 mount_room (asked.Mount path) t exports addr Granted old new before after m = appends_room (mount_text (granted_answer m.2)) before after m.4
 mount_room (asked.Mount path) t exports addr (Denied rule) old new before after m = appends_room (mount_text (denied_answer rule)) before after m.2
@@ -60,17 +60,17 @@ pub arguments_read : (proc : ℕ) (procedure : MountProcedure) (bytes : List ℕ
 arguments_read proc procedure bytes (Ok args) is read = sym (ap (λ o. on_some o None (λ p. read_args (mount_args_at p bytes))) is ∙ ap read_args read.1)
 arguments_read proc procedure bytes (Err e) is read = sym (ap (λ o. on_some o None (λ p. read_args (mount_args_at p bytes))) is ∙ ap read_args read.1)
 
-pub of_args : (a b : MountArgs) (t : Tree) (exports : List (List Export)) (addr : Addr) (came : Mounted) (old new : List Mount) (before after : Written) → a ≡ b → MountsAs b t exports addr came old new before after → MountsAs a t exports addr came old new before after
+pub of_args : (a b : MountArgs) (t : Tree) (exports : List (List Export)) (addr : Addr) (came : MountOutcome) (old new : List Mount) (before after : Written) → a ≡ b → MountsAs b t exports addr came old new before after → MountsAs a t exports addr came old new before after
 of_args a b t exports addr came old new before after e m = subst (λ x. MountsAs x t exports addr came old new before after) (sym e) m
 
 -- ---- the steps
 
-abbrev is_granted : Mounted → Bool
+abbrev is_granted : MountOutcome → Bool
 is_granted Granted = true
 is_granted (Denied rule) = false
 is_granted Memory = false
 
-module _ (t : Tree) (exports : List (List Export)) (addr : Addr) (call : Call) (came : Mounted) (old new : List Mount) (before after : Written) (reply : List ℕ) where
+module _ (t : Tree) (exports : List (List Export)) (addr : Addr) (call : Call) (came : MountOutcome) (old new : List Mount) (before after : Written) (reply : List ℕ) where
   abbrev StateOf : List Mount → State
   StateOf mounts = record { tree = t; mounts = mounts }
 

@@ -14,7 +14,7 @@ use Rattle.nfs_server.specs.Events.{Event, Answer, Done, silence}
 use Rattle.nfs_server.specs.Feeding.{Device, device, WritesAll, Serves, IsLeft, Ends, replies_of, event_at, EndsWith}
 use Rattle.nfs_server.specs.Fits.{Held, Past, Fits}
 use Rattle.nfs_server.specs.Runs.{longer}
-use Rattle.nfs_server.specs.Taking.{Answers, BeginsAnew, FeedsWith, IsOneAtMost, Writes}
+use Rattle.nfs_server.specs.Taking.{AnswersEvent, BeginsAnew, FeedsWith, IsOneAtMost, Writes}
 use Rattle.nfs_server.specs.declared.session_fault.SessionFault.{SessionFault}
 use Rattle.nfs_server.specs.declared.session_fault.SessionFault.TheVariants.{ConnectionTaken, UnknownConnection, Ended, TooLong, Memory, AuditFault, WriteFault}
 use Rattle.nfs_server.specs.declared.taking.Origin.{Origin}
@@ -103,7 +103,7 @@ ends_broken to audit replies UnknownConnection d rest w = absurd w
 ends_broken to audit replies Ended d rest w = absurd w
 
 module _ (origin : Origin) (old new : Held) (from mid to : Progress) (audit replies : Device) (ready : mid.stage ≡ Ready) (limit : to.limit ≡ mid.limit) where
-  pub feeds_whole : (bytes : List ℕ) (n : ℕ) → Moves from bytes mid → BeginsAnew to → Answers (event_at origin mid.content) (Ok n) old new audit replies → FeedsWith (λ done. IsOneAtMost done × (n ≡ length (replies_of done))) origin bytes (Ok 1) old new from to audit replies
+  pub feeds_whole : (bytes : List ℕ) (n : ℕ) → Moves from bytes mid → BeginsAnew to → AnswersEvent (event_at origin mid.content) (Ok n) old new audit replies → FeedsWith (λ done. IsOneAtMost done × (n ≡ length (replies_of done))) origin bytes (Ok 1) old new from to audit replies
   feeds_whole bytes n moves anew answers past fits text u =
       let a = answers past fits in
       let serves = serves_one past origin mid (text ++ bytes) [] (text ++ bytes) a.0 new ready (moves text u) (sym (append-nil (text ++ bytes))) a.1 a.2 in (
@@ -116,7 +116,7 @@ module _ (origin : Origin) (old new : Held) (from mid to : Progress) (audit repl
         (tt, a.3.0),
       )
 
-  pub feeds_broken : (Also : List Done → Type 0) → ((d : Done) → Also (d ∷ [])) → (piece : List ℕ) (n : ℕ) (fault : SessionFault) → Moves from (take n piece) mid → Answers (event_at origin mid.content) (Err fault) old new audit replies → FeedsWith Also origin piece (Err fault) old new from to audit replies
+  pub feeds_broken : (Also : List Done → Type 0) → ((d : Done) → Also (d ∷ [])) → (piece : List ℕ) (n : ℕ) (fault : SessionFault) → Moves from (take n piece) mid → AnswersEvent (event_at origin mid.content) (Err fault) old new audit replies → FeedsWith Also origin piece (Err fault) old new from to audit replies
   feeds_broken Also also piece n fault moves answers past fits text u =
       let a = answers past fits in
       let cut : text ++ piece ≡ (text ++ take n piece) ++ drop n piece = ap (λ t. text ++ t) (sym (take-append-drop n piece)) ∙ sym (append_assoc text (take n piece) (drop n piece)) in
@@ -132,13 +132,13 @@ module _ (origin : Origin) (old new : Held) (from mid to : Progress) (audit repl
 
 -- ---- how an event is answered
 
-pub answers_by : (event : Event) (old new : Held) (shown answer : Answer) (result : Result ℕ SessionFault) (audit replies : Device) → Handles old event answer new → shown ≡ answer → Writes shown result audit replies → Answers event result old new audit replies
+pub answers_by : (event : Event) (old new : Held) (shown answer : Answer) (result : Result ℕ SessionFault) (audit replies : Device) → Handles old event answer new → shown ≡ answer → Writes shown result audit replies → AnswersEvent event result old new audit replies
 answers_by event old new shown answer result audit replies handles e writes past fits =
     let h = handles past fits in
     (record { event = event; choice = h.0; answer = answer }, refl, h.1.1, subst (λ a. Writes a result audit replies) e writes)
 
 -- there is no reply
-pub answers_none : (event : Event) (old new : Held) (a v : Option (List ℕ)) → Handles old event silence new → Answers event (Ok 0) old new (device a a) (device v v)
+pub answers_none : (event : Event) (old new : Held) (a v : Option (List ℕ)) → Handles old event silence new → AnswersEvent event (Ok 0) old new (device a a) (device v v)
 answers_none event old new a v handles = answers_by event old new silence silence (Ok 0) (device a a) (device v v) handles refl (refl, grows_none a, grows_none v)
 
 -- ---- faults

@@ -22,7 +22,7 @@ use Rattle.nfs_rules.specs.declared.rule.Rule.{Rule}
 use Rattle.nfs_server.specs.AuditLines.{line_of}
 use Rattle.nfs_server.specs.Events.{Choice, Answer, granted, denied}
 use Rattle.nfs_server.specs.Repeats.{may_change}
-use Rattle.nfs_server.specs.Seen.{told}
+use Rattle.nfs_server.specs.InMemory.{told}
 use Rattle.nfs_server.specs.Steps.{Decided, Performed, Refusable, success}
 use Rattle.nfs_server.specs.declared.audit_line.AuditLine.{AuditLine}
 use Rattle.nfs_server.specs.declared.audit_line.Reason.TheVariants as reason

@@ -16,7 +16,7 @@ use Rattle.nfs_server.specs.Feeding.{Device, device, Ends, IsLeft, event_at}
 use Rattle.nfs_server.specs.Fits.{Held, Past, Fits}
 use Rattle.nfs_server.specs.Runs.{longer}
 use Rattle.nfs_server.specs.Streams.{Course, course, Reads, bytes_read, read_bytes, Asks, StreamServes, IsRest, StreamEnds, ReadsEnd, Streams, StreamFeeds, IsToldAs}
-use Rattle.nfs_server.specs.Taking.{Answers, BeginsAnew}
+use Rattle.nfs_server.specs.Taking.{AnswersEvent, BeginsAnew}
 use Rattle.nfs_server.specs.declared.serve_fault.ServeFault.{ServeFault}
 use Rattle.nfs_server.specs.declared.serve_fault.ServeFault.TheVariants as serve
 use Rattle.nfs_server.specs.declared.session_fault.SessionFault.{SessionFault}
@@ -97,7 +97,7 @@ module _ {C : Type 0} (tells : C → Moment → C → Type 0) (addr : Addr) (mom
   asks_one : (d : Done) (content : List ℕ) → d.event ≡ event_at (record { addr = addr; moment = moment }) content → Asks tells before (d ∷ []) after
   asks_one d content event = (before, refl, subst (λ (m : Moment). tells before m after) (sym (ap (λ (v : Event). v.moment) event)) told)
 
-  pub stream_whole : (bytes : List ℕ) (n unfinished : ℕ) → Moves from bytes mid → BeginsAnew to → Answers (event_at (record { addr = addr; moment = moment }) mid.content) (Ok n) old new audit replies
+  pub stream_whole : (bytes : List ℕ) (n unfinished : ℕ) → Moves from bytes mid → BeginsAnew to → AnswersEvent (event_at (record { addr = addr; moment = moment }) mid.content) (Ok n) old new audit replies
       → StreamFeeds tells addr bytes (Ok 1) (course unfinished 0) (course old new) (course from to) (course before after) audit replies
   stream_whole bytes n unfinished moves anew answers past fits text u =
       let a = answers past fits in (
@@ -111,7 +111,7 @@ module _ {C : Type 0} (tells : C → Moment → C → Type 0) (addr : Addr) (mom
         λ len. refl,
       )
 
-  pub stream_broken : (piece : List ℕ) (n : ℕ) (left : Course ℕ) (fault : SessionFault) → Moves from (take n piece) mid → Answers (event_at (record { addr = addr; moment = moment }) mid.content) (Err fault) old new audit replies
+  pub stream_broken : (piece : List ℕ) (n : ℕ) (left : Course ℕ) (fault : SessionFault) → Moves from (take n piece) mid → AnswersEvent (event_at (record { addr = addr; moment = moment }) mid.content) (Err fault) old new audit replies
       → StreamFeeds tells addr piece (Err fault) left (course old new) (course from to) (course before after) audit replies
   stream_broken piece n left fault moves answers past fits text u =
       let a = answers past fits in

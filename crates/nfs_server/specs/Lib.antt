@@ -3,13 +3,13 @@ pub mod FaultWords
 pub mod RpcRules
 pub mod AuditLines
 pub mod Events
-pub mod Seen
+pub mod InMemory
 pub mod ReplyRoom
-pub mod Admitting
+pub mod RpcAnswers
 pub mod Repeats
 pub mod Steps
 pub mod Fits
-pub mod Keeping
+pub mod OneEvent
 pub mod Runs
 pub mod Forward
 pub mod Connections

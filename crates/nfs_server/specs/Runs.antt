@@ -2,7 +2,7 @@
 use Rattle.std.specs.Prelude.{◌≡◌, ℕ, ◌<◌, Bool, true, false, List, [], ◌∷◌, ◌++◌, map, reverse, take, length}
 use Rattle.nfs_server.specs.declared.event.Event as seen
 use Rattle.nfs_server.specs.Events.{Event, Answer, Done}
-use Rattle.nfs_server.specs.Seen.{event_of}
+use Rattle.nfs_server.specs.InMemory.{event_of}
 use Rattle.nfs_server.specs.Fits.{Held, Past, Fits}
 
 abbrev pub events_of : List seen.Event → List Event

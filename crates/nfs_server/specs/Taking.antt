@@ -26,8 +26,8 @@ Writes a (Err UnknownConnection) audit replies = ⊥
 Writes a (Err Ended) audit replies = ⊥
 
 -- an event is answered after every past that fits, and this is written
-abbrev pub Answers : Event → Result ℕ SessionFault → Held → Held → Device → Device → Type 0
-Answers event result old new audit replies = (past : Past) → Fits past old
+abbrev pub AnswersEvent : Event → Result ℕ SessionFault → Held → Held → Device → Device → Type 0
+AnswersEvent event result old new audit replies = (past : Past) → Fits past old
     → (d : Done) × (d.event ≡ event) × Fits (longer past (d ∷ [])) new × Writes d.answer result audit replies
 
 -- a reader stands at the beginning of a record

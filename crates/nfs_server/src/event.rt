@@ -1,7 +1,7 @@
 //! What comes to a server, and what it answers.
 ghost use Rattle.std.specs.Prelude.{Bool};
 ghost use Rattle.nfs_server.specs.Events.{Answer};
-ghost use Rattle.nfs_server.specs.Seen.{answer_of};
+ghost use Rattle.nfs_server.specs.InMemory.{answer_of};
 
 use crate::audit_line::AuditLine;
 use nfs_attrs::moment::Moment;

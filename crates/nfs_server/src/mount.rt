@@ -2,10 +2,10 @@
 ghost use Rattle.std.specs.Prelude.{◌≡◌, ◌+◌, ◌≤◌, length};
 ghost use Rattle.std.specs.Result.{result_ok};
 ghost use Rattle.nfs_rpc.specs.Calls.{call_of};
-ghost use Rattle.nfs_server.specs.Keeping.{AnswersMount, MountsAs};
+ghost use Rattle.nfs_server.specs.OneEvent.{AnswersMount, MountsAs};
 ghost use Rattle.nfs_server.specs.ReplyRoom.{IsBegun, IsReply, reply_in};
 ghost use Rattle.nfs_server.specs.Requests.{mount_args_in};
-ghost use Rattle.nfs_server.specs.Seen.{told};
+ghost use Rattle.nfs_server.specs.InMemory.{told};
 
 use crate::audit_line::{AuditLine, Reason};
 use crate::reply::give_up;
@@ -18,7 +18,7 @@ use nfs_inodes::tree::Tree;
 use nfs_mount::exports::write_export;
 use nfs_mount::limits::MAX_DUMP_BYTES;
 use nfs_mount::mount_list::MountList;
-use nfs_mount::mounted::Mounted;
+use nfs_mount::outcome::MountOutcome;
 use nfs_rpc::call::CallHead;
 use nfs_rpc::reply::{Accept, write_accepted};
 use nfs_xdr::input::Input;
@@ -53,9 +53,9 @@ pub(crate) fn answer_mount(
 {
     write_accepted(out, head.xid, Accept::Success);
     match mount(tree, table, mounts, addr, args, out) {
-        Mounted::Granted => None,
-        Mounted::Denied(rule) => Some(AuditLine::of(addr, head, Reason::Rule(rule, None))),
-        Mounted::Memory => {
+        MountOutcome::Granted => None,
+        MountOutcome::Denied(rule) => Some(AuditLine::of(addr, head, Reason::Rule(rule, None))),
+        MountOutcome::Memory => {
             give_up(out, head.xid);
             Some(AuditLine::of(addr, head, Reason::Memory))
         }
@@ -72,7 +72,7 @@ fn mount(
     addr: Addr,
     args: &MountArgs<'_>,
     out: &mut Output,
-) -> Mounted
+) -> MountOutcome
     requires { MAX_DUMP_BYTES ≤ out.old.room }
     ensures mounts { MountsAs args.now tree.now table.now addr result mounts.old mounts.new out.old out.new }
     ensures room { length out.new.bytes + out.new.room ≡ length out.old.bytes + out.old.room }
@@ -85,5 +85,5 @@ fn mount(
         MountArgs::UnmountAll => mounts.umnt_all(addr),
         MountArgs::Export => write_export(tree, table, out),
     }
-    Mounted::Granted
+    MountOutcome::Granted
 }

@@ -3,10 +3,10 @@ ghost use Rattle.std.specs.Prelude.{◌≡◌, ◌+◌, ◌≤◌, true, length}
 ghost use Rattle.nfs_procs.specs.Procedures.{PerformsAs, doing_of};
 ghost use Rattle.nfs_procs.specs.Scenes.{scene};
 ghost use Rattle.nfs_rpc.specs.Calls.{call_of};
-ghost use Rattle.nfs_server.specs.Keeping.{AnswersCall};
+ghost use Rattle.nfs_server.specs.OneEvent.{AnswersCall};
 ghost use Rattle.nfs_server.specs.Repeats as repeats;
 ghost use Rattle.nfs_server.specs.ReplyRoom.{IsBegun, IsReply, reply_in};
-ghost use Rattle.nfs_server.specs.Seen.{told};
+ghost use Rattle.nfs_server.specs.InMemory.{told};
 
 use crate::audit_line::{AuditLine, Reason};
 use crate::reply::give_up;

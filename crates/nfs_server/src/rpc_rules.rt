@@ -5,7 +5,7 @@ ghost use Rattle.std.specs.List.{find};
 ghost use Rattle.nfs_server.specs.Requests.{is_nfs, is_null};
 ghost use Rattle.nfs_server.specs.RpcRules.{caller_rules, fails_rpc, rpc_name, rpc_status};
 ghost use Rattle.nfs_server.specs.RpcRules as spec;
-ghost use Rattle.nfs_server.specs.Admitting.{Admits, Identifies};
+ghost use Rattle.nfs_server.specs.RpcAnswers.{Admits, Identifies};
 
 use nfs_rpc::auth_sys::{Cred, read_auth_sys};
 use nfs_rpc::call::CallHead;

@@ -9,9 +9,9 @@ ghost use Rattle.nfs_server.specs.Requests.{is_nfs, is_null};
 ghost use Rattle.nfs_server.specs.AuditLines.{line_of};
 ghost use Rattle.nfs_server.specs.declared.audit_line.Reason.TheVariants.{Rpc};
 ghost use Rattle.nfs_server.specs.RpcRules.{fails_rpc, caller_rules, rpc_reply, rpc_rules};
-ghost use Rattle.nfs_server.specs.Seen.{event_of, answer_of, answered, told};
+ghost use Rattle.nfs_server.specs.InMemory.{event_of, answer_of, answered, told};
 ghost use Rattle.nfs_server.specs.Fits.{Held, Past, Fits, GoesOn};
-ghost use Rattle.nfs_server.specs.Keeping.{Answers, AnswersBy, AnswersChange, PerformsAnew, scene_for};
+ghost use Rattle.nfs_server.specs.OneEvent.{AnswersRecord, AnswersBy, AnswersChange, PerformsAnew, scene_for};
 ghost use Rattle.nfs_server.specs.Repeats as repeats;
 ghost use Rattle.nfs_server.specs.ReplyRoom.{IsBegun, IsReply, reply_in};
 ghost use Rattle.nfs_kept.specs.Places.{Key, Place, place_for};
@@ -55,7 +55,7 @@ impl Model for Server {
 
     ghost Value = { Held };
 
-    ghost use Rattle.nfs_server.specs.Seen.{held};
+    ghost use Rattle.nfs_server.specs.InMemory.{held};
 
     ghost view = { λ s. held s.kept s.table s.tree s.mounts s.line };
 }
@@ -111,7 +111,7 @@ impl Server {
     /// The same, said without a past, for who keeps none.
     #[inline(always)]
     pub fn answer(&mut self, event: Event<'_>, reply: &mut ReplyBuf) -> Handled
-        ensures answers { Answers self.old (event_of event.entry) (answered result reply.new self.new.line) self.new }
+        ensures answers { AnswersRecord self.old (event_of event.entry) (answered result reply.new self.new.line) self.new }
         ensures silent { result ≡ Handled.NoReply → (reply.new ≡ []) × (self.new.line ≡ None) }
     {
         let Ok(head) = read_call(event.bytes) else {

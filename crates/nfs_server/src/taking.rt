@@ -3,8 +3,8 @@ ghost use Rattle.std.specs.Prelude.{◌≡◌, ◌<◌, ◌≤◌, ◌↔◌, le
 ghost use Rattle.nfs_server.specs.AuditLines.{line_text};
 ghost use Rattle.nfs_server.specs.Connections.{IsBetween};
 ghost use Rattle.nfs_server.specs.Feeding.{device, event_at, EndsWith};
-ghost use Rattle.nfs_server.specs.Seen.{event_of, told};
-ghost use Rattle.nfs_server.specs.Taking.{Answers, BeginsAnew, FeedsOne, FeedsSome, Writes};
+ghost use Rattle.nfs_server.specs.InMemory.{event_of, told};
+ghost use Rattle.nfs_server.specs.Taking.{AnswersEvent, BeginsAnew, FeedsOne, FeedsSome, Writes};
 ghost use Rattle.nfs_server.specs.Taking.{room_after as room_behind};
 ghost use Rattle.nfs_xdr.specs.Known.{Grows, GrowsByPart};
 
@@ -171,7 +171,7 @@ pub(crate) fn answer_record<W: ByteOut, A: ByteOut>(
     ensures limit { framer.new.limit ≡ framer.old.limit }
     ensures setup { server.new.setup ≡ server.old.setup }
     ensures fault { IfErr result (EndsWith (A.failed audit.new) (W.failed replies.new)) }
-    ensures answers { Answers (event_at origin framer.old.content) result server.old server.new
+    ensures answers { AnswersEvent (event_at origin framer.old.content) result server.old server.new
         (device (A.contents audit.old) (A.contents audit.new))
         (device (W.contents replies.old) (W.contents replies.new)) }
 {
@@ -196,7 +196,7 @@ fn answer_event<W: ByteOut, A: ByteOut>(
 ) -> Result<usize, SessionFault>
     ensures setup { server.new.setup ≡ server.old.setup }
     ensures fault { IfErr result (EndsWith (A.failed audit.new) (W.failed replies.new)) }
-    ensures answers { Answers (event_of event.entry) result server.old server.new
+    ensures answers { AnswersEvent (event_of event.entry) result server.old server.new
         (device (A.contents audit.old) (A.contents audit.new))
         (device (W.contents replies.old) (W.contents replies.new)) }
 {

@@ -4,7 +4,7 @@ use std::alloc::Global;
 use std::fmt::Debug;
 
 /// A value as `Debug` prints it. `None` where there is no memory.
-pub fn told<T: Debug + Drop>(alloc: Global, value: T) -> Option<String> {
+pub fn debug_text<T: Debug + Drop>(alloc: Global, value: T) -> Option<String> {
     format!(in alloc; "{value:?}").ok()
 }
 
@@ -35,7 +35,7 @@ pub fn with<T: Debug + Drop>(
     word: &str,
     value: T,
 ) -> Option<String> {
-    let value = told(alloc, value)?;
+    let value = debug_text(alloc, value)?;
     then(then(answer, word)?, value.as_str())
 }
 

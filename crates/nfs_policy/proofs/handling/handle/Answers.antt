@@ -1,6 +1,6 @@
 use Rattle.nfs_policy.proofs.Confined.{step_leaves, step_names}
 use Rattle.nfs_policy.proofs.handling.handle.Goals as goal
-use Rattle.nfs_server.specs.Seen.{answered, event_of}
+use Rattle.nfs_server.specs.InMemory.{answered, event_of}
 
 pub returns-clause-confined : goal.returns-clause-confined
 returns-clause-confined c past fits = let g = c.handle.ensures.step past fits in

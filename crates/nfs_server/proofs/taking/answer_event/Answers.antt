@@ -1,5 +1,5 @@
 use Rattle.std.proofs.Common.{ap}
-use Rattle.nfs_server.specs.Seen.{told}
+use Rattle.nfs_server.specs.InMemory.{told}
 use Rattle.nfs_server.proofs.OneRecord.{answers_by, answers_none}
 use Rattle.nfs_server.proofs.taking.answer_event.Goals as goal
 

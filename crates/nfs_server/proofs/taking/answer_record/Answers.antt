@@ -1,9 +1,9 @@
 use Rattle.std.proofs.Common.{subst}
 use Rattle.nfs_server.specs.Feeding.{event_at, device}
-use Rattle.nfs_server.specs.Taking.{Answers}
+use Rattle.nfs_server.specs.Taking.{AnswersEvent}
 use Rattle.nfs_server.proofs.taking.answer_record.Goals as goal
 
 pub returns-clause-answers : goal.returns-clause-answers
-returns-clause-answers g c = subst (λ bytes. Answers (event_at c.args.origin bytes) c.answer_event-replied.result c.args.server.now c.answer_event-replied.new.server
+returns-clause-answers g c = subst (λ bytes. AnswersEvent (event_at c.args.origin bytes) c.answer_event-replied.result c.args.server.now c.answer_event-replied.new.server
     (device (g.A.ByteOut.contents c.args.audit.now) (g.A.ByteOut.contents c.answer_event-replied.new.audit))
     (device (g.W.ByteOut.contents c.args.replies.now) (g.W.ByteOut.contents c.answer_event-replied.new.replies))) c.whole.ensures c.answer_event-replied.ensures.answers

@@ -1,6 +1,6 @@
 use Rattle.std.proofs.Common.{ap, sym, ◌∙◌}
 use Rattle.std.specs.Prelude.{slice_get}
-use Rattle.nfs_inodes.proofs.Tests.{never, room_there, full, no_space}
+use Rattle.nfs_inodes.proofs.Tests.{never, room_there, full, no_room}
 use Rattle.nfs_inodes.proofs.tree.Tree.has_room.Goals as goal
 
 pub returns-then-stored_volume : goal.returns-then-stored_volume
@@ -10,4 +10,4 @@ pub returns-else-stored_volume : goal.returns-else-stored_volume
 returns-else-stored_volume c = room_there c.self.inside.files c.self.inside.volumes.items c.args.self.now c.self.view_is c.self.invariant c.args.place c.args.size c.in-Some.stored_volume.now c.takes_size.result (ap (λ vs. slice_get vs c.args.place) (sym c.as_slice.ensures.value) ∙ sym c.in-Some.ensures) c.if-stored_volume.false c.takes_size.ensures
 
 pub returns-in-None : goal.returns-in-None
-returns-in-None c = never (λ room. no_space c.self.inside.files c.self.inside.volumes.items c.args.self.now c.self.view_is c.args.place c.args.size (ap (λ vs. slice_get vs c.args.place) (sym c.as_slice.ensures.value) ∙ sym c.in-None.ensures) room.space)
+returns-in-None c = never (no_room c.self.inside.files c.self.inside.volumes.items c.args.self.now c.self.view_is c.args.place c.args.size (ap (λ vs. slice_get vs c.args.place) (sym c.as_slice.ensures.value) ∙ sym c.in-None.ensures))

@@ -1,7 +1,7 @@
 use Rattle.std.proofs.Common.{List, ℕ, [], sym, subst}
 use Rattle.nfs_inodes.specs.Tree.{Kind, Directory}
 use Rattle.nfs_inodes.specs.StepConditions.{MayAddKind}
-use Rattle.nfs_inodes.proofs.NewFiles.{fresh_directory}
+use Rattle.nfs_inodes.proofs.law.NewFiles.{fresh_directory}
 use Rattle.nfs_inodes.proofs.tree.Tree.make_dir.Goals as goal
 
 pub make-requires : goal.make-requires

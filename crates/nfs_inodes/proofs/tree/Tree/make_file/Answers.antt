@@ -1,7 +1,7 @@
 use Rattle.std.proofs.Common.{List, ℕ, sym, subst}
 use Rattle.nfs_inodes.specs.Tree.{Regular}
 use Rattle.nfs_inodes.specs.StepConditions.{MayAddKind}
-use Rattle.nfs_inodes.proofs.NewFiles.{fresh_file, impossible}
+use Rattle.nfs_inodes.proofs.law.NewFiles.{fresh_file, impossible}
 use Rattle.nfs_inodes.proofs.tree.Tree.make_file.Goals as goal
 
 pub make-requires : goal.make-requires

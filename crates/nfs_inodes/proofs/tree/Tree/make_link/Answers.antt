@@ -1,7 +1,7 @@
 use Rattle.std.proofs.Common.{◌≤◌, List, ℕ, length, sym, subst}
 use Rattle.nfs_inodes.specs.Tree.{Link}
 use Rattle.nfs_inodes.specs.StepConditions.{MayAddKind}
-use Rattle.nfs_inodes.proofs.NewFiles.{fresh_link, impossible}
+use Rattle.nfs_inodes.proofs.law.NewFiles.{fresh_link, impossible}
 use Rattle.nfs_inodes.proofs.tree.Tree.make_link.Goals as goal
 
 pub make-requires : goal.make-requires

@@ -22,7 +22,7 @@ returns-then-is_err-clause-memory c = λ e.
     let limit = ap (λ (p : Progress). p.limit) c.self.view_is in
     let len = ap (λ (p : Progress). length p.content) c.self.view_is in
     let within = keeps_header c.self.inside.limit (vec_len c.self.inside.content) (vec_capacity c.self.inside.content) c.args.have c.self.inside.stage c.args.bytes (ap (λ (p : Progress). p.stage) c.self.view_is ∙ c.requires.stage) c.self.invariant in
-    let full = refused_above c.reserve.result c.reserve.ensures.full (search (rules)) in
+    let full = refused_above c.make_room.result c.make_room.ensures.full (search (rules)) in
     header_asks c.args.self.now c.args.have c.fill_header-n.result.1 c.read_header-last.result.1 c.read_header-last.result.0 c.args.bytes c.fill_header-n.result.0 c.args.piece.now c.requires.stage c.if-have-n-lt4.false c.fill_header-n.ensures.filled c.read_header-last.ensures.mark c.read_header-last.ensures.below (omega (arith, c.self.inside.content.ok, full))
     (omega (arith, c.self.inside.content.ok.0, limit, len, within, c.len.ensures, c.if-left-self.false))
 
@@ -34,3 +34,8 @@ returns-clause-moves c =
     header_moves c.args.self.now _ c.args.have c.fill_header-n.result.1 c.read_header-last.result.1 c.read_header-last.result.0 c.args.bytes c.fill_header-n.result.0 (take c.fill_header-n.result.1 c.args.piece.now) c.requires.stage c.if-have-n-lt4.false c.fill_header-n.ensures.filled c.read_header-last.ensures.mark c.read_header-last.ensures.below
     (omega (arith, c.self.inside.content.ok.0, limit, len, within, c.len.ensures, c.if-left-self.false))
     (record { limit = search rules; stage_is = c.stage_before-self-inside.ensures.stage; content_is = search rules })
+
+pub make_room-requires : goal.make_room-requires
+make_room-requires c =
+    let within = keeps_header c.self.inside.limit (vec_len c.self.inside.content) (vec_capacity c.self.inside.content) c.args.have c.self.inside.stage c.args.bytes (ap (λ (p : Progress). p.stage) c.self.view_is ∙ c.requires.stage) c.self.invariant in
+    omega (arith, within, c.len.ensures, c.if-left-self.false)

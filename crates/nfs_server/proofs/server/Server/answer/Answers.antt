@@ -3,10 +3,10 @@ use Rattle.nfs_kept.specs.Places.{kept_reply}
 use Rattle.nfs_rpc.specs.Calls.{head_at}
 use Rattle.nfs_server.specs.Events.{Answer, silence}
 use Rattle.nfs_server.specs.Fits.{Held}
-use Rattle.nfs_server.specs.Keeping.{Answers, AnswersCalled}
+use Rattle.nfs_server.specs.OneEvent.{AnswersRecord, AnswersCalled}
 use Rattle.nfs_server.specs.Repeats.{key_of}
 use Rattle.nfs_server.specs.ReplyRoom.{reply_in}
-use Rattle.nfs_server.specs.Seen.{event_of, held, told}
+use Rattle.nfs_server.specs.InMemory.{event_of, held, told}
 use Rattle.nfs_server.proofs.Performed.{no_choice}
 use Rattle.nfs_server.proofs.server.Server.answer.Goals as goal
 
@@ -15,7 +15,7 @@ returns-in_default-clause-answers c =
     let inside = c.self.inside in let event = event_of c.args.event in
     let old : Held = held inside.kept inside.table inside.tree inside.mounts inside.line in
     let new : Held = held inside.kept inside.table inside.tree inside.mounts None in
-    subst (λ (h : Held). Answers h event silence new) c.self.view_is
+    subst (λ (h : Held). AnswersRecord h event silence new) c.self.view_is
     (refl, subst (λ head. AnswersCalled head old event silence new) (sym c.in_default.ensures.exact) (no_choice (is_some (kept_reply (key_of event) old.kept)), refl, ((refl, refl), refl)))
 
 pub returns-clause-answers : goal.returns-clause-answers

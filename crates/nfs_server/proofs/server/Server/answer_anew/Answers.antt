@@ -1,9 +1,9 @@
 use Rattle.std.proofs.Common.{refl, subst}
 use Rattle.nfs_rpc.specs.Calls.{call_of}
 use Rattle.nfs_server.specs.Fits.{Held}
-use Rattle.nfs_server.specs.Keeping.{PerformsAnew, scene_for}
+use Rattle.nfs_server.specs.OneEvent.{PerformsAnew, scene_for}
 use Rattle.nfs_server.specs.ReplyRoom.{reply_in}
-use Rattle.nfs_server.specs.Seen.{event_of, held, told}
+use Rattle.nfs_server.specs.InMemory.{event_of, held, told}
 use Rattle.nfs_server.proofs.server.Server.answer_anew.Goals as goal
 
 pub returns-clause-answers : goal.returns-clause-answers

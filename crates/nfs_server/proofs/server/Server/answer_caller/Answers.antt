@@ -1,7 +1,7 @@
 use Rattle.std.proofs.Common.{is_none, ap, sym, ◌∙◌}
 use Rattle.nfs_rpc.specs.Calls.{call_of}
 use Rattle.nfs_server.specs.Requests.{args_in, args_read}
-use Rattle.nfs_server.specs.Seen.{event_of}
+use Rattle.nfs_server.specs.InMemory.{event_of}
 use Rattle.nfs_server.proofs.Judged.{anew_requested, change_requested, denied_unread, nfs_lacks}
 use Rattle.nfs_server.proofs.server.Server.answer_caller.Goals as goal
 

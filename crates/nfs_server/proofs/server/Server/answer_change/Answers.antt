@@ -4,10 +4,10 @@ use Rattle.nfs_kept.proofs.Shows.{none_found}
 use Rattle.nfs_procs.specs.Procedures.{doing_of}
 use Rattle.nfs_rpc.specs.Calls.{call_of}
 use Rattle.nfs_server.specs.Fits.{Held}
-use Rattle.nfs_server.specs.Keeping.{AnswersChange, scene_for}
+use Rattle.nfs_server.specs.OneEvent.{AnswersChange, scene_for}
 use Rattle.nfs_server.specs.Repeats.{wants_memory}
 use Rattle.nfs_server.specs.ReplyRoom.{reply_in}
-use Rattle.nfs_server.specs.Seen.{event_of, held, told}
+use Rattle.nfs_server.specs.InMemory.{event_of, held, told}
 use Rattle.nfs_server.proofs.Changes.{given_back, place_refused, reply_kept}
 use Rattle.nfs_server.proofs.Performed.{no_place}
 use Rattle.nfs_server.proofs.server.Server.answer_change.Goals as goal

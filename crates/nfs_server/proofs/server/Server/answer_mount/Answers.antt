@@ -4,9 +4,9 @@ use Rattle.nfs_rpc.specs.Calls.{call_of}
 use Rattle.nfs_server.specs.Requests.{mount_args_in}
 use Rattle.nfs_server.specs.RpcRules.{caller_rules}
 use Rattle.nfs_server.specs.Fits.{Held}
-use Rattle.nfs_server.specs.Keeping.{AnswersBy}
+use Rattle.nfs_server.specs.OneEvent.{AnswersBy}
 use Rattle.nfs_server.specs.ReplyRoom.{reply_in}
-use Rattle.nfs_server.specs.Seen.{event_of, held, told}
+use Rattle.nfs_server.specs.InMemory.{event_of, held, told}
 use Rattle.nfs_server.specs.declared.rpc_rules.RpcRule.TheVariants.{Arguments}
 use Rattle.std.proofs.Common.{[], ◌∷◌}
 use Rattle.nfs_server.proofs.Judged.{denied_by, denied_unread, mount_lacks, mount_requested}

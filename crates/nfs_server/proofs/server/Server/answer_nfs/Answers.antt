@@ -1,7 +1,7 @@
 use Rattle.nfs_rpc.specs.Calls.{call_of}
 use Rattle.nfs_server.specs.RpcRules.{caller_rules}
 use Rattle.nfs_server.specs.declared.rpc_rules.RpcRule.TheVariants.{Arguments}
-use Rattle.nfs_server.specs.Seen.{event_of}
+use Rattle.nfs_server.specs.InMemory.{event_of}
 use Rattle.std.proofs.Common.{[], ◌∷◌}
 use Rattle.nfs_server.proofs.Judged.{denied_by}
 use Rattle.nfs_server.proofs.server.Server.answer_nfs.Goals as goal

@@ -1,4 +1,4 @@
-use Rattle.nfs_server.specs.Seen.{event_of, answered}
+use Rattle.nfs_server.specs.InMemory.{event_of, answered}
 use Rattle.nfs_server.proofs.Keep.{answers_go}
 use Rattle.nfs_server.proofs.server.Server.handle.Goals as goal
 

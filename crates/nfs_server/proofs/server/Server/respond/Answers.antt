@@ -1,9 +1,9 @@
 use Rattle.std.specs.Prelude.{Ok}
 use Rattle.std.proofs.Common.{ap, subst, ◌∙◌}
 use Rattle.nfs_rpc.specs.Calls.{call_of}
-use Rattle.nfs_server.specs.Admitting.{Admits}
+use Rattle.nfs_server.specs.RpcAnswers.{Admits}
 use Rattle.nfs_server.specs.RpcRules.{head_rules}
-use Rattle.nfs_server.specs.Seen.{event_of}
+use Rattle.nfs_server.specs.InMemory.{event_of}
 use Rattle.nfs_server.specs.declared.rpc_rules.Admitted.TheVariants.{Null, Nfs, Mount}
 use Rattle.nfs_server.proofs.Judged.{admitted, call_rules, denied_by, null_done}
 use Rattle.nfs_server.proofs.server.Server.respond.Goals as goal

@@ -1,6 +1,6 @@
 use Rattle.std.proofs.Common.{◌+◌, true, false, sym, ap, subst, ◌∙◌, arith}
 use Rattle.std.proofs.lemmas.Bool.{false≢true}
-use Rattle.nfs_server.specs.Seen.{answered}
+use Rattle.nfs_server.specs.InMemory.{answered}
 use Rattle.nfs_server.specs.Runs.{events_of, Hands}
 use Rattle.nfs_server.proofs.Going.{hands_on}
 use Rattle.nfs_server.proofs.server.Server.run.Goals as goal

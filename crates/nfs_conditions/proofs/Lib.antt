@@ -1,0 +1,4 @@
+pub mod Files
+pub mod Room
+pub mod Names
+pub mod Renames

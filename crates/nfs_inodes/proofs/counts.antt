@@ -1,0 +1,5 @@
+pub mod Operations
+pub mod Additions
+pub mod FileChanged
+pub mod Removals
+pub mod Carried

@@ -1,0 +1,14 @@
+pub mod Alike
+pub mod WithEntry
+pub mod WithNewFile
+pub mod Operations
+pub mod Ancestors
+pub mod NewFiles
+pub mod Settings
+pub mod EntryLess
+pub mod WithoutEntry
+pub mod WithoutFile
+pub mod Unlinks
+pub mod Moved
+pub mod Carried
+pub mod Renames

@@ -1,5 +1,0 @@
-use Rattle.nfs_inodes.proofs.EntryTests.{cookie_left}
-use Rattle.nfs_inodes.proofs.tree.Tree.has_cookie_left.Goals as goal
-
-pub returns-in-Some : goal.returns-in-Some
-returns-in-Some c = cookie_left c.args.self.now c.args.dir.0 c.in-Some.next_cookie c.in-Some.ensures

@@ -1,5 +1,0 @@
-use Rattle.nfs_inodes.proofs.EntryTests.{unlinks}
-use Rattle.nfs_inodes.proofs.tree.Tree.may_unlink.Goals as goal
-
-pub returns-in-Some : goal.returns-in-Some
-returns-in-Some c = unlinks c.args.self.now c.args.dir.0 c.in-Some.number.0 c.args.name.now c.is_empty.result c.law.ensures c.in-Some.ensures c.is_empty.ensures

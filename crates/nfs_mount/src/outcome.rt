@@ -1,0 +1,13 @@
+//! What became of an MNT.
+use nfs_rules::rule::Rule;
+
+/// What became of an MNT.
+#[derive(Clone, Copy, Debug, PartialEq, Eq)]
+pub enum MountOutcome {
+    /// The volume is mounted.
+    Granted,
+    /// It fails this rule, the first that it fails.
+    Denied(Rule),
+    /// No rule fails, but there is no memory for it.
+    Memory,
+}
