@@ -225,6 +225,8 @@ static unsigned char *do_write(struct call *c, unsigned char *at) {
     }
     memcpy((void *)(f->bytes + offset), data.at, count);
     touch(f);
+    if (count > 0 && c->ids.uid != 0)
+        changed(f)->mode &= 01777;
     at = put(put(wcc(put(at, 0), &before), count), 2);
     memcpy(at, s.key, 8);
     return at + 8;
@@ -261,6 +263,11 @@ static unsigned char *do_create(struct call *c, unsigned char *at) {
     return wcc(shown(put64(put(at + 12, 0), f->number), f), &before);
 }
 
+/* Whether a directory that restricts deletion lets the entry of a file go. */
+static int lets_go(const struct call *c, const struct file *dir, const struct file *f) {
+    return !(dir->mode & 01000) || c->ids.uid == 0 || c->ids.uid == dir->uid || c->ids.uid == f->uid;
+}
+
 static unsigned char *do_remove(struct call *c, unsigned char *at) {
     const struct file *dir = NULL, *f = NULL;
     struct entry *e = NULL;
@@ -277,7 +284,9 @@ static unsigned char *do_remove(struct call *c, unsigned char *at) {
             status = fails(c, "no-entry", 2);
         else if (!(rights(&c->ids, dir) & 2))
             status = fails(c, "dir-write", 13);
-        else if ((f = find(&s, e->number))->type == 2)
+        else if (!lets_go(c, dir, f = find(&s, e->number)))
+            status = fails(c, "sticky", 1);
+        else if (f->type == 2)
             status = fails(c, "is-dir", 21);
     }
     if (!status) {
@@ -315,7 +324,9 @@ static unsigned char *do_rename(struct call *c, unsigned char *at) {
         f = find(&s, number);
         other = entry_of(to, new_name);
         if (!other || other->number != number) {
-            if (other && (f->type == 2 || find(&s, other->number)->type == 2))
+            if (!lets_go(c, from, f) || (other && !lets_go(c, to, find(&s, other->number))))
+                status = fails(c, "sticky", 1);
+            else if (other && (f->type == 2 || find(&s, other->number)->type == 2))
                 status = fails(c, "incompatible", 17);
             else {
                 leave(from, e);
