@@ -53,7 +53,7 @@ had_unlinked low t d name now rising = by (entry_at t d name)
     u = without_entry t d name now
 
     released_had : (n : ℕ) (b : Bool) → Had u (if b then without_file u n else touched u n now)
-    released_had n false = had_changed u n (λ f. record f { ctime = now }) (λ f e c. c)
+    released_had n false k e c = had_changed u n (λ f. record f { ctime = now }) (λ f e c. c) k e c
     released_had n true k e c = by_number k n
         (λ s. absurd (not_in_empty (entries_at (without_file u n) k) e (ap entries_of (ap (λ m. at m (without_file u n).files) s ∙ at_without_same low u.next n u.files (rising u refl))) c))
         (λ o. subst (λ q. Contains (entries_of q) e) (at_without_other n k u.files o) c)
@@ -82,7 +82,7 @@ module _ (P : ℕ → Entry → Type 0) where
 
   -- ---- the elementary changes
 
-  KeepsFile : ℕ → File → File → Type 0
+  abbrev KeepsFile : ℕ → File → File → Type 0
   KeepsFile n f g = (e : Entry) → Contains (entries_in f.kind) e → Contains (entries_in g.kind) e ⊎ P n e
 
   keeps_changed : (t : Tree) (n : ℕ) (h : File → File) → ((f : File) → Lives t n f → KeepsFile n f (h f)) → Keeps t (on_some (at n t.files) t (λ f. with_file t n (h f)))
@@ -211,6 +211,10 @@ unlinked_empty t d name now may e is =
     ∙ ap entries_of (at_with_other d may.entry.number (left may.dir name now) t.files (other_file t d name now may) ∙ may.at_file)
     ∙ may.empty
 
+-- the new name is not that of what is moved
+abbrev pub IsApart : (t : Tree) (from : ℕ) (name : List ℕ) (to : ℕ) (new_name : List ℕ) → MayRename t from name to new_name → Type 0
+IsApart t from name to new_name may = (old : Entry) → entry_named new_name (entries_in may.target.kind) ≡ Some old → old.number ≢ may.entry.number
+
 module _ (P : ℕ → Entry → Type 0) (t : Tree) (law : Law t) (now : Moment) where
   pub keeps_unlink : (d : ℕ) (name : List ℕ) → MayUnlink t d name → MayLeave P t d name → Keeps P t (after_unlink t d name now)
   keeps_unlink d name may leave = keeps_unlinked P t d name now leave (unlinked_empty t d name now may)
@@ -219,16 +223,15 @@ module _ (P : ℕ → Entry → Type 0) (t : Tree) (law : Law t) (now : Moment) 
   keeps_make d name f = keeps_made P t d name f now (at_next 0 t.next t.files law.rising)
 
   module _ (from : ℕ) (name : List ℕ) (to : ℕ) (new_name : List ℕ) (may : MayRename t from name to new_name) where
-    -- the new name is not that of what is moved
-    abbrev pub IsApart : Type 0
-    IsApart = (old : Entry) → entry_named new_name (entries_in may.target.kind) ≡ Some old → old.number ≢ may.entry.number
+    abbrev Apart : Type 0
+    Apart = IsApart t from name to new_name may
 
-    module _ (leave : IsApart → MayLeave P t from name) (leave_too : IsApart → (old : Entry) → entry_named new_name (entries_in may.target.kind) ≡ Some old → MayLeave P t to new_name) where
+    module _ (leave : Apart → MayLeave P t from name) (leave_too : Apart → (old : Entry) → entry_named new_name (entries_in may.target.kind) ≡ Some old → MayLeave P t to new_name) where
       onto : (o : Option Entry) → entry_named new_name (entries_in may.target.kind) ≡ o → Keeps P t (after_rename t from name to new_name now)
       onto None is = subst (Keeps P t) (sym (renamed_new t from name to new_name now may is)) (keeps_carried P t from may.entry.number to name new_name now (leave (λ old found. absurd (not_both is found))))
       onto (Some old) is = by_number old.number may.entry.number
           (λ s. subst (Keeps P t) (sym (renamed_same t from name to new_name now may old is s)) (keeps_itself P t))
-          (λ o. let apart : IsApart = λ other found. subst (λ (e : Entry). e.number ≢ may.entry.number) (same_some (sym is ∙ found)) o in
+          (λ o. let apart : Apart = λ other found. subst (λ (e : Entry). e.number ≢ may.entry.number) (same_some (sym is ∙ found)) o in
           let gone = may_unlink t from name to new_name now may law old is o in
           let u = after_unlink t to new_name now in
           let had : Had t u = had_unlinked 0 t to new_name now (λ w e. subst (λ (w : Tree). AreRising 0 w.files w.next) (sym (e ∙ left_is t to now new_name may.target may.at_target.0)) (rising_with 0 t.next to t.files (left may.target new_name now) law.rising)) in

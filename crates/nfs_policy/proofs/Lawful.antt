@@ -7,8 +7,10 @@ use Rattle.nfs_args.specs.declared.create.Create.{Create}
 use Rattle.nfs_args.specs.declared.create.CreateHow.{CreateHow}
 use Rattle.nfs_args.specs.declared.create.CreateHow.TheVariants.{Unchecked, Guarded, Exclusive}
 use Rattle.nfs_args.specs.declared.set_attr.SetAttr.{SetAttr}
+use Rattle.nfs_args.specs.declared.write.Write.{Write}
 use Rattle.nfs_attrs.specs.declared.fattr.Fattr.{Fattr}
 use Rattle.nfs_attrs.specs.declared.moment.Moment.{Moment}
+use Rattle.nfs_attrs.specs.declared.sattr.Sattr.{Sattr}
 use Rattle.nfs_exports.specs.declared.table.Export.{Export}
 use Rattle.nfs_inodes.proofs.Lists.{same_some, not_both}
 use Rattle.nfs_inodes.proofs.Maps.{at_with_same}
@@ -21,6 +23,7 @@ use Rattle.nfs_inodes.specs.Changes.{resized_to, after_resize, after_set, after_
 use Rattle.nfs_inodes.specs.Conditions.{MayMake, MayResize}
 use Rattle.nfs_inodes.specs.Law.{Law, Lives}
 use Rattle.nfs_inodes.specs.Tree.{Tree, File, at, on_some}
+use Rattle.nfs_procs.proofs.GivenSettings.{lives_written}
 use Rattle.nfs_procs.specs.Changers.{set_attr, write, create, make_dir, sym_link, remove, remove_dir, rename, link, given_of, sets_something, file_mode, directory_mode, link_mode, attributes_in, verifier_in, after_settings, after_writing, after_taking, after_creating, with_cleared_mode, cleared_mode, has_bytes, size_alone, size_taken, mode_alone}
 use Rattle.nfs_procs.specs.NewFiles.{new_file_of}
 use Rattle.nfs_procs.specs.Doing.{Doing}
@@ -32,7 +35,7 @@ use Rattle.nfs_rules.proofs.Links.{may_link}
 use Rattle.nfs_rules.proofs.NewFiles.{may_make_directory, may_make_link, may_make_file}
 use Rattle.nfs_rules.proofs.Removals.{may_remove, may_remove_directory, some_from_is_none}
 use Rattle.nfs_rules.proofs.Renames.{may_rename}
-use Rattle.nfs_rules.proofs.SeenFiles.{seen_lives}
+use Rattle.nfs_rules.proofs.SeenFiles.{seen_lives, found_seen}
 use Rattle.nfs_rules.proofs.Sizes.{may_write, may_set_size, may_resize_present}
 use Rattle.nfs_rules.proofs.Firsts.{passed_at}
 use Rattle.nfs_rules.specs.Subjects.{Caller, Subject}
@@ -81,7 +84,7 @@ module _ (s : Subject) (law : Law s.tree) (t : Tree) (exports : List (List Expor
       settled s.tree law f.fileid now lives.0 lives.1 (with_cleared_mode s.ids.uid f (size_alone (size_taken how))) (may how same)
     where
       may : (how : CreateHow) → a.how ≡ how → (k : ℕ) → size_taken how ≡ Some k → MayResize s.tree f.fileid k
-      may (Unchecked attributes) same = may_resize_present s law a none f e attributes same
+      may (Unchecked attributes) same k size = may_resize_present s law a none f e attributes same k size
       may (Guarded attributes) same k size = absurd (not_both refl size)
       may (Exclusive verifier) same k size = absurd (not_both refl size)
 

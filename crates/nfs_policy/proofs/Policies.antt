@@ -178,7 +178,7 @@ module _ (t : Tree) (exports : List (List Export)) (caller : Caller) (s : Subjec
 
     cleared_may : (changes : Bool) → (changes ≡ true → is_writer ids r ≡ true) → (mode : ℕ) → cleared_mode s.ids.uid s.file changes ≡ Some mode → (is_writer ids r ≡ true) × (loses_set_ids r.mode (mode % 4096) ≡ true)
     cleared_may changes writes mode e =
-        let c = when_some _ (s.file.mode % 1024) mode e in
+        let c = when_some (changes && not (nat_eq s.ids.uid 0) && nat_le 1024 s.file.mode) (s.file.mode % 1024) mode e in
         let low : r.mode % 1024 ≡ mode = ap (λ (k : Fattr). k.mode % 1024) (shown r at_r) ∙ c.1 in
         (writes (and_parts changes (not (nat_eq s.ids.uid 0)) (and_parts (changes && not (nat_eq s.ids.uid 0)) (nat_le 1024 s.file.mode) c.0).0).0, ap (λ k. loses_set_ids r.mode (k % 4096)) (sym low) ∙ loses_both r.mode)
 
@@ -434,8 +434,8 @@ module _ (t : Tree) (exports : List (List Export)) (caller : Caller) (one two : 
   -- ---- what RENAME takes away
 
   module _ (a : Rename) (none : first (rename_rules one two_here a) ≡ None) (may : MayRename one.tree one.file.fileid a.from.name two.file.fileid a.to.name) where
-    passed : (place : ℕ) (test : Test) → slice_get (rename_rules one two_here a) place ≡ Some test → test.1 ≡ false
-    passed place test e = passed_at (rename_rules one two_here a) none place test e
+    passed : (place : ℕ) (rule : Test) → slice_get (rename_rules one two_here a) place ≡ Some rule → rule.1 ≡ false
+    passed place rule e = passed_at (rename_rules one two_here a) none place rule e
 
     moved : (f : Fattr) × (found one a.from.name ≡ Some f)
     moved = some_from_is_none (found one a.from.name) (passed 11 (test.no_entry one a.from.name) refl)
@@ -453,7 +453,7 @@ module _ (t : Tree) (exports : List (List Export)) (caller : Caller) (one two : 
     entry_to f is = let dots = no_dots a.to.name (passed 4 (test.dot_name a.to.name) refl) in
         present_name one.tree two.file.fileid may.target may.at_target a.to.name f.fileid (found_seen two_here a.to.name f is).0 dots.0 dots.1
 
-    module _ (apart : IsApart one.tree law now one.file.fileid a.from.name two.file.fileid a.to.name may) where
+    module _ (apart : IsApart one.tree one.file.fileid a.from.name two.file.fileid a.to.name may) where
       is_other : (o : Option Fattr) → found two_here a.to.name ≡ o → is_moved moved.0 o ≡ false
       is_other None is = refl
       is_other (Some f) is = let e = entry_to f is in apart_number moved.0.fileid f.fileid (λ same. apart e.0 e.1 (e.2 ∙ sym same ∙ sym moved_number))

@@ -7,7 +7,7 @@ use Rattle.nfs_inodes.proofs.Lists.{same_some, not_both, by_number, in_head, not
 use Rattle.nfs_inodes.proofs.Maps.{at_push_other, at_without_other}
 use Rattle.nfs_inodes.specs.Changes.{with_new_file, without_file}
 use Rattle.nfs_inodes.specs.Example.{file_1, file_2, file_3, file_7, file_8, start, tree_e}
-use Rattle.nfs_inodes.specs.Tree.{Tree, File, Directory, at, on_some, entries_in, parent_in}
+use Rattle.nfs_inodes.specs.Tree.{Tree, File, Directory, Entry, at, on_some, entries_in, parent_in}
 use Rattle.nfs_policy.proofs.Leading.{policy_itself}
 use Rattle.nfs_policy.specs.Policy.{EntriesDiffer}
 use Rattle.nfs_policy.specs.Refusals.{later, PassesOver, Refuses}
@@ -31,6 +31,10 @@ unnamed u n none same d = by_number d.number n
 false_is : false ≡ true → ⊥
 false_is e = cc
 
+-- the first entry of directory 2
+abbrev first : Entry
+first = record { cookie = 3; name = 0x78 ∷ []; number = 3 }
+
 pub refuses : Refuses
 refuses = record {
   bytes = λ p. false_is ((p.rightful 3 file_3 _ (ids 9) refl refl refl).bytes (λ e. let h : ◌≡◌ {A = ℕ} 104 121 = ap (λ l. get_or l 0 0) e in omega (arith, h)));
@@ -41,7 +45,7 @@ refuses = record {
   group = λ p. false_is ((p.rightful 3 file_3 (record file_3 { gid = 7 }) (ids 1) refl refl refl).group (λ e. let h : ◌≡◌ {A = ℕ} 1 7 = e in omega (arith, h)));
   volume = λ p. false_is (p.writable 8 file_8 (inl refl) (λ e. other e));
   entries = λ p. false_is ((p.rightful 1 file_1 (record file_1 { kind = Directory 1 7 [] }) (ids 9) refl refl refl).entries (λ e. let h : ◌≡◌ {A = ℕ} 4 0 = ap length e in omega (arith, h)));
-  deletion = λ p. false_is (p.deletion 2 (record file_2 { mode = 1023 }) (record { cookie = 3; name = 0x78 ∷ []; number = 3 }) file_3 (ids 9) refl (in_head _ _) (λ c. not_in_empty _ _ refl c) refl refl);
+  deletion = λ p. false_is (p.deletion 2 (record file_2 { mode = 1023 }) first file_3 (ids 9) refl (in_head first (record { cookie = 4; name = 0x6e ∷ []; number = 4 } ∷ [])) (λ c. not_in_empty [] first refl c) refl refl);
   time = λ p. false_is ((p.rightful 3 file_3 (record file_3 { atime = later }) (ids 9) refl refl refl).atime earlier);
   own_time = λ p. false_is ((p.rightful 2 file_2 (record file_2 { mtime = later }) (ids 9) refl refl refl).own_mtime (λ e. earlier (sym e)) earlier);
   maker = λ p. let h : ◌≡◌ {A = ℕ} 1 9 = (p.new 9 file_3 (ids 9) refl refl refl).uid (λ e. let z : ◌≡◌ {A = ℕ} 9 0 = e in omega (arith, z)) in omega (arith, h);
