@@ -8,7 +8,7 @@
 #include "files.h"
 #include <stdio.h>
 
-enum { CALLS = 5000000, READS = 200000, RUNS = 5, MAX_READ = 65536 };
+enum { CALLS = 5000000, READS = 200000, RUNS = 5, MAX_READ = 131072 };
 static int may_search(const struct ids *ids, const struct file *file) { return rights(ids, file) & 1; }
 
 static int may_read(const struct ids *ids, const struct file *file) { return ids->uid == file->uid || (rights(ids, file) & 5) != 0; }
@@ -245,7 +245,7 @@ __attribute__((noinline, noclone)) static int read_mount(const unsigned char *re
 
 static const struct entry in_a[] = {{"pub", 3, 2}, {"g", 1, 5}, {"own", 3, 6}, {"zero", 4, 7}};
 static const struct entry in_pub[] = {{"x", 1, 3}, {"n", 1, 4}, {"large", 5, 9}};
-static unsigned char large[65536];
+static unsigned char large[MAX_READ];
 static const struct file files[] = {
     {1, 2, 0755, 4, 0, 0, 4096, 0, {0}, {0}, {0}, 1, in_a, 4, NULL},
     {2, 2, 0777, 2, 1, 1, 4096, 0, {0}, {0}, {0}, 1, in_pub, 3, NULL},
@@ -255,7 +255,7 @@ static const struct file files[] = {
     {6, 2, 0007, 2, 5, 5, 4096, 0, {0}, {0}, {0}, 1, NULL, 0, NULL},
     {7, 1, 0, 1, 5, 5, 0, 0, {0}, {0}, {0}, 0, NULL, 0, NULL},
     {8, 2, 0777, 2, 0, 0, 4096, 1, {0}, {0}, {0}, 8, NULL, 0, NULL},
-    {9, 1, 0644, 1, OWNER, OWNER, 65536, 0, {0}, {0}, {0}, 0, NULL, 0, large},
+    {9, 1, 0644, 1, OWNER, OWNER, MAX_READ, 0, {0}, {0}, {0}, 0, NULL, 0, large},
 };
 static const struct export exports[] = {
     {0, 0x0a000000, 24, ROOT, 65534, 65534},
@@ -355,6 +355,8 @@ int main(void) {
     call[98] = 0;
     call[97] = 1;
     measure("read-65536", &s, call, 100, READS);
+    call[97] = 2;
+    measure("read-131072", &s, call, 100, READS);
     for (size_t i = 0; i < sizeof arguments / sizeof *arguments; i++)
         measure_arguments(i);
     return 0;

@@ -225,6 +225,8 @@ static unsigned char *do_write(struct call *c, unsigned char *at) {
     }
     memcpy((void *)(f->bytes + offset), data.at, count);
     touch(f);
+    if (count > 0 && c->ids.uid != 0)
+        changed(f)->mode &= 01777;
     at = put(put(wcc(put(at, 0), &before), count), 2);
     memcpy(at, s.key, 8);
     return at + 8;
@@ -261,6 +263,11 @@ static unsigned char *do_create(struct call *c, unsigned char *at) {
     return wcc(shown(put64(put(at + 12, 0), f->number), f), &before);
 }
 
+/* Whether a directory that restricts deletion lets the entry of a file go. */
+static int lets_go(const struct call *c, const struct file *dir, const struct file *f) {
+    return !(dir->mode & 01000) || c->ids.uid == 0 || c->ids.uid == dir->uid || c->ids.uid == f->uid;
+}
+
 static unsigned char *do_remove(struct call *c, unsigned char *at) {
     const struct file *dir = NULL, *f = NULL;
     struct entry *e = NULL;
@@ -277,7 +284,9 @@ static unsigned char *do_remove(struct call *c, unsigned char *at) {
             status = fails(c, "no-entry", 2);
         else if (!(rights(&c->ids, dir) & 2))
             status = fails(c, "dir-write", 13);
-        else if ((f = find(&s, e->number))->type == 2)
+        else if (!lets_go(c, dir, f = find(&s, e->number)))
+            status = fails(c, "sticky", 1);
+        else if (f->type == 2)
             status = fails(c, "is-dir", 21);
     }
     if (!status) {
@@ -315,7 +324,9 @@ static unsigned char *do_rename(struct call *c, unsigned char *at) {
         f = find(&s, number);
         other = entry_of(to, new_name);
         if (!other || other->number != number) {
-            if (other && (f->type == 2 || find(&s, other->number)->type == 2))
+            if (!lets_go(c, from, f) || (other && !lets_go(c, to, find(&s, other->number))))
+                status = fails(c, "sticky", 1);
+            else if (other && (f->type == 2 || find(&s, other->number)->type == 2))
                 status = fails(c, "incompatible", 17);
             else {
                 leave(from, e);
@@ -440,7 +451,7 @@ __attribute__((noinline, noclone)) static size_t answer(uint32_t address, const 
 
 /* ---- what is measured */
 
-static unsigned char records[2][66000];
+static unsigned char records[2][131072 + 512];
 static size_t lengths[2];
 
 static void begin(int i, uint32_t proc, uint64_t number) {
@@ -486,11 +497,11 @@ static void file(size_t i, uint32_t type, uint32_t mode, uint32_t uid, uint64_t 
 }
 
 int main(void) {
-    static const unsigned char name_x[8] = {0, 0, 0, 1, 'x'}, name_y[8] = {0, 0, 0, 1, 'y'}, zeros[65536];
+    static const unsigned char name_x[8] = {0, 0, 0, 1, 'x'}, name_y[8] = {0, 0, 0, 1, 'y'}, zeros[131072];
     unsigned char write[20] = {0};
     file(0, 2, 0755, 0, 0, 0), file(1, 2, 0777, 1, 0, 0), file(2, 1, 0711, 1, 5, 0), file(3, 1, 0710, 1, 5, 0), file(4, 1, 0640, 1, 2, 0);
-    file(5, 2, 0007, 5, 0, 0), file(6, 1, 0, 5, 0, 0), file(7, 2, 0777, 0, 0, 1), file(8, 1, 0644, 9, 65536, 0);
-    volumes[0].used += 65536;
+    file(5, 2, 0007, 5, 0, 0), file(6, 1, 0, 5, 0, 0), file(7, 2, 0777, 0, 0, 1), file(8, 1, 0644, 9, sizeof zeros, 0);
+    volumes[0].used += sizeof zeros;
     enter(&files[1], (struct bytes){(const unsigned char *)"x", 1}, 3), enter(&files[1], (struct bytes){(const unsigned char *)"n", 1}, 4);
     enter(&files[1], (struct bytes){(const unsigned char *)"large", 5}, 9);
     begin(0, 4, 9), add_handle(0, 9), add(0, (unsigned char[]){0, 0, 0, 0x3f}, 4);
@@ -508,13 +519,17 @@ int main(void) {
     begin(0, 14, 2), add_handle(0, 2), add(0, name_x, 8), add_handle(0, 2), add(0, name_y, 8);
     begin(1, 14, 2), add_handle(1, 2), add(1, name_y, 8), add_handle(1, 2), add(1, name_x, 8);
     measure("rename", 0x0a000001, 2, ROUNDS);
-    for (uint32_t count = 4096; count <= 65536; count *= 16) {
+    static const uint32_t counts[] = {4096, 65536, 131072};
+    for (int i = 0; i < 3; i++) {
+        char name[32];
         begin(0, 7, 9), add_handle(0, 9), memset(write, 0, 20);
-        put(write + 8, count), write[15] = 2, put(write + 16, count);
-        add(0, write, 20), add(0, zeros, count);
-        measure(count == 4096 ? "write-4096" : "write-65536", 0x0a000001, 1, WRITES);
+        put(write + 8, counts[i]), write[15] = 2, put(write + 16, counts[i]);
+        add(0, write, 20), add(0, zeros, counts[i]);
+        snprintf(name, sizeof name, "write-%u", counts[i]);
+        measure(name, 0x0a000001, 1, WRITES);
         keeps = 1;
-        measure(count == 4096 ? "write-4096-kept" : "write-65536-kept", 0x0a000001, 1, WRITES);
+        snprintf(name, sizeof name, "write-%u-kept", counts[i]);
+        measure(name, 0x0a000001, 1, WRITES);
         keeps = 0;
     }
     begin(0, 1, 9), add_handle(0, 9);

@@ -1,5 +1,5 @@
 /* Loads a server over TCP: load PORT WORK CLIENTS DEPTH CALLS [echo], where WORK is null, getattr,
- * lookup, read4, read64, write64 or make. Each client has up to DEPTH calls under way. Each reply is
+ * lookup, read4, read64, read128, write64, write128 or make. Each client has up to DEPTH calls under way. Each reply is
  * looked at: its length, and that its number is that of the client's oldest call. It prints the
  * microseconds a call, and the 99th of a hundred times of a call. With echo, the sizes alone are
  * asked for. With idle in place of WORK the clients connect and say nothing until standard input ends.
@@ -18,7 +18,7 @@
 #include <time.h>
 #include <unistd.h>
 
-enum { MOST = 1 << 17, TIMES = 1 << 20 };
+enum { MOST = 1 << 18, TIMES = 1 << 20 };
 
 typedef struct {
     int peer;
@@ -89,6 +89,12 @@ static void make_calls(const char *work) {
     } else if (strcmp(work, "write64") == 0) {
         uint32_t range[] = {0, 0, 65536, 2, 65536};
         call_size = words(call, begin(call, 7, 4), range, 5) + 65536, reply_size = 28 + 4 + 28 + 88 + 16;
+    } else if (strcmp(work, "read128") == 0) {
+        uint32_t range[] = {0, 0, 131072};
+        call_size = words(call, begin(call, 6, 5), range, 3), reply_size = 28 + 4 + 88 + 12 + 131072;
+    } else if (strcmp(work, "write128") == 0) {
+        uint32_t range[] = {0, 0, 131072, 2, 131072};
+        call_size = words(call, begin(call, 7, 5), range, 5) + 131072, reply_size = 28 + 4 + 28 + 88 + 16;
     } else if (strcmp(work, "make") == 0) {
         uint32_t made[] = {4, 0, 1, 0, 0, 0, 0, 0, 0}, gone[] = {4, 0};
         call_size = words(call, begin(call, 8, 2), made, 9), reply_size = 28 + 4 + 32 + 88 + 28 + 88;

@@ -1,6 +1,7 @@
 /* The baselines of the measures: the same work, written plainly.
  *
  * copy: 64 KiB in pieces of 8 KiB, copied one after another into one buffer.
+ * copy-131072: 128 KiB so, into a buffer of as many.
  * copy-4096: 4 KiB, copied in one piece.
  * null: a NULL call, from its record to its reply: the head is read word by word with its bounds
  *       tested, the rules of RPC are tested, and the reply is written with its record mark. It is
@@ -11,7 +12,7 @@
 #include <stdio.h>
 #include <string.h>
 
-enum { RECORD = 65536, PIECE = 8192, PAGE = 4096, COPIES = 20000, CALLS = 5000000, RUNS = 5 };
+enum { RECORD = 65536, LONGEST = 131072, PIECE = 8192, PAGE = 4096, COPIES = 20000, CALLS = 5000000, RUNS = 5 };
 
 static int skip(struct input *in) {
     uint32_t n;
@@ -50,10 +51,10 @@ __attribute__((noinline)) static size_t answer(const unsigned char *record, size
 }
 
 static void measure_copy(const char *name, size_t len, size_t piece, int copies) {
-    static unsigned char from[RECORD], into[RECORD];
+    static unsigned char from[LONGEST], into[LONGEST];
     uint64_t least = UINT64_MAX;
     volatile unsigned char seen;
-    for (size_t i = 0; i < RECORD; i++)
+    for (size_t i = 0; i < LONGEST; i++)
         from[i] = i % 251;
     for (int run = 0; run < RUNS; run++) {
         uint64_t start = now();
@@ -88,6 +89,7 @@ static void measure_null(void) {
 
 int main(void) {
     measure_copy("copy", RECORD, PIECE, COPIES);
+    measure_copy("copy-131072", LONGEST, PIECE, COPIES);
     measure_copy("copy-4096", PAGE, PAGE, 16 * COPIES);
     measure_null();
     return 0;

@@ -1,5 +1,5 @@
 /* Clients that make a server over bench/tree keep as much as it keeps of a client: greedy PORT CLIENTS. Each sends two records
- * of nearly and of quite the largest size, which are no calls, and then many READs of 64 KiB, whose replies it never takes: so
+ * of nearly and of quite the largest size, which are no calls, and then many READs of 128 KiB, whose replies it never takes: so
  * the server has room for a record, replies that it owes, and what came behind their calls. They stay for two seconds. */
 #include <arpa/inet.h>
 #include <netinet/in.h>
@@ -11,7 +11,7 @@
 #include <sys/socket.h>
 #include <unistd.h>
 
-enum { LARGEST = 131072, READS = 200 };
+enum { LARGEST = 262144, LONGEST_READ = 131072, READS = 200 };
 
 static void fail(const char *what) {
     fprintf(stderr, "greedy: %s\n", what);
@@ -24,10 +24,10 @@ static size_t put(unsigned char *to, size_t at, uint32_t w) {
     return at + 4;
 }
 
-/* A READ of 64 KiB of the file 4. */
+/* A READ of 128 KiB of the file 5. */
 static size_t put_read(unsigned char *to, size_t at) {
     static const uint32_t words[] = {0x80000000u | 100, 7, 0, 2, 100003, 3, 6, 1, 20, 0, 0, 9, 9, 0, 0, 0,
-        24, 0x4e465333, 0x01020304, 0x05060708, 3, 0, 4, 0, 0, 65536};
+        24, 0x4e465333, 0x01020304, 0x05060708, 4, 0, 5, 0, 0, LONGEST_READ};
     for (size_t i = 0; i < sizeof words / sizeof *words; i++) at = put(to, at, words[i]);
     return at;
 }

@@ -17,7 +17,8 @@
 #include <time.h>
 #include <unistd.h>
 
-enum { MOST = 140000, TOGETHER = 40, TIMES = 1 << 20 };
+/* The longest record of a connection, and room for it with what is added to it. */
+enum { LONGEST = 262144, MOST = LONGEST + 8192, TOGETHER = 40, TIMES = 1 << 20 };
 
 static uint64_t seed;
 static unsigned short port;
@@ -90,8 +91,8 @@ static void settings(Record *r) {
 }
 
 static void data(Record *r) {
-    static unsigned char zeros[65536];
-    uint32_t len = any(6) ? any(200) : any(65536);
+    static unsigned char zeros[LONGEST / 2];
+    uint32_t len = any(6) ? any(200) : any(sizeof zeros);
     word(r, 0), word(r, any(4) ? any(5000) : any(0x7fffffff)), word(r, len), word(r, any(3));
     opaque(r, zeros, len);
 }
@@ -113,7 +114,7 @@ static void good(Record *r, uint32_t xid) {
     case 2: settings(r), word(r, 0); break;
     case 3: case 12: case 13: name(r); break;
     case 4: word(r, any(64)); break;
-    case 6: case 21: word(r, 0), word(r, any(100)), word(r, any(70000)); break;
+    case 6: case 21: word(r, 0), word(r, any(100)), word(r, any(140000)); break;
     case 7: data(r); break;
     case 8: name(r), word(r, any(2)), settings(r); break;
     case 9: name(r), settings(r); break;
@@ -127,7 +128,7 @@ static void good(Record *r, uint32_t xid) {
 }
 
 static void spoil(Record *r) {
-    static const uint32_t odd[] = {0, 1, 2, 3, 5, 24, 25, 63, 64, 65, 255, 256, 400, 401, 1024, 1025, 65536, 65537, 131072, 0x7fffffff, 0x80000000u, 0xffffffffu};
+    static const uint32_t odd[] = {0, 1, 2, 3, 5, 24, 25, 63, 64, 65, 255, 256, 400, 401, 1024, 1025, 65536, 65537, 131072, 131073, 262144, 0x7fffffff, 0x80000000u, 0xffffffffu};
     static Record other;
     uint32_t w;
     switch (any(9)) {
@@ -162,7 +163,7 @@ static void piece(const unsigned char *bytes, size_t len, int is_last) {
 static void add(const Record *r) {
     size_t at = 0;
     if (any(400) == 0) {
-        uint32_t mark = htonl(131073 + any(1000000000));
+        uint32_t mark = htonl(LONGEST + 1 + any(1000000000));
         memcpy(batch + filled, &mark, 4);
         filled += 4;
         return;

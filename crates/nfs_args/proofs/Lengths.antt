@@ -1,5 +1,5 @@
 -- No result is longer than the longest.
-use Rattle.std.proofs.Common.{◌≡◌, ℕ, ◌+◌, ◌≤◌, List, ◌++◌, [], ◌∷◌, ◌*◌, length, Option, Some, None, Result, Ok, Err, refl, arith}
+use Rattle.std.proofs.Common.{◌≡◌, ℕ, ◌+◌, ◌≤◌, List, ◌++◌, [], ◌∷◌, ◌*◌, ◌/◌, length, Option, Some, None, Result, Ok, Err, refl, arith}
 use Rattle.std.specs.Int.{w32, w64, to_be_bytes}
 use Rattle.std.proofs.lemmas.List.{length-append, length-take-le}
 use Rattle.nfs_xdr.specs.Spelling.{fixed_text, opaque_text, optional_text, pad_text, padding}
@@ -20,7 +20,7 @@ use Rattle.nfs_args.specs.Spelling.{stability_number}
 use Rattle.nfs_args.specs.Results.{boolean_text, empty_text, result_text, ResultFits, AlwaysFits, HandleFits, found_text, FoundFits, rights_text, link_path_text, LinkPathFits, read_head_text, read_data_text, ReadDataFits, written_text, committed_text, made_text, MadeFits, renamed_text, linked_text, space_text, room_text, transfer_text, server_limits_text, path_limits_text}
 use Rattle.nfs_args.specs.Pages.{page_text, PageFits, page_plus_text, PagePlusFits}
 use Rattle.nfs_args.specs.Answers.{answered, nfs_text, NfsFits}
-use Rattle.nfs_args.specs.Sizes.{largest_of, IfAnswered, IsWithin}
+use Rattle.nfs_args.specs.Sizes.{largest_of, max_data, max_path, max_page, IfAnswered, IsWithin}
 
 -- ---- parts
 
@@ -63,8 +63,8 @@ found_within a fits =
     both (opaque_text a.file ++ post_op_attr_text a.attributes) (post_op_attr_text a.dir) 156 88
     (both (opaque_text a.file) (post_op_attr_text a.attributes) 68 88 (opaque_within a.file 16 fits) (attributes_within a.attributes)) (attributes_within a.dir)
 
-link_path_within : (a : LinkPath) → length a.path ≤ 1024 → length (link_path_text a) ≤ 1116
-link_path_within a within = both (post_op_attr_text a.attributes) (opaque_text a.path) 88 1028 (attributes_within a.attributes) (opaque_within a.path 256 within)
+link_path_within : (a : LinkPath) → length a.path ≤ max_path → length (link_path_text a) ≤ 92 + max_path
+link_path_within a within = both (post_op_attr_text a.attributes) (opaque_text a.path) 88 (4 + max_path) (attributes_within a.attributes) (opaque_within a.path (max_path / 4) within)
 
 pub made_within : (a : Made) → MadeFits a → length (made_text a) ≤ 276
 made_within a fits =
@@ -78,10 +78,10 @@ behind_attributes o rest n size = omega (arith, length-append (post_op_attr_text
 pub behind_change : (w : Wcc) (rest : List ℕ) (n : ℕ) → length rest ≡ n → length (wcc_text w ++ rest) ≤ 116 + n
 behind_change w rest n size = omega (arith, length-append (wcc_text w) rest, change_within w, size)
 
-read_data_within : (a : ReadData) → length a.content ≤ 65536 → length (read_data_text a) ≤ 65636
+read_data_within : (a : ReadData) → length a.content ≤ max_data → length (read_data_text a) ≤ 100 + max_data
 read_data_within a within =
-    both (read_head_text a.attributes (length a.content) a.eof) (fixed_text a.content) 100 65536
-    (behind_attributes a.attributes (to_be_bytes w32 (length a.content) ++ boolean_text a.eof ++ to_be_bytes w32 (length a.content)) 12 refl) (fixed_within a.content 16384 within)
+    both (read_head_text a.attributes (length a.content) a.eof) (fixed_text a.content) 100 max_data
+    (behind_attributes a.attributes (to_be_bytes w32 (length a.content) ++ boolean_text a.eof ++ to_be_bytes w32 (length a.content)) 12 refl) (fixed_within a.content (max_data / 4) within)
 
 pub renamed_within : (a : Renamed) → length (renamed_text a) ≤ 232
 renamed_within a = both (wcc_text a.from) (wcc_text a.to) 116 116 (change_within a.from) (change_within a.to)
@@ -106,8 +106,8 @@ answers_within (answer.GetAttr r) fits within = result_bounded fattr_text empty_
 answers_within (answer.SetAttr r) fits within = result_bounded wcc_text wcc_text AlwaysFits 116 r (λ a fits. change_within a) (λ b. omega (arith, change_within b)) fits
 answers_within (answer.Lookup r) fits within = result_bounded found_text post_op_attr_text FoundFits 244 r (λ a fits. found_within a fits) (λ b. omega (arith, attributes_within b)) fits
 answers_within (answer.Access r) fits within = result_bounded rights_text post_op_attr_text AlwaysFits 92 r (λ a fits. behind_attributes a.attributes (to_be_bytes w32 a.rights) 4 refl) (λ b. omega (arith, attributes_within b)) fits
-answers_within (answer.ReadLink r) fits within = result_within link_path_text post_op_attr_text LinkPathFits (λ (a : LinkPath). length a.path ≤ 1024) 1116 r (λ a fits within. link_path_within a within) (λ b. omega (arith, attributes_within b)) fits within
-answers_within (answer.Read r) fits within = result_within read_data_text post_op_attr_text ReadDataFits (λ (a : ReadData). length a.content ≤ 65536) 65636 r (λ a fits within. read_data_within a within) (λ b. omega (arith, attributes_within b)) fits within
+answers_within (answer.ReadLink r) fits within = result_within link_path_text post_op_attr_text LinkPathFits (λ (a : LinkPath). length a.path ≤ max_path) (92 + max_path) r (λ a fits within. link_path_within a within) (λ b. omega (arith, attributes_within b)) fits within
+answers_within (answer.Read r) fits within = result_within read_data_text post_op_attr_text ReadDataFits (λ (a : ReadData). length a.content ≤ max_data) (100 + max_data) r (λ a fits within. read_data_within a within) (λ b. omega (arith, attributes_within b)) fits within
 answers_within (answer.Write r) fits within = result_bounded written_text wcc_text AlwaysFits 132 r (λ a fits. behind_change a.file (to_be_bytes w32 a.count ++ to_be_bytes w32 (stability_number a.committed) ++ to_be_bytes w64 a.verifier) 16 refl) (λ b. omega (arith, change_within b)) fits
 answers_within (answer.Create r) fits within = result_bounded made_text wcc_text MadeFits 276 r (λ a fits. made_within a fits) (λ b. omega (arith, change_within b)) fits
 answers_within (answer.MakeDir r) fits within = result_bounded made_text wcc_text MadeFits 276 r (λ a fits. made_within a fits) (λ b. omega (arith, change_within b)) fits
@@ -117,8 +117,8 @@ answers_within (answer.Remove r) fits within = result_bounded wcc_text wcc_text 
 answers_within (answer.RemoveDir r) fits within = result_bounded wcc_text wcc_text AlwaysFits 116 r (λ a fits. change_within a) (λ b. omega (arith, change_within b)) fits
 answers_within (answer.Rename r) fits within = result_bounded renamed_text renamed_text AlwaysFits 232 r (λ a fits. renamed_within a) (λ b. renamed_within b) fits
 answers_within (answer.Link r) fits within = result_bounded linked_text linked_text AlwaysFits 204 r (λ a fits. linked_within a) (λ b. linked_within b) fits
-answers_within (answer.ReadDir r) fits within = result_within page_text post_op_attr_text PageFits (λ p. length (page_text p) ≤ 65536) 65536 r (λ a fits within. within) (λ b. omega (arith, attributes_within b)) fits within
-answers_within (answer.ReadDirPlus r) fits within = result_within page_plus_text post_op_attr_text PagePlusFits (λ p. length (page_plus_text p) ≤ 65536) 65536 r (λ a fits within. within) (λ b. omega (arith, attributes_within b)) fits within
+answers_within (answer.ReadDir r) fits within = result_within page_text post_op_attr_text PageFits (λ p. length (page_text p) ≤ max_page) max_page r (λ a fits within. within) (λ b. omega (arith, attributes_within b)) fits within
+answers_within (answer.ReadDirPlus r) fits within = result_within page_plus_text post_op_attr_text PagePlusFits (λ p. length (page_plus_text p) ≤ max_page) max_page r (λ a fits within. within) (λ b. omega (arith, attributes_within b)) fits within
 answers_within (answer.FsStat r) fits within = result_bounded room_text post_op_attr_text AlwaysFits 140 r (λ a fits. behind_attributes a.attributes (space_text a.bytes ++ space_text a.files ++ to_be_bytes w32 a.invarsec) 52 refl) (λ b. omega (arith, attributes_within b)) fits
 answers_within (answer.FsInfo r) fits within = result_bounded server_limits_text post_op_attr_text AlwaysFits 136 r (λ a fits. behind_attributes a.attributes (transfer_text a.read ++ transfer_text a.write ++ to_be_bytes w32 a.read_dir ++ to_be_bytes w64 a.max_file_size ++ moment_text a.time_delta ++ to_be_bytes w32 a.properties) 48 refl) (λ b. omega (arith, attributes_within b)) fits
 answers_within (answer.PathConf r) fits within = result_bounded path_limits_text post_op_attr_text AlwaysFits 112 r (λ a fits. behind_attributes a.attributes (to_be_bytes w32 a.linkmax ++ to_be_bytes w32 a.name_max ++ boolean_text a.no_trunc ++ boolean_text a.chown_restricted ++ boolean_text a.case_insensitive ++ boolean_text a.case_preserving) 24 refl) (λ b. omega (arith, attributes_within b)) fits

@@ -9,7 +9,7 @@ use Rattle.nfs_args.specs.Pages.{page_text, page_plus_text}
 
 -- the most bytes of what a READ answers, of the path of a symbolic link, and of a page behind its status
 abbrev pub max_data : ℕ
-max_data = 65536
+max_data = 131072
 
 abbrev pub max_path : ℕ
 max_path = 1024

@@ -27,6 +27,9 @@ const HANDLE: usize = WORD + MAX_HANDLE_BYTES;
 
 const MADE: usize = WORD + HANDLE + POST_OP_ATTRIBUTES + CHANGE;
 
+/// How many bytes the longest result of all has, that of a READ of as many bytes as one answers.
+pub const MAX_RESULT_BYTES: usize = STATUS + POST_OP_ATTRIBUTES + 3 * WORD + MAX_DATA_BYTES;
+
 /// How many bytes the longest result of a procedure has, computed from the sizes of its parts: of
 /// those whose data, path or page, if there is one, is within `limits`. None at all for NULL.
 pub fn largest(proc: Procedure) -> usize
@@ -46,7 +49,7 @@ fn size_of(proc: Procedure) -> usize
         Procedure::Lookup => STATUS + HANDLE + 2 * POST_OP_ATTRIBUTES,
         Procedure::Access => STATUS + POST_OP_ATTRIBUTES + WORD,
         Procedure::ReadLink => STATUS + POST_OP_ATTRIBUTES + WORD + MAX_PATH_BYTES,
-        Procedure::Read => STATUS + POST_OP_ATTRIBUTES + 3 * WORD + MAX_DATA_BYTES,
+        Procedure::Read => MAX_RESULT_BYTES,
         Procedure::Write => STATUS + CHANGE + 2 * WORD + HYPER,
         Procedure::Create | Procedure::MakeDir | Procedure::SymLink | Procedure::MakeNode => {
             STATUS + MADE

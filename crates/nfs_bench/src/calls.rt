@@ -18,12 +18,13 @@ const GRANTED: Addr = Addr(0x0a00_0001);
 const DENIED: Addr = Addr(0x0a00_0301);
 
 /// The measures, in the order in which they are taken.
-pub(crate) const MEASURES: [&str; 13] = [
+pub(crate) const MEASURES: [&str; 15] = [
     "null",
     "getattr",
     "lookup-x",
     "read-4096",
     "read-65536",
+    "read-131072",
     "access",
     "setattr",
     "setattr-again",
@@ -31,6 +32,7 @@ pub(crate) const MEASURES: [&str; 13] = [
     "rename",
     "write-4096",
     "write-65536",
+    "write-131072",
     "denied",
 ];
 
@@ -59,7 +61,7 @@ fn few(alloc: Global, name: &str) -> io::Result<Counted> {
 
 /// Prints the nanoseconds of a round of calls.
 pub(crate) fn measure<R: Clock + Print + AllocGlobal>(rt: &R, name: &str) -> io::Result<()> {
-    let rounds = if name.ends_with("65536") {
+    let rounds = if name.ends_with("65536") || name.ends_with("131072") {
         100_000
     } else {
         1_000_000

@@ -1,6 +1,7 @@
 //! The server that is measured, and the records of its calls.
 
 use crate::described::loaded;
+use nfs_args::limits::MAX_DATA_BYTES;
 use nfs_attrs::moment::Moment;
 use nfs_handles::number::Number;
 use nfs_inodes::new_file::NewFile;
@@ -54,11 +55,11 @@ const NOTHING: [u8; 24] = [0; 24];
 
 const MODE: [u8; 8] = [0, 0, 0, 1, 0, 0, 1, 0xa4];
 
-/// A server of the description, with a file of 64 KiB in `/pub`.
+/// A server of the description, with a file of 128 KiB in `/pub`.
 pub(crate) fn served(alloc: Global) -> io::Result<Server> {
     let Loaded { mut tree, table } = loaded(alloc)?;
     let mut bytes = Vec::new(alloc);
-    bytes.resize(65_536, 7)?;
+    bytes.resize(MAX_DATA_BYTES, 7)?;
     make(&mut tree, bytes)?;
     Ok(Server::new(alloc, Loaded { tree, table }, 128)?)
 }
@@ -103,12 +104,14 @@ pub(crate) fn first_of(alloc: Global, tree: &Tree, name: &str) -> io::Result<Vec
         "lookup-x" => record(alloc, tree, 3, PUB, &X),
         "read-4096" => read(alloc, tree, 4_096),
         "read-65536" => read(alloc, tree, 65_536),
+        "read-131072" => read(alloc, tree, 131_072),
         "access" => record(alloc, tree, 4, LARGE, &[0, 0, 0, 0x3f]),
         "setattr" | "setattr-again" => with(record(alloc, tree, 2, LARGE, &MODE)?, &[&NOTHING]),
         "create-remove" => with(record(alloc, tree, 8, PUB, &Y)?, &[&[0, 0, 0, 1], &NOTHING]),
         "rename" => renamed(alloc, tree, &X, &Y),
         "write-4096" => written(alloc, tree, 4_096),
         "write-65536" => written(alloc, tree, 65_536),
+        "write-131072" => written(alloc, tree, 131_072),
         _ => record(alloc, tree, 1, LARGE, &[]),
     }
 }

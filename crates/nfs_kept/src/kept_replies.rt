@@ -17,8 +17,8 @@ pub const MAX_KEPT_BYTES: usize = 512;
 /// Replies, each kept for the address and the record that it answered. Contracts see their places,
 /// the most recently used first, how many there may be, and the key of the last look-up.
 ///
-/// A place costs the bytes of its record and some 700 more; a record from a stream has at most
-/// 131,072.
+/// A place costs the bytes of its record and some 700 more; a server bounds the records of its
+/// streams.
 #[derive(Drop)]
 pub struct KeptReplies {
     cache: LruCache<Key, ArrayVec<u8, 512>>,

@@ -9,7 +9,7 @@ use std::alloc::AllocError;
 use std::hash::{Hash, Hasher};
 
 /// How many first bytes of a record are hashed: those of the call's number, its head and the first of
-/// its credential, which tell most calls apart. The record of a WRITE may have 64 KiB more.
+/// its credential, which tell most calls apart. The record of a WRITE has its data behind them.
 const HASHED_BYTES: usize = 64;
 
 /// The address that a record came from, and the record.

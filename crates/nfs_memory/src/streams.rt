@@ -5,6 +5,7 @@ use ballast::Ballast;
 use nfs_attrs::moment::Moment;
 use nfs_exports::addr::Addr;
 use nfs_rpc::framer::{Fed, FrameFault, Framer};
+use nfs_server::connection::MAX_RECORD_BYTES;
 use nfs_server::server::Server;
 use nfs_server::session_fault::SessionFault;
 use nfs_server::sessions::Sessions;
@@ -22,7 +23,7 @@ const NOW: Moment = Moment {
 
 // What a new framer answers to the beginning of a record, and then to no bytes.
 fn framed(alloc: Global) -> (Result<Fed, FrameFault>, Result<Fed, FrameFault>) {
-    let mut framer = Framer::new(alloc, 131_072);
+    let mut framer = Framer::new(alloc, MAX_RECORD_BYTES);
     let first = framer.feed(&BEGUN);
     (first, framer.feed(b""))
 }
@@ -51,7 +52,7 @@ fn a_framer_without_memory_fails_for_good(rt: HostRuntime) -> Result<(), Fail> {
 }
 
 // The header of the longest record that a connection takes, and the first of its bytes.
-const LONGEST: [u8; 5] = [0x80, 0x02, 0, 0, b'a'];
+const LONGEST: [u8; 5] = [0x80, 0x04, 0, 0, b'a'];
 
 const PEER: Addr = Addr(0x0a00_0001);
 

@@ -16,10 +16,10 @@ use Rattle.nfs_dirs.specs.Pages.{fits, fits_plus, chosen, is_end, entry_told, en
 use Rattle.nfs_exports.specs.declared.table.Export.{Export}
 use Rattle.nfs_inodes.proofs.Lists.{same_some, not_both, by_test}
 use Rattle.nfs_inodes.proofs.Maps.{same_number}
-use Rattle.nfs_inodes.specs.Changes.{after_resize, after_set}
+use Rattle.nfs_inodes.specs.Changes.{after_resize, after_set, after_write_at}
 use Rattle.nfs_inodes.specs.Reading.{bytes_at, entries_behind}
 use Rattle.nfs_inodes.specs.Tree.{Tree, File, Entry, at, on_some, bytes_in}
-use Rattle.nfs_procs.specs.Changers.{changed, given_of, sets_something, after_settings, set_attr, write, made_of, after_taking, after_creating, create, make_dir, sym_link, remove, remove_dir, rename, link, file_mode, directory_mode, link_mode, attributes_in, verifier_in}
+use Rattle.nfs_procs.specs.Changers.{changed, given_of, sets_something, after_settings, set_attr, write, after_writing, made_of, after_taking, after_creating, with_cleared_mode, cleared_mode, has_bytes, size_alone, size_taken, mode_alone, create, make_dir, sym_link, remove, remove_dir, rename, link, file_mode, directory_mode, link_mode, attributes_in, verifier_in}
 use Rattle.nfs_procs.specs.Doing.{Doing, change}
 use Rattle.nfs_procs.specs.NewFiles.{new_file_of}
 use Rattle.nfs_procs.specs.Performing.{AppendsAnswer, Performs}
@@ -67,18 +67,18 @@ module _ (p : ℕ → Bool) where
   exactly : (t u : Tree) → t ≡ blank p u → blank p t ≡ blank p u
   exactly t u e = ap (blank p) e ∙ blank_twice p u
 
-  taking_blank : (t : Tree) (n : ℕ) (how : CreateHow) (now : Moment) → blank p (after_taking (blank p t) n how now) ≡ blank p (after_taking t n how now)
-  taking_blank t n (Unchecked attributes) now = taken attributes.size
-    where
-      taken : (size : Option ℕ) → blank p (on_some size (blank p t) (λ size. after_resize (blank p t) n size now)) ≡ blank p (on_some size t (λ size. after_resize t n size now))
-      taken size = settings_size t n size now
-  taking_blank t n (Guarded attributes) now = blank_twice p t
-  taking_blank t n (Exclusive verifier) now = blank_twice p t
+  taking_blank : (t : Tree) (uid : ℕ) (f : Fattr) (how : CreateHow) (now : Moment) → blank p (after_taking (blank p t) uid f how now) ≡ blank p (after_taking t uid f how now)
+  taking_blank t uid f how now = settings_blank t f.fileid (with_cleared_mode uid f (size_alone (size_taken how))) now
 
-  create_case : (dir : Subject) (a : Create) (now : Moment) (tag : ℕ) (o : Option Fattr) → blank p (on_some o (after_creating (veiled p dir) a now tag) (λ f. after_taking (blank p dir.tree) f.fileid a.how now)) ≡ blank p (on_some o (after_creating dir a now tag) (λ f. after_taking dir.tree f.fileid a.how now))
+  writing_blank : (t : Tree) (n offset : ℕ) (bytes : List ℕ) (mode : Option ℕ) (now : Moment) → blank p (after_writing (blank p t) n offset bytes mode now) ≡ blank p (after_writing t n offset bytes mode now)
+  writing_blank t n offset bytes mode now = sym (settings_blank (after_write_at (blank p t) n offset bytes now) n (mode_alone mode) now)
+      ∙ ap (λ u. blank p (after_settings u n (mode_alone mode) now)) (write_blank p t n offset bytes now)
+      ∙ settings_blank (after_write_at t n offset bytes now) n (mode_alone mode) now
+
+  create_case : (dir : Subject) (a : Create) (now : Moment) (tag : ℕ) (o : Option Fattr) → blank p (on_some o (after_creating (veiled p dir) a now tag) (λ f. after_taking (blank p dir.tree) dir.ids.uid f a.how now)) ≡ blank p (on_some o (after_creating dir a now tag) (λ f. after_taking dir.tree dir.ids.uid f a.how now))
   create_case dir a now tag None = exactly (after_creating (veiled p dir) a now tag) (after_creating dir a now tag)
       (make_file_blank p dir.tree dir.file.fileid (on_some (size_in a.how) 0 (λ size. size)) tag a.place.name (new_file_of file_mode dir.ids now (attributes_in a.how)) (verifier_in a.how) now)
-  create_case dir a now tag (Some f) = taking_blank dir.tree f.fileid a.how now
+  create_case dir a now tag (Some f) = taking_blank dir.tree dir.ids.uid f a.how now
 
   leaves : (one : Subject) → blank p (blank p one.tree) ≡ blank p one.tree
   leaves one = blank_twice p one.tree
@@ -96,14 +96,14 @@ module _ (p : ℕ → Bool) where
       by : (args : NfsArgs) (doing : Doing) → doing_of args ≡ Some doing → DoesBlank doing
       by nfs.Null doing e = absurd (not_both refl e)
       by (nfs.GetAttr file) doing e = told_as get_attr doing e (λ one two now tag. leaves one)
-      by (nfs.SetAttr a) doing e = told_as (set_attr a) doing e (λ one two now tag. settings_blank one.tree one.file.fileid a.attributes now)
+      by (nfs.SetAttr a) doing e = told_as (set_attr a) doing e (λ one two now tag. settings_blank one.tree one.file.fileid (with_cleared_mode one.ids.uid one.file a.attributes) now)
       by (nfs.Lookup a) doing e = told_as (lookup a) doing e (λ one two now tag. leaves one)
       by (nfs.Access a) doing e = told_as (access a) doing e (λ one two now tag. leaves one)
       by (nfs.ReadLink file) doing e = told_as (read_link file) doing e (λ one two now tag. leaves one)
       by (nfs.Read a) doing e = told_as (read a) doing e (λ one two now tag. leaves one)
-      by (nfs.Write a) doing e = told_as (write a) doing e (λ one two now tag. write_blank p one.tree one.file.fileid a.offset a.content now)
+      by (nfs.Write a) doing e = told_as (write a) doing e (λ one two now tag. writing_blank one.tree one.file.fileid a.offset a.content (cleared_mode one.ids.uid one.file (has_bytes a.content)) now)
       by (nfs.Create a) doing e = told_as (create a) doing e (λ one two now tag.
-          ap (λ o. blank p (on_some o (after_creating (veiled p one) a now tag) (λ f. after_taking (blank p one.tree) f.fileid a.how now))) (found_veiled p one a.place.name)
+          ap (λ o. blank p (on_some o (after_creating (veiled p one) a now tag) (λ f. after_taking (blank p one.tree) one.ids.uid f a.how now))) (found_veiled p one a.place.name)
           ∙ create_case one a now tag (found one a.place.name))
       by (nfs.MakeDir a) doing e = exact (make_dir a) doing e (λ one two now tag. make_dir_blank p one.tree one.file.fileid tag a.place.name (new_file_of directory_mode one.ids now a.attributes) now)
       by (nfs.SymLink a) doing e = exact (sym_link a) doing e (λ one two now tag. make_link_blank p one.tree one.file.fileid tag a.place.name a.path (record (new_file_of link_mode one.ids now a.attributes) { mode = link_mode }) now)

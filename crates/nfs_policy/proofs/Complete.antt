@@ -23,7 +23,7 @@ use Rattle.nfs_inodes.specs.Conditions.{MayUnlink, MayRename, MayReplace}
 use Rattle.nfs_inodes.specs.Law.{Law, Lives}
 use Rattle.nfs_inodes.specs.Reading.{attributes_of, attributes_at, dot, dot_dot, entry_at, entry_named, listing, listing_at, numbered_files, path_of, path_at, totals_at, type_of}
 use Rattle.nfs_inodes.specs.Tree.{Tree, File, Kind, Regular, Directory, Link, Entry, Volume, at, on_some, entries_in, parent_in, is_directory, names_of, nlink}
-use Rattle.nfs_procs.specs.Changers.{set_attr, write, create, make_dir, sym_link, remove, remove_dir, rename, link, given_of, sets_something, after_settings, after_taking, after_creating}
+use Rattle.nfs_procs.specs.Changers.{set_attr, write, create, make_dir, sym_link, remove, remove_dir, rename, link, given_of, sets_something, after_settings, after_taking, after_creating, with_cleared_mode, cleared_mode, has_bytes, size_alone, size_taken, mode_alone}
 use Rattle.nfs_procs.specs.Doing.{Doing}
 use Rattle.nfs_procs.specs.Performing.{IsGranted}
 use Rattle.nfs_procs.specs.Procedures.{doing_of}
@@ -142,10 +142,8 @@ module _ (m : ℕ) where
   stays_written t n offset [] now there = there
   stays_written t n offset (byte ∷ bytes) now there = stays_changed t n (λ f. file_with_bytes f offset (byte ∷ bytes) now) there
 
-  stays_taken : (t : Tree) (n : ℕ) (how : CreateHow) (now : Moment) → IsThere t m → IsThere (after_taking t n how now) m
-  stays_taken t n (Unchecked attributes) now there = stays_resized t n attributes.size now there
-  stays_taken t n (Guarded attributes) now there = there
-  stays_taken t n (Exclusive verifier) now there = there
+  stays_taken : (t : Tree) (uid : ℕ) (f : Fattr) (how : CreateHow) (now : Moment) → IsThere t m → IsThere (after_taking t uid f how now) m
+  stays_taken t uid f how now there = stays_settled t f.fileid (with_cleared_mode uid f (size_alone (size_taken how))) now there
 
 -- ---- what a granted call is about
 
@@ -267,19 +265,20 @@ module _ (c : Scene) (law : Law c.tree) (one two : Subject) (granted : IsGranted
       told_as : (k : Doing) → Some k ≡ Some doing → IsThere (k.effect one two c.now tag) d → IsThere (doing.effect one two c.now tag) d
       told_as k e h = subst (λ (k : Doing). IsThere (k.effect one two c.now tag) d) (same_some e) h
 
-      created : (a : Create) (o : Option Fattr) → IsThere (on_some o (after_creating one a c.now tag) (λ f. after_taking one.tree f.fileid a.how c.now)) d
+      created : (a : Create) (o : Option Fattr) → IsThere (on_some o (after_creating one a c.now tag) (λ f. after_taking one.tree one.ids.uid f a.how c.now)) d
       created a None = made_there d a.place.name _ there
-      created a (Some f) = stays_taken d one.tree f.fileid a.how c.now there
+      created a (Some f) = stays_taken d one.tree one.ids.uid f a.how c.now there
 
       by : (args : NfsArgs) → doing_of args ≡ Some doing → c.args ≡ args → IsThere (doing.effect one two c.now tag) d
       by nfs.Null e is = absurd (not_both refl e)
       by (nfs.GetAttr file) e is = told_as get_attr e there
-      by (nfs.SetAttr a) e is = told_as (set_attr a) e (stays_settled d one.tree d a.attributes c.now there)
+      by (nfs.SetAttr a) e is = told_as (set_attr a) e (stays_settled d one.tree d (with_cleared_mode one.ids.uid one.file a.attributes) c.now there)
       by (nfs.Lookup a) e is = told_as (lookup a) e there
       by (nfs.Access a) e is = told_as (access a) e there
       by (nfs.ReadLink file) e is = told_as (read_link file) e there
       by (nfs.Read a) e is = told_as (read a) e there
-      by (nfs.Write a) e is = told_as (write a) e (stays_written d one.tree d a.offset a.content c.now there)
+      by (nfs.Write a) e is = told_as (write a) e (stays_settled d (after_write_at one.tree d a.offset a.content c.now) d (mode_alone (cleared_mode one.ids.uid one.file (has_bytes a.content))) c.now
+          (stays_written d one.tree d a.offset a.content c.now there))
       by (nfs.Create a) e is = told_as (create a) e (created a (found one a.place.name))
       by (nfs.MakeDir a) e is = told_as (make_dir a) e (made_there d a.place.name _ there)
       by (nfs.SymLink a) e is = told_as (sym_link a) e (made_there d a.place.name _ there)
@@ -318,6 +317,6 @@ module _ (c : Scene) (law : Law c.tree) (one two : Subject) (granted : IsGranted
   )
     where
       created : (a : Create) (tag : ℕ) (o : Option Fattr) → found one a.place.name ≡ o
-          → IsShown (on_some o (after_creating one a c.now tag) (λ f. after_taking one.tree f.fileid a.how c.now)) (on_some o one.tree.next (λ f. f.fileid))
+          → IsShown (on_some o (after_creating one a c.now tag) (λ f. after_taking one.tree one.ids.uid f a.how c.now)) (on_some o one.tree.next (λ f. f.fileid))
       created a tag None e = is_shown (after_creating one a c.now tag) one.tree.next (new_there a.place.name _)
-      created a tag (Some f) e = is_shown (after_taking one.tree f.fileid a.how c.now) f.fileid (stays_taken f.fileid one.tree f.fileid a.how c.now (seen_there one.tree f (found_seen one a.place.name f e).1))
+      created a tag (Some f) e = is_shown (after_taking one.tree one.ids.uid f a.how c.now) f.fileid (stays_taken f.fileid one.tree one.ids.uid f a.how c.now (seen_there one.tree f (found_seen one a.place.name f e).1))

@@ -1,17 +1,25 @@
 -- The elementary changes of a file, as the policy allows them.
-use Rattle.std.proofs.Common.{inl, inr, ◌≡◌, ◌≢◌, ◌⊎◌, ℕ, Bool, true, List, Option, Some, None, refl, sym, ◌∙◌}
-use Rattle.std.specs.Prelude.{nat_eq, is_some, ◌||◌, ◌%◌}
+use Rattle.std.proofs.Common.{inl, inr, ◌≡◌, ◌≢◌, ◌⊎◌, ℕ, Bool, true, false, List, Option, Some, None, refl, sym, ap, ◌∙◌, arith}
+use Rattle.std.specs.Prelude.{nat_eq, ◌||◌, ◌%◌}
 use Rattle.nfs_attrs.specs.declared.moment.Moment.{Moment}
 use Rattle.nfs_exports.specs.Ids.{Ids}
 use Rattle.nfs_inodes.specs.Changes.{kind_with_entry, entered, kind_without_entry, left, kind_with_parent, moved_to, kind_with_bytes, file_with_bytes, resized_to, with_given, put_bytes, sized, or_else}
 use Rattle.nfs_inodes.specs.Reading.{type_of}
 use Rattle.nfs_inodes.specs.Tree.{File, Kind, Regular, Directory, Link, Entry, bytes_in, entries_in, parent_in, path_in, on_some}
 use Rattle.nfs_inodes.specs.declared.given_attributes.GivenAttributes.{GivenAttributes}
-use Rattle.nfs_policy.specs.Policy.{OnlyWhere, in_group, is_owner, is_writer, is_enterer}
+use Rattle.nfs_inodes.proofs.Lists.{true_and_false}
+use Rattle.nfs_rules.specs.Rights.{may}
+use Rattle.nfs_rules.specs.declared.rights.Right.TheVariants.{Write}
+use Rattle.nfs_policy.specs.Policy.{OnlyWhere, loses_set_ids, in_group, rights_of, is_owner, is_writer, is_enterer}
 use Rattle.nfs_policy.proofs.Leading.{Allowed}
+use Rattle.nfs_policy.proofs.Modes.{loses_at_most}
 
 same : {X : Type 0} (so : Bool) (x y : X) → x ≡ y → OnlyWhere so x y
 same so x y e d = absurd (d e)
+
+-- a mode that stays loses no bits
+pub loses_none : (mode : ℕ) → loses_set_ids mode mode ≡ true
+loses_none mode = loses_at_most mode mode refl (omega arith) (omega arith)
 
 -- what a kind is like that has lost or gained something
 record KindStays (k l : Kind) : Type 0 where
@@ -37,6 +45,7 @@ module _ (ids : Ids) (now : Moment) (place : ℕ) (Moves : Type 0) where
       bytes = bytes;
       entries = entries;
       mode = same _ f.mode f.mode refl;
+      own_mode = λ other. absurd (true_and_false (loses_none f.mode) other);
       gid = same _ f.gid f.gid refl;
       uid = same _ f.uid f.uid refl;
       group = same _ f.gid f.gid refl;
@@ -85,6 +94,7 @@ module _ (ids : Ids) (now : Moment) (place : ℕ) (Moves : Type 0) where
       bytes = same _ _ _ bytes;
       entries = same _ _ _ entries;
       mode = same _ f.mode f.mode refl;
+      own_mode = λ other. absurd (true_and_false (loses_none f.mode) other);
       gid = same _ f.gid f.gid refl;
       uid = same _ f.uid f.uid refl;
       group = same _ f.gid f.gid refl;
@@ -107,17 +117,33 @@ module _ (ids : Ids) (now : Moment) (place : ℕ) (Moves : Type 0) where
 
   -- attributes that are given, each where it may be
   pub record MayGive (r : File) (given : GivenAttributes) : Type 0 where
-    pub mode : is_some given.mode ≡ true → is_owner ids r ≡ true
+    pub mode : (mode : ℕ) → given.mode ≡ Some mode → (is_owner ids r ≡ true) ⊎ ((is_writer ids r ≡ true) × (loses_set_ids r.mode (mode % 4096) ≡ true))
     pub uid : (uid : ℕ) → given.uid ≡ Some uid → (nat_eq ids.uid 0 ≡ true) ⊎ (uid ≡ r.uid)
     pub gid : (gid : ℕ) → given.gid ≡ Some gid → (gid ≡ r.gid) ⊎ ((is_owner ids r ≡ true) × ((nat_eq ids.uid 0 || in_group ids gid) ≡ true))
     pub atime : (moment : Moment) → given.atime ≡ Some moment → (is_writer ids r ≡ true) × ((moment ≡ now) ⊎ (is_owner ids r ≡ true))
     pub mtime : (moment : Moment) → given.mtime ≡ Some moment → (is_writer ids r ≡ true) × ((moment ≡ now) ⊎ (is_owner ids r ≡ true))
 
-  -- to a file that has the owner and the group of r
-  module _ (r f : File) (uid_is : f.uid ≡ r.uid) (gid_is : f.gid ≡ r.gid) where
-    mode_by : (o : Option ℕ) → (is_some o ≡ true → is_owner ids r ≡ true) → OnlyWhere (is_owner ids r) f.mode (on_some o f.mode (λ mode. mode % 4096))
+  owner_writes : (r : File) → is_owner ids r ≡ true → is_writer ids r ≡ true
+  owner_writes r e = ap (λ b. b || may ids (rights_of r) Write) e
+
+  -- to a file that has the mode, the owner and the group of r
+  module _ (r f : File) (mode_is : f.mode ≡ r.mode) (uid_is : f.uid ≡ r.uid) (gid_is : f.gid ≡ r.gid) where
+    abbrev MayBe : Option ℕ → Type 0
+    MayBe o = (mode : ℕ) → o ≡ Some mode → (is_owner ids r ≡ true) ⊎ ((is_writer ids r ≡ true) × (loses_set_ids r.mode (mode % 4096) ≡ true))
+
+    mode_by : (o : Option ℕ) → MayBe o → OnlyWhere (is_writer ids r) f.mode (on_some o f.mode (λ mode. mode % 4096))
     mode_by None may = same _ f.mode f.mode refl
-    mode_by (Some mode) may = λ d. may refl
+    mode_by (Some mode) may = λ d. elim (may mode refl) [
+      | inl owner ↦ owner_writes r owner
+      | inr both ↦ both.0
+    ]
+
+    own_mode_by : (o : Option ℕ) → MayBe o → loses_set_ids f.mode (on_some o f.mode (λ mode. mode % 4096)) ≡ false → is_owner ids r ≡ true
+    own_mode_by None may other = absurd (true_and_false (loses_none f.mode) other)
+    own_mode_by (Some mode) may other = elim (may mode refl) [
+      | inl owner ↦ owner
+      | inr both ↦ absurd (true_and_false both.1 (ap (λ m. loses_set_ids m (mode % 4096)) (sym mode_is) ∙ other))
+    ]
 
     uid_by : (o : Option ℕ) → ((uid : ℕ) → o ≡ Some uid → (nat_eq ids.uid 0 ≡ true) ⊎ (uid ≡ r.uid)) → OnlyWhere (nat_eq ids.uid 0) f.uid (or_else o f.uid)
     uid_by None may d = absurd (d refl)
@@ -152,6 +178,7 @@ module _ (ids : Ids) (now : Moment) (place : ℕ) (Moves : Type 0) where
         bytes = same _ (bytes_in f.kind) (bytes_in f.kind) refl;
         entries = same _ (entries_in f.kind) (entries_in f.kind) refl;
         mode = mode_by given.mode may.mode;
+        own_mode = own_mode_by given.mode may.mode;
         gid = λ d. (gid_by given.gid may.gid d).0;
         uid = uid_by given.uid may.uid;
         group = λ d. (gid_by given.gid may.gid d).1;

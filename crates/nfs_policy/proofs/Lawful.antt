@@ -7,8 +7,10 @@ use Rattle.nfs_args.specs.declared.create.Create.{Create}
 use Rattle.nfs_args.specs.declared.create.CreateHow.{CreateHow}
 use Rattle.nfs_args.specs.declared.create.CreateHow.TheVariants.{Unchecked, Guarded, Exclusive}
 use Rattle.nfs_args.specs.declared.set_attr.SetAttr.{SetAttr}
+use Rattle.nfs_args.specs.declared.write.Write.{Write}
 use Rattle.nfs_attrs.specs.declared.fattr.Fattr.{Fattr}
 use Rattle.nfs_attrs.specs.declared.moment.Moment.{Moment}
+use Rattle.nfs_attrs.specs.declared.sattr.Sattr.{Sattr}
 use Rattle.nfs_exports.specs.declared.table.Export.{Export}
 use Rattle.nfs_inodes.proofs.Lists.{same_some, not_both}
 use Rattle.nfs_inodes.proofs.Maps.{at_with_same}
@@ -17,11 +19,12 @@ use Rattle.nfs_inodes.proofs.law.Operations.{law_after_link, law_after_write_at}
 use Rattle.nfs_inodes.proofs.law.Renames.{law_after_rename}
 use Rattle.nfs_inodes.proofs.law.Settings.{law_after_resize, law_after_set, resized_is}
 use Rattle.nfs_inodes.proofs.law.Unlinks.{law_after_unlink}
-use Rattle.nfs_inodes.specs.Changes.{resized_to, after_resize, after_set, zeros}
+use Rattle.nfs_inodes.specs.Changes.{resized_to, after_resize, after_set, after_write_at, zeros}
 use Rattle.nfs_inodes.specs.Conditions.{MayMake, MayResize}
 use Rattle.nfs_inodes.specs.Law.{Law, Lives}
 use Rattle.nfs_inodes.specs.Tree.{Tree, File, at, on_some}
-use Rattle.nfs_procs.specs.Changers.{set_attr, write, create, make_dir, sym_link, remove, remove_dir, rename, link, given_of, sets_something, file_mode, directory_mode, link_mode, attributes_in, verifier_in, after_taking, after_creating}
+use Rattle.nfs_procs.proofs.GivenSettings.{lives_written}
+use Rattle.nfs_procs.specs.Changers.{set_attr, write, create, make_dir, sym_link, remove, remove_dir, rename, link, given_of, sets_something, file_mode, directory_mode, link_mode, attributes_in, verifier_in, after_settings, after_writing, after_taking, after_creating, with_cleared_mode, cleared_mode, has_bytes, size_alone, size_taken, mode_alone}
 use Rattle.nfs_procs.specs.NewFiles.{new_file_of}
 use Rattle.nfs_procs.specs.Doing.{Doing}
 use Rattle.nfs_procs.specs.Performing.{IsGranted}
@@ -32,11 +35,11 @@ use Rattle.nfs_rules.proofs.Links.{may_link}
 use Rattle.nfs_rules.proofs.NewFiles.{may_make_directory, may_make_link, may_make_file}
 use Rattle.nfs_rules.proofs.Removals.{may_remove, may_remove_directory, some_from_is_none}
 use Rattle.nfs_rules.proofs.Renames.{may_rename}
-use Rattle.nfs_rules.proofs.SeenFiles.{seen_lives}
+use Rattle.nfs_rules.proofs.SeenFiles.{seen_lives, found_seen}
 use Rattle.nfs_rules.proofs.Sizes.{may_write, may_set_size, may_resize_present}
 use Rattle.nfs_rules.proofs.Firsts.{passed_at}
 use Rattle.nfs_rules.specs.Subjects.{Caller, Subject}
-use Rattle.nfs_rules.specs.Table.{rules_of, set_attr_rules, create_rules, remove_rules, remove_dir_rules, size_in}
+use Rattle.nfs_rules.specs.Table.{rules_of, set_attr_rules, write_rules, create_rules, remove_rules, remove_dir_rules, size_in}
 use Rattle.nfs_rules.specs.Tests as test
 use Rattle.nfs_rules.specs.Tests.{first, found}
 use Rattle.nfs_policy.proofs.Changes.{length_zeros}
@@ -58,23 +61,34 @@ module _ (t : Tree) (law : Law t) (n : ℕ) (now : Moment) where
     at_file = ap (λ (u : Tree). at n u.files) (resized_is t n size now f at_f) ∙ at_with_same n f (resized_to f size now) t.files at_f;
   }
 
-  resized : (size : Option ℕ) → ((k : ℕ) → size ≡ Some k → MayResize t n k) → Law (on_some size t (λ size. after_resize t n size now))
-  resized None may = law
-  resized (Some size) may = law_after_resize t n size now (may size refl) law
+  settled : (f : File) → Lives t n f → (g : Sattr) → ((k : ℕ) → g.size ≡ Some k → MayResize t n k) → Law (after_settings t n g now)
+  settled f at_f g may = by (sets_something g)
+    where
+      by : (b : Bool) → Law (if b then after_set (on_some g.size t (λ size. after_resize t n size now)) n (given_of now g) now else t)
+      by true = let z = sized_by f at_f g.size may in law_after_set (on_some g.size t (λ size. after_resize t n size now)) n (given_of now g) now z.file z.at_file z.lawful
+      by false = law
 
 module _ (s : Subject) (law : Law s.tree) (t : Tree) (exports : List (List Export)) (caller : Caller) (is : IsSubject t exports caller s) (now : Moment) where
-  settled : (a : SetAttr) → first (set_attr_rules s a) ≡ None → (b : Bool) → Law (if b then after_set (on_some a.attributes.size s.tree (λ size. after_resize s.tree s.file.fileid size now)) s.file.fileid (given_of now a.attributes) now else s.tree)
-  settled a none true = let lives = seen_lives s.tree s.file is.seen in
-      let z = sized_by s.tree law s.file.fileid now lives.0 lives.1 a.attributes.size (may_set_size s law is.seen a none) in
-      law_after_set (on_some a.attributes.size s.tree (λ size. after_resize s.tree s.file.fileid size now)) s.file.fileid (given_of now a.attributes) now z.file z.at_file z.lawful
-  settled a none false = law
+  given : (a : SetAttr) → first (set_attr_rules s a) ≡ None → Law (after_settings s.tree s.file.fileid (with_cleared_mode s.ids.uid s.file a.attributes) now)
+  given a none = let lives = seen_lives s.tree s.file is.seen in
+      settled s.tree law s.file.fileid now lives.0 lives.1 (with_cleared_mode s.ids.uid s.file a.attributes) (may_set_size s law is.seen a none)
 
-  taken : (a : Create) → first (create_rules s a) ≡ None → (f : Fattr) → found s a.place.name ≡ Some f → (how : CreateHow) → a.how ≡ how → Law (after_taking s.tree f.fileid how now)
-  taken a none f e (Unchecked attributes) how = resized s.tree law f.fileid now attributes.size (may_resize_present s law a none f e attributes how)
-  taken a none f e (Guarded attributes) how = law
-  taken a none f e (Exclusive verifier) how = law
+  written : (a : Write) → first (write_rules s a) ≡ None → (mode : Option ℕ) → Law (after_writing s.tree s.file.fileid a.offset a.content mode now)
+  written a none mode = let lives = seen_lives s.tree s.file is.seen in
+      let there = lives_written s.tree s.file.fileid a.offset a.content now lives.0 lives.1 in
+      settled (after_write_at s.tree s.file.fileid a.offset a.content now) (law_after_write_at s.tree s.file.fileid a.offset a.content now (may_write s law is.seen a none) law)
+      s.file.fileid now there.0 there.1 (mode_alone mode) (λ k e. absurd (not_both refl e))
 
-  created : (a : Create) (tag : ℕ) → tag < 2 ^ 32 → first (create_rules s a) ≡ None → (o : Option Fattr) → found s a.place.name ≡ o → Law (on_some o (after_creating s a now tag) (λ f. after_taking s.tree f.fileid a.how now))
+  taken : (a : Create) → first (create_rules s a) ≡ None → (f : Fattr) → found s a.place.name ≡ Some f → (how : CreateHow) → a.how ≡ how → Law (after_taking s.tree s.ids.uid f how now)
+  taken a none f e how same = let lives = seen_lives s.tree f (found_seen s a.place.name f e).1 in
+      settled s.tree law f.fileid now lives.0 lives.1 (with_cleared_mode s.ids.uid f (size_alone (size_taken how))) (may how same)
+    where
+      may : (how : CreateHow) → a.how ≡ how → (k : ℕ) → size_taken how ≡ Some k → MayResize s.tree f.fileid k
+      may (Unchecked attributes) same k size = may_resize_present s law a none f e attributes same k size
+      may (Guarded attributes) same k size = absurd (not_both refl size)
+      may (Exclusive verifier) same k size = absurd (not_both refl size)
+
+  created : (a : Create) (tag : ℕ) → tag < 2 ^ 32 → first (create_rules s a) ≡ None → (o : Option Fattr) → found s a.place.name ≡ o → Law (on_some o (after_creating s a now tag) (λ f. after_taking s.tree s.ids.uid f a.how now))
   created a tag fits none None e = let size = on_some (size_in a.how) 0 (λ (size : ℕ). size) in
       law_after_make_file s.tree s.file.fileid tag a.place.name (zeros size) (new_file_of file_mode s.ids now (attributes_in a.how)) (verifier_in a.how) now
       (subst (MayMake s.tree s.file.fileid a.place.name) (sym (length_zeros size)) (may_make_file s law is.seen a none e)) fits law
@@ -100,12 +114,12 @@ granted_law c law doing e one two tag fits granted = by c.args e (rules_kept c o
     by : (args : NfsArgs) → doing_of args ≡ Some doing → first (rules_of one two args) ≡ None → Law (doing.effect one two c.now tag)
     by nfs.Null e none = absurd (not_both refl e)
     by (nfs.GetAttr file) e none = told_as get_attr e l
-    by (nfs.SetAttr a) e none = told_as (set_attr a) e (settled one l c.tree c.exports c.caller is c.now a none (sets_something a.attributes))
+    by (nfs.SetAttr a) e none = told_as (set_attr a) e (given one l c.tree c.exports c.caller is c.now a none)
     by (nfs.Lookup a) e none = told_as (lookup a) e l
     by (nfs.Access a) e none = told_as (access a) e l
     by (nfs.ReadLink file) e none = told_as (read_link file) e l
     by (nfs.Read a) e none = told_as (read a) e l
-    by (nfs.Write a) e none = told_as (write a) e (law_after_write_at one.tree one.file.fileid a.offset a.content c.now (may_write one l is.seen a none) l)
+    by (nfs.Write a) e none = told_as (write a) e (written one l c.tree c.exports c.caller is c.now a none (cleared_mode one.ids.uid one.file (has_bytes a.content)))
     by (nfs.Create a) e none = told_as (create a) e (created one l c.tree c.exports c.caller is c.now a tag fits none (found one a.place.name) refl)
     by (nfs.MakeDir a) e none = told_as (make_dir a) e (law_after_make_dir one.tree one.file.fileid tag a.place.name (new_file_of directory_mode one.ids c.now a.attributes) c.now (may_make_directory one l is.seen a.place.name none) fits l)
     by (nfs.SymLink a) e none = told_as (sym_link a) e (law_after_make_link one.tree one.file.fileid tag a.place.name a.path (record (new_file_of link_mode one.ids c.now a.attributes) { mode = link_mode }) c.now (may_make_link one l is.seen a.place.name a.path none) fits l)

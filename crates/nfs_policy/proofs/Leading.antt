@@ -1,6 +1,6 @@
 -- How a tree is led to another by changes of files, each of which the policy allows.
-use Rattle.std.proofs.Common.{inl, inr, ◌≡◌, ◌≢◌, ◌⊎◌, ℕ, Bool, true, false, List, Option, Some, None, option_map, refl, sym, ap, subst, ◌∙◌}
-use Rattle.std.specs.Prelude.{nat_eq, not, ◌||◌}
+use Rattle.std.proofs.Common.{inl, inr, ◌≡◌, ◌≢◌, ◌⊎◌, ℕ, Bool, true, false, List, [], Option, Some, None, option_map, refl, sym, ap, subst, ◌∙◌, arith}
+use Rattle.std.specs.Prelude.{Contains, nat_eq, not, ◌||◌}
 use Rattle.nfs_attrs.specs.declared.moment.Moment.{Moment}
 use Rattle.nfs_exports.specs.Ids.{Ids, squash}
 use Rattle.nfs_exports.specs.declared.options.Options.{Options}
@@ -9,9 +9,12 @@ use Rattle.nfs_inodes.proofs.Lists.{by_test, by_number, same_some, not_both, tru
 use Rattle.nfs_inodes.proofs.Maps.{at_with_same, at_with_other, at_without_same, at_without_other, at_push_same, at_push_other}
 use Rattle.nfs_inodes.specs.Changes.{with_file, with_new_file, without_file}
 use Rattle.nfs_inodes.specs.Law.{Lives, AreRising}
-use Rattle.nfs_inodes.specs.Tree.{Tree, File, at, on_some, parent_in}
+use Rattle.nfs_inodes.specs.Reading.{entries_at}
+use Rattle.nfs_inodes.specs.Tree.{Tree, File, Entry, at, on_some, entries_in, parent_in}
 use Rattle.nfs_rules.specs.Subjects.{Caller}
-use Rattle.nfs_policy.specs.Policy.{OnlyWhere, Stays, Rightful, IsOwn, EntriesDiffer, Policy, options_at, is_writable, ids_at, in_group, is_owner}
+use Rattle.nfs_policy.specs.Policy.{OnlyWhere, loses_set_ids, Stays, Rightful, IsOwn, EntriesDiffer, Policy, options_at, is_writable, ids_at, in_group, is_owner, is_deleter}
+use Rattle.nfs_policy.proofs.Deletions.{Keeps, MayGo}
+use Rattle.nfs_policy.proofs.Modes.{loses_at_most, loses_on}
 
 -- ---- one change after another
 
@@ -33,6 +36,7 @@ module _ (ids : Ids) (now : Moment) (r : File) where
     bytes = λ d. absurd (d refl);
     entries = λ d. absurd (d refl);
     mode = λ d. absurd (d refl);
+    own_mode = λ other. absurd (true_and_false (loses_at_most f.mode f.mode refl (omega arith) (omega arith)) other);
     gid = λ d. absurd (d refl);
     uid = λ d. absurd (d refl);
     group = λ d. absurd (d refl);
@@ -47,6 +51,9 @@ module _ (ids : Ids) (now : Moment) (r : File) where
     bytes = only _ _ _ _ a.bytes b.bytes;
     entries = only _ _ _ _ a.entries b.entries;
     mode = only _ f.mode g.mode h.mode a.mode b.mode;
+    own_mode = λ other. by_test (loses_set_ids f.mode g.mode)
+        (λ one. by_test (loses_set_ids g.mode h.mode) (λ two. absurd (true_and_false (loses_on f.mode g.mode h.mode one two) other)) b.own_mode)
+        a.own_mode;
     gid = only _ f.gid g.gid h.gid a.gid b.gid;
     uid = only _ f.uid g.uid h.uid a.uid b.uid;
     group = chain (λ k. nat_eq ids.uid 0 || in_group ids k) (λ k. Unit {0}) f.gid g.gid h.gid (λ u. a.group) (λ u. b.group) tt;
@@ -137,7 +144,7 @@ module _ (ids : Ids) (now : Moment) (place : ℕ) (Moves : Type 0) where
 -- ---- the policy
 
 module _ (exports : List (List Export)) (caller : Caller) (now : Moment) (t u : Tree) (place : ℕ) (options : Options) (granted : options_at exports caller place ≡ Some options) (writable : options.read_only ≡ false)
-    (Moves : Type 0) (moves : Moves → EntriesDiffer t u) (led : Leads (squash options caller.cred) now place Moves t u) where
+    (Moves : Type 0) (moves : Moves → EntriesDiffer t u) (led : Leads (squash options caller.cred) now place Moves t u) (keeps : Keeps (MayGo (squash options caller.cred) t) t u) where
   abbrev ids : Ids
   ids = squash options caller.cred
 
@@ -173,6 +180,7 @@ module _ (exports : List (List Export)) (caller : Caller) (now : Moment) (t u : 
     writable = λ n f lives d. is_rw f.volume (of_place (at n t.files) (at n u.files) f (led n) lives d);
     stays = λ n f g e h. (between n (Some f) (Some g) e h).0.stays;
     rightful = λ n f g ids' e h is. rightful_as (between n (Some f) (Some g) e h) is;
+    deletion = λ d dir e f ids' at_d there gone at_f is. deletes d dir e f ids' at_d there gone at_f is;
     new = λ n g ids' e h is. let c = between n None (Some g) e h in subst (λ i. IsOwn i g) (same_ids g.volume ids' c.volume is) c.own;
     comes = λ n g e h. moves (between n None (Some g) e h).moves;
     goes = λ n f e h. moves (between n (Some f) None e h).1;
@@ -181,6 +189,15 @@ module _ (exports : List (List Export)) (caller : Caller) (now : Moment) (t u : 
     where
       same_ids : (place' : ℕ) (ids' : Ids) → place' ≡ place → ids_at exports caller place' ≡ Some ids' → ids ≡ ids'
       same_ids place' ids' e is = same_some (sym (ap (ids_at exports caller) e ∙ ap (option_map (λ (o : Options). squash o caller.cred)) granted) ∙ is)
+
+      deletes : (d : ℕ) (dir : File) (e : Entry) (f : File) (ids' : Ids) → Lives t d dir → Contains (entries_in dir.kind) e → (Contains (entries_at u d) e → ⊥) → Lives t e.number f → ids_at exports caller dir.volume ≡ Some ids' → is_deleter ids' dir f ≡ true
+      deletes d dir e f ids' at_d there gone at_f is =
+          let was : Contains (entries_at t d) e = subst (λ o. Contains (on_some o [] (λ (f : File). entries_in f.kind)) e) (sym at_d) there in
+          let here = of_place (at d t.files) (at d u.files) dir (led d) (inl at_d) (λ same. gone (subst (λ o. Contains (on_some o [] (λ (f : File). entries_in f.kind)) e) same was)) in
+          elim (keeps d e was) [
+            | inl c ↦ absurd (gone c)
+            | inr may ↦ subst (λ i. is_deleter i dir f ≡ true) (same_ids dir.volume ids' here is) (may dir f at_d at_f)
+          ]
 
       rightful_as : {f g : File} {ids' : Ids} → At (Some f) (Some g) → ids_at exports caller f.volume ≡ Some ids' → Rightful ids' now f f g
       rightful_as {f} {g} {ids'} a is = elim a.1 as (λ x. Rightful ids' now f f g) [
@@ -201,6 +218,7 @@ policy_itself exports caller now t = record {
   stays = λ n f g e h. subst (Stays f) (same_some (sym e ∙ h)) (stays_itself f);
   rightful = λ n f g ids e h is. subst (Rightful ids now f f) (same_some (sym e ∙ h)) (rightful_itself ids now f f);
   new = λ n g ids e h is. absurd (not_both e h);
+  deletion = λ d dir e f ids at_d there gone at_f is. absurd (gone (subst (λ o. Contains (on_some o [] (λ (f : File). entries_in f.kind)) e) (sym at_d) there));
   comes = λ n g e h. absurd (not_both e h);
   goes = λ n f e h. absurd (not_both h e);
   parent = λ n f g e h d. absurd (d (ap (λ (k : File). parent_in k.kind) (same_some (sym e ∙ h))));

@@ -4,6 +4,8 @@ pub mod Changes
 pub mod Wants
 pub mod Calls
 pub mod Leading
+pub mod Modes
+pub mod Deletions
 pub mod Edits
 pub mod Granted
 pub mod Policies

@@ -17,7 +17,7 @@ use Rattle.nfs_inodes.specs.Changes.{with_new_file, with_file, without_file, ent
 use Rattle.nfs_inodes.specs.Law.{Law}
 use Rattle.nfs_inodes.specs.Reading.{entry_at, numbered_files}
 use Rattle.nfs_inodes.specs.Tree.{Tree, File, Entry, at, on_some, names_of}
-use Rattle.nfs_procs.specs.Changers.{set_attr, write, create, make_dir, sym_link, remove, remove_dir, rename, link, given_of, sets_something, after_settings, after_taking, after_creating}
+use Rattle.nfs_procs.specs.Changers.{set_attr, write, create, make_dir, sym_link, remove, remove_dir, rename, link, given_of, sets_something, after_settings, after_writing, after_taking, after_creating, with_cleared_mode, cleared_mode, has_bytes, size_alone, size_taken, mode_alone}
 use Rattle.nfs_procs.specs.Doing.{Doing}
 use Rattle.nfs_procs.specs.Performing.{IsGranted}
 use Rattle.nfs_procs.specs.Procedures.{doing_of}
@@ -127,10 +127,13 @@ settles t n a now = by (sets_something a)
         goes_on t u (after_set u n (given_of now a) now) (resizes t n a.size now) (changes_one u n (λ f. with_given f (given_of now a) now) (λ f. refl))
     by false = goes_itself t
 
-taken : (t : Tree) (n : ℕ) (how : CreateHow) (now : Moment) → Goes t (after_taking t n how now)
-taken t n (Unchecked attributes) now = resizes t n attributes.size now
-taken t n (Guarded attributes) now = goes_itself t
-taken t n (Exclusive verifier) now = goes_itself t
+-- bytes, and a mode behind them
+writes_all : (t : Tree) (n offset : ℕ) (bytes : List ℕ) (mode : Option ℕ) (now : Moment) → Goes t (after_writing t n offset bytes mode now)
+writes_all t n offset bytes mode now = let u = after_write_at t n offset bytes now in
+    goes_on t u (after_settings u n (mode_alone mode) now) (writes t n offset bytes now) (settles u n (mode_alone mode) now)
+
+taken : (t : Tree) (uid : ℕ) (f : Fattr) (how : CreateHow) (now : Moment) → Goes t (after_taking t uid f how now)
+taken t uid f how now = settles t f.fileid (with_cleared_mode uid f (size_alone (size_taken how))) now
 
 -- ---- a granted call
 
@@ -149,19 +152,19 @@ granted_goes c law doing e one two tag fits granted = subst (λ t. Goes t (doing
     stays : Goes one.tree one.tree
     stays = goes_itself one.tree
 
-    creates : (a : Create) → first (create_rules one a) ≡ None → (o : Option Fattr) → found one a.place.name ≡ o → Goes one.tree (on_some o (after_creating one a c.now tag) (λ f. after_taking one.tree f.fileid a.how c.now))
+    creates : (a : Create) → first (create_rules one a) ≡ None → (o : Option Fattr) → found one a.place.name ≡ o → Goes one.tree (on_some o (after_creating one a c.now tag) (λ f. after_taking one.tree one.ids.uid f a.how c.now))
     creates a none None e = makes one.tree one.file.fileid a.place.name _ c.now fits (may_make_file one l are.first.seen a none e).number
-    creates a none (Some f) e = taken one.tree f.fileid a.how c.now
+    creates a none (Some f) e = taken one.tree one.ids.uid f a.how c.now
 
     by : (args : NfsArgs) → doing_of args ≡ Some doing → first (rules_of one two args) ≡ None → Goes one.tree (doing.effect one two c.now tag)
     by nfs.Null e none = absurd (not_both refl e)
     by (nfs.GetAttr file) e none = told_as get_attr e stays
-    by (nfs.SetAttr a) e none = told_as (set_attr a) e (settles one.tree one.file.fileid a.attributes c.now)
+    by (nfs.SetAttr a) e none = told_as (set_attr a) e (settles one.tree one.file.fileid (with_cleared_mode one.ids.uid one.file a.attributes) c.now)
     by (nfs.Lookup a) e none = told_as (lookup a) e stays
     by (nfs.Access a) e none = told_as (access a) e stays
     by (nfs.ReadLink file) e none = told_as (read_link file) e stays
     by (nfs.Read a) e none = told_as (read a) e stays
-    by (nfs.Write a) e none = told_as (write a) e (writes one.tree one.file.fileid a.offset a.content c.now)
+    by (nfs.Write a) e none = told_as (write a) e (writes_all one.tree one.file.fileid a.offset a.content (cleared_mode one.ids.uid one.file (has_bytes a.content)) c.now)
     by (nfs.Create a) e none = told_as (create a) e (creates a none (found one a.place.name) refl)
     by (nfs.MakeDir a) e none = told_as (make_dir a) e (makes one.tree one.file.fileid a.place.name _ c.now fits (may_make_directory one l are.first.seen a.place.name none).make.number)
     by (nfs.SymLink a) e none = told_as (sym_link a) e (makes one.tree one.file.fileid a.place.name _ c.now fits (may_make_link one l are.first.seen a.place.name a.path none).make.number)

@@ -1,6 +1,6 @@
 -- The policy, procedure by procedure.
 use Rattle.std.proofs.Common.{inl, inr, ◌≡◌, ◌≢◌, ◌⊎◌, ℕ, ◌-◌, Bool, true, false, List, [], ◌∷◌, Option, Some, None, option_map, refl, sym, ap, subst, ◌∙◌}
-use Rattle.std.specs.Prelude.{nat_eq, is_some, not, ◌||◌, ◌&&◌, if◌then◌else◌}
+use Rattle.std.specs.Prelude.{Contains, nat_eq, nat_le, slice_get, ◌%◌, is_some, not, ◌||◌, ◌&&◌, if◌then◌else◌}
 use Rattle.std.specs.List.{list_any}
 use Rattle.std.proofs.lemmas.Bool.{not-false, eqb-true, eq-eqb, and_parts}
 use Rattle.nfs_args.specs.declared.args.NfsArgs.TheVariants as nfs
@@ -14,13 +14,15 @@ use Rattle.nfs_attrs.specs.declared.time_setting.TimeSetting.TheVariants.{Leave,
 use Rattle.nfs_exports.specs.Ids.{Ids, squash}
 use Rattle.nfs_exports.specs.declared.table.Export.{Export}
 use Rattle.nfs_inodes.proofs.Lists.{by_test, if_false, same_some, not_both, true_and_false}
-use Rattle.nfs_inodes.proofs.Maps.{at_with_same}
+use Rattle.nfs_inodes.proofs.law.WithoutEntry.{names_apart}
+use Rattle.nfs_inodes.proofs.law.EntryLess.{found_is}
+use Rattle.nfs_inodes.proofs.Maps.{at_with_same, apart_number}
 use Rattle.nfs_inodes.specs.Changes.{with_file, new_file, volume_of, with_named_file, after_make_dir, after_make_link, after_link, after_rename, zeros, file_with_bytes, after_write_at, resized_to, after_resize, with_given, after_set, after_unlink}
-use Rattle.nfs_inodes.specs.Conditions.{MayUnlink, MayEnter}
+use Rattle.nfs_inodes.specs.Conditions.{MayUnlink, MayEnter, MayRename}
 use Rattle.nfs_inodes.specs.Law.{Law, Lives, LivesAsDirectory}
-use Rattle.nfs_inodes.specs.Reading.{attributes_of}
-use Rattle.nfs_inodes.specs.Tree.{Tree, File, Kind, Regular, Directory, at, on_some, nlink}
-use Rattle.nfs_procs.specs.Changers.{file_mode, directory_mode, link_mode, attributes_in, verifier_in, after_taking, after_creating, setting, given_of, sets_something, after_settings}
+use Rattle.nfs_inodes.specs.Reading.{attributes_at, attributes_of, entry_named}
+use Rattle.nfs_inodes.specs.Tree.{Tree, File, Kind, Regular, Directory, Entry, at, on_some, entries_in, nlink}
+use Rattle.nfs_procs.specs.Changers.{file_mode, directory_mode, link_mode, attributes_in, verifier_in, after_writing, after_taking, after_creating, setting, given_of, sets_something, after_settings, cleared_mode, with_cleared_mode, has_bytes, size_alone, size_taken, mode_alone}
 use Rattle.nfs_args.specs.declared.args.NfsArgs.{NfsArgs}
 use Rattle.nfs_args.specs.declared.create.Create.{Create}
 use Rattle.nfs_args.specs.declared.create.CreateHow.{CreateHow}
@@ -37,23 +39,26 @@ use Rattle.nfs_procs.specs.Scenes.{Scene}
 use Rattle.nfs_procs.specs.declared.done.Done.{Done}
 use Rattle.nfs_procs.specs.declared.done.Done.TheVariants.{Granted, Denied, Memory}
 use Rattle.nfs_rules.proofs.Links.{may_link}
-use Rattle.nfs_rules.proofs.Renames.{may_rename}
+use Rattle.nfs_rules.proofs.Names.{no_dots, absent_name, present_name}
+use Rattle.nfs_rules.proofs.Renames.{may_rename, rename_lets_go}
 use Rattle.nfs_rules.proofs.Firsts.{passed_at}
-use Rattle.nfs_rules.proofs.SeenFiles.{seen_lives, seen_place, found_seen}
-use Rattle.nfs_rules.proofs.Removals.{may_remove, may_remove_directory, some_from_is_none}
-use Rattle.nfs_rules.specs.Rights.{may, owns}
+use Rattle.nfs_rules.proofs.SeenFiles.{seen_lives, seen_place, none_under, found_seen}
+use Rattle.nfs_rules.proofs.Removals.{may_remove, may_remove_directory, remove_lets_go, remove_dir_lets_go, some_from_is_none}
+use Rattle.nfs_rules.specs.Rights.{may, owns, restricts_deletion, lets_go}
 use Rattle.nfs_rules.specs.Subjects.{Caller, Subject}
 use Rattle.nfs_rules.proofs.NewFiles.{may_make_directory, may_make_link, may_make_file, create_rules_with}
-use Rattle.nfs_rules.specs.Table.{rules_of, write_rules, set_attr_rules, create_rules, size_in, make_dir_rules, sym_link_rules, remove_rules, remove_dir_rules, link_rules, rename_rules}
+use Rattle.nfs_rules.specs.Table.{is_moved, rules_of, write_rules, set_attr_rules, create_rules, size_in, make_dir_rules, sym_link_rules, remove_rules, remove_dir_rules, link_rules, rename_rules}
 use Rattle.nfs_args.specs.declared.make_dir.MakeDir.{MakeDir}
 use Rattle.nfs_args.specs.declared.sym_link.SymLink.{SymLink}
 use Rattle.nfs_procs.specs.NewFiles.{uid_of, gid_of, new_file_of}
 use Rattle.nfs_rules.specs.Tests as test
-use Rattle.nfs_rules.specs.Tests.{first, found, owns_or_may, gives_uid, gives_gid, is_client_time, is_server_time}
+use Rattle.nfs_rules.specs.Tests.{Test, first, found, owns_or_may, gives_uid, gives_gid, is_client_time, is_server_time}
 use Rattle.nfs_rules.specs.declared.rights.Right.{Right}
 use Rattle.nfs_rules.specs.declared.rights.Right.TheVariants.{Execute}
 use Rattle.nfs_rules.specs.declared.rights.Right.TheVariants as right
-use Rattle.nfs_policy.specs.Policy.{Policy, ChangesAreConfined, EntriesDiffer, IsOwn, options_at, in_group, rights_of, is_owner, is_writer, is_enterer}
+use Rattle.nfs_policy.specs.Policy.{Policy, ChangesAreConfined, EntriesDiffer, IsOwn, options_at, in_group, rights_of, is_owner, is_writer, is_enterer, is_deleter, loses_set_ids}
+use Rattle.nfs_policy.proofs.Deletions.{MayGo, MayLeave, Keeps, IsApart, keeps_settled, keeps_writing, keeps_linked, keeps_unlink, keeps_make, keeps_rename}
+use Rattle.nfs_policy.proofs.Modes.{loses_both}
 use Rattle.nfs_policy.proofs.Edits.{MayGive, written_allowed, resized_allowed, given_allowed}
 use Rattle.nfs_policy.proofs.Granted.{IsSubject, AreSubjects, are_subjects, rules_kept}
 use Rattle.nfs_policy.proofs.Leading.{Leads, leads_itself, leads_on, policy, policy_itself}
@@ -101,55 +106,149 @@ module _ (t : Tree) (exports : List (List Export)) (caller : Caller) (s : Subjec
     pub writer : (test.directory_write s).1 ≡ false → is_writer ids r ≡ true
     writer w = or_right (is_owner ids r) (may ids (rights_of r) right.Write) (sym (may_is right.Write) ∙ not-false _ w)
 
+  -- the entry of a file that the directory lets go
+  module _ (law : Law s.tree) (dir : File) (at_dir : Lives s.tree s.file.fileid dir) (f : Fattr) (seen : attributes_at s.tree f.fileid ≡ Some f) (go : lets_go s.ids s.file f ≡ true) where
+    deleter : (g : File) → Lives s.tree f.fileid g → is_deleter ids dir g ≡ true
+    deleter g at_g = (λ i. not (restricts_deletion (shown dir at_dir i).mode) || sym (owns_is dir at_dir) i || owner i) ∙ go
+      where
+        is_shown : attributes_of f.fileid g (nlink s.tree.files f.fileid g) ≡ f
+        is_shown = same_some (sym (ap (option_map (λ (h : File). attributes_of f.fileid h (nlink s.tree.files f.fileid h))) at_g) ∙ seen)
+
+        owner : is_owner ids g ≡ owns s.ids f
+        owner = λ i. owns (sym is.ids i) (is_shown i)
+
+    pub may_leave : (name : List ℕ) (e0 : Entry) → entry_named name (entries_in dir.kind) ≡ Some e0 → e0.number ≡ f.fileid → MayLeave (MayGo ids s.tree) s.tree s.file.fileid name
+    may_leave name e0 found number e c named dir' g at_dir' at_g =
+        let there : Contains (entries_in dir.kind) e = subst (λ o. Contains (on_some o [] (λ (h : File). entries_in h.kind)) e) at_dir c in
+        let same : e0 ≡ e = found_is name (entries_in dir.kind) e0 e (names_apart dir (law.sound s.file.fileid dir at_dir)) found there named in
+        subst (λ d. is_deleter ids d g ≡ true) (same_some (sym at_dir ∙ at_dir')) (deleter g (subst (λ n. Lives s.tree n g) (ap (λ (x : Entry). x.number) (sym same) ∙ number) at_g))
+
   abbrev Polite : Moment → Tree → Type 0
   Polite now new = Policy exports caller now s.tree new
 
-  -- ---- WRITE
-
   module _ (now : Moment) where
-    pub write_policy : (a : Write) → first (write_rules s a) ≡ None → Polite now (after_write_at s.tree s.file.fileid a.offset a.content now)
-    write_policy a none = of a.content
+    abbrev r : File
+    r = lives.0
+
+    at_r : Lives s.tree s.file.fileid r
+    at_r = lives.1
+
+    abbrev n : ℕ
+    n = s.file.fileid
+
+    -- ---- what is set of the file
+
+    -- a tree to which the file is led, and in which it has its mode, owner and group
+    record IsAsBefore (u : Tree) : Type 0 where
+      led : Leads ids now place ⊥ s.tree u
+      file : File
+      at_file : at n u.files ≡ Some file
+      mode : file.mode ≡ r.mode
+      uid : file.uid ≡ r.uid
+      gid : file.gid ≡ r.gid
+
+    as_it_is : IsAsBefore s.tree
+    as_it_is = record { led = leads_itself ids now place ⊥ s.tree; file = r; at_file = at_r; mode = refl; uid = refl; gid = refl }
+
+    sized_from : (u : Tree) → IsAsBefore u → (o : Option ℕ) → (is_some o ≡ true → is_writer ids r ≡ true) → IsAsBefore (on_some o u (λ size. after_resize u n size now))
+    sized_from u z None writes = z
+    sized_from u z (Some size) writes = record {
+      led = leads_on ids now place ⊥ s.tree u z.led n r at_r (at_place r at_r) (λ f. resized_to f size now) (λ f at_f. resized_allowed ids now place ⊥ r f size (writes refl));
+      file = resized_to z.file size now;
+      at_file = ap (λ (t : Tree). at n t.files) (ap (λ o. on_some o u (λ f. with_file u n (resized_to f size now))) z.at_file) ∙ at_with_same n z.file (resized_to z.file size now) u.files z.at_file;
+      mode = z.mode;
+      uid = z.uid;
+      gid = z.gid;
+    }
+
+    settled_from : (u : Tree) → IsAsBefore u → (g : Sattr) → (is_some g.size ≡ true → is_writer ids r ≡ true) → MayGive ids now place ⊥ r (given_of now g) → Leads ids now place ⊥ s.tree (after_settings u n g now)
+    settled_from u z g writes may = by (sets_something g)
       where
-        writes : is_writer ids lives.0 ≡ true
-        writes = sym (writer_is lives.0 lives.1) ∙ not-false _ (passed_at (write_rules s a) none 2 (test.write_right s) refl)
+        by : (b : Bool) → Leads ids now place ⊥ s.tree (if b then after_set (on_some g.size u (λ size. after_resize u n size now)) n (given_of now g) now else u)
+        by true = let y = sized_from u z g.size writes in
+            leads_on ids now place ⊥ s.tree (on_some g.size u (λ size. after_resize u n size now)) y.led n r at_r (at_place r at_r) (λ f. with_given f (given_of now g) now)
+            (λ f at_f. let same : y.file ≡ f = same_some (sym y.at_file ∙ at_f) in
+            given_allowed ids now place ⊥ r f (ap (λ (k : File). k.mode) (sym same) ∙ y.mode) (ap (λ (k : File). k.uid) (sym same) ∙ y.uid) (ap (λ (k : File). k.gid) (sym same) ∙ y.gid) (given_of now g) may)
+        by false = z.led
 
-        led : (bytes : List ℕ) → Leads ids now place ⊥ s.tree (after_write_at s.tree s.file.fileid a.offset bytes now)
-        led [] = leads_itself ids now place ⊥ s.tree
-        led (b ∷ bytes) = leads_on ids now place ⊥ s.tree s.tree (leads_itself ids now place ⊥ s.tree) s.file.fileid lives.0 lives.1 (at_place lives.0 lives.1)
-            (λ f. file_with_bytes f a.offset (b ∷ bytes) now) (λ f e. written_allowed ids now place ⊥ lives.0 f a.offset (b ∷ bytes) writes)
+    -- a mode without the two bits, of a file whose bytes change
+    when_some : (b : Bool) (m mode : ℕ) → (if b then Some m else None) ≡ Some mode → (b ≡ true) × (m ≡ mode)
+    when_some true m mode e = (refl, same_some e)
+    when_some false m mode e = absurd (not_both refl e)
 
-        of : (bytes : List ℕ) → Polite now (after_write_at s.tree s.file.fileid a.offset bytes now)
-        of bytes = policy exports caller now s.tree (after_write_at s.tree s.file.fileid a.offset bytes now) place s.options is.options (passed_at (write_rules s a) none 0 (test.read_only s) refl) ⊥ (λ m. absurd m) (led bytes)
+    cleared_may : (changes : Bool) → (changes ≡ true → is_writer ids r ≡ true) → (mode : ℕ) → cleared_mode s.ids.uid s.file changes ≡ Some mode → (is_writer ids r ≡ true) × (loses_set_ids r.mode (mode % 4096) ≡ true)
+    cleared_may changes writes mode e =
+        let c = when_some (changes && not (nat_eq s.ids.uid 0) && nat_le 1024 s.file.mode) (s.file.mode % 1024) mode e in
+        let low : r.mode % 1024 ≡ mode = ap (λ (k : Fattr). k.mode % 1024) (shown r at_r) ∙ c.1 in
+        (writes (and_parts changes (not (nat_eq s.ids.uid 0)) (and_parts (changes && not (nat_eq s.ids.uid 0)) (nat_le 1024 s.file.mode) c.0).0).0, ap (λ k. loses_set_ids r.mode (k % 4096)) (sym low) ∙ loses_both r.mode)
+
+    -- which is all that is given
+    cleared_gives : (changes : Bool) → (changes ≡ true → is_writer ids r ≡ true) → MayGive ids now place ⊥ r (given_of now (mode_alone (cleared_mode s.ids.uid s.file changes)))
+    cleared_gives changes writes = record {
+      mode = λ mode e. inr (cleared_may changes writes mode e);
+      uid = λ uid e. absurd (not_both refl e);
+      gid = λ gid e. absurd (not_both refl e);
+      atime = λ moment e. absurd (not_both refl e);
+      mtime = λ moment e. absurd (not_both refl e);
+    }
+
+    -- ---- WRITE
+
+    pub write_policy : (a : Write) → first (write_rules s a) ≡ None → Polite now (after_writing s.tree n a.offset a.content (cleared_mode s.ids.uid s.file (has_bytes a.content)) now)
+    write_policy a none = policy exports caller now s.tree (after_writing s.tree n a.offset a.content mode now) place s.options is.options (passed_at (write_rules s a) none 0 (test.read_only s) refl) ⊥ (λ m. absurd m)
+        (settled_from (after_write_at s.tree n a.offset a.content now) (written a.content) (mode_alone mode) (λ e. absurd (true_and_false e refl)) (cleared_gives (has_bytes a.content) (λ e. writes)))
+        (keeps_writing (MayGo ids s.tree) s.tree n a.offset a.content mode now)
+      where
+        mode : Option ℕ
+        mode = cleared_mode s.ids.uid s.file (has_bytes a.content)
+
+        writes : is_writer ids r ≡ true
+        writes = sym (writer_is r at_r) ∙ not-false _ (passed_at (write_rules s a) none 2 (test.write_right s) refl)
+
+        written : (bytes : List ℕ) → IsAsBefore (after_write_at s.tree n a.offset bytes now)
+        written [] = as_it_is
+        written (b ∷ bytes) = record {
+          led = leads_on ids now place ⊥ s.tree s.tree (leads_itself ids now place ⊥ s.tree) n r at_r (at_place r at_r) (λ f. file_with_bytes f a.offset (b ∷ bytes) now) (λ f e. written_allowed ids now place ⊥ r f a.offset (b ∷ bytes) writes);
+          file = file_with_bytes r a.offset (b ∷ bytes) now;
+          at_file = ap (λ (t : Tree). at n t.files) (ap (λ o. on_some o s.tree (λ f. with_file s.tree n (file_with_bytes f a.offset (b ∷ bytes) now))) at_r) ∙ at_with_same n r (file_with_bytes r a.offset (b ∷ bytes) now) s.tree.files at_r;
+          mode = refl;
+          uid = refl;
+          gid = refl;
+        }
 
     -- ---- REMOVE and RMDIR
 
     module _ (law : Law s.tree) (rw : s.options.read_only ≡ false) where
-      polite : (new : Tree) → EntriesDiffer s.tree new → Leads ids now place (EntriesDiffer s.tree new) s.tree new → Polite now new
-      polite new differ led = policy exports caller now s.tree new place s.options is.options rw (EntriesDiffer s.tree new) (λ m. m) led
+      polite : (new : Tree) → EntriesDiffer s.tree new → Leads ids now place (EntriesDiffer s.tree new) s.tree new → Keeps (MayGo ids s.tree) s.tree new → Polite now new
+      polite new differ led keeps = policy exports caller now s.tree new place s.options is.options rw (EntriesDiffer s.tree new) (λ m. m) led keeps
 
       pub enters : (test.search_right s).1 ≡ false → (test.directory_write s).1 ≡ false → (dir : File) → LivesAsDirectory s.tree s.file.fileid dir → Enters s.tree law ids now place s.file.fileid dir
       enters x w dir at_dir = record { at_dir = at_dir; volume = at_place dir at_dir.0; writer = writer dir at_dir.0 w; enterer = enterer dir at_dir.0 x w }
 
-      unlink_policy : (name : List ℕ) → MayUnlink s.tree s.file.fileid name → (test.search_right s).1 ≡ false → (test.directory_write s).1 ≡ false → Polite now (after_unlink s.tree s.file.fileid name now)
-      unlink_policy name may x w = let new = after_unlink s.tree s.file.fileid name now in let differ = unlink_differs s.tree law ids now place s.file.fileid name may in
-          polite new differ (unlink_led s.tree law ids now place (EntriesDiffer s.tree new) differ s.file.fileid name may (enters x w may.dir may.at_dir))
+      unlink_policy : (name : List ℕ) → MayUnlink s.tree s.file.fileid name → (test.search_right s).1 ≡ false → (test.directory_write s).1 ≡ false → MayLeave (MayGo ids s.tree) s.tree s.file.fileid name → Polite now (after_unlink s.tree s.file.fileid name now)
+      unlink_policy name may x w leave = let new = after_unlink s.tree s.file.fileid name now in let differ = unlink_differs s.tree law ids now place s.file.fileid name may in
+          polite new differ (unlink_led s.tree law ids now place (EntriesDiffer s.tree new) differ s.file.fileid name may (enters x w may.dir may.at_dir)) (keeps_unlink (MayGo ids s.tree) s.tree law now s.file.fileid name may leave)
 
       make_policy : (name : List ℕ) (f : File) → MayEnter s.tree s.file.fileid name → (test.search_right s).1 ≡ false → (test.directory_write s).1 ≡ false → IsOwn s.ids f → f.volume ≡ volume_of s.tree s.file.fileid → Polite now (with_named_file s.tree s.file.fileid name f now)
       make_policy name f may x w own volume = let new = with_named_file s.tree s.file.fileid name f now in let differ = make_differs s.tree law ids now place s.file.fileid name may.dir f may.at_dir in
           polite new differ (make_led s.tree law ids now place (EntriesDiffer s.tree new) differ s.file.fileid name may.dir f (enters x w may.dir may.at_dir) (subst (λ i. IsOwn i f) is.ids own)
-          (volume ∙ ap (λ o. on_some o 0 (λ (f : File). f.volume)) may.at_dir.0 ∙ at_place may.dir may.at_dir.0))
+          (volume ∙ ap (λ o. on_some o 0 (λ (f : File). f.volume)) may.at_dir.0 ∙ at_place may.dir may.at_dir.0)) (keeps_make (MayGo ids s.tree) s.tree law now s.file.fileid name f)
 
     pub remove_policy : Law s.tree → (name : List ℕ) → first (remove_rules s name) ≡ None → Polite now (after_unlink s.tree s.file.fileid name now)
     remove_policy law name none =
         let f = some_from_is_none (found s name) (passed_at (remove_rules s name) none 6 (test.no_entry s name) refl) in
-        unlink_policy law (passed_at (remove_rules s name) none 0 (test.read_only s) refl) name (may_remove s law is.seen name none f.0 f.1).may
+        let seen = may_remove s law is.seen name none f.0 f.1 in
+        unlink_policy law (passed_at (remove_rules s name) none 0 (test.read_only s) refl) name seen.may
         (passed_at (remove_rules s name) none 5 (test.search_right s) refl) (passed_at (remove_rules s name) none 7 (test.directory_write s) refl)
+        (may_leave law seen.may.dir seen.may.at_dir.0 f.0 (found_seen s name f.0 f.1).1 (remove_lets_go s law is.seen name none f.0 f.1) name seen.may.entry seen.may.found (sym seen.number))
 
     pub remove_dir_policy : Law s.tree → (name : List ℕ) → first (remove_dir_rules s name) ≡ None → Polite now (after_unlink s.tree s.file.fileid name now)
     remove_dir_policy law name none =
         let f = some_from_is_none (found s name) (passed_at (remove_dir_rules s name) none 7 (test.no_entry s name) refl) in
-        unlink_policy law (passed_at (remove_dir_rules s name) none 0 (test.read_only s) refl) name (may_remove_directory s law is.seen name none f.0 f.1).may
+        let seen = may_remove_directory s law is.seen name none f.0 f.1 in
+        unlink_policy law (passed_at (remove_dir_rules s name) none 0 (test.read_only s) refl) name seen.may
         (passed_at (remove_dir_rules s name) none 6 (test.search_right s) refl) (passed_at (remove_dir_rules s name) none 8 (test.directory_write s) refl)
+        (may_leave law seen.may.dir seen.may.at_dir.0 f.0 (found_seen s name f.0 f.1).1 (remove_dir_lets_go s law is.seen name none f.0 f.1) name seen.may.entry seen.may.found (sym seen.number))
 
     -- ---- new files
 
@@ -183,23 +282,25 @@ module _ (t : Tree) (exports : List (List Export)) (caller : Caller) (s : Subjec
     -- ---- SETATTR
 
     module _ (a : SetAttr) (none : first (set_attr_rules s a) ≡ None) where
-      abbrev r : File
-      r = lives.0
-
-      at_r : Lives s.tree s.file.fileid r
-      at_r = lives.1
-
-      abbrev n : ℕ
-      n = s.file.fileid
-
       abbrev g : Sattr
       g = a.attributes
+
+      -- with the mode that a size brings
+      abbrev h : Sattr
+      h = with_cleared_mode s.ids.uid s.file g
 
       owner_where : (b : Bool) → b ≡ true → (b && not (owns s.ids s.file)) ≡ false → is_owner ids r ≡ true
       owner_where b y e = sym (owns_is r at_r) ∙ not-false _ (sym (ap (λ k. k && not (owns s.ids s.file)) y) ∙ e)
 
-      mode_may : is_some g.mode ≡ true → is_owner ids r ≡ true
-      mode_may y = owner_where (is_some g.mode) y (passed_at (set_attr_rules s a) none 2 (test.owner_mode s g) refl)
+      size_writes : is_some g.size ≡ true → is_writer ids r ≡ true
+      size_writes e = sym (writer_is r at_r) ∙ not-false _ (sym (ap (λ b. b && not (owns_or_may s right.Write)) e) ∙ passed_at (set_attr_rules s a) none 6 (test.only_where (is_some g.size) (test.write_right s)) refl)
+
+      mode_may : (mode : ℕ) → h.mode ≡ Some mode → (is_owner ids r ≡ true) ⊎ ((is_writer ids r ≡ true) × (loses_set_ids r.mode (mode % 4096) ≡ true))
+      mode_may mode e = by g.mode refl e
+        where
+          by : (o : Option ℕ) → g.mode ≡ o → on_some o (cleared_mode s.ids.uid s.file (is_some g.size)) (λ m. Some m) ≡ Some mode → (is_owner ids r ≡ true) ⊎ ((is_writer ids r ≡ true) × (loses_set_ids r.mode (mode % 4096) ≡ true))
+          by None is e = inr (cleared_may (is_some g.size) size_writes mode e)
+          by (Some m) is e = inl (owner_where (is_some g.mode) (ap is_some is) (passed_at (set_attr_rules s a) none 2 (test.owner_mode s g) refl))
 
       uid_may : (uid : ℕ) → g.uid ≡ Some uid → (nat_eq ids.uid 0 ≡ true) ⊎ (uid ≡ r.uid)
       uid_may uid e = by_test (nat_eq s.ids.uid 0) (λ y. inl (ap (λ (k : Ids). nat_eq k.uid 0) (sym is.ids) ∙ y))
@@ -238,7 +339,7 @@ module _ (t : Tree) (exports : List (List Export)) (caller : Caller) (s : Subjec
       server : (is_server_time g.atime || is_server_time g.mtime) ≡ true → is_writer ids r ≡ true
       server y = sym (writer_is r at_r) ∙ not-false _ (sym (ap (λ k. k && not (owns_or_may s right.Write)) y) ∙ passed_at (set_attr_rules s a) none 8 (test.time_right s g) refl)
 
-      may_give : MayGive ids now place ⊥ r (given_of now g)
+      may_give : MayGive ids now place ⊥ r (given_of now h)
       may_give = record {
         mode = mode_may;
         uid = uid_may;
@@ -247,49 +348,23 @@ module _ (t : Tree) (exports : List (List Export)) (caller : Caller) (s : Subjec
         mtime = time_may g.mtime (λ y. client (is_client_time g.mtime) y (λ y. or_right (is_client_time g.atime) _ y)) (λ y. server (or_right (is_server_time g.atime) _ y));
       }
 
-      size_writes : (size : ℕ) → g.size ≡ Some size → is_writer ids r ≡ true
-      size_writes size e = sym (writer_is r at_r) ∙ not-false _ (sym (ap (λ o. is_some o && not (owns_or_may s right.Write)) e) ∙ passed_at (set_attr_rules s a) none 6 (test.only_where (is_some g.size) (test.write_right s)) refl)
-
-      -- the tree with the size, in which the file has its owner and group
-      record IsSized (u : Tree) : Type 0 where
-        led : Leads ids now place ⊥ s.tree u
-        file : File
-        at_file : at n u.files ≡ Some file
-        uid : file.uid ≡ r.uid
-        gid : file.gid ≡ r.gid
-
-      sized_by : (o : Option ℕ) → g.size ≡ o → IsSized (on_some o s.tree (λ size. after_resize s.tree n size now))
-      sized_by None e = record { led = leads_itself ids now place ⊥ s.tree; file = r; at_file = at_r; uid = refl; gid = refl }
-      sized_by (Some size) e = record {
-        led = leads_on ids now place ⊥ s.tree s.tree (leads_itself ids now place ⊥ s.tree) n r at_r (at_place r at_r) (λ f. resized_to f size now) (λ f at_f. resized_allowed ids now place ⊥ r f size (size_writes size e));
-        file = resized_to r size now;
-        at_file = ap (λ (t : Tree). at n t.files) (ap (λ o. on_some o s.tree (λ f. with_file s.tree n (resized_to f size now))) at_r) ∙ at_with_same n r (resized_to r size now) s.tree.files at_r;
-        uid = refl;
-        gid = refl;
-      }
-
-      settled : (b : Bool) → Leads ids now place ⊥ s.tree (if b then after_set (on_some g.size s.tree (λ size. after_resize s.tree n size now)) n (given_of now g) now else s.tree)
-      settled true = let z = sized_by g.size refl in
-          leads_on ids now place ⊥ s.tree (on_some g.size s.tree (λ size. after_resize s.tree n size now)) z.led n r at_r (at_place r at_r) (λ f. with_given f (given_of now g) now)
-          (λ f at_f. let same : z.file ≡ f = same_some (sym z.at_file ∙ at_f) in
-          given_allowed ids now place ⊥ r f (ap (λ (k : File). k.uid) (sym same) ∙ z.uid) (ap (λ (k : File). k.gid) (sym same) ∙ z.gid) (given_of now g) may_give)
-      settled false = leads_itself ids now place ⊥ s.tree
-
-      pub set_attr_policy : Polite now (after_settings s.tree n g now)
-      set_attr_policy = policy exports caller now s.tree (after_settings s.tree n g now) place s.options is.options (passed_at (set_attr_rules s a) none 0 (test.read_only s) refl) ⊥ (λ m. absurd m) (settled (sets_something g))
+      pub set_attr_policy : Polite now (after_settings s.tree n h now)
+      set_attr_policy = policy exports caller now s.tree (after_settings s.tree n h now) place s.options is.options (passed_at (set_attr_rules s a) none 0 (test.read_only s) refl) ⊥ (λ m. absurd m)
+          (settled_from s.tree as_it_is h size_writes may_give) (keeps_settled (MayGo ids s.tree) s.tree n h now)
 
     -- ---- CREATE
 
-    -- a size for a file, whose bytes the caller may write
-    size_policy : (size : Option ℕ) → s.options.read_only ≡ false → ((n : ℕ) → size ≡ Some n → is_writer ids lives.0 ≡ true) → Polite now (on_some size s.tree (λ size. after_resize s.tree s.file.fileid size now))
-    size_policy None rw writes = policy exports caller now s.tree s.tree place s.options is.options rw ⊥ (λ m. absurd m) (leads_itself ids now place ⊥ s.tree)
-    size_policy (Some size) rw writes = policy exports caller now s.tree (after_resize s.tree s.file.fileid size now) place s.options is.options rw ⊥ (λ m. absurd m)
-        (leads_on ids now place ⊥ s.tree s.tree (leads_itself ids now place ⊥ s.tree) s.file.fileid lives.0 lives.1 (at_place lives.0 lives.1) (λ f. resized_to f size now) (λ f e. resized_allowed ids now place ⊥ lives.0 f size (writes size refl)))
+    pub taken_policy : (how : CreateHow) → s.options.read_only ≡ false → ((attributes : Sattr) → how ≡ Unchecked attributes → (is_some attributes.size && not (owns_or_may s right.Write)) ≡ false) → Polite now (after_taking s.tree s.ids.uid s.file how now)
+    taken_policy how rw may = policy exports caller now s.tree (after_taking s.tree s.ids.uid s.file how now) place s.options is.options rw ⊥ (λ m. absurd m)
+        (settled_from s.tree as_it_is given (writes how may) (cleared_gives (is_some (size_taken how)) (writes how may))) (keeps_settled (MayGo ids s.tree) s.tree n given now)
+      where
+        given : Sattr
+        given = with_cleared_mode s.ids.uid s.file (size_alone (size_taken how))
 
-    pub taken_policy : (how : CreateHow) → s.options.read_only ≡ false → ((attributes : Sattr) → how ≡ Unchecked attributes → (is_some attributes.size && not (owns_or_may s right.Write)) ≡ false) → Polite now (after_taking s.tree s.file.fileid how now)
-    taken_policy (Unchecked attributes) rw may = size_policy attributes.size rw (λ n e. sym (writer_is lives.0 lives.1) ∙ not-false _ (sym (ap (λ o. is_some o && not (owns_or_may s right.Write)) e) ∙ may attributes refl))
-    taken_policy (Guarded attributes) rw may = size_policy None rw (λ n e. absurd (not_both refl e))
-    taken_policy (Exclusive verifier) rw may = size_policy None rw (λ n e. absurd (not_both refl e))
+        writes : (how : CreateHow) → ((attributes : Sattr) → how ≡ Unchecked attributes → (is_some attributes.size && not (owns_or_may s right.Write)) ≡ false) → is_some (size_taken how) ≡ true → is_writer ids r ≡ true
+        writes (Unchecked attributes) may e = sym (writer_is r at_r) ∙ not-false _ (sym (ap (λ b. b && not (owns_or_may s right.Write)) e) ∙ may attributes refl)
+        writes (Guarded attributes) may e = absurd (true_and_false e refl)
+        writes (Exclusive verifier) may e = absurd (true_and_false e refl)
 
 -- CREATE of a file that is not there, or is
 module _ (t : Tree) (exports : List (List Export)) (caller : Caller) (s : Subject) (is : IsSubject t exports caller s) (now : Moment) (law : Law s.tree) (a : Create) (tag : ℕ) where
@@ -305,13 +380,13 @@ module _ (t : Tree) (exports : List (List Export)) (caller : Caller) (s : Subjec
       same = let live = found_lives s.tree law s.file.fileid f.fileid a.place.name (found_seen s a.place.name f e).0 in
           seen_place s.tree f (found_seen s a.place.name f e).1 live.file live.at_file ∙ live.volume ∙ sym (seen_place s.tree s.file is.seen live.dir live.at_dir.0)
 
-  pub create_policy : first (create_rules s a) ≡ None → Policy exports caller now s.tree (on_some (found s a.place.name) (after_creating s a now tag) (λ f. after_taking s.tree f.fileid a.how now))
+  pub create_policy : first (create_rules s a) ≡ None → Policy exports caller now s.tree (on_some (found s a.place.name) (after_creating s a now tag) (λ f. after_taking s.tree s.ids.uid f a.how now))
   create_policy none = of (found s a.place.name) refl
     where
       rw : s.options.read_only ≡ false
       rw = passed_at (create_rules s a) none 0 (test.read_only s) refl
 
-      of : (o : Option Fattr) → found s a.place.name ≡ o → Policy exports caller now s.tree (on_some o (after_creating s a now tag) (λ f. after_taking s.tree f.fileid a.how now))
+      of : (o : Option Fattr) → found s a.place.name ≡ o → Policy exports caller now s.tree (on_some o (after_creating s a now tag) (λ f. after_taking s.tree s.ids.uid f a.how now))
       of None e = let passed = passed_at (create_rules_with s a.place.name a.how None) (subst (λ o. first (create_rules_with s a.place.name a.how o) ≡ None) e none) in
           make_policy t exports caller s is now law rw a.place.name _ (may_make_file s law is.seen a none e).enter (passed 4 (test.search_right s) refl) (passed 6 (test.directory_write s) refl)
           (own_file t exports caller s is now (volume_of s.tree s.file.fileid) file_mode tag (Regular (zeros (on_some (size_in a.how) 0 (λ size. size)))) (attributes_in a.how) (verifier_in a.how)) refl
@@ -354,6 +429,49 @@ module _ (t : Tree) (exports : List (List Export)) (caller : Caller) (one two : 
       (λ m. m)
       (link_led one.tree law (squash one.options caller.cred) now (one.file.fsid - 1) (EntriesDiffer one.tree new) one.file.fileid two.file.fileid name may.file may.enter.dir may.at_file (at_place t exports caller one is may.file may.at_file)
       (enters_two (passed 5 (test.search_right two_here) refl) (passed 7 (test.directory_write two_here) refl) (ap (λ (o : Options). o.read_only) (sym same_options) ∙ rw) may.enter.dir may.enter.at_dir))
+      (keeps_linked (MayGo (squash one.options caller.cred) one.tree) one.tree one.file.fileid two.file.fileid name now)
+
+  -- ---- what RENAME takes away
+
+  module _ (a : Rename) (none : first (rename_rules one two_here a) ≡ None) (may : MayRename one.tree one.file.fileid a.from.name two.file.fileid a.to.name) where
+    passed : (place : ℕ) (rule : Test) → slice_get (rename_rules one two_here a) place ≡ Some rule → rule.1 ≡ false
+    passed place rule e = passed_at (rename_rules one two_here a) none place rule e
+
+    moved : (f : Fattr) × (found one a.from.name ≡ Some f)
+    moved = some_from_is_none (found one a.from.name) (passed 11 (test.no_entry one a.from.name) refl)
+
+    -- the entry under the old name
+    entry_from : (e : Entry) × (entry_named a.from.name (entries_in may.source.kind) ≡ Some e) × (e.number ≡ moved.0.fileid)
+    entry_from = let dots = no_dots a.from.name (passed 3 (test.dot_name a.from.name) refl) in
+        present_name one.tree one.file.fileid may.source may.at_source a.from.name moved.0.fileid (found_seen one a.from.name moved.0 moved.1).0 dots.0 dots.1
+
+    moved_number : may.entry.number ≡ moved.0.fileid
+    moved_number = ap (λ (e : Entry). e.number) (same_some (sym may.found ∙ entry_from.1)) ∙ entry_from.2
+
+    -- the entry under the new one
+    entry_to : (f : Fattr) → found two_here a.to.name ≡ Some f → (e : Entry) × (entry_named a.to.name (entries_in may.target.kind) ≡ Some e) × (e.number ≡ f.fileid)
+    entry_to f is = let dots = no_dots a.to.name (passed 4 (test.dot_name a.to.name) refl) in
+        present_name one.tree two.file.fileid may.target may.at_target a.to.name f.fileid (found_seen two_here a.to.name f is).0 dots.0 dots.1
+
+    module _ (apart : IsApart one.tree one.file.fileid a.from.name two.file.fileid a.to.name may) where
+      is_other : (o : Option Fattr) → found two_here a.to.name ≡ o → is_moved moved.0 o ≡ false
+      is_other None is = refl
+      is_other (Some f) is = let e = entry_to f is in apart_number moved.0.fileid f.fileid (λ same. apart e.0 e.1 (e.2 ∙ sym same ∙ sym moved_number))
+
+      go : (lets_go one.ids one.file moved.0 && on_some (found two_here a.to.name) true (lets_go two.ids two.file)) ≡ true
+      go = rename_lets_go one two_here a moved.0 moved.1 (is_other (found two_here a.to.name) refl) none
+
+      leaves : MayLeave (MayGo (squash one.options caller.cred) one.tree) one.tree one.file.fileid a.from.name
+      leaves = may_leave t exports caller one is law may.source may.at_source.0 moved.0 (found_seen one a.from.name moved.0 moved.1).1 (and_parts _ _ go).0 a.from.name entry_from.0 entry_from.1 entry_from.2
+
+      -- of what the new name names
+      replaced : (old : Entry) → entry_named a.to.name (entries_in may.target.kind) ≡ Some old → (o : Option Fattr) → found two_here a.to.name ≡ o → on_some o true (lets_go two.ids two.file) ≡ true → MayLeave (MayGo (squash two.options caller.cred) one.tree) one.tree two.file.fileid a.to.name
+      replaced old there None is go = absurd (not_both (absent_name one.tree two.file.fileid may.target may.at_target a.to.name (none_under two_here a.to.name law is)).2 there)
+      replaced old there (Some f) is go = let e = entry_to f is in
+          may_leave t exports caller two_here is_here law may.target may.at_target.0 f (found_seen two_here a.to.name f is).1 go a.to.name e.0 e.1 e.2
+
+      leaves_too : (old : Entry) → entry_named a.to.name (entries_in may.target.kind) ≡ Some old → MayLeave (MayGo (squash one.options caller.cred) one.tree) one.tree two.file.fileid a.to.name
+      leaves_too old there = subst (λ (o : Options). MayLeave (MayGo (squash o caller.cred) one.tree) one.tree two.file.fileid a.to.name) (sym same_options) (replaced old there (found two_here a.to.name) refl (and_parts _ _ go).1)
 
   pub rename_policy : (a : Rename) → first (rename_rules one two a) ≡ None → Policy exports caller now one.tree (after_rename one.tree one.file.fileid a.from.name two.file.fileid a.to.name now)
   rename_policy a none =
@@ -368,6 +486,7 @@ module _ (t : Tree) (exports : List (List Export)) (caller : Caller) (one two : 
       as (λ x. Policy exports caller now one.tree new) [
         | inl e ↦ subst (Policy exports caller now one.tree) (sym e) (policy_itself exports caller now one.tree)
         | inr both ↦ policy exports caller now one.tree new (one.file.fsid - 1) one.options is.options rw (EntriesDiffer one.tree new) (λ m. m) both.1
+            (keeps_rename (MayGo (squash one.options caller.cred) one.tree) one.tree law now one.file.fileid a.from.name two.file.fileid a.to.name may (leaves a kept may) (leaves_too a kept may))
       ]
 
 -- ---- a call

@@ -22,7 +22,7 @@ use Rattle.nfs_inodes.specs.Tree.{Tree, Volume, on_some}
 use Rattle.nfs_inodes.specs.Law.{parent_of}
 use Rattle.nfs_rules.specs.Rights.{may}
 use Rattle.nfs_rules.specs.Subjects.{Caller, Subject, named, live_at, granted, subject_with, subject_at}
-use Rattle.nfs_rules.specs.Table.{is_above_within, is_above, into_itself, incompatible, move_rules, rename_rules, rules_of, new_file_rules, present_file_rules, create_rules, remove_rules, remove_dir_rules, size_in}
+use Rattle.nfs_rules.specs.Table.{is_above_within, is_above, into_itself, incompatible, is_moved, sticky_move, entering_rules, move_rules, rename_rules, rules_of, new_file_rules, present_file_rules, create_rules, remove_rules, remove_dir_rules, size_in}
 use Rattle.nfs_rules.specs.Tests as test
 use Rattle.nfs_rules.specs.Tests.{first, found, in_volume, takes, is_empty, only_where}
 use Rattle.nfs_rules.specs.Verdicts.{handle_rules, handles_rules, handles_in, subjects_at, verdict, cross_volume, is_bad, is_stale}
@@ -100,11 +100,11 @@ module _ (p : ℕ → Bool) where
 
   remove_veiled : (s : Subject) (name : List ℕ) → remove_rules (veiled s) name ≡ remove_rules s name
   remove_veiled s name = λ i. test.read_only s ∷ test.not_directory s ∷ test.dot_name name ∷ test.name_long name ∷ test.name_form name ∷ test.search_right s ∷ no_entry_veiled s name i ∷ test.directory_write s
-      ∷ on_some (found_veiled s name i) [] (λ f. test.is_directory f ∷ [])
+      ∷ on_some (found_veiled s name i) [] (λ f. test.sticky s f ∷ test.is_directory f ∷ [])
 
   remove_dir_veiled : (s : Subject) (name : List ℕ) → remove_dir_rules (veiled s) name ≡ remove_dir_rules s name
   remove_dir_veiled s name = λ i. test.read_only s ∷ test.not_directory s ∷ test.dot_alone name ∷ test.dot_dot_alone name ∷ test.name_long name ∷ test.name_form name ∷ test.search_right s ∷ no_entry_veiled s name i ∷ test.directory_write s
-      ∷ on_some (found_veiled s name i) [] (λ f. test.target_not_directory f ∷ (rule.NotEmpty, not (empty_blank s.tree f i)) ∷ [])
+      ∷ on_some (found_veiled s name i) [] (λ f. test.sticky s f ∷ test.target_not_directory f ∷ (rule.NotEmpty, not (empty_blank s.tree f i)) ∷ [])
 
   into_itself_veiled : (to : Subject) (moved : Fattr) → into_itself (veiled to) moved ≡ into_itself to moved
   into_itself_veiled to moved = λ i. (rule.IntoItself, is_directory_type moved.file_type && above_blank to.tree moved.fileid to.file.fileid i)
@@ -112,9 +112,12 @@ module _ (p : ℕ → Bool) where
   incompatible_veiled : (to : Subject) (moved old : Fattr) → incompatible (veiled to) moved old ≡ incompatible to moved old
   incompatible_veiled to moved old = λ i. (rule.Incompatible, not (not (is_directory_type moved.file_type) && not (is_directory_type old.file_type) || is_directory_type moved.file_type && is_directory_type old.file_type && empty_blank to.tree old i))
 
+  entering_veiled : (from to : Subject) (moved : Fattr) (old : Option Fattr) → entering_rules (veiled from) (veiled to) moved old ≡ entering_rules from to moved old
+  entering_veiled from to moved None = λ i. into_itself_veiled to moved i ∷ only_where (is_directory_type moved.file_type && not (nat_eq from.file.fileid to.file.fileid)) (test.links to.file) ∷ cookies_veiled to i ∷ []
+  entering_veiled from to moved (Some old) = λ i. incompatible_veiled to moved old i ∷ into_itself_veiled to moved i ∷ cookies_veiled to i ∷ []
+
   move_veiled : (from to : Subject) (moved : Fattr) (old : Option Fattr) → move_rules (veiled from) (veiled to) moved old ≡ move_rules from to moved old
-  move_veiled from to moved None = λ i. into_itself_veiled to moved i ∷ only_where (is_directory_type moved.file_type && not (nat_eq from.file.fileid to.file.fileid)) (test.links to.file) ∷ cookies_veiled to i ∷ []
-  move_veiled from to moved (Some old) = λ i. if nat_eq moved.fileid old.fileid then [] else (incompatible_veiled to moved old i ∷ into_itself_veiled to moved i ∷ cookies_veiled to i ∷ [])
+  move_veiled from to moved old = λ i. if is_moved moved old then [] else (sticky_move from to moved old ∷ entering_veiled from to moved old i)
 
   rename_veiled : (from to : Subject) (a : Rename) → rename_rules (veiled from) (veiled to) a ≡ rename_rules from to a
   rename_veiled from to a = λ i. test.read_only from ∷ test.not_directory from ∷ test.not_directory to ∷ test.dot_name a.from.name ∷ test.dot_name a.to.name

@@ -8,7 +8,7 @@ use Rattle.nfs_args.specs.declared.create.CreateHow.TheVariants.{Unchecked, Guar
 use Rattle.nfs_inodes.proofs.Lists.{same_some, not_both}
 use Rattle.nfs_inodes.specs.Reading.{bytes_at}
 use Rattle.nfs_inodes.specs.Tree.{Tree, File, Kind, Regular, Directory, Link, at, on_some, bytes_in}
-use Rattle.nfs_procs.specs.Changers.{set_attr, write, create, make_dir, sym_link, remove, remove_dir, rename, link, grows, grows_to, taking_grows, names_apart}
+use Rattle.nfs_procs.specs.Changers.{set_attr, write, create, make_dir, sym_link, remove, remove_dir, rename, link, grows, grows_to, size_taken, taking_grows, names_apart}
 use Rattle.nfs_procs.specs.Doing.{Doing}
 use Rattle.nfs_procs.specs.Procedures.{doing_of}
 use Rattle.nfs_procs.specs.Readers.{get_attr, lookup, access, read_link, read, read_dir, read_dir_plus, make_node, fs_stat, fs_info, path_conf, commit}
@@ -40,9 +40,7 @@ module _ (p : ℕ → Bool) where
   grows_to_blank t n (Some size) = grows_blank t n 0 size
 
   taking_blank : (t : Tree) (n : ℕ) (how : CreateHow) → taking_grows (blank p t) n how ≡ taking_grows t n how
-  taking_blank t n (Unchecked attributes) = grows_to_blank t n attributes.size
-  taking_blank t n (Guarded attributes) = refl
-  taking_blank t n (Exclusive verifier) = refl
+  taking_blank t n how = grows_to_blank t n (size_taken how)
 
   names_blank : (t : Tree) (from to : ℕ) (name new_name : List ℕ) → names_apart (blank p t) from name to new_name ≡ names_apart t from name to new_name
   names_blank t from to name new_name = λ i. on_some (entry_blank p t from name i) true (λ e. on_some (entry_blank p t to new_name i) true (λ old. not (nat_eq old.number e.number)))

@@ -19,13 +19,26 @@ by uid = record { addr = record { 0 = 167772161 }; cred = record { uid = uid; gi
 abbrev pub later : Moment
 later = record { seconds = 5; nanos = 0 }
 
+abbrev pub RefusedFrom : Tree → ℕ → Tree → Type 0
+RefusedFrom old uid new = Policy to_all (by uid) start old new → ⊥
+
 abbrev pub Refused : ℕ → Tree → Type 0
-Refused uid new = Policy to_all (by uid) start tree_e new → ⊥
+Refused = RefusedFrom tree_e
+
+-- file 3 with bit 0x800 of its mode, and directory 2 with bit 0x200
+abbrev pub tree_set_uid : Tree
+tree_set_uid = with_file tree_e 3 (record file_3 { mode = 2505 })
+
+abbrev pub tree_sticky : Tree
+tree_sticky = with_file tree_e 2 (record file_2 { mode = 1023 })
 
 pub record Refuses : Type 0 where
   -- file 3 has mode 0711 and owner 1
   pub bytes : Refused 9 (after_write_at tree_e 3 0 (0x79 ∷ []) start)
   pub mode : Refused 9 (with_file tree_e 3 (record file_3 { mode = 511 }))
+  -- a mode that loses bit 0x800 by one who may not write the file, and one that gains it by one who may
+  pub loss : RefusedFrom tree_set_uid 9 tree_e
+  pub gain : Refused 9 (with_file tree_e 2 (record file_2 { mode = 2559 }))
   -- its owner gives it away, and to a group that it is not in
   pub owner : Refused 1 (with_file tree_e 3 (record file_3 { uid = 9 }))
   pub group : Refused 1 (with_file tree_e 3 (record file_3 { gid = 7 }))
@@ -33,6 +46,8 @@ pub record Refuses : Type 0 where
   pub volume : Refused 0 (with_file tree_e 8 (record file_8 { mode = 0 }))
   -- directory 1 has mode 0755 and owner 0
   pub entries : Refused 9 (with_file tree_e 1 (record file_1 { kind = Directory 1 7 [] }))
+  -- directory 2 has mode 01777 and owner 1, as file 3 in it
+  pub deletion : RefusedFrom tree_sticky 9 (with_file tree_sticky 2 (record file_2 { mode = 1023; kind = Directory 1 5 [] }))
   -- times of a file that the caller may not write, and a time of its own choice for one that it may
   pub time : Refused 9 (with_file tree_e 3 (record file_3 { atime = later }))
   pub own_time : Refused 9 (with_file tree_e 2 (record file_2 { mtime = later }))

@@ -10,14 +10,15 @@ use Rattle.nfs_args.specs.declared.create.CreateHow.TheVariants.{Unchecked, Guar
 use Rattle.nfs_attrs.specs.Spelling.{IsWcc}
 use Rattle.nfs_attrs.specs.declared.fattr.Fattr.{Fattr}
 use Rattle.nfs_attrs.specs.declared.wcc.Wcc.{Wcc}
+use Rattle.nfs_inodes.proofs.Lists.{not_both}
 use Rattle.nfs_inodes.specs.Changes.{Makes}
-use Rattle.nfs_inodes.specs.Law.{Law}
+use Rattle.nfs_inodes.specs.Law.{Law, Lives}
 use Rattle.nfs_inodes.specs.Reading.{attributes_at}
-use Rattle.nfs_inodes.specs.Tree.{Tree}
+use Rattle.nfs_inodes.specs.Tree.{Tree, File}
 use Rattle.nfs_inodes.specs.declared.new_file.NewFile.{NewFile}
 use Rattle.nfs_procs.proofs.Made.{shows_made}
 use Rattle.nfs_procs.proofs.Spelled.{granted_spelled}
-use Rattle.nfs_procs.specs.Changers.{create, attributes_in, file_mode, new_file_in}
+use Rattle.nfs_procs.specs.Changers.{create, attributes_in, file_mode, new_file_in, size_taken}
 use Rattle.nfs_procs.specs.Doing.{change}
 use Rattle.nfs_procs.specs.NewFiles.{new_file_of}
 use Rattle.nfs_procs.specs.Performing.{AppendsAnswer, IsGranted, HasEffect}
@@ -40,11 +41,15 @@ may_make_or_take s law seen a none (Some f) is = may_take a.how refl
   where
     may_take : (how : CreateHow) → a.how ≡ how → MayTake s.tree f.fileid how
     may_take (Unchecked attributes) e = λ n size. may_resize_present s law a none f (sym is) attributes e n size
-    may_take (Guarded attributes) e = tt
-    may_take (Exclusive verifier) e = tt
+    may_take (Guarded attributes) e = λ n size. absurd (not_both refl size)
+    may_take (Exclusive verifier) e = λ n size. absurd (not_both refl size)
 
-abbrev planned : Fattr → Option Fattr → NewFile → FilePlan
-planned dir present given = record { dir = record { attributes = dir; tag = 0 }; present = present; given = given }
+-- a file that gets a size is there
+pub lives_taken : (t : Tree) (n size : ℕ) (how : CreateHow) → MayTake t n how → size_taken how ≡ Some size → (f : File) × Lives t n f
+lives_taken t n size how may e = let m = may size e in (m.file, m.at_file)
+
+abbrev planned : Fattr → Option Fattr → ℕ → NewFile → FilePlan
+planned dir present uid given = record { dir = record { attributes = dir; tag = 0 }; present = present; uid = uid; given = given }
 
 pub created : (c : Scene) (a : Create) (s : Subject) (plan : FilePlan) (new : Tree) (n : ℕ) (dir : Wcc) (x y z : Written) → IsGranted c s s → PlansFile c.tree c.now a plan s
     → Makes (after_making_or_taking c.tree plan a c.now) new → n ≡ number_of c.tree plan.present
@@ -58,10 +63,11 @@ created c a s plan new n dir x y z granted plans makes number shown status made 
   tag = makes.tag;
   fits = makes.fits;
   new_is = makes.new_is
-      ∙ ap (λ d. after_making_or_taking c.tree (planned d plan.present plan.given) a c.now makes.tag) plans.dir
-      ∙ ap (λ present. after_making_or_taking c.tree (planned s.file present plan.given) a c.now makes.tag) plans.present
-      ∙ ap (λ given. after_making_or_taking c.tree (planned s.file (found s a.place.name) given) a c.now makes.tag) plans.given
-      ∙ ap (λ t. after_making_or_taking t (planned s.file (found s a.place.name) (new_file_of file_mode s.ids c.now (attributes_in a.how))) a c.now makes.tag) (sym plans.tree);
+      ∙ ap (λ d. after_making_or_taking c.tree (planned d plan.present plan.uid plan.given) a c.now makes.tag) plans.dir
+      ∙ ap (λ present. after_making_or_taking c.tree (planned s.file present plan.uid plan.given) a c.now makes.tag) plans.present
+      ∙ ap (λ uid. after_making_or_taking c.tree (planned s.file (found s a.place.name) uid plan.given) a c.now makes.tag) plans.uid
+      ∙ ap (λ given. after_making_or_taking c.tree (planned s.file (found s a.place.name) s.ids.uid given) a c.now makes.tag) plans.given
+      ∙ ap (λ t. after_making_or_taking t (planned s.file (found s a.place.name) s.ids.uid (new_file_of file_mode s.ids c.now (attributes_in a.how))) a c.now makes.tag) (sym plans.tree);
   written = subst (λ m. AppendsAnswer (answer.Create (Ok m)) x z) (shows_made new n (number_of s.tree (found s a.place.name)) s plan.dir.attributes dir plans.dir numbered shown) (record {
     text = appends_then _ _ x y z status made;
     spelled = granted_spelled answer.Create IsMade IsWcc made_text (new_file_in new n dir) spelled;

@@ -15,7 +15,7 @@ use Rattle.nfs_inodes.specs.Reading.{IsFirstChunk, attributes_of, attributes_at,
 use Rattle.nfs_inodes.specs.Tree.{Tree, File, Kind, Regular, Directory, Link, at, on_some, bytes_in, nlink}
 use Rattle.nfs_procs.proofs.Spelled.{granted_spelled}
 use Rattle.nfs_procs.specs.Performing.{AppendsAnswer}
-use Rattle.nfs_procs.specs.Readers.{data_of}
+use Rattle.nfs_procs.specs.Readers.{data_of, max_transfer}
 use Rattle.nfs_xdr.proofs.Writing.{appends_then}
 use Rattle.nfs_xdr.specs.Spelling.{pad_text}
 use Rattle.nfs_xdr.specs.Written.{Written, Appends}
@@ -58,13 +58,13 @@ parts_written f offset n eof bytes a b c d e same end status head content pad be
       spelled = granted_spelled answer.Read IsReadData IsPostOpAttr read_data_text (data_of f offset bytes) (begins' bytes refl);
     }
 
-pub read_written : (f : Fattr) (offset count left len : ℕ) (all : List ℕ) (a b c d e : Written) → f.size ≡ length all → left ≡ f.size - offset → len ≡ min left (min count 65536)
+pub read_written : (f : Fattr) (offset count left len : ℕ) (all : List ℕ) (a b c d e : Written) → f.size ≡ length all → left ≡ f.size - offset → len ≡ min left (min count max_transfer)
     → Appends (to_be_bytes w32 0) a b → Appends (read_head_text (Some f) len (nat_le left len)) b c → Appends (take len (drop offset all)) c d → Appends (pad_text len) d e
-    → BeginsReadData (Some f) len (nat_le left len) → AppendsAnswer (answer.Read (Ok (data_of f offset (take (min count 65536) (drop offset all))))) a e
+    → BeginsReadData (Some f) len (nat_le left len) → AppendsAnswer (answer.Read (Ok (data_of f offset (take (min count max_transfer) (drop offset all))))) a e
 read_written f offset count left len all a b c d e size is least status head content pad begins =
     let there : left ≡ length (drop offset all) = is ∙ ap (λ n. n - offset) size ∙ sym (length-drop offset all) in
-    let n : len ≡ min (length (drop offset all)) (min count 65536) = least ∙ ap (λ n. min n (min count 65536)) there in
-    let whole : take len (drop offset all) ≡ take (min count 65536) (drop offset all) = ap (λ n. take n (drop offset all)) n ∙ take_least (min count 65536) (drop offset all) in
+    let n : len ≡ min (length (drop offset all)) (min count max_transfer) = least ∙ ap (λ n. min n (min count max_transfer)) there in
+    let whole : take len (drop offset all) ≡ take (min count max_transfer) (drop offset all) = ap (λ n. take n (drop offset all)) n ∙ take_least (min count max_transfer) (drop offset all) in
     let within : len ≤ length (drop offset all) = omega (arith, n) in
     let long : len ≡ length (take len (drop offset all)) = sym (length-take-le len (drop offset all) within) in
     let end : nat_le left len ≡ nat_le f.size (offset + length (take len (drop offset all))) = ap (λ n. nat_le n len) is ∙ same_end f.size offset len ∙ ap (λ n. nat_le f.size (offset + n)) long in

@@ -2,9 +2,11 @@
 use Rattle.std.proofs.Common.{◌≤◌, arith}
 use Rattle.nfs_args.specs.declared.args.NfsArgs.{NfsArgs}
 use Rattle.nfs_args.specs.declared.args.NfsArgs.TheVariants as nfs
+use Rattle.nfs_args.specs.declared.procedure.Procedure.TheVariants as proc
+use Rattle.nfs_args.specs.Sizes.{largest_of}
 use Rattle.nfs_procs.specs.Procedures.{doing_of, room_for}
 
-pub within_largest : (args : NfsArgs) → room_for (doing_of args) ≤ 65640
+pub within_largest : (args : NfsArgs) → room_for (doing_of args) ≤ largest_of proc.Read
 within_largest nfs.Null = omega arith
 within_largest (nfs.GetAttr a) = omega arith
 within_largest (nfs.SetAttr a) = omega arith

@@ -49,6 +49,7 @@ above_success rule.Space = omega arith
 above_success rule.Search = omega arith
 above_success rule.DirectoryRead = omega arith
 above_success rule.DirectoryWrite = omega arith
+above_success rule.Sticky = omega arith
 above_success rule.NameLong = omega arith
 above_success rule.NameForm = omega arith
 above_success rule.DotName = omega arith

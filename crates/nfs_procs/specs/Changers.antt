@@ -1,5 +1,5 @@
 -- What the procedures that change the tree do and answer (RFC 1813, section 3.3).
-use Rattle.std.specs.Prelude.{ℕ, ◌+◌, Bool, true, false, not, ◌&&◌, ◌||◌, List, length, Option, Some, None, Ok, Err, is_some, nat_eq, nat_lt, if◌then◌else◌}
+use Rattle.std.specs.Prelude.{ℕ, ◌+◌, ◌%◌, Bool, true, false, not, ◌&&◌, ◌||◌, List, length, Option, Some, None, Ok, Err, is_some, nat_eq, nat_lt, nat_le, if◌then◌else◌}
 use Rattle.nfs_args.specs.Sizes.{largest_of}
 use Rattle.nfs_args.specs.declared.answer.NfsAnswer.TheVariants as answer
 use Rattle.nfs_args.specs.declared.create.Create.{Create}
@@ -15,6 +15,7 @@ use Rattle.nfs_args.specs.declared.sym_link.SymLink.{SymLink}
 use Rattle.nfs_args.specs.declared.write.Stability.TheVariants.{FileSync}
 use Rattle.nfs_args.specs.declared.write.Write.{Write}
 use Rattle.nfs_args.specs.declared.procedure.Procedure.TheVariants as proc
+use Rattle.nfs_attrs.specs.declared.fattr.Fattr.{Fattr}
 use Rattle.nfs_attrs.specs.declared.moment.Moment.{Moment}
 use Rattle.nfs_attrs.specs.declared.sattr.Sattr.{Sattr}
 use Rattle.nfs_attrs.specs.declared.time_setting.TimeSetting.{TimeSetting}
@@ -45,7 +46,7 @@ grows t n offset count = nat_lt 0 count && nat_lt (length (bytes_at t n)) (offse
 abbrev pub grows_to : Tree → ℕ → Option ℕ → Bool
 grows_to t n size = on_some size false (grows t n 0)
 
--- ---- SETATTR
+-- ---- settings
 
 -- a time where one is set
 abbrev pub setting : Moment → TimeSetting → Option Moment
@@ -67,10 +68,33 @@ sets_something a = is_some a.mode || is_some a.uid || is_some a.gid || is_some a
 abbrev pub after_settings : Tree → ℕ → Sattr → Moment → Tree
 after_settings t n a now = if sets_something a then after_set (on_some a.size t (λ size. after_resize t n size now)) n (given_of now a) now else t
 
+-- nothing, a size or a mode alone
+abbrev pub nothing_given : Sattr
+nothing_given = record { mode = None; uid = None; gid = None; size = None; atime = Leave; mtime = Leave }
+
+abbrev pub size_alone : Option ℕ → Sattr
+size_alone size = record nothing_given { size = size }
+
+abbrev pub mode_alone : Option ℕ → Sattr
+mode_alone mode = record nothing_given { mode = mode }
+
+-- ---- bits 0x800 and 0x400 of a mode, S_ISUID and S_ISGID, the two highest of twelve, which others than uid 0 take from a file whose
+-- bytes they change (POSIX.1-2017, System Interfaces, write and ftruncate)
+
+-- the mode without them, where a caller changes bytes of a file that has one
+abbrev pub cleared_mode : ℕ → Fattr → Bool → Option ℕ
+cleared_mode uid f changes = if changes && not (nat_eq uid 0) && nat_le 1024 f.mode then Some (f.mode % 1024) else None
+
+-- settings with it, where they give a size and no mode
+abbrev pub with_cleared_mode : ℕ → Fattr → Sattr → Sattr
+with_cleared_mode uid f a = record a { mode = on_some a.mode (cleared_mode uid f (is_some a.size)) (λ mode. Some mode) }
+
+-- ---- SETATTR
+
 abbrev pub set_attr : SetAttr → Doing
 set_attr a = record {
   takes_memory = λ file same. grows_to file.tree file.file.fileid a.attributes.size;
-  effect = λ file same now tag. after_settings file.tree file.file.fileid a.attributes now;
+  effect = λ file same now tag. after_settings file.tree file.file.fileid (with_cleared_mode file.ids.uid file.file a.attributes) now;
   granted = λ file same new. answer.SetAttr (Ok (changed new file));
   largest = largest_of proc.SetAttr;
   denied = λ status seen. answer.SetAttr (Err (record { status = status; shown = no_change (seen a.file) }));
@@ -78,10 +102,18 @@ set_attr a = record {
 
 -- ---- WRITE: all of the data, which are safe at once
 
+-- and the mode without the two bits, where there are some
+abbrev pub after_writing : Tree → ℕ → ℕ → List ℕ → Option ℕ → Moment → Tree
+after_writing t n offset bytes mode now = after_settings (after_write_at t n offset bytes now) n (mode_alone mode) now
+
+-- whether there are some bytes
+abbrev pub has_bytes : List ℕ → Bool
+has_bytes bytes = not (nat_eq (length bytes) 0)
+
 abbrev pub write : Write → Doing
 write a = record {
   takes_memory = λ file same. grows file.tree file.file.fileid a.offset (length a.content);
-  effect = λ file same now tag. after_write_at file.tree file.file.fileid a.offset a.content now;
+  effect = λ file same now tag. after_writing file.tree file.file.fileid a.offset a.content (cleared_mode file.ids.uid file.file (has_bytes a.content)) now;
   granted = λ file same new. answer.Write (Ok (record {
     file = changed new file;
     count = length a.content;
@@ -113,9 +145,6 @@ abbrev pub link_mode : ℕ
 link_mode = 511
 
 -- nothing is given by an exclusive CREATE
-abbrev pub nothing_given : Sattr
-nothing_given = record { mode = None; uid = None; gid = None; size = None; atime = Leave; mtime = Leave }
-
 abbrev pub attributes_in : CreateHow → Sattr
 attributes_in (Unchecked attributes) = attributes
 attributes_in (Guarded attributes) = attributes
@@ -126,15 +155,18 @@ verifier_in (Unchecked attributes) = None
 verifier_in (Guarded attributes) = None
 verifier_in (Exclusive verifier) = Some verifier
 
--- a file that is there gets the size that an unchecked CREATE gives, and is else left as it is
-abbrev pub after_taking : Tree → ℕ → CreateHow → Moment → Tree
-after_taking t n (Unchecked attributes) now = on_some attributes.size t (λ size. after_resize t n size now)
-after_taking t n other now = t
+-- the size that CREATE gives to a file that is there
+abbrev pub size_taken : CreateHow → Option ℕ
+size_taken (Unchecked attributes) = attributes.size
+size_taken other = None
+
+-- which is set as SETATTR of that size alone sets it, for the caller of this uid
+abbrev pub after_taking : Tree → ℕ → Fattr → CreateHow → Moment → Tree
+after_taking t uid f how now = after_settings t f.fileid (with_cleared_mode uid f (size_alone (size_taken how))) now
 
 -- and it may grow by that
 abbrev pub taking_grows : Tree → ℕ → CreateHow → Bool
-taking_grows t n (Unchecked attributes) = grows_to t n attributes.size
-taking_grows t n other = false
+taking_grows t n how = grows_to t n (size_taken how)
 
 -- a new file has as many zeros as its size says
 abbrev pub after_creating : Subject → Create → Moment → ℕ → Tree
@@ -144,7 +176,7 @@ after_creating dir a now tag = after_make_file dir.tree dir.file.fileid a.place.
 abbrev pub create : Create → Doing
 create a = record {
   takes_memory = λ dir same. on_some (found dir a.place.name) true (λ f. taking_grows dir.tree f.fileid a.how);
-  effect = λ dir same now tag. on_some (found dir a.place.name) (after_creating dir a now tag) (λ f. after_taking dir.tree f.fileid a.how now);
+  effect = λ dir same now tag. on_some (found dir a.place.name) (after_creating dir a now tag) (λ f. after_taking dir.tree dir.ids.uid f a.how now);
   granted = λ dir same new. answer.Create (Ok (made_of new (on_some (found dir a.place.name) dir.tree.next (λ f. f.fileid)) dir));
   largest = largest_of proc.Create;
   denied = λ status seen. answer.Create (Err (record { status = status; shown = no_change (seen a.place.dir) }));

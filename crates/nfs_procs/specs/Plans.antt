@@ -12,6 +12,7 @@ use Rattle.nfs_args.specs.declared.sym_link.SymLink.{SymLink}
 use Rattle.nfs_args.specs.declared.write.Write.{Write}
 use Rattle.nfs_attrs.specs.declared.fattr.Fattr.{Fattr}
 use Rattle.nfs_attrs.specs.declared.moment.Moment.{Moment}
+use Rattle.nfs_attrs.specs.declared.sattr.Sattr.{Sattr}
 use Rattle.nfs_dirs.specs.Pages.{fits, fits_plus, is_too_small, left_after}
 use Rattle.nfs_inodes.specs.Changes.{after_make_file, zeros}
 use Rattle.nfs_inodes.specs.Conditions.{MayLink, MayMake, MayMakeDirectory, MayMakeLink, MayRename, MayResize, MayUnlinkSeen, MayWrite}
@@ -20,7 +21,7 @@ use Rattle.nfs_inodes.specs.Reading.{is_regular_type}
 use Rattle.nfs_inodes.specs.Tree.{Tree, File, on_some}
 use Rattle.nfs_inodes.specs.Views.{FileView, IsSeen, standing_of}
 use Rattle.nfs_procs.specs.NewFiles.{new_file_of}
-use Rattle.nfs_procs.specs.Changers.{file_mode, directory_mode, link_mode, attributes_in, verifier_in, after_taking}
+use Rattle.nfs_procs.specs.Changers.{file_mode, directory_mode, link_mode, attributes_in, verifier_in, after_taking, size_taken, cleared_mode, has_bytes, with_cleared_mode}
 use Rattle.nfs_procs.specs.declared.denial.Denial.{Denial}
 use Rattle.nfs_procs.specs.declared.plan.Plan.{Plan}
 use Rattle.nfs_procs.specs.declared.plan.FileBefore.{FileBefore}
@@ -103,27 +104,28 @@ pub record PlansSymLink (t : Tree) (now : Moment) (a : SymLink) (plan : Plan) (s
   pub given : plan.given ≡ record (new_file_of link_mode s.ids now a.attributes) { mode = link_mode }
   pub may : MayMakeLink t s.file.fileid a.place.name a.path
 
--- bytes for a file that is there
-pub record PlansBytes (t : Tree) (a : Write) (file : FileBefore) (s : Subject) : Type 0 where
+-- bytes for a file that is there, and the mode that it gets with them, if it gets one
+pub record PlansBytes (t : Tree) (a : Write) (plan : FileBefore × Option ℕ) (s : Subject) : Type 0 where
   pub tree : s.tree ≡ t
-  pub same : file.attributes ≡ s.file
+  pub same : plan.0.attributes ≡ s.file
+  pub mode : plan.1 ≡ cleared_mode s.ids.uid s.file (has_bytes a.content)
   pub may : MayWrite t s.file.fileid a.offset (length a.content)
 
 -- a file that is there may have a size, where there is one
 abbrev pub MayTakeSize : Tree → ℕ → Option ℕ → Type 0
 MayTakeSize t n size = (bytes : ℕ) → size ≡ Some bytes → MayResize t n bytes
 
--- attributes of a file that is there
-pub record PlansSettings (t : Tree) (a : SetAttr) (file : FileBefore) (s : Subject) : Type 0 where
+-- attributes of a file that is there, and what is set of them
+pub record PlansSettings (t : Tree) (a : SetAttr) (plan : FileBefore × Sattr) (s : Subject) : Type 0 where
   pub tree : s.tree ≡ t
-  pub same : file.attributes ≡ s.file
+  pub same : plan.0.attributes ≡ s.file
+  pub given : plan.1 ≡ with_cleared_mode s.ids.uid s.file a.attributes
   pub lives : (f : File) × Lives t s.file.fileid f
-  pub may : MayTakeSize t s.file.fileid a.attributes.size
+  pub may : MayTakeSize t s.file.fileid plan.1.size
 
 -- a file that is there may be taken
 abbrev pub MayTake : Tree → ℕ → CreateHow → Type 0
-MayTake t n (Unchecked attributes) = MayTakeSize t n attributes.size
-MayTake t n other = Unit {0}
+MayTake t n how = MayTakeSize t n (size_taken how)
 
 -- a file may be made in directory d, or that which is there may be taken
 abbrev pub MayMakeOrTake : Tree → ℕ → Create → Option Fattr → Type 0
@@ -134,7 +136,7 @@ abbrev pub after_making : Tree → FilePlan → Create → Moment → ℕ → Tr
 after_making t plan a now tag = after_make_file t plan.dir.attributes.fileid a.place.name (zeros (on_some (size_in a.how) 0 (λ size. size))) plan.given (verifier_in a.how) tag now
 
 abbrev pub after_making_or_taking : Tree → FilePlan → Create → Moment → ℕ → Tree
-after_making_or_taking t plan a now tag = on_some plan.present (after_making t plan a now tag) (λ f. after_taking t f.fileid a.how now)
+after_making_or_taking t plan a now tag = on_some plan.present (after_making t plan a now tag) (λ f. after_taking t plan.uid f a.how now)
 
 -- the number of the file that is there, or of a new one
 abbrev pub number_of : Tree → Option Fattr → ℕ
@@ -145,5 +147,6 @@ pub record PlansFile (t : Tree) (now : Moment) (a : Create) (plan : FilePlan) (s
   pub tree : s.tree ≡ t
   pub dir : plan.dir.attributes ≡ s.file
   pub present : plan.present ≡ found s a.place.name
+  pub uid : plan.uid ≡ s.ids.uid
   pub given : plan.given ≡ new_file_of file_mode s.ids now (attributes_in a.how)
   pub may : MayMakeOrTake t plan.dir.attributes.fileid a plan.present

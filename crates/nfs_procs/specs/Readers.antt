@@ -92,7 +92,7 @@ read_link handle = record {
 abbrev pub max_transfer : ℕ
 max_transfer = max_data
 
--- from the offset on as many as are asked for, at most 65,536, and as many as are there
+-- from the offset on as many as are asked for, at most 131,072, and as many as are there
 abbrev pub read_bytes : Subject → ByteRange → List ℕ
 read_bytes s a = take (min a.count max_transfer) (drop a.offset (bytes_at s.tree s.file.fileid))
 
@@ -186,7 +186,7 @@ fs_stat handle = record {
   denied = λ status seen. answer.FsStat (Err (record { status = status; shown = seen handle }));
 }
 
--- at most 65,536 bytes at once, in multiples of 4,096
+-- at most 131,072 bytes at once, in multiples of 4,096
 abbrev pub transfer : Transfer
 transfer = record { max = max_transfer; preferred = max_transfer; multiple = 4096 }
 

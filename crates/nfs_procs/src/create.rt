@@ -14,11 +14,11 @@ use crate::done::Done;
 use crate::new_files::new_file_of;
 use crate::plan::{FileBefore, FilePlan};
 use crate::replies::{change, write_denied_change, write_new_file};
+use crate::settings::size_alone;
 use crate::subjects::subject_of;
 use nfs_args::create::{Create, CreateHow};
 use nfs_attrs::fattr::Fattr;
 use nfs_attrs::sattr::Sattr;
-use nfs_attrs::time_setting::TimeSetting;
 use nfs_handles::number::Number;
 use nfs_inodes::tree::Tree;
 use nfs_inodes::view::FileView;
@@ -56,6 +56,7 @@ fn decide(tree: &Tree, call: &Call<'_>, args: &Create<'_>) -> Result<FilePlan, D
         Ok(present) => Ok(FilePlan {
             dir: FileBefore::of(dir.view()),
             present: attributes_of(&present),
+            uid: dir.uid(),
             given: new_file_of(FILE_MODE, &dir, call.moment, &given_in(&args.how)),
         }),
         Err(rule) => Err(Denial::of_rule(&dir, rule)),
@@ -76,13 +77,6 @@ fn given_in(how: &CreateHow) -> Sattr
 {
     match how {
         CreateHow::Unchecked(given) | CreateHow::Guarded(given) => *given,
-        CreateHow::Exclusive(_) => Sattr {
-            mode: None,
-            uid: None,
-            gid: None,
-            size: None,
-            atime: TimeSetting::Leave,
-            mtime: TimeSetting::Leave,
-        },
+        CreateHow::Exclusive(_) => size_alone(None),
     }
 }

@@ -9,8 +9,9 @@ ghost use Rattle.nfs_procs.specs.Plans.{number_of};
 ghost use Rattle.nfs_rules.specs.Table.{size_in};
 
 use crate::plan::FilePlan;
-use crate::settings::set_size;
+use crate::settings::{set_given, size_alone, with_cleared_mode};
 use nfs_args::create::{Create, CreateHow};
+use nfs_attrs::fattr::Fattr;
 use nfs_attrs::moment::Moment;
 use nfs_handles::number::Number;
 use nfs_inodes::content::zeroed;
@@ -34,9 +35,8 @@ pub(crate) fn make_or_take(
     match plan.present {
         None => make(tree, plan, args, now),
         Some(file) => {
-            let number = Number(file.fileid, 0);
-            take(tree, number, &args.how, now)?;
-            Ok(number)
+            take(tree, plan.uid, &file, &args.how, now)?;
+            Ok(Number(file.fileid, 0))
         }
     }
 }
@@ -64,16 +64,34 @@ fn make(
     )
 }
 
-// A file that is there, which gets the size that is given.
-fn take(tree: &mut Tree, number: Number, how: &CreateHow, now: Moment) -> Result<(), AllocError>
-    requires { MayTake tree.old number.0 how.now }
-    ensures ok { OnOk result (tree.new ≡ changers.after_taking tree.old number.0 how.now now) }
+// A file that is there, which gets the size that is given, if one is.
+fn take(
+    tree: &mut Tree,
+    uid: u32,
+    file: &Fattr,
+    how: &CreateHow,
+    now: Moment,
+) -> Result<(), AllocError>
+    requires { MayTake tree.old file.now.fileid how.now }
+    ensures ok { OnOk result (tree.new ≡ changers.after_taking tree.old uid file.now how.now now) }
     ensures err { OnErr result (tree.new ≡ tree.old) }
-    ensures full { OnErr result (changers.taking_grows tree.old number.0 how.now ≡ true) }
+    ensures full { OnErr result (changers.taking_grows tree.old file.now.fileid how.now ≡ true) }
+{
+    match size_taken(how) {
+        None => Ok(()),
+        Some(size) => {
+            let given = with_cleared_mode(uid, file, &size_alone(Some(size)));
+            set_given(tree, Number(file.fileid, 0), &given, now)
+        }
+    }
+}
+
+fn size_taken(how: &CreateHow) -> Option<u64>
+    ensures { result ≡ changers.size_taken how.now }
 {
     match how {
-        CreateHow::Unchecked(given) => set_size(tree, number, given.size, now),
-        CreateHow::Guarded(_) | CreateHow::Exclusive(_) => Ok(()),
+        CreateHow::Unchecked(given) => given.size,
+        CreateHow::Guarded(_) | CreateHow::Exclusive(_) => None,
     }
 }
 

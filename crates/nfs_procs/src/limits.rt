@@ -1,12 +1,6 @@
-//! The bounds of results.
+//! The bounds of what procedures move, and what they tell of them.
 
 use nfs_args::limits::MAX_DATA_BYTES;
-
-// What a READ's result has beside its data: the status, the file's attributes, and three words.
-const READ_HEAD_BYTES: usize = 4 + 88 + 3 * 4;
-
-/// How many bytes the largest result has, a READ of as many bytes as one answers.
-pub const MAX_RESULT_BYTES: usize = READ_HEAD_BYTES + MAX_DATA_BYTES;
 
 /// The most bytes of one READ, and the most of a WRITE that the server speaks of.
 pub const MAX_TRANSFER: u32 = MAX_DATA_BYTES as u32;

@@ -56,6 +56,8 @@ pub struct FilePlan {
     pub dir: FileBefore,
     /// The file that is taken, if there is one, before the call.
     pub present: Option<Fattr>,
+    /// The caller, for what a size takes from the mode of the one that is taken.
+    pub uid: u32,
     /// What a new file is like.
     pub given: NewFile,
 }

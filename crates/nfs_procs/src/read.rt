@@ -52,7 +52,7 @@ fn decide<'a>(tree: &'a Tree, call: &Call<'a>, args: &ByteRange<'_>) -> Result<S
     }
 }
 
-// The bytes from an offset on, as many as are asked for and there, and at most 65,536.
+// The bytes from an offset on, as many as are asked for and there, and at most `MAX_TRANSFER`.
 fn write_data(out: &mut Output, tree: &Tree, file: &FileView<'_>, offset: u64, count: u32)
     requires seen { IsSeen tree.now file.now }
     requires regular { is_regular_type file.now.attributes.file_type ≡ true }

@@ -6,6 +6,7 @@ ghost use Rattle.nfs_inodes.specs.Tree.{File, on_some};
 ghost use Rattle.nfs_procs.specs.Changers as changers;
 ghost use Rattle.nfs_procs.specs.Plans.{MayTakeSize};
 
+use nfs_attrs::fattr::Fattr;
 use nfs_attrs::moment::Moment;
 use nfs_attrs::sattr::Sattr;
 use nfs_attrs::time_setting::TimeSetting;
@@ -13,6 +14,9 @@ use nfs_handles::number::Number;
 use nfs_inodes::given_attributes::GivenAttributes;
 use nfs_inodes::tree::Tree;
 use std::alloc::AllocError;
+
+// S_ISGID, the lower of the two bits that are cleared, and of the mode's twelve bits the last but one.
+const SET_GROUP_ID: u32 = 0x400;
 
 /// Sets what is given of a file, its size first; where nothing is given nothing changes. Refused
 /// only without memory for what the file grows by, and then the tree is as before.
@@ -36,9 +40,63 @@ pub(crate) fn set_given(
     Ok(())
 }
 
-/// Gives a file a size where there is one. Refused only without memory for what the file grows by,
-/// and then the tree is as before.
-pub(crate) fn set_size(
+/// A size alone, if there is one.
+pub(crate) fn size_alone(size: Option<u64>) -> Sattr
+    ensures { result ≡ changers.size_alone size }
+{
+    Sattr {
+        mode: None,
+        uid: None,
+        gid: None,
+        size,
+        atime: TimeSetting::Leave,
+        mtime: TimeSetting::Leave,
+    }
+}
+
+/// Sets the mode of a file, where there is one to set.
+pub(crate) fn set_mode(tree: &mut Tree, number: Number, mode: Option<u32>, now: Moment)
+    requires { (f : File) × Lives tree.old number.0 f }
+    ensures { tree.new ≡ changers.after_settings tree.old number.0 (changers.mode_alone mode) now }
+{
+    if let Some(mode) = mode {
+        let given = GivenAttributes {
+            mode: Some(mode),
+            uid: None,
+            gid: None,
+            atime: None,
+            mtime: None,
+        };
+        tree.set(number, &given, now);
+    }
+}
+
+/// The mode of a file without its bits 0x800 and 0x400, where a caller changes its bytes that is not
+/// uid 0, and it has one of them (POSIX.1-2017, System Interfaces, write and ftruncate).
+pub(crate) fn cleared_mode(uid: u32, file: &Fattr, changes: bool) -> Option<u32>
+    ensures { result ≡ changers.cleared_mode uid file.now changes }
+{
+    if changes && uid != 0 && SET_GROUP_ID <= file.mode {
+        Some(file.mode % SET_GROUP_ID)
+    } else {
+        None
+    }
+}
+
+/// What is given, and where that is a size and no mode, the mode without the two bits.
+pub(crate) fn with_cleared_mode(uid: u32, file: &Fattr, given: &Sattr) -> Sattr
+    ensures { result ≡ changers.with_cleared_mode uid file.now given.now }
+{
+    let mode = match given.mode {
+        Some(mode) => Some(mode),
+        None => cleared_mode(uid, file, given.size.is_some()),
+    };
+    Sattr { mode, ..*given }
+}
+
+// Gives a file a size where there is one. Refused only without memory for what the file grows by, and
+// then the tree is as before.
+fn set_size(
     tree: &mut Tree,
     number: Number,
     size: Option<u64>,

@@ -16,6 +16,7 @@ use crate::denial::Denial;
 use crate::done::Done;
 use crate::plan::FileBefore;
 use crate::replies::{change, write_denied_change};
+use crate::settings::{cleared_mode, set_mode};
 use crate::subjects::subject_of;
 use nfs_args::write::{Stability, Write};
 use nfs_args::written::{Written, write_written};
@@ -30,8 +31,8 @@ pub(crate) fn write(tree: &mut Tree, call: &Call<'_>, args: &Write<'_>, out: &mu
     ensures { Performs (scene tree.old call.now (nfs.Write args.now))
         (procedure.write args.now) result tree.new out.old out.new }
 {
-    let file = match decide(tree, call, args) {
-        Ok(file) => file,
+    let (file, mode) = match decide(tree, call, args) {
+        Ok(plan) => plan,
         Err(denial) => return write_denied_change(out, &denial),
     };
     let number = Number(file.attributes.fileid, file.tag);
@@ -40,6 +41,7 @@ pub(crate) fn write(tree: &mut Tree, call: &Call<'_>, args: &Write<'_>, out: &mu
     let Ok(()) = tree.write_at(number, args.offset as usize, bytes, call.moment) else {
         return Done::Memory;
     };
+    set_mode(tree, number, mode, call.moment);
     write_granted(
         out,
         change(Some(file.attributes), tree.attributes(number)),
@@ -49,13 +51,17 @@ pub(crate) fn write(tree: &mut Tree, call: &Call<'_>, args: &Write<'_>, out: &mu
     Done::Granted
 }
 
-// The file before the call.
-fn decide(tree: &Tree, call: &Call<'_>, args: &Write<'_>) -> Result<FileBefore, Denial>
+// The file before the call, and the mode that it gets, if it loses bits.
+fn decide(tree: &Tree, call: &Call<'_>, args: &Write<'_>) -> Result<(FileBefore, Option<u32>), Denial>
     ensures { Decides (scene tree.now call.now (nfs.Write args.now)) args.now.file (PlansBytes tree.now args.now) result }
 {
     let file = subject_of(tree, call, &args.file)?;
     match write_rules(&file, args) {
-        Ok(()) => Ok(FileBefore::of(file.view())),
+        Ok(()) => {
+            let before = FileBefore::of(file.view());
+            let mode = cleared_mode(file.uid(), &before.attributes, !args.content.bytes().is_empty());
+            Ok((before, mode))
+        }
         Err(rule) => Err(Denial::of_rule(&file, rule)),
     }
 }

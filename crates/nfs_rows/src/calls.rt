@@ -1,8 +1,10 @@
 //! Calls, as whole records.
 
-use crate::description::{counted, push_counting, push_line};
+use crate::description::{counted, push_counting, push_line, repeated};
 use crate::kept::Kept;
-use crate::record::{Record, record_of};
+use crate::record::{Record, bytes, record_of};
+use crate::stream;
+use nfs_exports::addr::Addr;
 use nfs_handles::number::Number;
 use nfs_inodes::tree::Tree;
 use nfs_load::description::load;
@@ -10,7 +12,7 @@ use nfs_server::event::{Event, Handled};
 use nfs_server::reply_buf::ReplyBuf;
 use nfs_server::server::Server;
 use rows::answers::{debug_text, digits, text, then, with};
-use rows::words::{size, word};
+use rows::words::{address, size, word};
 use std::alloc::Global;
 use std::str::SplitWhitespace;
 
@@ -53,6 +55,8 @@ impl<'a> Calls<'a> {
             "call" => self.call(words),
             "status" => self.status(words),
             "long" => self.long(words),
+            "uniform" => self.uniform(words),
+            "stream" => self.stream(words),
             "sealed" => self.sealed(words),
             "clear" => self.clear(),
             "run" => self.run(words),
@@ -101,14 +105,37 @@ impl<'a> Calls<'a> {
     // byte and how many count on from it.
     fn long(&mut self, words: &mut SplitWhitespace<'_>) -> Option<String> {
         self.handle(words)?;
+        let count = counted(self.reply.bytes().get(BEFORE_DATA..)?);
+        self.data_as("counts", count)
+    }
+
+    // `uniform ADDRESS SECONDS BYTES`: the reply to a READ, its data as the first byte and how many
+    // times it comes.
+    fn uniform(&mut self, words: &mut SplitWhitespace<'_>) -> Option<String> {
+        self.handle(words)?;
+        let count = repeated(self.reply.bytes().get(BEFORE_DATA..)?);
+        self.data_as("repeats", count)
+    }
+
+    // The reply to a READ, so many of its data as the first one and their number.
+    fn data_as(&self, word: &str, count: usize) -> Option<String> {
         let reply = self.reply.bytes();
         let head = digits(self.alloc, reply.get(..BEFORE_DATA)?)?;
         let data = reply.get(BEFORE_DATA..)?;
         let first = data.first()?;
-        let count = counted(data);
         let rest = digits(self.alloc, data.get(count..)?)?;
-        let counted = with(self.alloc, head, "counts", (*first, count))?;
-        then(counted, rest.as_str())
+        then(
+            with(self.alloc, head, word, (*first, count))?,
+            rest.as_str(),
+        )
+    }
+
+    // `stream ADDRESS BYTES`: what a stream of these bytes comes to that is served to its end, and the
+    // replies as they are written.
+    fn stream(&mut self, words: &mut SplitWhitespace<'_>) -> Option<String> {
+        let addr = Addr(address(words)?);
+        let bytes = bytes(self.alloc, self.server.tree(), words)?;
+        stream::serve(self.alloc, &mut self.server, addr, bytes.as_slice())
     }
 
     // `sealed ADDRESS SECONDS BYTES`: the reply with its record mark.

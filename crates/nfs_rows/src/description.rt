@@ -43,6 +43,17 @@ fn counting(alloc: Global, len: usize) -> Option<Vec<u8>> {
     Some(bytes)
 }
 
+/// How many of the first bytes are the first one again.
+pub(crate) fn repeated(bytes: &[u8]) -> usize {
+    let start = bytes.first().copied().unwrap_or(0);
+    for (at, byte) in bytes.iter().enumerate() {
+        if *byte != start {
+            return at;
+        }
+    }
+    bytes.len()
+}
+
 /// How many of the first bytes count on from the first one as a counting file's do.
 pub(crate) fn counted(bytes: &[u8]) -> usize {
     let start = bytes.first().copied().unwrap_or(0);

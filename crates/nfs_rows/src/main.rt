@@ -8,6 +8,7 @@ mod description;
 mod heads;
 mod kept;
 mod record;
+mod stream;
 
 use crate::calls::Calls;
 use crate::connections::Connections;

@@ -10,6 +10,7 @@ use Rattle.nfs_inodes.specs.Conditions.{MayUnlinkSeen}
 use Rattle.nfs_inodes.specs.Reading.{attributes_at, dot, dot_dot, entry_after, first_after, listing}
 use Rattle.nfs_inodes.specs.Views.{standing_of}
 use Rattle.nfs_inodes.proofs.Lists.{if_true, not_both}
+use Rattle.nfs_rules.specs.Rights.{lets_go}
 use Rattle.nfs_rules.specs.Subjects.{Subject}
 use Rattle.nfs_rules.specs.Tests as test
 use Rattle.nfs_rules.specs.Tests.{Test, first, found, is_empty}
@@ -85,19 +86,32 @@ module _ (s : Subject) (law : Law s.tree) (seen : attributes_at s.tree s.file.fi
       let passed = passed_at (remove_rules s name) none in
       let dots = no_dots name (passed 2 (test.dot_name name) refl) in
       let rules : Option Fattr → List Test = λ o. test.read_only s ∷ test.not_directory s ∷ test.dot_name name ∷ test.name_long name ∷ test.name_form name ∷ test.search_right s ∷ test.no_entry s name ∷ test.directory_write s
-      ∷ on_some o [] (λ f. test.is_directory f ∷ []) in
+      ∷ on_some o [] (λ f. test.sticky s f ∷ test.is_directory f ∷ []) in
       let passed_there = passed_at (rules (Some f)) (subst (λ o. first (rules o) ≡ None) is none) in
       may_unlink (passed 1 (test.not_directory s) refl) dots.0 dots.1 f is
-      (λ h at_h. only_directories h.kind (sym (seen_directory s.tree f (found_seen s name f is).1 h at_h) ∙ passed_there 8 (test.is_directory f) refl))
+      (λ h at_h. only_directories h.kind (sym (seen_directory s.tree f (found_seen s name f is).1 h at_h) ∙ passed_there 9 (test.is_directory f) refl))
+
+  -- the directory lets it go
+  pub remove_lets_go : first (remove_rules s name) ≡ None → (f : Fattr) → found s name ≡ Some f → lets_go s.ids s.file f ≡ true
+  remove_lets_go none f is =
+      let rules : Option Fattr → List Test = λ o. test.read_only s ∷ test.not_directory s ∷ test.dot_name name ∷ test.name_long name ∷ test.name_form name ∷ test.search_right s ∷ test.no_entry s name ∷ test.directory_write s
+      ∷ on_some o [] (λ f. test.sticky s f ∷ test.is_directory f ∷ []) in
+      not-false _ (passed_at (rules (Some f)) (subst (λ o. first (rules o) ≡ None) is none) 8 (test.sticky s f) refl)
+
+  pub remove_dir_lets_go : first (remove_dir_rules s name) ≡ None → (f : Fattr) → found s name ≡ Some f → lets_go s.ids s.file f ≡ true
+  remove_dir_lets_go none f is =
+      let rules : Option Fattr → List Test = λ o. test.read_only s ∷ test.not_directory s ∷ test.dot_alone name ∷ test.dot_dot_alone name ∷ test.name_long name ∷ test.name_form name ∷ test.search_right s ∷ test.no_entry s name ∷ test.directory_write s
+      ∷ on_some o [] (λ f. test.sticky s f ∷ test.target_not_directory f ∷ test.not_empty s.tree f ∷ []) in
+      not-false _ (passed_at (rules (Some f)) (subst (λ o. first (rules o) ≡ None) is none) 9 (test.sticky s f) refl)
 
   -- RMDIR, of an empty directory
   pub may_remove_directory : first (remove_dir_rules s name) ≡ None → (f : Fattr) → found s name ≡ Some f → MayUnlinkSeen s.tree s.file.fileid name f.fileid (standing_of f)
   may_remove_directory none f is =
       let passed = passed_at (remove_dir_rules s name) none in
       let rules : Option Fattr → List Test = λ o. test.read_only s ∷ test.not_directory s ∷ test.dot_alone name ∷ test.dot_dot_alone name ∷ test.name_long name ∷ test.name_form name ∷ test.search_right s ∷ test.no_entry s name ∷ test.directory_write s
-      ∷ on_some o [] (λ f. test.target_not_directory f ∷ test.not_empty s.tree f ∷ []) in
+      ∷ on_some o [] (λ f. test.sticky s f ∷ test.target_not_directory f ∷ test.not_empty s.tree f ∷ []) in
       let passed_there = passed_at (rules (Some f)) (subst (λ o. first (rules o) ≡ None) is none) in
       may_unlink (passed 1 (test.not_directory s) refl) (other_bytes name dot (passed 2 (test.dot_alone name) refl)) (other_bytes name dot_dot (passed 3 (test.dot_dot_alone name) refl)) f is
       (λ h at_h. no_entries s.tree law f h
-      (at_h, sym (seen_directory s.tree f (found_seen s name f is).1 h at_h) ∙ not-false _ (passed_there 9 (test.target_not_directory f) refl))
-      (not-false _ (passed_there 10 (test.not_empty s.tree f) refl)))
+      (at_h, sym (seen_directory s.tree f (found_seen s name f is).1 h at_h) ∙ not-false _ (passed_there 10 (test.target_not_directory f) refl))
+      (not-false _ (passed_there 11 (test.not_empty s.tree f) refl)))

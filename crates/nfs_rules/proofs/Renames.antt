@@ -11,9 +11,10 @@ use Rattle.nfs_inodes.specs.Conditions.{IsOff, NamesOther, MayReplace, MayRename
 use Rattle.nfs_inodes.specs.Reading.{attributes_at, entry_at, entry_named, has_name, is_directory_type}
 use Rattle.nfs_inodes.proofs.Lists.{by_test, by_number, not_both, same_some, find_contains}
 use Rattle.nfs_inodes.proofs.Maps.{same_number, apart_number}
+use Rattle.nfs_rules.specs.Rights.{lets_go}
 use Rattle.nfs_rules.specs.Subjects.{Subject}
 use Rattle.nfs_rules.specs.Tests.{Test, first, read_only, not_directory, dot_name, name_long, name_form, search_right, directory_write, no_entry, found, links, cookies, only_where, is_empty}
-use Rattle.nfs_rules.specs.Table.{rename_rules, move_rules, into_itself, incompatible, is_above}
+use Rattle.nfs_rules.specs.Table.{rename_rules, move_rules, is_moved, sticky_move, entering_rules, into_itself, incompatible, is_above}
 use Rattle.nfs_rules.proofs.Above.{is_off}
 use Rattle.nfs_rules.proofs.Firsts.{passed_at}
 use Rattle.nfs_rules.proofs.SeenFiles.{seen_lives, seen_directory, seen_links, none_under, found_seen}
@@ -41,7 +42,7 @@ both_so true two y z = z
 both_so false two y z = cc
 
 -- the rules of RENAME, with others behind those of the handles, the names and the rights
-abbrev rules_before : Subject → Subject → Rename → List Test → List Test
+abbrev pub rules_before : Subject → Subject → Rename → List Test → List Test
 rules_before from to a others = read_only from ∷ not_directory from ∷ not_directory to ∷ dot_name a.from.name ∷ dot_name a.to.name
     ∷ name_long a.from.name ∷ name_long a.to.name ∷ name_form a.from.name ∷ name_form a.to.name ∷ search_right from ∷ search_right to
     ∷ no_entry from a.from.name ∷ directory_write from ∷ directory_write to ∷ others
@@ -95,13 +96,13 @@ module _ (t : Tree) (law : Law t) (one two : Subject) (seen_one : attributes_at 
         let passed = passed_at (rules_before from to a (move_rules from to moved None)) none in
         let new = absent_name t two.file.fileid target at_target a.to.name (none_under to a.to.name law absent) in
         record {
-          cookie = λ other. has_cookie to target at_target (passed 16 (cookies to) refl);
+          cookie = λ other. has_cookie to target at_target (passed 17 (cookies to) refl);
           replaced = λ old named apart. absurd (not_both new.2 named);
-          off = λ other y. stays_off (passed 14 (into_itself to moved) refl) y;
+          off = λ other y. stays_off (passed 15 (into_itself to moved) refl) y;
           links = λ none y. by_number two.file.fileid one.file.fileid
               (λ s. inl s)
               (λ o. inr (subst (λ n. n < max_links) (seen_links t two.file seen_two target at_target.0)
-              (leb-false max_links two.file.nlink (second_not _ _ (passed 15 (only_where (is_directory_type moved.file_type && not (nat_eq one.file.fileid two.file.fileid)) (links two.file)) refl)
+              (leb-false max_links two.file.nlink (second_not _ _ (passed 16 (only_where (is_directory_type moved.file_type && not (nat_eq one.file.fileid two.file.fileid)) (links two.file)) refl)
               (both_so _ _ (kind ∙ y) (ap not (apart_number one.file.fileid two.file.fileid (λ s. o (sym s)))))))));
         }
 
@@ -135,13 +136,13 @@ module _ (t : Tree) (law : Law t) (one two : Subject) (seen_one : attributes_at 
           }
 
       -- another one, which is replaced
-      to_other : first (rules_before from to a (incompatible to moved old ∷ into_itself to moved ∷ cookies to ∷ [])) ≡ None → MayMove t one.file.fileid two.file.fileid a.to.name file target moved.fileid
+      to_other : first (rules_before from to a (sticky_move from to moved (Some old) ∷ entering_rules from to moved (Some old))) ≡ None → MayMove t one.file.fileid two.file.fileid a.to.name file target moved.fileid
       to_other none =
-          let passed = passed_at (rules_before from to a (incompatible to moved old ∷ into_itself to moved ∷ cookies to ∷ [])) none in
+          let passed = passed_at (rules_before from to a (sticky_move from to moved (Some old) ∷ entering_rules from to moved (Some old))) none in
           record {
-            cookie = λ other. has_cookie to target at_target (passed 16 (cookies to) refl);
-            replaced = λ e found apart. subst (λ n. MayReplace t n file) (sym (ap (λ (e : Entry). e.number) (same_some (sym found ∙ named)) ∙ is)) (replaces_old (passed 14 (incompatible to moved old) refl));
-            off = λ other y. stays_off (passed 15 (into_itself to moved) refl) y;
+            cookie = λ other. has_cookie to target at_target (passed 17 (cookies to) refl);
+            replaced = λ e found apart. subst (λ n. MayReplace t n file) (sym (ap (λ (e : Entry). e.number) (same_some (sym found ∙ named)) ∙ is)) (replaces_old (passed 15 (incompatible to moved old) refl));
+            off = λ other y. stays_off (passed 16 (into_itself to moved) refl) y;
             links = λ none y. absurd (not_both none named);
           }
 
@@ -153,7 +154,7 @@ module _ (t : Tree) (law : Law t) (one two : Subject) (seen_one : attributes_at 
         by_test (nat_eq moved.fileid old.fileid)
         (λ y. to_itself old is entry.0 entry.1 entry.2 (same_number moved.fileid old.fileid y))
         (λ n. to_other old is entry.0 entry.1 entry.2
-        (subst (λ b. first (rules_before from to a (if b then [] else (incompatible to moved old ∷ into_itself to moved ∷ cookies to ∷ []))) ≡ None) n none))
+        (subst (λ b. first (rules_before from to a (if b then [] else (sticky_move from to moved (Some old) ∷ entering_rules from to moved (Some old)))) ≡ None) n none))
 
   -- ---- both names
 
@@ -206,6 +207,14 @@ module _ (t : Tree) (law : Law t) (one two : Subject) (seen_one : attributes_at 
       let target = lives_as_directory to law seen_two (passed 2 (not_directory to) refl) in
       may_rename_named source.0 target.0 source.1 target.1 moved.0 moved.1 none (found_named source.0 target.0 source.1 target.1 moved.0 moved.1 none)
       (same_place t law one two seen_one seen_two same source.0 target.0 source.1.0 target.1.0)
+
+-- where two names are not those of one file, each directory lets go what it loses
+pub rename_lets_go : (from to : Subject) (a : Rename) (moved : Fattr) → found from a.from.name ≡ Some moved → is_moved moved (found to a.to.name) ≡ false → first (rename_rules from to a) ≡ None
+    → (lets_go from.ids from.file moved && on_some (found to a.to.name) true (lets_go to.ids to.file)) ≡ true
+rename_lets_go from to a moved is other none =
+    let there = subst (λ o. first (rules_before from to a (on_some o [] (λ m. move_rules from to m (found to a.to.name)))) ≡ None) is none in
+    let behind = subst (λ b. first (rules_before from to a (if b then [] else (sticky_move from to moved (found to a.to.name) ∷ entering_rules from to moved (found to a.to.name)))) ≡ None) other there in
+    not-false _ (passed_at (rules_before from to a (sticky_move from to moved (found to a.to.name) ∷ entering_rules from to moved (found to a.to.name))) behind 14 (sticky_move from to moved (found to a.to.name)) refl)
 
 -- RENAME
 pub may_rename : (t : Tree) → Law t → (one two : Subject) → one.tree ≡ t → two.tree ≡ t → attributes_at one.tree one.file.fileid ≡ Some one.file → attributes_at two.tree two.file.fileid ≡ Some two.file → one.file.fsid ≡ two.file.fsid

@@ -33,6 +33,16 @@ may ids f right = nat_eq ids.uid 0 || has_bit (bits_of (class ids f) f.mode) rig
 abbrev pub owns : Ids → Fattr → Bool
 owns ids f = nat_eq ids.uid 0 || nat_eq ids.uid f.uid
 
+-- ---- restricted deletion (POSIX.1-2017, Base Definitions, section 4.3)
+
+-- bit 0x200 of a mode, S_ISVTX
+abbrev pub restricts_deletion : ℕ → Bool
+restricts_deletion mode = nat_eq (mode / 512 % 2) 1
+
+-- a directory with it lets the entry of a file go to uid 0, to its own owner and to that of the file alone
+abbrev pub lets_go : Ids → Fattr → Fattr → Bool
+lets_go ids dir f = not (restricts_deletion dir.mode) || owns ids dir || owns ids f
+
 -- ---- ACCESS (RFC 1813, section 3.3.4)
 
 -- a bit of what is asked for, where it is granted

@@ -1,5 +1,5 @@
 -- The table of the rules: those of each procedure after the rules of its handles, in order.
-use Rattle.std.specs.Prelude.{ℕ, zero, suc, Bool, true, not, ◌&&◌, ◌||◌, List, [], ◌∷◌, length, Option, Some, None, is_some, nat_eq, if◌then◌else◌}
+use Rattle.std.specs.Prelude.{ℕ, zero, suc, Bool, true, false, not, ◌&&◌, ◌||◌, List, [], ◌∷◌, length, Option, Some, None, is_some, nat_eq, if◌then◌else◌}
 use Rattle.nfs_args.specs.declared.args.NfsArgs.{NfsArgs}
 use Rattle.nfs_args.specs.declared.args.NfsArgs.TheVariants as nfs
 use Rattle.nfs_args.specs.declared.create.Create.{Create}
@@ -15,13 +15,13 @@ use Rattle.nfs_dirs.specs.Pages.{plus_bytes}
 use Rattle.nfs_inodes.specs.Law.{parent_of}
 use Rattle.nfs_inodes.specs.Reading.{is_directory_type}
 use Rattle.nfs_inodes.specs.Tree.{Tree, on_some}
-use Rattle.nfs_rules.specs.Rights.{may}
+use Rattle.nfs_rules.specs.Rights.{may, lets_go}
 use Rattle.nfs_rules.specs.Subjects.{Subject}
 use Rattle.nfs_rules.specs.Tests.{Test, only_where, read_only, not_regular, not_link, not_directory, link_directory, read_right}
 use Rattle.nfs_rules.specs.Tests.{write_right, search_right, directory_read, directory_write, guard, owner_mode, owner_uid, owner_gid}
 use Rattle.nfs_rules.specs.Tests.{size_type, owner_time, time_right, too_big, end_of, growth, space, files, links, cookies, numbers}
 use Rattle.nfs_rules.specs.Tests.{name_long, name_form, dot_name, dot_alone, dot_dot_alone, path_long, found, no_entry, exists}
-use Rattle.nfs_rules.specs.Tests.{exists_other, is_directory, target_not_directory, is_empty, not_empty, too_small}
+use Rattle.nfs_rules.specs.Tests.{exists_other, sticky, is_directory, target_not_directory, is_empty, not_empty, too_small}
 use Rattle.nfs_rules.specs.declared.rights.Right.TheVariants.{Execute}
 use Rattle.nfs_rules.specs.declared.rule.Rule.TheVariants as rule
 
@@ -84,12 +84,12 @@ sym_link_rules s name path = read_only s ∷ not_directory s ∷ name_long name 
 
 abbrev pub remove_rules : Subject → List ℕ → List Test
 remove_rules s name = read_only s ∷ not_directory s ∷ dot_name name ∷ name_long name ∷ name_form name ∷ search_right s ∷ no_entry s name ∷ directory_write s
-    ∷ on_some (found s name) [] (λ f. is_directory f ∷ [])
+    ∷ on_some (found s name) [] (λ f. sticky s f ∷ is_directory f ∷ [])
 
 abbrev pub remove_dir_rules : Subject → List ℕ → List Test
 remove_dir_rules s name = read_only s ∷ not_directory s ∷ dot_alone name ∷ dot_dot_alone name ∷ name_long name ∷ name_form name
     ∷ search_right s ∷ no_entry s name ∷ directory_write s
-    ∷ on_some (found s name) [] (λ f. target_not_directory f ∷ not_empty s.tree f ∷ [])
+    ∷ on_some (found s name) [] (λ f. sticky s f ∷ target_not_directory f ∷ not_empty s.tree f ∷ [])
 
 -- the file and the directory that takes the further name
 abbrev pub link_rules : Subject → Subject → List ℕ → List Test
@@ -115,11 +115,23 @@ replaces t moved old = not (is_directory_type moved.file_type) && not (is_direct
 abbrev pub incompatible : Subject → Fattr → Fattr → Test
 incompatible to moved old = (rule.Incompatible, not (replaces to.tree moved old))
 
+-- each directory lets go what it loses: what is moved, and what the new name names
+abbrev pub sticky_move : Subject → Subject → Fattr → Option Fattr → Test
+sticky_move from to moved old = (rule.Sticky, not (lets_go from.ids from.file moved && on_some old true (lets_go to.ids to.file)))
+
+-- where something comes under a name: what it takes the place of, if anything
+abbrev pub entering_rules : Subject → Subject → Fattr → Option Fattr → List Test
+entering_rules from to moved None = into_itself to moved
+    ∷ only_where (is_directory_type moved.file_type && not (nat_eq from.file.fileid to.file.fileid)) (links to.file) ∷ cookies to ∷ []
+entering_rules from to moved (Some old) = incompatible to moved old ∷ into_itself to moved ∷ cookies to ∷ []
+
+-- whether what the new name names, if anything, is what is moved
+abbrev pub is_moved : Fattr → Option Fattr → Bool
+is_moved moved old = on_some old false (λ o. nat_eq moved.fileid o.fileid)
+
 -- what RENAME does with what it found: what is moved, and what the new name names
 abbrev pub move_rules : Subject → Subject → Fattr → Option Fattr → List Test
-move_rules from to moved None = into_itself to moved
-    ∷ only_where (is_directory_type moved.file_type && not (nat_eq from.file.fileid to.file.fileid)) (links to.file) ∷ cookies to ∷ []
-move_rules from to moved (Some old) = if nat_eq moved.fileid old.fileid then [] else (incompatible to moved old ∷ into_itself to moved ∷ cookies to ∷ [])
+move_rules from to moved old = if is_moved moved old then [] else (sticky_move from to moved old ∷ entering_rules from to moved old)
 
 -- by what the entries of both directories are
 abbrev pub rename_entry_rules : Subject → Subject → Rename → List Test

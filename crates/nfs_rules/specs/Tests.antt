@@ -19,7 +19,7 @@ use Rattle.nfs_inodes.specs.Reading.{attributes_at, dot, dot_dot, entry_after, i
 use Rattle.nfs_inodes.specs.Reading.{number_under, totals_at, verifier_at}
 use Rattle.nfs_inodes.specs.Tree.{Tree, Volume, on_some}
 use Rattle.nfs_inodes.specs.declared.volumes.Totals.{Totals}
-use Rattle.nfs_rules.specs.Rights.{may, owns}
+use Rattle.nfs_rules.specs.Rights.{may, owns, lets_go}
 use Rattle.nfs_rules.specs.Subjects.{Subject}
 use Rattle.nfs_rules.specs.declared.rights.Right.{Right}
 use Rattle.nfs_rules.specs.declared.rights.Right.TheVariants.{Read, Write, Execute}
@@ -206,6 +206,9 @@ takes t (Exclusive verifier) f = is_regular_type f.file_type && on_some (verifie
 
 abbrev pub exists_other : Subject → List ℕ → CreateHow → Test
 exists_other s name how = (rule.Exists, on_some (found s name) false (λ f. not (takes s.tree how f)))
+
+abbrev pub sticky : Subject → Fattr → Test
+sticky s f = (rule.Sticky, not (lets_go s.ids s.file f))
 
 abbrev pub is_directory : Fattr → Test
 is_directory f = (rule.IsDirectory, is_directory_type f.file_type)

@@ -6,6 +6,7 @@ ghost use Rattle.nfs_inodes.specs.Views.{IsSeen};
 ghost use Rattle.nfs_rules.specs.Judging.{Tells};
 ghost use Rattle.nfs_rules.specs.Tests as test;
 
+use crate::rights::lets_go;
 use crate::rule::{Rule, ensure};
 use crate::subject::Subject;
 use nfs_args::create::CreateHow;
@@ -93,6 +94,13 @@ impl<'a> Subject<'a> {
             Some(made_by) => verifier == made_by.as_slice(),
             None => false,
         }
+    }
+
+    /// `Sticky`: the directory lets the entry of a file go.
+    pub(crate) fn must_let_go(&self, file: &Fattr) -> Result<(), Rule>
+        ensures { Tells result (test.sticky self.now file.now) }
+    {
+        ensure(lets_go(&self.ids, &self.attributes(), file), Rule::Sticky)
     }
 
     /// `NotEmpty`: a directory lists nothing but `.` and `..`.

@@ -20,10 +20,27 @@ pub(crate) fn move_rules(
     from: &Subject<'_>,
     to: &Subject<'_>,
     moved: &Fattr,
-    old: Option<FileView<'_>>,
+    old: &Option<Fattr>,
 ) -> Result<(), Rule>
     requires { is_directory_type to.now.file.file_type ≡ true }
-    ensures { Judges result (table.move_rules from.now to.now moved.now (option_map (λ f. f.attributes) old.entry)) }
+    ensures { Judges result (table.move_rules from.now to.now moved.now old.now) }
+{
+    if is_moved(moved, old) {
+        return Ok(());
+    }
+    from.must_let_go_with(to, moved, old)?;
+    entering_rules(from, to, moved, old)
+}
+
+// Those that look at where it comes.
+fn entering_rules(
+    from: &Subject<'_>,
+    to: &Subject<'_>,
+    moved: &Fattr,
+    old: &Option<Fattr>,
+) -> Result<(), Rule>
+    requires { is_directory_type to.now.file.file_type ≡ true }
+    ensures { Judges result (table.entering_rules from.now to.now moved.now old.now) }
 {
     match old {
         None => {
@@ -32,18 +49,51 @@ pub(crate) fn move_rules(
             to.must_have_cookie_left()
         }
         Some(old) => {
-            let old = old.attributes();
-            if moved.fileid == old.fileid {
-                return Ok(());
-            }
-            to.must_be_replaceable(moved, &old)?;
+            to.must_be_replaceable(moved, old)?;
             to.must_not_be_below(moved)?;
             to.must_have_cookie_left()
         }
     }
 }
 
+/// The attributes of a file, if there is one.
+#[inline(always)]
+pub(crate) fn attributes_of(file: Option<FileView<'_>>) -> Option<Fattr>
+    ensures { result ≡ option_map (λ f. f.attributes) file.entry }
+{
+    match file {
+        Some(file) => Some(file.attributes()),
+        None => None,
+    }
+}
+
+// Whether what the new name names is what is moved.
+fn is_moved(moved: &Fattr, old: &Option<Fattr>) -> bool
+    ensures { result ≡ table.is_moved moved.now old.now }
+{
+    match old {
+        Some(old) => moved.fileid == old.fileid,
+        None => false,
+    }
+}
+
 impl<'a> Subject<'a> {
+    // `Sticky`: this directory lets go what is moved, and the other one what the new name names there.
+    fn must_let_go_with(
+        &self,
+        to: &Subject<'_>,
+        moved: &Fattr,
+        old: &Option<Fattr>,
+    ) -> Result<(), Rule>
+        ensures { Tells result (table.sticky_move self.now to.now moved.now old.now) }
+    {
+        self.must_let_go(moved)?;
+        match old {
+            Some(old) => to.must_let_go(old),
+            None => Ok(()),
+        }
+    }
+
     /// `Incompatible`: what is there may be replaced by what is moved.
     pub(crate) fn must_be_replaceable(&self, moved: &Fattr, old: &Fattr) -> Result<(), Rule>
         ensures { Tells result (table.incompatible self.now moved.now old.now) }

@@ -66,6 +66,16 @@ pub(crate) fn owns(ids: &Ids<'_>, file: &Fattr) -> bool
     ids.uid() == 0 || ids.uid() == file.uid
 }
 
+/// Whether a directory lets the entry of a file go: one that restricts deletion by its mode's bit 0x200
+/// does so to uid 0, to its own owner and to the file's alone (POSIX.1-2017, Base Definitions, section
+/// 4.3).
+#[inline(always)]
+pub(crate) fn lets_go(ids: &Ids<'_>, dir: &Fattr, file: &Fattr) -> bool
+    ensures { result ≡ spec.lets_go ids.now dir.now file.now }
+{
+    dir.mode / 512 % 2 != 1 || owns(ids, dir) || owns(ids, file)
+}
+
 // The three bits of a class.
 #[inline(always)]
 fn bits_of(class: Class, mode: u32) -> u32

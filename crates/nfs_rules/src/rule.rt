@@ -51,6 +51,8 @@ pub enum Rule {
     DirectoryRead,
     /// The caller may not write the directory.
     DirectoryWrite,
+    /// The directory restricts deletion, and the caller owns neither it nor the file under the name.
+    Sticky,
     /// The name has more than 255 bytes.
     NameLong,
     /// The name has no byte, or one that is 0 or `/`.
@@ -120,6 +122,7 @@ impl Rule {
             Rule::Search => "search",
             Rule::DirectoryRead => "dir-read",
             Rule::DirectoryWrite => "dir-write",
+            Rule::Sticky => "sticky",
             Rule::NameLong => "name-long",
             Rule::NameForm => "name-form",
             Rule::DotName => "dot-name",
@@ -170,6 +173,7 @@ impl Rule {
             Rule::Search => 13,
             Rule::DirectoryRead => 13,
             Rule::DirectoryWrite => 13,
+            Rule::Sticky => 1,
             Rule::NameLong => 63,
             Rule::NameForm => 13,
             Rule::DotName => 22,

@@ -1,10 +1,11 @@
 -- The connections of a server.
-use Rattle.std.specs.Prelude.{◌≡◌, ◌≢◌, ℕ, Bool, false, List, [], Option, None, Some, nat_eq}
+use Rattle.std.specs.Prelude.{◌≡◌, ◌≢◌, ℕ, ◌*◌, Bool, false, List, [], Option, None, Some, nat_eq}
 use Rattle.std.specs.Map.{lookup}
 use Rattle.nfs_rpc.specs.Progress.{Progress, Unfinished}
 use Rattle.nfs_rpc.specs.declared.framer.Stage.TheVariants.{Ready, Failed}
 use Rattle.nfs_rpc.specs.declared.framer.FrameFault.{FrameFault}
 use Rattle.nfs_rpc.specs.declared.framer.FrameFault.TheVariants as frame
+use Rattle.nfs_args.specs.Sizes.{max_data}
 use Rattle.nfs_exports.specs.declared.addr.Addr.{Addr}
 use Rattle.nfs_server.specs.declared.session_fault.SessionFault.{SessionFault}
 use Rattle.nfs_server.specs.declared.session_fault.SessionFault.TheVariants as fault
@@ -16,9 +17,9 @@ pub record Joined : Type 0 where
   pub progress : Progress
   pub ended : Bool
 
--- the most bytes of a record
+-- the most bytes of a record: twice the data of the largest READ or WRITE
 abbrev pub max_record_bytes : ℕ
-max_record_bytes = 131072
+max_record_bytes = 2 * max_data
 
 -- a connection from an address that stands at the beginning of its stream, with no unfinished bytes
 pub record IsAtStart (addr : Addr) (j : Joined) : Type 0 where

@@ -8,6 +8,7 @@ use crate::reply_buf::ReplyBuf;
 use crate::server::Server;
 use crate::session_fault::SessionFault;
 use crate::taking::{Origin, Taken, take_piece};
+use nfs_args::limits::MAX_DATA_BYTES;
 use nfs_attrs::moment::Moment;
 use nfs_exports::addr::Addr;
 use nfs_rpc::framer::Framer;
@@ -15,8 +16,9 @@ use nfs_xdr::device::ByteOut;
 use std::alloc::Global;
 use std::marker::Model;
 
-/// The largest record that a connection takes.
-pub const MAX_RECORD_BYTES: usize = 131_072;
+/// The largest record that a connection takes: twice the data of the largest WRITE that the server
+/// speaks of.
+pub const MAX_RECORD_BYTES: usize = 2 * MAX_DATA_BYTES;
 
 /// A stream of records from one address.
 #[derive(Drop)]

@@ -21,6 +21,7 @@ returns-in-Ok c =
         tree = named.tree;
         dir = c.of.ensures ∙ c.view.ensures.attributes;
         present = present;
+        uid = c.uid.ensures;
         given = c.new_file_of.ensures ∙ ap (new_file_of file_mode s.ids c.args.call.now.moment) c.given_in.ensures;
         may = subst (λ (f : Fattr). MayMakeOrTake c.args.tree.now f.fileid a c.attributes_of.result) (sym (c.of.ensures ∙ c.view.ensures.attributes))
             (subst (λ t. MayMakeOrTake t s.file.fileid a c.attributes_of.result) named.tree (may_make_or_take s named.law named.file a kept c.attributes_of.result present));

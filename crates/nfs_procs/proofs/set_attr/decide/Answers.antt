@@ -1,9 +1,11 @@
 use Rattle.nfs_args.specs.declared.args.NfsArgs.TheVariants as nfs
 use Rattle.nfs_procs.proofs.Judged.{denied_by_rule, denied_through, granted_by_rules}
-use Rattle.std.proofs.Common.{refl, subst, ◌∙◌}
+use Rattle.std.proofs.Common.{refl, sym, ap, subst, ◌∙◌}
+use Rattle.nfs_attrs.specs.declared.sattr.Sattr.{Sattr}
 use Rattle.nfs_inodes.specs.Law.{Lives}
 use Rattle.nfs_inodes.specs.Tree.{File}
 use Rattle.nfs_procs.specs.Plans.{MayTakeSize, PlansSettings}
+use Rattle.nfs_procs.specs.Changers.{with_cleared_mode}
 use Rattle.nfs_rules.proofs.SeenFiles.{seen_lives}
 use Rattle.nfs_rules.proofs.Sizes.{may_set_size}
 use Rattle.nfs_procs.proofs.set_attr.decide.Goals as goal
@@ -18,9 +20,11 @@ returns-in-Ok c =
       granted_by_rules c.args.tree.now c.args.call.now (nfs.SetAttr a) a.file refl s named kept,
       record {
         tree = named.tree;
-        same = c.of.ensures ∙ c.view.ensures.attributes;
+        same = c.of-before.ensures ∙ c.view.ensures.attributes;
+        given = c.with_cleared_mode-given.ensures ∙ λ i. with_cleared_mode (c.uid.ensures i) ((c.of-before.ensures ∙ c.view.ensures.attributes) i) a.attributes;
         lives = subst (λ t. (f : File) × Lives t s.file.fileid f) named.tree (seen_lives s.tree s.file named.file);
-        may = subst (λ t. MayTakeSize t s.file.fileid a.attributes.size) named.tree (may_set_size s named.law named.file a kept);
+        may = subst (MayTakeSize c.args.tree.now s.file.fileid) (sym (ap (λ (g : Sattr). g.size) c.with_cleared_mode-given.ensures))
+            (subst (λ t. MayTakeSize t s.file.fileid a.attributes.size) named.tree (may_set_size s named.law named.file a kept));
       },
     )
 

@@ -13,8 +13,8 @@ use Rattle.nfs_procs.proofs.set_attr.set_attr.Goals as goal
 pub returns : goal.returns
 returns c =
     let plans = c.in-Ok.ensures in
-    has_set (scene c.args.tree.now c.args.call.now (nfs.SetAttr c.args.args.now)) c.args.args.now plans.0 c.in-Ok.file c.set_given.new.tree c.change.result c.args.out.now c.write_granted_change.new.out plans.1 plans.2 c.in-Ok-set_given.ensures.ok
-    (c.change.ensures ∙ ap (change (Some c.in-Ok.file.attributes)) c.attributes.ensures)
+    has_set (scene c.args.tree.now c.args.call.now (nfs.SetAttr c.args.args.now)) c.args.args.now plans.0 c.in-Ok.plan.0 c.in-Ok.plan.1 c.set_given.new.tree c.change.result c.args.out.now c.write_granted_change.new.out plans.1 plans.2 c.in-Ok-set_given.ensures.ok
+    (c.change.ensures ∙ ap (change (Some c.in-Ok.plan.0.attributes)) c.attributes.ensures)
     (record { text = c.write_granted_change.ensures.text; spelled = granted_spelled answer.SetAttr IsWcc IsWcc wcc_text _ c.write_granted_change.ensures.spelled })
 
 pub returns-in-Err : goal.returns-in-Err

@@ -1,9 +1,10 @@
 use Rattle.nfs_args.specs.declared.args.NfsArgs.TheVariants as nfs
 use Rattle.nfs_procs.specs.Plans.{PlansBytes}
 use Rattle.nfs_procs.proofs.Judged.{denied_by_rule, denied_through, granted_by_rules}
-use Rattle.std.proofs.Common.{refl, subst, ◌∙◌}
-use Rattle.std.specs.Prelude.{length}
+use Rattle.std.proofs.Common.{ℕ, List, refl, ap, subst, ◌∙◌}
+use Rattle.std.specs.Prelude.{length, nat_eq, not}
 use Rattle.nfs_inodes.specs.Conditions.{MayWrite}
+use Rattle.nfs_procs.specs.Changers.{cleared_mode}
 use Rattle.nfs_rules.proofs.Sizes.{may_write}
 use Rattle.nfs_procs.proofs.write.decide.Goals as goal
 
@@ -17,7 +18,8 @@ returns-in-Ok c =
       granted_by_rules c.args.tree.now c.args.call.now (nfs.Write a) a.file refl s named kept,
       record {
         tree = named.tree;
-        same = c.of.ensures ∙ c.view.ensures.attributes;
+        same = c.of-before.ensures ∙ c.view.ensures.attributes;
+        mode = c.cleared_mode-mode.ensures ∙ (λ i. cleared_mode (c.uid.ensures i) ((c.of-before.ensures ∙ c.view.ensures.attributes) i) (not ((c.is_empty.ensures ∙ ap (λ (b : List ℕ). nat_eq (length b) 0) c.bytes.ensures) i)));
         may = subst (λ t. MayWrite t s.file.fileid a.offset (length a.content)) named.tree (may_write s named.law named.file a kept);
       },
     )

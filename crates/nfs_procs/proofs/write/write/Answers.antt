@@ -8,19 +8,25 @@ use Rattle.nfs_attrs.specs.Spelling.{IsWcc}
 use Rattle.nfs_inodes.specs.Changes.{after_write_at}
 use Rattle.nfs_procs.proofs.Reading.{denies, with_change}
 use Rattle.nfs_procs.proofs.Spelled.{denied_spelled}
-use Rattle.nfs_procs.proofs.WrittenBytes.{wrote, unwritten}
+use Rattle.nfs_procs.proofs.WrittenBytes.{lives_behind, wrote, unwritten}
 use Rattle.nfs_procs.specs.Changers as procedure
+use Rattle.nfs_procs.specs.Changers.{after_settings, mode_alone}
 use Rattle.nfs_procs.specs.Doing.{change}
 use Rattle.nfs_procs.specs.Scenes.{scene}
 use Rattle.nfs_procs.proofs.write.write.Goals as goal
+
+pub set_mode-requires : goal.set_mode-requires
+set_mode-requires c =
+    let plans = c.in-Ok.ensures in
+    lives_behind c.args.tree.now c.write_at.new.self c.args.args.now c.in-Ok.plan plans.0 c.bytes-bytes.result.now c.args.call.now.moment plans.2 c.in-Ok-write_at.ensures.ok
 
 pub returns : goal.returns
 returns c =
     let plans = c.in-Ok.ensures in
     let a = c.args.args.now in
-    let file = c.in-Ok.file in
-    wrote (scene c.args.tree.now c.args.call.now (nfs.Write c.args.args.now)) a plans.0 file c.write_at.new.self c.change.result (length c.bytes-bytes.result.now) c.from_be_bytes-verifier.result c.args.out.now c.write_granted.new.out plans.1 plans.2
-    (c.in-Ok-write_at.ensures.ok ∙ ap (λ bytes. after_write_at c.args.tree.now file.attributes.fileid a.offset bytes c.args.call.now.moment) c.bytes-bytes.ensures)
+    let file = c.in-Ok.plan.0 in
+    wrote (scene c.args.tree.now c.args.call.now (nfs.Write c.args.args.now)) a plans.0 file c.in-Ok.plan.1 c.set_mode.new.tree c.change.result (length c.bytes-bytes.result.now) c.from_be_bytes-verifier.result c.args.out.now c.write_granted.new.out plans.1 plans.2
+    (c.set_mode.ensures ∙ ap (λ t. after_settings t file.attributes.fileid (mode_alone c.in-Ok.plan.1) c.args.call.now.moment) (c.in-Ok-write_at.ensures.ok ∙ ap (λ bytes. after_write_at c.args.tree.now file.attributes.fileid a.offset bytes c.args.call.now.moment) c.bytes-bytes.ensures))
     (c.change.ensures ∙ ap (change (Some file.attributes)) c.attributes.ensures)
     (ap length c.bytes-bytes.ensures)
     (c.from_be_bytes-verifier.ensures ∙ ap (from_be_bytes w64) c.key.ensures)
@@ -31,7 +37,7 @@ pub returns-in_default : goal.returns-in_default
 returns-in_default c =
     let a = c.args.args.now in
     let plans = c.in-Ok.ensures in
-    unwritten (scene c.args.tree.now c.args.call.now (nfs.Write a)) a plans.0 c.in-Ok.file c.write_at.new.self c.bytes-bytes.result.now _ plans.1 plans.2 c.bytes-bytes.ensures
+    unwritten (scene c.args.tree.now c.args.call.now (nfs.Write a)) a plans.0 c.in-Ok.plan.0 c.in-Ok.plan.1 c.write_at.new.self c.bytes-bytes.result.now _ plans.1 plans.2 c.bytes-bytes.ensures
     c.in_default.ensures.err c.in_default.ensures.full
 
 pub returns-in-Err : goal.returns-in-Err
