@@ -4,6 +4,7 @@ use crate::tree::{GIVEN, ROUNDS, START, grown, letters};
 use nfs_conditions::bytes::may_resize;
 use nfs_conditions::entries::may_unlink;
 use nfs_conditions::moves::may_rename;
+use nfs_content::pages::Pages;
 use nfs_handles::number::Number;
 use nfs_inodes::given_attributes::GivenAttributes;
 use nfs_inodes::tree::Tree;
@@ -93,7 +94,7 @@ fn add_dir(alloc: Global, tree: &mut Tree, name: &[u8]) -> Result<Number, AllocE
 
 fn make(alloc: Global, tree: &mut Tree, dir: Number, name: &[u8]) {
     if tree.may_make(dir, name, 0) {
-        let _ = tree.make_file(dir, name, Vec::new(alloc), &GIVEN, None, START);
+        let _ = tree.make_file(dir, name, Pages::zeros(alloc, 0), &GIVEN, None, START);
     }
 }
 

@@ -3,6 +3,7 @@
 use crate::described::loaded;
 use nfs_args::limits::MAX_DATA_BYTES;
 use nfs_attrs::moment::Moment;
+use nfs_content::pages::Pages;
 use nfs_handles::number::Number;
 use nfs_inodes::new_file::NewFile;
 use nfs_inodes::tree::Tree;
@@ -66,7 +67,8 @@ pub(crate) fn served(alloc: Global) -> io::Result<Server> {
 
 fn make(tree: &mut Tree, bytes: Vec<u8>) -> Result<(), AllocError> {
     if tree.may_make(Number::new(PUB), b"large", bytes.len()) {
-        tree.make_file(Number::new(PUB), b"large", bytes, &GIVEN, None, START)?;
+        let content = Pages::of(tree.allocator(), bytes)?;
+        tree.make_file(Number::new(PUB), b"large", content, &GIVEN, None, START)?;
     }
     Ok(())
 }

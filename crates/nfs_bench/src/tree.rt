@@ -2,6 +2,7 @@
 
 use nfs_attrs::moment::Moment;
 use nfs_conditions::bytes::may_write;
+use nfs_content::pages::Pages;
 use nfs_handles::number::Number;
 use nfs_inodes::new_file::NewFile;
 use nfs_inodes::tree::Tree;
@@ -110,7 +111,7 @@ pub(crate) fn fill(
     for file in 0..files {
         let name = letters(file);
         if tree.may_make(dir, &name, 0) {
-            tree.make_file(dir, &name, Vec::new(alloc), &GIVEN, None, START)?;
+            tree.make_file(dir, &name, Pages::zeros(alloc, 0), &GIVEN, None, START)?;
         }
     }
     Ok(())
@@ -142,7 +143,10 @@ fn attributes(tree: &Tree, rounds: u32) -> u64 {
 fn look_up(tree: &Tree, rounds: u32) -> u64 {
     let mut found = 0u64;
     for round in 0..rounds {
-        if tree.lookup(Number::new(2), &letters(round % FILES)).is_some() {
+        if tree
+            .lookup(Number::new(2), &letters(round % FILES))
+            .is_some()
+        {
             found = found.saturating_add(1);
         }
     }

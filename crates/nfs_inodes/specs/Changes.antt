@@ -1,6 +1,7 @@
 -- What operations do to the tree.
-use Rattle.std.specs.Prelude.{◌≡◌, ℕ, ◌+◌, ◌-◌, ◌%◌, ◌<◌, ◌^◌, not, nat_eq, List, [], ◌∷◌, ◌++◌, length, take, drop, replicate, filter}
+use Rattle.std.specs.Prelude.{◌≡◌, ℕ, ◌+◌, ◌%◌, ◌<◌, ◌^◌, not, nat_eq, List, [], ◌∷◌, ◌++◌, length, filter}
 use Rattle.std.specs.Prelude.{Option, None, if◌then◌else◌}
+pub use Rattle.nfs_content.specs.Bytes.{zeros, put_bytes, sized}
 use Rattle.nfs_attrs.specs.declared.moment.Moment.{Moment}
 use Rattle.nfs_inodes.specs.declared.given_attributes.GivenAttributes.{GivenAttributes}
 use Rattle.nfs_inodes.specs.declared.new_file.NewFile.{NewFile}
@@ -76,9 +77,6 @@ moved t n d now = on_some (at n t.files) t (λ f. with_file t n (moved_to f d no
 
 -- ---- new files
 
-abbrev pub zeros : ℕ → List ℕ
-zeros n = replicate n 0
-
 -- a file with these attributes, made at this moment; of the mode the low 12 bits
 abbrev pub new_file : ℕ → Kind → NewFile → Option (List ℕ) → ℕ → Moment → File
 new_file volume kind given verifier tag now = record {
@@ -120,10 +118,6 @@ after_make_link t d name path given tag now = with_named_file t d name (new_file
 abbrev pub after_link : Tree → ℕ → ℕ → List ℕ → Moment → Tree
 after_link t n d name now = with_entry (touched t n now) d name n now
 
--- some bytes put at an offset, zeros in a gap before it
-abbrev pub put_bytes : List ℕ → ℕ → List ℕ → List ℕ
-put_bytes old offset new = take offset old ++ zeros (offset - length old) ++ new ++ drop (offset + length new) old
-
 abbrev pub kind_with_bytes : Kind → List ℕ → Kind
 kind_with_bytes (Regular old) bytes = Regular bytes
 kind_with_bytes (Directory parent next_cookie entries) bytes = Directory parent next_cookie entries
@@ -137,10 +131,6 @@ file_with_bytes f offset bytes now = record f { kind = kind_with_bytes f.kind (p
 abbrev pub after_write_at : Tree → ℕ → ℕ → List ℕ → Moment → Tree
 after_write_at t n offset [] now = t
 after_write_at t n offset (byte ∷ bytes) now = on_some (at n t.files) t (λ f. with_file t n (file_with_bytes f offset (byte ∷ bytes) now))
-
--- of some bytes the first so many, with zeros where there are fewer
-abbrev pub sized : List ℕ → ℕ → List ℕ
-sized old size = take size old ++ zeros (size - length old)
 
 -- a regular file of this size, at this moment
 abbrev pub resized_to : File → ℕ → Moment → File

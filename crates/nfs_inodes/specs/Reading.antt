@@ -1,10 +1,11 @@
 -- What is read of the tree.
-use Rattle.std.specs.Prelude.{◌≡◌, ℕ, ◌+◌, Bool, true, false, List, [], ◌∷◌, ◌++◌, length, nat_lt, bytes_eq, Option, Some, None, option_map}
+use Rattle.std.specs.Prelude.{ℕ, ◌+◌, Bool, true, false, List, [], ◌∷◌, length, nat_lt, bytes_eq, Option, Some, None, option_map}
 use Rattle.std.specs.Prelude.{slice_get, map, if◌then◌else◌}
 use Rattle.std.specs.List.{find}
 use Rattle.nfs_attrs.specs.declared.fattr.Fattr.{Fattr}
 use Rattle.nfs_attrs.specs.declared.file_type.FileType.{FileType}
 use Rattle.nfs_attrs.specs.declared.file_type.FileType.TheVariants as file_type
+pub use Rattle.nfs_content.specs.Bytes.{IsFirstChunk}
 pub use Rattle.nfs_entries.specs.Listing.{has_name, entry_named, number_named, entries_behind}
 use Rattle.nfs_handles.specs.NumberedFiles.{NumberedFiles}
 use Rattle.nfs_inodes.specs.declared.volumes.Totals.{Totals}
@@ -109,12 +110,6 @@ kind_at t n = on_some (at n t.files) None (λ f. Some f.kind)
 -- the bytes of a regular file; of another none
 abbrev pub bytes_at : Tree → ℕ → List ℕ
 bytes_at t n = on_some (at n t.files) [] (λ f. bytes_in f.kind)
-
--- the first of some bytes, some of them where there are any
-pub record IsFirstChunk (run bytes : List ℕ) : Type 0 where
-  pub rest : List ℕ
-  pub bytes_are : bytes ≡ run ++ rest
-  pub some : run ≡ [] → bytes ≡ []
 
 abbrev pub path_of : Kind → Option (List ℕ)
 path_of (Regular bytes) = None

@@ -9,6 +9,7 @@ use crate::stored_file::{Node, StoredFile};
 use crate::tree::Tree;
 use nfs_attrs::fattr::{Fattr, SpecData};
 use nfs_attrs::file_type::FileType;
+use nfs_content::content::Content;
 use nfs_handles::number::Number;
 
 // What a directory is said to have, in bytes.

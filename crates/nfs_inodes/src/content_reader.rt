@@ -7,6 +7,7 @@ ghost use Rattle.nfs_inodes.specs.Reading as spec;
 
 use crate::stored_file::Node;
 use crate::tree::Tree;
+use nfs_content::content::Content;
 use nfs_handles::number::Number;
 
 impl Tree {
@@ -34,16 +35,10 @@ impl Tree {
 }
 
 pub(crate) fn run_from(node: &Node, offset: usize) -> &[u8]
-    ensures { result.now ≡ drop offset (bytes_in (kind_of node.now)) }
+    ensures { IsFirstChunk result.now (drop offset (bytes_in (kind_of node.now))) }
 {
     match node {
-        Node::Regular(content) => {
-            if offset <= content.len() {
-                &content[offset..]
-            } else {
-                &[]
-            }
-        }
+        Node::Regular(content) => content.run_at(offset),
         _ => &[],
     }
 }

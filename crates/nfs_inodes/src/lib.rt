@@ -4,8 +4,8 @@
 pub mod ancestry;
 pub mod attributes;
 pub mod conditions;
-pub mod content;
 pub mod content_reader;
+mod copied;
 pub mod directory;
 pub mod examples;
 pub mod given_attributes;

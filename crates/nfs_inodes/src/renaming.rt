@@ -8,7 +8,7 @@ ghost use Rattle.nfs_inodes.specs.Storage.{counted_tree_of};
 ghost use Rattle.nfs_inodes.specs.StoredFiles.{Revalues, IsThere};
 ghost use Rattle.nfs_inodes.specs.Renamings.{MovesTo, Carries, HasCarried, Renames};
 
-use crate::content::copied;
+use crate::copied::copied;
 use crate::removal::{is_directory, leave, standing_of, take_out};
 use crate::stored_file::{StoredFile, set_parent};
 use crate::stored_files::{enter, reserve};

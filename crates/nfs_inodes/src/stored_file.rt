@@ -10,10 +10,11 @@ ghost use Rattle.nfs_inodes.specs.Changes.{with_given};
 ghost use Rattle.nfs_inodes.specs.Reading.{entry_named};
 ghost use Rattle.nfs_inodes.specs.Storage.{file_of, kind_of, HasRoom};
 
-use crate::content::{put, resize};
 use crate::given_attributes::GivenAttributes;
 use crate::new_file::NewFile;
 use nfs_attrs::moment::Moment;
+use nfs_content::content::Content;
+use nfs_content::pages::Pages;
 use nfs_entries::directory_entries::DirectoryEntries;
 use nfs_handles::number::Number;
 use std::alloc::AllocError;
@@ -21,7 +22,7 @@ use std::alloc::AllocError;
 /// What a file is, as it is kept.
 #[derive(Drop)]
 pub(crate) enum Node {
-    Regular(Vec<u8>),
+    Regular(Pages),
     Directory {
         parent: Number,
         entries: DirectoryEntries,
@@ -179,7 +180,7 @@ pub(crate) fn set_parent(stored_file: &mut StoredFile, dir: Number, now: Moment)
 }
 
 /// Puts bytes at an offset of a regular file, zeros in a gap before them. Refused only without
-/// memory for what it grows by, and then it is as before.
+/// memory, and then it is as before.
 pub(crate) fn write_bytes(
     stored_file: &mut StoredFile,
     offset: usize,
@@ -187,14 +188,14 @@ pub(crate) fn write_bytes(
     now: Moment,
 ) -> Result<(), AllocError>
     requires regular { IsTrue (is_regular (file_of 0 stored_file.old).kind) }
+    requires some { 0 < length bytes.now }
     requires size { offset + length bytes.now ≤ max_file_bytes }
     ensures ok { OnOk result (file_of 0 stored_file.new ≡ file_with_bytes (file_of 0 stored_file.old) offset bytes.now now) }
     ensures err { OnErr result (file_of 0 stored_file.new ≡ file_of 0 stored_file.old) }
-    ensures full { OnErr result (length (bytes_in (file_of 0 stored_file.old).kind) < offset + length bytes.now) }
     ensures nlink { stored_file.new.nlink ≡ stored_file.old.nlink }
 {
     match &mut stored_file.node {
-        Node::Regular(content) => put(content, offset, bytes)?,
+        Node::Regular(content) => content.put_at(offset, bytes)?,
         _ => unreachable!(),
     }
     stored_file.mtime = now;
@@ -209,14 +210,15 @@ pub(crate) fn resize_bytes(
     size: usize,
     now: Moment,
 ) -> Result<(), AllocError>
-    requires { IsTrue (is_regular (file_of 0 stored_file.old).kind) }
+    requires regular { IsTrue (is_regular (file_of 0 stored_file.old).kind) }
+    requires size { size ≤ max_file_bytes }
     ensures ok { OnOk result (file_of 0 stored_file.new ≡ resized_to (file_of 0 stored_file.old) size now) }
     ensures err { OnErr result (file_of 0 stored_file.new ≡ file_of 0 stored_file.old) }
     ensures full { OnErr result (length (bytes_in (file_of 0 stored_file.old).kind) < size) }
     ensures nlink { stored_file.new.nlink ≡ stored_file.old.nlink }
 {
     match &mut stored_file.node {
-        Node::Regular(content) => resize(content, size)?,
+        Node::Regular(content) => content.set_len(size)?,
         _ => unreachable!(),
     }
     stored_file.mtime = now;

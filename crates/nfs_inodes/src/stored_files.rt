@@ -74,8 +74,8 @@ pub(crate) struct Growth {
     pub(crate) bytes: u64,
 }
 
-/// Puts bytes at an offset of a regular file. Refused only without memory for what it grows by,
-/// and then clients see no change.
+/// Puts bytes at an offset of a regular file, at least one. Refused only without memory, and then
+/// clients see no change.
 pub(crate) fn write(
     files: &mut Files<StoredFile>,
     number: Number,
@@ -83,10 +83,10 @@ pub(crate) fn write(
     bytes: &[u8],
     now: Moment,
 ) -> Result<Growth, AllocError>
-    requires { TakesBytes files.old number.0 offset (length bytes.now) }
+    requires some { 0 < length bytes.now }
+    requires file { TakesBytes files.old number.0 offset (length bytes.now) }
     ensures ok { IfOk result (λ growth. Revalues files.old number.0 (Writes offset bytes.now growth now) files.new) }
     ensures err { OnErr result (SameFiles files.old files.new) }
-    ensures full { OnErr result (TakesGrowth files.old number.0 (offset + length bytes.now)) }
 {
     match files.get_mut(number) {
         Some(stored_file) => {

@@ -13,13 +13,14 @@ ghost use Rattle.nfs_inodes.specs.Storage.{kind_of, counted_volume_of};
 ghost use Rattle.nfs_inodes.specs.StepConditions.{MayAddKind, HasRoomFor, HasBytes};
 ghost use Rattle.nfs_inodes.specs.Counts.{with_totals};
 
-use crate::content::copied;
+use crate::copied::copied;
 use crate::given_attributes::GivenAttributes;
 use crate::new_file::NewFile;
 use crate::stored_file::{Node, StoredFile};
 use crate::stored_files::{add, link, reserve, resize, set, write};
 use crate::stored_volume::StoredVolume;
 use nfs_attrs::moment::Moment;
+use nfs_content::pages::Pages;
 use nfs_entries::directory_entries::DirectoryEntries;
 use nfs_handles::files::Files;
 use nfs_handles::number::Number;
@@ -88,13 +89,13 @@ impl Tree {
         &mut self,
         dir: Number,
         name: &[u8],
-        content: Vec<u8>,
+        content: Pages,
         given: &NewFile,
         verifier: Option<[u8; 8]>,
         now: Moment,
     ) -> Result<Number, AllocError>
-        requires { MayMake self.old dir.0 name.now (length content.items) }
-        ensures ok { OnOk result (Makes (λ tag. after_make_file self.old dir.0 name.now content.items given.now verifier tag now)
+        requires { MayMake self.old dir.0 name.now (length content) }
+        ensures ok { OnOk result (Makes (λ tag. after_make_file self.old dir.0 name.now content given.now verifier tag now)
             self.new) }
         ensures number { IfOk result (λ n. n.0 ≡ self.old.next) }
         ensures err { OnErr result (self.new ≡ self.old) }
@@ -164,8 +165,8 @@ impl Tree {
     }
 
     /// Puts bytes at an offset of a regular file, zeros in a gap before them; no bytes change
-    /// nothing (RFC 1813, section 3.3.7). Refused only without memory for what the file grows by,
-    /// and then the tree is as before.
+    /// nothing (RFC 1813, section 3.3.7). Refused only without memory for what the file grows by, or
+    /// keeps no page of, and then the tree is as before.
     pub fn write_at(
         &mut self,
         number: Number,
@@ -176,7 +177,7 @@ impl Tree {
         requires { MayWrite self.old number.0 offset (length bytes.now) }
         ensures ok { OnOk result (self.new ≡ after_write_at self.old number.0 offset bytes.now now) }
         ensures err { OnErr result (self.new ≡ self.old) }
-        ensures full { OnErr result (Grows self.old number.0 offset (length bytes.now)) }
+        ensures full { OnErr result (0 < length bytes.now) }
     {
         if bytes.is_empty() {
             return Ok(());

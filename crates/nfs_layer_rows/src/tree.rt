@@ -4,8 +4,8 @@ use nfs_attrs::moment::Moment;
 use nfs_conditions::bytes::{may_resize, may_write};
 use nfs_conditions::entries::{is_empty, may_unlink};
 use nfs_conditions::moves;
+use nfs_content::pages::Pages;
 use nfs_handles::number::Number;
-use nfs_inodes::content::zeroed;
 use nfs_inodes::given_attributes::GivenAttributes;
 use nfs_inodes::new_file::NewFile;
 use nfs_inodes::tree::Tree;
@@ -265,7 +265,7 @@ fn make_file(alloc: Global, tree: &mut Tree, words: &mut SplitWhitespace<'_>) ->
     if !tree.may_make(dir, name.as_slice(), size) {
         return None;
     }
-    let content = zeroed(alloc, size).ok()?;
+    let content = Pages::zeros(alloc, size);
     let made = tree.make_file(dir, name.as_slice(), content, &GIVEN, verifier, NOW);
     made.ok().map(|number| number.0)
 }

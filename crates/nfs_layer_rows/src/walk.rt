@@ -5,8 +5,8 @@ use crate::tree::{GIVEN, NOW, directory};
 use nfs_conditions::bytes::may_resize;
 use nfs_conditions::entries::may_unlink;
 use nfs_conditions::moves::may_rename;
+use nfs_content::pages::Pages;
 use nfs_handles::number::Number;
-use nfs_inodes::content::zeroed;
 use nfs_inodes::tree::Tree;
 use rows::words::number;
 use std::alloc::Global;
@@ -126,7 +126,7 @@ impl Walk {
         if !self.tree.may_make(dir, name, size) {
             return None;
         }
-        let content = zeroed(self.alloc, size).ok()?;
+        let content = Pages::zeros(self.alloc, size);
         let made = self.tree.make_file(dir, name, content, &GIVEN, None, NOW);
         made.ok().map(|_| ())
     }

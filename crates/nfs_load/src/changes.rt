@@ -10,6 +10,7 @@ use crate::path_end::{PathEnd, find_file, find_free_end, is_directory};
 use crate::refusal::Refusal;
 use crate::statement::{DirLine, FileLine, Given, HardLine, LinkLine, VolumeLine};
 use nfs_attrs::moment::Moment;
+use nfs_content::pages::Pages;
 use nfs_handles::number::Number;
 use nfs_inodes::new_file::NewFile;
 use nfs_inodes::tree::Tree;
@@ -68,6 +69,7 @@ pub fn make_file(tree: &mut Tree, root: Number, line: FileLine<'_>) -> Result<()
         return Err(Refusal::Fault(Cause::Full));
     }
     let given = attributes_of(given);
+    let content = Pages::of(tree.allocator(), content)?;
     tree.make_file(end.dir, end.name, content, &given, None, START)?;
     Ok(())
 }

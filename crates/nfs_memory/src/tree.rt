@@ -6,8 +6,8 @@ use nfs_attrs::fattr::Fattr;
 use nfs_attrs::moment::Moment;
 use nfs_conditions::bytes::{may_resize, may_write};
 use nfs_conditions::moves::may_rename;
+use nfs_content::pages::Pages;
 use nfs_handles::number::Number;
-use nfs_inodes::content::zeroed;
 use nfs_inodes::new_file::NewFile;
 use nfs_inodes::tree::Tree;
 use nfs_inodes::volumes::Totals;
@@ -57,7 +57,7 @@ fn operate(alloc: Global, tree: &mut Tree, operation: u32) -> Result<(), AllocEr
     let dir = Number::new(2);
     match operation {
         0 if tree.may_make(dir, b"y", 100) => {
-            tree.make_file(dir, b"y", zeroed(alloc, 100)?, &GIVEN, None, NOW)?;
+            tree.make_file(dir, b"y", Pages::zeros(alloc, 100), &GIVEN, None, NOW)?;
         }
         1 if tree.may_make_dir(dir, b"y") => {
             tree.make_dir(dir, b"y", &GIVEN, NOW)?;
@@ -66,7 +66,12 @@ fn operate(alloc: Global, tree: &mut Tree, operation: u32) -> Result<(), AllocEr
             tree.make_link(dir, b"y", b"to", &GIVEN, NOW)?;
         }
         3 if tree.may_link(Number::new(3), dir, b"y") => tree.link(Number::new(3), dir, b"y", NOW)?,
-        4 if may_write(tree, Number::new(3), 100, 3) => tree.write_at(Number::new(3), 100, b"end", NOW)?,
+        4 if may_write(tree, Number::new(3), 100, 3) => tree.write_at(
+            Number::new(3),
+            100,
+            b"end",
+            NOW,
+        )?,
         5 if tree.may_add_volume(b"/c", 1) => {
             tree.add_volume(b"/c", 1, 1, &GIVEN, NOW)?;
         }

@@ -62,7 +62,7 @@ module _ (p : ℕ → Bool) where
       by (nfs.Access a) e = told_as (access a) e (λ one two. refl)
       by (nfs.ReadLink file) e = told_as (read_link file) e (λ one two. refl)
       by (nfs.Read a) e = told_as (read a) e (λ one two. refl)
-      by (nfs.Write a) e = told_as (write a) e (λ one two. grows_blank one.tree one.file.fileid a.offset (length a.content))
+      by (nfs.Write a) e = told_as (write a) e (λ one two. refl)
       by (nfs.Create a) e = told_as (create a) e (λ one two i. on_some (found_veiled p one a.place.name i) true (λ f. taking_blank one.tree f.fileid a.how i))
       by (nfs.MakeDir a) e = told_as (make_dir a) e (λ one two. refl)
       by (nfs.SymLink a) e = told_as (sym_link a) e (λ one two. refl)

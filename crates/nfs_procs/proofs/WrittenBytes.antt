@@ -1,5 +1,6 @@
 -- Bytes are written.
-use Rattle.std.proofs.Common.{◌≡◌, ℕ, List, refl, sym, ap, subst, ◌∙◌, arith}
+use Rattle.std.proofs.Common.{◌≡◌, ℕ, List, refl, sym, ap, subst, ◌∙◌, arith, ◌<◌, length, true, Bool, false, not, nat_eq}
+use Rattle.std.proofs.lemmas.Bool.{eqb-true}
 use Rattle.std.specs.Prelude.{Option, Some, Ok, length}
 use Rattle.nfs_args.specs.declared.answer.NfsAnswer.TheVariants as answer
 use Rattle.nfs_args.specs.declared.write.Stability.TheVariants.{FileSync}
@@ -9,12 +10,10 @@ use Rattle.nfs_attrs.specs.declared.fattr.Fattr.{Fattr}
 use Rattle.nfs_attrs.specs.declared.moment.Moment.{Moment}
 use Rattle.nfs_attrs.specs.declared.wcc.Wcc.{Wcc}
 use Rattle.nfs_inodes.specs.Changes.{after_write_at}
-use Rattle.nfs_inodes.specs.Conditions.{Grows}
 use Rattle.nfs_inodes.specs.Law.{Lives}
 use Rattle.nfs_inodes.specs.Reading.{attributes_at}
 use Rattle.nfs_inodes.specs.Tree.{Tree, File}
 use Rattle.nfs_procs.proofs.GivenSettings.{lives_written}
-use Rattle.nfs_procs.proofs.Growth.{it_grows}
 use Rattle.nfs_procs.specs.Changers.{write, changed, after_writing, cleared_mode, has_bytes}
 use Rattle.nfs_procs.specs.Doing.{change}
 use Rattle.nfs_procs.specs.Performing.{AppendsAnswer, IsGranted, HasEffect, HasNoMemory}
@@ -56,17 +55,21 @@ wrote c a s file mode new shown count verifier x y granted plans is shows counts
         ∙ ap (λ n. answer_of (changed new s) n verifier) counts
         ∙ ap (answer_of (changed new s) (length a.content)) (verifies ∙ ap verifier_of (sym plans.tree))
 
--- where there is no memory for what the file grows by
+-- where there is no memory for some of them
 pub unwritten : (c : Scene) (a : Write) (s : Subject) (file : FileBefore) (mode : Option ℕ) (new : Tree) (bytes : List ℕ) (x : output.Written) → IsGranted c s s → PlansBytes c.tree a (file, mode) s → bytes ≡ a.content
-    → new ≡ c.tree → Grows c.tree file.attributes.fileid a.offset (length bytes) → HasNoMemory c (write a) new x x
-unwritten c a s file mode new bytes x granted plans same is full = record {
+    → new ≡ c.tree → 0 < length bytes → HasNoMemory c (write a) new x x
+unwritten c a s file mode new bytes x granted plans same is some = record {
   one = s;
   two = s;
   granted = granted;
-  takes = it_grows s.tree s.file.fileid a.offset (length a.content)
-      (subst (λ b. Grows s.tree s.file.fileid a.offset (length b)) same
-      (subst (λ (f : Fattr). Grows s.tree f.fileid a.offset (length bytes)) plans.same
-      (subst (λ t. Grows t file.attributes.fileid a.offset (length bytes)) (sym plans.tree) full)));
+  takes = are_some a.content (subst (λ (b : List ℕ). 0 < length b) same some);
   new_is = is;
   written = refl;
 }
+  where
+    are_some : (bs : List ℕ) → 0 < length bs → has_bytes bs ≡ true
+    are_some bs some = by (nat_eq (length bs) 0) (eqb-true (length bs) 0)
+      where
+        by : (b : Bool) → (b ≡ true → length bs ≡ 0) → not b ≡ true
+        by true f = absurd (let e : length bs ≡ 0 = f refl in omega (arith, some, e))
+        by false f = refl

@@ -112,7 +112,7 @@ has_bytes bytes = not (nat_eq (length bytes) 0)
 
 abbrev pub write : Write → Doing
 write a = record {
-  takes_memory = λ file same. grows file.tree file.file.fileid a.offset (length a.content);
+  takes_memory = λ file same. has_bytes a.content;
   effect = λ file same now tag. after_writing file.tree file.file.fileid a.offset a.content (cleared_mode file.ids.uid file.file (has_bytes a.content)) now;
   granted = λ file same new. answer.Write (Ok (record {
     file = changed new file;

@@ -2,7 +2,6 @@
 use Rattle.std.specs.Prelude.{◌≡◌, ℕ, true, false, List, length, Option, Some, None, Result, Ok, Err}
 use Rattle.nfs_args.specs.declared.create.Create.{Create}
 use Rattle.nfs_args.specs.declared.create.CreateHow.{CreateHow}
-use Rattle.nfs_args.specs.declared.create.CreateHow.TheVariants.{Unchecked}
 use Rattle.nfs_args.specs.declared.make_dir.MakeDir.{MakeDir}
 use Rattle.nfs_args.specs.declared.read_dir.ReadDir.{ReadDir}
 use Rattle.nfs_args.specs.declared.read_dir.ReadDirPlus.{ReadDirPlus}

@@ -13,8 +13,8 @@ use crate::settings::{set_given, size_alone, with_cleared_mode};
 use nfs_args::create::{Create, CreateHow};
 use nfs_attrs::fattr::Fattr;
 use nfs_attrs::moment::Moment;
+use nfs_content::pages::Pages;
 use nfs_handles::number::Number;
-use nfs_inodes::content::zeroed;
 use nfs_inodes::tree::Tree;
 use std::alloc::AllocError;
 
@@ -53,7 +53,7 @@ fn make(
     ensures number { IfOk result (λ n. n.0 ≡ tree.old.next) }
     ensures err { OnErr result (tree.new ≡ tree.old) }
 {
-    let content = zeroed(tree.allocator(), size_of(&args.how) as usize)?;
+    let content = Pages::zeros(tree.allocator(), size_of(&args.how) as usize);
     tree.make_file(
         Number(plan.dir.attributes.fileid, plan.dir.tag),
         args.place.name.bytes(),

@@ -52,14 +52,22 @@ pub(crate) fn write(tree: &mut Tree, call: &Call<'_>, args: &Write<'_>, out: &mu
 }
 
 // The file before the call, and the mode that it gets, if it loses bits.
-fn decide(tree: &Tree, call: &Call<'_>, args: &Write<'_>) -> Result<(FileBefore, Option<u32>), Denial>
+fn decide(
+    tree: &Tree,
+    call: &Call<'_>,
+    args: &Write<'_>,
+) -> Result<(FileBefore, Option<u32>), Denial>
     ensures { Decides (scene tree.now call.now (nfs.Write args.now)) args.now.file (PlansBytes tree.now args.now) result }
 {
     let file = subject_of(tree, call, &args.file)?;
     match write_rules(&file, args) {
         Ok(()) => {
             let before = FileBefore::of(file.view());
-            let mode = cleared_mode(file.uid(), &before.attributes, !args.content.bytes().is_empty());
+            let mode = cleared_mode(
+                file.uid(),
+                &before.attributes,
+                !args.content.bytes().is_empty(),
+            );
             Ok((before, mode))
         }
         Err(rule) => Err(Denial::of_rule(&file, rule)),
