@@ -7,7 +7,7 @@ ghost use Rattle.nfs_args.specs.Sizes.{IsWithin};
 
 use nfs_args::answer::{NfsAnswer, write_nfs};
 use nfs_args::found::Found;
-use nfs_args::largest::largest;
+use nfs_args::largest::{MAX_RESULT_BYTES, largest};
 use nfs_args::made::Made;
 use nfs_args::mount_answer::{MountAnswer, write_mount};
 use nfs_args::opaque::Opaque;
@@ -60,15 +60,13 @@ const CHANGE: Wcc = Wcc {
     after: Some(ATTRIBUTES),
 };
 
-// The room of what is written, and how often it is in one run.
-const ROOM: usize = 70_000;
-
+// How often an answer is written in one run.
 const ROUNDS: u32 = 100_000;
 
 /// Writes an answer of each procedure, and prints its bytes; or, where they are to be timed, the
 /// nanoseconds in which it is written.
 pub(crate) fn each<R: Clock + Print + AllocGlobal>(rt: &R, timed: bool) -> io::Result<()> {
-    let mut out = Output::new(rt.alloc(), ROOM)?;
+    let mut out = Output::new(rt.alloc(), MAX_RESULT_BYTES)?;
     shown(rt, &mut out, timed)?;
     changed(rt, &mut out, timed)?;
     mounted(rt, &mut out, timed)
