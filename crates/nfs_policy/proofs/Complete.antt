@@ -1,12 +1,11 @@
 -- What is there before a granted call, and after it.
-use Rattle.std.proofs.Common.{inl, inr, ◌⊎◌, arith, ◌≡◌, ◌≢◌, ℕ, ◌-◌, ◌<◌, ◌^◌, Bool, true, false, not, List, [], ◌∷◌, Option, Some, None, is_some, option_map, slice_get, refl, sym, ap, subst, ◌∙◌}
+use Rattle.std.proofs.Common.{inl, inr, ◌⊎◌, arith, ◌≡◌, ◌≢◌, ℕ, ◌-◌, Bool, true, false, not, List, [], ◌∷◌, Option, Some, None, is_some, option_map, slice_get, refl, sym, ap, subst, ◌∙◌}
 use Rattle.std.specs.Prelude.{Contains, IsSome, nat_eq, if◌then◌else◌}
 use Rattle.std.proofs.lemmas.Bool.{true≢false, eqb-false}
 use Rattle.nfs_args.specs.declared.args.NfsArgs.{NfsArgs}
 use Rattle.nfs_args.specs.declared.args.NfsArgs.TheVariants as nfs
 use Rattle.nfs_args.specs.declared.create.Create.{Create}
 use Rattle.nfs_args.specs.declared.create.CreateHow.{CreateHow}
-use Rattle.nfs_args.specs.declared.create.CreateHow.TheVariants.{Unchecked, Guarded, Exclusive}
 use Rattle.nfs_args.specs.declared.rename.Rename.{Rename}
 use Rattle.nfs_attrs.specs.declared.fattr.Fattr.{Fattr}
 use Rattle.nfs_attrs.specs.declared.moment.Moment.{Moment}
@@ -18,11 +17,11 @@ use Rattle.nfs_inodes.proofs.Lists.{by_number, head_or_tail, same_some, not_both
 use Rattle.nfs_inodes.proofs.Maps.{at_next, at_with_same, at_with_other, at_without_other, at_push_same, at_push_other}
 use Rattle.nfs_inodes.proofs.law.Unlinks.{entry_is, empty_elsewhere, other_file}
 use Rattle.nfs_inodes.proofs.Views.{mapped}
-use Rattle.nfs_inodes.specs.Changes.{with_new_file, with_file, without_file, entered, with_entry, left, without_entry, touched, released, moved_to, moved, with_named_file, after_write_at, file_with_bytes, resized_to, after_resize, with_given, after_set, after_link, after_unlink, carried, after_rename}
+use Rattle.nfs_inodes.specs.Changes.{with_new_file, with_file, without_file, entered, with_entry, left, without_entry, touched, released, moved_to, moved, with_named_file, after_write_at, file_with_bytes, resized_to, after_resize, with_given, after_set, after_unlink, carried, after_rename}
 use Rattle.nfs_inodes.specs.Conditions.{MayUnlink, MayRename, MayReplace}
 use Rattle.nfs_inodes.specs.Law.{Law, Lives}
-use Rattle.nfs_inodes.specs.Reading.{attributes_of, attributes_at, dot, dot_dot, entry_at, entry_named, listing, listing_at, numbered_files, path_of, path_at, totals_at, type_of}
-use Rattle.nfs_inodes.specs.Tree.{Tree, File, Kind, Regular, Directory, Link, Entry, Volume, at, on_some, entries_in, parent_in, is_directory, names_of, nlink}
+use Rattle.nfs_inodes.specs.Reading.{attributes_of, attributes_at, dot, dot_dot, entry_at, entry_named, listing, numbered_files, path_of, type_of}
+use Rattle.nfs_inodes.specs.Tree.{Tree, File, Kind, Regular, Directory, Link, Entry, at, on_some, entries_in, parent_in, is_directory, names_of, nlink}
 use Rattle.nfs_procs.specs.Changers.{set_attr, write, create, make_dir, sym_link, remove, remove_dir, rename, link, given_of, sets_something, after_settings, after_taking, after_creating, with_cleared_mode, cleared_mode, has_bytes, size_alone, size_taken, mode_alone}
 use Rattle.nfs_procs.specs.Doing.{Doing}
 use Rattle.nfs_procs.specs.Performing.{IsGranted}

@@ -1,5 +1,5 @@
 -- That the answers of granted calls have all their parts: cases of the definitions that no call comes to.
-use Rattle.std.specs.Prelude.{◌≡◌, ℕ, ◌-◌, ◌<◌, ◌^◌, List, Option, Some, slice_get, Contains, IsSome}
+use Rattle.std.specs.Prelude.{◌≡◌, ℕ, ◌-◌, ◌<◌, ◌^◌, List, Some, slice_get, Contains, IsSome}
 use Rattle.nfs_args.specs.declared.args.NfsArgs.TheVariants as nfs
 use Rattle.nfs_args.specs.declared.create.Create.{Create}
 use Rattle.nfs_args.specs.declared.dir_op.DirOp.{DirOp}
