@@ -1,10 +1,11 @@
 //! Answers rows about what lies below records: items, credentials, framing, attributes, arguments,
-//! results, handles, the tree of files, which is at first that of the description `e.tree`, and the
+//! results, contents, handles, the tree of files, which is at first that of the description `e.tree`, and the
 //! rules of procedures.
 #![tactic(auto)]
 
 mod arguments;
 mod attributes;
+mod contents;
 mod counts;
 mod credentials;
 mod framing;
@@ -16,6 +17,7 @@ mod verdicts;
 mod views;
 mod walk;
 
+use crate::contents::Contents;
 use crate::framing::Framing;
 use crate::handles::Numbered;
 use crate::items::Written;
@@ -33,6 +35,7 @@ struct Asked<'a> {
     alloc: Global,
     written: Written,
     framing: Framing,
+    contents: Contents,
     numbered: Numbered,
     served: Served<'a>,
     exported: Exported,
@@ -44,6 +47,7 @@ impl<'a> Asked<'a> {
             alloc,
             written: Written::new(alloc).ok()?,
             framing: Framing::new(alloc),
+            contents: Contents::new(alloc),
             numbered: Numbered::new(alloc),
             served: Served::new(alloc, example)?,
             exported: Exported::new(alloc, example)?,
@@ -63,6 +67,7 @@ impl<'a> Answers for Asked<'a> {
             "args" => arguments::answer(self.alloc, words),
             "result" => results::answer(self.alloc, words),
             "attr" => attributes::answer(self.alloc, words),
+            "content" => self.contents.answer(words),
             "files" => self.numbered.answer(words),
             "tree" => self.served.answer(words),
             "view" => views::answer(self.alloc, self.served.tree(), words),

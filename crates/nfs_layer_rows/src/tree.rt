@@ -156,10 +156,18 @@ fn entry(alloc: Global, tree: &Tree, words: &mut SplitWhitespace<'_>) -> Option<
     }
 }
 
-// The bytes of a file from an offset.
+// The bytes of a file from an offset, run by run.
 fn content(alloc: Global, tree: &Tree, words: &mut SplitWhitespace<'_>) -> Option<String> {
     let number = Number::new(number(words)?);
-    digits(alloc, tree.bytes_at(number, size(words)?))
+    let offset = size(words)?;
+    let mut all = Vec::new(alloc);
+    loop {
+        let run = tree.bytes_at(number, offset.checked_add(all.len())?);
+        if run.is_empty() {
+            return digits(alloc, all.as_slice());
+        }
+        all.extend_from_slice(run).ok()?;
+    }
 }
 
 // The path of a link.

@@ -1,0 +1,4 @@
+//! For tests: the content of a regular file in one vector.
+#![tactic(auto)]
+
+pub mod flat;
