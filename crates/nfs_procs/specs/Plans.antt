@@ -11,14 +11,16 @@ use Rattle.nfs_args.specs.declared.sym_link.SymLink.{SymLink}
 use Rattle.nfs_args.specs.declared.write.Write.{Write}
 use Rattle.nfs_attrs.specs.declared.fattr.Fattr.{Fattr}
 use Rattle.nfs_attrs.specs.declared.moment.Moment.{Moment}
+use Rattle.nfs_attrs.specs.declared.wcc.Wcc.{Wcc}
 use Rattle.nfs_attrs.specs.declared.sattr.Sattr.{Sattr}
 use Rattle.nfs_dirs.specs.Pages.{fits, fits_plus, is_too_small, left_after}
 use Rattle.nfs_inodes.specs.Changes.{after_make_file, zeros}
 use Rattle.nfs_inodes.specs.Conditions.{MayLink, MayMake, MayMakeDirectory, MayMakeLink, MayRename, MayResize, MayUnlinkSeen, MayWrite}
 use Rattle.nfs_inodes.specs.Law.{Lives}
-use Rattle.nfs_inodes.specs.Reading.{is_regular_type}
+use Rattle.nfs_inodes.specs.Reading.{is_regular_type, attributes_at}
 use Rattle.nfs_inodes.specs.Tree.{Tree, File, on_some}
 use Rattle.nfs_inodes.specs.Views.{FileView, IsSeen, standing_of}
+use Rattle.nfs_procs.specs.Doing.{change}
 use Rattle.nfs_procs.specs.NewFiles.{new_file_of}
 use Rattle.nfs_procs.specs.Changers.{file_mode, directory_mode, link_mode, attributes_in, verifier_in, after_taking, size_taken, cleared_mode, has_bytes, with_cleared_mode}
 use Rattle.nfs_procs.specs.declared.denial.Denial.{Denial}
@@ -81,6 +83,10 @@ PlansEntry s (Ok file) (Ok plan) = (plan.dir.attributes ≡ s.file) × (plan.num
 PlansEntry s (Err rule) (Err denial) = denial ≡ record { rule = rule; uid = Some s.ids.uid; shown = Some s.file }
 PlansEntry s (Ok file) (Err denial) = ⊥
 PlansEntry s (Err rule) (Ok plan) = ⊥
+
+-- what a directory was, and what it is now
+abbrev pub directory_change : Tree → RemovalPlan → Wcc
+directory_change new plan = change (Some plan.dir.attributes) (attributes_at new plan.dir.attributes.fileid)
 
 -- a further name: the file, and the directory of the name
 pub record PlansLink (t : Tree) (name : List ℕ) (plan : FileBefore × FileBefore) (file dir : Subject) : Type 0 where

@@ -7,7 +7,7 @@ ghost use Rattle.nfs_inodes.specs.Changes.{after_unlink};
 ghost use Rattle.nfs_inodes.specs.Conditions.{MayUnlinkSeen};
 ghost use Rattle.nfs_inodes.specs.Reading.{attributes_at};
 ghost use Rattle.nfs_procs.specs.Doing as doing;
-ghost use Rattle.nfs_procs.specs.Plans.{PlansEntry};
+ghost use Rattle.nfs_procs.specs.Plans.{PlansEntry, directory_change};
 ghost use Rattle.nfs_xdr.specs.Written.{Appends};
 
 use crate::denial::Denial;
@@ -51,10 +51,8 @@ pub(crate) fn remove_entry(
     requires may { MayUnlinkSeen tree.old plan.now.dir.attributes.fileid name.now plan.now.number.0 plan.now.file }
     requires room { status_size + change_size ≤ out.old.room }
     ensures tree { tree.new ≡ after_unlink tree.old plan.now.dir.attributes.fileid name.now now }
-    ensures text { Appends (to_be_bytes w32 0 ++ wcc_text (doing.change (Some plan.now.dir.attributes) (attributes_at tree.new plan.now.dir.attributes.fileid)))
-        out.old out.new }
-    ensures spelled { IsWcc (doing.change (Some plan.now.dir.attributes) (attributes_at tree.new plan.now.dir.attributes.fileid))
-        (wcc_text (doing.change (Some plan.now.dir.attributes) (attributes_at tree.new plan.now.dir.attributes.fileid))) }
+    ensures text { Appends (to_be_bytes w32 0 ++ wcc_text (directory_change tree.new plan.now)) out.old out.new }
+    ensures spelled { IsWcc (directory_change tree.new plan.now) (wcc_text (directory_change tree.new plan.now)) }
 {
     let dir = Number(plan.dir.attributes.fileid, plan.dir.tag);
     tree.unlink_seen(dir, name, plan.number, plan.file, now);
