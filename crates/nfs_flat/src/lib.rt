@@ -2,3 +2,5 @@
 #![tactic(auto)]
 
 pub mod flat;
+#[cfg(test)]
+mod refused;
