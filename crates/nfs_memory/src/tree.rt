@@ -105,9 +105,16 @@ fn refusals(alloc: Global, operation: u32) -> Result<Option<u32>, AllocError> {
 
 #[test]
 fn refused_operations_leave_the_tree(rt: HostRuntime) -> Result<(), Fail> {
-    for operation in 0..8 {
-        let refused = refusals(rt.alloc(), operation)?;
+    for operation in &[0, 1, 2, 3, 4, 5, 7] {
+        let refused = refusals(rt.alloc(), *operation)?;
         assert!(rt; refused.is_some_and(|count| count > 0));
     }
+    Ok(())
+}
+
+#[test]
+fn a_size_takes_no_memory(rt: HostRuntime) -> Result<(), Fail> {
+    let refused = refusals(rt.alloc(), 6)?;
+    assert!(rt; refused == Some(0));
     Ok(())
 }
