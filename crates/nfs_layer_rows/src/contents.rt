@@ -98,12 +98,12 @@ fn gathered<C: Content>(
     count: usize,
 ) -> Option<Vec<u8>> {
     let mut all = Vec::new(alloc);
-    while all.len() < count {
+    for _ in 0..count {
         let run = content.run_at(offset.checked_add(all.len())?);
-        if run.is_empty() {
-            return Some(all);
+        let some = run.len().min(count.saturating_sub(all.len()));
+        if some == 0 {
+            break;
         }
-        let some = run.len().min(count - all.len());
         all.extend_from_slice(&run[..some]).ok()?;
     }
     Some(all)

@@ -7,6 +7,7 @@ use nfs_conditions::moves;
 use nfs_content::pages::Pages;
 use nfs_handles::number::Number;
 use nfs_inodes::given_attributes::GivenAttributes;
+use nfs_inodes::limits::MAX_FILE_BYTES;
 use nfs_inodes::new_file::NewFile;
 use nfs_inodes::tree::Tree;
 use nfs_load::description::load;
@@ -134,10 +135,10 @@ fn links(tree: &Tree, number: Number) -> Option<u32> {
 
 // Whether a file is a directory or above it; `None` where that is no directory.
 fn below(tree: &Tree, dir: u64, above: u64) -> Option<bool> {
-    if tree.next_cookie(Number::new(dir)).is_none() {
+    if tree.next_cookie(Number(dir, 0)).is_none() {
         return None;
     }
-    Some(tree.is_below(Number::new(dir), Number::new(above)))
+    Some(tree.is_below(Number(dir, 0), Number(above, 0)))
 }
 
 // The file of a name in a directory.
@@ -161,13 +162,14 @@ fn content(alloc: Global, tree: &Tree, words: &mut SplitWhitespace<'_>) -> Optio
     let number = Number::new(number(words)?);
     let offset = size(words)?;
     let mut all = Vec::new(alloc);
-    loop {
+    for _ in 0..MAX_FILE_BYTES {
         let run = tree.bytes_at(number, offset.checked_add(all.len())?);
         if run.is_empty() {
-            return digits(alloc, all.as_slice());
+            break;
         }
         all.extend_from_slice(run).ok()?;
     }
+    digits(alloc, all.as_slice())
 }
 
 // The path of a link.
