@@ -18,8 +18,8 @@ pub trait Content {
     fn run_at(&self, offset: usize) -> &[u8]
         ensures { IsFirstChunk result.now (drop offset (bytes self.now)) };
 
-    /// Puts bytes at an offset, zeros in a gap before them; no bytes change nothing. Refused only without memory for what the
-    /// content grows by, or keeps no page of, and then it is as before.
+    /// Puts bytes at an offset, zeros in a gap before them; no bytes change nothing. Refused only
+    /// without memory for what the content grows by, or keeps no page of, and then it is as before.
     fn put_at(&mut self, offset: usize, new: &[u8]) -> Result<(), AllocError>
         requires { offset + length new.now ≤ max_content }
         ensures ok { OnOk result (bytes self.new ≡ written (bytes self.old) offset new.now) }

@@ -1,5 +1,5 @@
 //! Pages by their places, and what is done to them; a page that isn't kept is all zeros.
-ghost use Rattle.std.specs.Prelude.{◌≡◌, ◌+◌, ◌-◌, ◌*◌, ◌/◌, ◌%◌, ◌<◌, ◌≤◌, ◌∷◌, [], ℕ, IfOk, OnOk, OnErr, length, slice_index_or, vec_len};
+ghost use Rattle.std.specs.Prelude.{◌≡◌, ◌+◌, ◌<◌, ◌≤◌, ◌∷◌, [], IfOk, OnOk, length, vec_len};
 ghost use Rattle.nfs_content.specs.Limits.{max_content};
 ghost use Rattle.nfs_content.specs.Paged.{kept, page, AreShort, Cuts, Fills, Holds, Puts, SameBytes, Writes};
 
