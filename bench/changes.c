@@ -492,6 +492,29 @@ static void measure(const char *name, uint32_t address, int count, uint32_t roun
     printf("%s %llu.%llu %zu\n", name, (unsigned long long)(least / 10), (unsigned long long)(least % 10), bytes / (RUNS * (size_t)rounds));
 }
 
+/* a new record of so many bytes, and its reply: nothing else is done */
+static void measure_kept(uint32_t len) {
+    static unsigned char record[131072 + 512], reply[144];
+    uint64_t least = UINT64_MAX;
+    uint32_t rounds = len < 65536 ? ROUNDS : WRITES;
+    memset(record, 7, sizeof record);
+    for (int run = 0; run < RUNS; run++) {
+        uint64_t start = now();
+        for (uint32_t xid = 0; xid < rounds; xid++) {
+            put(record, xid);
+            uint32_t hash = hash_of(0x0a000001, record, len);
+            if (find_place(0x0a000001, hash, record, len))
+                continue;
+            struct place *place = take_place(0x0a000001, hash, record, len);
+            place->reply_len = sizeof reply;
+            memcpy(place->reply, reply, sizeof reply);
+        }
+        uint64_t time = (now() - start) * 10 / rounds;
+        least = time < least ? time : least;
+    }
+    printf("kept-%u %llu.%llu\n", len, (unsigned long long)(least / 10), (unsigned long long)(least % 10));
+}
+
 static void file(size_t i, uint32_t type, uint32_t mode, uint32_t uid, uint64_t size, uint32_t volume) {
     files[i] = (struct file){i + 1, type, mode, type == 2 ? 2 : 1, uid, uid, type == 2 ? 4096 : size, volume, {0, 0}, {0, 0}, {0, 0}, 1, entries[i], 0, type == 1 ? calloc(1, size + 1) : NULL};
 }
@@ -516,9 +539,15 @@ int main(void) {
     begin(0, 8, 2), add_handle(0, 2), add(0, name_y, 8), add(0, (unsigned char[]){0, 0, 0, 1}, 4), add(0, zeros, 24);
     begin(1, 12, 2), add_handle(1, 2), add(1, name_y, 8);
     measure("create-remove", 0x0a000001, 2, ROUNDS);
+    keeps = 1;
+    measure("create-remove-kept", 0x0a000001, 2, ROUNDS);
+    keeps = 0;
     begin(0, 14, 2), add_handle(0, 2), add(0, name_x, 8), add_handle(0, 2), add(0, name_y, 8);
     begin(1, 14, 2), add_handle(1, 2), add(1, name_y, 8), add_handle(1, 2), add(1, name_x, 8);
     measure("rename", 0x0a000001, 2, ROUNDS);
+    keeps = 1;
+    measure("rename-kept", 0x0a000001, 2, ROUNDS);
+    keeps = 0;
     static const uint32_t counts[] = {4096, 65536, 131072};
     for (int i = 0; i < 3; i++) {
         char name[32];
@@ -534,5 +563,6 @@ int main(void) {
     }
     begin(0, 1, 9), add_handle(0, 9);
     measure("denied", 0x0a000301, 1, ROUNDS);
+    measure_kept(136), measure_kept(4196), measure_kept(65636), measure_kept(131172);
     return 0;
 }

@@ -2,17 +2,23 @@
 _nfs3d() {
     local word=${COMP_WORDS[COMP_CWORD]} before=${COMP_WORDS[COMP_CWORD - 1]}
     if [ "$COMP_CWORD" -eq 1 ]; then
-        COMPREPLY=($(compgen -W "check replay serve self help --help" -- "$word"))
+        COMPREPLY=($(compgen -W "describe check why exports replay serve self help --help --version" -- "$word"))
         return
     fi
     case $before in
-    --audit) COMPREPLY=($(compgen -f -- "$word")) && return ;;
+    --audit | --save) COMPREPLY=($(compgen -f -- "$word")) && return ;;
     --listen) COMPREPLY=($(compgen -W "127.0.0.1 0.0.0.0 ::" -- "$word")) && return ;;
-    --port | --connections | --clients | --idle | --cache) COMPREPLY=() && return ;;
+    --port | --connections | --clients | --idle | --cache | --mount | --export | --bytes | --files | --key) COMPREPLY=() && return ;;
     esac
+    if [ "${COMP_WORDS[1]}" = why ] && [ "$COMP_CWORD" -eq 5 ]; then
+        COMPREPLY=($(compgen -W "stat access read write create remove mkdir rmdir rename link symlink readlink mknod lookup list readdirplus chmod chown chgrp truncate touch utime commit df fsinfo pathconf mount" -- "$word"))
+        return
+    fi
     case ${COMP_WORDS[1]}:$word in
+    check:-*) COMPREPLY=($(compgen -W "--strict --help" -- "$word")) ;;
     serve:-*) COMPREPLY=($(compgen -W "--listen --port --connections --clients --idle --cache --audit --verbose --help" -- "$word")) ;;
-    replay:-*) COMPREPLY=($(compgen -W "--cache --help" -- "$word")) ;;
+    describe:-*) COMPREPLY=($(compgen -W "--mount --export --bytes --files --key --help" -- "$word")) ;;
+    replay:-*) COMPREPLY=($(compgen -W "--cache --save --help" -- "$word")) ;;
     *:-*) COMPREPLY=($(compgen -W "--help" -- "$word")) ;;
     *) COMPREPLY=($(compgen -f -- "$word")) ;;
     esac

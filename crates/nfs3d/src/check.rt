@@ -7,19 +7,21 @@ use crate::printing::Printer;
 use nfs_inodes::tree::Tree;
 use nfs_inodes::volumes::Totals;
 use nfs_load::description::load;
+use nfs_load::loaded::Loaded;
 use nfs_xdr::device::ByteOut;
 use std::alloc::Global;
 
-/// Prints `ok volumes=V files=F bytes=B`: how many volumes a description has, and what they have
-/// together: files with their roots, and bytes of regular files.
+/// What a description holds. Prints `ok volumes=V files=F bytes=B`: how many volumes it has, and what they
+/// have together: files with their roots, and bytes of regular files.
 ///
 /// `Description` for its first faulty line, `Write` where the output fails, `Memory` where there is
 /// no memory.
-pub fn check<W: ByteOut>(alloc: Global, tree: &[u8], out: &mut W) -> Result<(), ReplayFault>
+pub fn check<W: ByteOut>(alloc: Global, tree: &[u8], out: &mut W) -> Result<Loaded, ReplayFault>
     ensures { IfErr result IsOfCheck }
 {
     let loaded = load(alloc, tree)?;
-    Ok(print_totals(alloc, &loaded.tree, out)?)
+    print_totals(alloc, &loaded.tree, out)?;
+    Ok(loaded)
 }
 
 fn print_totals<W: ByteOut>(alloc: Global, tree: &Tree, out: &mut W) -> Result<(), RunFault> {

@@ -2,11 +2,15 @@
 ghost use Rattle.std.specs.Prelude.{◌≤◌};
 
 use crate::check::check;
+use crate::describing::{describe_command, describe_directory};
+use crate::diagnostic::Diagnostic;
 use crate::exposure::warn_of_open_volumes;
 use crate::fault::ReplayFault;
 use crate::replay::replay;
+use crate::saving::Saving;
 use crate::serve::{Serving, call_self, serve};
-use crate::text_file;
+use crate::warnings::warn;
+use crate::{exports, text_file, why};
 use clap::error::ErrorKind;
 use clap::{Arg, ArgAction, ArgMatches, Command, value_parser};
 use log::Log;
@@ -22,13 +26,17 @@ use std::process::ExitCode;
 use std::rt::Files;
 use std::time::Clock;
 
+// What `--version` prints behind the program's name.
+const VERSION: &str = "1.0.0";
+
 // How much output is written at once.
 const RUN_BYTES: usize = 65_536;
 
 /// Does what the words ask for.
-pub(crate) fn run<R>(rt: &R, alloc: Global, words: &[String]) -> Result<ExitCode, ReplayFault>
+pub(crate) fn run<R>(rt: &R, alloc: Global, words: &[String]) -> Result<ExitCode, Diagnostic>
 where
     R: Files
+        + Input
         + Print
         + Eprint
         + AllocGlobal
@@ -39,11 +47,11 @@ where
     let matches = match command(alloc)?.try_get_matches_from(words) {
         Ok(matches) => matches,
         Err(error) if error.kind() == ErrorKind::OutOfMemory => {
-            return Err(ReplayFault::Memory(AllocError));
+            return Err(AllocError.into());
         }
         Err(error) => {
             if error.print(rt).is_err() {
-                return Err(ReplayFault::Write);
+                return Err(ReplayFault::Write.into());
             }
             return Ok(if error.exit_code() == 0 {
                 ExitCode::SUCCESS
@@ -53,8 +61,11 @@ where
         }
     };
     match matches.subcommand() {
-        Some(("check", inner)) => check_file(rt, alloc, inner)?,
+        Some(("check", inner)) => return check_file(rt, alloc, inner),
+        Some(("why", inner)) => return why::why(rt, alloc, inner),
+        Some(("exports", inner)) => exports::exports(rt, alloc, inner)?,
         Some(("replay", inner)) => replay_files(rt, alloc, inner)?,
+        Some(("describe", inner)) => return Ok(describe_directory(rt, alloc, inner)?),
         Some(("serve", inner)) => return serve_tree(rt, alloc, inner),
         Some(("self", inner)) => {
             let mut server = server_of(rt, alloc, inner)?;
@@ -65,44 +76,63 @@ where
     Ok(ExitCode::SUCCESS)
 }
 
-// `nfs3d check TREE`.
-fn check_file<R: Files + Print + AllocGlobal>(
+// `nfs3d check TREE [--strict]`.
+fn check_file<R: Files + Input + Print + Eprint + AllocGlobal>(
     rt: &R,
     alloc: Global,
     words: &ArgMatches<'_>,
-) -> Result<(), ReplayFault> {
-    let tree = read_file(rt, alloc, words, "tree")?;
+) -> Result<ExitCode, Diagnostic> {
+    let name = words.get_str("tree").unwrap_or("");
+    let tree = text_file::read(rt, alloc, name)?;
     let mut out = Device::new(io::writer(rt));
-    check(alloc, tree.as_slice(), &mut out)
+    let loaded = match check(alloc, tree.as_slice(), &mut out) {
+        Ok(loaded) => loaded,
+        Err(fault) => return Err(Diagnostic::of_description(alloc, fault, name, tree.as_slice())),
+    };
+    let warnings = warn(rt, alloc, name, tree.as_slice(), &loaded)?;
+    Ok(if warnings > 0 && words.get_flag("strict") {
+        ExitCode::from(1)
+    } else {
+        ExitCode::SUCCESS
+    })
 }
 
-// `nfs3d replay TREE SCRIPT [--cache C]`.
-fn replay_files<R: Files + Print + AllocGlobal>(
+// `nfs3d replay TREE SCRIPT [--cache C] [--save FILE]`.
+fn replay_files<R: Files + Input + Print + AllocGlobal>(
     rt: &R,
     alloc: Global,
     words: &ArgMatches<'_>,
-) -> Result<(), ReplayFault> {
+) -> Result<(), Diagnostic> {
     let cache = places(words);
     let loaded = load_tree(rt, alloc, words)?;
-    let script = read_file(rt, alloc, words, "script")?;
+    let saving = Saving::of(alloc, words.get_str("save"), &loaded.table)?;
+    let name = words.get_str("script").unwrap_or("");
+    let script = text_file::read(rt, alloc, name)?;
     let Ok(runs) = BufWriter::with_capacity(alloc, RUN_BYTES, io::writer(rt)) else {
-        return Err(ReplayFault::Memory(AllocError));
+        return Err(AllocError.into());
     };
     let mut out = Device::new(runs);
     let done = replay(alloc, loaded, script.as_slice(), cache, &mut out);
-    match out.into_inner().flush() {
-        Ok(()) => done,
-        Err(_) => Err(ReplayFault::Write),
+    if out.into_inner().flush().is_err() {
+        return Err(ReplayFault::Write.into());
+    }
+    let sessions = match done {
+        Ok(sessions) => sessions,
+        Err(fault) => return Err(Diagnostic::of_script(alloc, fault, name, script.as_slice())),
+    };
+    match saving {
+        Some(saving) => Ok(saving.save(rt, alloc, sessions.server().tree())?),
+        None => Ok(()),
     }
 }
 
 // `nfs3d serve TREE [--listen ADDRESS] [--port P] [--connections N] [--clients M] [--idle SECONDS]
 // [--cache C] [--audit FILE] [--verbose]`.
-fn serve_tree<R: Files + Print + Eprint + AllocGlobal + Net + Clock>(
+fn serve_tree<R: Files + Input + Print + Eprint + AllocGlobal + Net + Clock>(
     rt: &R,
     alloc: Global,
     words: &ArgMatches<'_>,
-) -> Result<ExitCode, ReplayFault> {
+) -> Result<ExitCode, Diagnostic> {
     let listen = words.get_str("listen").unwrap_or("127.0.0.1");
     let Ok(ip) = listen.parse::<IpAddr>() else {
         let _ = eprintln!(rt;
@@ -128,23 +158,27 @@ fn serve_tree<R: Files + Print + Eprint + AllocGlobal + Net + Clock>(
 }
 
 // A server of the description that a word names.
-fn server_of<R: Files + AllocGlobal>(
+fn server_of<R: Files + Input + AllocGlobal>(
     rt: &R,
     alloc: Global,
     words: &ArgMatches<'_>,
-) -> Result<Server, ReplayFault> {
+) -> Result<Server, Diagnostic> {
     let loaded = load_tree(rt, alloc, words)?;
     Ok(Server::new(alloc, loaded, places(words))?)
 }
 
 // The description that a word names. Its text is let go then.
-fn load_tree<R: Files + AllocGlobal>(
+fn load_tree<R: Files + Input + AllocGlobal>(
     rt: &R,
     alloc: Global,
     words: &ArgMatches<'_>,
-) -> Result<Loaded, ReplayFault> {
-    let tree = read_file(rt, alloc, words, "tree")?;
-    Ok(load(alloc, tree.as_slice())?)
+) -> Result<Loaded, Diagnostic> {
+    let name = words.get_str("tree").unwrap_or("");
+    let tree = text_file::read(rt, alloc, name)?;
+    match load(alloc, tree.as_slice()) {
+        Ok(loaded) => Ok(loaded),
+        Err(error) => Err(Diagnostic::of_description(alloc, error.into(), name, tree.as_slice())),
+    }
 }
 
 // How many replies are kept.
@@ -158,34 +192,10 @@ fn places(words: &ArgMatches<'_>) -> usize
         .clamp(1, 1024)
 }
 
-// The file that a word names.
-fn read_file<R: Files>(
-    rt: &R,
-    alloc: Global,
-    words: &ArgMatches<'_>,
-    word: &str,
-) -> Result<Vec<u8>, ReplayFault> {
-    text_file::read(rt, alloc, words.get_str(word).unwrap_or(""))
-}
-
 fn command<'a>(alloc: Global) -> Result<Command<'a>, AllocError> {
-    let script = Arg::new(alloc, "script")
-        .value_name("SCRIPT")
-        .required(true)
-        .help("The script to run (its lines are told in docs/PROTOCOL.md)");
-    let check = Command::new(alloc, "check")
-        .about("Reads a description, and says how many volumes, files and bytes it has")
-        .arg(tree(alloc))?;
-    let replay = Command::new(alloc, "replay")
-        .about("Runs a script of calls over a description, and prints the replies")
-        .arg(tree(alloc))?
-        .arg(script)?
-        .arg(cache(alloc))?;
-    let called = Command::new(alloc, "self")
-        .about("Serves one call over a connection of its own, and prints the reply")
-        .arg(tree(alloc))?;
-    Command::new(alloc, "nfs3d")
+    let command = Command::new(alloc, "nfs3d")
         .bin_name("nfs3d")?
+        .version(VERSION)
         .about(
             "An NFS version 3 server with its MOUNT service, in memory, with access rules proved",
         )
@@ -193,11 +203,60 @@ fn command<'a>(alloc: Global) -> Result<Command<'a>, AllocError> {
             "A first try, beside the folder examples: nfs3d replay examples/e.tree examples/read.script",
         )
         .subcommand_required(true)
-        .arg_required_else_help(true)
-        .subcommand(check)?
-        .subcommand(replay)?
+        .arg_required_else_help(true);
+    let command = with_questions(alloc, command)?;
+    with_runs(alloc, command)
+}
+
+// With the commands that say something of a description.
+fn with_questions<'a>(alloc: Global, command: Command<'a>) -> Result<Command<'a>, AllocError> {
+    command
+        .subcommand(check_command(alloc)?)?
+        .subcommand(why::command(alloc)?)?
+        .subcommand(exports::command(alloc)?)
+}
+
+// With those that serve one.
+fn with_runs<'a>(alloc: Global, command: Command<'a>) -> Result<Command<'a>, AllocError> {
+    command
+        .subcommand(replay_command(alloc)?)?
         .subcommand(serve_command(alloc)?)?
-        .subcommand(called)
+        .subcommand(describe_command(alloc)?)?
+        .subcommand(self_command(alloc)?)
+}
+
+fn replay_command<'a>(alloc: Global) -> Result<Command<'a>, AllocError> {
+    let script = Arg::new(alloc, "script")
+        .value_name("SCRIPT")
+        .required(true)
+        .help("The script to run (its lines are told in docs/PROTOCOL.md); - is standard input");
+    let save = Arg::new(alloc, "save")
+        .long("save")
+        .value_name("FILE")
+        .help("Writes the tree as it is at the end, as a description");
+    Command::new(alloc, "replay")
+        .about("Runs a script of calls over a description, and prints the replies")
+        .arg(tree(alloc))?
+        .arg(script)?
+        .arg(cache(alloc))?
+        .arg(save)
+}
+
+fn self_command<'a>(alloc: Global) -> Result<Command<'a>, AllocError> {
+    Command::new(alloc, "self")
+        .about("Serves one call over a connection of its own, and prints the reply")
+        .arg(tree(alloc))
+}
+
+fn check_command<'a>(alloc: Global) -> Result<Command<'a>, AllocError> {
+    let strict = Arg::new(alloc, "strict")
+        .long("strict")
+        .action(ArgAction::SetTrue)
+        .help("Ends with the status 1 where there is a warning");
+    Command::new(alloc, "check")
+        .about("Reads a description, and says how many volumes, files and bytes it has")
+        .arg(tree(alloc))?
+        .arg(strict)
 }
 
 fn serve_command<'a>(alloc: Global) -> Result<Command<'a>, AllocError> {
@@ -262,5 +321,7 @@ fn tree<'a>(alloc: Global) -> Arg<'a> {
     Arg::new(alloc, "tree")
         .value_name("TREE")
         .required(true)
-        .help("The description: a text of volumes, files and exports (docs/DESCRIPTION.md)")
+        .help(
+            "The description: a text of volumes, files and exports (docs/DESCRIPTION.md); - is standard input",
+        )
 }

@@ -1,8 +1,7 @@
 //! Volumes that are open to everybody.
 use log::sink::Console;
 use log::{Level, Logged, warn};
-use nfs_exports::options::Squash;
-use nfs_exports::table::Export;
+use nfs_advice::warnings::is_open;
 use nfs_load::loaded::Loaded;
 use std::net::IpAddr;
 
@@ -19,14 +18,4 @@ pub(crate) fn warn_of_open_volumes<R: Eprint>(rt: &R, address: IpAddr, loaded: &
             warn!(&logged; "volume {number} is exported to * with no_root_squash, and {address} is reached from other machines: anybody there is root in it");
         }
     }
-}
-
-// Whether a volume is exported to every address with `no_root_squash`.
-fn is_open(exports: &[Export]) -> bool {
-    for export in exports {
-        if export.pattern.bits == 0 && export.options.squash == Squash::No {
-            return true;
-        }
-    }
-    false
 }

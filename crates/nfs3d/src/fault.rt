@@ -2,6 +2,7 @@
 ghost use Rattle.std.specs.Prelude.{◌≡◌};
 ghost use Rattle.nfs3d.specs.Status.{status_of};
 
+use nfs_describe::fault::DescribeFault;
 use nfs_load::cause::Cause;
 use nfs_load::listing::WriteFault;
 use nfs_load::load_error::LoadError;
@@ -34,14 +35,22 @@ pub enum ReplayFault {
     #[error("error: an argument is no text")]
     NoText,
     /// A file can't be read.
-    #[error("nfs3d: cannot read {0}")]
-    CannotRead(String),
+    #[error("nfs3d: cannot read {name}: {error}")]
+    CannotRead {
+        /// Its name.
+        name: String,
+        /// What the system says.
+        error: io::Error,
+    },
     /// A file is longer than any that is read.
     #[error("nfs3d: {0} is longer than 1 GiB")]
     TooLong(String),
     /// A file can't be written.
     #[error("nfs3d: cannot write {0}")]
     CannotWrite(String),
+    /// The tree has what a description has no words for.
+    #[error("nfs3d: {0}")]
+    Undescribed(DescribeFault),
     /// The network fails.
     #[error("nfs3d: network fault: {address}: {error}")]
     Network {
@@ -68,9 +77,10 @@ impl ReplayFault {
             ReplayFault::Description { .. }
             | ReplayFault::BadLine(_)
             | ReplayFault::BadHex(_)
-            | ReplayFault::NoHandle(_) => 1,
+            | ReplayFault::NoHandle(_)
+            | ReplayFault::Undescribed(_) => 1,
             ReplayFault::NoText => 2,
-            ReplayFault::CannotRead(_)
+            ReplayFault::CannotRead { .. }
             | ReplayFault::TooLong(_)
             | ReplayFault::CannotWrite(_)
             | ReplayFault::Network { .. }

@@ -4,14 +4,20 @@
 mod captured;
 mod check;
 mod commands;
+mod describing;
+mod diagnostic;
+mod exports;
 mod exposure;
 mod fault;
 mod hexadecimal;
 mod printing;
 mod replay;
+mod saving;
 mod script;
 mod serve;
 mod text_file;
+mod warnings;
+mod why;
 
 use crate::fault::ReplayFault;
 use std::alloc::AllocError;
@@ -22,13 +28,13 @@ use std::{env, io};
 fn main(rt: HostRuntime) -> ExitCode {
     let done = match arguments(&rt) {
         Ok(words) => commands::run(&rt, rt.alloc(), words.as_slice()),
-        Err(fault) => Err(fault),
+        Err(fault) => Err(fault.into()),
     };
     match done {
         Ok(code) => code,
-        Err(fault) => {
-            let _ = eprintln!(rt; "{fault}");
-            ExitCode::from(fault.status())
+        Err(diagnostic) => {
+            let _ = eprintln!(rt; "{diagnostic}");
+            ExitCode::from(diagnostic.fault.status())
         }
     }
 }

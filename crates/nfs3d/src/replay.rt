@@ -23,7 +23,7 @@ use std::alloc::{AllocError, AllocFailed, Global};
 use std::mem;
 
 /// Runs the script's lines in order against a server of this description, and prints what each
-/// brings.
+/// brings. Answers the connections, with the server as it then is.
 ///
 /// What stands before a faulty line is run and printed. `BadLine` for a line that is none, else
 /// for its first faulty word `BadHex` where that says no bytes, and `NoHandle` where it names no
@@ -35,13 +35,15 @@ pub fn replay<W: ByteOut>(
     script: &[u8],
     cache: usize,
     out: &mut W,
-) -> Result<(), ReplayFault>
+) -> Result<Sessions, ReplayFault>
     requires some { 1 ≤ cache }
     requires few { cache ≤ 1024 }
     ensures { IfErr result IsOfReplay }
 {
     let mut player = Player::new(alloc, loaded, cache)?;
-    player.play(script, out)
+    player.play(script, out)?;
+    let Player { sessions, .. } = player;
+    Ok(sessions)
 }
 
 // What is wrong with a line, or the fault of what it asks for.

@@ -8,6 +8,7 @@ mod calls;
 mod changes;
 mod described;
 mod framing;
+mod kept;
 mod pages;
 mod records;
 mod tree;
@@ -39,7 +40,8 @@ fn fixed<R: Clock + Print + AllocGlobal>(rt: &R) -> io::Result<()> {
     answers::each(rt, false)?;
     tree::fixed(rt)?;
     pages::fixed(rt)?;
-    changes::fixed(rt)
+    changes::fixed(rt)?;
+    kept::fixed(rt)
 }
 
 // The measure of a name.
@@ -50,12 +52,17 @@ fn measure<R: Clock + Print + AllocGlobal>(rt: &R, name: &str) -> io::Result<()>
         "answers" => answers::each(rt, true),
         "tree-1000" => tree::measure(rt, 1),
         "tree-100000" => tree::measure(rt, 100),
+        "tree-1000000" => tree::measure(rt, 1_000),
         "changes-1000" => changes::measure(rt, 1),
         "changes-100000" => changes::measure(rt, 100),
         "pages" => pages::measure(rt),
         "pages-100" => pages::measure_whole(rt, 100),
         "pages-10000" => pages::measure_whole(rt, 10_000),
         "write" => tree::measure_write(rt),
+        "kept-136" => kept::measure(rt, 136),
+        "kept-4196" => kept::measure(rt, 4_196),
+        "kept-65636" => kept::measure(rt, 65_636),
+        "kept-131172" => kept::measure(rt, 131_172),
         "hold-0" => tree::hold(rt, 0),
         "hold-100000" => tree::hold(rt, 100),
         call if calls::MEASURES.contains(&call) => calls::measure(rt, call),

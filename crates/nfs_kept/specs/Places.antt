@@ -33,10 +33,10 @@ without key (p ∷ ps) = if same key p.key then ps else p ∷ without key ps
 abbrev pub found_first : Key → List Place → List Place
 found_first key ps = option_map_or (λ reply. place_for key reply ∷ without key ps) (kept_reply key ps) ps
 
--- with another reply in the place of a key
-abbrev pub with_reply : Key → List ℕ → List Place → List Place
-with_reply key reply [] = []
-with_reply key reply (p ∷ ps) = if same key p.key then place_for key reply ∷ ps else p ∷ with_reply key reply ps
+-- with another reply in the first place
+abbrev pub with_first_reply : List ℕ → List Place → List Place
+with_first_reply reply [] = []
+with_first_reply reply (p ∷ ps) = place_for p.key reply ∷ ps
 
 -- the places, how many there may be, and the key of the last look-up
 pub record Replies : Type 0 where

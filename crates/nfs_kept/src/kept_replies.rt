@@ -1,12 +1,15 @@
 //! The kept replies, the most recently used first.
 ghost use Rattle.std.specs.Prelude.{◌≡◌, ℕ, List, false, ◌<◌, ◌≤◌, [], ◌∷◌, None, Some, length, drop, is_some, IfOk, IfSome, OnOk, OnErr};
-ghost use Rattle.std.specs.Prelude.{slice_get, option_map, option_copied};
-ghost use Rattle.nfs_kept.specs.Places.{Place, place_for, kept_reply, without, with_reply, with_first, IsPartOf};
+ghost use Rattle.std.specs.Prelude.{◌≢◌, ◌-◌, IsSome, slice_get, take, option_map, option_copied};
+ghost use Rattle.nfs_kept.specs.Places.{IsPartOf, place_for, kept_reply, without, with_first, with_first_reply};
+ghost use Rattle.nfs_kept.specs.Shown.{IsKept, KeepsRoom, places_of, shown, shown_reply};
+ghost use Rattle.slab.specs.Slab.{get};
 
 use crate::key::Key;
 use arrayvec::ArrayVec;
 use lru::LruCache;
 use nfs_exports::addr::Addr;
+use slab::Slab;
 use std::alloc::{AllocError, Global};
 use std::marker::Model;
 use std::num::NonZeroUsize;
@@ -17,24 +20,28 @@ pub const MAX_KEPT_BYTES: usize = 512;
 /// Replies, each kept for the address and the record that it answered. Contracts see their places,
 /// the most recently used first, how many there may be, and the key of the last look-up.
 ///
-/// A place costs the bytes of its record and some 700 more; a server bounds the records of its
-/// streams.
+/// A place costs the bytes of its record, up to twice as many but no more than the longest record has,
+/// and some 700 more; a server bounds the records of its streams.
 #[derive(Drop)]
 pub struct KeptReplies {
-    cache: LruCache<Key, ArrayVec<u8, 512>>,
+    // The slot of each key's reply. Replies stay where they are when keys come, go or move to the front.
+    cache: LruCache<Key, usize>,
+    replies: Slab<ArrayVec<u8, 512>>,
     // The key of the last look-up, with room for each that is kept, so that a look-up takes no memory.
     key: Key,
+    // The list of the key that went last, for the next look-up's key.
+    spare: Vec<u8>,
 }
 
 impl Model for KeptReplies {
     ghost use Rattle.nfs_kept.specs.Places.{Replies};
-    ghost use Rattle.nfs_kept.specs.Shown.{places_of, shown, HasRoom};
+    ghost use Rattle.nfs_kept.specs.Shown.{places_of, shown, HasRoom, IsKept};
 
     ghost Value = { Replies };
 
-    ghost view = { λ k. record { places = places_of k.cache.entries; most = k.cache.cap; key = shown k.key } };
+    ghost view = { λ k. record { places = places_of k.replies k.cache.entries; most = k.cache.cap; key = shown k.key } };
 
-    ghost invariant = { λ k. HasRoom k.key k.cache.entries };
+    ghost invariant = { λ k. HasRoom k.key k.cache.entries × IsKept k.replies k.cache.entries };
 }
 
 impl KeptReplies {
@@ -47,10 +54,12 @@ impl KeptReplies {
         let most = NonZeroUsize::new(most).unwrap();
         Ok(KeptReplies {
             cache: LruCache::new(alloc, most)?,
+            replies: Slab::new(alloc),
             key: Key {
                 addr: Addr(0),
                 bytes: Vec::new(alloc),
             },
+            spare: Vec::new(alloc),
         })
     }
 
@@ -78,7 +87,7 @@ impl KeptReplies {
         ensures short { IfSome result (λ reply. length reply.now ≤ MAX_KEPT_BYTES) }
     {
         match self.cache.peek_mru() {
-            Some((_, reply)) => Some(reply.as_slice()),
+            Some((_, slot)) => Some(reply_in(&self.replies, *slot)),
             None => None,
         }
     }
@@ -90,32 +99,33 @@ impl KeptReplies {
         requires none { kept_reply (addr, bytes.now) self.old.places ≡ None }
         requires sought { IsPartOf (addr, bytes.now) self.old.key }
         ensures ok { OnOk result (self.new.places ≡ with_first (place_for (addr, bytes.now) []) self.old) }
-        ensures key { OnOk result (self.new.key ≡ (addr, bytes.now)) }
         ensures err { OnErr result (self.new.places ≡ self.old.places) }
         ensures most { self.new.most ≡ self.old.most }
     {
         self.key.complete(addr, bytes)?;
-        let alloc = *self.cache.allocator();
-        let key = Key {
-            addr,
-            bytes: bytes.to_vec(alloc)?,
-        };
-        self.cache.put(key, ArrayVec::new())?;
-        Ok(())
+        let key = self.key.take(&mut self.spare, *self.cache.allocator())?;
+        if self.cache.len() < self.cache.cap().get() {
+            return put_one_more(&mut self.cache, &mut self.replies, key);
+        }
+        match put_for_last(&mut self.cache, &mut self.replies, key) {
+            Ok(went) => {
+                self.spare = went;
+                Ok(())
+            }
+            Err(error) => Err(error),
+        }
     }
 
-    /// Keeps the reply in the place that was taken last. It takes no memory.
+    /// Keeps the reply in the place at the front. It takes no memory.
     pub fn keep(&mut self, reply: &[u8])
         requires { length reply.now ≤ MAX_KEPT_BYTES }
-        ensures places { self.new.places ≡ with_reply self.old.key reply.now self.old.places }
-        ensures first { (was : List ℕ) (rest : List Place) → self.old.places ≡ place_for self.old.key was ∷ rest
-            → self.new.places ≡ place_for self.old.key reply.now ∷ rest }
+        ensures places { self.new.places ≡ with_first_reply reply.now self.old.places }
         ensures most { self.new.most ≡ self.old.most }
     {
-        match self.cache.peek_mut(&self.key) {
-            Some(kept) => write(kept, reply),
-            None => {}
-        }
+        let Some((_, slot)) = self.cache.peek_mru() else {
+            return;
+        };
+        write(&mut self.replies, *slot, reply);
     }
 
     /// Gives the place at the front back. It takes no memory.
@@ -123,15 +133,101 @@ impl KeptReplies {
         ensures places { self.new.places ≡ drop 1 self.old.places }
         ensures most { self.new.most ≡ self.old.most }
     {
-        let _place = self.cache.pop_mru();
+        let Some((_key, slot)) = self.cache.pop_mru() else {
+            return;
+        };
+        self.replies.try_remove(slot);
     }
 }
 
-// Makes it this reply.
-fn write(kept: &mut ArrayVec<u8, 512>, reply: &[u8])
-    requires { length reply.now ≤ MAX_KEPT_BYTES }
-    ensures { kept.new.items ≡ reply.now }
+// A key more, with no reply yet, where there is room for one.
+fn put_one_more(
+    cache: &mut LruCache<Key, usize>,
+    replies: &mut Slab<ArrayVec<u8, 512>>,
+    key: Key,
+) -> Result<(), AllocError>
+    requires room { length cache.old.entries < cache.old.cap }
+    requires kept { IsKept replies.old cache.old.entries }
+    requires none { kept_reply (shown key) (places_of replies.old cache.old.entries) ≡ None }
+    ensures kept { IsKept replies.new cache.new.entries }
+    ensures ok { OnOk result (places_of replies.new cache.new.entries
+        ≡ place_for (shown key) [] ∷ places_of replies.old cache.old.entries) }
+    ensures rooms { KeepsRoom key cache.old.entries cache.new.entries }
+    ensures err { OnErr result (places_of replies.new cache.new.entries ≡ places_of replies.old cache.old.entries) }
+    ensures most { cache.new.cap ≡ cache.old.cap }
 {
-    kept.clear();
-    kept.try_extend_from_slice(reply).unwrap();
+    if replies.reserve(1).is_err() {
+        return Err(AllocError);
+    }
+    match cache.push(key, replies.vacant_key()) {
+        Ok(_) => {
+            replies.insert_reserved(ArrayVec::new());
+            Ok(())
+        }
+        Err(_) => Err(AllocError),
+    }
+}
+
+// A key in the place of the last, with no reply yet. Answers the list of the key that went.
+fn put_for_last(
+    cache: &mut LruCache<Key, usize>,
+    replies: &mut Slab<ArrayVec<u8, 512>>,
+    key: Key,
+) -> Result<Vec<u8>, AllocError>
+    requires full { length cache.old.entries ≡ cache.old.cap }
+    requires some { 0 < cache.old.cap }
+    requires kept { IsKept replies.old cache.old.entries }
+    requires none { kept_reply (shown key) (places_of replies.old cache.old.entries) ≡ None }
+    ensures kept { IsKept replies.new cache.new.entries }
+    ensures ok { OnOk result (places_of replies.new cache.new.entries
+        ≡ place_for (shown key) [] ∷ take (cache.old.cap - 1) (places_of replies.old cache.old.entries)) }
+    ensures rooms { KeepsRoom key cache.old.entries cache.new.entries }
+    ensures err { OnErr result (places_of replies.new cache.new.entries ≡ places_of replies.old cache.old.entries) }
+    ensures most { cache.new.cap ≡ cache.old.cap }
+{
+    let Some((_, slot)) = cache.peek_lru() else {
+        unreachable!()
+    };
+    let slot = *slot;
+    let alloc = *cache.allocator();
+    match cache.push(key, slot) {
+        Ok(went) => {
+            write(replies, slot, &[]);
+            Ok(list_of(alloc, went))
+        }
+        Err(_) => Err(AllocError),
+    }
+}
+
+// The list of a key that went.
+fn list_of(alloc: Global, went: Option<(Key, usize)>) -> Vec<u8> {
+    match went {
+        Some((key, _)) => key.bytes,
+        None => Vec::new(alloc),
+    }
+}
+
+// The reply in a slot.
+fn reply_in(replies: &Slab<ArrayVec<u8, 512>>, slot: usize) -> &[u8]
+    ensures value { result.now ≡ shown_reply replies.now slot }
+    ensures short { length result.now ≤ MAX_KEPT_BYTES }
+{
+    match replies.get(slot) {
+        Some(reply) => reply.as_slice(),
+        None => &[],
+    }
+}
+
+// Makes it the reply in a slot that has one.
+fn write(replies: &mut Slab<ArrayVec<u8, 512>>, slot: usize, reply: &[u8])
+    requires short { length reply.now ≤ MAX_KEPT_BYTES }
+    requires some { IsSome (get replies.old slot) }
+    ensures written { shown_reply replies.new slot ≡ reply.now }
+    ensures others { (other : ℕ) → other ≢ slot → get replies.new other ≡ get replies.old other }
+    ensures some { IsSome (get replies.new slot) }
+{
+    if let Some(kept) = replies.get_mut(slot) {
+        kept.clear();
+        kept.try_extend_from_slice(reply).unwrap();
+    }
 }

@@ -15,7 +15,7 @@ use std::test::Fail;
 // A call of user 1 with the number 42, but for its procedure and its arguments.
 const HEAD: &[u8] = b"\0\0\0\x2a\0\0\0\0\0\0\0\x02\0\x01\x86\xa3\0\0\0\x03";
 
-const CREDENTIAL: &[u8] =
+pub(crate) const CREDENTIAL: &[u8] =
     b"\0\0\0\x01\0\0\0\x14\0\0\0\0\0\0\0\0\0\0\0\x01\0\0\0\x01\0\0\0\0\0\0\0\0\0\0\0\0";
 
 // Its reply where there is no memory.
@@ -24,10 +24,11 @@ const SYSTEM_ERR: &[u8] = b"\0\0\0\x2a\0\0\0\x01\0\0\0\0\0\0\0\0\0\0\0\0\0\0\0\x
 // What stands between that and a status, of a call that is done.
 pub(crate) const SUCCESS: &[u8] = b"\0\0\0\x2a\0\0\0\x01\0\0\0\0\0\0\0\0\0\0\0\0\0\0\0\0\0\0\0\0";
 
-const DIRECTORY: &[u8] =
+pub(crate) const DIRECTORY: &[u8] =
     b"\0\0\0\x18NFS3\x01\x02\x03\x04\x05\x06\x07\x08\0\0\0\x01\0\0\0\0\0\0\0\x02";
 
-const FILE: &[u8] = b"\0\0\0\x18NFS3\x01\x02\x03\x04\x05\x06\x07\x08\0\0\0\x02\0\0\0\0\0\0\0\x03";
+pub(crate) const FILE: &[u8] =
+    b"\0\0\0\x18NFS3\x01\x02\x03\x04\x05\x06\x07\x08\0\0\0\x02\0\0\0\0\0\0\0\x03";
 
 const NEW_NAME: &[u8] = b"\0\0\0\x01y\0\0\0";
 
@@ -40,8 +41,8 @@ const MODE_OF_0700: &[u8] = b"\0\0\0\x01\0\0\x01\xc0\0\0\0\0\0\0\0\0\0\0\0\0\0\0
 
 // Procedures that may take memory, for the tree or for a place among the kept replies, each with its
 // arguments in parts: SETATTR of a mode and of a size, WRITE behind the end, CREATE, MKDIR, SYMLINK,
-// REMOVE, RENAME and LINK.
-const CALLS: [(u32, [&[u8]; 4]); 9] = [
+// REMOVE, RMDIR, RENAME and LINK.
+const CALLS: [(u32, [&[u8]; 4]); 10] = [
     (2, [FILE, MODE_OF_0700, b"\0\0\0\0", b""]),
     (2, [FILE, SIZE_OF_1000, b"\0\0\0\0", b""]),
     (
@@ -57,6 +58,7 @@ const CALLS: [(u32, [&[u8]; 4]); 9] = [
     (9, [DIRECTORY, NEW_NAME, NO_SETTINGS, b""]),
     (10, [DIRECTORY, NEW_NAME, NO_SETTINGS, b"\0\0\0\x02to\0\0"]),
     (12, [DIRECTORY, b"\0\0\0\x01l\0\0\0", b"", b""]),
+    (13, [DIRECTORY, b"\0\0\0\x01e\0\0\0", b"", b""]),
     (14, [DIRECTORY, b"\0\0\0\x01x\0\0\0", DIRECTORY, NEW_NAME]),
     (15, [FILE, DIRECTORY, NEW_NAME, b""]),
 ];

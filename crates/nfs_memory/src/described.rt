@@ -7,16 +7,17 @@ use nfs_load::loaded::Loaded;
 use std::alloc::{AllocError, Global};
 use std::test::Fail;
 
-// The directory 2, and in it the file 3 and the link 4; the file has one name more.
+// The directory 2, and in it the file 3, the link 4 and the directory 5; the file has one name more.
 const TEXT: &[u8] = b"server 0102030405060708\n\
     volume /a 20000000 12 0755 0 0\n\
     export 10.0.0.0/24 rw\n\
     dir /pub 0777 1 1\n\
     file /pub/x 0711 1 1 68656c6c6f\n\
     link /pub/l 1 1 x\n\
-    hard /pub/h /pub/x\n";
+    hard /pub/h /pub/x\n\
+    dir /pub/e 0777 1 1\n";
 
-/// A volume with a directory, a file and a link in it. Refused without memory.
+/// A volume with two directories, a file and a link in it. Refused without memory.
 pub(crate) fn loaded(alloc: Global) -> Result<Loaded, AllocError> {
     match load(alloc, TEXT) {
         Ok(loaded) => Ok(loaded),

@@ -12,6 +12,8 @@ mod makers;
 #[cfg(test)]
 mod mounts;
 #[cfg(test)]
+mod readers;
+#[cfg(test)]
 mod serving;
 #[cfg(test)]
 mod streams;

@@ -19,6 +19,9 @@ use std::str::SplitWhitespace;
 // What stands before the status: the reply's head is that of a call that is accepted and done.
 const DONE: [u8; 20] = [0, 0, 0, 1, 0, 0, 0, 0, 0, 0, 0, 0, 0, 0, 0, 0, 0, 0, 0, 0];
 
+// More bytes than the replies of a stream that breaks off.
+const MAX_BROKEN: u64 = 1_000;
+
 // How many bytes stand before those that a READ brings.
 const BEFORE_DATA: usize = 128;
 
@@ -57,6 +60,7 @@ impl<'a> Calls<'a> {
             "long" => self.long(words),
             "uniform" => self.uniform(words),
             "stream" => self.stream(words),
+            "broken" => self.broken(words),
             "sealed" => self.sealed(words),
             "clear" => self.clear(),
             "run" => self.run(words),
@@ -136,6 +140,33 @@ impl<'a> Calls<'a> {
         let addr = Addr(address(words)?);
         let bytes = bytes(self.alloc, self.server.tree(), words)?;
         stream::serve(self.alloc, &mut self.server, addr, bytes.as_slice())
+    }
+
+    // `broken ADDRESS BYTES`: at how many bytes, one after another and each on a new server, a stream of
+    // these bytes broke off whose replies could not be written, and the replies that the same stream then
+    // had, each of which began with what came out before.
+    fn broken(&mut self, words: &mut SplitWhitespace<'_>) -> Option<String> {
+        let addr = Addr(address(words)?);
+        let bytes = bytes(self.alloc, self.server.tree(), words)?;
+        for k in 1..MAX_BROKEN {
+            self.server = server(self.alloc, self.example, 128)?;
+            let first = stream::written(self.alloc, &mut self.server, addr, bytes.as_slice(), k);
+            let again = stream::written(
+                self.alloc,
+                &mut self.server,
+                addr,
+                bytes.as_slice(),
+                u64::MAX,
+            );
+            if !again.starts_with(first.as_slice()) {
+                return None;
+            }
+            if first.len() == again.len() {
+                let replies = digits(self.alloc, again.as_slice())?;
+                return then(debug_text(self.alloc, k - 1)?, replies.as_str());
+            }
+        }
+        None
     }
 
     // `sealed ADDRESS SECONDS BYTES`: the reply with its record mark.

@@ -6,6 +6,7 @@ use nfs_server::moments::Moments;
 use nfs_server::server::Server;
 use nfs_server::stream::serve_stream;
 use nfs_xdr::device::Device;
+use nfs_xdr::stutter::Stutter;
 use rows::answers::{debug_text, digits, then};
 use std::alloc::Global;
 
@@ -48,4 +49,28 @@ pub(crate) fn serve(
     );
     let written = digits(alloc, replies.into_inner().as_slice())?;
     then(debug_text(alloc, served)?, written.as_str())
+}
+
+/// What comes out of serving a stream of these bytes to a writer that takes a byte a call, and fails
+/// from its call `k` on.
+pub(crate) fn written(
+    alloc: Global,
+    server: &mut Server,
+    addr: Addr,
+    bytes: &[u8],
+    k: u64,
+) -> Vec<u8> {
+    let mut replies = Stutter::new(Device::new(Vec::new(alloc)), 1, k.max(1));
+    let mut audit = Device::new(Vec::new(alloc));
+    let _served = serve_stream(
+        alloc,
+        server,
+        addr,
+        &mut Device::new(bytes),
+        &mut replies,
+        &mut audit,
+        &mut Still,
+        READS,
+    );
+    replies.into_inner().into_inner()
 }

@@ -1,34 +1,21 @@
-use Rattle.std.proofs.Common.{ℕ, List, sym, ap, subst, ◌∙◌}
-use Rattle.nfs_kept.specs.Places.{Place, Replies, with_reply}
-use Rattle.nfs_kept.specs.Shown.{HasRoom, places_of, shown}
-use Rattle.std.specs.Option.{option_copied_mut}
-use Rattle.nfs_kept.proofs.Places.{with_reply_none, with_reply_first}
-use Rattle.nfs_kept.proofs.Rooms.{set_room}
-use Rattle.nfs_kept.proofs.Shows.{shows_none, shows_set}
+use Rattle.std.proofs.Common.{option_map, sym, ap, ◌∙◌}
+use Rattle.std.specs.Map.Iter.{deref_pair}
+use Rattle.nfs_kept.specs.Places.{Replies, with_first_reply}
+use Rattle.nfs_kept.proofs.Slots.{first_present, kept_at_first, places_at_first}
 use Rattle.nfs_kept.proofs.kept_replies.KeptReplies.keep.Goals as goal
-use Rattle.nfs_kept.proofs.kept_replies.KeptReplies.keep.Goals.{in-Some, in-None}
+
+pub write-requires-clause-some : goal.write-requires-clause-some
+write-requires-clause-some c = first_present c.self.inside.replies (c.in-Some.field-0-0.now, c.in-Some.slot.now) c.self.inside.cache.entries c.self.invariant.1.present (sym c.peek_mru.ensures ∙ ap (option_map deref_pair) c.in-Some.is)
 
 pub invariant_of-self : goal.invariant_of-self
-invariant_of-self c = let k = c.self.inside.key in let es = c.self.inside.cache.entries in
-    elim c.match-peek_mut.branch [
-      | in-Some w ↦ subst (λ inside. HasRoom inside.key inside.cache.entries) (sym w.self-inside-is) (set_room k k es w.write.new.kept c.self.invariant)
-      | in-None w ↦ subst (λ inside. HasRoom inside.key inside.cache.entries) (sym w.self-inside-is) c.self.invariant
-    ]
+invariant_of-self c = (
+  c.self.invariant.0,
+  kept_at_first c.self.inside.replies c.write.new.replies (c.in-Some.field-0-0.now, c.in-Some.slot.now) c.self.inside.cache.entries (sym c.peek_mru.ensures ∙ ap (option_map deref_pair) c.in-Some.is)
+      c.self.invariant.1 c.write.ensures.others c.write.ensures.some,
+)
 
 pub returns-clause-places : goal.returns-clause-places
-returns-clause-places c = let k = c.self.inside.key in let es = c.self.inside.cache.entries in
-    elim c.match-peek_mut.branch [
-      | in-Some w ↦
-          ap (λ inside. places_of inside.cache.entries) w.self-inside-is
-          ∙ sym (shows_set k w.write.new.kept es)
-          ∙ ap (λ (reply : List ℕ). with_reply (shown k) reply (places_of es)) w.write.ensures
-          ∙ ap (λ (r : Replies). with_reply r.key c.args.reply.now r.places) c.self.view_is
-      | in-None w ↦
-          ap (λ inside. places_of inside.cache.entries) w.self-inside-is
-          ∙ sym (with_reply_none (shown k) c.args.reply.now (places_of es) (shows_none k es (sym c.peek_mut.ensures.value ∙ ap option_copied_mut w.in-None.is)))
-          ∙ ap (λ (r : Replies). with_reply r.key c.args.reply.now r.places) c.self.view_is
-    ]
-
-pub returns-clause-first : goal.returns-clause-first
-returns-clause-first c = λ was rest e. let key = c.args.self.now.key in
-    returns-clause-places c ∙ ap (λ (ps : List Place). with_reply key c.args.reply.now ps) e ∙ with_reply_first key c.args.reply.now was rest
+returns-clause-places c =
+    places_at_first c.self.inside.replies c.write.new.replies (c.in-Some.field-0-0.now, c.in-Some.slot.now) c.self.inside.cache.entries c.args.reply.now (sym c.peek_mru.ensures ∙ ap (option_map deref_pair) c.in-Some.is)
+    c.self.invariant.1 c.write.ensures.others c.write.ensures.written
+    ∙ ap (λ (r : Replies). with_first_reply c.args.reply.now r.places) c.self.view_is

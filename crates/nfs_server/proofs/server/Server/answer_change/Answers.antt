@@ -1,5 +1,5 @@
 use Rattle.std.proofs.Common.{◌≡◌, ◌-◌, List, ◌∷◌, [], None, Some, take, drop, refl, ap, sym, subst, ◌∙◌, rules}
-use Rattle.nfs_kept.specs.Places.{Key, Place, kept_reply, place_for, with_first}
+use Rattle.nfs_kept.specs.Places.{Key, Place, kept_reply, place_for, with_first, with_first_reply}
 use Rattle.nfs_kept.proofs.Shows.{none_found}
 use Rattle.nfs_procs.specs.Procedures.{doing_of}
 use Rattle.nfs_rpc.specs.Calls.{call_of}
@@ -48,11 +48,9 @@ returns-else-wants_memory-clause-answers c =
     let answer = told (reply_in c.answer_call-line.new.out) c.answer_call-line.result in
     let none : kept_reply key old.kept ≡ None = none_found key old.kept (sym c.find.ensures.found ∙ c.if-find.false) in
     let taken : c.take_place.new.self.places ≡ with_first (place_for (c.args.event.addr, c.args.event.bytes.now) []) c.find.new.self = search rules in
-    let sought : c.take_place.new.self.key ≡ (c.args.event.addr, c.args.event.bytes.now) = search rules in
     let others = take (c.find.new.self.most - 1) c.find.new.self.places in
-    let front : c.take_place.new.self.places ≡ place_for c.take_place.new.self.key [] ∷ others = taken ∙ ap (λ (k : Key). place_for k [] ∷ others) (sym sought) in
     let kept : c.keep.new.self.places ≡ place_for key (reply_in c.answer_call-line.new.out) ∷ take (inside.kept.most - 1) inside.kept.places =
-    c.keep.ensures.first [] others front ∙ ap (λ (k : Key). place_for k c.written.result.now ∷ others) sought ∙ ap (λ r. place_for key r ∷ others) c.written.ensures
+    c.keep.ensures.places ∙ ap (with_first_reply c.written.result.now) taken ∙ ap (λ r. place_for key r ∷ others) c.written.ensures
     ∙ ap (λ n. place_for key (reply_in c.answer_call-line.new.out) ∷ take (n - 1) c.find.new.self.places) c.find.ensures.most ∙ ap (λ (ps : List Place). place_for key (reply_in c.answer_call-line.new.out) ∷ take (inside.kept.most - 1) ps) (c.find.ensures.none c.if-find.false) in
     subst (λ (h : Held). AnswersChange (scene_for h event c.args.cred.now c.args.args.now) (call_of c.args.head.now) h event answer new) c.self.view_is
     (reply_kept scene (call_of c.args.head.now) old event answer new none (c.answer_call-line.ensures.answers, refl) (reply_in c.answer_call-line.new.out) (sym c.wants_memory.ensures ∙ c.if-wants_memory.false) refl kept)

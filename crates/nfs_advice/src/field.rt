@@ -1,0 +1,93 @@
+//! The fields of a line.
+
+/// A field of a line.
+#[derive(Clone, Copy, PartialEq)]
+pub enum Field {
+    /// The server's key.
+    Key,
+    /// A volume's path.
+    VolumePath,
+    /// The bytes that a volume may have.
+    Bytes,
+    /// The files that a volume may have.
+    Files,
+    /// A mode.
+    Mode,
+    /// An owner.
+    Uid,
+    /// A group.
+    Gid,
+    /// To whom a volume is exported.
+    Pattern,
+    /// Under which options it is.
+    Options,
+    /// A path in the volume.
+    Path,
+    /// A path that is there.
+    Old,
+    /// What a file holds.
+    Content,
+    /// What a link holds.
+    Target,
+}
+
+impl Field {
+    /// Its name in the form of its line.
+    pub(crate) fn name(self) -> &'static str {
+        match self {
+            Field::Key => "KEY",
+            Field::VolumePath | Field::Path => "PATH",
+            Field::Bytes => "BYTES",
+            Field::Files => "FILES",
+            Field::Mode => "MODE",
+            Field::Uid => "UID",
+            Field::Gid => "GID",
+            Field::Pattern => "PATTERN",
+            Field::Options => "OPTIONS",
+            Field::Old => "OLD",
+            Field::Content => "CONTENT",
+            Field::Target => "TARGET",
+        }
+    }
+}
+
+const SERVER: [Field; 1] = [Field::Key];
+
+const VOLUME: [Field; 6] = [
+    Field::VolumePath,
+    Field::Bytes,
+    Field::Files,
+    Field::Mode,
+    Field::Uid,
+    Field::Gid,
+];
+
+const EXPORT: [Field; 2] = [Field::Pattern, Field::Options];
+
+const DIR: [Field; 4] = [Field::Path, Field::Mode, Field::Uid, Field::Gid];
+
+const FILE: [Field; 5] = [
+    Field::Path,
+    Field::Mode,
+    Field::Uid,
+    Field::Gid,
+    Field::Content,
+];
+
+const LINK: [Field; 4] = [Field::Path, Field::Uid, Field::Gid, Field::Target];
+
+const HARD: [Field; 2] = [Field::Path, Field::Old];
+
+/// The fields of the lines that begin with this word, in their order.
+pub(crate) fn fields_behind(keyword: &[u8]) -> &'static [Field] {
+    match keyword {
+        b"server" => &SERVER,
+        b"volume" => &VOLUME,
+        b"export" => &EXPORT,
+        b"dir" => &DIR,
+        b"file" => &FILE,
+        b"link" => &LINK,
+        b"hard" => &HARD,
+        _ => &[],
+    }
+}

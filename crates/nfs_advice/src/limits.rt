@@ -1,0 +1,152 @@
+//! Limits that are reached.
+ghost use Rattle.std.specs.Prelude.{◌≡◌};
+
+use crate::advice::{Advice, Reason, Remedy};
+use crate::earlier::{first_word, word_of};
+use crate::piece::Piece;
+use nfs_text::lines::Lines;
+use nfs_text::number::decimal;
+use std::fmt;
+
+/// Which limit is reached.
+#[derive(Clone, Copy)]
+pub enum LimitReason {
+    /// The volumes of a description.
+    Volumes,
+    /// The patterns of a description.
+    Patterns,
+    /// The files of the volume: so many.
+    Files(u64),
+    /// The bytes of the volume: so many, of which so many are left.
+    Bytes(u64, u64),
+    /// The names of a file.
+    Names,
+    /// The directories in a directory.
+    Directories,
+}
+
+impl fmt::Display for LimitReason {
+    fn fmt<W: fmt::Write>(&self, f: &mut fmt::Formatter<W>) -> fmt::Result {
+        match self {
+            LimitReason::Volumes => {
+                f.write_str("is a volume too many; a description has at most 64")
+            }
+            LimitReason::Patterns => f.write_str(
+                "is a pattern too many; a description has at most 256, of all volumes together",
+            ),
+            LimitReason::Files(limit) => write!(
+                f,
+                "is a file too many; the volume has at most {limit}, its root among them"
+            ),
+            LimitReason::Bytes(limit, left) => write!(
+                f,
+                "has too many bytes; of the volume's {limit} there are {left} left"
+            ),
+            LimitReason::Names => f.write_str("has 1,000 names already, and may have no more"),
+            LimitReason::Directories => f.write_str(
+                "is a directory too many; a directory has at most 998 others in it",
+            ),
+        }
+    }
+}
+
+/// What the last volume has above a line.
+#[derive(Clone, Copy)]
+struct Held {
+    // The number of its line.
+    line: u64,
+    // Its limits.
+    max_bytes: u64,
+    max_files: u64,
+    // What it has.
+    bytes: u64,
+    files: u64,
+}
+
+impl Held {
+    // What the last volume has above the line of this number.
+    fn above(text: &[u8], line: u64) -> Held {
+        let mut held = Held {
+            line: 0,
+            max_bytes: 0,
+            max_files: 0,
+            bytes: 0,
+            files: 0,
+        };
+        let mut number = 0u64;
+        for text in Lines::new(text) {
+            number = number.saturating_add(1);
+            if number >= line {
+                break;
+            }
+            held = held.with(text, number);
+        }
+        held
+    }
+
+    // The same with one line more.
+    fn with(self, line: &[u8], number: u64) -> Held {
+        match first_word(line) {
+            b"volume" => Held {
+                line: number,
+                max_bytes: number_of(word_of(line, 2)),
+                max_files: number_of(word_of(line, 3)),
+                bytes: 0,
+                files: 1,
+            },
+            b"file" => self.with_file(word_of(line, 5).len() as u64 / 2),
+            b"dir" | b"link" => self.with_file(0),
+            _ => self,
+        }
+    }
+
+    // The same with a file of so many bytes more.
+    fn with_file(self, bytes: u64) -> Held {
+        Held {
+            line: self.line,
+            max_bytes: self.max_bytes,
+            max_files: self.max_files,
+            bytes: self.bytes.saturating_add(bytes),
+            files: self.files.saturating_add(1),
+        }
+    }
+}
+
+fn number_of(word: &[u8]) -> u64 {
+    decimal(word, u64::MAX).unwrap_or(0)
+}
+
+/// The word of a line that goes beyond a limit, and which it is.
+pub(crate) fn full<'a>(text: &'a [u8], number: u64, line: Piece<'a>) -> Advice<'a>
+    ensures { result.piece.line.now ≡ line.entry.line.now }
+{
+    let word = line.word(1).unwrap_or(line);
+    match line.word(0).unwrap_or(line).bytes() {
+        b"volume" => Advice::new(word, Reason::Limit(LimitReason::Volumes)),
+        b"export" => Advice::new(word, Reason::Limit(LimitReason::Patterns)),
+        b"hard" => {
+            let old = line.word(2).unwrap_or(line);
+            Advice::new(old, Reason::Limit(LimitReason::Names))
+        }
+        keyword => {
+            let held = Held::above(text, number);
+            let reason = reason_of(&held, keyword == b"dir".as_slice());
+            let advice = Advice::new(word, Reason::Limit(reason));
+            match reason {
+                LimitReason::Directories => advice,
+                _ => advice.with(Remedy::Line(held.line)),
+            }
+        }
+    }
+}
+
+// The limit of a volume that a new file reaches.
+fn reason_of(held: &Held, is_directory: bool) -> LimitReason {
+    if held.files >= held.max_files {
+        LimitReason::Files(held.max_files)
+    } else if is_directory {
+        LimitReason::Directories
+    } else {
+        LimitReason::Bytes(held.max_bytes, held.max_bytes.saturating_sub(held.bytes))
+    }
+}

@@ -1,0 +1,177 @@
+//! Numbers that are none of their field.
+ghost use Rattle.std.specs.Prelude.{◌≤◌, length, ◌≡◌};
+
+use crate::advice::{Advice, Reason};
+use crate::field::{Field, fields_behind};
+use crate::piece::Piece;
+use nfs_load::fields::Fields;
+use nfs_load::limits::{MAX_FILES, MAX_MODE_DIGITS, MAX_VOLUME_BYTES};
+use nfs_text::words::Words;
+use std::fmt;
+
+/// Why a word is no number of its field.
+#[derive(Clone, Copy)]
+pub struct NumberReason {
+    /// The field.
+    pub field: Field,
+    /// What is wrong.
+    pub fault: NumberFault,
+}
+
+/// What is wrong with a number.
+#[derive(Clone, Copy)]
+pub enum NumberFault {
+    /// A mode has a digit above 7.
+    NotOctal,
+    /// A mode has more than four digits.
+    LongMode,
+    /// A mode is in letters.
+    SymbolicMode,
+    /// It begins with `0x`, `0o` or the like.
+    Prefix,
+    /// It has a sign.
+    Sign,
+    /// It has a unit behind its digits.
+    Unit,
+    /// A user or a group is told by its name.
+    Name,
+    /// It has another byte that is no digit.
+    NoDigit,
+    /// A volume has no file.
+    NoFile,
+    /// It is above the field's bound.
+    Large,
+}
+
+impl NumberFault {
+    fn text(self) -> &'static str {
+        match self {
+            NumberFault::NotOctal => "the digits of a mode are 0 to 7",
+            NumberFault::LongMode =>
+                "a mode has at most four octal digits, without the kind of file",
+            NumberFault::SymbolicMode => "write a mode in octal digits, as 0755",
+            NumberFault::Prefix => "write the digits alone",
+            NumberFault::Sign => "a number has no sign",
+            NumberFault::Unit => "write all digits, without a unit",
+            NumberFault::Name => "write the number, as id prints it, not the name",
+            NumberFault::NoDigit => "write decimal digits alone",
+            NumberFault::NoFile => "a volume has at least one file, its root",
+            NumberFault::Large => "it is too large",
+        }
+    }
+}
+
+impl fmt::Display for NumberReason {
+    fn fmt<W: fmt::Write>(&self, f: &mut fmt::Formatter<W>) -> fmt::Result {
+        f.write_str("can't be ")?;
+        f.write_str(self.field.name())?;
+        f.write_str("; ")?;
+        f.write_str(self.fault.text())?;
+        match (self.fault, self.field) {
+            (NumberFault::Large, Field::Bytes) => f.write_str(", above 1,099,511,627,776"),
+            (NumberFault::Large, Field::Files) => f.write_str(", above 1,000,000"),
+            (NumberFault::Large, _) => f.write_str(", above 4,294,967,295"),
+            _ => Ok(()),
+        }
+    }
+}
+
+/// The first number of a line that is none of its field.
+pub(crate) fn bad_number(line: Piece<'_>) -> Advice<'_>
+    ensures { result.piece.line.now ≡ line.entry.line.now }
+{
+    let fields = fields_behind(line.word(0).unwrap_or(line).bytes());
+    for place in 0..fields.len() {
+        let field = fields[place];
+        let word = line.word(place + 1).unwrap_or(line);
+        if is_refused(field, word.bytes()) {
+            let fault = fault_of(field, word.bytes());
+            return Advice::new(word, Reason::Number(NumberReason { field, fault }));
+        }
+    }
+    let reason = NumberReason {
+        field: Field::Mode,
+        fault: NumberFault::NoDigit,
+    };
+    Advice::new(line, Reason::Number(reason))
+}
+
+// Whether a word is refused as a number of a field.
+fn is_refused(field: Field, word: &[u8]) -> bool {
+    let mut fields = Fields::new(Words::new(word));
+    match field {
+        Field::Mode => fields.mode().is_err(),
+        Field::Uid | Field::Gid => fields.id().is_err(),
+        Field::Bytes => fields.number(0, MAX_VOLUME_BYTES).is_err(),
+        Field::Files => fields.number(1, MAX_FILES).is_err(),
+        _ => false,
+    }
+}
+
+fn fault_of(field: Field, word: &[u8]) -> NumberFault {
+    if has_prefix(word) {
+        return NumberFault::Prefix;
+    }
+    if word.starts_with(b"-") && field != Field::Mode || word.starts_with(b"+") {
+        return NumberFault::Sign;
+    }
+    let are_digits = count_digits(word) == word.len();
+    match field {
+        Field::Mode if !are_digits => NumberFault::SymbolicMode,
+        Field::Mode if word.len() > MAX_MODE_DIGITS => NumberFault::LongMode,
+        Field::Mode => NumberFault::NotOctal,
+        Field::Files if are_digits && is_zero(word) => NumberFault::NoFile,
+        _ if are_digits => NumberFault::Large,
+        _ => fault_of_letters(field, word),
+    }
+}
+
+// What is wrong with a number that has a byte that is no digit.
+fn fault_of_letters(field: Field, word: &[u8]) -> NumberFault {
+    let digits = count_digits(word);
+    let is_id = field == Field::Uid || field == Field::Gid;
+    if digits == 0 && is_id {
+        NumberFault::Name
+    } else if digits > 0 && are_letters(&word[digits..]) {
+        NumberFault::Unit
+    } else {
+        NumberFault::NoDigit
+    }
+}
+
+fn has_prefix(word: &[u8]) -> bool {
+    match word.strip_prefix(b"0") {
+        Some([letter, ..]) => letter.is_ascii_alphabetic(),
+        _ => false,
+    }
+}
+
+// How many digits a word begins with.
+fn count_digits(word: &[u8]) -> usize
+    ensures { result ≤ length word.now }
+{
+    for place in 0..word.len() {
+        if !word[place].is_ascii_digit() {
+            return place;
+        }
+    }
+    word.len()
+}
+
+fn are_letters(bytes: &[u8]) -> bool {
+    for byte in bytes {
+        if !byte.is_ascii_alphabetic() {
+            return false;
+        }
+    }
+    true
+}
+
+fn is_zero(digits: &[u8]) -> bool {
+    for digit in digits {
+        if *digit != b'0' {
+            return false;
+        }
+    }
+    true
+}

@@ -1,0 +1,202 @@
+//! Options that are none, or contradict one another.
+ghost use Rattle.std.specs.Prelude.{◌≡◌};
+
+use crate::advice::{Advice, Reason, Remedy};
+use crate::nearest::nearest;
+use crate::piece::Piece;
+use nfs_exports::options::{OptionsFault, parse_options};
+use nfs_text::pieces::{Pieces, cut};
+
+/// What is wrong with an option.
+#[derive(Clone, Copy)]
+pub enum OptionReason {
+    /// There is no word between two commas.
+    Empty,
+    /// It has a bracket.
+    Bracket,
+    /// It lacks its number.
+    ValueMissing,
+    /// It takes no value.
+    NoValue,
+    /// It is like an option.
+    Misspelled,
+    /// It is another word.
+    Unknown,
+    /// Its value is no number.
+    BadNumber,
+    /// It says otherwise than an earlier one.
+    Contradiction,
+    /// `secure`.
+    Secure,
+    /// `subtree_check`.
+    SubtreeCheck,
+    /// `no_wdelay`.
+    NoWriteDelay,
+    /// `nohide` and `crossmnt`.
+    NoHide,
+    /// `mountpoint` and `mp`.
+    MountPoint,
+    /// `fsid`.
+    FileSystemId,
+    /// Another `sec` than `sec=sys`.
+    Security,
+}
+
+impl OptionReason {
+    /// What is told.
+    pub(crate) fn text(self) -> &'static str {
+        match self {
+            OptionReason::Empty => "an option is missing beside this comma",
+            OptionReason::Bracket => "has a bracket; write options without",
+            OptionReason::ValueMissing => "lacks its number; write it behind =",
+            OptionReason::NoValue => "takes no value; leave out the = and what is behind it",
+            OptionReason::Misspelled => "is no option",
+            OptionReason::Unknown => "is no option; docs/DESCRIPTION.md has those that there are",
+            OptionReason::BadNumber => {
+                "has no number behind its =; write decimal digits, to 4294967295"
+            }
+            OptionReason::Contradiction => "contradicts",
+            OptionReason::Secure => {
+                "is not supported, since a client's port is not looked at; leave it out"
+            }
+            OptionReason::SubtreeCheck => {
+                "is not supported, since a volume is exported whole; leave it out"
+            }
+            OptionReason::NoWriteDelay => {
+                "is not supported, since nothing is written to a disk; leave it out"
+            }
+            OptionReason::NoHide => {
+                "is not supported, since no volume lies below another; leave it out"
+            }
+            OptionReason::MountPoint => {
+                "is not supported, since a volume is no mounted disk; leave it out"
+            }
+            OptionReason::FileSystemId => {
+                "is not supported, since handles have the server's key; leave it out"
+            }
+            OptionReason::Security => {
+                "is not supported; write sec=sys, or leave it out, which means the same"
+            }
+        }
+    }
+}
+
+// The options without a value, and then those with one.
+const FLAGS: [&[u8]; 12] = [
+    b"ro",
+    b"rw",
+    b"root_squash",
+    b"no_root_squash",
+    b"all_squash",
+    b"no_all_squash",
+    b"sync",
+    b"async",
+    b"wdelay",
+    b"insecure",
+    b"no_subtree_check",
+    b"hide",
+];
+
+const VALUED: [&[u8]; 3] = [b"anonuid", b"anongid", b"sec"];
+
+/// The first option of a line that is none, or contradicts an earlier one.
+pub(crate) fn bad_options(line: Piece<'_>) -> Advice<'_>
+    ensures { result.piece.line.now ≡ line.entry.line.now }
+{
+    let field = line.word(2).unwrap_or(line);
+    let mut start = 0usize;
+    for text in Pieces::new(field.bytes(), b',') {
+        let end = start.saturating_add(text.len());
+        let word = field.part(start, end);
+        if let Err(fault) = parse_options(text) {
+            return bad_option(word, fault);
+        }
+        if parse_options(field.part(0, end).bytes()).is_err() {
+            return contradiction(field.part(0, start), word);
+        }
+        start = end.saturating_add(1);
+    }
+    Advice::new(field, Reason::Option(OptionReason::Unknown))
+}
+
+// An option that is none by itself.
+fn bad_option(word: Piece<'_>, fault: OptionsFault) -> Advice<'_>
+    ensures { result.piece.line.now ≡ word.entry.line.now }
+{
+    let (name, value) = cut(word.bytes(), b'=');
+    let reason = match fault {
+        OptionsFault::UnsupportedOption => unsupported(name),
+        OptionsFault::BadNumber => OptionReason::BadNumber,
+        OptionsFault::UnknownOption | OptionsFault::Contradiction => {
+            unknown(word.bytes(), name, value.is_some())
+        }
+    };
+    let advice = Advice::new(word, Reason::Option(reason));
+    match (reason, likely(name)) {
+        (OptionReason::Unknown, Some(option)) => {
+            Advice::new(word, Reason::Option(OptionReason::Misspelled)).with(Remedy::Meant(option))
+        }
+        _ => advice,
+    }
+}
+
+// The option that a word is like.
+fn likely(name: &[u8]) -> Option<&'static [u8]> {
+    match nearest(name, &FLAGS) {
+        Some(option) => Some(option),
+        None => nearest(name, &VALUED),
+    }
+}
+
+// Why an option is not known.
+fn unknown(word: &[u8], name: &[u8], has_value: bool) -> OptionReason {
+    if word.is_empty() {
+        OptionReason::Empty
+    } else if word.contains(&b'(') || word.contains(&b')') {
+        OptionReason::Bracket
+    } else if has_value && FLAGS.contains(&name) {
+        OptionReason::NoValue
+    } else if VALUED.contains(&name) {
+        OptionReason::ValueMissing
+    } else {
+        OptionReason::Unknown
+    }
+}
+
+// Why an option is not supported.
+fn unsupported(name: &[u8]) -> OptionReason {
+    match name {
+        b"secure" => OptionReason::Secure,
+        b"subtree_check" => OptionReason::SubtreeCheck,
+        b"no_wdelay" => OptionReason::NoWriteDelay,
+        b"nohide" | b"crossmnt" => OptionReason::NoHide,
+        b"mountpoint" | b"mp" => OptionReason::MountPoint,
+        b"fsid" => OptionReason::FileSystemId,
+        _ => OptionReason::Security,
+    }
+}
+
+// An option that says otherwise than one of those before it.
+fn contradiction<'a>(before: Piece<'a>, word: Piece<'a>) -> Advice<'a>
+    ensures { result.piece.line.now ≡ word.entry.line.now }
+{
+    let advice = Advice::new(word, Reason::Option(OptionReason::Contradiction));
+    let mut start = 0usize;
+    for text in Pieces::new(before.bytes(), b',') {
+        let end = start.saturating_add(text.len());
+        if subject_of(text) == subject_of(word.bytes()) && text != word.bytes() {
+            return advice.with(Remedy::Part(before.part(start, end)));
+        }
+        start = end.saturating_add(1);
+    }
+    advice
+}
+
+// What an option is about: those that may contradict one another have the same.
+fn subject_of(option: &[u8]) -> &[u8] {
+    let (name, _) = cut(option, b'=');
+    match name {
+        b"rw" => b"ro",
+        _ => name.strip_prefix(b"no_").unwrap_or(name),
+    }
+}

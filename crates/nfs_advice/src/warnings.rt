@@ -1,0 +1,235 @@
+//! What a description in order says that its writer may not have meant.
+ghost use Rattle.std.specs.Prelude.{◌≡◌};
+ghost use Rattle.std.specs.List.{list_any};
+ghost use Rattle.nfs_advice.specs.Open.{is_open_export};
+
+use crate::advice::{Advice, Reason, Remedy};
+use crate::earlier::{export_line, first_word, word_of};
+use crate::piece::Piece;
+use nfs_exports::addr::Addr;
+use nfs_exports::options::Squash;
+use nfs_exports::pattern::{Pattern, put_pattern};
+use nfs_exports::table::Export;
+use nfs_load::fields::Fields;
+use nfs_load::loaded::Loaded;
+use nfs_text::line::Line;
+use nfs_text::lines::Lines;
+use nfs_text::number::decimal;
+use nfs_text::words::Words;
+use std::alloc::{AllocError, Global};
+use std::fmt;
+
+/// What may not be meant.
+#[derive(Clone, Copy)]
+pub enum WarningReason {
+    /// A volume is exported to nobody.
+    Unexported,
+    /// An earlier pattern covers all that this one does.
+    Covered,
+    /// A network has bits behind those that decide; this is the network.
+    HostBits(Pattern),
+    /// A mode looks like a decimal number for this one.
+    DecimalMode(u32),
+    /// A file with a set-id bit stands in a volume in which everybody may be root.
+    SetId,
+}
+
+/// A warning of a line.
+#[derive(Clone, Copy)]
+pub struct Warning<'a> {
+    /// The line's number, from 1.
+    pub line: u64,
+    /// What is said of it.
+    pub advice: Advice<'a>,
+}
+
+impl fmt::Display for WarningReason {
+    fn fmt<W: fmt::Write>(&self, f: &mut fmt::Formatter<W>) -> fmt::Result {
+        match self {
+            WarningReason::Unexported => {
+                f.write_str("is exported to nobody; write export PATTERN OPTIONS below it")
+            }
+            WarningReason::Covered => {
+                f.write_str("is never used, since an earlier pattern covers all of it")
+            }
+            WarningReason::HostBits(network) => {
+                let mut line = Line::new();
+                put_pattern(&mut line, *network);
+                f.write_str("has bits behind its mask; it is the network ")?;
+                f.write_str(str::from_utf8(line.as_slice()).unwrap_or(""))
+            }
+            WarningReason::DecimalMode(meant) => write!(
+                f,
+                "is read as octal digits; as a decimal number it would be {meant:04o}"
+            ),
+            WarningReason::SetId => f.write_str(
+                "has a set-id bit, and the volume is exported to * with no_root_squash, where anybody may be root",
+            ),
+        }
+    }
+}
+
+/// The warnings of a description, line by line: `loaded` is what its text describes. Refused without
+/// memory.
+pub fn warnings<'a>(
+    alloc: Global,
+    text: &'a [u8],
+    loaded: &Loaded,
+) -> Result<Vec<Warning<'a>>, AllocError> {
+    let mut found = Vec::new(alloc);
+    let mut place = Place {
+        text,
+        line: 0,
+        volumes: 0,
+        exports: 0,
+    };
+    for line in Lines::new(text) {
+        place.line = place.line.saturating_add(1);
+        let line = Piece::whole(line);
+        for advice in place.advices(line, loaded) {
+            if let Some(advice) = advice {
+                found.push(Warning {
+                    line: place.line,
+                    advice,
+                })?;
+            }
+        }
+    }
+    Ok(found)
+}
+
+// Where in a description a line stands: behind so many volumes, and so many exports of the last.
+#[derive(Clone, Copy)]
+struct Place<'a> {
+    text: &'a [u8],
+    line: u64,
+    volumes: usize,
+    exports: usize,
+}
+
+impl<'a> Place<'a> {
+    // What is said of a line, which is counted then.
+    fn advices(&mut self, line: Piece<'a>, loaded: &Loaded) -> [Option<Advice<'a>>; 2] {
+        match first_word(line.bytes()) {
+            b"volume" => {
+                let exports = loaded.table.patterns(self.volumes);
+                self.volumes = self.volumes.saturating_add(1);
+                self.exports = 0;
+                [unexported(line, exports), decimal_mode(line, 4)]
+            }
+            b"export" => {
+                let exports = loaded.table.patterns(self.volumes.saturating_sub(1));
+                let place = self.exports;
+                self.exports = place.saturating_add(1);
+                [
+                    covered(*self, line, exports, place),
+                    host_bits(line, exports, place),
+                ]
+            }
+            b"dir" => [decimal_mode(line, 2), None],
+            b"file" => {
+                let exports = loaded.table.patterns(self.volumes.saturating_sub(1));
+                [decimal_mode(line, 2), set_id(line, exports)]
+            }
+            _ => [None, None],
+        }
+    }
+}
+
+fn unexported<'a>(line: Piece<'a>, exports: &[Export]) -> Option<Advice<'a>> {
+    if !exports.is_empty() {
+        return None;
+    }
+    let path = line.word(1)?;
+    Some(Advice::new(path, Reason::Warning(WarningReason::Unexported)))
+}
+
+// A pattern that an earlier one covers whole.
+fn covered<'a>(
+    above: Place<'a>,
+    line: Piece<'a>,
+    exports: &[Export],
+    place: usize,
+) -> Option<Advice<'a>> {
+    let pattern = exports.get(place)?.pattern;
+    let word = line.word(1)?;
+    for earlier in 0..place.min(exports.len()) {
+        if covers_whole(exports[earlier].pattern, pattern) {
+            return Some(Advice::new(word, Reason::Warning(WarningReason::Covered)).with(
+                Remedy::Line(export_line(above.text, above.volumes.saturating_sub(1), earlier)),
+            ));
+        }
+    }
+    None
+}
+
+fn covers_whole(one: Pattern, other: Pattern) -> bool {
+    one.bits <= other.bits && one.covers(other.address)
+}
+
+// A network of an address with bits behind those that decide.
+fn host_bits<'a>(line: Piece<'a>, exports: &[Export], place: usize) -> Option<Advice<'a>> {
+    let pattern = exports.get(place)?.pattern;
+    let word = line.word(1)?;
+    if pattern.bits >= 32 || !has_bits_behind(pattern.address, pattern.bits) {
+        return None;
+    }
+    Some(Advice::new(word, Reason::Warning(WarningReason::HostBits(pattern))))
+}
+
+fn has_bits_behind(address: Addr, bits: u32) -> bool {
+    u64::from(address.0) % (1u64 << (32 - bits.min(32))) != 0
+}
+
+// The modes that are often meant where their decimal numbers are written, those of octal digits alone.
+const MODES: [u32; 8] = [0o777, 0o770, 0o664, 0o660, 0o644, 0o640, 0o555, 0o400];
+
+// A mode that looks like a decimal number: the word at this place.
+fn decimal_mode(line: Piece<'_>, place: usize) -> Option<Advice<'_>> {
+    let word = line.word(place)?;
+    if word.bytes().len() != 3 {
+        return None;
+    }
+    let number = decimal(word.bytes(), 999)?;
+    for mode in &MODES {
+        if u64::from(*mode) == number {
+            let reason = WarningReason::DecimalMode(*mode);
+            return Some(Advice::new(word, Reason::Warning(reason)));
+        }
+    }
+    None
+}
+
+// A set-id file in a volume in which everybody may be root.
+fn set_id<'a>(line: Piece<'a>, exports: &[Export]) -> Option<Advice<'a>> {
+    let word = line.word(2)?;
+    let Ok(mode) = Fields::new(Words::new(word_of(line.bytes(), 2))).mode() else {
+        return None;
+    };
+    if mode & 0o6000 == 0 || !is_open(exports) {
+        return None;
+    }
+    Some(Advice::new(word, Reason::Warning(WarningReason::SetId)))
+}
+
+/// Whether a volume is exported to every address with `no_root_squash`.
+pub fn is_open(exports: &[Export]) -> bool
+    ensures { result ≡ list_any is_open_export exports.now }
+{
+    for export in exports {
+        if is_open_export(export) {
+            return true;
+        }
+    }
+    false
+}
+
+// Whether an export is to every address with `no_root_squash`.
+fn is_open_export(export: &Export) -> bool
+    ensures { result ≡ is_open_export export.now }
+{
+    match export.options.squash {
+        Squash::No => export.pattern.bits == 0,
+        Squash::Root | Squash::All => false,
+    }
+}

@@ -1,0 +1,5 @@
+pub mod Contents
+pub mod FileLines
+pub mod Names
+pub mod Volumes
+pub mod Walks

@@ -1,0 +1,62 @@
+-- The first names of files, place by place.
+use Rattle.std.proofs.Common.{◌≡◌, ℕ, ◌+◌, ◌<◌, Bool, true, false, cond, nat_eq, List, [], ◌∷◌, ◌++◌, length, take, drop, get_or, Option, Some, None, option_map, refl, sym, ap, ◌∙◌, append_assoc}
+use Rattle.std.specs.Option.{option_or}
+use Rattle.std.proofs.lemmas.List.{take_more, drop_more}
+use Rattle.std.proofs.lemmas.List.Folds.{find-append}
+use Rattle.nfs_inodes.specs.Tree.{Tree, on_some}
+use Rattle.nfs_describe.specs.Lines.{hard_line}
+use Rattle.nfs_describe.specs.Places.{Place}
+use Rattle.nfs_describe.specs.Texts.{files_text, first_name, named_text, own_text, place_text}
+
+abbrev path_of : Option Place → Option (List ℕ)
+path_of o = option_map (λ (p : Place). p.path) o
+
+-- ---- texts
+
+named : (t : Tree) (p : Place) (o : Option Place) → named_text t p (path_of o) ≡ on_some o (own_text t p) (λ first. hard_line p.path first.path)
+named t p None = refl
+named t p (Some first) = refl
+
+goes_on : (text here behind rest old new : List ℕ) → text ++ rest ≡ old → new ≡ text ++ here → here ++ behind ≡ rest → new ++ behind ≡ old
+goes_on text here behind rest old new before is step = ap (λ l. l ++ behind) is ∙ append_assoc text here behind ∙ ap (λ l. text ++ l) step ∙ before
+
+-- the text of one place more
+files_more : (t : Tree) (places : List Place) (i : ℕ) (d : Place) (kept : Option (List ℕ)) (text old new : List ℕ) → i < length places
+    → text ++ files_text t (take i places) (drop i places) ≡ old
+    → new ≡ text ++ named_text t (get_or places i d) kept → kept ≡ path_of (first_name (get_or places i d).number (take i places))
+    → new ++ files_text t (take (i + 1) places) (drop (i + 1) places) ≡ old
+files_more t places i d kept text old new inside before is name =
+    goes_on text (place_text t (take i places) (get_or places i d)) (files_text t (take (i + 1) places) (drop (i + 1) places)) (files_text t (take i places) (drop i places)) old new before
+    (is ∙ ap (λ o. text ++ named_text t (get_or places i d) o) name ∙ ap (λ l. text ++ l) (named t (get_or places i d) (first_name (get_or places i d).number (take i places))))
+    (ap (λ l. place_text t (take i places) (get_or places i d) ++ files_text t l (drop (i + 1) places)) (take_more places i d inside) ∙ sym (ap (λ l. files_text t (take i places) l) (drop_more places i d inside)))
+
+-- ---- names
+
+path_or : (o : Option Place) (b : Bool) (p : Place) → path_of (option_or o (cond b (Some p) None)) ≡ option_or (path_of o) (cond b (Some p.path) None)
+path_or None true p = refl
+path_or None false p = refl
+path_or (Some q) b p = refl
+
+-- the first names among one place more
+names_more : (places : List Place) (i n : ℕ) (d : Place) (kept more : Option (List ℕ)) → i < length places → kept ≡ path_of (first_name n (take i places))
+    → more ≡ option_or kept (cond (nat_eq (get_or places i d).number n) (Some (get_or places i d).path) None)
+    → more ≡ path_of (first_name n (take (i + 1) places))
+names_more places i n d kept more inside is grows = grows
+    ∙ ap (λ o. option_or o (cond (nat_eq (get_or places i d).number n) (Some (get_or places i d).path) None)) is
+    ∙ sym (path_or (first_name n (take i places)) (nat_eq (get_or places i d).number n) (get_or places i d))
+    ∙ sym (ap path_of (ap (first_name n) (take_more places i d inside) ∙ find-append (λ (p : Place). nat_eq p.number n) (take i places) (get_or places i d ∷ [])))
+
+-- ---- the same, where a place is the one at an index
+
+pub files_at : (t : Tree) (places : List Place) (i : ℕ) (p : Place) (kept : Option (List ℕ)) (text old new : List ℕ) → i < length places → p ≡ get_or places i p
+    → text ++ files_text t (take i places) (drop i places) ≡ old
+    → new ≡ text ++ named_text t p kept → kept ≡ path_of (first_name p.number (take i places))
+    → new ++ files_text t (take (i + 1) places) (drop (i + 1) places) ≡ old
+files_at t places i p kept text old new inside item before is name = files_more t places i p kept text old new inside before
+    (is ∙ ap (λ (q : Place). text ++ named_text t q kept) item) (name ∙ ap (λ (q : Place). path_of (first_name q.number (take i places))) item)
+
+pub names_at : (places : List Place) (i n : ℕ) (p : Place) (kept more : Option (List ℕ)) → i < length places → p ≡ get_or places i p → kept ≡ path_of (first_name n (take i places))
+    → more ≡ option_or kept (cond (nat_eq p.number n) (Some p.path) None)
+    → more ≡ path_of (first_name n (take (i + 1) places))
+names_at places i n p kept more inside item is grows =
+    names_more places i n p kept more inside is (grows ∙ ap (λ (q : Place). option_or kept (cond (nat_eq q.number n) (Some q.path) None)) item)

@@ -1,0 +1,75 @@
+-- The lines of a description, each as a text.
+use Rattle.std.specs.Prelude.{ℕ, ◌&&◌, Bool, List, [], ◌∷◌, ◌++◌, length, codes, decimal, nat_eq, nat_le, nat_lt, if◌then◌else◌}
+use Rattle.std.specs.List.{list_all}
+use Rattle.hex.specs.Hex.{encode_lower}
+use Rattle.nfs_exports.specs.Addresses.{addr_text}
+use Rattle.nfs_exports.specs.declared.options.Options.{Options}
+use Rattle.nfs_exports.specs.declared.options.Squash.{Squash}
+use Rattle.nfs_exports.specs.declared.options.Squash.TheVariants.{No, Root, All}
+use Rattle.nfs_exports.specs.declared.pattern.Pattern.{Pattern}
+use Rattle.nfs_exports.specs.declared.table.Export.{Export}
+use Rattle.nfs_load.specs.Listings.{octal}
+use Rattle.nfs_load.specs.declared.statement.Given.{Given}
+
+-- ---- fields
+
+-- MODE UID GID
+abbrev pub given_text : Given → List ℕ
+given_text given = codes " " ++ octal given.mode ++ codes " " ++ decimal given.uid ++ codes " " ++ decimal given.gid
+
+-- two digits a byte, or `-` for none
+abbrev pub content_text : List ℕ → List ℕ
+content_text [] = codes "-"
+content_text (byte ∷ bytes) = encode_lower (byte ∷ bytes)
+
+-- `*`, or an address with the number of its bits where not all of them decide
+abbrev pub pattern_text : Pattern → List ℕ
+pattern_text p =
+    if nat_eq p.bits 0 && nat_eq p.address.0 0 then codes "*"
+    else (if nat_eq p.bits 32 then addr_text p.address else addr_text p.address ++ codes "/" ++ decimal p.bits)
+
+abbrev pub squash_text : Squash → List ℕ
+squash_text No = codes ",no_root_squash"
+squash_text Root = []
+squash_text All = codes ",all_squash"
+
+-- an id of the anonymous, where it is not that of nobody
+abbrev pub anonymous_text : List ℕ → ℕ → List ℕ
+anonymous_text name id = if nat_eq id 65534 then [] else name ++ decimal id
+
+abbrev pub options_text : Options → List ℕ
+options_text o = (if o.read_only then codes "ro" else codes "rw") ++ squash_text o.squash
+    ++ anonymous_text (codes ",anonuid=") o.anonuid ++ anonymous_text (codes ",anongid=") o.anongid
+
+-- ---- lines
+
+abbrev pub server_line : List ℕ → List ℕ
+server_line key = codes "server " ++ encode_lower key ++ codes "\n"
+
+abbrev pub volume_line : List ℕ → ℕ → ℕ → Given → List ℕ
+volume_line path max_bytes max_files given = codes "volume " ++ path ++ codes " " ++ decimal max_bytes ++ codes " " ++ decimal max_files ++ given_text given ++ codes "\n"
+
+abbrev pub export_line : Export → List ℕ
+export_line e = codes "export " ++ pattern_text e.pattern ++ codes " " ++ options_text e.options ++ codes "\n"
+
+abbrev pub dir_line : List ℕ → Given → List ℕ
+dir_line path given = codes "dir " ++ path ++ given_text given ++ codes "\n"
+
+abbrev pub file_line : List ℕ → Given → List ℕ → List ℕ
+file_line path given bytes = codes "file " ++ path ++ given_text given ++ codes " " ++ content_text bytes ++ codes "\n"
+
+abbrev pub link_line : List ℕ → ℕ → ℕ → List ℕ → List ℕ
+link_line path uid gid target = codes "link " ++ path ++ codes " " ++ decimal uid ++ codes " " ++ decimal gid ++ codes " " ++ target ++ codes "\n"
+
+abbrev pub hard_line : List ℕ → List ℕ → List ℕ
+hard_line path old = codes "hard " ++ path ++ codes " " ++ old ++ codes "\n"
+
+-- ---- what may stand in a line as a word
+
+-- from `!` to `~`
+abbrev pub is_shown : ℕ → Bool
+is_shown byte = nat_le 33 byte && nat_le byte 126
+
+-- what a symbolic link may hold: 1 to 1,024 such bytes
+abbrev pub is_target : List ℕ → Bool
+is_target target = (nat_lt 0 (length target) && nat_le (length target) 1024) && list_all is_shown target

@@ -1,0 +1,84 @@
+-- The description of a tree with its exports, as a text.
+use Rattle.std.specs.Prelude.{◌≡◌, ℕ, zero, suc, true, List, [], ◌∷◌, ◌++◌, length, slice_get, nat_eq, Option, Some, None, option_map, if◌then◌else◌}
+use Rattle.std.specs.Borrow.{Bor}
+use Rattle.std.specs.BTreeMap.{is_at}
+use Rattle.std.specs.List.{find, flat_map}
+use Rattle.std.specs.Map.{lookup}
+use Rattle.std.specs.Ordering.{nat_cmp}
+use Rattle.nfs_attrs.specs.declared.fattr.Fattr.{Fattr}
+use Rattle.nfs_exports.specs.Tables.{exports_of}
+use Rattle.nfs_exports.specs.declared.table.Export.{Export}
+use Rattle.nfs_inodes.specs.Tree.{Tree, Kind, Volume, Regular, Directory, Link, at, nlink, on_some}
+use Rattle.nfs_inodes.specs.Reading.{attributes_at, attributes_of, is_directory_type}
+use Rattle.nfs_inodes.specs.Views.{FileView, bytes_seen}
+use Rattle.nfs_load.specs.declared.statement.Given.{Given}
+use Rattle.nfs_describe.specs.Lines.{server_line, volume_line, export_line, dir_line, file_line, link_line, hard_line}
+use Rattle.nfs_describe.specs.Places.{Place, IsWalk, are_sayable}
+
+abbrev pub given_of : Fattr → Given
+given_of a = record { mode = a.mode; uid = a.uid; gid = a.gid }
+
+-- ---- files
+
+-- a file by the path of its first name; a root has none, its volume's line says it
+abbrev pub own_line : List ℕ → Fattr → Kind → List ℕ
+own_line [] a kind = []
+own_line (byte ∷ path) a (Regular bytes) = file_line (byte ∷ path) (given_of a) bytes
+own_line (byte ∷ path) a (Directory parent next_cookie entries) = dir_line (byte ∷ path) (given_of a)
+own_line (byte ∷ path) a (Link target) = link_line (byte ∷ path) a.uid a.gid target
+
+-- a file that is lent and is no link
+abbrev pub node_line : List ℕ → FileView → List ℕ
+node_line path v = if is_directory_type v.attributes.file_type then dir_line path (given_of v.attributes) else file_line path (given_of v.attributes) (bytes_seen v)
+
+abbrev pub own_text : Tree → Place → List ℕ
+own_text t p = on_some (at p.number t.files) [] (λ f. own_line p.path (attributes_of p.number f (nlink t.files p.number f)) f.kind)
+
+-- the first of some places that a file has
+abbrev pub first_name : ℕ → List Place → Option Place
+first_name n places = find (λ (p : Place). nat_eq p.number n) places
+
+-- the path that is kept for a number
+abbrev pub kept_name : List (ℕ × Bor (List ℕ)) → ℕ → Option (List ℕ)
+kept_name entries n = option_map (λ name. name.now) (lookup (is_at (nat_cmp n)) entries)
+
+-- a file by a name, where this one of its names is kept
+abbrev pub named_text : Tree → Place → Option (List ℕ) → List ℕ
+named_text t p None = own_text t p
+named_text t p (Some first) = hard_line p.path first
+
+-- a place behind others: a further name where one of them is the same file's
+abbrev pub place_text : Tree → List Place → Place → List ℕ
+place_text t before p = on_some (first_name p.number before) (own_text t p) (λ first. hard_line p.path first.path)
+
+abbrev pub files_text : Tree → List Place → List Place → List ℕ
+files_text t before [] = []
+files_text t before (p ∷ behind) = place_text t before p ++ files_text t (before ++ p ∷ []) behind
+
+-- ---- volumes
+
+abbrev pub root_text : Volume → Option Fattr → List ℕ
+root_text v None = []
+root_text v (Some a) = volume_line v.path v.max_bytes v.max_files (given_of a)
+
+-- a volume, to whom it is exported, and its files in the order of a walk
+abbrev pub volume_text : Tree → List (List Export) → ℕ → Volume → List Place → List ℕ
+volume_text t table place v walk = root_text v (attributes_at t v.root) ++ flat_map export_line (exports_of table place) ++ files_text t [] walk
+
+-- the text of the volume at a place, of whose walk a description has words for each path
+pub record IsVolumeText (t : Tree) (table : List (List Export)) (place : ℕ) (text : List ℕ) : Type 0 where
+  pub volume : Volume
+  pub at_place : slice_get t.volumes place ≡ Some volume
+  pub walk : List Place
+  pub walked : IsWalk t volume.root walk
+  pub sayable : are_sayable walk ≡ true
+  pub text_is : text ≡ volume_text t table place volume walk
+
+-- the server's line, and the texts of the first n volumes
+abbrev pub SaysTo : Tree → List (List Export) → ℕ → List ℕ → Type 0
+SaysTo t table zero text = text ≡ server_line t.key
+SaysTo t table (suc n) text = (before part : List ℕ) × SaysTo t table n before × IsVolumeText t table n part × (text ≡ before ++ part)
+
+-- The text describes the tree with these exports.
+abbrev pub Says : Tree → List (List Export) → List ℕ → Type 0
+Says t table text = SaysTo t table (length t.volumes) text

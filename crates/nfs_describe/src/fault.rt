@@ -1,0 +1,51 @@
+//! Why a tree isn't described.
+
+use std::alloc::{AllocError, AllocFailed};
+use std::fmt;
+use thiserror::Error;
+
+/// Why a tree isn't described.
+#[derive(Debug, Drop, Error)]
+pub enum DescribeFault {
+    /// A description has no words for a path, or for what the link of this path holds.
+    #[error("no description has words for {0}")]
+    Unsayable(ShownPath),
+    /// The text would be longer than a description may be.
+    #[error("the description is longer than 1 GiB")]
+    TooLong,
+    /// The output can't be written.
+    #[error("the description can't be written")]
+    Write,
+    /// There is no memory.
+    #[error("out of memory")]
+    Memory,
+}
+
+/// A path, which prints with `%xx` for each byte outside `!` to `~` and for `%`.
+#[derive(Debug, Drop)]
+pub struct ShownPath(pub Vec<u8>);
+
+impl fmt::Display for ShownPath {
+    fn fmt<W: fmt::Write>(&self, f: &mut fmt::Formatter<W>) -> fmt::Result {
+        for byte in &self.0 {
+            if byte.is_ascii_graphic() && *byte != b'%' {
+                f.write_char(char::from(*byte))?;
+            } else {
+                write!(f, "%{byte:02x}")?;
+            }
+        }
+        Ok(())
+    }
+}
+
+impl From<AllocError> for DescribeFault {
+    fn from(_error: AllocError) -> DescribeFault {
+        DescribeFault::Memory
+    }
+}
+
+impl<T: Drop> From<AllocFailed<T>> for DescribeFault {
+    fn from(_error: AllocFailed<T>) -> DescribeFault {
+        DescribeFault::Memory
+    }
+}

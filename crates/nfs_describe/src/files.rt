@@ -1,0 +1,131 @@
+//! The lines of the files of a volume.
+ghost use Rattle.std.specs.Prelude.{◌≡◌, ℕ, ◌≤◌, [], ◌++◌, Some, None, OnOk, cond, length, nat_eq};
+ghost use Rattle.std.specs.Option.{option_or};
+ghost use Rattle.nfs_inodes.specs.Limits.{max_file_bytes};
+ghost use Rattle.nfs_inodes.specs.Views.{bytes_seen};
+ghost use Rattle.nfs_describe.specs.Lines.{link_line};
+ghost use Rattle.nfs_describe.specs.Texts.{files_text, given_of, kept_name, named_text, node_line, own_text};
+
+use crate::fault::{DescribeFault, ShownPath};
+use crate::lines::{put_dir, put_file, put_hard, put_link};
+use crate::place::Place;
+use crate::sayable::is_target;
+use nfs_attrs::fattr::Fattr;
+use nfs_attrs::file_type::FileType;
+use nfs_inodes::tree::Tree;
+use nfs_inodes::view::FileView;
+use nfs_load::statement::Given;
+use std::alloc::{AllocError, Global};
+use std::collections::BTreeMap;
+
+/// A line for each place behind the root: the file by its first name, and `hard` for each further
+/// one. `Unsayable` for a link that holds what no word says, `Memory`.
+pub(crate) fn put_files(
+    alloc: Global,
+    tree: &Tree,
+    places: &[Place],
+    text: &mut Vec<u8>,
+) -> Result<(), DescribeFault>
+    ensures { OnOk result (text.new.items ≡ text.old.items ++ files_text tree.now [] places.now) }
+{
+    let mut first_names = BTreeMap::new(alloc);
+    for place in places {
+        put_place(alloc, tree, place, &mut first_names, text)?;
+    }
+    Ok(())
+}
+
+// The line of a file by one of its names. Its first name is kept.
+fn put_place<'a>(
+    alloc: Global,
+    tree: &Tree,
+    place: &'a Place,
+    first_names: &mut BTreeMap<u64, &'a [u8]>,
+    text: &mut Vec<u8>,
+) -> Result<(), DescribeFault>
+    ensures text { OnOk result (text.new.items ≡ text.old.items ++
+        named_text tree.now place.entry.now (kept_name first_names.old.entries place.entry.now.number)) }
+    ensures names { OnOk result ((n : ℕ) → kept_name first_names.new.entries n ≡
+        option_or (kept_name first_names.old.entries n) (cond (nat_eq place.entry.now.number n) (Some place.entry.now.path) None)) }
+{
+    match first_names.get(&place.number.0).copied() {
+        Some(first) => Ok(put_hard(text, place.path.as_slice(), first)?),
+        None => {
+            put_own(alloc, tree, place, text)?;
+            first_names.insert(place.number.0, place.path.as_slice())?;
+            Ok(())
+        }
+    }
+}
+
+// The line of a file by its first name; none for a root.
+fn put_own(
+    alloc: Global,
+    tree: &Tree,
+    place: &Place,
+    text: &mut Vec<u8>,
+) -> Result<(), DescribeFault>
+    ensures { OnOk result (text.new.items ≡ text.old.items ++ own_text tree.now place.now) }
+{
+    let path = place.path.as_slice();
+    if path.is_empty() {
+        return Ok(());
+    }
+    tree.law();
+    let Some(file) = tree.view(place.number) else {
+        return Ok(());
+    };
+    match tree.link_path(place.number) {
+        Some(target) => put_target(alloc, path, &file.attributes(), target, text),
+        None => Ok(put_node(alloc, path, &file, text)?),
+    }
+}
+
+// The line of a symbolic link that holds this target.
+fn put_target(
+    alloc: Global,
+    path: &[u8],
+    attributes: &Fattr,
+    target: &[u8],
+    text: &mut Vec<u8>,
+) -> Result<(), DescribeFault>
+    ensures { OnOk result (text.new.items ≡ text.old.items ++ link_line path.now attributes.now.uid attributes.now.gid target.now) }
+{
+    if !is_target(target) {
+        let mut shown = Vec::new(alloc);
+        shown.extend_from_slice(path)?;
+        return Err(DescribeFault::Unsayable(ShownPath(shown)));
+    }
+    put_link(text, path, attributes.uid, attributes.gid, target)?;
+    Ok(())
+}
+
+// The line of a directory or a regular file.
+fn put_node(
+    alloc: Global,
+    path: &[u8],
+    file: &FileView<'_>,
+    text: &mut Vec<u8>,
+) -> Result<(), AllocError>
+    requires { length (bytes_seen file.now) ≤ max_file_bytes }
+    ensures { OnOk result (text.new.items ≡ text.old.items ++ node_line path.now file.now) }
+{
+    let attributes = file.attributes();
+    let given = given_of(&attributes);
+    if attributes.file_type == FileType::Directory {
+        put_dir(text, path, given)
+    } else {
+        put_file(alloc, text, path, given, file)
+    }
+}
+
+/// What a line gives a file with these attributes.
+pub(crate) fn given_of(attributes: &Fattr) -> Given
+    ensures { result ≡ given_of attributes.now }
+{
+    Given {
+        mode: attributes.mode,
+        uid: attributes.uid,
+        gid: attributes.gid,
+    }
+}

@@ -1,0 +1,13 @@
+//! The description of a tree with its exports, written as a text that loads.
+#![tactic(auto)]
+
+pub mod description;
+mod export_line;
+pub mod exports;
+pub mod fault;
+mod files;
+mod lines;
+mod numbers;
+pub mod place;
+pub mod sayable;
+mod walk;

@@ -1,0 +1,133 @@
+//! The lines of a description, put at the end of its text.
+ghost use Rattle.std.specs.Prelude.{◌≡◌, ◌≤◌, ◌++◌, OnOk, length};
+ghost use Rattle.nfs_inodes.specs.Limits.{max_file_bytes};
+ghost use Rattle.nfs_inodes.specs.Views.{bytes_seen};
+ghost use Rattle.nfs_describe.specs.Lines.{content_text, dir_line, file_line, hard_line, link_line, server_line, volume_line};
+
+use crate::numbers::put_given;
+use nfs_inodes::view::FileView;
+use nfs_inodes::volumes::VolumeView;
+use nfs_load::statement::Given;
+use nfs_text::line::{Line, put, put_number};
+use std::alloc::{AllocError, Global};
+
+/// The line of the server's key.
+pub(crate) fn put_server(alloc: Global, text: &mut Vec<u8>, key: [u8; 8]) -> Result<(), AllocError>
+    ensures { OnOk result (text.new.items ≡ text.old.items ++ server_line key) }
+{
+    let digits = hex::encode(alloc, key.as_slice())?;
+    text.extend_from_slice(b"server ")?;
+    text.extend_from_slice(digits.as_bytes())?;
+    text.push(b'\n')?;
+    Ok(())
+}
+
+/// The line of a volume, with what is given of its root.
+pub(crate) fn put_volume_line(
+    text: &mut Vec<u8>,
+    volume: &VolumeView<'_>,
+    given: Given,
+) -> Result<(), AllocError>
+    ensures { OnOk result (text.new.items ≡ text.old.items ++
+        volume_line volume.now.path.now volume.now.max_bytes volume.now.max_files given) }
+{
+    let mut line = Line::new();
+    put_number(&mut line, b" ", volume.max_bytes);
+    put_number(&mut line, b" ", volume.max_files);
+    put_given(&mut line, given);
+    put(&mut line, b"\n");
+    put_words(text, b"volume ", volume.path, line.as_slice())
+}
+
+/// The line of a directory.
+pub(crate) fn put_dir(text: &mut Vec<u8>, path: &[u8], given: Given) -> Result<(), AllocError>
+    ensures { OnOk result (text.new.items ≡ text.old.items ++ dir_line path.now given) }
+{
+    let mut line = Line::new();
+    put_given(&mut line, given);
+    put(&mut line, b"\n");
+    put_words(text, b"dir ", path, line.as_slice())
+}
+
+/// The line of a regular file.
+pub(crate) fn put_file(
+    alloc: Global,
+    text: &mut Vec<u8>,
+    path: &[u8],
+    given: Given,
+    file: &FileView<'_>,
+) -> Result<(), AllocError>
+    requires { length (bytes_seen file.now) ≤ max_file_bytes }
+    ensures { OnOk result (text.new.items ≡ text.old.items ++ file_line path.now given (bytes_seen file.now)) }
+{
+    let mut line = Line::new();
+    put_given(&mut line, given);
+    put(&mut line, b" ");
+    put_words(text, b"file ", path, line.as_slice())?;
+    put_content(alloc, text, file)?;
+    text.push(b'\n')?;
+    Ok(())
+}
+
+/// The line of a symbolic link.
+pub(crate) fn put_link(
+    text: &mut Vec<u8>,
+    path: &[u8],
+    uid: u32,
+    gid: u32,
+    target: &[u8],
+) -> Result<(), AllocError>
+    ensures { OnOk result (text.new.items ≡ text.old.items ++ link_line path.now uid gid target.now) }
+{
+    let mut line = Line::new();
+    put_number(&mut line, b" ", u64::from(uid));
+    put_number(&mut line, b" ", u64::from(gid));
+    put(&mut line, b" ");
+    put_words(text, b"link ", path, line.as_slice())?;
+    text.extend_from_slice(target)?;
+    text.push(b'\n')?;
+    Ok(())
+}
+
+/// The line of a further name of a file, beside its first one.
+pub(crate) fn put_hard(text: &mut Vec<u8>, path: &[u8], first: &[u8]) -> Result<(), AllocError>
+    ensures { OnOk result (text.new.items ≡ text.old.items ++ hard_line path.now first.now) }
+{
+    put_words(text, b"hard ", path, b" ")?;
+    text.extend_from_slice(first)?;
+    text.push(b'\n')?;
+    Ok(())
+}
+
+// A keyword, a path, and what stands behind it.
+fn put_words(
+    text: &mut Vec<u8>,
+    keyword: &[u8],
+    path: &[u8],
+    behind: &[u8],
+) -> Result<(), AllocError>
+    ensures { OnOk result (text.new.items ≡ text.old.items ++ keyword.now ++ path.now ++ behind.now) }
+{
+    text.extend_from_slice(keyword)?;
+    text.extend_from_slice(path)?;
+    text.extend_from_slice(behind)
+}
+
+// The bytes of a regular file, run by run: two digits each, or `-` for none.
+fn put_content(alloc: Global, text: &mut Vec<u8>, file: &FileView<'_>) -> Result<(), AllocError>
+    requires { length (bytes_seen file.now) ≤ max_file_bytes }
+    ensures { OnOk result (text.new.items ≡ text.old.items ++ content_text (bytes_seen file.now)) }
+{
+    let mut run = file.bytes_at(0);
+    if run.is_empty() {
+        return text.extend_from_slice(b"-");
+    }
+    let mut done = 0;
+    while !run.is_empty() {
+        let digits = hex::encode(alloc, run)?;
+        text.extend_from_slice(digits.as_bytes())?;
+        done += run.len();
+        run = file.bytes_at(done);
+    }
+    Ok(())
+}

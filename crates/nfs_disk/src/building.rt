@@ -1,0 +1,201 @@
+//! The tree that has what was found on disk.
+
+use crate::fault::DiskFault;
+use crate::found::{Found, Kind};
+use crate::survey::Survey;
+use crate::warning::{Reason, Warning};
+use nfs_attrs::moment::Moment;
+use nfs_content::pages::Pages;
+use nfs_describe::sayable::is_target;
+use nfs_handles::number::Number;
+use nfs_inodes::limits::MAX_FILE_BYTES;
+use nfs_inodes::new_file::NewFile;
+use nfs_inodes::tree::Tree;
+use nfs_load::statement::Given;
+use std::alloc::Global;
+use std::collections::BTreeMap;
+use std::fs;
+use std::rt::Files;
+
+// The time of everything that is described.
+const START: Moment = Moment {
+    seconds: 0,
+    nanos: 0,
+};
+
+/// Makes below a root what was found on disk, each file by its first name and then its others.
+/// What can't be made is left out, with a warning, and so is what stands below it.
+pub fn build<R: Files + AllocGlobal>(
+    rt: &R,
+    survey: &mut Survey,
+    tree: &mut Tree,
+    root: Number,
+) -> Result<(), DiskFault> {
+    let alloc = rt.alloc();
+    let mut builder = Builder {
+        alloc,
+        tree,
+        made: Vec::new(alloc),
+        first_names: BTreeMap::new(alloc),
+        warnings: Vec::new(alloc),
+    };
+    builder.made.push(Some(root))?;
+    for found in survey.found.iter().skip(1) {
+        builder.add(rt, found)?;
+    }
+    let Builder { mut warnings, .. } = builder;
+    survey.warnings.append(&mut warnings)?;
+    Ok(())
+}
+
+// A tree that is built from what was found.
+#[derive(Drop)]
+struct Builder<'a> {
+    alloc: Global,
+    tree: &'a mut Tree,
+    // The number of each that was found, where it was made.
+    made: Vec<Option<Number>>,
+    // The number of each file that has further names, by its device and number on disk.
+    first_names: BTreeMap<(u64, u64), Number>,
+    warnings: Vec<Warning>,
+}
+
+impl Builder<'_> {
+    // One that was found, or a warning.
+    fn add<R: Files + AllocGlobal>(&mut self, rt: &R, found: &Found) -> Result<(), DiskFault> {
+        let number = match self.made.get(found.parent).copied() {
+            Some(Some(dir)) => match self.make(rt, dir, found)? {
+                Ok(number) => Some(number),
+                Err(reason) => {
+                    self.warnings.push(Warning {
+                        path: found.disk_path.clone()?,
+                        reason,
+                    })?;
+                    None
+                }
+            },
+            _ => None,
+        };
+        self.made.push(number)?;
+        Ok(())
+    }
+
+    // A file in a directory, or why there is none.
+    fn make<R: Files + AllocGlobal>(
+        &mut self,
+        rt: &R,
+        dir: Number,
+        found: &Found,
+    ) -> Result<Result<Number, Reason>, DiskFault> {
+        let name = last_name(found.path.as_bytes());
+        if found.kind == Kind::Directory {
+            return self.make_dir(dir, name, found.given);
+        }
+        if let Some(first) = self.first_names.get(&found.identity).copied() {
+            return self.add_name(dir, name, first);
+        }
+        let made = if found.kind == Kind::Link {
+            self.make_link(rt, dir, name, found)?
+        } else {
+            self.make_file(rt, dir, name, found)?
+        };
+        if let Ok(number) = made
+            && found.names > 1
+        {
+            self.first_names.insert(found.identity, number)?;
+        }
+        Ok(made)
+    }
+
+    fn make_dir(
+        &mut self,
+        dir: Number,
+        name: &[u8],
+        given: Given,
+    ) -> Result<Result<Number, Reason>, DiskFault> {
+        if !self.tree.may_make_dir(dir, name) {
+            return Ok(Err(Reason::Full));
+        }
+        Ok(Ok(self.tree.make_dir(dir, name, &new_file(given), START)?))
+    }
+
+    // A further name of a file that was made.
+    fn add_name(
+        &mut self,
+        dir: Number,
+        name: &[u8],
+        file: Number,
+    ) -> Result<Result<Number, Reason>, DiskFault> {
+        if !self.tree.may_link(file, dir, name) {
+            return Ok(Err(Reason::Full));
+        }
+        self.tree.link(file, dir, name, START)?;
+        Ok(Ok(file))
+    }
+
+    fn make_file<R: Files + AllocGlobal>(
+        &mut self,
+        rt: &R,
+        dir: Number,
+        name: &[u8],
+        found: &Found,
+    ) -> Result<Result<Number, Reason>, DiskFault> {
+        let Ok(content) = fs::read(rt, found.disk_path.as_str()) else {
+            return Ok(Err(Reason::Unreadable));
+        };
+        if content.len() > MAX_FILE_BYTES {
+            return Ok(Err(Reason::TooLarge));
+        }
+        if !self.tree.may_make(dir, name, content.len()) {
+            return Ok(Err(Reason::Full));
+        }
+        let content = Pages::of(self.alloc, content)?;
+        let given = new_file(found.given);
+        let number = self
+            .tree
+            .make_file(dir, name, content, &given, None, START)?;
+        if found.names > 1 {
+            self.first_names.insert(found.identity, number)?;
+        }
+        Ok(Ok(number))
+    }
+
+    fn make_link<R: Files + AllocGlobal>(
+        &mut self,
+        rt: &R,
+        dir: Number,
+        name: &[u8],
+        found: &Found,
+    ) -> Result<Result<Number, Reason>, DiskFault> {
+        let Ok(target) = fs::read_link(rt, found.disk_path.as_str()) else {
+            return Ok(Err(Reason::Unreadable));
+        };
+        let target = target.to_string_lossy().as_bytes();
+        if !is_target(target) {
+            return Ok(Err(Reason::Target));
+        }
+        if !self.tree.may_make_link(dir, name, target) {
+            return Ok(Err(Reason::Full));
+        }
+        let given = new_file(found.given);
+        Ok(Ok(self.tree.make_link(dir, name, target, &given, START)?))
+    }
+}
+
+// What stands behind a path's last slash.
+fn last_name(path: &[u8]) -> &[u8] {
+    match path.rsplit(|byte| *byte == b'/').next() {
+        Some(name) => name,
+        None => path,
+    }
+}
+
+fn new_file(given: Given) -> NewFile {
+    NewFile {
+        mode: given.mode,
+        uid: given.uid,
+        gid: given.gid,
+        atime: START,
+        mtime: START,
+    }
+}

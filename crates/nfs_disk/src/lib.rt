@@ -1,0 +1,9 @@
+//! A directory on disk as a volume: what stands in it, and the tree that has the same.
+#![tactic(auto)]
+
+pub mod building;
+pub mod fault;
+pub mod found;
+pub mod head;
+pub mod survey;
+pub mod warning;

@@ -1,0 +1,203 @@
+//! A walk over a directory on disk.
+
+use crate::fault::DiskFault;
+use crate::found::{Found, Kind, given_of, kind_of};
+use crate::warning::{Reason, Warning};
+use nfs_describe::sayable::is_sayable;
+use nfs_inodes::limits::MAX_FILE_BYTES;
+use std::alloc::Global;
+use std::fs::{self, Metadata};
+use std::io;
+use std::os::unix::fs::MetadataExt;
+use std::rt::Files;
+
+/// What a directory on disk holds, with what is left out of it.
+#[derive(Drop)]
+pub struct Survey {
+    /// The directory itself, then what stands in it, then what stands in each directory of these,
+    /// and so on, each time in the order of names.
+    pub found: Vec<Found>,
+    /// What is left out.
+    pub warnings: Vec<Warning>,
+}
+
+/// How much some files on disk have together.
+#[derive(Clone, Copy, Debug)]
+pub struct Extent {
+    /// How many bytes the regular ones have, each counted once for each of its names.
+    pub bytes: u64,
+    /// How many names there are, with that of the first directory.
+    pub files: u64,
+}
+
+impl Survey {
+    /// A survey of a directory on disk, whose links are not followed. `CannotRead` where it is none
+    /// or can't be read, `Memory`.
+    pub fn of<R: Files + AllocGlobal>(rt: &R, directory: &str) -> Result<Survey, DiskFault> {
+        let alloc = rt.alloc();
+        let mut survey = Survey {
+            found: Vec::new(alloc),
+            warnings: Vec::new(alloc),
+        };
+        survey.begin(rt, directory)?;
+        for place in 0..usize::MAX {
+            let Some(found) = survey.found.get(place) else {
+                return Ok(survey);
+            };
+            if found.kind == Kind::Directory {
+                let disk_path = found.disk_path.clone()?;
+                let path = found.path.clone()?;
+                survey.enter(rt, place, disk_path.as_str(), path.as_str())?;
+            }
+        }
+        Err(DiskFault::Memory)
+    }
+
+    /// How much was found.
+    pub fn extent(&self) -> Extent {
+        let mut extent = Extent { bytes: 0, files: 0 };
+        for found in &self.found {
+            extent.files = extent.files.saturating_add(1);
+            if found.kind == Kind::Regular {
+                extent.bytes = extent.bytes.saturating_add(found.size);
+            }
+        }
+        extent
+    }
+
+    // The directory that everything else is below.
+    fn begin<R: Files + AllocGlobal>(&mut self, rt: &R, directory: &str) -> Result<(), DiskFault> {
+        let alloc = rt.alloc();
+        let metadata = match fs::metadata(rt, directory) {
+            Ok(metadata) => metadata,
+            Err(error) => return Err(DiskFault::CannotRead(error)),
+        };
+        if !metadata.is_dir() {
+            let error = io::Error::from(io::ErrorKind::NotADirectory);
+            return Err(DiskFault::CannotRead(error));
+        }
+        let disk_path = String::from_str(alloc, directory)?;
+        let first = found_at(0, disk_path, String::new(alloc), Kind::Directory, &metadata);
+        self.found.push(first)?;
+        Ok(())
+    }
+
+    // What stands in a directory, in the order of names.
+    fn enter<R: Files + AllocGlobal>(
+        &mut self,
+        rt: &R,
+        place: usize,
+        disk_path: &str,
+        path: &str,
+    ) -> Result<(), DiskFault> {
+        let alloc = rt.alloc();
+        let Some(names) = names_in(rt, disk_path)? else {
+            return self.leave_out(alloc, disk_path, Reason::Unreadable);
+        };
+        for name in &names.texts {
+            self.take(rt, place, disk_path, path, name.as_str())?;
+        }
+        if names.are_all {
+            return Ok(());
+        }
+        self.leave_out(alloc, disk_path, Reason::NotText)
+    }
+
+    // A name in a directory.
+    fn take<R: Files + AllocGlobal>(
+        &mut self,
+        rt: &R,
+        parent: usize,
+        directory: &str,
+        above: &str,
+        name: &str,
+    ) -> Result<(), DiskFault> {
+        let alloc = rt.alloc();
+        let disk_path = format!(in alloc; "{directory}/{name}")?;
+        let path = format!(in alloc; "{above}/{name}")?;
+        let Ok(metadata) = fs::symlink_metadata(rt, disk_path.as_str()) else {
+            return self.leave_out(alloc, disk_path.as_str(), Reason::Unreadable);
+        };
+        match kind_to_say(&metadata, path.as_str()) {
+            Ok(kind) => {
+                let found = found_at(parent, disk_path, path, kind, &metadata);
+                self.found.push(found)?;
+                Ok(())
+            }
+            Err(reason) => self.leave_out(alloc, disk_path.as_str(), reason),
+        }
+    }
+
+    // Something is left out.
+    fn leave_out(&mut self, alloc: Global, path: &str, reason: Reason) -> Result<(), DiskFault> {
+        self.warnings.push(Warning {
+            path: String::from_str(alloc, path)?,
+            reason,
+        })?;
+        Ok(())
+    }
+}
+
+// What kind of file stands at a path, or why it is left out.
+fn kind_to_say(metadata: &Metadata, path: &str) -> Result<Kind, Reason> {
+    let Some(kind) = kind_of(metadata) else {
+        return Err(Reason::OtherKind);
+    };
+    if !is_sayable(path.as_bytes()) {
+        return Err(Reason::Unsayable);
+    }
+    if kind == Kind::Regular && metadata.len() > MAX_FILE_BYTES as u64 {
+        return Err(Reason::TooLarge);
+    }
+    Ok(kind)
+}
+
+fn found_at(
+    parent: usize,
+    disk_path: String,
+    path: String,
+    kind: Kind,
+    metadata: &Metadata,
+) -> Found {
+    Found {
+        parent,
+        disk_path,
+        path,
+        kind,
+        given: given_of(metadata),
+        size: metadata.len(),
+        identity: (metadata.dev(), metadata.ino()),
+        names: metadata.nlink(),
+    }
+}
+
+// The names in a directory.
+#[derive(Drop)]
+struct Names {
+    // In their order.
+    texts: Vec<String>,
+    // Whether there are no others, which are no text.
+    are_all: bool,
+}
+
+// The names in a directory; none where it can't be read.
+fn names_in<R: Files + AllocGlobal>(rt: &R, directory: &str) -> Result<Option<Names>, DiskFault> {
+    let alloc = rt.alloc();
+    let Ok(entries) = fs::read_dir(&rt, directory) else {
+        return Ok(None);
+    };
+    let mut names = Names {
+        texts: Vec::new(alloc),
+        are_all: true,
+    };
+    for entry in entries {
+        match entry {
+            Ok(entry) => names
+                .texts
+                .push(String::from_str(alloc, entry.file_name())?)?,
+            Err(_) => names.are_all = false,
+        }
+    }
+    names.texts.sort()?;
+    Ok(Some(names))
+}

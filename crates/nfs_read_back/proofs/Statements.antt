@@ -1,0 +1,184 @@
+-- What the lines that are written say.
+use Rattle.std.proofs.Common.{◌≡◌, ℕ, ◌<◌, ◌^◌, true, ◌&&◌, List, [], ◌∷◌, ◌++◌, length, Ok, refl, ap, ◌∙◌, append_assoc, arith}
+use Rattle.std.specs.Prelude.{Result, Err, codes, decimal, nat_le, nat_lt, if◌then◌else◌}
+use Rattle.std.specs.List.{list_all}
+use Rattle.hex.specs.Hex.{encode_lower}
+use Rattle.nfs_load.specs.Fields.{◌>>=◌, behind, by, content_in, mode_in, number_in, target_in}
+use Rattle.nfs_load.specs.Listings.{octal}
+use Rattle.nfs_load.specs.Paths.{path_in, volume_path_in}
+use Rattle.nfs_load.specs.Statements.{Read, id_in, given_in, volume_in, dir_in, file_in, link_in, hard_in}
+use Rattle.nfs_load.specs.declared.cause.Cause.{Cause}
+use Rattle.nfs_load.specs.declared.cause.Cause.TheVariants.{BadContent}
+use Rattle.nfs_load.specs.declared.line.Keyword.TheVariants.{Server, Volume, Dir, File, Link, Hard}
+use Rattle.nfs_load.specs.declared.statement.Given.{Given}
+use Rattle.nfs_describe.specs.Lines.{content_text, dir_line, file_line, hard_line, is_shown, is_target, link_line, server_line, volume_line}
+use Rattle.nfs_read_back.specs.ReadBack.{IsGiven, is_said}
+use Rattle.nfs_read_back.specs.ReadBack as law
+use Rattle.nfs_read_back.proofs.Digits.{and_true, content_read, content_said, decimal_said, key_read, key_said, mode_read, mode_said, number_read}
+use Rattle.nfs_read_back.proofs.Lines.{read_as}
+use Rattle.nfs_read_back.proofs.Words.{both}
+
+-- ---- fields
+
+id_read : (n : ℕ) → n < 2 ^ 32 → id_in (decimal n) ≡ Ok n
+id_read n small = number_read 0 4294967295 n (omega arith) (omega (arith, small)) (omega (arith, small))
+
+id_said : (n : ℕ) → n < 2 ^ 32 → is_said (decimal n) ≡ true
+id_said n small = decimal_said n (omega (arith, small))
+
+given_read : (m u g : List ℕ) (rest : List (List ℕ)) (given : Given) → mode_in m ≡ Ok given.mode → id_in u ≡ Ok given.uid → id_in g ≡ Ok given.gid
+    → given_in (m ∷ u ∷ g ∷ rest) ≡ Ok (given, rest)
+given_read m u g rest given mode uid gid =
+    ap (λ (r : Result ℕ Cause). behind (u ∷ g ∷ rest) r >>= (λ (mode : ℕ × List (List ℕ)). by id_in mode.1 >>= (λ (uid : ℕ × List (List ℕ)). by id_in uid.1 >>= (λ (gid : ℕ × List (List ℕ)).
+    Ok (record { mode = mode.0; uid = uid.0; gid = gid.0 }, gid.1))))) mode
+    ∙ ap (λ (r : Result ℕ Cause). behind (g ∷ rest) r >>= (λ (uid : ℕ × List (List ℕ)). by id_in uid.1 >>= (λ (gid : ℕ × List (List ℕ)). Ok (record { mode = given.mode; uid = uid.0; gid = gid.0 }, gid.1)))) uid
+    ∙ ap (λ (r : Result ℕ Cause). behind rest r >>= (λ (gid : ℕ × List (List ℕ)). Ok (record { mode = given.mode; uid = given.uid; gid = gid.0 }, gid.1))) gid
+
+given_fields : (given : Given) (rest : List (List ℕ)) → IsGiven given → given_in (octal given.mode ∷ decimal given.uid ∷ decimal given.gid ∷ rest) ≡ Ok (given, rest)
+given_fields given rest is = given_read (octal given.mode) (decimal given.uid) (decimal given.gid) rest given (mode_read given.mode is.0) (id_read given.uid is.1) (id_read given.gid is.2)
+
+-- ---- statements
+
+dir_read : (path : List ℕ) (names : List (List ℕ)) (given : Given) (fields rest : List (List ℕ)) → path_in path ≡ Ok names → given_in fields ≡ Ok (given, rest)
+    → dir_in (path ∷ fields) ≡ Ok (record { path = names; given = given }, rest)
+dir_read path names given fields rest is gives =
+    ap (λ (r : Result (List (List ℕ)) Cause). behind fields r >>= (λ (path : List (List ℕ) × List (List ℕ)). given_in path.1 >>= (λ (given : Given × List (List ℕ)). Ok (record { path = path.0; given = given.0 }, given.1)))) is
+    ∙ ap (λ (r : Read Given). r >>= (λ (given : Given × List (List ℕ)). Ok (record { path = names; given = given.0 }, given.1))) gives
+
+file_read : (path c bytes : List ℕ) (names : List (List ℕ)) (given : Given) (fields : List (List ℕ)) → path_in path ≡ Ok names → given_in fields ≡ Ok (given, c ∷ []) → content_in c ≡ Ok bytes
+    → file_in (path ∷ fields) ≡ Ok (record { path = names; given = given; content = bytes }, [])
+file_read path c bytes names given fields is gives content =
+    ap (λ (r : Result (List (List ℕ)) Cause). behind fields r >>= (λ (path : List (List ℕ) × List (List ℕ)). given_in path.1 >>= (λ (given : Given × List (List ℕ)). by content_in given.1 >>= (λ (content : List ℕ × List (List ℕ)).
+    Ok (record { path = path.0; given = given.0; content = content.0 }, content.1))))) is
+    ∙ ap (λ (r : Read Given). r >>= (λ (given : Given × List (List ℕ)). by content_in given.1 >>= (λ (content : List ℕ × List (List ℕ)). Ok (record { path = names; given = given.0; content = content.0 }, content.1)))) gives
+    ∙ ap (λ (r : Result (List ℕ) Cause). behind [] r >>= (λ (content : List ℕ × List (List ℕ)). Ok (record { path = names; given = given; content = content.0 }, content.1))) content
+
+link_read : (path u g target : List ℕ) (names : List (List ℕ)) (uid gid : ℕ) → path_in path ≡ Ok names → id_in u ≡ Ok uid → id_in g ≡ Ok gid → target_in target ≡ Ok target
+    → link_in (path ∷ u ∷ g ∷ target ∷ []) ≡ Ok (record { path = names; uid = uid; gid = gid; target = target }, [])
+link_read path u g target names uid gid is owner group holds =
+    ap (λ (r : Result (List (List ℕ)) Cause). behind (u ∷ g ∷ target ∷ []) r >>= (λ (path : List (List ℕ) × List (List ℕ)). by id_in path.1 >>= (λ (uid : ℕ × List (List ℕ)). by id_in uid.1 >>= (λ (gid : ℕ × List (List ℕ)).
+    by target_in gid.1 >>= (λ (target : List ℕ × List (List ℕ)). Ok (record { path = path.0; uid = uid.0; gid = gid.0; target = target.0 }, target.1)))))) is
+    ∙ ap (λ (r : Result ℕ Cause). behind (g ∷ target ∷ []) r >>= (λ (uid : ℕ × List (List ℕ)). by id_in uid.1 >>= (λ (gid : ℕ × List (List ℕ)).
+    by target_in gid.1 >>= (λ (target : List ℕ × List (List ℕ)). Ok (record { path = names; uid = uid.0; gid = gid.0; target = target.0 }, target.1))))) owner
+    ∙ ap (λ (r : Result ℕ Cause). behind (target ∷ []) r >>= (λ (gid : ℕ × List (List ℕ)). by target_in gid.1 >>= (λ (target : List ℕ × List (List ℕ)). Ok (record { path = names; uid = uid; gid = gid.0; target = target.0 }, target.1)))) group
+    ∙ ap (λ (r : Result (List ℕ) Cause). behind [] r >>= (λ (target : List ℕ × List (List ℕ)). Ok (record { path = names; uid = uid; gid = gid; target = target.0 }, target.1))) holds
+
+hard_read : (path old : List ℕ) (names olds : List (List ℕ)) → path_in path ≡ Ok names → path_in old ≡ Ok olds → hard_in (path ∷ old ∷ []) ≡ Ok (record { path = names; old = olds }, [])
+hard_read path old names olds is was =
+    ap (λ (r : Result (List (List ℕ)) Cause). behind (old ∷ []) r >>= (λ (path : List (List ℕ) × List (List ℕ)). by path_in path.1 >>= (λ (old : List (List ℕ) × List (List ℕ)). Ok (record { path = path.0; old = old.0 }, old.1)))) is
+    ∙ ap (λ (r : Result (List (List ℕ)) Cause). behind [] r >>= (λ (old : List (List ℕ) × List (List ℕ)). Ok (record { path = names; old = old.0 }, old.1))) was
+
+volume_read : (path b f : List ℕ) (bytes files : ℕ) (given : Given) (fields : List (List ℕ)) → volume_path_in path ≡ Ok path → number_in 0 1099511627776 b ≡ Ok bytes → number_in 1 1000000 f ≡ Ok files
+    → given_in fields ≡ Ok (given, []) → volume_in (path ∷ b ∷ f ∷ fields) ≡ Ok (record { path = path; max_bytes = bytes; max_files = files; given = given }, [])
+volume_read path b f bytes files given fields is most many gives =
+    ap (λ (r : Result (List ℕ) Cause). behind (b ∷ f ∷ fields) r >>= (λ (path : List ℕ × List (List ℕ)). by (number_in 0 1099511627776) path.1 >>= (λ (max_bytes : ℕ × List (List ℕ)). by (number_in 1 1000000) max_bytes.1 >>= (λ (max_files : ℕ × List (List ℕ)).
+    given_in max_files.1 >>= (λ (given : Given × List (List ℕ)). Ok (record { path = path.0; max_bytes = max_bytes.0; max_files = max_files.0; given = given.0 }, given.1)))))) is
+    ∙ ap (λ (r : Result ℕ Cause). behind (f ∷ fields) r >>= (λ (max_bytes : ℕ × List (List ℕ)). by (number_in 1 1000000) max_bytes.1 >>= (λ (max_files : ℕ × List (List ℕ)).
+    given_in max_files.1 >>= (λ (given : Given × List (List ℕ)). Ok (record { path = path; max_bytes = max_bytes.0; max_files = max_files.0; given = given.0 }, given.1))))) most
+    ∙ ap (λ (r : Result ℕ Cause). behind fields r >>= (λ (max_files : ℕ × List (List ℕ)). given_in max_files.1 >>= (λ (given : Given × List (List ℕ)). Ok (record { path = path; max_bytes = bytes; max_files = max_files.0; given = given.0 }, given.1)))) many
+    ∙ ap (λ (r : Read Given). r >>= (λ (given : Given × List (List ℕ)). Ok (record { path = path; max_bytes = bytes; max_files = files; given = given.0 }, given.1))) gives
+
+-- ---- lines
+
+-- a text that stands before another as a space does
+abbrev pub IsSpace : List ℕ → Type 0
+IsSpace s = (xs : List ℕ) → s ++ xs ≡ 32 ∷ xs
+
+pub space : IsSpace (codes " ")
+space xs = refl
+
+pub hard_words : (k s path old e : List ℕ) → IsSpace s → k ++ path ++ s ++ old ++ e ≡ k ++ (path ++ 32 ∷ old ++ e)
+hard_words k s path old e is =
+    let flat : k ++ path ++ s ++ old ++ e ≡ k ++ (path ++ (s ++ (old ++ e))) = simp append_assoc in
+    let back : k ++ (path ++ 32 ∷ (old ++ e)) ≡ k ++ (path ++ 32 ∷ old ++ e) = simp append_assoc in
+    flat ∙ ap (λ l. k ++ (path ++ l)) (is (old ++ e)) ∙ back
+
+dir_words : (k s path m u g e : List ℕ) → IsSpace s → k ++ path ++ (s ++ m ++ s ++ u ++ s ++ g) ++ e ≡ k ++ (path ++ 32 ∷ (m ++ 32 ∷ (u ++ 32 ∷ g)) ++ e)
+dir_words k s path m u g e is =
+    let flat : k ++ path ++ (s ++ m ++ s ++ u ++ s ++ g) ++ e ≡ k ++ (path ++ (s ++ (m ++ (s ++ (u ++ (s ++ (g ++ e))))))) = simp append_assoc in
+    let back : k ++ (path ++ 32 ∷ (m ++ 32 ∷ (u ++ 32 ∷ (g ++ e)))) ≡ k ++ (path ++ 32 ∷ (m ++ 32 ∷ (u ++ 32 ∷ g)) ++ e) = simp append_assoc in
+    flat ∙ ap (λ l. k ++ (path ++ l)) (is (m ++ (s ++ (u ++ (s ++ (g ++ e))))) ∙ ap (λ l. 32 ∷ (m ++ l)) (is (u ++ (s ++ (g ++ e))) ∙ ap (λ l. 32 ∷ (u ++ l)) (is (g ++ e)))) ∙ back
+
+file_words : (k s path m u g c e : List ℕ) → IsSpace s → k ++ path ++ (s ++ m ++ s ++ u ++ s ++ g) ++ s ++ c ++ e ≡ k ++ (path ++ 32 ∷ (m ++ 32 ∷ (u ++ 32 ∷ (g ++ 32 ∷ c))) ++ e)
+file_words k s path m u g c e is =
+    let flat : k ++ path ++ (s ++ m ++ s ++ u ++ s ++ g) ++ s ++ c ++ e ≡ k ++ (path ++ (s ++ (m ++ (s ++ (u ++ (s ++ (g ++ (s ++ (c ++ e))))))))) = simp append_assoc in
+    let back : k ++ (path ++ 32 ∷ (m ++ 32 ∷ (u ++ 32 ∷ (g ++ 32 ∷ (c ++ e))))) ≡ k ++ (path ++ 32 ∷ (m ++ 32 ∷ (u ++ 32 ∷ (g ++ 32 ∷ c))) ++ e) = simp append_assoc in
+    flat ∙ ap (λ l. k ++ (path ++ l)) (is (m ++ (s ++ (u ++ (s ++ (g ++ (s ++ (c ++ e))))))) ∙ ap (λ l. 32 ∷ (m ++ l)) (is (u ++ (s ++ (g ++ (s ++ (c ++ e)))))
+    ∙ ap (λ l. 32 ∷ (u ++ l)) (is (g ++ (s ++ (c ++ e))) ∙ ap (λ l. 32 ∷ (g ++ l)) (is (c ++ e))))) ∙ back
+
+link_words : (k s path u g t e : List ℕ) → IsSpace s → k ++ path ++ s ++ u ++ s ++ g ++ s ++ t ++ e ≡ k ++ (path ++ 32 ∷ (u ++ 32 ∷ (g ++ 32 ∷ t)) ++ e)
+link_words k s path u g t e is =
+    let flat : k ++ path ++ s ++ u ++ s ++ g ++ s ++ t ++ e ≡ k ++ (path ++ (s ++ (u ++ (s ++ (g ++ (s ++ (t ++ e))))))) = simp append_assoc in
+    let back : k ++ (path ++ 32 ∷ (u ++ 32 ∷ (g ++ 32 ∷ (t ++ e)))) ≡ k ++ (path ++ 32 ∷ (u ++ 32 ∷ (g ++ 32 ∷ t)) ++ e) = simp append_assoc in
+    flat ∙ ap (λ l. k ++ (path ++ l)) (is (u ++ (s ++ (g ++ (s ++ (t ++ e))))) ∙ ap (λ l. 32 ∷ (u ++ l)) (is (g ++ (s ++ (t ++ e))) ∙ ap (λ l. 32 ∷ (g ++ l)) (is (t ++ e)))) ∙ back
+
+volume_words : (k s path b f m u g e : List ℕ) → IsSpace s → k ++ path ++ s ++ b ++ s ++ f ++ (s ++ m ++ s ++ u ++ s ++ g) ++ e ≡ k ++ (path ++ 32 ∷ (b ++ 32 ∷ (f ++ 32 ∷ (m ++ 32 ∷ (u ++ 32 ∷ g)))) ++ e)
+volume_words k s path b f m u g e is =
+    let flat : k ++ path ++ s ++ b ++ s ++ f ++ (s ++ m ++ s ++ u ++ s ++ g) ++ e ≡ k ++ (path ++ (s ++ (b ++ (s ++ (f ++ (s ++ (m ++ (s ++ (u ++ (s ++ (g ++ e))))))))))) = simp append_assoc in
+    let back : k ++ (path ++ 32 ∷ (b ++ 32 ∷ (f ++ 32 ∷ (m ++ 32 ∷ (u ++ 32 ∷ (g ++ e)))))) ≡ k ++ (path ++ 32 ∷ (b ++ 32 ∷ (f ++ 32 ∷ (m ++ 32 ∷ (u ++ 32 ∷ g)))) ++ e) = simp append_assoc in
+    flat ∙ ap (λ l. k ++ (path ++ l)) (is (b ++ (s ++ (f ++ (s ++ (m ++ (s ++ (u ++ (s ++ (g ++ e))))))))) ∙ ap (λ l. 32 ∷ (b ++ l)) (is (f ++ (s ++ (m ++ (s ++ (u ++ (s ++ (g ++ e)))))))
+    ∙ ap (λ l. 32 ∷ (f ++ l)) (is (m ++ (s ++ (u ++ (s ++ (g ++ e))))) ∙ ap (λ l. 32 ∷ (m ++ l)) (is (u ++ (s ++ (g ++ e))) ∙ ap (λ l. 32 ∷ (u ++ l)) (is (g ++ e)))))) ∙ back
+
+-- ---- the laws
+
+pub servers : law.ServersAreReadBack
+servers key all long = (
+  encode_lower key ∷ [],
+  read_as (server_line key) (codes "server") (encode_lower key ∷ []) Server refl (refl, key_said key all long) refl refl refl,
+  ap (λ (r : Result (List ℕ) Cause). behind [] r) (key_read key all long),
+)
+
+pub volumes : law.VolumesAreReadBack
+volumes path bytes files given said is most some many fits = (
+  path ∷ decimal bytes ∷ decimal files ∷ octal given.mode ∷ decimal given.uid ∷ decimal given.gid ∷ [],
+  read_as (volume_line path bytes files given) (codes "volume") (path ∷ decimal bytes ∷ decimal files ∷ octal given.mode ∷ decimal given.uid ∷ decimal given.gid ∷ []) Volume
+      (volume_words (codes "volume ") (codes " ") path (decimal bytes) (decimal files) (octal given.mode) (decimal given.uid) (decimal given.gid) (10 ∷ []) space)
+      (refl, (said, (decimal_said bytes (omega (arith, most)), (decimal_said files (omega (arith, many)), (mode_said given.mode, (id_said given.uid fits.1, id_said given.gid fits.2)))))) refl refl refl,
+  volume_read path (decimal bytes) (decimal files) bytes files given (octal given.mode ∷ decimal given.uid ∷ decimal given.gid ∷ []) is
+      (number_read 0 1099511627776 bytes (omega arith) most (omega (arith, most))) (number_read 1 1000000 files some many (omega (arith, many))) (given_fields given [] fits),
+)
+
+pub dirs : law.DirsAreReadBack
+dirs path names given said is fits = (
+  path ∷ octal given.mode ∷ decimal given.uid ∷ decimal given.gid ∷ [],
+  read_as (dir_line path given) (codes "dir") (path ∷ octal given.mode ∷ decimal given.uid ∷ decimal given.gid ∷ []) Dir
+      (dir_words (codes "dir ") (codes " ") path (octal given.mode) (decimal given.uid) (decimal given.gid) (10 ∷ []) space)
+      (refl, (said, (mode_said given.mode, (id_said given.uid fits.1, id_said given.gid fits.2)))) refl refl refl,
+  dir_read path names given (octal given.mode ∷ decimal given.uid ∷ decimal given.gid ∷ []) [] is (given_fields given [] fits),
+)
+
+pub files : law.FilesAreReadBack
+files path names given bytes said is fits all few = (
+  path ∷ octal given.mode ∷ decimal given.uid ∷ decimal given.gid ∷ content_text bytes ∷ [],
+  read_as (file_line path given bytes) (codes "file") (path ∷ octal given.mode ∷ decimal given.uid ∷ decimal given.gid ∷ content_text bytes ∷ []) File
+      (file_words (codes "file ") (codes " ") path (octal given.mode) (decimal given.uid) (decimal given.gid) (content_text bytes) (10 ∷ []) space)
+      (refl, (said, (mode_said given.mode, (id_said given.uid fits.1, (id_said given.gid fits.2, content_said bytes all))))) refl refl refl,
+  file_read path (content_text bytes) bytes names given (octal given.mode ∷ decimal given.uid ∷ decimal given.gid ∷ content_text bytes ∷ []) is
+      (given_fields given (content_text bytes ∷ []) fits) (content_read bytes all few),
+)
+
+target_said : (target : List ℕ) → is_target target ≡ true → is_said target ≡ true
+target_said target is =
+    let p = both (nat_lt 0 (length target) && nat_le (length target) 1024) (list_all is_shown target) is in
+    and_true (nat_lt 0 (length target)) (list_all is_shown target) (both (nat_lt 0 (length target)) (nat_le (length target) 1024) p.0).0 p.1
+
+target_read : (target : List ℕ) → is_target target ≡ true → target_in target ≡ Ok target
+target_read target is =
+    let p = both (nat_lt 0 (length target) && nat_le (length target) 1024) (list_all is_shown target) is in
+    ap (λ b. if b then Ok target else Err BadContent) (both (nat_lt 0 (length target)) (nat_le (length target) 1024) p.0).1
+
+pub links : law.LinksAreReadBack
+links path names uid gid target said is owner group holds = (
+  path ∷ decimal uid ∷ decimal gid ∷ target ∷ [],
+  read_as (link_line path uid gid target) (codes "link") (path ∷ decimal uid ∷ decimal gid ∷ target ∷ []) Link
+      (link_words (codes "link ") (codes " ") path (decimal uid) (decimal gid) target (10 ∷ []) space)
+      (refl, (said, (id_said uid owner, (id_said gid group, target_said target holds)))) refl refl refl,
+  link_read path (decimal uid) (decimal gid) target names uid gid is (id_read uid owner) (id_read gid group) (target_read target holds),
+)
+
+pub hards : law.HardsAreReadBack
+hards path old names olds said is old_said was = (
+  path ∷ old ∷ [],
+  read_as (hard_line path old) (codes "hard") (path ∷ old ∷ []) Hard (hard_words (codes "hard ") (codes " ") path old (10 ∷ []) space) (refl, (said, old_said)) refl refl refl,
+  hard_read path old names olds is was,
+)

@@ -1,0 +1,8 @@
+use Rattle.nfs_read_back.proofs.Statements.{servers, volumes}
+use Rattle.nfs_read_back.proofs.laws.volumes_are_read_back.Goals as goal
+
+pub returns-clause-servers : goal.returns-clause-servers
+returns-clause-servers c = servers
+
+pub returns-clause-volumes : goal.returns-clause-volumes
+returns-clause-volumes c = volumes

@@ -1,0 +1,24 @@
+//! Laws over the definitions alone.
+ghost use Rattle.nfs_read_back.specs.ReadBack.{DirsAreReadBack, FilesAreReadBack, HardsAreReadBack, LinksAreReadBack};
+ghost use Rattle.nfs_read_back.specs.ReadBack.{ExportsAreReadBack, ServersAreReadBack, VolumesAreReadBack};
+
+/// The line that is written for a directory, a file, a link or a further name asks for exactly that,
+/// wherever it stands in a text: the same path, mode, owner, group and content.
+pub fn files_are_read_back()
+    ensures dirs { DirsAreReadBack }
+    ensures files { FilesAreReadBack }
+    ensures links { LinksAreReadBack }
+    ensures hards { HardsAreReadBack }
+{}
+
+/// The line that is written for a server says its key, and the one for a volume its path, its limits
+/// and what is given of its root.
+pub fn volumes_are_read_back()
+    ensures servers { ServersAreReadBack }
+    ensures volumes { VolumesAreReadBack }
+{}
+
+/// The line that is written for an export says exactly its pattern and its options.
+pub fn exports_are_read_back()
+    ensures { ExportsAreReadBack }
+{}

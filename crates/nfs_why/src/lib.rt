@@ -1,0 +1,17 @@
+//! Why a call is granted or denied, told rule by rule without doing what it asks for; and who may reach
+//! which volume.
+#![tactic(auto)]
+
+mod asked;
+pub mod exports;
+mod grant;
+pub mod judgement;
+mod meaning;
+pub mod mounting;
+pub mod operation;
+pub mod order;
+mod place;
+pub mod question;
+pub mod text;
+mod user;
+pub mod why;
