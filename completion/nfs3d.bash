@@ -15,8 +15,8 @@ _nfs3d() {
         return
     fi
     case ${COMP_WORDS[1]}:$word in
-    check:-*) COMPREPLY=($(compgen -W "--strict --help" -- "$word")) ;;
-    serve:-*) COMPREPLY=($(compgen -W "--listen --port --connections --clients --idle --cache --audit --verbose --help" -- "$word")) ;;
+    check:-*) COMPREPLY=($(compgen -W "--strict --all --help" -- "$word")) ;;
+    serve:-*) COMPREPLY=($(compgen -W "--listen --port --connections --clients --idle --cache --audit --save --verbose --help" -- "$word")) ;;
     describe:-*) COMPREPLY=($(compgen -W "--mount --export --bytes --files --key --help" -- "$word")) ;;
     replay:-*) COMPREPLY=($(compgen -W "--cache --save --help" -- "$word")) ;;
     *:-*) COMPREPLY=($(compgen -W "--help" -- "$word")) ;;

@@ -1,44 +1,81 @@
-//! What a description holds, in one line.
-ghost use Rattle.std.specs.Prelude.{IfErr};
-ghost use Rattle.nfs3d.specs.Status.{IsOfCheck};
+//! `nfs3d check`: whether a description is in order, and how much it holds.
 
-use crate::fault::{ReplayFault, RunFault};
-use crate::printing::Printer;
-use nfs_inodes::tree::Tree;
-use nfs_inodes::volumes::Totals;
-use nfs_load::description::load;
+use crate::diagnostic::Diagnostic;
+use crate::source::Source;
+use crate::totals::print_totals;
+use nfs_advice::every::{Faulty, every_fault};
+use nfs_advice::warnings::{Warning, warnings};
+use nfs_load::load_error::LoadError;
 use nfs_load::loaded::Loaded;
-use nfs_xdr::device::ByteOut;
-use std::alloc::Global;
+use nfs_xdr::device::Device;
+use std::alloc::{AllocError, Global};
+use std::io;
+use std::process::ExitCode;
+use std::rt::Files;
 
-/// What a description holds. Prints `ok volumes=V files=F bytes=B`: how many volumes it has, and what they
-/// have together: files with their roots, and bytes of regular files.
-///
-/// `Description` for its first faulty line, `Write` where the output fails, `Memory` where there is
-/// no memory.
-pub fn check<W: ByteOut>(alloc: Global, tree: &[u8], out: &mut W) -> Result<Loaded, ReplayFault>
-    ensures { IfErr result IsOfCheck }
-{
-    let loaded = load(alloc, tree)?;
-    print_totals(alloc, &loaded.tree, out)?;
-    Ok(loaded)
-}
-
-fn print_totals<W: ByteOut>(alloc: Global, tree: &Tree, out: &mut W) -> Result<(), RunFault> {
-    let volumes = tree.volumes();
-    let Totals { bytes, files } = totals_of(tree);
-    let text = format!(in alloc; "ok volumes={volumes} files={files} bytes={bytes}")?;
-    Printer::new(alloc).text(out, text.as_str())
-}
-
-// What all volumes have together.
-fn totals_of(tree: &Tree) -> Totals {
-    let mut all = Totals { bytes: 0, files: 0 };
-    for place in 0..tree.volumes() {
-        if let Some(totals) = tree.totals(place) {
-            all.bytes = all.bytes.saturating_add(totals.bytes);
-            all.files = all.files.saturating_add(totals.files);
-        }
+/// Prints what a description holds, and on standard error what it says that may not be meant; the
+/// status is 1 then where that is strict. Where the whole of it is looked at, its faulty lines are all
+/// told.
+pub(crate) fn check_file<R: Files + Input + Print + Eprint>(
+    rt: &R,
+    alloc: Global,
+    name: &str,
+    is_strict: bool,
+    is_whole: bool,
+) -> Result<ExitCode, Diagnostic> {
+    let description = Source::read(rt, alloc, name)?;
+    if is_whole && tell_faults(rt, alloc, &description)? {
+        return Ok(ExitCode::from(1));
     }
-    all
+    let loaded = description.load(alloc)?;
+    print_totals(alloc, &loaded.tree, &mut Device::new(io::writer(rt)))?;
+    let warnings = warn(rt, alloc, &description, &loaded)?;
+    Ok(if is_strict && warnings > 0 {
+        ExitCode::from(1)
+    } else {
+        ExitCode::SUCCESS
+    })
+}
+
+// Prints the fault of each faulty line and how many there are, if there is one.
+fn tell_faults<R: Eprint>(
+    rt: &R,
+    alloc: Global,
+    description: &Source<'_>,
+) -> Result<bool, AllocError> {
+    let Some(faults) = every_fault(alloc, description.text.as_slice())? else {
+        return Ok(false);
+    };
+    tell(rt, alloc, description, faults.first);
+    for faulty in &faults.others {
+        tell(rt, alloc, description, *faulty);
+    }
+    let count = faults.others.len().saturating_add(1);
+    let _ = eprintln!(rt; "faulty lines: {count}");
+    Ok(true)
+}
+
+fn tell<R: Eprint>(rt: &R, alloc: Global, description: &Source<'_>, faulty: Faulty) {
+    let Faulty { line, cause } = faulty;
+    let diagnostic = Diagnostic::of_description(
+        alloc,
+        LoadError::Fault { line, cause },
+        description,
+    );
+    let _ = eprintln!(rt; "{diagnostic}");
+}
+
+// Prints a line for each warning, and tells how many there are.
+fn warn<R: Eprint>(
+    rt: &R,
+    alloc: Global,
+    description: &Source<'_>,
+    loaded: &Loaded,
+) -> Result<usize, AllocError> {
+    let name = description.name;
+    let found = warnings(alloc, description.text.as_slice(), loaded)?;
+    for Warning { line, advice } in &found {
+        let _ = eprintln!(rt; "warning: {name}:{line}:{advice}");
+    }
+    Ok(found.len())
 }

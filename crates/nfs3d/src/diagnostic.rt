@@ -1,52 +1,102 @@
 //! A fault with what stands behind its line.
 
-use crate::fault::ReplayFault;
+use crate::fault::Fault;
+use crate::source::Source;
 use nfs_advice::advice::Advice;
 use nfs_advice::description::advise;
 use nfs_advice::script::{advise_bytes, advise_file, advise_line};
+use nfs_load::load_error::LoadError;
+use nfs_replay::fault::{LineCause, ScriptFault};
 use std::alloc::{AllocError, Global};
 use std::fmt;
+
+// The words of an `ask` line before the user's: `ask`, the address and the seconds.
+const WORDS_BEFORE_USER: usize = 3;
 
 /// A fault, and the line that says where in a description or a script it is and what would be right.
 #[derive(Drop)]
 pub(crate) struct Diagnostic {
     /// The fault.
-    pub(crate) fault: ReplayFault,
+    pub(crate) fault: Fault,
     advice: Option<String>,
 }
 
 impl Diagnostic {
-    /// A fault of the description of this name and text. Without memory for the advice there is none.
+    /// A fault of a description. Without memory for the advice there is none.
     pub(crate) fn of_description(
         alloc: Global,
-        fault: ReplayFault,
-        name: &str,
-        text: &[u8],
+        error: LoadError,
+        description: &Source<'_>,
     ) -> Diagnostic {
-        let advice = match &fault {
-            ReplayFault::Description { line, cause } => {
-                told(alloc, name, *line, advise(text, *line, *cause))
+        let advice = match error {
+            LoadError::Fault { line, cause } => {
+                let advice = advise(description.text.as_slice(), line, cause);
+                told(alloc, description.name, line, advice)
             }
-            _ => None,
+            LoadError::Memory => None,
         };
-        Diagnostic { fault, advice }
+        Diagnostic {
+            fault: error.into(),
+            advice,
+        }
     }
 
-    /// A fault of the script of this name and text. Without memory for the advice there is none.
-    pub(crate) fn of_script(
-        alloc: Global,
-        fault: ReplayFault,
-        name: &str,
-        script: &[u8],
-    ) -> Diagnostic {
-        let advice = match &fault {
-            ReplayFault::BadLine(line) => told(alloc, name, *line, advise_line(script, *line)),
-            ReplayFault::BadHex(line) => told(alloc, name, *line, advise_bytes(script, *line)),
-            ReplayFault::NoHandle(line) => told(alloc, name, *line, advise_file(script, *line)),
-            _ => None,
+    /// A fault of a script. Without memory for the advice there is none.
+    pub(crate) fn of_script(alloc: Global, fault: ScriptFault, script: &Source<'_>) -> Diagnostic {
+        let advice = match fault {
+            ScriptFault::Line { line, cause } => {
+                script_advice(alloc, script.name, script.text.as_slice(), line, cause)
+            }
+            ScriptFault::Write | ScriptFault::Memory => None,
         };
-        Diagnostic { fault, advice }
+        Diagnostic {
+            fault: fault.into(),
+            advice,
+        }
     }
+}
+
+// The line behind that of a script's fault.
+fn script_advice(
+    alloc: Global,
+    name: &str,
+    script: &[u8],
+    line: u64,
+    cause: LineCause,
+) -> Option<String> {
+    match cause {
+        LineCause::BadLine => told(alloc, name, line, advise_line(script, line)),
+        LineCause::BadHex => told(alloc, name, line, advise_bytes(script, line)),
+        LineCause::NoHandle => told(alloc, name, line, advise_file(script, line)),
+        LineCause::BadWord(word, wanted) => {
+            let column = column_of(script, line, word.saturating_add(WORDS_BEFORE_USER));
+            format!(in alloc; "\n  {name}:{line}:{column}: {wanted}").ok()
+        }
+    }
+}
+
+// The column of a word of a line, from 1; behind the line where it has not so many.
+fn column_of(script: &[u8], line: u64, word: usize) -> usize {
+    let text = match script
+        .split(|b| *b == b'\n')
+        .nth(line.saturating_sub(1) as usize)
+    {
+        Some(text) => text,
+        None => &[],
+    };
+    let mut left = word;
+    let mut is_behind_space = true;
+    for (index, byte) in text.iter().enumerate() {
+        let is_space = *byte == b' ';
+        if is_behind_space && !is_space {
+            if left == 0 {
+                return index.saturating_add(1);
+            }
+            left -= 1;
+        }
+        is_behind_space = is_space;
+    }
+    text.len().saturating_add(1)
 }
 
 // The line behind that of a fault.
@@ -64,8 +114,8 @@ impl fmt::Display for Diagnostic {
     }
 }
 
-impl From<ReplayFault> for Diagnostic {
-    fn from(fault: ReplayFault) -> Diagnostic {
+impl From<Fault> for Diagnostic {
+    fn from(fault: Fault) -> Diagnostic {
         Diagnostic {
             fault,
             advice: None,
@@ -76,7 +126,7 @@ impl From<ReplayFault> for Diagnostic {
 impl From<AllocError> for Diagnostic {
     fn from(error: AllocError) -> Diagnostic {
         Diagnostic {
-            fault: ReplayFault::Memory(error),
+            fault: Fault::Memory(error),
             advice: None,
         }
     }

@@ -1,7 +1,6 @@
 //! `nfs3d`: an NFS version 3 server with its MOUNT service, in memory.
 #![tactic(auto)]
 
-mod captured;
 mod check;
 mod commands;
 mod describing;
@@ -9,17 +8,14 @@ mod diagnostic;
 mod exports;
 mod exposure;
 mod fault;
-mod hexadecimal;
-mod printing;
 mod replay;
 mod saving;
-mod script;
 mod serve;
-mod text_file;
-mod warnings;
+mod source;
+mod totals;
 mod why;
 
-use crate::fault::ReplayFault;
+use crate::fault::Fault;
 use std::alloc::AllocError;
 use std::process::ExitCode;
 use std::rt::Env;
@@ -40,12 +36,10 @@ fn main(rt: HostRuntime) -> ExitCode {
 }
 
 // The words that the program was started with.
-fn arguments<R: Env + AllocGlobal>(rt: &R) -> Result<Vec<String>, ReplayFault> {
+fn arguments<R: Env + AllocGlobal>(rt: &R) -> Result<Vec<String>, Fault> {
     match env::args(rt) {
         Ok(args) => Ok(args.collect::<Vec<String>>(rt.alloc())?),
-        Err(error) if error.kind() == io::ErrorKind::OutOfMemory => {
-            Err(ReplayFault::Memory(AllocError))
-        }
-        Err(_) => Err(ReplayFault::NoText),
+        Err(error) if error.kind() == io::ErrorKind::OutOfMemory => Err(Fault::Memory(AllocError)),
+        Err(_) => Err(Fault::NoText),
     }
 }

@@ -1,316 +1,62 @@
-//! A script, run against a server of its own.
-ghost use Rattle.std.specs.Prelude.{◌≤◌, IfErr};
-ghost use Rattle.nfs3d.specs.Status.{IsOfReplay};
+//! `nfs3d replay`: a script, run over a description.
 
-use crate::captured::{Captured, split_record};
-use crate::fault::{ReplayFault, RunFault};
-use crate::hexadecimal::{HexFault, push_bytes};
-use crate::printing::{Printer, Replies};
-use crate::script::{Order, order_of};
-use nfs_attrs::moment::Moment;
-use nfs_exports::addr::Addr;
-use nfs_inodes::tree::Tree;
-use nfs_load::listing::listing;
+use crate::diagnostic::Diagnostic;
+use crate::fault::Fault;
+use crate::saving::save;
+use crate::source::{Source, load_tree};
+use nfs_command_line::request::Replay;
 use nfs_load::loaded::Loaded;
-use nfs_server::event::Event;
-use nfs_server::server::Server;
-use nfs_server::session_fault::SessionFault;
+use nfs_replay::fault::ScriptFault;
+use nfs_replay::replay::replay;
+use nfs_replay::shown::Shown;
 use nfs_server::sessions::Sessions;
-use nfs_text::number::decimal;
-use nfs_text::words::Words;
-use nfs_xdr::device::{ByteOut, write_all};
-use std::alloc::{AllocError, AllocFailed, Global};
-use std::mem;
+use nfs_xdr::device::Device;
+use std::alloc::Global;
+use std::io::{self, BufWriter, Write};
+use std::process::ExitCode;
+use std::rt::Files;
 
-/// Runs the script's lines in order against a server of this description, and prints what each
-/// brings. Answers the connections, with the server as it then is.
-///
-/// What stands before a faulty line is run and printed. `BadLine` for a line that is none, else
-/// for its first faulty word `BadHex` where that says no bytes, and `NoHandle` where it names no
-/// file that lives, each with the line's number; `Write` where the output fails, `Memory` where
-/// there is no memory.
-pub fn replay<W: ByteOut>(
+// How much output is written at once.
+const RUN_BYTES: usize = 65_536;
+
+/// Runs a script over a description, and saves the tree as it then is where the words ask for it.
+pub(crate) fn replay_files<R: Files + Input + Print>(
+    rt: &R,
+    alloc: Global,
+    words: &Replay<'_>,
+) -> Result<ExitCode, Diagnostic> {
+    let loaded = load_tree(rt, alloc, words.tree)?;
+    let script = Source::read(rt, alloc, words.script)?;
+    let sessions = match run(rt, alloc, loaded, script.text.as_slice(), words) {
+        Ok(sessions) => sessions,
+        Err(fault) => return Err(Diagnostic::of_script(alloc, fault, &script)),
+    };
+    if let Some(name) = words.save {
+        save(rt, alloc, name, sessions.server())?;
+    }
+    Ok(ExitCode::SUCCESS)
+}
+
+// Runs a script, whose lines are printed up to the first faulty one.
+fn run<R: Print>(
+    rt: &R,
     alloc: Global,
     loaded: Loaded,
     script: &[u8],
-    cache: usize,
-    out: &mut W,
-) -> Result<Sessions, ReplayFault>
-    requires some { 1 ≤ cache }
-    requires few { cache ≤ 1024 }
-    ensures { IfErr result IsOfReplay }
-{
-    let mut player = Player::new(alloc, loaded, cache)?;
-    player.play(script, out)?;
-    let Player { sessions, .. } = player;
-    Ok(sessions)
-}
-
-// What is wrong with a line, or the fault of what it asks for.
-#[derive(Drop)]
-enum LineFault {
-    BadLine,
-    BadHex,
-    NoHandle,
-    Run(RunFault),
-}
-
-impl LineFault {
-    // The fault with the number of its line, of which so many stand before it.
-    fn at(self, before: u64) -> ReplayFault
-        ensures { IsOfReplay result }
-    {
-        let number = before.saturating_add(1);
-        match self {
-            LineFault::BadLine => ReplayFault::BadLine(number),
-            LineFault::BadHex => ReplayFault::BadHex(number),
-            LineFault::NoHandle => ReplayFault::NoHandle(number),
-            LineFault::Run(fault) => fault.into(),
-        }
-    }
-}
-
-impl From<RunFault> for LineFault {
-    fn from(fault: RunFault) -> LineFault {
-        LineFault::Run(fault)
-    }
-}
-
-impl From<AllocError> for LineFault {
-    fn from(_error: AllocError) -> LineFault {
-        LineFault::Run(RunFault::Memory)
-    }
-}
-
-impl<T: Drop> From<AllocFailed<T>> for LineFault {
-    fn from(_error: AllocFailed<T>) -> LineFault {
-        LineFault::Run(RunFault::Memory)
-    }
-}
-
-impl From<HexFault> for LineFault {
-    fn from(fault: HexFault) -> LineFault {
-        match fault {
-            HexFault::BadHex => LineFault::BadHex,
-            HexFault::Memory => LineFault::Run(RunFault::Memory),
-        }
-    }
-}
-
-// A record of a `call`, which waits for those that follow it.
-#[derive(Drop)]
-struct Call {
-    addr: Addr,
-    moment: Moment,
-    bytes: Vec<u8>,
-}
-
-#[derive(Drop)]
-struct Player {
-    alloc: Global,
-    sessions: Sessions,
-    printer: Printer,
-    calls: Vec<Call>,
-}
-
-impl Player {
-    // A player that has run no line, with a server of this description.
-    fn new(alloc: Global, loaded: Loaded, cache: usize) -> Result<Player, RunFault>
-        requires some { 1 ≤ cache }
-        requires few { cache ≤ 1024 }
-    {
-        let server = Server::new(alloc, loaded, cache)?;
-        Ok(Player {
-            alloc,
-            sessions: Sessions::new(alloc, server)?,
-            printer: Printer::new(alloc),
-            calls: Vec::new(alloc),
-        })
-    }
-
-    // Runs the lines of a script in order.
-    fn play<W: ByteOut>(&mut self, script: &[u8], out: &mut W) -> Result<(), ReplayFault>
-        ensures { IfErr result IsOfReplay }
-    {
-        for (index, line) in script.split(|b| *b == b'\n').enumerate() {
-            if let Err(fault) = self.line(line, out) {
-                self.run_calls(out)?;
-                return Err(fault.at(index as u64));
-            }
-        }
-        Ok(self.run_calls(out)?)
-    }
-
-    // What a line asks for. A call waits for those that follow it; anything else comes after the
-    // calls that wait, as does a call that names files, whose handles are those of the tree then.
-    fn line<W: ByteOut>(&mut self, line: &[u8], out: &mut W) -> Result<(), LineFault> {
-        let Some(order) = order_of(line) else {
-            return Err(LineFault::BadLine);
-        };
-        match order {
-            Order::Nothing => Ok(()),
-            Order::Call {
-                addr,
-                moment,
-                bytes,
-            } => {
-                if names_files(bytes) {
-                    self.run_calls(out)?;
-                }
-                let bytes = bytes_of(self.alloc, self.sessions.server().tree(), bytes)?;
-                self.calls.push(Call {
-                    addr,
-                    moment,
-                    bytes,
-                })?;
-                Ok(())
-            }
-            Order::Feed {
-                conn,
-                moment,
-                bytes,
-            } => {
-                self.run_calls(out)?;
-                let bytes = bytes_of(self.alloc, self.sessions.server().tree(), bytes)?;
-                self.feed(conn, moment, bytes.as_slice(), out)?;
-                Ok(())
-            }
-            Order::Attach { conn, addr } => {
-                self.run_calls(out)?;
-                let attached = self.sessions.attach(conn, addr);
-                self.fault(conn, attached, out)?;
-                Ok(())
-            }
-            Order::Detach { conn } => {
-                self.run_calls(out)?;
-                let detached = self.sessions.detach(conn);
-                self.fault(conn, detached, out)?;
-                Ok(())
-            }
-            Order::Show => {
-                self.run_calls(out)?;
-                self.show(out)?;
-                Ok(())
-            }
-        }
-    }
-
-    // Prints the listing of the tree.
-    fn show<W: ByteOut>(&self, out: &mut W) -> Result<(), RunFault> {
-        listing(self.sessions.server().tree(), out)?;
-        Ok(())
-    }
-
-    // Runs the calls that wait, and prints their replies.
-    fn run_calls<W: ByteOut>(&mut self, out: &mut W) -> Result<(), RunFault> {
-        let calls = mem::replace(&mut self.calls, Vec::new(self.alloc));
-        let mut events = Vec::with_capacity(self.alloc, calls.len())?;
-        for call in &calls {
-            events.push(Event {
-                addr: call.addr,
-                moment: call.moment,
-                bytes: call.bytes.as_slice(),
-            })?;
-        }
-        let mut replies = Replies {
-            out,
-            printer: mem::replace(&mut self.printer, Printer::new(self.alloc)),
-            fault: None,
-        };
-        self.sessions.run(events.as_slice(), &mut replies);
-        let Replies {
-            out: _,
-            printer,
-            fault,
-        } = replies;
-        self.printer = printer;
-        match fault {
-            Some(fault) => Err(fault),
-            None => Ok(()),
-        }
-    }
-
-    // Feeds a connection, and prints the audit lines, then the replies, and then the fault if there
-    // is one.
-    fn feed<W: ByteOut>(
-        &mut self,
-        conn: u32,
-        moment: Moment,
-        piece: &[u8],
-        out: &mut W,
-    ) -> Result<(), RunFault> {
-        let mut replies = Captured::new(self.alloc);
-        let mut audit = Captured::new(self.alloc);
-        let sessions = &mut self.sessions;
-        let fed = sessions.feed(conn, moment, piece, &mut replies, &mut audit);
-        if replies.has_failed() || audit.has_failed() {
-            return Err(RunFault::Memory);
-        }
-        print_all(out, audit.bytes())?;
-        let text = format!(in self.alloc; "reply {conn} ")?;
-        let mut rest = replies.bytes();
-        while !rest.is_empty() {
-            let (record, others) = split_record(rest);
-            self.printer.bytes(out, text.as_str(), record)?;
-            rest = others;
-        }
-        self.fault(conn, fed.map(|_| ()), out)
-    }
-
-    // Prints the fault of a connection, if there is one.
-    fn fault<W: ByteOut>(
-        &mut self,
-        conn: u32,
-        done: Result<(), SessionFault>,
-        out: &mut W,
-    ) -> Result<(), RunFault> {
-        match done {
-            Ok(()) => Ok(()),
-            Err(fault) => {
-                let text = format!(in self.alloc; "fault {conn} {fault}")?;
-                self.printer.text(out, text.as_str())
-            }
-        }
-    }
-}
-
-// Prints lines with their ends.
-fn print_all<W: ByteOut>(out: &mut W, lines: &[u8]) -> Result<(), RunFault> {
-    match write_all(out, lines) {
-        Ok(()) => Ok(()),
-        Err(_) => Err(RunFault::Write),
-    }
-}
-
-// Whether a word may name a file, which it does by an `@`.
-fn names_files(words: Words<'_>) -> bool {
-    for word in words {
-        if word.contains(&b'@') {
-            return true;
-        }
-    }
-    false
-}
-
-// The bytes that words say, from left to right: hexadecimal digits, or the handle of a file.
-fn bytes_of(alloc: Global, tree: &Tree, words: Words<'_>) -> Result<Vec<u8>, LineFault> {
-    let mut bytes = Vec::new(alloc);
-    for word in words {
-        match word.strip_prefix(b"@") {
-            Some(digits) => bytes.extend_from_slice(&handle_of(tree, digits)?)?,
-            None => push_bytes(alloc, &mut bytes, word)?,
-        }
-    }
-    Ok(bytes)
-}
-
-// The handle of the file of this number.
-fn handle_of(tree: &Tree, digits: &[u8]) -> Result<[u8; 24], LineFault> {
-    let Some(file) = decimal(digits, u64::MAX) else {
-        return Err(LineFault::BadHex);
+    words: &Replay<'_>,
+) -> Result<Sessions, ScriptFault> {
+    let Ok(lines) = BufWriter::with_capacity(alloc, RUN_BYTES, io::writer(rt)) else {
+        return Err(ScriptFault::Memory);
     };
-    match tree.handle_of(file) {
-        Some(handle) => Ok(handle),
-        None => Err(LineFault::NoHandle),
+    let mut out = Device::new(lines);
+    let shown = Shown {
+        is_decoded: words.is_decoded,
+        is_named: words.is_named,
+    };
+    let cache = words.cache.clamp(1, 1024);
+    let done = replay(alloc, loaded, script, cache, shown, &mut out);
+    match out.into_inner().flush() {
+        Ok(()) => done,
+        Err(_) => Err(ScriptFault::Write),
     }
 }

@@ -1,66 +1,50 @@
-//! The tree as it is at the end of a script, kept as a description.
+//! The tree that a server has, kept as a description.
 
-use crate::fault::ReplayFault;
-use nfs_describe::description::write_description;
-use nfs_describe::exports::copy_of;
+use crate::fault::Fault;
+use nfs_describe::description::describe;
 use nfs_describe::fault::DescribeFault;
-use nfs_exports::table::Table;
-use nfs_inodes::tree::Tree;
-use nfs_xdr::device::Device;
+use nfs_server::server::Server;
+use nfs_xdr::device::{Device, write_all};
 use std::alloc::{AllocError, Global};
 use std::fs;
 use std::rt::Files;
 
-/// Where a tree is saved, and its exports, which no call changes.
-#[derive(Drop)]
-pub(crate) struct Saving<'a> {
-    name: &'a str,
-    exports: Table,
+/// Writes the description of a server's tree and exports to a file beside the one of this name, which
+/// it then replaces. `Undescribed` where a description has no words for the tree, `CannotWrite` where
+/// the system takes no file there, `Memory`; the file of that name is then as it was.
+pub(crate) fn save<R: Files>(
+    rt: &R,
+    alloc: Global,
+    name: &str,
+    server: &Server,
+) -> Result<(), Fault> {
+    let text = match describe(alloc, server.tree(), server.exports()) {
+        Ok(text) => text,
+        Err(DescribeFault::Memory) => return Err(Fault::Memory(AllocError)),
+        Err(fault) => return Err(Fault::Undescribed(fault)),
+    };
+    if write_into_place(rt, alloc, name, text.as_slice())? {
+        Ok(())
+    } else {
+        Err(Fault::CannotWrite(name.to_string(alloc)?))
+    }
 }
 
-impl<'a> Saving<'a> {
-    /// That a tree with these exports is saved under a name, where there is one.
-    pub(crate) fn of(
-        alloc: Global,
-        name: Option<&'a str>,
-        exports: &Table,
-    ) -> Result<Option<Saving<'a>>, ReplayFault> {
-        match name {
-            Some(name) => Ok(Some(Saving {
-                name,
-                exports: copy_of(alloc, exports)?,
-            })),
-            None => Ok(None),
-        }
-    }
+// Whether a file of this name with this text is there now, as it is not where the system refuses a
+// step on the way.
+fn write_into_place<R: Files>(
+    rt: &R,
+    alloc: Global,
+    name: &str,
+    text: &[u8],
+) -> Result<bool, AllocError> {
+    let beside = format!(in alloc; "{name}.part")?;
+    Ok(write_file(rt, beside.as_str(), text) && fs::rename(rt, beside.as_str(), name).is_ok())
+}
 
-    /// Writes the description of a tree to a file beside the one of that name, which it then
-    /// replaces. `Undescribed` where a description has no words for the tree, `CannotWrite` where the
-    /// system takes no file there, `Memory`; the file of that name is then as it was.
-    pub(crate) fn save<R: Files>(
-        &self,
-        rt: &R,
-        alloc: Global,
-        tree: &Tree,
-    ) -> Result<(), ReplayFault> {
-        let name = self.name;
-        let beside = format!(in alloc; "{name}.part")?;
-        let Ok(file) = fs::create(rt, beside.as_str()) else {
-            return Err(ReplayFault::CannotWrite(name.to_string(alloc)?));
-        };
-        let mut out = Device::new(file);
-        match write_description(alloc, tree, &self.exports, &mut out) {
-            Ok(()) => {}
-            Err(DescribeFault::Write) => {
-                return Err(ReplayFault::CannotWrite(name.to_string(alloc)?));
-            }
-            Err(DescribeFault::Memory) => return Err(ReplayFault::Memory(AllocError)),
-            Err(fault) => return Err(ReplayFault::Undescribed(fault)),
-        }
-        drop(out);
-        match fs::rename(rt, beside.as_str(), name) {
-            Ok(()) => Ok(()),
-            Err(_) => Err(ReplayFault::CannotWrite(name.to_string(alloc)?)),
-        }
+fn write_file<R: Files>(rt: &R, name: &str, text: &[u8]) -> bool {
+    match fs::create(rt, name) {
+        Ok(file) => write_all(&mut Device::new(file), text).is_ok(),
+        Err(_) => false,
     }
 }

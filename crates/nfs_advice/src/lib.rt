@@ -8,6 +8,7 @@ pub mod contents;
 pub mod counts;
 pub mod description;
 pub mod earlier;
+pub mod every;
 pub mod field;
 pub mod keys;
 pub mod keywords;

@@ -82,10 +82,10 @@ fn time<R: Clock + Print>(
 
 // A directory of ten files in the root.
 fn add_dir(alloc: Global, tree: &mut Tree, name: &[u8]) -> Result<Number, AllocError> {
-    if !tree.may_make_dir(Number(1, 0), name) {
-        return Ok(Number(1, 0));
+    if !tree.may_make_dir(Number::new(1), name) {
+        return Ok(Number::new(1));
     }
-    let dir = tree.make_dir(Number(1, 0), name, &GIVEN, START)?;
+    let dir = tree.make_dir(Number::new(1), name, &GIVEN, START)?;
     for file in 0..10 {
         make(alloc, tree, dir, &letters(file));
     }

@@ -6,7 +6,7 @@ use nfs_dirs::answer::Page;
 use nfs_dirs::limits::{PAGE_HEAD_BYTES, entry_bytes, plus_bytes};
 use nfs_dirs::read_dir::page;
 use nfs_dirs::read_dir_plus::page_plus;
-use nfs_handles::number::Number;
+use nfs_handles::number::{Hint, Number};
 use nfs_inodes::tree::Tree;
 use nfs_xdr::output::Output;
 use std::alloc::Global;
@@ -15,7 +15,7 @@ use std::rt::Clock;
 use std::time::Instant;
 
 // The first directory below the root.
-const DIR: Number = Number(2, 0);
+const DIR: Number = Number(2, Hint::NONE);
 
 // The bytes of a page of which a whole directory is read.
 const COUNT: u32 = 8_192;

@@ -104,10 +104,10 @@ pub(crate) fn fill(
     files: u32,
 ) -> Result<(), AllocError> {
     let name = letters(place);
-    if !tree.may_make_dir(Number(1, 0), &name) {
+    if !tree.may_make_dir(Number::new(1), &name) {
         return Ok(());
     }
-    let dir = tree.make_dir(Number(1, 0), &name, &GIVEN, START)?;
+    let dir = tree.make_dir(Number::new(1), &name, &GIVEN, START)?;
     for file in 0..files {
         let name = letters(file);
         if tree.may_make(dir, &name, 0) {

@@ -68,8 +68,8 @@ module _ (t : Tree) (n : ℕ) where
       pub fsid : a.fsid ≡ f.volume + 1
       fsid = ap (λ (g : Fattr). g.fsid) (sym is_shown)
 
-      pub place : a.fsid - 1 ≡ f.volume
-      place = let e : a.fsid ≡ f.volume + 1 = fsid in omega (arith, e)
+      pub index : a.fsid - 1 ≡ f.volume
+      index = let e : a.fsid ≡ f.volume + 1 = fsid in omega (arith, e)
 
       pub links : a.nlink ≡ nlink t.files n f
       links = ap (λ (g : Fattr). g.nlink) (sym is_shown)

@@ -13,7 +13,7 @@ use Rattle.nfs_inodes.proofs.Lists.{by_number, same_some, not_both}
 use Rattle.nfs_inodes.proofs.Readers.{make_totals}
 use Rattle.nfs_conditions.specs.Parts.{TakesBytes, HasSpace, has_space}
 use Rattle.nfs_inodes.proofs.Tests.{never}
-use Rattle.nfs_conditions.proofs.Files.{lives, regular, size, place}
+use Rattle.nfs_conditions.proofs.Files.{lives, regular, size, index}
 
 space_tells : (t : Tree) (at bytes : ℕ) → Decides (has_space t at bytes) (HasSpace t at bytes)
 space_tells t at bytes = of (slice_get t.volumes at) refl
@@ -34,13 +34,13 @@ module _ (t : Tree) (n : ℕ) (a : Fattr) (e : Some a ≡ attributes_at t n) whe
   fits_there : (f : File) (at_f : Lives t n f) → is_regular f.kind ≡ true → (end more limit : ℕ) → more ≡ end - a.size → bytes_of (a.fsid - 1) t.files + more ≤ limit → bytes_of f.volume t.files + (end - length (bytes_in f.kind)) ≤ limit
   fits_there f at_f y end more limit is fits =
       let long = size t n a e f at_f y in
-      let total : bytes_of (a.fsid - 1) t.files ≡ bytes_of f.volume t.files = ap (λ p. bytes_of p t.files) (place t n a e f at_f) in
+      let total : bytes_of (a.fsid - 1) t.files ≡ bytes_of f.volume t.files = ap (λ p. bytes_of p t.files) (index t n a e f at_f) in
       omega (arith, fits, long, total, is)
 
   fits_back : (f : File) (at_f : Lives t n f) → is_regular f.kind ≡ true → (end more limit : ℕ) → more ≡ end - a.size → bytes_of f.volume t.files + (end - length (bytes_in f.kind)) ≤ limit → bytes_of (a.fsid - 1) t.files + more ≤ limit
   fits_back f at_f y end more limit is fits =
       let long = size t n a e f at_f y in
-      let total : bytes_of (a.fsid - 1) t.files ≡ bytes_of f.volume t.files = ap (λ p. bytes_of p t.files) (place t n a e f at_f) in
+      let total : bytes_of (a.fsid - 1) t.files ≡ bytes_of f.volume t.files = ap (λ p. bytes_of p t.files) (index t n a e f at_f) in
       omega (arith, fits, long, total, is)
 
   -- ---- bytes
@@ -56,12 +56,12 @@ module _ (t : Tree) (n : ℕ) (a : Fattr) (e : Some a ≡ attributes_at t n) whe
         regular = y;
         large = takes.1;
         volume = s.volume;
-        at_volume = subst (λ p. slice_get t.volumes p ≡ Some s.volume) (place t n a e l.0 l.1) s.at_volume;
+        at_volume = subst (λ p. slice_get t.volumes p ≡ Some s.volume) (index t n a e l.0 l.1) s.at_volume;
         room = λ _. fits_there l.0 l.1 y (offset + count) more s.volume.max_bytes is s.fits;
       })
       (λ (may : MayWrite t n offset count). record {
         volume = may.volume;
-        at_volume = subst (λ p. slice_get t.volumes p ≡ Some may.volume) (sym (place t n a e may.file may.at_file)) may.at_volume;
+        at_volume = subst (λ p. slice_get t.volumes p ≡ Some may.volume) (sym (index t n a e may.file may.at_file)) may.at_volume;
         fits = fits_back may.file may.at_file may.regular (offset + count) more may.volume.max_bytes is (may.room some);
       })
       space
@@ -97,12 +97,12 @@ module _ (t : Tree) (n : ℕ) (a : Fattr) (e : Some a ≡ attributes_at t n) whe
         regular = y;
         large = by_number end 0 (λ zero. omega (arith, zero)) (λ other. let large = takes.1 (omega (arith, other)) in omega (arith, large));
         volume = s.volume;
-        at_volume = subst (λ p. slice_get t.volumes p ≡ Some s.volume) (place t n a e l.0 l.1) s.at_volume;
+        at_volume = subst (λ p. slice_get t.volumes p ≡ Some s.volume) (index t n a e l.0 l.1) s.at_volume;
         room = fits_there l.0 l.1 y end more s.volume.max_bytes is s.fits;
       })
       (λ (may : MayResize t n end). record {
         volume = may.volume;
-        at_volume = subst (λ p. slice_get t.volumes p ≡ Some may.volume) (sym (place t n a e may.file may.at_file)) may.at_volume;
+        at_volume = subst (λ p. slice_get t.volumes p ≡ Some may.volume) (sym (index t n a e may.file may.at_file)) may.at_volume;
         fits = fits_back may.file may.at_file may.regular end more may.volume.max_bytes is may.room;
       })
       space

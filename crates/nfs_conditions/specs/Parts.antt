@@ -13,16 +13,16 @@ use Rattle.nfs_inodes.specs.Reading.{entry_at, is_regular_type, totals_at}
 abbrev pub TakesBytes : Fattr → ℕ → ℕ → Type 0
 TakesBytes f offset count = (is_regular_type f.file_type ≡ true) × (0 < count → offset + count ≤ max_file_bytes)
 
--- whether the volume at a place may have so many bytes more
+-- whether the volume of this index may have so many bytes more
 abbrev pub has_space : Tree → ℕ → ℕ → Bool
-has_space t place bytes = on_some (slice_get t.volumes place) false
-    (λ volume. on_some (totals_at t place) false (λ totals. nat_le (totals.bytes + bytes) volume.max_bytes))
+has_space t index bytes = on_some (slice_get t.volumes index) false
+    (λ volume. on_some (totals_at t index) false (λ totals. nat_le (totals.bytes + bytes) volume.max_bytes))
 
 -- the same of what is counted
-pub record HasSpace (t : Tree) (place bytes : ℕ) : Type 0 where
+pub record HasSpace (t : Tree) (index bytes : ℕ) : Type 0 where
   pub volume : Volume
-  pub at_volume : slice_get t.volumes place ≡ Some volume
-  pub fits : bytes_of place t.files + bytes ≤ volume.max_bytes
+  pub at_volume : slice_get t.volumes index ≡ Some volume
+  pub fits : bytes_of index t.files + bytes ≤ volume.max_bytes
 
 -- ---- an entry that goes to another name
 

@@ -14,8 +14,8 @@ pub(crate) fn is_directory(file: &Fattr) -> bool
     }
 }
 
-/// The place of its volume, from 0.
-pub(crate) fn place_of(file: &Fattr) -> usize
+/// The index of its volume, from 0.
+pub(crate) fn volume_index(file: &Fattr) -> usize
     ensures { result ≡ file.now.fsid - 1 }
 {
     file.fsid.saturating_sub(1) as usize

@@ -4,7 +4,7 @@ ghost use Rattle.nfs_conditions.specs.Parts.{TakesBytes};
 ghost use Rattle.nfs_conditions.specs.Parts as part;
 ghost use Rattle.nfs_inodes.specs.Conditions.{MayWrite, MayResize};
 
-use crate::attributes::place_of;
+use crate::attributes::volume_index;
 use nfs_attrs::fattr::Fattr;
 use nfs_attrs::file_type::FileType;
 use nfs_handles::number::Number;
@@ -26,7 +26,7 @@ pub fn may_write(tree: &Tree, number: Number, offset: usize, count: usize) -> bo
                 return true;
             }
             let end = (offset + count) as u64;
-            has_space(tree, place_of(&file), end.saturating_sub(file.size))
+            has_space(tree, volume_index(&file), end.saturating_sub(file.size))
         }
         None => false,
     }
@@ -42,7 +42,7 @@ pub fn may_resize(tree: &Tree, number: Number, size: usize) -> bool
                 return false;
             }
             let growth = (size as u64).saturating_sub(file.size);
-            has_space(tree, place_of(&file), growth)
+            has_space(tree, volume_index(&file), growth)
         }
         None => false,
     }
@@ -61,11 +61,11 @@ fn takes_bytes(file: &Fattr, offset: usize, count: usize) -> bool
     }
 }
 
-// Whether the volume at a place may have so many bytes more.
-fn has_space(tree: &Tree, place: usize, bytes: u64) -> bool
-    ensures { result ≡ part.has_space tree.now place bytes }
+// Whether the volume of this index may have so many bytes more.
+fn has_space(tree: &Tree, index: usize, bytes: u64) -> bool
+    ensures { result ≡ part.has_space tree.now index bytes }
 {
-    match (tree.volume(place), tree.totals(place)) {
+    match (tree.volume(index), tree.totals(index)) {
         (Some(volume), Some(totals)) => {
             totals.bytes <= volume.max_bytes && bytes <= volume.max_bytes - totals.bytes
         }

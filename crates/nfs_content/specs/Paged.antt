@@ -3,6 +3,7 @@ use Rattle.std.specs.Prelude.{◌≡◌, ℕ, ◌+◌, ◌-◌, ◌/◌, ◌%◌
 use Rattle.std.specs.List.{range_with_len}
 use Rattle.std.specs.Prelude.{Vec}
 use Rattle.std.specs.Global.{Global}
+use Rattle.nfs_content.specs.Limits.{page_bytes}
 
 -- the bytes that are kept of each page
 abbrev pub kept : List (Vec ℕ Global) → List (List ℕ)
@@ -14,7 +15,7 @@ page pages k = slice_index_or pages k []
 
 -- byte i
 abbrev pub byte_at : List (List ℕ) → ℕ → ℕ
-byte_at pages i = slice_index_or (page pages (i / 4096)) (i % 4096) 0
+byte_at pages i = slice_index_or (page pages (i / page_bytes)) (i % page_bytes) 0
 
 -- so many bytes from the first one on
 abbrev pub shown : List (List ℕ) → ℕ → List ℕ
@@ -22,7 +23,7 @@ shown pages len = map (byte_at pages) (range_with_len 0 len)
 
 -- no page is longer than it may be
 abbrev pub AreShort : List (List ℕ) → Type 0
-AreShort pages = (k : ℕ) → length (page pages k) ≤ 4096
+AreShort pages = (k : ℕ) → length (page pages k) ≤ page_bytes
 
 -- so many bytes, and zeros behind them
 pub record IsPaged (pages : List (List ℕ)) (len : ℕ) : Type 0 where
@@ -35,7 +36,7 @@ SameBytes old new = (i : ℕ) → byte_at new i ≡ byte_at old i
 
 -- each byte from one on and before another is kept
 abbrev pub Holds : List (List ℕ) → ℕ → ℕ → Type 0
-Holds pages start end = (i : ℕ) → start ≤ i → i < end → i % 4096 < length (page pages (i / 4096))
+Holds pages start end = (i : ℕ) → start ≤ i → i < end → i % page_bytes < length (page pages (i / page_bytes))
 
 -- the bytes with some others from an offset on
 pub record Writes (old : List (List ℕ)) (offset : ℕ) (bytes : List ℕ) (new : List (List ℕ)) : Type 0 where
@@ -52,7 +53,7 @@ pub record Cuts (old : List (List ℕ)) (len : ℕ) (new : List (List ℕ)) : Ty
 pub record Fills (old new : List ℕ) : Type 0 where
   pub same : (i : ℕ) → slice_index_or new i 0 ≡ slice_index_or old i 0
   pub longer : length old ≤ length new
-  pub short : length old ≤ 4096 → length new ≤ 4096
+  pub short : length old ≤ page_bytes → length new ≤ page_bytes
 
 -- a page with some bytes over others
 pub record Puts (old : List ℕ) (at : ℕ) (bytes new : List ℕ) : Type 0 where

@@ -1,7 +1,7 @@
 //! Contents in pages: what was never written takes no memory.
 ghost use Rattle.std.specs.Prelude.{◌≡◌, ◌≤◌, IfOk, length};
 ghost use Rattle.nfs_content.specs.Bytes.{zeros};
-ghost use Rattle.nfs_content.specs.Limits.{max_content};
+ghost use Rattle.nfs_content.specs.Limits.{max_content, page_bytes};
 
 use crate::content::Content;
 use crate::limits::PAGE_BYTES;
@@ -111,7 +111,7 @@ impl Content for Pages {
 
 // So many bytes of a page that was never written.
 fn unwritten(len: usize) -> &'static [u8]
-    requires { len ≤ 4096 }
+    requires { len ≤ page_bytes }
     ensures { result.now ≡ zeros len }
 {
     &ZEROS[..len]

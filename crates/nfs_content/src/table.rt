@@ -1,6 +1,6 @@
 //! Pages by their places, and what is done to them; a page that isn't kept is all zeros.
 ghost use Rattle.std.specs.Prelude.{◌≡◌, ◌+◌, ◌<◌, ◌≤◌, ◌∷◌, [], IfOk, OnOk, length, vec_len};
-ghost use Rattle.nfs_content.specs.Limits.{max_content};
+ghost use Rattle.nfs_content.specs.Limits.{max_content, page_bytes};
 ghost use Rattle.nfs_content.specs.Paged.{kept, page, AreShort, Cuts, Fills, Holds, Puts, SameBytes, Writes};
 
 use crate::limits::PAGE_BYTES;
@@ -54,7 +54,7 @@ pub(crate) fn hold(
 
 // There are places up to this one, and there.
 fn lengthen(pages: &mut Vec<Vec<u8>>, alloc: Global, last: usize) -> Result<(), AllocError>
-    requires large { last < 4096 }
+    requires large { last < page_bytes }
     requires short { AreShort (kept pages.old.items) }
     ensures ok { OnOk result (last < vec_len pages.new) }
     ensures same { SameBytes (kept pages.old.items) (kept pages.new.items) }
@@ -71,7 +71,7 @@ fn lengthen(pages: &mut Vec<Vec<u8>>, alloc: Global, last: usize) -> Result<(), 
 
 // So many bytes of a page are kept, zeros where it was shorter.
 fn fill(page: &mut Vec<u8>, size: usize) -> Result<(), AllocError>
-    requires { size ≤ 4096 }
+    requires { size ≤ page_bytes }
     ensures ok { OnOk result (size ≤ vec_len page.new) }
     ensures same { Fills page.old.items page.new.items }
 {

@@ -3,7 +3,6 @@
 
 pub mod description;
 mod export_line;
-pub mod exports;
 pub mod fault;
 mod files;
 mod lines;

@@ -6,7 +6,7 @@ use Rattle.nfs_exports.specs.declared.options.Options.{Options}
 use Rattle.nfs_exports.specs.declared.table.Export.{Export}
 use Rattle.nfs_exports.specs.Patterns.{covers}
 
--- the volume's list, by its place; behind the last there are none
+-- the volume's list, by its index; behind the last there are none
 abbrev pub exports_of : List (List Export) → ℕ → List Export
 exports_of [] volume = []
 exports_of (exports ∷ others) zero = exports

@@ -85,7 +85,7 @@ impl Table {
         Ok(())
     }
 
-    /// One export more, behind the others of its volume, which is named by its place from 0.
+    /// One export more, behind the others of its volume, which is named by its index from 0.
     /// Refused without memory, and then the table is as before.
     pub fn add(
         &mut self,
@@ -105,7 +105,7 @@ impl Table {
         Ok(())
     }
 
-    /// The exports of a volume, by its place from 0, in the order in which they were added.
+    /// The exports of a volume, by its index from 0, in the order in which they were added.
     #[inline(always)]
     pub fn patterns(&self, volume: usize) -> &[Export]
         ensures { result.now ≡ exports_of self.now volume }

@@ -38,7 +38,7 @@ is_shaped bytes = nat_eq (length bytes) 24 && bytes_eq (magic_in bytes) magic
 
 -- a number with no hint
 abbrev pub number : ℕ → Number
-number n = record { 0 = n; 1 = 0 }
+number n = record { 0 = n; 1 = record { 0 = 0 } }
 
 -- the file that lives at n, where it has this tag; else its handle has outlived it
 abbrev pub live_with : {T : Type 0} → ℕ → ℕ → Option (TaggedFile T) → Reading

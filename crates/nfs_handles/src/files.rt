@@ -15,7 +15,7 @@ ghost use Rattle.nfs_handles.specs.Slotted.{AllLeadBack, LeadsOr};
 ghost use Rattle.nfs_handles.specs.Changes.{Puts, Takes, LendsValue};
 
 use crate::fault::PutFault;
-use crate::number::Number;
+use crate::number::{Hint, Number};
 use crate::reading::{NoFile, Reading};
 use crate::slots::Slots;
 use std::alloc::Global;
@@ -102,7 +102,7 @@ impl<T: Drop> Files<T> {
             Ok(_) => {
                 self.slots.fill(number, value);
                 self.next += 1;
-                Ok(Number(number, tag_of(slot)))
+                Ok(Number(number, Hint(tag_of(slot))))
             }
             Err(_) => Err(PutFault::Memory(value)),
         }
@@ -138,7 +138,7 @@ impl<T: Drop> Files<T> {
         if !self.was_given(number) {
             return Err(NoFile::Bad);
         }
-        let number = Number(number, tag);
+        let number = Number(number, Hint(tag));
         match self.living(tag, number) {
             Some(value) => Ok((number, value)),
             None => Err(NoFile::Stale),
@@ -235,9 +235,9 @@ fn slot_at<T: Drop>(
     requires { AllLeadBack slots.now places.now.entries }
     ensures { result ≡ lookup (is_at (nat_cmp number.0)) places.now.entries }
 {
-    if let Some(stored) = slots.get(number.1 as usize) {
+    if let Some(stored) = slots.get(number.1.0 as usize) {
         if stored.number == number.0 {
-            return Some(number.1 as usize);
+            return Some(number.1.0 as usize);
         }
     }
     places.get(&number.0).copied()

@@ -4,11 +4,20 @@ ghost use Rattle.nfs_handles.specs.Handles.{number};
 
 use std::fmt;
 
-/// A file's number, which is its fileid (RFC 1813, section 2.5, fileid3). The file need not live.
-/// Beside it stands a hint, the tag of the file as it was found, by which it is found again without
-/// a search; a hint that is wrong costs the search, and changes nothing.
+/// Where a file was found, the tag of its slot, by which it is found again without a search. One that
+/// is wrong costs the search, and changes nothing.
 #[derive(Clone, Copy)]
-pub struct Number(pub u64, pub u32);
+pub struct Hint(pub(crate) u32);
+
+impl Hint {
+    /// The hint of who has none.
+    pub const NONE: Hint = Hint(0);
+}
+
+/// A file's number, which is its fileid (RFC 1813, section 2.5, fileid3), and where it was found. The
+/// file need not live.
+#[derive(Clone, Copy)]
+pub struct Number(pub u64, pub Hint);
 
 impl Number {
     /// A number with no hint.
@@ -16,7 +25,7 @@ impl Number {
     pub fn new(fileid: u64) -> Number
         ensures { result ≡ number fileid }
     {
-        Number(fileid, 0)
+        Number(fileid, Hint::NONE)
     }
 }
 

@@ -48,18 +48,18 @@ module _ (a : NumberedFiles StoredFile) (olds : List StoredVolume) (n offset : �
     the_file : k_then.file ≡ may.file
     the_file = same_some (sym (lives a olds n writes.was writes.at_was) ∙ may.at_file)
 
-    home : growth.place ≡ may.file.volume
-    home = writes.from.place ∙ ap (λ (f : File). f.volume) the_file
+    home : growth.volume ≡ may.file.volume
+    home = writes.from.index ∙ ap (λ (f : File). f.volume) the_file
 
-    pub room_to_grow : HasRoomFor olds growth.place growth.bytes 0
+    pub room_to_grow : HasRoomFor olds growth.volume growth.bytes 0
     room_to_grow =
-        let s = stored_volume_of a olds growth.place may.volume keeps (ap (slice_get t.volumes) home ∙ may.at_volume) in
+        let s = stored_volume_of a olds growth.volume may.volume keeps (ap (slice_get t.volumes) home ∙ may.at_volume) in
         let has = s.2 in let files = s.3 in let wide = s.4 in let wide_files = s.5 in
         let room = may.room some in let grown = writes.from.grown in
         let long : length (bytes_in k_then.file.kind) ≡ length (bytes_in may.file.kind) = ap (λ (f : File). length (bytes_in f.kind)) the_file in
-        let same : bytes_of growth.place t.files ≡ bytes_of may.file.volume t.files = ap (λ k. bytes_of k t.files) home in
-        let v = keeps.law.count growth.place may.volume (ap (slice_get t.volumes) home ∙ may.at_volume) in
-        record { stored_volume = s.0; at_place = s.1; bytes_fit = omega (arith, has, wide, room, grown, long, same); files_fit = omega (arith, files, wide_files, v) }
+        let same : bytes_of growth.volume t.files ≡ bytes_of may.file.volume t.files = ap (λ k. bytes_of k t.files) home in
+        let v = keeps.law.count growth.volume may.volume (ap (slice_get t.volumes) home ∙ may.at_volume) in
+        record { stored_volume = s.0; at_index = s.1; bytes_fit = omega (arith, has, wide, room, grown, long, same); files_fit = omega (arith, files, wide_files, v) }
 
     file_now : k_now.file ≡ file_with_bytes k_then.file offset bytes now
     file_now = ap (λ (f : File). retagged f writes.was.tag) writes.from.file
@@ -83,26 +83,26 @@ module _ (a : NumberedFiles StoredFile) (olds : List StoredVolume) (n offset : �
         ∙ length_put (bytes_in k_then.file.kind) bytes offset
         ∙ ap (λ g. length (bytes_in k_then.file.kind) + g) (sym writes.from.grown)
 
-    module _ (news : List StoredVolume) (counts : map counted_volume_of news ≡ with_totals (map counted_volume_of olds) growth.place growth.bytes 0) where
-      between : with_totals (map counted_volume_of news) growth.place 0 0 ≡ with_totals (map counted_volume_of olds) growth.place growth.bytes 0
-      between = totals_nothing (map counted_volume_of news) growth.place ∙ counts
+    module _ (news : List StoredVolume) (counts : map counted_volume_of news ≡ with_totals (map counted_volume_of olds) growth.volume growth.bytes 0) where
+      between : with_totals (map counted_volume_of news) growth.volume 0 0 ≡ with_totals (map counted_volume_of olds) growth.volume growth.bytes 0
+      between = totals_nothing (map counted_volume_of news) growth.volume ∙ counts
 
       totals : (p : ℕ) (c : CountedVolume) → slice_get (map counted_volume_of news) p ≡ Some c → IsCounted (with_file t n k_now.file).files p c × AreLimits c.volume
-      totals = totals_moved 0 (counted_tree_of a olds) (with_file t n k_now.file).files (map counted_volume_of news) growth.place 0 0 growth.bytes 0 (agrees_but_none (counted_tree_of a olds) keeps) between (λ p.
+      totals = totals_moved 0 (counted_tree_of a olds) (with_file t n k_now.file).files (map counted_volume_of news) growth.volume 0 0 growth.bytes 0 (agrees_but_none (counted_tree_of a olds) keeps) between (λ p.
           let changed = bytes_changed t n k_then.file k_now.file shown_then alike_now.placed.volume p in
           let files = count_changed t n k_then.file k_now.file shown_then alike_now.placed.volume p in
           let long = long_now in (
-            (λ s. let y = changed.0 (sym writes.from.place ∙ sym s) in (omega (arith, y, long), omega (arith, files))),
-            (λ o. (changed.1 (λ s. o (sym s ∙ sym writes.from.place)), files)),
+            (λ s. let y = changed.0 (sym writes.from.index ∙ sym s) in (omega (arith, y, long), omega (arith, files))),
+            (λ o. (changed.1 (λ s. o (sym s ∙ sym writes.from.index)), files)),
           ))
 
       pub stored_agree_after_write : Agrees (counted_tree_of b news)
       stored_agree_after_write = subst Agrees (sym (kept_revalued a b olds news n writes))
           (agrees_alike (counted_tree_of a olds) n k_then k_now (map counted_volume_of news) keeps (at_counted_file a n writes.was writes.at_was) alike_now writes.from.nlink
           (subst Law written_now (law_after_write_at t n offset bytes now may keeps.law))
-          (volumes_moved (map counted_volume_of news) (map counted_volume_of olds) growth.place 0 0 growth.bytes 0 between) totals)
+          (volumes_moved (map counted_volume_of news) (map counted_volume_of olds) growth.volume 0 0 growth.bytes 0 between) totals)
 
       pub stored_view_after_write : tree_in (counted_tree_of b news) ≡ after_write_at t n offset bytes now
       stored_view_after_write = ap tree_in (kept_revalued a b olds news n writes)
-          ∙ view_recounted (counted_tree_of a olds) n k_now (map counted_volume_of news) (volumes_moved (map counted_volume_of news) (map counted_volume_of olds) growth.place 0 0 growth.bytes 0 between)
+          ∙ view_recounted (counted_tree_of a olds) n k_now (map counted_volume_of news) (volumes_moved (map counted_volume_of news) (map counted_volume_of olds) growth.volume 0 0 growth.bytes 0 between)
           ∙ sym written_now

@@ -44,7 +44,7 @@ or_true true b e p q = p refl
 or_true false b e p q = q refl e
 
 pub loses : (t : NumberedFiles StoredFile) (n : ℕ) (f : TaggedFile StoredFile) (i : StoredFile) (now : Moment) → numbered.at t n ≡ Some f → is_last f.value ≡ false → Some i ≡ value_at t n →
-    Stays t n now (record { place = i.volume; bytes = 0; files = 0 }) (with_value t n (record i { ctime = now; nlink = i.nlink - 1 }))
+    Stays t n now (record { volume = i.volume; bytes = 0; files = 0 }) (with_value t n (record i { ctime = now; nlink = i.nlink - 1 }))
 loses t n f i now e more v =
     let s = value_found t n f i e v in
     let many : 1 < f.value.nlink = leb-false f.value.nlink 1 (or_false (is_directory (kind_of f.value.node)) (nat_le f.value.nlink 1) more).1 in
@@ -58,12 +58,12 @@ loses t n f i now e more v =
         new_is = refl;
       };
       more = more;
-      place = ap (λ (i : StoredFile). i.volume) s;
+      index = ap (λ (i : StoredFile). i.volume) s;
       bytes = refl;
       files = refl;
     }
 
-pub goes : (t u : NumberedFiles StoredFile) (n : ℕ) (i : StoredFile) (bytes : ℕ) → HasEntries true t n → Takes t n (Some i) u → bytes ≡ length (bytes_in (file_of 0 i).kind) → Goes t n (record { place = i.volume; bytes = bytes; files = 1 }) u
+pub goes : (t u : NumberedFiles StoredFile) (n : ℕ) (i : StoredFile) (bytes : ℕ) → HasEntries true t n → Takes t n (Some i) u → bytes ≡ length (bytes_in (file_of 0 i).kind) → Goes t n (record { volume = i.volume; bytes = bytes; files = 1 }) u
 goes t u n i bytes has takes size =
     let s : i ≡ has.0.value = value_found t n has.0 i has.1 (sym takes.0) in
     record {
@@ -71,7 +71,7 @@ goes t u n i bytes has takes size =
       at_file = has.1;
       last = has.2;
       new_is = takes.1;
-      place = ap (λ (i : StoredFile). i.volume) s;
+      index = ap (λ (i : StoredFile). i.volume) s;
       bytes = size ∙ ap (λ (i : StoredFile). length (bytes_in (file_of 0 i).kind)) s;
       files = refl;
     }
@@ -155,15 +155,15 @@ module _ (a : NumberedFiles StoredFile) (olds : List StoredVolume) (d : ℕ) (na
     volume_there : (v : Volume) × (slice_get t.volumes may.file.volume ≡ Some v)
     volume_there = removes.agree.law.placed may.entry.number may.file may.at_file
 
-    has_totals : (place bytes files : ℕ) → place ≡ may.file.volume → bytes ≤ length (bytes_in may.file.kind) → files ≤ 1 → HasTotals olds place bytes files
-    has_totals place bytes files is_place few one =
-        let s = stored_volume_of a olds place volume_there.0 removes.agree (ap (slice_get t.volumes) is_place ∙ volume_there.1) in
+    has_totals : (index bytes files : ℕ) → index ≡ may.file.volume → bytes ≤ length (bytes_in may.file.kind) → files ≤ 1 → HasTotals olds index bytes files
+    has_totals index bytes files is_place few one =
+        let s = stored_volume_of a olds index volume_there.0 removes.agree (ap (slice_get t.volumes) is_place ∙ volume_there.1) in
         let has = s.2 in let count = s.3 in
-        let all = sum_some (bytes_for place) may.entry.number may.file t.files may.at_file in
-        let its = bytes_here place may.file (sym is_place) in
-        let every = sum_some (one_for place) may.entry.number may.file t.files may.at_file in
-        let counted : one_for place may.file ≡ 1 = ap one_when (eq-eqb may.file.volume place (sym is_place)) in
-        record { stored_volume = s.0; at_place = s.1; has_bytes = omega (arith, has, all, its, few); has_files = omega (arith, count, every, counted, one) }
+        let all = sum_some (bytes_for index) may.entry.number may.file t.files may.at_file in
+        let its = bytes_here index may.file (sym is_place) in
+        let every = sum_some (one_for index) may.entry.number may.file t.files may.at_file in
+        let counted : one_for index may.file ≡ 1 = ap one_when (eq-eqb may.file.volume index (sym is_place)) in
+        record { stored_volume = s.0; at_index = s.1; has_bytes = omega (arith, has, all, its, few); has_files = omega (arith, count, every, counted, one) }
 
     module _ (freed : Freed) (b2 : NumberedFiles StoredFile) where
       gone_file : (g : Goes b n freed b2) → file_of g.file.tag g.file.value ≡ may.file
@@ -172,19 +172,19 @@ module _ (a : NumberedFiles StoredFile) (olds : List StoredVolume) (d : ℕ) (na
       gone_bytes : (g : Goes b n freed b2) → freed.bytes ≡ length (bytes_in may.file.kind)
       gone_bytes g = g.bytes ∙ ap (λ (f : File). length (bytes_in f.kind)) (gone_file g)
 
-      gone_place : (g : Goes b n freed b2) → freed.place ≡ may.file.volume
-      gone_place g = g.place ∙ ap (λ (f : File). f.volume) (gone_file g)
+      gone_place : (g : Goes b n freed b2) → freed.volume ≡ may.file.volume
+      gone_place g = g.index ∙ ap (λ (f : File). f.volume) (gone_file g)
 
       kept_was : (s : Stays b n now freed b2) → s.loses.was ≡ kept_file.0
       kept_was s = same_some (sym s.loses.at_was ∙ at_1)
 
-      kept_place : (s : Stays b n now freed b2) → freed.place ≡ may.file.volume
-      kept_place s = s.place ∙ ap (λ (f : TaggedFile StoredFile). f.value.volume) (kept_was s) ∙ ap (λ (f : File). f.volume) kept_file.2
+      kept_place : (s : Stays b n now freed b2) → freed.volume ≡ may.file.volume
+      kept_place s = s.index ∙ ap (λ (f : TaggedFile StoredFile). f.value.volume) (kept_was s) ∙ ap (λ (f : File). f.volume) kept_file.2
 
-      pub totals_there : Goes b n freed b2 ⊎ Stays b n now freed b2 → HasTotals olds freed.place freed.bytes freed.files
+      pub totals_there : Goes b n freed b2 ⊎ Stays b n now freed b2 → HasTotals olds freed.volume freed.bytes freed.files
       totals_there which = elim which [
-        | inl g ↦ let bytes = gone_bytes g in let files = g.files in has_totals freed.place freed.bytes freed.files (gone_place g) (omega (arith, bytes)) (omega (arith, files))
-        | inr s ↦ let bytes = s.bytes in let files = s.files in has_totals freed.place freed.bytes freed.files (kept_place s) (omega (arith, bytes)) (omega (arith, files))
+        | inl g ↦ let bytes = gone_bytes g in let files = g.files in has_totals freed.volume freed.bytes freed.files (gone_place g) (omega (arith, bytes)) (omega (arith, files))
+        | inr s ↦ let bytes = s.bytes in let files = s.files in has_totals freed.volume freed.bytes freed.files (kept_place s) (omega (arith, bytes)) (omega (arith, files))
       ]
 
       pub room_after : Goes b n freed b2 ⊎ Stays b n now freed b2 → (e : ℕ) → e ≢ n → HasRoomAt a e → HasRoomAt b2 e
@@ -195,7 +195,7 @@ module _ (a : NumberedFiles StoredFile) (olds : List StoredVolume) (d : ℕ) (na
             | inr s ↦ room_revalued b b2 n s.loses s.loses.from.room e first
           ]
 
-      module _ (news : List StoredVolume) (counts : with_totals (map counted_volume_of news) freed.place freed.bytes freed.files ≡ map counted_volume_of olds) where
+      module _ (news : List StoredVolume) (counts : with_totals (map counted_volume_of news) freed.volume freed.bytes freed.files ≡ map counted_volume_of olds) where
         abbrev Done : Type 0
         Done = Agrees (counted_tree_of b2 news) × (tree_in (counted_tree_of b2 news) ≡ after_unlink t d name now)
 
@@ -214,8 +214,8 @@ module _ (a : NumberedFiles StoredFile) (olds : List StoredVolume) (d : ℕ) (na
 
           given_back : with_totals (map counted_volume_of news) held.file.volume (length (bytes_in held.file.kind)) 1 ≡ k1.volumes
           given_back = ap (λ p. with_totals (map counted_volume_of news) p (length (bytes_in may.file.kind)) 1) (sym (gone_place g))
-              ∙ ap (λ bytes. with_totals (map counted_volume_of news) freed.place bytes 1) (sym (gone_bytes g))
-              ∙ ap (with_totals (map counted_volume_of news) freed.place freed.bytes) (sym g.files)
+              ∙ ap (λ bytes. with_totals (map counted_volume_of news) freed.volume bytes 1) (sym (gone_bytes g))
+              ∙ ap (with_totals (map counted_volume_of news) freed.volume freed.bytes) (sym g.files)
               ∙ counts
 
           counted_gone_2 : counted_tree_of b2 news ≡ counted_gone k1 n (map counted_volume_of news)
@@ -259,9 +259,9 @@ module _ (a : NumberedFiles StoredFile) (olds : List StoredVolume) (d : ℕ) (na
           some_left = apart_number (names_of n t1.files) 0 (λ z. let l = links_1 in let less = s.loses.from.nlink in let m = many in omega (arith, z, l, less, m))
 
           same_volumes : map counted_volume_of news ≡ map counted_volume_of olds
-          same_volumes = sym (totals_nothing (map counted_volume_of news) freed.place)
-              ∙ ap (λ bytes. with_totals (map counted_volume_of news) freed.place bytes 0) (sym s.bytes)
-              ∙ ap (with_totals (map counted_volume_of news) freed.place freed.bytes) (sym s.files)
+          same_volumes = sym (totals_nothing (map counted_volume_of news) freed.volume)
+              ∙ ap (λ bytes. with_totals (map counted_volume_of news) freed.volume bytes 0) (sym s.bytes)
+              ∙ ap (with_totals (map counted_volume_of news) freed.volume freed.bytes) (sym s.files)
               ∙ counts
 
           abbrev now_held : CountedFile

@@ -107,24 +107,24 @@ volumes_kept (s ∷ ss) = ap (λ l. volume_of s ∷ l) (volumes_kept ss)
 pub volumes_there : (a : NumberedFiles StoredFile) (stored_volumes : List StoredVolume) (t : Tree) → tree_in (counted_tree_of a stored_volumes) ≡ t → map volume_of stored_volumes ≡ t.volumes
 volumes_there a stored_volumes t view = sym (volumes_kept stored_volumes) ∙ ap (λ (t : Tree). t.volumes) view
 
-pub volume_there : (a : NumberedFiles StoredFile) (stored_volumes : List StoredVolume) (t : Tree) → tree_in (counted_tree_of a stored_volumes) ≡ t → (place : ℕ) → option_map volume_of (slice_get stored_volumes place) ≡ slice_get t.volumes place
-volume_there a stored_volumes t view place = sym (slice_get-map volume_of stored_volumes place) ∙ ap (λ vs. slice_get vs place) (volumes_there a stored_volumes t view)
+pub volume_there : (a : NumberedFiles StoredFile) (stored_volumes : List StoredVolume) (t : Tree) → tree_in (counted_tree_of a stored_volumes) ≡ t → (index : ℕ) → option_map volume_of (slice_get stored_volumes index) ≡ slice_get t.volumes index
+volume_there a stored_volumes t view index = sym (slice_get-map volume_of stored_volumes index) ∙ ap (λ vs. slice_get vs index) (volumes_there a stored_volumes t view)
 
 abbrev pub make_totals : ℕ → ℕ → Totals
 make_totals b n = record { bytes = b; files = n }
 
-totals_kept : (a : NumberedFiles StoredFile) (stored_volumes : List StoredVolume) → Agrees (counted_tree_of a stored_volumes) → (place : ℕ) (s : StoredVolume) → slice_get stored_volumes place ≡ Some s → Some (make_totals s.bytes s.files) ≡ totals_at (tree_in (counted_tree_of a stored_volumes)) place
-totals_kept a stored_volumes keeps place s e =
-    let counted = keeps.totals place (counted_volume_of s) (stored_volume_counted stored_volumes place s e) in
-    ap (λ b. Some (make_totals b s.files)) counted.bytes ∙ ap (λ n. Some (make_totals (bytes_of place (files_in (counted_files a.files))) n)) counted.files
-    ∙ sym (ap (option_map (λ (v : Volume). make_totals (bytes_of place (files_in (counted_files a.files))) (files_of place (files_in (counted_files a.files))))) (sym (volume_there a stored_volumes (tree_in (counted_tree_of a stored_volumes)) refl place) ∙ ap (option_map volume_of) e))
+totals_kept : (a : NumberedFiles StoredFile) (stored_volumes : List StoredVolume) → Agrees (counted_tree_of a stored_volumes) → (index : ℕ) (s : StoredVolume) → slice_get stored_volumes index ≡ Some s → Some (make_totals s.bytes s.files) ≡ totals_at (tree_in (counted_tree_of a stored_volumes)) index
+totals_kept a stored_volumes keeps index s e =
+    let counted = keeps.totals index (counted_volume_of s) (stored_volume_counted stored_volumes index s e) in
+    ap (λ b. Some (make_totals b s.files)) counted.bytes ∙ ap (λ n. Some (make_totals (bytes_of index (files_in (counted_files a.files))) n)) counted.files
+    ∙ sym (ap (option_map (λ (v : Volume). make_totals (bytes_of index (files_in (counted_files a.files))) (files_of index (files_in (counted_files a.files))))) (sym (volume_there a stored_volumes (tree_in (counted_tree_of a stored_volumes)) refl index) ∙ ap (option_map volume_of) e))
 
-pub totals_there : (a : NumberedFiles StoredFile) (stored_volumes : List StoredVolume) (t : Tree) → tree_in (counted_tree_of a stored_volumes) ≡ t → Agrees (counted_tree_of a stored_volumes) → (place : ℕ) (s : StoredVolume) → slice_get stored_volumes place ≡ Some s → Some (make_totals s.bytes s.files) ≡ totals_at t place
-totals_there a stored_volumes t view keeps place s e = totals_kept a stored_volumes keeps place s e ∙ ap (λ (t : Tree). totals_at t place) view
+pub totals_there : (a : NumberedFiles StoredFile) (stored_volumes : List StoredVolume) (t : Tree) → tree_in (counted_tree_of a stored_volumes) ≡ t → Agrees (counted_tree_of a stored_volumes) → (index : ℕ) (s : StoredVolume) → slice_get stored_volumes index ≡ Some s → Some (make_totals s.bytes s.files) ≡ totals_at t index
+totals_there a stored_volumes t view keeps index s e = totals_kept a stored_volumes keeps index s e ∙ ap (λ (t : Tree). totals_at t index) view
 
-pub totals_none : (a : NumberedFiles StoredFile) (stored_volumes : List StoredVolume) (t : Tree) → tree_in (counted_tree_of a stored_volumes) ≡ t → (place : ℕ) → slice_get stored_volumes place ≡ None → None ≡ totals_at t place
-totals_none a stored_volumes t view place e =
-    sym (ap (option_map (λ (v : Volume). make_totals (bytes_of place t.files) (files_of place t.files))) (sym (volume_there a stored_volumes t view place) ∙ ap (option_map volume_of) e))
+pub totals_none : (a : NumberedFiles StoredFile) (stored_volumes : List StoredVolume) (t : Tree) → tree_in (counted_tree_of a stored_volumes) ≡ t → (index : ℕ) → slice_get stored_volumes index ≡ None → None ≡ totals_at t index
+totals_none a stored_volumes t view index e =
+    sym (ap (option_map (λ (v : Volume). make_totals (bytes_of index t.files) (files_of index t.files))) (sym (volume_there a stored_volumes t view index) ∙ ap (option_map volume_of) e))
 
 -- ---- handles
 

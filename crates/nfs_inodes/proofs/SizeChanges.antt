@@ -58,7 +58,7 @@ module _ (a : NumberedFiles StoredFile) (olds : List StoredVolume) (n size : ℕ
       let f = kept_at a olds (tree_in (counted_tree_of a olds)) refl n may.file may.at_file in
       record { file = f.0; at_file = f.1; regular = ap (λ (f : File). is_regular f.kind) f.2 ∙ may.regular; large = may.large }
 
-  module _ (b : NumberedFiles StoredFile) (was place : ℕ) (resizes : Revalues a n (Resizes was size now) b) (is_place : place ≡ changes.volume_of (tree_in (counted_tree_of a olds)) n) where
+  module _ (b : NumberedFiles StoredFile) (was index : ℕ) (resizes : Revalues a n (Resizes was size now) b) (is_place : index ≡ changes.volume_index (tree_in (counted_tree_of a olds)) n) where
     abbrev t : Tree
     t = tree_in (counted_tree_of a olds)
 
@@ -71,22 +71,22 @@ module _ (a : NumberedFiles StoredFile) (olds : List StoredVolume) (n size : ℕ
     the_file : k_then.file ≡ may.file
     the_file = same_some (sym (lives a olds n resizes.was resizes.at_was) ∙ may.at_file)
 
-    home : place ≡ may.file.volume
+    home : index ≡ may.file.volume
     home = is_place ∙ ap (λ o. on_some o 0 (λ (f : File). f.volume)) may.at_file
 
     was_long : was ≡ length (bytes_in may.file.kind)
     was_long = resizes.from.size_was ∙ ap (λ (f : File). length (bytes_in f.kind)) the_file
 
-    pub has_bytes : HasBytes olds place was size
+    pub has_bytes : HasBytes olds index was size
     has_bytes =
-        let s = stored_volume_of a olds place may.volume keeps (ap (slice_get t.volumes) home ∙ may.at_volume) in
+        let s = stored_volume_of a olds index may.volume keeps (ap (slice_get t.volumes) home ∙ may.at_volume) in
         let has = s.2 in let wide = s.4 in
         let room = may.room in
-        let same : bytes_of place t.files ≡ bytes_of may.file.volume t.files = ap (λ k. bytes_of k t.files) home in
+        let same : bytes_of index t.files ≡ bytes_of may.file.volume t.files = ap (λ k. bytes_of k t.files) home in
         let some = sum_some (bytes_for may.file.volume) n may.file t.files may.at_file in
         let its = bytes_here may.file.volume may.file refl in
         let long = was_long in
-        record { stored_volume = s.0; at_place = s.1; has = omega (arith, has, same, some, its, long); fits = omega (arith, has, same, some, its, long, room, wide) }
+        record { stored_volume = s.0; at_index = s.1; has = omega (arith, has, same, some, its, long); fits = omega (arith, has, same, some, its, long, room, wide) }
 
     file_now : k_now.file ≡ resized_to k_then.file size now
     file_now = ap (λ (f : File). retagged f resizes.was.tag) resizes.from.file
@@ -103,12 +103,12 @@ module _ (a : NumberedFiles StoredFile) (olds : List StoredVolume) (n size : ℕ
     long_now : length (bytes_in k_now.file.kind) ≡ size
     long_now = ap (λ (f : File). length (bytes_in f.kind)) file_now ∙ length_resized k_then.file.kind size (ap (λ (f : File). is_regular f.kind) the_file ∙ may.regular)
 
-    module _ (news : List StoredVolume) (counts : with_totals (map counted_volume_of news) place was 0 ≡ with_totals (map counted_volume_of olds) place size 0) where
+    module _ (news : List StoredVolume) (counts : with_totals (map counted_volume_of news) index was 0 ≡ with_totals (map counted_volume_of olds) index size 0) where
       totals : (p : ℕ) (c : CountedVolume) → slice_get (map counted_volume_of news) p ≡ Some c → IsCounted (with_file t n k_now.file).files p c × AreLimits c.volume
-      totals = totals_moved 0 (counted_tree_of a olds) (with_file t n k_now.file).files (map counted_volume_of news) place was 0 size 0 (agrees_but_none (counted_tree_of a olds) keeps) counts (λ p.
+      totals = totals_moved 0 (counted_tree_of a olds) (with_file t n k_now.file).files (map counted_volume_of news) index was 0 size 0 (agrees_but_none (counted_tree_of a olds) keeps) counts (λ p.
           let bytes = bytes_changed t n k_then.file k_now.file shown_then alike_now.placed.volume p in
           let files = count_changed t n k_then.file k_now.file shown_then alike_now.placed.volume p in
-          let is_here : k_then.file.volume ≡ place = ap (λ (f : File). f.volume) the_file ∙ sym home in
+          let is_here : k_then.file.volume ≡ index = ap (λ (f : File). f.volume) the_file ∙ sym home in
           let long = long_now in let before = resizes.from.size_was in (
             (λ s. let y = bytes.0 (is_here ∙ sym s) in (omega (arith, y, long, before), omega (arith, files))),
             (λ o. (bytes.1 (λ s. o (sym s ∙ is_here)), files)),
@@ -118,9 +118,9 @@ module _ (a : NumberedFiles StoredFile) (olds : List StoredVolume) (n size : ℕ
       stored_agree_after_resize = subst Agrees (sym (kept_revalued a b olds news n resizes))
           (agrees_alike (counted_tree_of a olds) n k_then k_now (map counted_volume_of news) keeps (at_counted_file a n resizes.was resizes.at_was) alike_now resizes.from.nlink
           (subst Law resized_now (law_after_resize t n size now may keeps.law))
-          (volumes_moved (map counted_volume_of news) (map counted_volume_of olds) place was 0 size 0 counts) totals)
+          (volumes_moved (map counted_volume_of news) (map counted_volume_of olds) index was 0 size 0 counts) totals)
 
       pub stored_view_after_resize : tree_in (counted_tree_of b news) ≡ after_resize t n size now
       stored_view_after_resize = ap tree_in (kept_revalued a b olds news n resizes)
-          ∙ view_recounted (counted_tree_of a olds) n k_now (map counted_volume_of news) (volumes_moved (map counted_volume_of news) (map counted_volume_of olds) place was 0 size 0 counts)
+          ∙ view_recounted (counted_tree_of a olds) n k_now (map counted_volume_of news) (volumes_moved (map counted_volume_of news) (map counted_volume_of olds) index was 0 size 0 counts)
           ∙ sym resized_now

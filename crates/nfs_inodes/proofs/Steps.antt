@@ -68,13 +68,13 @@ pub takes_entry : (a : NumberedFiles StoredFile) (stored_volumes : List StoredVo
 takes_entry a stored_volumes d name keeps enter = takes_entry_at a stored_volumes d enter.dir keeps enter.at_dir enter.cookie
 
 -- the share of a volume of the tree, and what it counts
-pub stored_volume_of : (a : NumberedFiles StoredFile) (stored_volumes : List StoredVolume) (place : ℕ) (v : Volume) → Agrees (counted_tree_of a stored_volumes) → slice_get (tree_in (counted_tree_of a stored_volumes)).volumes place ≡ Some v →
-    (s : StoredVolume) × (slice_get stored_volumes place ≡ Some s) × (s.bytes ≡ bytes_of place (tree_in (counted_tree_of a stored_volumes)).files) × (s.files ≡ files_of place (tree_in (counted_tree_of a stored_volumes)).files) × (v.max_bytes < 18446744073709551616) × (v.max_files < 18446744073709551616)
-stored_volume_of a stored_volumes place v keeps e =
-    let s = stored_volume_at stored_volumes place v e in
-    let c = stored_volume_counted stored_volumes place s.0 s.1 in
-    let t = keeps.totals place (counted_volume_of s.0) c in
-    let l = keeps.limits place (counted_volume_of s.0) c in
+pub stored_volume_of : (a : NumberedFiles StoredFile) (stored_volumes : List StoredVolume) (index : ℕ) (v : Volume) → Agrees (counted_tree_of a stored_volumes) → slice_get (tree_in (counted_tree_of a stored_volumes)).volumes index ≡ Some v →
+    (s : StoredVolume) × (slice_get stored_volumes index ≡ Some s) × (s.bytes ≡ bytes_of index (tree_in (counted_tree_of a stored_volumes)).files) × (s.files ≡ files_of index (tree_in (counted_tree_of a stored_volumes)).files) × (v.max_bytes < 18446744073709551616) × (v.max_files < 18446744073709551616)
+stored_volume_of a stored_volumes index v keeps e =
+    let s = stored_volume_at stored_volumes index v e in
+    let c = stored_volume_counted stored_volumes index s.0 s.1 in
+    let t = keeps.totals index (counted_volume_of s.0) c in
+    let l = keeps.limits index (counted_volume_of s.0) c in
     (s.0, s.1, t.bytes, t.files, subst (λ (v : Volume). v.max_bytes < 18446744073709551616) s.2 l.0, subst (λ (v : Volume). v.max_files < 18446744073709551616) s.2 l.1)
 
 module _ (a : NumberedFiles StoredFile) (stored_volumes : List StoredVolume) (d : ℕ) (name : List ℕ) (stored_file : StoredFile) (keeps : Agrees (counted_tree_of a stored_volumes)) (may : MayAdd (tree_in (counted_tree_of a stored_volumes)) d name stored_file) where
@@ -89,15 +89,15 @@ module _ (a : NumberedFiles StoredFile) (stored_volumes : List StoredVolume) (d 
 
   pub room_here : HasRoomFor stored_volumes stored_file.volume size 1
   room_here =
-      let at_place : slice_get t.volumes stored_file.volume ≡ Some may.may.volume = ap (slice_get t.volumes) may.is_new.volume ∙ may.may.at_volume in
-      let s = stored_volume_of a stored_volumes stored_file.volume may.may.volume keeps at_place in
+      let at_index : slice_get t.volumes stored_file.volume ≡ Some may.may.volume = ap (slice_get t.volumes) may.is_new.volume ∙ may.may.at_volume in
+      let s = stored_volume_of a stored_volumes stored_file.volume may.may.volume keeps at_index in
       let bytes = s.2 in let files = s.3 in let wide = s.4 in let wide_files = s.5 in
       let same_bytes : bytes_of stored_file.volume t.files ≡ bytes_of may.may.enter.dir.volume t.files = ap (λ k. bytes_of k t.files) may.is_new.volume in
       let same_files : files_of stored_file.volume t.files ≡ files_of may.may.enter.dir.volume t.files = ap (λ k. files_of k t.files) may.is_new.volume in
       let room = may.may.bytes in let few = may.may.files in
       record {
         stored_volume = s.0;
-        at_place = s.1;
+        at_index = s.1;
         bytes_fit = omega (arith, bytes, wide, same_bytes, room);
         files_fit = omega (arith, files, wide_files, same_files, few);
       }
@@ -144,8 +144,8 @@ module _ (a : NumberedFiles StoredFile) (stored_volumes : List StoredVolume) (d 
 
 -- ---- a file to be added
 
-pub may_add : (t : Tree) (d size : ℕ) (name : List ℕ) (k : Kind) (given : NewFile) (verifier : Option (List ℕ)) (now : Moment) (stored_file : StoredFile) (place : ℕ) (may : MayMake t d name size) → place ≡ changes.volume_of t d → file_of 0 stored_file ≡ new_file place k given verifier 0 now → stored_file.nlink ≡ (if is_directory k then 2 else 1) → IsFresh d size k → (is_directory k ≡ true → nlink t.files d may.enter.dir < 1000) → MayAdd t d name stored_file
-may_add t d size name k given verifier now stored_file place may is_place is links fresh few =
+pub may_add : (t : Tree) (d size : ℕ) (name : List ℕ) (k : Kind) (given : NewFile) (verifier : Option (List ℕ)) (now : Moment) (stored_file : StoredFile) (index : ℕ) (may : MayMake t d name size) → index ≡ changes.volume_index t d → file_of 0 stored_file ≡ new_file index k given verifier 0 now → stored_file.nlink ≡ (if is_directory k then 2 else 1) → IsFresh d size k → (is_directory k ≡ true → nlink t.files d may.enter.dir < 1000) → MayAdd t d name stored_file
+may_add t d size name k given verifier now stored_file index may is_place is links fresh few =
     let f : File = file_of 0 stored_file in
     let kind : f.kind ≡ k = ap (λ (f : File). f.kind) is in
     let long : size ≡ length (bytes_in f.kind) = sym (ap (λ k. length (bytes_in k)) kind ∙ fresh.bytes) in
@@ -163,8 +163,8 @@ module _ (a : NumberedFiles StoredFile) (stored_volumes : List StoredVolume) (t 
   pub takes_entry_seen : (name : List ℕ) → MayEnter t d name → TakesEntry a d
   takes_entry_seen name enter = takes_entry a stored_volumes d name keeps (subst (λ (t : Tree). MayEnter t d name) (sym view) enter)
 
-  is_place : (place : ℕ) → option_map (λ (i : StoredFile). i.volume) (value_at a d) ≡ Some place → place ≡ changes.volume_of t d
-  is_place place e = let i = mapped (λ (i : StoredFile). i.volume) (value_at a d) place e in sym i.2 ∙ place_there a stored_volumes t view d i.0 (sym i.1)
+  is_place : (index : ℕ) → option_map (λ (i : StoredFile). i.volume) (value_at a d) ≡ Some index → index ≡ changes.volume_index t d
+  is_place index e = let i = mapped (λ (i : StoredFile). i.volume) (value_at a d) index e in sym i.2 ∙ place_there a stored_volumes t view d i.0 (sym i.1)
 
   -- room for an entry changes nothing that is told
   module _ (b : NumberedFiles StoredFile) (reserved : Revalues a d SameFile b) where
@@ -177,14 +177,14 @@ module _ (a : NumberedFiles StoredFile) (stored_volumes : List StoredVolume) (t 
     pub agree_still : Agrees (counted_tree_of b stored_volumes)
     agree_still = subst Agrees (sym counted_still) keeps
 
-    module _ (name : List ℕ) (k : Kind) (given : NewFile) (verifier : Option (List ℕ)) (now : Moment) (stored_file : StoredFile) (place : ℕ) (at_place : option_map (λ (i : StoredFile). i.volume) (value_at a d) ≡ Some place)
-        (is : file_of 0 stored_file ≡ new_file place k given verifier 0 now) (links : stored_file.nlink ≡ (if is_directory k then 2 else 1)) (may : MayAddKind t d name k) where
+    module _ (name : List ℕ) (k : Kind) (given : NewFile) (verifier : Option (List ℕ)) (now : Moment) (stored_file : StoredFile) (index : ℕ) (at_index : option_map (λ (i : StoredFile). i.volume) (value_at a d) ≡ Some index)
+        (is : file_of 0 stored_file ≡ new_file index k given verifier 0 now) (links : stored_file.nlink ≡ (if is_directory k then 2 else 1)) (may : MayAddKind t d name k) where
       pub may_add_still : MayAdd (tree_in (counted_tree_of b stored_volumes)) d name stored_file
       may_add_still = subst (λ (t : Tree). MayAdd t d name stored_file) (sym view_still)
-          (may_add t d (length (bytes_in k)) name k given verifier now stored_file place may.may (is_place place at_place) is links may.fresh may.links)
+          (may_add t d (length (bytes_in k)) name k given verifier now stored_file index may.may (is_place index at_index) is links may.fresh may.links)
 
-      pub makes_still : (new : Tree) → Makes (λ tag. with_named_file (tree_in (counted_tree_of b stored_volumes)) d name (retagged (file_of 0 stored_file) tag) now) new → Makes (λ tag. with_named_file t d name (new_file (changes.volume_of t d) k given verifier tag now) now) new
-      makes_still new makes = subst (λ (f : File). Makes (λ tag. with_named_file t d name (retagged f tag) now) new) (is ∙ ap (λ place. new_file place k given verifier 0 now) (is_place place at_place))
+      pub makes_still : (new : Tree) → Makes (λ tag. with_named_file (tree_in (counted_tree_of b stored_volumes)) d name (retagged (file_of 0 stored_file) tag) now) new → Makes (λ tag. with_named_file t d name (new_file (changes.volume_index t d) k given verifier tag now) now) new
+      makes_still new makes = subst (λ (f : File). Makes (λ tag. with_named_file t d name (retagged f tag) now) new) (is ∙ ap (λ index. new_file index k given verifier 0 now) (is_place index at_index))
           (subst (λ (t : Tree). Makes (λ tag. with_named_file t d name (retagged (file_of 0 stored_file) tag) now) new) view_still makes)
 
 -- ---- a link
@@ -248,10 +248,10 @@ unchanged a b stored_volumes news e f keeps = subst (λ (b : NumberedFiles Store
 pub may_found : (a : NumberedFiles StoredFile) (stored_volumes : List StoredVolume) (max_files : ℕ) (path given : List ℕ) (t : Tree) → tree_in (counted_tree_of a stored_volumes) ≡ t → path ≡ given → MayAddVolume t given max_files → MayAddVolume (tree_in (counted_tree_of a stored_volumes)) path max_files
 may_found a stored_volumes max_files path given t view is may = subst (λ (t : Tree). MayAddVolume t path max_files) (sym view) (subst (λ (path : List ℕ). MayAddVolume t path max_files) (sym is) may)
 
-pub root_file : (f : File) (place places next number : ℕ) (given : NewFile) (now : Moment) (entries : Listed) → place ≡ places → next ≡ number → entries.next ≡ 3 → entries.entries ≡ [] → f ≡ new_file place (Directory next entries.next entries.entries) given None 0 now → f ≡ new_file places (Directory number 3 []) given None 0 now
-root_file f place places next number given now entries a b c e is =
-    is ∙ (λ k. new_file place (Directory next (c k) (e k)) given None 0 now)
-    ∙ ap (λ n. new_file place (Directory n 3 []) given None 0 now) b
+pub root_file : (f : File) (index places next number : ℕ) (given : NewFile) (now : Moment) (entries : Listed) → index ≡ places → next ≡ number → entries.next ≡ 3 → entries.entries ≡ [] → f ≡ new_file index (Directory next entries.next entries.entries) given None 0 now → f ≡ new_file places (Directory number 3 []) given None 0 now
+root_file f index places next number given now entries a b c e is =
+    is ∙ (λ k. new_file index (Directory next (c k) (e k)) given None 0 now)
+    ∙ ap (λ n. new_file index (Directory n 3 []) given None 0 now) b
     ∙ ap (λ n. new_file n (Directory number 3 []) given None 0 now) a
 
 pub bounded : {n : ℕ} → Fits w64 n → n < 18446744073709551616

@@ -230,8 +230,8 @@ unwritten t n f i w e v file nlink = let s = value_found t n f i e v in
     same_files t (with_value t n w) n (record { was = f; at_was = e; value = w; from = record { file = file ∙ ap (file_of 0) s; nlink = nlink ∙ ap (λ (i : StoredFile). i.nlink) s }; new_is = refl })
 
 pub wrote : (t : NumberedFiles StoredFile) (n offset : ℕ) (bytes : List ℕ) (now : Moment) (takes : TakesBytes t n offset (length bytes)) (i w : StoredFile) (growth : Growth) → Some i ≡ value_at t n → file_of 0 w ≡ file_with_bytes (file_of 0 i) offset bytes now → w.nlink ≡ i.nlink →
-    growth.place ≡ w.volume → growth.bytes ≡ length (bytes_in (file_of 0 w).kind) - length (bytes_in (file_of 0 i).kind) → Revalues t n (Writes offset bytes growth now) (with_value t n w)
-wrote t n offset bytes now takes i w growth v file nlink place grown =
+    growth.volume ≡ w.volume → growth.bytes ≡ length (bytes_in (file_of 0 w).kind) - length (bytes_in (file_of 0 i).kind) → Revalues t n (Writes offset bytes growth now) (with_value t n w)
+wrote t n offset bytes now takes i w growth v file nlink index grown =
     let s = value_found t n takes.file i takes.at_file v in
     let regular : is_regular (file_of 0 i).kind ≡ true = ap (λ i. is_regular (file_of 0 i).kind) s ∙ takes.regular in
     let long : length (bytes_in (file_of 0 w).kind) ≡ length (bytes_in (file_of 0 i).kind) + (offset + length bytes - length (bytes_in (file_of 0 i).kind)) =
@@ -240,6 +240,6 @@ wrote t n offset bytes now takes i w growth v file nlink place grown =
       was = takes.file;
       at_was = takes.at_file;
       value = w;
-      from = subst (λ (i : StoredFile). Writes offset bytes growth now i w) s (record { file = file; nlink = nlink; place = place ∙ ap (λ (f : File). f.volume) file; grown = omega (arith, grown, long) });
+      from = subst (λ (i : StoredFile). Writes offset bytes growth now i w) s (record { file = file; nlink = nlink; index = index ∙ ap (λ (f : File). f.volume) file; grown = omega (arith, grown, long) });
       new_is = refl;
     }

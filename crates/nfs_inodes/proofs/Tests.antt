@@ -18,7 +18,7 @@ use Rattle.nfs_inodes.specs.Conditions.{MayEnter, MayMake, MayMakeDirectory, May
 use Rattle.nfs_inodes.specs.Counts.{CountedVolume, Agrees, tree_in}
 use Rattle.nfs_inodes.specs.Storage.{file_of, kind_of, counted_tree_of, counted_volume_of, volume_of}
 use Rattle.nfs_inodes.specs.StepConditions.{TakesName, TakesFile, MayGainLink, HasRoomIn}
-use Rattle.nfs_inodes.specs.Reading.{entry_named, number_named, place_where}
+use Rattle.nfs_inodes.specs.Reading.{entry_named, number_named, index_where}
 use Rattle.nfs_inodes.proofs.Lists.{same_some, not_both, if_false}
 use Rattle.nfs_inodes.proofs.Views.{filed, lives_there, none_there, stored_volume_at, stored_volume_counted}
 use Rattle.nfs_inodes.proofs.StoredFiles.{counted_file, at_counted_file}
@@ -43,9 +43,9 @@ unlisted name = unfound (λ (e : Entry). bytes_eq e.name name) (λ e. e.name ≡
     first false e o = refl
 
 -- no volume has a path
-pub unnamed : (path : List ℕ) (vs : List Volume) → Decides (is_none (place_where (λ (v : Volume). bytes_eq v.path path) vs)) (All (λ (v : Volume). v.path ≢ path) vs)
-unnamed path = unfound (λ (v : Volume). bytes_eq v.path path) (λ v. v.path ≡ path) (λ vs. is_none (place_where (λ (v : Volume). bytes_eq v.path path) vs)) (λ v. bytes_eq-Decides v.path path) refl
-    (λ v vs. first (bytes_eq v.path path) (place_where (λ (v : Volume). bytes_eq v.path path) vs))
+pub unnamed : (path : List ℕ) (vs : List Volume) → Decides (is_none (index_where (λ (v : Volume). bytes_eq v.path path) vs)) (All (λ (v : Volume). v.path ≢ path) vs)
+unnamed path = unfound (λ (v : Volume). bytes_eq v.path path) (λ v. v.path ≡ path) (λ vs. is_none (index_where (λ (v : Volume). bytes_eq v.path path) vs)) (λ v. bytes_eq-Decides v.path path) refl
+    (λ v vs. first (bytes_eq v.path path) (index_where (λ (v : Volume). bytes_eq v.path path) vs))
   where
     first : (b : Bool) (o : Option ℕ) → is_none (cond b (Some 0) (option_map (λ n. n + 1) o)) ≡ (not b && is_none o)
     first true o = refl
@@ -166,14 +166,14 @@ module _ (a : NumberedFiles StoredFile) (stored_volumes : List StoredVolume) (t 
 
     -- ---- tests of a link
 
-    pub gains_link : (n place : ℕ) (i : StoredFile) (b : Bool) → Some i ≡ value_at a n → Decides b ((is_directory (kind_of i.node) ≡ false) × (i.volume ≡ place) × (i.nlink < 1000)) → Decides b (MayGainLink t n place)
-    gains_link n place i b e takes = Decides-like b
+    pub gains_link : (n index : ℕ) (i : StoredFile) (b : Bool) → Some i ≡ value_at a n → Decides b ((is_directory (kind_of i.node) ≡ false) × (i.volume ≡ index) × (i.nlink < 1000)) → Decides b (MayGainLink t n index)
+    gains_link n index i b e takes = Decides-like b
         (λ takes. let s = shown_there n i e in
         let links = links_there n i e (file_of s.0 i) s.1 in
         let names : nlink t.files n (file_of s.0 i) ≡ names_of n t.files = if_false _ _ takes.0 in
         let few = takes.2 in
         record { file = file_of s.0 i; at_file = s.1; not_directory = takes.0; volume = takes.1; links = omega (arith, few, links, names) })
-        (λ (may : MayGainLink t n place). let like = like_there n i e may.file may.at_file in
+        (λ (may : MayGainLink t n index). let like = like_there n i e may.file may.at_file in
         let links = links_there n i e may.file may.at_file in
         let names : nlink t.files n may.file ≡ names_of n t.files = if_false _ _ may.not_directory in
         let few = may.links in
@@ -182,34 +182,34 @@ module _ (a : NumberedFiles StoredFile) (stored_volumes : List StoredVolume) (t 
 
     -- ---- volumes
 
-    volume_there : (place : ℕ) (s : StoredVolume) → slice_get stored_volumes place ≡ Some s → slice_get t.volumes place ≡ Some (volume_of s)
-    volume_there place s e = ap (λ (t : Tree). slice_get t.volumes place) (sym view) ∙ slice_get-map (λ (c : CountedVolume). c.volume) (map counted_volume_of stored_volumes) place ∙ ap (option_map (λ (c : CountedVolume). c.volume)) (stored_volume_counted stored_volumes place s e)
+    volume_there : (index : ℕ) (s : StoredVolume) → slice_get stored_volumes index ≡ Some s → slice_get t.volumes index ≡ Some (volume_of s)
+    volume_there index s e = ap (λ (t : Tree). slice_get t.volumes index) (sym view) ∙ slice_get-map (λ (c : CountedVolume). c.volume) (map counted_volume_of stored_volumes) index ∙ ap (option_map (λ (c : CountedVolume). c.volume)) (stored_volume_counted stored_volumes index s e)
 
-    its_limits : (place : ℕ) (s : StoredVolume) (v : Volume) → slice_get stored_volumes place ≡ Some s → slice_get t.volumes place ≡ Some v → volume_of s ≡ v
-    its_limits place s v e there = same_some (sym (volume_there place s e) ∙ there)
+    its_limits : (index : ℕ) (s : StoredVolume) (v : Volume) → slice_get stored_volumes index ≡ Some s → slice_get t.volumes index ≡ Some v → volume_of s ≡ v
+    its_limits index s v e there = same_some (sym (volume_there index s e) ∙ there)
 
-    bytes_there : (place : ℕ) (s : StoredVolume) → slice_get stored_volumes place ≡ Some s → s.bytes ≡ bytes_of place t.files
-    bytes_there place s e = (keeps.totals place (counted_volume_of s) (stored_volume_counted stored_volumes place s e)).bytes ∙ ap (λ (t : Tree). bytes_of place t.files) view
+    bytes_there : (index : ℕ) (s : StoredVolume) → slice_get stored_volumes index ≡ Some s → s.bytes ≡ bytes_of index t.files
+    bytes_there index s e = (keeps.totals index (counted_volume_of s) (stored_volume_counted stored_volumes index s e)).bytes ∙ ap (λ (t : Tree). bytes_of index t.files) view
 
-    files_there : (place : ℕ) (s : StoredVolume) → slice_get stored_volumes place ≡ Some s → s.files ≡ files_of place t.files
-    files_there place s e = (keeps.totals place (counted_volume_of s) (stored_volume_counted stored_volumes place s e)).files ∙ ap (λ (t : Tree). files_of place t.files) view
+    files_there : (index : ℕ) (s : StoredVolume) → slice_get stored_volumes index ≡ Some s → s.files ≡ files_of index t.files
+    files_there index s e = (keeps.totals index (counted_volume_of s) (stored_volume_counted stored_volumes index s e)).files ∙ ap (λ (t : Tree). files_of index t.files) view
 
-    pub room_there : (place size : ℕ) (s : StoredVolume) (b : Bool) → slice_get stored_volumes place ≡ Some s → s.files < s.max_files → Decides b (s.bytes + size ≤ s.max_bytes) → Decides b (HasRoomIn t place size)
-    room_there place size s b e few fits = Decides-like b
-        (λ fits. let bytes = bytes_there place s e in let files = files_there place s e in
-        record { volume = volume_of s; at_volume = volume_there place s e; files = omega (arith, files, few); bytes = omega (arith, bytes, fits) })
-        (λ (room : HasRoomIn t place size). let has = bytes_there place s e in let fits = room.bytes in
-        let limit : s.max_bytes ≡ room.volume.max_bytes = ap (λ (v : Volume). v.max_bytes) (its_limits place s room.volume e room.at_volume) in
+    pub room_there : (index size : ℕ) (s : StoredVolume) (b : Bool) → slice_get stored_volumes index ≡ Some s → s.files < s.max_files → Decides b (s.bytes + size ≤ s.max_bytes) → Decides b (HasRoomIn t index size)
+    room_there index size s b e few fits = Decides-like b
+        (λ fits. let bytes = bytes_there index s e in let files = files_there index s e in
+        record { volume = volume_of s; at_volume = volume_there index s e; files = omega (arith, files, few); bytes = omega (arith, bytes, fits) })
+        (λ (room : HasRoomIn t index size). let has = bytes_there index s e in let fits = room.bytes in
+        let limit : s.max_bytes ≡ room.volume.max_bytes = ap (λ (v : Volume). v.max_bytes) (its_limits index s room.volume e room.at_volume) in
         omega (arith, has, fits, limit))
         fits
 
-    pub full : (place size : ℕ) (s : StoredVolume) → slice_get stored_volumes place ≡ Some s → s.max_files ≤ s.files → HasRoomIn t place size → ⊥
-    full place size s e many room =
-        let limit : s.max_files ≡ room.volume.max_files = ap (λ (v : Volume). v.max_files) (its_limits place s room.volume e room.at_volume) in
-        let has = files_there place s e in let few = room.files in omega (arith, has, many, few, limit)
+    pub full : (index size : ℕ) (s : StoredVolume) → slice_get stored_volumes index ≡ Some s → s.max_files ≤ s.files → HasRoomIn t index size → ⊥
+    full index size s e many room =
+        let limit : s.max_files ≡ room.volume.max_files = ap (λ (v : Volume). v.max_files) (its_limits index s room.volume e room.at_volume) in
+        let has = files_there index s e in let few = room.files in omega (arith, has, many, few, limit)
 
-  pub no_room : (place size : ℕ) → slice_get stored_volumes place ≡ None → HasRoomIn t place size → ⊥
-  no_room place size e room = let s = stored_volume_at stored_volumes place room.volume (subst (λ (t : Tree). slice_get t.volumes place ≡ Some room.volume) (sym view) room.at_volume) in not_both e s.1
+  pub no_room : (index size : ℕ) → slice_get stored_volumes index ≡ None → HasRoomIn t index size → ⊥
+  no_room index size e room = let s = stored_volume_at stored_volumes index room.volume (subst (λ (t : Tree). slice_get t.volumes index ≡ Some room.volume) (sym view) room.at_volume) in not_both e s.1
 
   -- ---- tests of an entry for a file that is there
 

@@ -51,42 +51,42 @@ module _ (a : NumberedFiles StoredFile) (stored_volumes : List StoredVolume) (t 
       none_of (Some f) e = cc
 
   -- the volume of a file
-  pub place_there : (n : ℕ) (i : StoredFile) → Some i ≡ value_at a n → i.volume ≡ changes.volume_of t n
+  pub place_there : (n : ℕ) (i : StoredFile) → Some i ≡ value_at a n → i.volume ≡ changes.volume_index t n
   place_there n i e = let f = filed a n i e in
       ap (λ (i : StoredFile). i.volume) (sym f.2) ∙ sym (ap (λ o. on_some o 0 (λ (k : File). k.volume)) (lives_there n f.0 f.1))
 
-  pub place_none : (n : ℕ) → None ≡ value_at a n → 0 ≡ changes.volume_of t n
+  pub place_none : (n : ℕ) → None ≡ value_at a n → 0 ≡ changes.volume_index t n
   place_none n e = sym (ap (λ o. on_some o 0 (λ (k : File). k.volume)) (none_there n e))
 
 -- ---- volumes
 
-pub stored_volume_at : (stored_volumes : List StoredVolume) (place : ℕ) (v : Volume) → slice_get (map (λ (c : CountedVolume). c.volume) (map counted_volume_of stored_volumes)) place ≡ Some v → (s : StoredVolume) × (slice_get stored_volumes place ≡ Some s) × (volume_of s ≡ v)
-stored_volume_at [] place v e = absurd (not_both refl e)
+pub stored_volume_at : (stored_volumes : List StoredVolume) (index : ℕ) (v : Volume) → slice_get (map (λ (c : CountedVolume). c.volume) (map counted_volume_of stored_volumes)) index ≡ Some v → (s : StoredVolume) × (slice_get stored_volumes index ≡ Some s) × (volume_of s ≡ v)
+stored_volume_at [] index v e = absurd (not_both refl e)
 stored_volume_at (s ∷ ss) zero v e = (s, refl, same_some e)
-stored_volume_at (s ∷ ss) (suc place) v e = stored_volume_at ss place v e
+stored_volume_at (s ∷ ss) (suc index) v e = stored_volume_at ss index v e
 
-pub stored_volume_counted : (stored_volumes : List StoredVolume) (place : ℕ) (s : StoredVolume) → slice_get stored_volumes place ≡ Some s → slice_get (map counted_volume_of stored_volumes) place ≡ Some (counted_volume_of s)
-stored_volume_counted stored_volumes place s e = slice_get-map counted_volume_of stored_volumes place ∙ ap (option_map counted_volume_of) e
+pub stored_volume_counted : (stored_volumes : List StoredVolume) (index : ℕ) (s : StoredVolume) → slice_get stored_volumes index ≡ Some s → slice_get (map counted_volume_of stored_volumes) index ≡ Some (counted_volume_of s)
+stored_volume_counted stored_volumes index s e = slice_get-map counted_volume_of stored_volumes index ∙ ap (option_map counted_volume_of) e
 
-pub set_totals : (stored_volumes : List StoredVolume) (place bytes files : ℕ) (s : StoredVolume) → slice_get stored_volumes place ≡ Some s → map counted_volume_of (slice_set stored_volumes place (record s { bytes = s.bytes + bytes; files = s.files + files })) ≡ with_totals (map counted_volume_of stored_volumes) place bytes files
-set_totals [] place bytes files s e = absurd (not_both refl e)
+pub set_totals : (stored_volumes : List StoredVolume) (index bytes files : ℕ) (s : StoredVolume) → slice_get stored_volumes index ≡ Some s → map counted_volume_of (slice_set stored_volumes index (record s { bytes = s.bytes + bytes; files = s.files + files })) ≡ with_totals (map counted_volume_of stored_volumes) index bytes files
+set_totals [] index bytes files s e = absurd (not_both refl e)
 set_totals (b ∷ bs) zero bytes files s e = let same : b ≡ s = same_some e in
     ap (λ (s : StoredVolume). record { volume = volume_of s; bytes = s.bytes + bytes; files = s.files + files } ∷ map counted_volume_of bs) (sym same)
-set_totals (b ∷ bs) (suc place) bytes files s e = ap (λ l. counted_volume_of b ∷ l) (set_totals bs place bytes files s e)
+set_totals (b ∷ bs) (suc index) bytes files s e = ap (λ l. counted_volume_of b ∷ l) (set_totals bs index bytes files s e)
 
-pub reset_totals : (stored_volumes : List StoredVolume) (place less more : ℕ) (s : StoredVolume) → slice_get stored_volumes place ≡ Some s → less ≤ s.bytes →
-    with_totals (map counted_volume_of (slice_set stored_volumes place (record s { bytes = s.bytes - less + more }))) place less 0 ≡ with_totals (map counted_volume_of stored_volumes) place more 0
-reset_totals [] place less more s e has = absurd (not_both refl e)
+pub reset_totals : (stored_volumes : List StoredVolume) (index less more : ℕ) (s : StoredVolume) → slice_get stored_volumes index ≡ Some s → less ≤ s.bytes →
+    with_totals (map counted_volume_of (slice_set stored_volumes index (record s { bytes = s.bytes - less + more }))) index less 0 ≡ with_totals (map counted_volume_of stored_volumes) index more 0
+reset_totals [] index less more s e has = absurd (not_both refl e)
 reset_totals (b ∷ bs) zero less more s e has =
     let same : b ≡ s = same_some e in
     let sums : s.bytes - less + more + less ≡ s.bytes + more = omega (arith, has) in
     ap (λ n. record { volume = volume_of s; bytes = n; files = s.files + 0 } ∷ map counted_volume_of bs) sums
     ∙ ap (λ (s : StoredVolume). record { volume = volume_of s; bytes = s.bytes + more; files = s.files + 0 } ∷ map counted_volume_of bs) (sym same)
-reset_totals (b ∷ bs) (suc place) less more s e has = ap (λ l. counted_volume_of b ∷ l) (reset_totals bs place less more s e has)
+reset_totals (b ∷ bs) (suc index) less more s e has = ap (λ l. counted_volume_of b ∷ l) (reset_totals bs index less more s e has)
 
-pub less_totals : (stored_volumes : List StoredVolume) (place bytes files : ℕ) (s : StoredVolume) → slice_get stored_volumes place ≡ Some s → bytes ≤ s.bytes → files ≤ s.files →
-    with_totals (map counted_volume_of (slice_set stored_volumes place (record s { bytes = s.bytes - bytes; files = s.files - files }))) place bytes files ≡ map counted_volume_of stored_volumes
-less_totals [] place bytes files s e has_bytes has_files = absurd (not_both refl e)
+pub less_totals : (stored_volumes : List StoredVolume) (index bytes files : ℕ) (s : StoredVolume) → slice_get stored_volumes index ≡ Some s → bytes ≤ s.bytes → files ≤ s.files →
+    with_totals (map counted_volume_of (slice_set stored_volumes index (record s { bytes = s.bytes - bytes; files = s.files - files }))) index bytes files ≡ map counted_volume_of stored_volumes
+less_totals [] index bytes files s e has_bytes has_files = absurd (not_both refl e)
 less_totals (b ∷ bs) zero bytes files s e has_bytes has_files =
     let same : b ≡ s = same_some e in
     let sum : s.bytes - bytes + bytes ≡ s.bytes = omega (arith, has_bytes) in
@@ -94,4 +94,4 @@ less_totals (b ∷ bs) zero bytes files s e has_bytes has_files =
     ap (λ n. record { volume = volume_of s; bytes = n; files = s.files - files + files } ∷ map counted_volume_of bs) sum
     ∙ ap (λ n. record { volume = volume_of s; bytes = s.bytes; files = n } ∷ map counted_volume_of bs) count
     ∙ ap (λ s. counted_volume_of s ∷ map counted_volume_of bs) (sym same)
-less_totals (b ∷ bs) (suc place) bytes files s e has_bytes has_files = ap (λ l. counted_volume_of b ∷ l) (less_totals bs place bytes files s e has_bytes has_files)
+less_totals (b ∷ bs) (suc index) bytes files s e has_bytes has_files = ap (λ l. counted_volume_of b ∷ l) (less_totals bs index bytes files s e has_bytes has_files)

@@ -93,8 +93,8 @@ new_file volume kind given verifier tag now = record {
 }
 
 -- the volume of file n
-abbrev pub volume_of : Tree → ℕ → ℕ
-volume_of t n = on_some (at n t.files) 0 (λ f. f.volume)
+abbrev pub volume_index : Tree → ℕ → ℕ
+volume_index t n = on_some (at n t.files) 0 (λ f. f.volume)
 
 -- ---- the operations
 
@@ -104,15 +104,15 @@ with_named_file t d name f now = with_entry (with_new_file t f) d name t.next no
 
 -- a regular file with these bytes
 abbrev pub after_make_file : Tree → ℕ → List ℕ → List ℕ → NewFile → Option (List ℕ) → ℕ → Moment → Tree
-after_make_file t d name bytes given verifier tag now = with_named_file t d name (new_file (volume_of t d) (Regular bytes) given verifier tag now) now
+after_make_file t d name bytes given verifier tag now = with_named_file t d name (new_file (volume_index t d) (Regular bytes) given verifier tag now) now
 
 -- a directory without entries
 abbrev pub after_make_dir : Tree → ℕ → List ℕ → NewFile → ℕ → Moment → Tree
-after_make_dir t d name given tag now = with_named_file t d name (new_file (volume_of t d) (Directory d 3 []) given None tag now) now
+after_make_dir t d name given tag now = with_named_file t d name (new_file (volume_index t d) (Directory d 3 []) given None tag now) now
 
 -- a link with this path
 abbrev pub after_make_link : Tree → ℕ → List ℕ → List ℕ → NewFile → ℕ → Moment → Tree
-after_make_link t d name path given tag now = with_named_file t d name (new_file (volume_of t d) (Link path) given None tag now) now
+after_make_link t d name path given tag now = with_named_file t d name (new_file (volume_index t d) (Link path) given None tag now) now
 
 -- an entry in d for a file that has one already
 abbrev pub after_link : Tree → ℕ → ℕ → List ℕ → Moment → Tree

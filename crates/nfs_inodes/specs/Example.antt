@@ -6,7 +6,7 @@ use Rattle.nfs_attrs.specs.declared.file_type.FileType.TheVariants as file_type
 use Rattle.nfs_attrs.specs.declared.moment.Moment.{Moment}
 use Rattle.nfs_inodes.specs.Tree.{Tree, File, Kind, Entry, Regular, Directory}
 use Rattle.nfs_inodes.specs.Changes.{after_link, after_unlink, after_rename}
-use Rattle.nfs_inodes.specs.Reading.{dot_dot, number_under, entry_after, next_cookie_at, attributes_at, totals_at, bytes_at, path_at, verifier_at, place_named}
+use Rattle.nfs_inodes.specs.Reading.{dot_dot, number_under, entry_after, next_cookie_at, attributes_at, totals_at, bytes_at, path_at, verifier_at, volume_named}
 
 abbrev pub start : Moment
 start = record { seconds = 0; nanos = 0 }
@@ -178,6 +178,6 @@ pub record ReadsOfE : Type 0 where
   pub bytes : bytes_at tree_e 3 ≡ 0x68 ∷ 0x65 ∷ 0x6c ∷ 0x6c ∷ 0x6f ∷ []
   pub no_path : path_at tree_e 3 ≡ None
   pub no_verifier : verifier_at tree_e 3 ≡ None
-  pub named_b : place_named tree_e (0x2f ∷ 0x62 ∷ []) ≡ Some 1
-  pub named_none : place_named tree_e (0x2f ∷ 0x63 ∷ []) ≡ None
+  pub named_b : volume_named tree_e (0x2f ∷ 0x62 ∷ []) ≡ Some 1
+  pub named_none : volume_named tree_e (0x2f ∷ 0x63 ∷ []) ≡ None
   pub changed : ReadsOfChangedE

@@ -48,7 +48,7 @@ directories files = filter (λ e. is_directory e.1.kind) files
 
 -- a number is the root of a volume
 abbrev pub IsRoot : List Volume → ℕ → Type 0
-IsRoot volumes n = (place : ℕ) × (v : Volume) × (slice_get volumes place ≡ Some v) × (v.root ≡ n)
+IsRoot volumes n = (index : ℕ) × (v : Volume) × (slice_get volumes index ≡ Some v) × (v.root ≡ n)
 
 -- a file lives under a number
 abbrev pub Lives : Tree → ℕ → File → Type 0
@@ -73,8 +73,8 @@ pub record LawBut (x : ℕ) (t : Tree) : Type 0 where
   pub entries : (d : ℕ) (f : File) (e : Entry) → Lives t d f → Contains (entries_in f.kind) e → (g : File) × Lives t e.number g × (g.volume ≡ f.volume)
   pub absent : (n : ℕ) → at n t.files ≡ None → names_of n t.files ≡ 0
   -- a root is a directory of its volume, its own parent, and no entry names it
-  pub roots : (place : ℕ) (v : Volume) → slice_get t.volumes place ≡ Some v
-      → (f : File) × LivesAsDirectory t v.root f × (parent_in f.kind ≡ v.root) × (f.volume ≡ place) × (names_of v.root t.files ≡ 0)
+  pub roots : (index : ℕ) (v : Volume) → slice_get t.volumes index ≡ Some v
+      → (f : File) × LivesAsDirectory t v.root f × (parent_in f.kind ≡ v.root) × (f.volume ≡ index) × (names_of v.root t.files ≡ 0)
   -- every other directory is named by one entry, which stands in its parent
   pub once : (n : ℕ) (f : File) → n ≢ x → LivesAsDirectory t n f → (IsRoot t.volumes n → ⊥) → names_of n t.files ≡ 1
   pub parents : (d : ℕ) (f : File) (e : Entry) (g : File) → Lives t d f → Contains (entries_in f.kind) e → LivesAsDirectory t e.number g → parent_in g.kind ≡ d
@@ -88,8 +88,8 @@ pub record LawBut (x : ℕ) (t : Tree) : Type 0 where
   pub named : (n : ℕ) (f : File) → n ≢ x → Lives t n f → is_directory f.kind ≡ false → 1 ≤ names_of n t.files
   pub links : (n : ℕ) (f : File) → Lives t n f → nlink t.files n f ≤ max_links
   pub volumes : AreVolumes t.volumes
-  pub bytes : (place : ℕ) (v : Volume) → slice_get t.volumes place ≡ Some v → bytes_of place t.files ≤ v.max_bytes
-  pub count : (place : ℕ) (v : Volume) → slice_get t.volumes place ≡ Some v → files_of place t.files ≤ v.max_files
+  pub bytes : (index : ℕ) (v : Volume) → slice_get t.volumes index ≡ Some v → bytes_of index t.files ≤ v.max_bytes
+  pub count : (index : ℕ) (v : Volume) → slice_get t.volumes index ≡ Some v → files_of index t.files ≤ v.max_files
 
 abbrev pub Law : Tree → Type 0
 Law t = LawBut 0 t

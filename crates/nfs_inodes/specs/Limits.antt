@@ -1,9 +1,10 @@
 -- The most that a tree takes.
 use Rattle.std.specs.Prelude.{ℕ}
+use Rattle.nfs_content.specs.Limits.{max_content}
 
 -- bytes of a regular file
 abbrev pub max_file_bytes : ℕ
-max_file_bytes = 16777216
+max_file_bytes = max_content
 
 -- bytes of a name
 abbrev pub max_name_bytes : ℕ

@@ -126,18 +126,18 @@ verifier_at t n = on_some (at n t.files) None (λ f. f.verifier)
 
 -- ---- places
 
--- the first place whose value passes
-abbrev pub place_where : {X : Type 0} → (X → Bool) → List X → Option ℕ
-place_where p [] = None
-place_where p (x ∷ xs) = if p x then Some 0 else option_map (λ n. n + 1) (place_where p xs)
+-- the index of the first value that passes
+abbrev pub index_where : {X : Type 0} → (X → Bool) → List X → Option ℕ
+index_where p [] = None
+index_where p (x ∷ xs) = if p x then Some 0 else option_map (λ n. n + 1) (index_where p xs)
 
--- the place of the volume of a path
-abbrev pub place_named : Tree → List ℕ → Option ℕ
-place_named t path = place_where (λ (v : Volume). bytes_eq v.path path) t.volumes
+-- the index of the volume of a path
+abbrev pub volume_named : Tree → List ℕ → Option ℕ
+volume_named t path = index_where (λ (v : Volume). bytes_eq v.path path) t.volumes
 
--- how many bytes and files the volume at a place has
+-- how many bytes and files the volume of this index has
 abbrev pub totals_at : Tree → ℕ → Option Totals
-totals_at t place = option_map (λ (v : Volume). record { bytes = bytes_of place t.files; files = files_of place t.files }) (slice_get t.volumes place)
+totals_at t index = option_map (λ (v : Volume). record { bytes = bytes_of index t.files; files = files_of index t.files }) (slice_get t.volumes index)
 
 -- ---- handles
 

@@ -48,7 +48,7 @@ pub record Goes (old : NumberedFiles StoredFile) (n : ℕ) (freed : Freed) (new 
   pub at_file : at old n ≡ Some file
   pub last : is_last file.value ≡ true
   pub new_is : new ≡ without old n
-  pub place : freed.place ≡ file.value.volume
+  pub index : freed.volume ≡ file.value.volume
   pub bytes : freed.bytes ≡ length (bytes_in (file_of 0 file.value).kind)
   pub files : freed.files ≡ 1
 
@@ -62,14 +62,14 @@ pub record LosesLink (now : Moment) (old new : StoredFile) : Type 0 where
 pub record Stays (old : NumberedFiles StoredFile) (n : ℕ) (now : Moment) (freed : Freed) (new : NumberedFiles StoredFile) : Type 0 where
   pub loses : Revalues old n (LosesLink now) new
   pub more : is_last loses.was.value ≡ false
-  pub place : freed.place ≡ loses.was.value.volume
+  pub index : freed.volume ≡ loses.was.value.volume
   pub bytes : freed.bytes ≡ 0
   pub files : freed.files ≡ 0
 
--- the totals of the volume at a place have so many bytes and files
-pub record HasTotals (stored_volumes : List StoredVolume) (place bytes files : ℕ) : Type 0 where
+-- the totals of the volume of this index have so many bytes and files
+pub record HasTotals (stored_volumes : List StoredVolume) (index bytes files : ℕ) : Type 0 where
   pub stored_volume : StoredVolume
-  pub at_place : slice_get stored_volumes place ≡ Some stored_volume
+  pub at_index : slice_get stored_volumes index ≡ Some stored_volume
   pub has_bytes : bytes ≤ stored_volume.bytes
   pub has_files : files ≤ stored_volume.files
 

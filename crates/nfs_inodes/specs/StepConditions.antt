@@ -34,17 +34,17 @@ pub record MayAddKind (t : Tree) (d : ℕ) (name : List ℕ) (k : Kind) : Type 0
   pub fresh : IsFresh d (length (bytes_in k)) k
   pub links : is_directory k ≡ true → nlink t.files d may.enter.dir < max_links
 
--- the totals of the volume at a place take so many bytes and files more
-pub record HasRoomFor (stored_volumes : List StoredVolume) (place bytes files : ℕ) : Type 0 where
+-- the totals of the volume of this index take so many bytes and files more
+pub record HasRoomFor (stored_volumes : List StoredVolume) (index bytes files : ℕ) : Type 0 where
   pub stored_volume : StoredVolume
-  pub at_place : slice_get stored_volumes place ≡ Some stored_volume
+  pub at_index : slice_get stored_volumes index ≡ Some stored_volume
   pub bytes_fit : stored_volume.bytes + bytes < 2 ^ 64
   pub files_fit : stored_volume.files + files < 2 ^ 64
 
--- the bytes in the totals of the volume at a place can become so many less and so many more
-pub record HasBytes (stored_volumes : List StoredVolume) (place less more : ℕ) : Type 0 where
+-- the bytes in the totals of the volume of this index can become so many less and so many more
+pub record HasBytes (stored_volumes : List StoredVolume) (index less more : ℕ) : Type 0 where
   pub stored_volume : StoredVolume
-  pub at_place : slice_get stored_volumes place ≡ Some stored_volume
+  pub at_index : slice_get stored_volumes index ≡ Some stored_volume
   pub has : less ≤ stored_volume.bytes
   pub fits : stored_volume.bytes - less + more < 2 ^ 64
 
@@ -55,16 +55,16 @@ pub record TakesName (stored_file : StoredFile) (name : List ℕ) : Type 0 where
   pub is_name : IsName name
   pub fresh : All (λ e. e.name ≢ name) (entries_in (kind_of stored_file.node))
 
--- a kept file is no directory, is in the volume at a place, and may have a link more
+-- a kept file is no directory, is in the volume of this index, and may have a link more
 abbrev pub TakesLinkIn : StoredFile → ℕ → Type 0
-TakesLinkIn f place = (is_directory (kind_of f.node) ≡ false) × (f.volume ≡ place) × (f.nlink < max_links)
+TakesLinkIn f index = (is_directory (kind_of f.node) ≡ false) × (f.volume ≡ index) × (f.nlink < max_links)
 
--- the volume at a place may have one file more, with so many bytes
-pub record HasRoomIn (t : Tree) (place size : ℕ) : Type 0 where
+-- the volume of this index may have one file more, with so many bytes
+pub record HasRoomIn (t : Tree) (index size : ℕ) : Type 0 where
   pub volume : Volume
-  pub at_volume : slice_get t.volumes place ≡ Some volume
-  pub files : files_of place t.files < volume.max_files
-  pub bytes : bytes_of place t.files + size ≤ volume.max_bytes
+  pub at_volume : slice_get t.volumes index ≡ Some volume
+  pub files : files_of index t.files < volume.max_files
+  pub bytes : bytes_of index t.files + size ≤ volume.max_bytes
 
 -- a new file of so many bytes may have an entry of this name in a kept file, a directory
 pub record TakesFile (t : Tree) (stored_file : StoredFile) (name : List ℕ) (size : ℕ) : Type 0 where
@@ -73,10 +73,10 @@ pub record TakesFile (t : Tree) (stored_file : StoredFile) (name : List ℕ) (si
   pub room : HasRoomIn t stored_file.volume size
   pub large : size ≤ max_file_bytes
 
--- file n is no directory, is in the volume at a place, and may have a link more
-pub record MayGainLink (t : Tree) (n place : ℕ) : Type 0 where
+-- file n is no directory, is in the volume of this index, and may have a link more
+pub record MayGainLink (t : Tree) (n index : ℕ) : Type 0 where
   pub file : File
   pub at_file : Lives t n file
   pub not_directory : is_directory file.kind ≡ false
-  pub volume : file.volume ≡ place
+  pub volume : file.volume ≡ index
   pub links : names_of n t.files < max_links

@@ -106,7 +106,7 @@ pub record TakesGrowth (files : NumberedFiles StoredFile) (n end : ℕ) : Type 0
 pub record Writes (offset : ℕ) (bytes : List ℕ) (growth : Growth) (now : Moment) (old new : StoredFile) : Type 0 where
   pub file : file_of 0 new ≡ file_with_bytes (file_of 0 old) offset bytes now
   pub nlink : new.nlink ≡ old.nlink
-  pub place : growth.place ≡ old.volume
+  pub index : growth.volume ≡ old.volume
   pub grown : growth.bytes ≡ offset + length bytes - length (bytes_in (file_of 0 old).kind)
 
 -- number n is that of a regular file, which takes a size

@@ -11,7 +11,7 @@ pub data Kind : Type 0 where
   Link : (path : List ℕ) → Kind
 
 pub record File : Type 0 where
-  -- the place of its volume, from 0
+  -- the index of its volume, from 0
   pub volume : ℕ
   pub kind : Kind
   pub mode : ℕ
@@ -121,15 +121,15 @@ nlink files n f = if is_directory f.kind then 2 + subdirectories files (entries_
 
 -- the file counts for its volume so many bytes, and itself
 abbrev pub bytes_for : ℕ → File → ℕ
-bytes_for place f = if nat_eq f.volume place then length (bytes_in f.kind) else 0
+bytes_for index f = if nat_eq f.volume index then length (bytes_in f.kind) else 0
 
 abbrev pub one_for : ℕ → File → ℕ
-one_for place f = one_when (nat_eq f.volume place)
+one_for index f = one_when (nat_eq f.volume index)
 
 -- how many bytes the regular files of a volume have
 abbrev pub bytes_of : ℕ → List (ℕ × File) → ℕ
-bytes_of place files = sum_by (λ e. bytes_for place e.1) files
+bytes_of index files = sum_by (λ e. bytes_for index e.1) files
 
 -- how many files a volume has, its root too
 abbrev pub files_of : ℕ → List (ℕ × File) → ℕ
-files_of place files = sum_by (λ e. one_for place e.1) files
+files_of index files = sum_by (λ e. one_for index e.1) files

@@ -93,21 +93,21 @@ impl Tree {
         takes_entry(stored_file, name)
     }
 
-    // Whether the file `number` may have one link more, from the volume at a place.
-    fn may_gain_link(&self, number: Number, place: usize) -> bool
-        ensures { IsTrue result ↔ MayGainLink self.now number.0 place }
+    // Whether the file `number` may have one link more, from the volume of this index.
+    fn may_gain_link(&self, number: Number, index: usize) -> bool
+        ensures { IsTrue result ↔ MayGainLink self.now number.0 index }
     {
         match self.files.get(number) {
-            Some(stored_file) => takes_link(stored_file, place),
+            Some(stored_file) => takes_link(stored_file, index),
             None => false,
         }
     }
 
-    // Whether the volume at a place may have one file more, with so many bytes.
-    fn has_room(&self, place: usize, size: u64) -> bool
-        ensures { IsTrue result ↔ HasRoomIn self.now place size }
+    // Whether the volume of this index may have one file more, with so many bytes.
+    fn has_room(&self, index: usize, size: u64) -> bool
+        ensures { IsTrue result ↔ HasRoomIn self.now index size }
     {
-        match stored_volume_at(self.volumes.as_slice(), place) {
+        match stored_volume_at(self.volumes.as_slice(), index) {
             Some(stored_volume) => {
                 if stored_volume.files >= stored_volume.max_files {
                     return false;
@@ -127,11 +127,11 @@ fn takes_size(stored_volume: &StoredVolume, size: u64) -> bool
         && size <= stored_volume.max_bytes - stored_volume.bytes
 }
 
-// Whether a kept file is no directory, of the volume at a place, and may have a link more.
-fn takes_link(stored_file: &StoredFile, place: usize) -> bool
-    ensures { IsTrue result ↔ TakesLinkIn stored_file.now place }
+// Whether a kept file is no directory, of the volume of this index, and may have a link more.
+fn takes_link(stored_file: &StoredFile, index: usize) -> bool
+    ensures { IsTrue result ↔ TakesLinkIn stored_file.now index }
 {
-    !stored_file.is_directory() && stored_file.volume == place && has_link_left(stored_file)
+    !stored_file.is_directory() && stored_file.volume == index && has_link_left(stored_file)
 }
 
 // Whether a kept file may have a link more.

@@ -1,7 +1,8 @@
 //! The most that a tree takes.
+use nfs_content::limits::MAX_CONTENT_BYTES;
 
 /// The most bytes that a regular file has.
-pub const MAX_FILE_BYTES: usize = 16_777_216;
+pub const MAX_FILE_BYTES: usize = MAX_CONTENT_BYTES;
 /// The most bytes of a name.
 pub const MAX_NAME_BYTES: usize = 255;
 /// The most bytes of a link's path.

@@ -92,10 +92,10 @@ impl FileView<'_> {
     }
 }
 
-/// What a file that has left gives back, to the volume at a place.
+/// What a file that has left gives back, to the volume of this index.
 #[derive(Clone, Copy)]
 pub(crate) struct Freed {
-    pub(crate) place: usize,
+    pub(crate) volume: usize,
     pub(crate) bytes: u64,
     pub(crate) files: u64,
 }
@@ -120,7 +120,7 @@ pub(crate) fn take_out(
 {
     leave(files, dir, name, file.directory, now);
     let freed = release(files, number, file.last, now);
-    discount(volumes, freed.place, freed.bytes, freed.files);
+    discount(volumes, freed.volume, freed.bytes, freed.files);
 }
 
 /// What a removal of its entry has to know of a file.
@@ -187,7 +187,7 @@ fn free(files: &mut Files<StoredFile>, number: Number) -> Freed
 {
     match files.take(number) {
         Some(stored_file) => Freed {
-            place: stored_file.volume,
+            volume: stored_file.volume,
             bytes: stored_file.size(),
             files: 1,
         },
@@ -205,7 +205,7 @@ fn lose_link(files: &mut Files<StoredFile>, number: Number, now: Moment) -> Free
             stored_file.nlink -= 1;
             stored_file.ctime = now;
             Freed {
-                place: stored_file.volume,
+                volume: stored_file.volume,
                 bytes: 0,
                 files: 0,
             }
@@ -214,13 +214,13 @@ fn lose_link(files: &mut Files<StoredFile>, number: Number, now: Moment) -> Free
     }
 }
 
-// So many bytes and files less in the volume at a place.
+// So many bytes and files less in the volume of this index.
 #[inline(always)]
-fn discount(volumes: &mut Vec<StoredVolume>, place: usize, bytes: u64, files: u64)
-    requires { HasTotals volumes.old.items place bytes files }
-    ensures { with_totals (map counted_volume_of volumes.new.items) place bytes files ≡ map counted_volume_of volumes.old.items }
+fn discount(volumes: &mut Vec<StoredVolume>, index: usize, bytes: u64, files: u64)
+    requires { HasTotals volumes.old.items index bytes files }
+    ensures { with_totals (map counted_volume_of volumes.new.items) index bytes files ≡ map counted_volume_of volumes.old.items }
 {
-    match volumes.get_mut(place) {
+    match volumes.get_mut(index) {
         Some(stored_volume) => {
             stored_volume.bytes -= bytes;
             stored_volume.files -= files;

@@ -67,10 +67,10 @@ pub(crate) fn link(
     Ok(())
 }
 
-/// By how many bytes a file has grown, and the place of its volume.
+/// By how many bytes a file has grown, and the index of its volume.
 #[derive(Clone, Copy)]
 pub(crate) struct Growth {
-    pub(crate) place: usize,
+    pub(crate) volume: usize,
     pub(crate) bytes: u64,
 }
 
@@ -93,7 +93,7 @@ pub(crate) fn write(
             let before = stored_file.size();
             write_bytes(stored_file, offset, bytes, now)?;
             Ok(Growth {
-                place: stored_file.volume,
+                volume: stored_file.volume,
                 bytes: stored_file.size() - before,
             })
         }
@@ -154,13 +154,13 @@ fn gain_link(files: &mut Files<StoredFile>, number: Number, dir: Number, now: Mo
     }
 }
 
-/// Room in a directory for one entry more, and the place of its volume. Refused without memory, and
+/// Room in a directory for one entry more, and the index of its volume. Refused without memory, and
 /// then clients see no change.
 #[inline(always)]
 pub(crate) fn reserve(files: &mut Files<StoredFile>, dir: Number) -> Result<usize, AllocError>
     requires { TakesEntry files.old dir.0 }
     ensures same { Revalues files.old dir.0 SameFile files.new }
-    ensures place { IfOk result (λ place. option_map (λ parent. parent.volume) (value_at files.old dir.0) ≡ Some place) }
+    ensures index { IfOk result (λ index. option_map (λ parent. parent.volume) (value_at files.old dir.0) ≡ Some index) }
     ensures ok { OnOk result ((stored_file : StoredFile) → value_at files.new dir.0 ≡ Some stored_file → HasRoom stored_file) }
 {
     match files.get_mut(dir) {

@@ -6,7 +6,7 @@ ghost use Rattle.nfs_inodes.specs.Law.{Law, Lives};
 ghost use Rattle.nfs_inodes.specs.Changes.{Makes, after_make_file, after_make_dir, after_make_link};
 ghost use Rattle.nfs_inodes.specs.Changes.{after_link, after_write_at, after_resize};
 ghost use Rattle.nfs_inodes.specs.Changes.{after_set, after_add_volume};
-ghost use Rattle.nfs_inodes.specs.Changes.{with_named_file, new_file, volume_of};
+ghost use Rattle.nfs_inodes.specs.Changes.{with_named_file, new_file, volume_index};
 ghost use Rattle.nfs_inodes.specs.Conditions.{MayMake, MayMakeDirectory, MayMakeLink, MayLink};
 ghost use Rattle.nfs_inodes.specs.Conditions.{MayWrite, Grows, MayResize, MayAddVolume};
 ghost use Rattle.nfs_inodes.specs.Storage.{kind_of, counted_volume_of};
@@ -183,7 +183,7 @@ impl Tree {
             return Ok(());
         }
         let growth = write(&mut self.files, number, offset, bytes, now)?;
-        count(&mut self.volumes, growth.place, growth.bytes, 0);
+        count(&mut self.volumes, growth.volume, growth.bytes, 0);
         Ok(())
     }
 
@@ -196,9 +196,9 @@ impl Tree {
         ensures err { OnErr result (self.new ≡ self.old) }
         ensures full { OnErr result (Grows self.old number.0 0 size) }
     {
-        let place = self.place(number);
+        let index = self.volume_index(number);
         let before = resize(&mut self.files, number, size, now)?;
-        recount(&mut self.volumes, place, before, size as u64);
+        recount(&mut self.volumes, index, before, size as u64);
         Ok(())
     }
 
@@ -251,9 +251,9 @@ impl Tree {
         Ok(root)
     }
 
-    // The place of the volume of a file.
-    pub(crate) fn place(&self, number: Number) -> usize
-        ensures { result ≡ volume_of self.now number.0 }
+    // The index of the volume of a file.
+    pub(crate) fn volume_index(&self, number: Number) -> usize
+        ensures { result ≡ volume_index self.now number.0 }
     {
         match self.files.get(number) {
             Some(stored_file) => stored_file.volume,
@@ -274,15 +274,15 @@ impl Tree {
     ) -> Result<Number, AllocError>
         requires { MayAddKind self.old dir.0 name.items (kind_of node) }
         ensures ok { OnOk result (Makes (λ tag. with_named_file self.old dir.0 name.items
-            (new_file (volume_of self.old dir.0) (kind_of node) given.now verifier tag now) now) self.new) }
+            (new_file (volume_index self.old dir.0) (kind_of node) given.now verifier tag now) now) self.new) }
         ensures number { IfOk result (λ n. n.0 ≡ self.old.next) }
         ensures err { OnErr result (self.new ≡ self.old) }
     {
-        let place = reserve(&mut self.files, dir)?;
-        let stored_file = StoredFile::new(place, node, given, verifier, now);
+        let index = reserve(&mut self.files, dir)?;
+        let stored_file = StoredFile::new(index, node, given, verifier, now);
         let size = stored_file.size();
         let number = add(&mut self.files, dir, name, stored_file, now)?;
-        count(&mut self.volumes, place, size, 1);
+        count(&mut self.volumes, index, size, 1);
         Ok(number)
     }
 }
@@ -295,13 +295,13 @@ fn append(volumes: &mut Vec<StoredVolume>, stored_volume: StoredVolume)
     volumes.push(stored_volume).unwrap();
 }
 
-// So many bytes and files more in the volume at a place.
+// So many bytes and files more in the volume of this index.
 #[inline(always)]
-fn count(volumes: &mut Vec<StoredVolume>, place: usize, bytes: u64, files: u64)
-    requires { HasRoomFor volumes.old.items place bytes files }
-    ensures { map counted_volume_of volumes.new.items ≡ with_totals (map counted_volume_of volumes.old.items) place bytes files }
+fn count(volumes: &mut Vec<StoredVolume>, index: usize, bytes: u64, files: u64)
+    requires { HasRoomFor volumes.old.items index bytes files }
+    ensures { map counted_volume_of volumes.new.items ≡ with_totals (map counted_volume_of volumes.old.items) index bytes files }
 {
-    match volumes.get_mut(place) {
+    match volumes.get_mut(index) {
         Some(stored_volume) => {
             stored_volume.bytes += bytes;
             stored_volume.files += files;
@@ -310,13 +310,13 @@ fn count(volumes: &mut Vec<StoredVolume>, place: usize, bytes: u64, files: u64)
     }
 }
 
-// So many bytes less and so many more in the volume at a place.
-fn recount(volumes: &mut Vec<StoredVolume>, place: usize, less: u64, more: u64)
-    requires { HasBytes volumes.old.items place less more }
-    ensures { with_totals (map counted_volume_of volumes.new.items) place less 0
-        ≡ with_totals (map counted_volume_of volumes.old.items) place more 0 }
+// So many bytes less and so many more in the volume of this index.
+fn recount(volumes: &mut Vec<StoredVolume>, index: usize, less: u64, more: u64)
+    requires { HasBytes volumes.old.items index less more }
+    ensures { with_totals (map counted_volume_of volumes.new.items) index less 0
+        ≡ with_totals (map counted_volume_of volumes.old.items) index more 0 }
 {
-    match volumes.get_mut(place) {
+    match volumes.get_mut(index) {
         Some(stored_volume) => stored_volume.bytes = stored_volume.bytes - less + more,
         None => unreachable!(),
     }

@@ -3,7 +3,7 @@ ghost use Rattle.std.specs.Prelude.{◌≡◌, ℕ, bytes_eq, length, slice_get,
 ghost use Rattle.std.specs.Prelude.{map};
 ghost use Rattle.nfs_inodes.specs.Tree.{Volume};
 ghost use Rattle.nfs_inodes.specs.Storage.{volume_of};
-ghost use Rattle.nfs_inodes.specs.Reading.{place_where, place_named, totals_at};
+ghost use Rattle.nfs_inodes.specs.Reading.{index_where, volume_named, totals_at};
 ghost use Rattle.nfs_inodes.specs.Views.{volume_seen};
 
 use crate::stored_volume::StoredVolume;
@@ -40,29 +40,29 @@ impl Tree {
         self.volumes.len()
     }
 
-    /// The volume at a place, from 0. `None` where there is none.
-    pub fn volume(&self, place: usize) -> Option<VolumeView<'_>>
-        ensures { option_map volume_seen result ≡ slice_get self.now.volumes place }
+    /// The volume of this index, from 0. `None` where there is none.
+    pub fn volume(&self, index: usize) -> Option<VolumeView<'_>>
+        ensures { option_map volume_seen result ≡ slice_get self.now.volumes index }
     {
-        match stored_volume_at(self.volumes.as_slice(), place) {
+        match stored_volume_at(self.volumes.as_slice(), index) {
             Some(stored_volume) => Some(view_of(stored_volume)),
             None => None,
         }
     }
 
-    /// The place of the volume of this path. `None` where there is none.
+    /// The index of the volume of this path. `None` where there is none.
     pub fn volume_named(&self, path: &[u8]) -> Option<usize>
-        ensures { result ≡ place_named self.now path.now }
+        ensures { result ≡ volume_named self.now path.now }
     {
-        place_of(self.volumes.as_slice(), path)
+        index_of(self.volumes.as_slice(), path)
     }
 
-    /// What the files of the volume at a place have in all, found without a walk. `None` where
+    /// What the files of the volume of this index have in all, found without a walk. `None` where
     /// there is none.
-    pub fn totals(&self, place: usize) -> Option<Totals>
-        ensures { result ≡ totals_at self.now place }
+    pub fn totals(&self, index: usize) -> Option<Totals>
+        ensures { result ≡ totals_at self.now index }
     {
-        match stored_volume_at(self.volumes.as_slice(), place) {
+        match stored_volume_at(self.volumes.as_slice(), index) {
             Some(stored_volume) => Some(Totals {
                 bytes: stored_volume.bytes,
                 files: stored_volume.files,
@@ -72,10 +72,10 @@ impl Tree {
     }
 }
 
-pub(crate) fn stored_volume_at(volumes: &[StoredVolume], place: usize) -> Option<&StoredVolume>
-    ensures { option_copied result ≡ slice_get volumes.now place }
+pub(crate) fn stored_volume_at(volumes: &[StoredVolume], index: usize) -> Option<&StoredVolume>
+    ensures { option_copied result ≡ slice_get volumes.now index }
 {
-    volumes.get(place)
+    volumes.get(index)
 }
 
 fn view_of(stored_volume: &StoredVolume) -> VolumeView<'_>
@@ -89,12 +89,12 @@ fn view_of(stored_volume: &StoredVolume) -> VolumeView<'_>
     }
 }
 
-fn place_of(volumes: &[StoredVolume], path: &[u8]) -> Option<usize>
-    ensures { result ≡ place_where (λ (v : Volume). bytes_eq v.path path.now) (map volume_of volumes.now) }
+fn index_of(volumes: &[StoredVolume], path: &[u8]) -> Option<usize>
+    ensures { result ≡ index_where (λ (v : Volume). bytes_eq v.path path.now) (map volume_of volumes.now) }
 {
-    for place in 0..volumes.len() {
-        if volumes[place].path.as_slice() == path {
-            return Some(place);
+    for index in 0..volumes.len() {
+        if volumes[index].path.as_slice() == path {
+            return Some(index);
         }
     }
     None

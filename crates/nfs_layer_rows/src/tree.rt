@@ -5,7 +5,7 @@ use nfs_conditions::bytes::{may_resize, may_write};
 use nfs_conditions::entries::{is_empty, may_unlink};
 use nfs_conditions::moves;
 use nfs_content::pages::Pages;
-use nfs_handles::number::Number;
+use nfs_handles::number::{Hint, Number};
 use nfs_inodes::given_attributes::GivenAttributes;
 use nfs_inodes::limits::MAX_FILE_BYTES;
 use nfs_inodes::new_file::NewFile;
@@ -135,10 +135,10 @@ fn links(tree: &Tree, number: Number) -> Option<u32> {
 
 // Whether a file is a directory or above it; `None` where that is no directory.
 fn below(tree: &Tree, dir: u64, above: u64) -> Option<bool> {
-    if tree.next_cookie(Number(dir, 0)).is_none() {
+    if tree.next_cookie(Number(dir, Hint::NONE)).is_none() {
         return None;
     }
-    Some(tree.is_below(Number(dir, 0), Number(above, 0)))
+    Some(tree.is_below(Number(dir, Hint::NONE), Number(above, Hint::NONE)))
 }
 
 // The file of a name in a directory.

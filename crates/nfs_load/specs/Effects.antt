@@ -5,7 +5,7 @@ use Rattle.nfs_inodes.specs.declared.new_file.NewFile.{NewFile}
 use Rattle.nfs_inodes.specs.Tree.{Tree}
 use Rattle.nfs_inodes.specs.Changes.{Makes, after_add_volume, after_make_dir, after_make_file, after_make_link, after_link}
 use Rattle.nfs_inodes.specs.Conditions.{MayAddVolume, MayMakeDirectory, MayMake, MayMakeLink, MayLink}
-use Rattle.nfs_inodes.specs.Reading.{attributes_at, place_named}
+use Rattle.nfs_inodes.specs.Reading.{attributes_at, volume_named}
 use Rattle.nfs_load.specs.declared.cause.Cause.{Cause}
 use Rattle.nfs_load.specs.declared.cause.Cause.TheVariants.{VolumeTwice, NoTarget, Full}
 use Rattle.nfs_load.specs.declared.refusal.Refusal.{Refusal}
@@ -44,7 +44,7 @@ Does {P} t found May Made (Err Memory) new = IsOpen found May × (new ≡ t)
 
 -- a path that no volume has
 abbrev pub free_path : Tree → List ℕ → Result (List ℕ) Cause
-free_path t path = if is_some (place_named t path) then Err VolumeTwice else Ok path
+free_path t path = if is_some (volume_named t path) then Err VolumeTwice else Ok path
 
 -- a file that may have further names
 abbrev pub named_file : Tree → Option ℕ → Result ℕ Cause

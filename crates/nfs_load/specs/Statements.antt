@@ -99,11 +99,11 @@ hard_in fields = do
   Ok (record { path = path.0; old = old.0 }, old.1)
 
 -- lines as they are in memory
-abbrev pub volume_of : volume.VolumeLine → VolumeLine
-volume_of line = record { path = line.path.now; max_bytes = line.max_bytes; max_files = line.max_files; given = line.given }
+abbrev pub volume_line_of : volume.VolumeLine → VolumeLine
+volume_line_of line = record { path = line.path.now; max_bytes = line.max_bytes; max_files = line.max_files; given = line.given }
 
-abbrev pub link_of : link.LinkLine → LinkLine
-link_of line = record { path = line.path; uid = line.uid; gid = line.gid; target = line.target.now }
+abbrev pub link_line_of : link.LinkLine → LinkLine
+link_line_of line = record { path = line.path; uid = line.uid; gid = line.gid; target = line.target.now }
 
-abbrev pub file_of : file.FileLine → FileLine
-file_of line = record { path = line.path; given = line.given; content = line.content.items }
+abbrev pub file_line_of : file.FileLine → FileLine
+file_line_of line = record { path = line.path; given = line.given; content = line.content.items }

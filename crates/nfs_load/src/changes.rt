@@ -1,6 +1,6 @@
 //! What a line does to the tree.
 ghost use Rattle.std.specs.Prelude.{◌≡◌};
-ghost use Rattle.nfs_load.specs.Statements.{file_of, link_of, volume_of};
+ghost use Rattle.nfs_load.specs.Statements.{file_line_of, link_line_of, volume_line_of};
 ghost use Rattle.nfs_load.specs.Effects.{AddsName, AddsVolume, MakesDir, MakesFile, MakesLink};
 ghost use Rattle.nfs_load.specs.Effects.{attributes, link_attributes, link_end, links_found};
 
@@ -27,7 +27,7 @@ const LINK_MODE: u32 = 0o777;
 /// A `volume` line: one volume more, with its root. The first of these: `VolumeTwice` where one of
 /// this path is there, `Full` where no more may be added, `Memory`.
 pub fn add_volume(tree: &mut Tree, line: &VolumeLine<'_>) -> Result<(), Refusal>
-    ensures { AddsVolume tree.old (volume_of line.now) result tree.new }
+    ensures { AddsVolume tree.old (volume_line_of line.now) result tree.new }
 {
     if tree.volume_named(line.path).is_some() {
         return Err(Refusal::Fault(Cause::VolumeTwice));
@@ -57,7 +57,7 @@ pub fn make_dir(tree: &mut Tree, root: Number, line: &DirLine<'_>) -> Result<(),
 /// line's. The first of these: `NoParent`, `NameTaken`, `Full` where no file of this content may be
 /// made there, `Memory`.
 pub fn make_file(tree: &mut Tree, root: Number, line: FileLine<'_>) -> Result<(), Refusal>
-    ensures { MakesFile tree.old root.0 (file_of line.entry) result tree.new }
+    ensures { MakesFile tree.old root.0 (file_line_of line.entry) result tree.new }
 {
     let FileLine {
         path,
@@ -77,7 +77,7 @@ pub fn make_file(tree: &mut Tree, root: Number, line: FileLine<'_>) -> Result<()
 /// A `link` line, in the volume of this root: a new symbolic link. The first of these: `NoParent`,
 /// `NameTaken`, `Full` where no link may be made there, `Memory`.
 pub fn make_link(tree: &mut Tree, root: Number, line: &LinkLine<'_>) -> Result<(), Refusal>
-    ensures { MakesLink tree.old root.0 (link_of line.now) result tree.new }
+    ensures { MakesLink tree.old root.0 (link_line_of line.now) result tree.new }
 {
     let end = find_free_end(tree, root, &line.path)?;
     if !tree.may_make_link(end.dir, end.name, line.target) {

@@ -6,7 +6,7 @@ ghost use Rattle.nfs_inodes.specs.Views.{kind_seen};
 ghost use Rattle.nfs_load.specs.Listings.{listing_text, text_at, view_text};
 
 use crate::listing_line::{put_entry, put_file};
-use nfs_handles::number::Number;
+use nfs_handles::number::{Hint, Number};
 use nfs_inodes::tree::Tree;
 use nfs_inodes::view::FileView;
 use nfs_text::line::Line;
@@ -34,7 +34,7 @@ pub fn listing<W: ByteOut>(tree: &Tree, out: &mut W) -> Result<(), WriteFault>
 {
     let mut line = Line::new();
     for number in 1..tree.next_number() {
-        write_number(tree, Number(number, 0), &mut line, out)?;
+        write_number(tree, Number(number, Hint::NONE), &mut line, out)?;
     }
     Ok(())
 }

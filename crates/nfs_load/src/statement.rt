@@ -1,7 +1,7 @@
 //! What a line says.
 ghost use Rattle.std.specs.Prelude.{◌≡◌};
 ghost use Rattle.nfs_load.specs.Fields.{Takes, TakesIfRoom};
-ghost use Rattle.nfs_load.specs.Statements.{WantsContent, dir_in, export_in, file_in, file_of, given_in, hard_in, link_of, link_in, volume_in, volume_of};
+ghost use Rattle.nfs_load.specs.Statements.{WantsContent, dir_in, export_in, file_in, file_line_of, given_in, hard_in, link_line_of, link_in, volume_in, volume_line_of};
 
 use crate::cause::Cause;
 use crate::fields::Fields;
@@ -102,7 +102,7 @@ impl<'a> VolumeLine<'a> {
     /// The fields of such a line. The first cause from left to right: `BadVolumePath` or
     /// `BadNumber`.
     pub fn read(fields: &mut Fields<'a>) -> Result<VolumeLine<'a>, Cause>
-        ensures { Takes volume_of fields.new result (volume_in fields.old) }
+        ensures { Takes volume_line_of fields.new result (volume_in fields.old) }
     {
         let path = fields.volume_path()?;
         let max_bytes = fields.number(0, MAX_VOLUME_BYTES)?;
@@ -133,7 +133,7 @@ impl<'a> FileLine<'a> {
     /// The fields of such a line. The first cause from left to right: `BadPath`, `BadNumber` or
     /// `BadContent`; `Memory` where there is none for the content.
     pub fn read(alloc: Global, fields: &mut Fields<'a>) -> Result<FileLine<'a>, Refusal>
-        ensures { TakesIfRoom file_of (WantsContent fields.old) fields.new result (file_in fields.old) }
+        ensures { TakesIfRoom file_line_of (WantsContent fields.old) fields.new result (file_in fields.old) }
     {
         let path = fields.path()?;
         let given = Given::read(fields)?;
@@ -161,7 +161,7 @@ impl<'a> LinkLine<'a> {
     /// The fields of such a line. The first cause from left to right: `BadPath`, `BadNumber`, or
     /// `BadContent` where the link's path has more than 1,024 bytes.
     pub fn read(fields: &mut Fields<'a>) -> Result<LinkLine<'a>, Cause>
-        ensures { Takes link_of fields.new result (link_in fields.old) }
+        ensures { Takes link_line_of fields.new result (link_in fields.old) }
     {
         let path = fields.path()?;
         let uid = fields.id()?;

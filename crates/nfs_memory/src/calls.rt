@@ -108,7 +108,6 @@ fn is_answered_again(
 // How often the call was refused until there was memory; none where it was refused and had changed
 // what is seen, was denied, or was answered otherwise when it was repeated without memory.
 fn refusals(alloc: Global, procedure: u32, args: &[&[u8]; 4]) -> Result<Option<u32>, AllocError> {
-    let mut server = Server::new(alloc, loaded(alloc)?, 128)?;
     let mut reply = ReplyBuf::new(alloc)?;
     let record = record(alloc, procedure, args)?;
     let event = Event {
@@ -119,14 +118,39 @@ fn refusals(alloc: Global, procedure: u32, args: &[&[u8]; 4]) -> Result<Option<u
         },
         bytes: record.as_slice(),
     };
+    let mut server = Server::new(alloc, loaded(alloc)?, 128)?;
+    refusals_of(alloc, &mut server, event, procedure, &mut reply)
+}
+
+// The same of a server that is lent, to which the call comes.
+fn refusals_of(
+    alloc: Global,
+    server: &mut Server,
+    event: Event<'_>,
+    procedure: u32,
+    reply: &mut ReplyBuf,
+) -> Result<Option<u32>, AllocError> {
+    let Some(refused) = refused_first(alloc, server, event, procedure, reply)? else {
+        return Ok(None);
+    };
+    let again = is_answered_again(alloc, server, event, reply)?;
+    Ok(again.then_some(refused))
+}
+
+// How often the call was refused, which changed nothing that is seen, until it wasn't.
+fn refused_first(
+    alloc: Global,
+    server: &mut Server,
+    event: Event<'_>,
+    procedure: u32,
+    reply: &mut ReplyBuf,
+) -> Result<Option<u32>, AllocError> {
     let before = snapshot_of(server.tree());
     let mut ballast = Ballast::new(alloc)?;
     for refused in 0..ROUNDS {
-        server.handle(event, &mut reply);
-        if !is_refused(&server, &reply, event.addr, 100_003, procedure) {
-            drop(ballast);
-            let again = is_answered_again(alloc, &mut server, event, &mut reply)?;
-            return Ok(again.then_some(refused));
+        server.handle(event, reply);
+        if !is_refused(server, reply, event.addr, 100_003, procedure) {
+            return Ok(Some(refused));
         }
         if snapshot_of(server.tree()) != before || !ballast.lighten() {
             break;

@@ -68,16 +68,26 @@ fn refusals(alloc: Global, clients: u8) -> Result<Option<u32>, AllocError> {
     let mut reply = ReplyBuf::new(alloc)?;
     let mut server = server_of(alloc, &mut reply, clients)?;
     let list = dumped(alloc, &mut server, &mut reply)?;
+    refusals_of(alloc, &mut server, &mut reply, list.as_slice())
+}
+
+// The same of a server that is lent, with its list.
+fn refusals_of(
+    alloc: Global,
+    server: &mut Server,
+    reply: &mut ReplyBuf,
+    list: &[u8],
+) -> Result<Option<u32>, AllocError> {
     let before = snapshot_of(server.tree());
     let mut ballast = Ballast::new(alloc)?;
     for refused in 0..ROUNDS {
-        server.handle(event(HOST, MNT), &mut reply);
-        if !is_refused(&server, &reply, HOST, 100_005, 1) {
+        server.handle(event(HOST, MNT), reply);
+        if !is_refused(server, reply, HOST, 100_005, 1) {
             let done = reply.bytes().starts_with(SUCCESS) && server.last_audit().is_none();
-            let longer = tells(&mut server, &mut reply, list.len() + CLIENT_BYTES, DUMPED);
-            return Ok(if done && longer { Some(refused) } else { None });
+            let longer = tells(server, reply, list.len() + CLIENT_BYTES, DUMPED);
+            return Ok((done && longer).then_some(refused));
         }
-        let same = tells(&mut server, &mut reply, list.len(), list.as_slice());
+        let same = tells(server, reply, list.len(), list);
         if !same || snapshot_of(server.tree()) != before || !ballast.lighten() {
             break;
         }

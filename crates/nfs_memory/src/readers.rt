@@ -95,8 +95,19 @@ fn are_alike(
     addr: Addr,
     calls: &[(u32, u32, [&[u8]; 2])],
 ) -> Result<bool, AllocError> {
-    let mut server = Server::new(alloc, loaded(alloc)?, 128)?;
     let mut reply = ReplyBuf::new(alloc)?;
+    let mut server = Server::new(alloc, loaded(alloc)?, 128)?;
+    are_answered_alike(alloc, &mut server, &mut reply, addr, calls)
+}
+
+// The same of a server that is lent, to which the calls come in turn.
+fn are_answered_alike(
+    alloc: Global,
+    server: &mut Server,
+    reply: &mut ReplyBuf,
+    addr: Addr,
+    calls: &[(u32, u32, [&[u8]; 2])],
+) -> Result<bool, AllocError> {
     for (program, procedure, args) in calls {
         let record = record(alloc, *program, *procedure, args)?;
         let event = Event {
@@ -107,7 +118,7 @@ fn are_alike(
             },
             bytes: record.as_slice(),
         };
-        if !is_answered_alike(alloc, &mut server, &mut reply, event)? {
+        if !is_answered_alike(alloc, server, reply, event)? {
             return Ok(false);
         }
     }

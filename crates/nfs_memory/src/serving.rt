@@ -137,14 +137,19 @@ fn is_lawful(
 // At how many calls the device failed, one after another, until the stream was served whole.
 fn broken_streams(alloc: Global, failing: Failing) -> Result<Option<u32>, AllocError> {
     let mut server = Server::new(alloc, loaded(alloc)?, 128)?;
+    Ok(broken_before(alloc, &mut server, failing))
+}
+
+// The same of a server that is lent.
+fn broken_before(alloc: Global, server: &mut Server, failing: Failing) -> Option<u32> {
     for k in 1..1_000 {
-        match breaks(alloc, &mut server, failing, k) {
+        match breaks(alloc, server, failing, k) {
             Some(true) => {}
-            Some(false) => return Ok(Some(k - 1)),
-            None => return Ok(None),
+            Some(false) => return Some(k - 1),
+            None => return None,
         }
     }
-    Ok(None)
+    None
 }
 
 // 182 bytes by fives, and the end.
@@ -182,53 +187,58 @@ fn client(alloc: Global, k: u32) -> Client<StutterLink<'static>> {
 
 // Gives two clients turns one after the other, until both have ended. How they ended.
 fn take_turns(
-    alloc: Global,
     server: &mut Server,
+    room: &mut Room,
     first: &mut Client<StutterLink<'_>>,
     second: &mut Client<StutterLink<'_>>,
-) -> Result<Option<(End, End)>, AllocError> {
-    let mut room = Room::new(alloc)?;
-    let mut audit = Device::new(Vec::new(alloc));
+) -> Option<(End, End)> {
+    let mut audit = Device::new(std::io::sink());
     for _ in 0..1_000 {
-        let one = first.turn(server, &mut room, NOW, &mut audit);
-        let other = second.turn(server, &mut room, NOW, &mut audit);
+        let one = first.turn(server, room, NOW, &mut audit);
+        let other = second.turn(server, room, NOW, &mut audit);
         if let (Turn::Ended(one), Turn::Ended(other)) = (one, other) {
-            return Ok(Some((one, other)));
+            return Some((one, other));
         }
     }
-    Ok(None)
+    None
 }
 
 // Whether the first client, whose link fails at its `k`-th call, was sent a first part of its replies,
 // and the second all of them. None where that isn't so.
-fn fails(alloc: Global, server: &mut Server, k: u32) -> Result<Option<bool>, AllocError> {
+fn fails(alloc: Global, server: &mut Server, room: &mut Room, k: u32) -> Option<bool> {
     let mut first = client(alloc, k);
     let mut second = client(alloc, u32::MAX);
-    let ends = take_turns(alloc, server, &mut first, &mut second)?;
+    let ends = take_turns(server, room, &mut first, &mut second);
     if second.link().sent() != REPLIES || !REPLIES.starts_with(first.link().sent()) {
-        return Ok(None);
+        return None;
     }
     let is_whole = first.link().sent() == REPLIES;
-    Ok(match ends {
+    match ends {
         Some((End::Closed, End::Closed)) if is_whole => Some(false),
         Some((End::Fault(ServeFault::ReadFault | ServeFault::WriteFault), End::Closed)) => Some(
             true,
         ),
         _ => None,
-    })
+    }
 }
 
 // At how many calls the link failed, one after another, until both clients were served whole.
 fn failed_links(alloc: Global) -> Result<Option<u32>, AllocError> {
+    let mut room = Room::new(alloc)?;
     let mut server = Server::new(alloc, loaded(alloc)?, 128)?;
+    Ok(failed_before(alloc, &mut server, &mut room))
+}
+
+// The same of a server that is lent.
+fn failed_before(alloc: Global, server: &mut Server, room: &mut Room) -> Option<u32> {
     for k in 1..1_000 {
-        match fails(alloc, &mut server, k)? {
+        match fails(alloc, server, room, k) {
             Some(true) => {}
-            Some(false) => return Ok(Some(k - 1)),
-            None => return Ok(None),
+            Some(false) => return Some(k - 1),
+            None => return None,
         }
     }
-    Ok(None)
+    None
 }
 
 #[test]
@@ -257,11 +267,20 @@ fn meets(alloc: Global, server: &mut Server, room: &mut Room) -> Option<bool> {
 
 // How many clients ended without memory, until one got all its replies.
 fn poor_clients(alloc: Global) -> Result<Option<u32>, AllocError> {
-    let mut server = Server::new(alloc, loaded(alloc)?, 128)?;
     let mut room = Room::new(alloc)?;
+    let mut server = Server::new(alloc, loaded(alloc)?, 128)?;
+    poor_turns(alloc, &mut server, &mut room)
+}
+
+// The same of a server that is lent.
+fn poor_turns(
+    alloc: Global,
+    server: &mut Server,
+    room: &mut Room,
+) -> Result<Option<u32>, AllocError> {
     let mut ballast = Ballast::new(alloc)?;
     for refused in 0..ROUNDS {
-        match meets(alloc, &mut server, &mut room) {
+        match meets(alloc, server, room) {
             Some(true) => return Ok(Some(refused)),
             Some(false) if ballast.lighten() => {}
             _ => return Ok(None),
@@ -281,26 +300,33 @@ fn a_client_without_memory_ends_and_the_server_goes_on(rt: HostRuntime) -> Resul
 fn poor_streams(alloc: Global) -> Result<Option<u32>, AllocError> {
     let mut server = Server::new(alloc, loaded(alloc)?, 128)?;
     let mut ballast = Ballast::new(alloc)?;
+    Ok(poor_before(alloc, &mut server, &mut ballast))
+}
+
+// The same of a server that is lent.
+fn poor_before(alloc: Global, server: &mut Server, ballast: &mut Ballast) -> Option<u32> {
     for refused in 0..ROUNDS {
-        let mut reader = Device::new(STREAM);
-        let mut writer = Device::new(std::io::sink());
-        let mut audit = Device::new(std::io::sink());
-        match serve_stream(
-            alloc,
-            &mut server,
-            STRANGER,
-            &mut reader,
-            &mut writer,
-            &mut audit,
-            &mut Still,
-            1_000,
-        ) {
-            Ok(served) => return Ok((served.calls == 3).then_some(refused)),
+        match served(alloc, server) {
+            Ok(served) => return (served.calls == 3).then_some(refused),
             Err(ServeFault::Memory) if ballast.lighten() => {}
-            Err(_) => return Ok(None),
+            Err(_) => return None,
         }
     }
-    Ok(None)
+    None
+}
+
+// Serves the stream by devices that don't fail.
+fn served(alloc: Global, server: &mut Server) -> Result<Served, ServeFault> {
+    serve_stream(
+        alloc,
+        server,
+        STRANGER,
+        &mut Device::new(STREAM),
+        &mut Device::new(std::io::sink()),
+        &mut Device::new(std::io::sink()),
+        &mut Still,
+        1_000,
+    )
 }
 
 #[test]

@@ -92,20 +92,25 @@ fn connections(alloc: Global) -> Result<bool, AllocError> {
     let server = Server::new(alloc, loaded(alloc)?, 128)?;
     let mut sessions = Sessions::new(alloc, server)?;
     let mut ballast = Ballast::new(alloc)?;
+    Ok(both_wanted(alloc, &mut sessions, &mut ballast))
+}
+
+// The same of connections that are lent.
+fn both_wanted(alloc: Global, sessions: &mut Sessions, ballast: &mut Ballast) -> bool {
     let mut refused = false;
     let mut ended = false;
     for _ in 0..ROUNDS {
-        match attached(alloc, &mut sessions) {
+        match attached(alloc, sessions) {
             Some(Outcome::NotAttached) if !ended => refused = true,
             Some(Outcome::Ended) => ended = true,
-            Some(Outcome::Fed) => return Ok(refused && ended),
-            _ => return Ok(false),
+            Some(Outcome::Fed) => return refused && ended,
+            _ => return false,
         }
         if !ballast.lighten() {
             break;
         }
     }
-    Ok(false)
+    false
 }
 
 #[test]

@@ -7,13 +7,13 @@ use Rattle.std.proofs.lemmas.Bool.Decides.{Decides-eqb}
 use Rattle.std.proofs.lemmas.List.{length-append, drop-append-le}
 use Rattle.std.proofs.lemmas.List.Elements.{All-filter, All-drop, All-push}
 use Rattle.nfs_exports.specs.declared.addr.Addr.{Addr}
-use Rattle.nfs_inodes.specs.Reading.{place_named}
+use Rattle.nfs_inodes.specs.Reading.{volume_named}
 use Rattle.nfs_inodes.specs.Tree.{Tree, on_some}
 use Rattle.nfs_mount.specs.Mounts.{max_mounts, pair, same, is_in, is_of_another, newest, with_mount, without_mount, without_addr, after_mnt, after_umnt}
 use Rattle.nfs_mount.specs.Laws.{AreOfVolumes, KeepsVolumes, AreMounted}
 use Rattle.nfs_mount.specs.declared.mount.Mount.{Mount}
 use Rattle.nfs_mount.proofs.Pairs.{same_self}
-use Rattle.nfs_mount.proofs.Places.{place_within}
+use Rattle.nfs_mount.proofs.Places.{index_within}
 
 -- ---- the volumes of pairs
 
@@ -22,18 +22,18 @@ with_kept P m mounts true here all = all
 with_kept P m mounts false here all = All-drop P (length (mounts ++ m ∷ []) - max_mounts) (mounts ++ m ∷ []) (All-push P mounts m all here)
 
 mnt_kept : (t : Tree) (addr : Addr) (path : List ℕ) (mounts : List Mount) → AreOfVolumes t mounts → AreOfVolumes t (after_mnt t addr path mounts)
-mnt_kept t addr path mounts all = by (place_named t path) refl
+mnt_kept t addr path mounts all = by (volume_named t path) refl
   where
-    by : (o : Option ℕ) → place_named t path ≡ o → AreOfVolumes t (on_some o mounts (λ place. with_mount (pair addr place) mounts))
+    by : (o : Option ℕ) → volume_named t path ≡ o → AreOfVolumes t (on_some o mounts (λ index. with_mount (pair addr index) mounts))
     by None e = all
-    by (Some place) e = with_kept (λ m. m.volume < length t.volumes) (pair addr place) mounts (is_in (pair addr place) mounts) (place_within _ t.volumes place e) all
+    by (Some index) e = with_kept (λ m. m.volume < length t.volumes) (pair addr index) mounts (is_in (pair addr index) mounts) (index_within _ t.volumes index e) all
 
 umnt_kept : (t : Tree) (addr : Addr) (path : List ℕ) (mounts : List Mount) → AreOfVolumes t mounts → AreOfVolumes t (after_umnt t addr path mounts)
-umnt_kept t addr path mounts all = by (place_named t path)
+umnt_kept t addr path mounts all = by (volume_named t path)
   where
-    by : (o : Option ℕ) → AreOfVolumes t (on_some o mounts (λ place. without_mount (pair addr place) mounts))
+    by : (o : Option ℕ) → AreOfVolumes t (on_some o mounts (λ index. without_mount (pair addr index) mounts))
     by None = all
-    by (Some place) = All-filter (λ n. not (same (pair addr place) n)) (λ m. m.volume < length t.volumes) mounts all
+    by (Some index) = All-filter (λ n. not (same (pair addr index) n)) (λ m. m.volume < length t.volumes) mounts all
 
 pub volumes_kept : KeepsVolumes
 volumes_kept = record {
@@ -72,9 +72,9 @@ with_in : (m : Mount) (mounts : List Mount) (b : Bool) → is_in m mounts ≡ b 
 with_in m mounts true e = e
 with_in m mounts false e = let n = length-append mounts (m ∷ []) in last_left m (length (mounts ++ m ∷ []) - max_mounts) mounts (omega (arith, n))
 
-after_mounted : (addr : Addr) (mounts : List Mount) (o : Option ℕ) (place : ℕ) → o ≡ Some place → on_some o false (λ p. is_in (pair addr p) (on_some o mounts (λ q. with_mount (pair addr q) mounts))) ≡ true
-after_mounted addr mounts None place e = absurd (true≢false (sym (ap is_some e)))
-after_mounted addr mounts (Some p) place e = with_in (pair addr p) mounts (is_in (pair addr p) mounts) refl
+after_mounted : (addr : Addr) (mounts : List Mount) (o : Option ℕ) (index : ℕ) → o ≡ Some index → on_some o false (λ p. is_in (pair addr p) (on_some o mounts (λ q. with_mount (pair addr q) mounts))) ≡ true
+after_mounted addr mounts None index e = absurd (true≢false (sym (ap is_some e)))
+after_mounted addr mounts (Some p) index e = with_in (pair addr p) mounts (is_in (pair addr p) mounts) refl
 
 mounted_again : (addr : Addr) (mounts : List Mount) (o : Option ℕ) → on_some o false (λ p. is_in (pair addr p) mounts) ≡ true → on_some o mounts (λ q. with_mount (pair addr q) mounts) ≡ mounts
 mounted_again addr mounts None e = refl
@@ -84,12 +84,12 @@ after_unmounted : (addr : Addr) (mounts : List Mount) (o : Option ℕ) → on_so
 after_unmounted addr mounts None = refl
 after_unmounted addr mounts (Some p) = not_in_without (λ n. not (same (pair addr p) n)) (pair addr p) mounts (λ n e. not_true (same (pair addr p) n) e)
 
-apart : (addr : Addr) (place : ℕ) (n : Mount) → is_of_another addr n ≡ true → same (pair addr place) n ≡ false
-apart addr place n other = by (nat_eq addr.0 n.addr.0) refl
+apart : (addr : Addr) (index : ℕ) (n : Mount) → is_of_another addr n ≡ true → same (pair addr index) n ≡ false
+apart addr index n other = by (nat_eq addr.0 n.addr.0) refl
   where
-    by : (b : Bool) → nat_eq addr.0 n.addr.0 ≡ b → (nat_eq addr.0 n.addr.0 && nat_eq place n.volume) ≡ false
+    by : (b : Bool) → nat_eq addr.0 n.addr.0 ≡ b → (nat_eq addr.0 n.addr.0 && nat_eq index n.volume) ≡ false
     by true e = absurd (true≢false (sym ((Decides-eqb n.addr.0 addr.0).1 (sym ((Decides-eqb addr.0 n.addr.0).0 e))) ∙ not_true (nat_eq n.addr.0 addr.0) other))
-    by false e = ap (λ b. b && nat_eq place n.volume) e
+    by false e = ap (λ b. b && nat_eq index n.volume) e
 
 all_unmounted : (addr : Addr) (mounts : List Mount) (o : Option ℕ) → on_some o false (λ p. is_in (pair addr p) (without_addr addr mounts)) ≡ false
 all_unmounted addr mounts None = refl
@@ -97,8 +97,8 @@ all_unmounted addr mounts (Some p) = not_in_without (is_of_another addr) (pair a
 
 pub are_mounted : AreMounted
 are_mounted = record {
-  mnt = λ t addr path place mounts e. after_mounted addr mounts (place_named t path) place e;
-  again = λ t addr path mounts e. mounted_again addr mounts (place_named t path) e;
-  umnt = λ t addr path mounts. after_unmounted addr mounts (place_named t path);
-  umnt_all = λ t addr path mounts. all_unmounted addr mounts (place_named t path);
+  mnt = λ t addr path index mounts e. after_mounted addr mounts (volume_named t path) index e;
+  again = λ t addr path mounts e. mounted_again addr mounts (volume_named t path) e;
+  umnt = λ t addr path mounts. after_unmounted addr mounts (volume_named t path);
+  umnt_all = λ t addr path mounts. all_unmounted addr mounts (volume_named t path);
 }

@@ -1,7 +1,7 @@
 -- What holds of every mount list.
 use Rattle.std.specs.Prelude.{◌≡◌, ℕ, ◌<◌, true, false, List, length, All, Some}
 use Rattle.nfs_exports.specs.declared.addr.Addr.{Addr}
-use Rattle.nfs_inodes.specs.Reading.{place_named}
+use Rattle.nfs_inodes.specs.Reading.{volume_named}
 use Rattle.nfs_inodes.specs.Tree.{Tree}
 use Rattle.nfs_mount.specs.Mounts.{is_mounted, after_mnt, after_umnt, without_addr}
 use Rattle.nfs_mount.specs.declared.mount.Mount.{Mount}
@@ -19,7 +19,7 @@ pub record KeepsVolumes : Type 0 where
 -- a client that asks for a volume has it until it has done with it
 pub record AreMounted : Type 0 where
   -- after MNT of a volume
-  pub mnt : (t : Tree) (addr : Addr) (path : List ℕ) (place : ℕ) (mounts : List Mount) → place_named t path ≡ Some place
+  pub mnt : (t : Tree) (addr : Addr) (path : List ℕ) (index : ℕ) (mounts : List Mount) → volume_named t path ≡ Some index
       → is_mounted t addr path (after_mnt t addr path mounts) ≡ true
   -- and MNT again changes nothing
   pub again : (t : Tree) (addr : Addr) (path : List ℕ) (mounts : List Mount) → is_mounted t addr path mounts ≡ true → after_mnt t addr path mounts ≡ mounts

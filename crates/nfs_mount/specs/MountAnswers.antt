@@ -12,7 +12,7 @@ use Rattle.nfs_exports.specs.Tables.{exports_of}
 use Rattle.nfs_exports.specs.declared.addr.Addr.{Addr}
 use Rattle.nfs_exports.specs.declared.table.Export.{Export}
 use Rattle.nfs_handles.specs.Handles.{handle_at}
-use Rattle.nfs_inodes.specs.Reading.{numbered_files, place_named}
+use Rattle.nfs_inodes.specs.Reading.{numbered_files, volume_named}
 use Rattle.nfs_inodes.specs.Tree.{Tree, on_some}
 use Rattle.nfs_mount.specs.MountRules.{mount_verdict}
 use Rattle.nfs_mount.specs.Mounts.{is_mounted, after_mnt}
@@ -29,12 +29,12 @@ IsMountSpelled value = IsMountAnswerOf (mount_answered value) value (mount_text 
 
 -- ---- MNT
 
--- the handle of the root of the volume at a place, and of a path
+-- the handle of the root of the volume of this index, and of a path
 abbrev pub root_at : Tree → ℕ → Option (List ℕ)
-root_at t place = on_some (slice_get t.volumes place) None (λ v. handle_at (numbered_files t) v.root)
+root_at t index = on_some (slice_get t.volumes index) None (λ v. handle_at (numbered_files t) v.root)
 
 abbrev pub root_of : Tree → List ℕ → Option (List ℕ)
-root_of t path = on_some (place_named t path) None (root_at t)
+root_of t path = on_some (volume_named t path) None (root_at t)
 
 abbrev pub granted_answer : List ℕ → MountAnswer
 granted_answer handle = answer.Mount (Ok handle)
@@ -55,9 +55,9 @@ Mounts t exports addr path Memory old new before after =
 
 -- ---- DUMP
 
--- the path of the volume at a place
+-- the path of the volume of this index
 abbrev pub path_at : Tree → ℕ → List ℕ
-path_at t place = on_some (slice_get t.volumes place) [] (λ v. v.path)
+path_at t index = on_some (slice_get t.volumes index) [] (λ v. v.path)
 
 -- the address in dotted decimal form, and the path
 abbrev pub client : Tree → Mount → Mounted
@@ -72,9 +72,9 @@ dump_answer t mounts = answer.Dump (map (client t) mounts)
 abbrev pub group : Export → List ℕ
 group e = pattern_text e.pattern
 
--- the volume at a place, with its patterns in order
+-- the volume of this index, with its patterns in order
 abbrev pub exported_at : Tree → List (List Export) → ℕ → Exported
-exported_at t exports place = record { path = path_at t place; groups = map group (exports_of exports place) }
+exported_at t exports index = record { path = path_at t index; groups = map group (exports_of exports index) }
 
 -- all volumes in order
 abbrev pub export_answer : Tree → List (List Export) → MountAnswer

@@ -3,7 +3,7 @@ use Rattle.std.specs.Prelude.{ℕ, false, List, [], ◌∷◌, Option, is_none}
 use Rattle.nfs_exports.specs.Tables.{exports_of, grant}
 use Rattle.nfs_exports.specs.declared.addr.Addr.{Addr}
 use Rattle.nfs_exports.specs.declared.table.Export.{Export}
-use Rattle.nfs_inodes.specs.Reading.{place_named}
+use Rattle.nfs_inodes.specs.Reading.{volume_named}
 use Rattle.nfs_inodes.specs.Tree.{Tree, on_some}
 use Rattle.nfs_rules.specs.Tests.{Test, first, path_long}
 use Rattle.nfs_rules.specs.declared.rule.Rule.{Rule}
@@ -11,11 +11,11 @@ use Rattle.nfs_rules.specs.declared.rule.Rule.TheVariants as rule
 
 -- there is a volume of the path
 abbrev pub mount_path : Tree → List ℕ → Test
-mount_path t path = (rule.MountPath, is_none (place_named t path))
+mount_path t path = (rule.MountPath, is_none (volume_named t path))
 
 -- a pattern of the volume covers the address
 abbrev pub export : Tree → List (List Export) → Addr → List ℕ → Test
-export t exports addr path = (rule.Export, on_some (place_named t path) false (λ place. is_none (grant (exports_of exports place) addr)))
+export t exports addr path = (rule.Export, on_some (volume_named t path) false (λ index. is_none (grant (exports_of exports index) addr)))
 
 abbrev pub mount_rules : Tree → List (List Export) → Addr → List ℕ → List Test
 mount_rules t exports addr path = path_long path ∷ mount_path t path ∷ export t exports addr path ∷ []

@@ -2,7 +2,7 @@
 use Rattle.std.specs.Prelude.{◌≢◌, ℕ, ◌-◌, ◌≤◌, Bool, false, not, ◌&&◌, List, [], ◌∷◌, ◌++◌, length, drop, nat_eq, if◌then◌else◌, AllPairs, filter}
 use Rattle.std.specs.List.{list_any}
 use Rattle.nfs_exports.specs.declared.addr.Addr.{Addr}
-use Rattle.nfs_inodes.specs.Reading.{place_named}
+use Rattle.nfs_inodes.specs.Reading.{volume_named}
 use Rattle.nfs_inodes.specs.Tree.{Tree, on_some}
 use Rattle.nfs_mount.specs.declared.mount.Mount.{Mount}
 
@@ -50,12 +50,12 @@ without_addr addr mounts = filter (is_of_another addr) mounts
 
 -- whether an address mounts the volume of a path
 abbrev pub is_mounted : Tree → Addr → List ℕ → List Mount → Bool
-is_mounted t addr path mounts = on_some (place_named t path) false (λ place. is_in (pair addr place) mounts)
+is_mounted t addr path mounts = on_some (volume_named t path) false (λ index. is_in (pair addr index) mounts)
 
 -- MNT
 abbrev pub after_mnt : Tree → Addr → List ℕ → List Mount → List Mount
-after_mnt t addr path mounts = on_some (place_named t path) mounts (λ place. with_mount (pair addr place) mounts)
+after_mnt t addr path mounts = on_some (volume_named t path) mounts (λ index. with_mount (pair addr index) mounts)
 
 -- UMNT
 abbrev pub after_umnt : Tree → Addr → List ℕ → List Mount → List Mount
-after_umnt t addr path mounts = on_some (place_named t path) mounts (λ place. without_mount (pair addr place) mounts)
+after_umnt t addr path mounts = on_some (volume_named t path) mounts (λ index. without_mount (pair addr index) mounts)

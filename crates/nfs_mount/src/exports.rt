@@ -29,21 +29,21 @@ pub fn write_export(tree: &Tree, table: &Table, out: &mut Output)
 {
     tree.law();
     table.law();
-    for place in 0..tree.volumes() {
-        write_volume(out, tree, table, place);
+    for index in 0..tree.volumes() {
+        write_volume(out, tree, table, index);
     }
     write_chain_end(out);
 }
 
 // Writes a volume of EXPORT's chain.
-fn write_volume(out: &mut Output, tree: &Tree, table: &Table, place: usize)
-    requires { 268 + 28 * length (exports_of table.now place) ≤ out.old.room }
-    ensures text { Appends (chained_text exported_text (exported_at tree.now table.now place)) out.old out.new }
-    ensures spelled { IsExported (exported_at tree.now table.now place) (exported_text (exported_at tree.now table.now place)) }
-    ensures room { out.old.room ≤ out.new.room + (268 + 28 * length (exports_of table.now place)) }
+fn write_volume(out: &mut Output, tree: &Tree, table: &Table, index: usize)
+    requires { 268 + 28 * length (exports_of table.now index) ≤ out.old.room }
+    ensures text { Appends (chained_text exported_text (exported_at tree.now table.now index)) out.old out.new }
+    ensures spelled { IsExported (exported_at tree.now table.now index) (exported_text (exported_at tree.now table.now index)) }
+    ensures room { out.old.room ≤ out.new.room + (268 + 28 * length (exports_of table.now index)) }
 {
-    write_chained_string(out, &Opaque::new(path_at(tree, place)));
-    write_patterns(out, table.patterns(place));
+    write_chained_string(out, &Opaque::new(path_at(tree, index)));
+    write_patterns(out, table.patterns(index));
     write_chain_end(out);
 }
 

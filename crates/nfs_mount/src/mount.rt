@@ -6,6 +6,6 @@ use nfs_exports::addr::Addr;
 pub struct Mount {
     /// The client's address.
     pub addr: Addr,
-    /// The volume's place, from 0.
+    /// The volume's index, from 0.
     pub volume: usize,
 }

@@ -1,6 +1,6 @@
 //! The rules of MNT.
 ghost use Rattle.std.specs.Prelude.{◌≡◌, ◌<◌, length, Some, IfOk};
-ghost use Rattle.nfs_inodes.specs.Reading.{place_named};
+ghost use Rattle.nfs_inodes.specs.Reading.{volume_named};
 ghost use Rattle.nfs_mount.specs.MountRules.{mount_rules};
 ghost use Rattle.nfs_rules.specs.Judging.{Judges};
 
@@ -10,21 +10,21 @@ use nfs_inodes::tree::Tree;
 use nfs_rules::name_rules::path_must_be_short;
 use nfs_rules::rule::Rule;
 
-/// The place of the volume of a path, where a client at this address may mount it, or the first rule
+/// The index of the volume of a path, where a client at this address may mount it, or the first rule
 /// that fails: `PathLong`, `MountPath` or `Export`.
 pub(crate) fn volume_for(tree: &Tree, table: &Table, addr: Addr, path: &[u8]) -> Result<usize, Rule>
     ensures rules { Judges result (mount_rules tree.now table.now addr path.now) }
-    ensures volume { IfOk result (λ place. place_named tree.now path.now ≡ Some place) }
-    ensures within { IfOk result (λ place. place < length tree.now.volumes) }
+    ensures volume { IfOk result (λ index. volume_named tree.now path.now ≡ Some index) }
+    ensures within { IfOk result (λ index. index < length tree.now.volumes) }
 {
     if let Err(rule) = path_must_be_short(path) {
         return Err(rule);
     }
-    let Some(place) = tree.volume_named(path) else {
+    let Some(index) = tree.volume_named(path) else {
         return Err(Rule::MountPath);
     };
-    match table.grant(place, addr) {
-        Some(_) => Ok(place),
+    match table.grant(index, addr) {
+        Some(_) => Ok(index),
         None => Err(Rule::Export),
     }
 }

@@ -6,7 +6,7 @@ use Rattle.std.proofs.lemmas.List.Sums.{sum_by-cons}
 use Rattle.nfs_attrs.specs.declared.fattr.Fattr.{Fattr}
 use Rattle.nfs_handles.specs.Handles.{handle_at, reading, handle_text, live_with, is_shaped, key_in, tag_in, number_in}
 use Rattle.nfs_handles.specs.declared.reading.Reading.TheVariants.{Stale, Bad}
-use Rattle.nfs_inodes.specs.Changes.{volume_of}
+use Rattle.nfs_inodes.specs.Changes.{volume_index}
 use Rattle.nfs_handles.specs.NumberedFiles.{TaggedFile}
 use Rattle.nfs_handles.specs.NumberedFiles as numbered
 use Rattle.nfs_inodes.proofs.Maps.{at_shows, same_number}
@@ -118,18 +118,18 @@ module _ (p : ℕ → Bool) (t : Tree) where
   pub verifier_blank : (n : ℕ) → verifier_at (blank p t) n ≡ verifier_at t n
   verifier_blank n = read_blank p None (λ f. f.verifier) (λ f. refl) t n
 
-  pub volume_blank : (n : ℕ) → volume_of (blank p t) n ≡ volume_of t n
+  pub volume_blank : (n : ℕ) → volume_index (blank p t) n ≡ volume_index t n
   volume_blank n = read_blank p 0 (λ f. f.volume) (λ f. refl) t n
 
   -- totals
-  pub bytes_blank : (place : ℕ) → bytes_of place (blank p t).files ≡ bytes_of place t.files
-  bytes_blank place = sum_blank p (bytes_for place) (λ f. ap (λ n. cond (nat_eq f.volume place) n 0) (of_kind (λ k. length (bytes_in k)) as_long f.kind)) t.files
+  pub bytes_blank : (index : ℕ) → bytes_of index (blank p t).files ≡ bytes_of index t.files
+  bytes_blank index = sum_blank p (bytes_for index) (λ f. ap (λ n. cond (nat_eq f.volume index) n 0) (of_kind (λ k. length (bytes_in k)) as_long f.kind)) t.files
 
-  pub count_blank : (place : ℕ) → files_of place (blank p t).files ≡ files_of place t.files
-  count_blank place = sum_blank p (one_for place) (λ f. refl) t.files
+  pub count_blank : (index : ℕ) → files_of index (blank p t).files ≡ files_of index t.files
+  count_blank index = sum_blank p (one_for index) (λ f. refl) t.files
 
-  pub totals_blank : (place : ℕ) → totals_at (blank p t) place ≡ totals_at t place
-  totals_blank place = λ i. option_map (λ (v : Volume). record { bytes = bytes_blank place i; files = count_blank place i }) (slice_get t.volumes place)
+  pub totals_blank : (index : ℕ) → totals_at (blank p t) index ≡ totals_at t index
+  totals_blank index = λ i. option_map (λ (v : Volume). record { bytes = bytes_blank index i; files = count_blank index i }) (slice_get t.volumes index)
 
   -- handles
   abbrev tagged : File → TaggedFile File

@@ -6,7 +6,7 @@ use Rattle.nfs_attrs.specs.declared.moment.Moment.{Moment}
 use Rattle.nfs_inodes.proofs.Maps.{same_number}
 use Rattle.nfs_inodes.specs.declared.given_attributes.GivenAttributes.{GivenAttributes}
 use Rattle.nfs_inodes.specs.declared.new_file.NewFile.{NewFile}
-use Rattle.nfs_inodes.specs.Changes.{with_new_file, with_file, kind_with_entry, entered, with_entry, kind_without_entry, left, without_entry, without_file, touched, released, kind_with_parent, moved_to, moved, zeros, new_file, volume_of, with_named_file, after_make_file, after_make_dir, after_make_link, after_link, put_bytes, kind_with_bytes, file_with_bytes, after_write_at, sized, resized_to, after_resize, with_given, after_set, after_unlink, carried, after_rename}
+use Rattle.nfs_inodes.specs.Changes.{with_new_file, with_file, kind_with_entry, entered, with_entry, kind_without_entry, left, without_entry, without_file, touched, released, kind_with_parent, moved_to, moved, zeros, new_file, volume_index, with_named_file, after_make_file, after_make_dir, after_make_link, after_link, put_bytes, kind_with_bytes, file_with_bytes, after_write_at, sized, resized_to, after_resize, with_given, after_set, after_unlink, carried, after_rename}
 use Rattle.nfs_inodes.specs.Reading.{entry_at}
 use Rattle.nfs_inodes.specs.Tree.{Tree, File, Kind, Entry, Regular, Directory, Link, at, with_at, without_at, on_some, bytes_in, names_of}
 use Rattle.nfs_policy.specs.Shape.{blank_kind, blank_file, blank_where, blank}
@@ -168,11 +168,11 @@ module _ (p : ℕ → Bool) where
   new_blank : (t : Tree) (f : File) → ((b : Bool) → blank_where b f ≡ f) → with_new_file (blank p t) f ≡ blank p (with_new_file t f)
   new_blank t f zeros = λ i. record t { files = (ap (λ g. map (shown p) t.files ++ (t.next, g) ∷ []) (sym (zeros (p t.next))) ∙ sym (files_push t.next f t.files)) i; next = t.next + 1 }
 
-  named_file_blank : (t : Tree) (d : ℕ) (name : List ℕ) (f : ℕ → File) (now : Moment) → ((b : Bool) (volume : ℕ) → blank_where b (f volume) ≡ f volume) → with_named_file (blank p t) d name (f (volume_of (blank p t) d)) now ≡ blank p (with_named_file t d name (f (volume_of t d)) now)
+  named_file_blank : (t : Tree) (d : ℕ) (name : List ℕ) (f : ℕ → File) (now : Moment) → ((b : Bool) (volume : ℕ) → blank_where b (f volume) ≡ f volume) → with_named_file (blank p t) d name (f (volume_index (blank p t) d)) now ≡ blank p (with_named_file t d name (f (volume_index t d)) now)
   named_file_blank t d name f now zeros =
       ap (λ v. with_named_file (blank p t) d name (f v) now) (volume_blank p t d)
-      ∙ ap (λ u. with_entry u d name t.next now) (new_blank t (f (volume_of t d)) (λ b. zeros b (volume_of t d)))
-      ∙ entry_with (with_new_file t (f (volume_of t d))) d t.next name now
+      ∙ ap (λ u. with_entry u d name t.next now) (new_blank t (f (volume_index t d)) (λ b. zeros b (volume_index t d)))
+      ∙ entry_with (with_new_file t (f (volume_index t d))) d t.next name now
 
   zero_file : (size : ℕ) (given : NewFile) (verifier : Option (List ℕ)) (tag : ℕ) (now : Moment) (b : Bool) (volume : ℕ) → blank_where b (new_file volume (Regular (zeros size)) given verifier tag now) ≡ new_file volume (Regular (zeros size)) given verifier tag now
   zero_file size given verifier tag now true volume = ap (λ n. new_file volume (Regular (zeros n)) given verifier tag now) (length_zeros size)

@@ -32,9 +32,9 @@ of_kind P a b c (Regular bytes) = a bytes
 of_kind P a b c (Directory parent next_cookie entries) = b parent next_cookie entries
 of_kind P a b c (Link path) = c path
 
-module _ (ids : Ids) (now : Moment) (place : ℕ) (Moves : Type 0) where
+module _ (ids : Ids) (now : Moment) (index : ℕ) (Moves : Type 0) where
   abbrev May : File → File → File → Type 0
-  May = Allowed ids now place Moves
+  May = Allowed ids now index Moves
 
   -- another kind, at this moment
   kind_now : (r f : File) (k : Kind) → KindStays f.kind k → (parent_in f.kind ≡ parent_in k) → is_writer ids r ≡ true → OnlyWhere (is_writer ids r) (bytes_in f.kind) (bytes_in k) → OnlyWhere (is_enterer ids r) (entries_in f.kind) (entries_in k) → May r f (record f { kind = k; mtime = now; ctime = now })

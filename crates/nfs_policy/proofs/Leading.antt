@@ -66,7 +66,7 @@ module _ (ids : Ids) (now : Moment) (r : File) where
 -- ---- trees
 
 -- where files come, go or get another parent, this is so; and all happens in one volume
-module _ (ids : Ids) (now : Moment) (place : ℕ) (Moves : Type 0) where
+module _ (ids : Ids) (now : Moment) (index : ℕ) (Moves : Type 0) where
   -- file f becomes g, with rights to r
   pub record Allowed (r f g : File) : Type 0 where
     pub stays : Stays f g
@@ -75,15 +75,15 @@ module _ (ids : Ids) (now : Moment) (place : ℕ) (Moves : Type 0) where
 
   pub record Comes (g : File) : Type 0 where
     pub own : IsOwn ids g
-    pub volume : g.volume ≡ place
+    pub volume : g.volume ≡ index
     pub moves : Moves
 
   -- of a file that was or wasn't, what is or isn't
   abbrev pub Becomes : Option File → Option File → Type 0
   Becomes None None = Unit {0}
   Becomes None (Some g) = Comes g
-  Becomes (Some f) None = (f.volume ≡ place) × Moves
-  Becomes (Some f) (Some g) = Allowed f f g × ((f ≡ g) ⊎ (f.volume ≡ place))
+  Becomes (Some f) None = (f.volume ≡ index) × Moves
+  Becomes (Some f) (Some g) = Allowed f f g × ((f ≡ g) ⊎ (f.volume ≡ index))
 
   abbrev pub Leads : Tree → Tree → Type 0
   Leads t u = (m : ℕ) → Becomes (at m t.files) (at m u.files)
@@ -113,7 +113,7 @@ module _ (ids : Ids) (now : Moment) (place : ℕ) (Moves : Type 0) where
 
   module _ (t u : Tree) (led : Leads t u) where
     -- one file more is changed
-    pub leads_on : (n : ℕ) (r : File) → Lives t n r → r.volume ≡ place → (h : File → File) → ((f : File) → at n u.files ≡ Some f → Allowed r f (h f)) → Leads t (on_some (at n u.files) u (λ f. with_file u n (h f)))
+    pub leads_on : (n : ℕ) (r : File) → Lives t n r → r.volume ≡ index → (h : File → File) → ((f : File) → at n u.files ≡ Some f → Allowed r f (h f)) → Leads t (on_some (at n u.files) u (λ f. with_file u n (h f)))
     leads_on n r at_r volume h may m = by_number m n
         (λ s. here (at n u.files) refl m s)
         (λ o. subst (Becomes (at m t.files)) (sym (elsewhere (at n u.files) m o)) (led m))
@@ -131,7 +131,7 @@ module _ (ids : Ids) (now : Moment) (place : ℕ) (Moves : Type 0) where
             let now : Becomes (Some r) (Some (h f)) = (allowed_on r r f (h f) before.0 (may f e), inr volume) in
             subst (λ o. Becomes o (at m (with_file u n (h f)).files)) (sym was) (subst (Becomes (Some r)) (sym is) now)
 
-    pub leads_without : (n low next : ℕ) (r : File) → AreRising low u.files next → Lives t n r → r.volume ≡ place → Moves → Leads t (without_file u n)
+    pub leads_without : (n low next : ℕ) (r : File) → AreRising low u.files next → Lives t n r → r.volume ≡ index → Moves → Leads t (without_file u n)
     leads_without n low next r rising at_r volume moves m = by_number m n
         (λ s. subst (λ o. Becomes o (at m (without_file u n).files)) (sym (ap (λ k. at k t.files) s ∙ at_r)) (subst (Becomes (Some r)) (sym (ap (λ k. at k (without_file u n).files) s ∙ at_without_same low next n u.files rising)) (volume, moves)))
         (λ o. subst (Becomes (at m t.files)) (sym (at_without_other n m u.files o)) (led m))
@@ -143,21 +143,21 @@ module _ (ids : Ids) (now : Moment) (place : ℕ) (Moves : Type 0) where
 
 -- ---- the policy
 
-module _ (exports : List (List Export)) (caller : Caller) (now : Moment) (t u : Tree) (place : ℕ) (options : Options) (granted : options_at exports caller place ≡ Some options) (writable : options.read_only ≡ false)
-    (Moves : Type 0) (moves : Moves → EntriesDiffer t u) (led : Leads (squash options caller.cred) now place Moves t u) (keeps : Keeps (MayGo (squash options caller.cred) t) t u) where
+module _ (exports : List (List Export)) (caller : Caller) (now : Moment) (t u : Tree) (index : ℕ) (options : Options) (granted : options_at exports caller index ≡ Some options) (writable : options.read_only ≡ false)
+    (Moves : Type 0) (moves : Moves → EntriesDiffer t u) (led : Leads (squash options caller.cred) now index Moves t u) (keeps : Keeps (MayGo (squash options caller.cred) t) t u) where
   abbrev ids : Ids
   ids = squash options caller.cred
 
   abbrev At : Option File → Option File → Type 0
-  At = Becomes ids now place Moves
+  At = Becomes ids now index Moves
 
   between : (n : ℕ) (o q : Option File) → at n t.files ≡ o → at n u.files ≡ q → At o q
   between n o q e g = subst (λ o. At o q) e (subst (At (at n t.files)) g (led n))
 
-  is_rw : (place' : ℕ) → place' ≡ place → is_writable exports caller place' ≡ true
-  is_rw place' e = ap (is_writable exports caller) e ∙ ap (λ o. on_some o false (λ (options : Options). not options.read_only)) granted ∙ ap not writable
+  is_rw : (index' : ℕ) → index' ≡ index → is_writable exports caller index' ≡ true
+  is_rw index' e = ap (is_writable exports caller) e ∙ ap (λ o. on_some o false (λ (options : Options). not options.read_only)) granted ∙ ap not writable
 
-  of_place : (o q : Option File) (f : File) → At o q → (o ≡ Some f) ⊎ (q ≡ Some f) → o ≢ q → f.volume ≡ place
+  of_place : (o q : Option File) (f : File) → At o q → (o ≡ Some f) ⊎ (q ≡ Some f) → o ≢ q → f.volume ≡ index
   of_place None None f a (inl e) d = absurd (not_both refl e)
   of_place None None f a (inr e) d = absurd (not_both refl e)
   of_place None (Some g) f a (inl e) d = absurd (not_both refl e)
@@ -166,11 +166,11 @@ module _ (exports : List (List Export)) (caller : Caller) (now : Moment) (t u : 
   of_place (Some g) None f a (inr e) d = absurd (not_both refl e)
   of_place (Some g) (Some h) f a e d = by e (at_place a.1)
     where
-      at_place : (g ≡ h) ⊎ (g.volume ≡ place) → g.volume ≡ place
+      at_place : (g ≡ h) ⊎ (g.volume ≡ index) → g.volume ≡ index
       at_place (inl same) = absurd (d (ap Some same))
       at_place (inr here) = here
 
-      by : (Some g ≡ Some f) ⊎ (Some h ≡ Some f) → g.volume ≡ place → f.volume ≡ place
+      by : (Some g ≡ Some f) ⊎ (Some h ≡ Some f) → g.volume ≡ index → f.volume ≡ index
       by (inl e) here = ap (λ (k : File). k.volume) (sym (same_some e)) ∙ here
       by (inr e) here = ap (λ (k : File). k.volume) (sym (same_some e)) ∙ a.0.stays.volume ∙ here
 
@@ -187,8 +187,8 @@ module _ (exports : List (List Export)) (caller : Caller) (now : Moment) (t u : 
     parent = λ n f g e h d. parent_as (between n (Some f) (Some g) e h) d;
   }
     where
-      same_ids : (place' : ℕ) (ids' : Ids) → place' ≡ place → ids_at exports caller place' ≡ Some ids' → ids ≡ ids'
-      same_ids place' ids' e is = same_some (sym (ap (ids_at exports caller) e ∙ ap (option_map (λ (o : Options). squash o caller.cred)) granted) ∙ is)
+      same_ids : (index' : ℕ) (ids' : Ids) → index' ≡ index → ids_at exports caller index' ≡ Some ids' → ids ≡ ids'
+      same_ids index' ids' e is = same_some (sym (ap (ids_at exports caller) e ∙ ap (option_map (λ (o : Options). squash o caller.cred)) granted) ∙ is)
 
       deletes : (d : ℕ) (dir : File) (e : Entry) (f : File) (ids' : Ids) → Lives t d dir → Contains (entries_in dir.kind) e → (Contains (entries_at u d) e → ⊥) → Lives t e.number f → ids_at exports caller dir.volume ≡ Some ids' → is_deleter ids' dir f ≡ true
       deletes d dir e f ids' at_d there gone at_f is =

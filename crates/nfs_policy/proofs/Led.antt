@@ -117,11 +117,11 @@ at_released u n m now o = by (nat_eq (names_of n u.files) 0)
 
 -- ---- the operations
 
-module _ (t : Tree) (law : Law t) (ids : Ids) (now : Moment) (place : ℕ) where
+module _ (t : Tree) (law : Law t) (ids : Ids) (now : Moment) (index : ℕ) where
   -- a directory that the caller may enter
   pub record Enters (d : ℕ) (dir : File) : Type 0 where
     pub at_dir : LivesAsDirectory t d dir
-    pub volume : dir.volume ≡ place
+    pub volume : dir.volume ≡ index
     pub writer : is_writer ids dir ≡ true
     pub enterer : is_enterer ids dir ≡ true
 
@@ -130,23 +130,23 @@ module _ (t : Tree) (law : Law t) (ids : Ids) (now : Moment) (place : ℕ) where
 
   module _ (Moves : Type 0) where
     abbrev To : Tree → Type 0
-    To = Leads ids now place Moves t
+    To = Leads ids now index Moves t
 
     gains : (u : Tree) → To u → (d n : ℕ) (name : List ℕ) (dir : File) → Enters d dir → To (with_entry u d name n now)
-    gains u led d n name dir may = leads_on ids now place Moves t u led d dir may.at_dir.0 may.volume (λ f. entered f name n now) (λ f e. entered_allowed ids now place Moves dir f name n may.writer may.enterer)
+    gains u led d n name dir may = leads_on ids now index Moves t u led d dir may.at_dir.0 may.volume (λ f. entered f name n now) (λ f e. entered_allowed ids now index Moves dir f name n may.writer may.enterer)
 
     loses : (u : Tree) → To u → (d : ℕ) (name : List ℕ) (dir : File) → Enters d dir → To (without_entry u d name now)
-    loses u led d name dir may = leads_on ids now place Moves t u led d dir may.at_dir.0 may.volume (λ f. left f name now) (λ f e. left_allowed ids now place Moves dir f name may.writer may.enterer)
+    loses u led d name dir may = leads_on ids now index Moves t u led d dir may.at_dir.0 may.volume (λ f. left f name now) (λ f e. left_allowed ids now index Moves dir f name may.writer may.enterer)
 
-    touches : (u : Tree) → To u → (n : ℕ) (f : File) → Lives t n f → f.volume ≡ place → To (touched u n now)
-    touches u led n f at_f volume = leads_on ids now place Moves t u led n f at_f volume (λ f. record f { ctime = now }) (λ g e. touched_allowed ids now place Moves f g)
+    touches : (u : Tree) → To u → (n : ℕ) (f : File) → Lives t n f → f.volume ≡ index → To (touched u n now)
+    touches u led n f at_f volume = leads_on ids now index Moves t u led n f at_f volume (λ f. record f { ctime = now }) (λ g e. touched_allowed ids now index Moves f g)
 
     -- an entry goes, and what it named, where it was the last
     module _ (moves : Moves) (d : ℕ) (name : List ℕ) (may : MayUnlink t d name) (enters : Enters d may.dir) where
       abbrev u : Tree
       u = without_entry t d name now
 
-      of_volume : may.file.volume ≡ place
+      of_volume : may.file.volume ≡ index
       of_volume = let l = law.entries d may.dir may.entry may.at_dir.0 (find_contains (has_name name) (entries_in may.dir.kind) may.entry may.found) in
           ap (λ (f : File). f.volume) (same_some (sym may.at_file ∙ l.1)) ∙ l.2 ∙ enters.volume
 
@@ -154,8 +154,8 @@ module _ (t : Tree) (law : Law t) (ids : Ids) (now : Moment) (place : ℕ) where
       rising = subst (λ (w : Tree). AreRising 0 w.files t.next) (sym (left_is t d now name may.dir may.at_dir.0)) (rising_with 0 t.next d t.files (left may.dir name now) law.rising)
 
       by_last : (b : Bool) → To (if b then without_file u may.entry.number else touched u may.entry.number now)
-      by_last true = leads_without ids now place Moves t u (loses t (leads_itself ids now place Moves t) d name may.dir enters) may.entry.number 0 t.next may.file rising may.at_file of_volume moves
-      by_last false = touches u (loses t (leads_itself ids now place Moves t) d name may.dir enters) may.entry.number may.file may.at_file of_volume
+      by_last true = leads_without ids now index Moves t u (loses t (leads_itself ids now index Moves t) d name may.dir enters) may.entry.number 0 t.next may.file rising may.at_file of_volume moves
+      by_last false = touches u (loses t (leads_itself ids now index Moves t) d name may.dir enters) may.entry.number may.file may.at_file of_volume
 
       unlinked : after_unlink t d name now ≡ released u may.entry.number now
       unlinked = ap (λ o. on_some o t (λ e. released (without_entry t d name now) e.number now)) (entry_is t d name may.dir may.at_dir.0 ∙ may.found)
@@ -164,24 +164,24 @@ module _ (t : Tree) (law : Law t) (ids : Ids) (now : Moment) (place : ℕ) where
       unlink_led = subst To (sym unlinked) (by_last (nat_eq (names_of may.entry.number u.files) 0))
 
     -- an entry goes from one directory to another
-    carry_led : Moves → (u : Tree) → To u → (from n to : ℕ) (name new_name : List ℕ) (source file target : File) → Enters from source → Lives t n file → file.volume ≡ place → Enters to target → To (carried u from name n to new_name now)
+    carry_led : Moves → (u : Tree) → To u → (from n to : ℕ) (name new_name : List ℕ) (source file target : File) → Enters from source → Lives t n file → file.volume ≡ index → Enters to target → To (carried u from name n to new_name now)
     carry_led moves u led from n to name new_name source file target enters at_file volume enters_too =
         gains (moved (without_entry u from name now) n to now)
-        (leads_on ids now place Moves t (without_entry u from name now) (loses u led from name source enters) n file at_file volume (λ f. moved_to f to now) (λ f e. moved_allowed ids now place Moves file f to moves))
+        (leads_on ids now index Moves t (without_entry u from name now) (loses u led from name source enters) n file at_file volume (λ f. moved_to f to now) (λ f e. moved_allowed ids now index Moves file f to moves))
         to n new_name target enters_too
 
   -- a file is made
-  pub make_led : (Moves : Type 0) → Moves → (d : ℕ) (name : List ℕ) (dir f : File) → Enters d dir → IsOwn ids f → f.volume ≡ place → Leads ids now place Moves t (with_named_file t d name f now)
+  pub make_led : (Moves : Type 0) → Moves → (d : ℕ) (name : List ℕ) (dir f : File) → Enters d dir → IsOwn ids f → f.volume ≡ index → Leads ids now index Moves t (with_named_file t d name f now)
   make_led Moves moves d name dir f enters own volume =
       let none = at_next 0 t.next t.files law.rising in
-      gains Moves (with_new_file t f) (leads_new ids now place Moves t t (leads_itself ids now place Moves t) f none none (record { own = own; volume = volume; moves = moves })) d t.next name dir enters
+      gains Moves (with_new_file t f) (leads_new ids now index Moves t t (leads_itself ids now index Moves t) f none none (record { own = own; volume = volume; moves = moves })) d t.next name dir enters
 
   pub make_differs : (d : ℕ) (name : List ℕ) (dir f : File) → LivesAsDirectory t d dir → EntriesDiffer t (with_named_file t d name f now)
   make_differs d name dir f at_dir = entered_differs t (with_new_file t f) d t.next name now dir law at_dir.0 (record { file = dir; at_file = stays t f d dir law at_dir.0; directory = at_dir.1; cookie = refl })
 
   -- a further name
-  pub link_led : (Moves : Type 0) (n d : ℕ) (name : List ℕ) (file dir : File) → Lives t n file → file.volume ≡ place → Enters d dir → Leads ids now place Moves t (after_link t n d name now)
-  link_led Moves n d name file dir at_file volume enters = gains Moves (touched t n now) (touches Moves t (leads_itself ids now place Moves t) n file at_file volume) d n name dir enters
+  pub link_led : (Moves : Type 0) (n d : ℕ) (name : List ℕ) (file dir : File) → Lives t n file → file.volume ≡ index → Enters d dir → Leads ids now index Moves t (after_link t n d name now)
+  link_led Moves n d name file dir at_file volume enters = gains Moves (touched t n now) (touches Moves t (leads_itself ids now index Moves t) n file at_file volume) d n name dir enters
 
   pub link_differs : (n d : ℕ) (name : List ℕ) (dir : File) → LivesAsDirectory t d dir → EntriesDiffer t (after_link t n d name now)
   link_differs n d name dir at_dir = entered_differs t (touched t n now) d n name now dir law at_dir.0 (cookie_on t d dir.kind (has_cookie d dir at_dir) n (λ f. record f { ctime = now }) (touched_leaves now))
@@ -220,22 +220,22 @@ module _ (t : Tree) (law : Law t) (ids : Ids) (now : Moment) (place : ℕ) where
     carried_differs u has = entered_differs t (moved (without_entry u from name now) number to now) to number new_name now may.target law may.at_target.0
         (cookie_on (without_entry u from name now) to may.target.kind (cookie_on u to may.target.kind has from (λ f. left f name now) (left_leaves name now)) number (λ f. moved_to f to now) (moved_leaves to now))
 
-    carries : (u new : Tree) → new ≡ carried u from name number to new_name now → HasCookie u to may.target.kind → ((Moves : Type 0) → Moves → Leads ids now place Moves t u) → (new ≡ t) ⊎ (EntriesDiffer t new × Leads ids now place (EntriesDiffer t new) t new)
+    carries : (u new : Tree) → new ≡ carried u from name number to new_name now → HasCookie u to may.target.kind → ((Moves : Type 0) → Moves → Leads ids now index Moves t u) → (new ≡ t) ⊎ (EntriesDiffer t new × Leads ids now index (EntriesDiffer t new) t new)
     carries u new is has led =
         let moves : EntriesDiffer t new = subst (EntriesDiffer t) (sym is) (carried_differs u has) in
         inr (
           moves,
-          subst (Leads ids now place (EntriesDiffer t new) t) (sym is)
+          subst (Leads ids now index (EntriesDiffer t new) t) (sym is)
               (carry_led (EntriesDiffer t new) moves u (led (EntriesDiffer t new) moves) from number to name new_name may.source may.file may.target enters may.at_file (may.volume ∙ enters_too.volume) enters_too),
         )
 
-    onto : (o : Option Entry) → entry_named new_name (entries_in may.target.kind) ≡ o → (after_rename t from name to new_name now ≡ t) ⊎ (EntriesDiffer t (after_rename t from name to new_name now) × Leads ids now place (EntriesDiffer t (after_rename t from name to new_name now)) t (after_rename t from name to new_name now))
-    onto None is = carries t (after_rename t from name to new_name now) (renamed_new t from name to new_name now may is) (has_cookie to may.target may.at_target) (λ Moves moves. leads_itself ids now place Moves t)
+    onto : (o : Option Entry) → entry_named new_name (entries_in may.target.kind) ≡ o → (after_rename t from name to new_name now ≡ t) ⊎ (EntriesDiffer t (after_rename t from name to new_name now) × Leads ids now index (EntriesDiffer t (after_rename t from name to new_name now)) t (after_rename t from name to new_name now))
+    onto None is = carries t (after_rename t from name to new_name now) (renamed_new t from name to new_name now may is) (has_cookie to may.target may.at_target) (λ Moves moves. leads_itself ids now index Moves t)
     onto (Some old) is = by_number old.number number
         (λ s. inl (renamed_same t from name to new_name now may old is s))
         (λ o. let gone = may_unlink t from name to new_name now may law old is o in
         carries (after_unlink t to new_name now) (after_rename t from name to new_name now) (renamed_over t from name to new_name now may old is o) (unlinked_cookie to new_name gone)
         (λ Moves moves. unlink_led Moves moves to new_name gone enters_too))
 
-    pub rename_led : (after_rename t from name to new_name now ≡ t) ⊎ (EntriesDiffer t (after_rename t from name to new_name now) × Leads ids now place (EntriesDiffer t (after_rename t from name to new_name now)) t (after_rename t from name to new_name now))
+    pub rename_led : (after_rename t from name to new_name now ≡ t) ⊎ (EntriesDiffer t (after_rename t from name to new_name now) × Leads ids now index (EntriesDiffer t (after_rename t from name to new_name now)) t (after_rename t from name to new_name now))
     rename_led = onto (entry_named new_name (entries_in may.target.kind)) refl

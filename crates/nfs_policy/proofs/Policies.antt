@@ -17,7 +17,7 @@ use Rattle.nfs_inodes.proofs.Lists.{by_test, if_false, same_some, not_both, true
 use Rattle.nfs_inodes.proofs.law.WithoutEntry.{names_apart}
 use Rattle.nfs_inodes.proofs.law.EntryLess.{found_is}
 use Rattle.nfs_inodes.proofs.Maps.{at_with_same, apart_number}
-use Rattle.nfs_inodes.specs.Changes.{with_file, new_file, volume_of, with_named_file, after_make_dir, after_make_link, after_link, after_rename, zeros, file_with_bytes, after_write_at, resized_to, after_resize, with_given, after_set, after_unlink}
+use Rattle.nfs_inodes.specs.Changes.{with_file, new_file, volume_index, with_named_file, after_make_dir, after_make_link, after_link, after_rename, zeros, file_with_bytes, after_write_at, resized_to, after_resize, with_given, after_set, after_unlink}
 use Rattle.nfs_inodes.specs.Conditions.{MayUnlink, MayEnter, MayRename}
 use Rattle.nfs_inodes.specs.Law.{Law, Lives, LivesAsDirectory}
 use Rattle.nfs_inodes.specs.Reading.{attributes_at, attributes_of, entry_named}
@@ -78,8 +78,8 @@ module _ (t : Tree) (exports : List (List Export)) (caller : Caller) (s : Subjec
   abbrev pub ids : Ids
   ids = squash s.options caller.cred
 
-  abbrev pub place : ℕ
-  place = s.file.fsid - 1
+  abbrev pub index : ℕ
+  index = s.file.fsid - 1
 
   pub lives : (r : File) × Lives s.tree s.file.fileid r
   lives = seen_lives s.tree s.file is.seen
@@ -88,7 +88,7 @@ module _ (t : Tree) (exports : List (List Export)) (caller : Caller) (s : Subjec
     shown : attributes_of s.file.fileid r (nlink s.tree.files s.file.fileid r) ≡ s.file
     shown = same_some (sym (ap (option_map (λ (h : File). attributes_of s.file.fileid h (nlink s.tree.files s.file.fileid h))) at_r) ∙ is.seen)
 
-    pub at_place : r.volume ≡ place
+    pub at_place : r.volume ≡ index
     at_place = sym (seen_place s.tree s.file is.seen r at_r)
 
     pub may_is : (right : Right) → may s.ids s.file right ≡ may ids (rights_of r) right
@@ -140,7 +140,7 @@ module _ (t : Tree) (exports : List (List Export)) (caller : Caller) (s : Subjec
 
     -- a tree to which the file is led, and in which it has its mode, owner and group
     record IsAsBefore (u : Tree) : Type 0 where
-      led : Leads ids now place ⊥ s.tree u
+      led : Leads ids now index ⊥ s.tree u
       file : File
       at_file : at n u.files ≡ Some file
       mode : file.mode ≡ r.mode
@@ -148,12 +148,12 @@ module _ (t : Tree) (exports : List (List Export)) (caller : Caller) (s : Subjec
       gid : file.gid ≡ r.gid
 
     as_it_is : IsAsBefore s.tree
-    as_it_is = record { led = leads_itself ids now place ⊥ s.tree; file = r; at_file = at_r; mode = refl; uid = refl; gid = refl }
+    as_it_is = record { led = leads_itself ids now index ⊥ s.tree; file = r; at_file = at_r; mode = refl; uid = refl; gid = refl }
 
     sized_from : (u : Tree) → IsAsBefore u → (o : Option ℕ) → (is_some o ≡ true → is_writer ids r ≡ true) → IsAsBefore (on_some o u (λ size. after_resize u n size now))
     sized_from u z None writes = z
     sized_from u z (Some size) writes = record {
-      led = leads_on ids now place ⊥ s.tree u z.led n r at_r (at_place r at_r) (λ f. resized_to f size now) (λ f at_f. resized_allowed ids now place ⊥ r f size (writes refl));
+      led = leads_on ids now index ⊥ s.tree u z.led n r at_r (at_place r at_r) (λ f. resized_to f size now) (λ f at_f. resized_allowed ids now index ⊥ r f size (writes refl));
       file = resized_to z.file size now;
       at_file = ap (λ (t : Tree). at n t.files) (ap (λ o. on_some o u (λ f. with_file u n (resized_to f size now))) z.at_file) ∙ at_with_same n z.file (resized_to z.file size now) u.files z.at_file;
       mode = z.mode;
@@ -161,14 +161,14 @@ module _ (t : Tree) (exports : List (List Export)) (caller : Caller) (s : Subjec
       gid = z.gid;
     }
 
-    settled_from : (u : Tree) → IsAsBefore u → (g : Sattr) → (is_some g.size ≡ true → is_writer ids r ≡ true) → MayGive ids now place ⊥ r (given_of now g) → Leads ids now place ⊥ s.tree (after_settings u n g now)
+    settled_from : (u : Tree) → IsAsBefore u → (g : Sattr) → (is_some g.size ≡ true → is_writer ids r ≡ true) → MayGive ids now index ⊥ r (given_of now g) → Leads ids now index ⊥ s.tree (after_settings u n g now)
     settled_from u z g writes may = by (sets_something g)
       where
-        by : (b : Bool) → Leads ids now place ⊥ s.tree (if b then after_set (on_some g.size u (λ size. after_resize u n size now)) n (given_of now g) now else u)
+        by : (b : Bool) → Leads ids now index ⊥ s.tree (if b then after_set (on_some g.size u (λ size. after_resize u n size now)) n (given_of now g) now else u)
         by true = let y = sized_from u z g.size writes in
-            leads_on ids now place ⊥ s.tree (on_some g.size u (λ size. after_resize u n size now)) y.led n r at_r (at_place r at_r) (λ f. with_given f (given_of now g) now)
+            leads_on ids now index ⊥ s.tree (on_some g.size u (λ size. after_resize u n size now)) y.led n r at_r (at_place r at_r) (λ f. with_given f (given_of now g) now)
             (λ f at_f. let same : y.file ≡ f = same_some (sym y.at_file ∙ at_f) in
-            given_allowed ids now place ⊥ r f (ap (λ (k : File). k.mode) (sym same) ∙ y.mode) (ap (λ (k : File). k.uid) (sym same) ∙ y.uid) (ap (λ (k : File). k.gid) (sym same) ∙ y.gid) (given_of now g) may)
+            given_allowed ids now index ⊥ r f (ap (λ (k : File). k.mode) (sym same) ∙ y.mode) (ap (λ (k : File). k.uid) (sym same) ∙ y.uid) (ap (λ (k : File). k.gid) (sym same) ∙ y.gid) (given_of now g) may)
         by false = z.led
 
     -- a mode without the two bits, of a file whose bytes change
@@ -183,7 +183,7 @@ module _ (t : Tree) (exports : List (List Export)) (caller : Caller) (s : Subjec
         (writes (and_parts changes (not (nat_eq s.ids.uid 0)) (and_parts (changes && not (nat_eq s.ids.uid 0)) (nat_le 1024 s.file.mode) c.0).0).0, ap (λ k. loses_set_ids r.mode (k % 4096)) (sym low) ∙ loses_both r.mode)
 
     -- which is all that is given
-    cleared_gives : (changes : Bool) → (changes ≡ true → is_writer ids r ≡ true) → MayGive ids now place ⊥ r (given_of now (mode_alone (cleared_mode s.ids.uid s.file changes)))
+    cleared_gives : (changes : Bool) → (changes ≡ true → is_writer ids r ≡ true) → MayGive ids now index ⊥ r (given_of now (mode_alone (cleared_mode s.ids.uid s.file changes)))
     cleared_gives changes writes = record {
       mode = λ mode e. inr (cleared_may changes writes mode e);
       uid = λ uid e. absurd (not_both refl e);
@@ -195,7 +195,7 @@ module _ (t : Tree) (exports : List (List Export)) (caller : Caller) (s : Subjec
     -- ---- WRITE
 
     pub write_policy : (a : Write) → first (write_rules s a) ≡ None → Polite now (after_writing s.tree n a.offset a.content (cleared_mode s.ids.uid s.file (has_bytes a.content)) now)
-    write_policy a none = policy exports caller now s.tree (after_writing s.tree n a.offset a.content mode now) place s.options is.options (passed_at (write_rules s a) none 0 (test.read_only s) refl) ⊥ (λ m. absurd m)
+    write_policy a none = policy exports caller now s.tree (after_writing s.tree n a.offset a.content mode now) index s.options is.options (passed_at (write_rules s a) none 0 (test.read_only s) refl) ⊥ (λ m. absurd m)
         (settled_from (after_write_at s.tree n a.offset a.content now) (written a.content) (mode_alone mode) (λ e. absurd (true_and_false e refl)) (cleared_gives (has_bytes a.content) (λ e. writes)))
         (keeps_writing (MayGo ids s.tree) s.tree n a.offset a.content mode now)
       where
@@ -208,7 +208,7 @@ module _ (t : Tree) (exports : List (List Export)) (caller : Caller) (s : Subjec
         written : (bytes : List ℕ) → IsAsBefore (after_write_at s.tree n a.offset bytes now)
         written [] = as_it_is
         written (b ∷ bytes) = record {
-          led = leads_on ids now place ⊥ s.tree s.tree (leads_itself ids now place ⊥ s.tree) n r at_r (at_place r at_r) (λ f. file_with_bytes f a.offset (b ∷ bytes) now) (λ f e. written_allowed ids now place ⊥ r f a.offset (b ∷ bytes) writes);
+          led = leads_on ids now index ⊥ s.tree s.tree (leads_itself ids now index ⊥ s.tree) n r at_r (at_place r at_r) (λ f. file_with_bytes f a.offset (b ∷ bytes) now) (λ f e. written_allowed ids now index ⊥ r f a.offset (b ∷ bytes) writes);
           file = file_with_bytes r a.offset (b ∷ bytes) now;
           at_file = ap (λ (t : Tree). at n t.files) (ap (λ o. on_some o s.tree (λ f. with_file s.tree n (file_with_bytes f a.offset (b ∷ bytes) now))) at_r) ∙ at_with_same n r (file_with_bytes r a.offset (b ∷ bytes) now) s.tree.files at_r;
           mode = refl;
@@ -219,19 +219,19 @@ module _ (t : Tree) (exports : List (List Export)) (caller : Caller) (s : Subjec
     -- ---- REMOVE and RMDIR
 
     module _ (law : Law s.tree) (rw : s.options.read_only ≡ false) where
-      polite : (new : Tree) → EntriesDiffer s.tree new → Leads ids now place (EntriesDiffer s.tree new) s.tree new → Keeps (MayGo ids s.tree) s.tree new → Polite now new
-      polite new differ led keeps = policy exports caller now s.tree new place s.options is.options rw (EntriesDiffer s.tree new) (λ m. m) led keeps
+      polite : (new : Tree) → EntriesDiffer s.tree new → Leads ids now index (EntriesDiffer s.tree new) s.tree new → Keeps (MayGo ids s.tree) s.tree new → Polite now new
+      polite new differ led keeps = policy exports caller now s.tree new index s.options is.options rw (EntriesDiffer s.tree new) (λ m. m) led keeps
 
-      pub enters : (test.search_right s).1 ≡ false → (test.directory_write s).1 ≡ false → (dir : File) → LivesAsDirectory s.tree s.file.fileid dir → Enters s.tree law ids now place s.file.fileid dir
+      pub enters : (test.search_right s).1 ≡ false → (test.directory_write s).1 ≡ false → (dir : File) → LivesAsDirectory s.tree s.file.fileid dir → Enters s.tree law ids now index s.file.fileid dir
       enters x w dir at_dir = record { at_dir = at_dir; volume = at_place dir at_dir.0; writer = writer dir at_dir.0 w; enterer = enterer dir at_dir.0 x w }
 
       unlink_policy : (name : List ℕ) → MayUnlink s.tree s.file.fileid name → (test.search_right s).1 ≡ false → (test.directory_write s).1 ≡ false → MayLeave (MayGo ids s.tree) s.tree s.file.fileid name → Polite now (after_unlink s.tree s.file.fileid name now)
-      unlink_policy name may x w leave = let new = after_unlink s.tree s.file.fileid name now in let differ = unlink_differs s.tree law ids now place s.file.fileid name may in
-          polite new differ (unlink_led s.tree law ids now place (EntriesDiffer s.tree new) differ s.file.fileid name may (enters x w may.dir may.at_dir)) (keeps_unlink (MayGo ids s.tree) s.tree law now s.file.fileid name may leave)
+      unlink_policy name may x w leave = let new = after_unlink s.tree s.file.fileid name now in let differ = unlink_differs s.tree law ids now index s.file.fileid name may in
+          polite new differ (unlink_led s.tree law ids now index (EntriesDiffer s.tree new) differ s.file.fileid name may (enters x w may.dir may.at_dir)) (keeps_unlink (MayGo ids s.tree) s.tree law now s.file.fileid name may leave)
 
-      make_policy : (name : List ℕ) (f : File) → MayEnter s.tree s.file.fileid name → (test.search_right s).1 ≡ false → (test.directory_write s).1 ≡ false → IsOwn s.ids f → f.volume ≡ volume_of s.tree s.file.fileid → Polite now (with_named_file s.tree s.file.fileid name f now)
-      make_policy name f may x w own volume = let new = with_named_file s.tree s.file.fileid name f now in let differ = make_differs s.tree law ids now place s.file.fileid name may.dir f may.at_dir in
-          polite new differ (make_led s.tree law ids now place (EntriesDiffer s.tree new) differ s.file.fileid name may.dir f (enters x w may.dir may.at_dir) (subst (λ i. IsOwn i f) is.ids own)
+      make_policy : (name : List ℕ) (f : File) → MayEnter s.tree s.file.fileid name → (test.search_right s).1 ≡ false → (test.directory_write s).1 ≡ false → IsOwn s.ids f → f.volume ≡ volume_index s.tree s.file.fileid → Polite now (with_named_file s.tree s.file.fileid name f now)
+      make_policy name f may x w own volume = let new = with_named_file s.tree s.file.fileid name f now in let differ = make_differs s.tree law ids now index s.file.fileid name may.dir f may.at_dir in
+          polite new differ (make_led s.tree law ids now index (EntriesDiffer s.tree new) differ s.file.fileid name may.dir f (enters x w may.dir may.at_dir) (subst (λ i. IsOwn i f) is.ids own)
           (volume ∙ ap (λ o. on_some o 0 (λ (f : File). f.volume)) may.at_dir.0 ∙ at_place may.dir may.at_dir.0)) (keeps_make (MayGo ids s.tree) s.tree law now s.file.fileid name f)
 
     pub remove_policy : Law s.tree → (name : List ℕ) → first (remove_rules s name) ≡ None → Polite now (after_unlink s.tree s.file.fileid name now)
@@ -272,7 +272,7 @@ module _ (t : Tree) (exports : List (List Export)) (caller : Caller) (s : Subjec
     pub make_dir_policy : Law s.tree → (a : MakeDir) (tag : ℕ) → first (make_dir_rules s a.place.name) ≡ None → Polite now (after_make_dir s.tree s.file.fileid a.place.name (new_file_of directory_mode s.ids now a.attributes) tag now)
     make_dir_policy law a tag none = let passed = passed_at (make_dir_rules s a.place.name) none in
         make_policy law (passed 0 (test.read_only s) refl) a.place.name _ (may_make_directory s law is.seen a.place.name none).make.enter (passed 4 (test.search_right s) refl) (passed 6 (test.directory_write s) refl)
-        (own_file (volume_of s.tree s.file.fileid) directory_mode tag (Directory s.file.fileid 3 []) a.attributes None) refl
+        (own_file (volume_index s.tree s.file.fileid) directory_mode tag (Directory s.file.fileid 3 []) a.attributes None) refl
 
     pub sym_link_policy : Law s.tree → (a : SymLink) (tag : ℕ) → first (sym_link_rules s a.place.name a.path) ≡ None → Polite now (after_make_link s.tree s.file.fileid a.place.name a.path (record (new_file_of link_mode s.ids now a.attributes) { mode = link_mode }) tag now)
     sym_link_policy law a tag none = let passed = passed_at (sym_link_rules s a.place.name a.path) none in
@@ -339,7 +339,7 @@ module _ (t : Tree) (exports : List (List Export)) (caller : Caller) (s : Subjec
       server : (is_server_time g.atime || is_server_time g.mtime) ≡ true → is_writer ids r ≡ true
       server y = sym (writer_is r at_r) ∙ not-false _ (sym (ap (λ k. k && not (owns_or_may s right.Write)) y) ∙ passed_at (set_attr_rules s a) none 8 (test.time_right s g) refl)
 
-      may_give : MayGive ids now place ⊥ r (given_of now h)
+      may_give : MayGive ids now index ⊥ r (given_of now h)
       may_give = record {
         mode = mode_may;
         uid = uid_may;
@@ -349,13 +349,13 @@ module _ (t : Tree) (exports : List (List Export)) (caller : Caller) (s : Subjec
       }
 
       pub set_attr_policy : Polite now (after_settings s.tree n h now)
-      set_attr_policy = policy exports caller now s.tree (after_settings s.tree n h now) place s.options is.options (passed_at (set_attr_rules s a) none 0 (test.read_only s) refl) ⊥ (λ m. absurd m)
+      set_attr_policy = policy exports caller now s.tree (after_settings s.tree n h now) index s.options is.options (passed_at (set_attr_rules s a) none 0 (test.read_only s) refl) ⊥ (λ m. absurd m)
           (settled_from s.tree as_it_is h size_writes may_give) (keeps_settled (MayGo ids s.tree) s.tree n h now)
 
     -- ---- CREATE
 
     pub taken_policy : (how : CreateHow) → s.options.read_only ≡ false → ((attributes : Sattr) → how ≡ Unchecked attributes → (is_some attributes.size && not (owns_or_may s right.Write)) ≡ false) → Polite now (after_taking s.tree s.ids.uid s.file how now)
-    taken_policy how rw may = policy exports caller now s.tree (after_taking s.tree s.ids.uid s.file how now) place s.options is.options rw ⊥ (λ m. absurd m)
+    taken_policy how rw may = policy exports caller now s.tree (after_taking s.tree s.ids.uid s.file how now) index s.options is.options rw ⊥ (λ m. absurd m)
         (settled_from s.tree as_it_is given (writes how may) (cleared_gives (is_some (size_taken how)) (writes how may))) (keeps_settled (MayGo ids s.tree) s.tree n given now)
       where
         given : Sattr
@@ -389,7 +389,7 @@ module _ (t : Tree) (exports : List (List Export)) (caller : Caller) (s : Subjec
       of : (o : Option Fattr) → found s a.place.name ≡ o → Policy exports caller now s.tree (on_some o (after_creating s a now tag) (λ f. after_taking s.tree s.ids.uid f a.how now))
       of None e = let passed = passed_at (create_rules_with s a.place.name a.how None) (subst (λ o. first (create_rules_with s a.place.name a.how o) ≡ None) e none) in
           make_policy t exports caller s is now law rw a.place.name _ (may_make_file s law is.seen a none e).enter (passed 4 (test.search_right s) refl) (passed 6 (test.directory_write s) refl)
-          (own_file t exports caller s is now (volume_of s.tree s.file.fileid) file_mode tag (Regular (zeros (on_some (size_in a.how) 0 (λ size. size)))) (attributes_in a.how) (verifier_in a.how)) refl
+          (own_file t exports caller s is now (volume_index s.tree s.file.fileid) file_mode tag (Regular (zeros (on_some (size_in a.how) 0 (λ size. size)))) (attributes_in a.how) (verifier_in a.how)) refl
       of (Some f) e = taken_policy t exports caller (record s { file = f }) (there f e) now a.how rw (λ attributes how.
           passed_at (create_rules_with s a.place.name (Unchecked attributes) (Some f))
           (subst (λ h. first (create_rules_with s a.place.name h (Some f)) ≡ None) how (subst (λ o. first (create_rules_with s a.place.name a.how o) ≡ None) e none)) 6 _ refl)
@@ -416,7 +416,7 @@ module _ (t : Tree) (exports : List (List Export)) (caller : Caller) (one two : 
   enters_two : (test.search_right two_here).1 ≡ false → (test.directory_write two_here).1 ≡ false → two.options.read_only ≡ false → (dir : File) → LivesAsDirectory one.tree two.file.fileid dir
       → Enters one.tree law (squash one.options caller.cred) now (one.file.fsid - 1) two.file.fileid dir
   enters_two x w rw dir at_dir = subst (λ (o : Options). Enters one.tree law (squash o caller.cred) now (one.file.fsid - 1) two.file.fileid dir) (sym same_options)
-      (subst (λ place. Enters one.tree law (squash two.options caller.cred) now place two.file.fileid dir) (sym same_place) (enters t exports caller two_here is_here now law rw x w dir at_dir))
+      (subst (λ index. Enters one.tree law (squash two.options caller.cred) now index two.file.fileid dir) (sym same_place) (enters t exports caller two_here is_here now law rw x w dir at_dir))
 
   pub link_policy : (name : List ℕ) → first (link_rules one two name) ≡ None → Policy exports caller now one.tree (after_link one.tree one.file.fileid two.file.fileid name now)
   link_policy name none =
@@ -434,8 +434,8 @@ module _ (t : Tree) (exports : List (List Export)) (caller : Caller) (one two : 
   -- ---- what RENAME takes away
 
   module _ (a : Rename) (none : first (rename_rules one two_here a) ≡ None) (may : MayRename one.tree one.file.fileid a.from.name two.file.fileid a.to.name) where
-    passed : (place : ℕ) (rule : Test) → slice_get (rename_rules one two_here a) place ≡ Some rule → rule.1 ≡ false
-    passed place rule e = passed_at (rename_rules one two_here a) none place rule e
+    passed : (index : ℕ) (rule : Test) → slice_get (rename_rules one two_here a) index ≡ Some rule → rule.1 ≡ false
+    passed index rule e = passed_at (rename_rules one two_here a) none index rule e
 
     moved : (f : Fattr) × (found one a.from.name ≡ Some f)
     moved = some_from_is_none (found one a.from.name) (passed 11 (test.no_entry one a.from.name) refl)

@@ -9,7 +9,7 @@ use Rattle.nfs_args.specs.MountAnswers.{mount_text}
 use Rattle.nfs_args.specs.declared.mount_answer.MountAnswer.{MountAnswer}
 use Rattle.nfs_args.specs.declared.mount_answer.MountAnswer.TheVariants as result
 use Rattle.nfs_mount.specs.declared.mount.Mount.{Mount}
-use Rattle.nfs_inodes.specs.Reading.{place_named}
+use Rattle.nfs_inodes.specs.Reading.{volume_named}
 use Rattle.nfs_inodes.specs.Tree.{Tree, on_some}
 use Rattle.nfs_mount.specs.MountAnswers.{IsMountSpelled, root_of, dump_answer, export_answer, granted_answer}
 use Rattle.nfs_mount.specs.MountRules.{mount_verdict}
@@ -100,7 +100,7 @@ module _ (f : ℕ) (setup : Setup) (old : State) (other : Tree) (agree : AgreeOu
   same_look look blank = sym (blank old.tree) ∙ ap look agree ∙ blank other
 
   root_blank : (path : List ℕ) (t : Tree) → root_of (blank (nat_eq f) t) path ≡ root_of t path
-  root_blank path t = λ i. on_some (place_named t path) None (λ place. on_some (slice_get t.volumes place) None (λ v. handle_blank (nat_eq f) t v.root i))
+  root_blank path t = λ i. on_some (volume_named t path) None (λ index. on_some (slice_get t.volumes index) None (λ v. handle_blank (nat_eq f) t v.root i))
 
   mount_done : (call : Call) (result : Tree → MountAnswer) (mounts : Tree → List Mount) → result old.tree ≡ result other → mounts old.tree ≡ mounts other → MountDone call old (result old.tree) (mounts old.tree) answer new → To (λ new. MountDone call over (result other) (mounts other) answer new)
   mount_done call result mounts e g h = (

@@ -49,7 +49,7 @@ pub lives_taken : (t : Tree) (n size : ℕ) (how : CreateHow) → MayTake t n ho
 lives_taken t n size how may e = let m = may size e in (m.file, m.at_file)
 
 abbrev planned : Fattr → Option Fattr → ℕ → NewFile → FilePlan
-planned dir present uid given = record { dir = record { attributes = dir; tag = 0 }; present = present; uid = uid; given = given }
+planned dir present uid given = record { dir = record { attributes = dir; hint = record { 0 = 0 } }; present = present; uid = uid; given = given }
 
 pub created : (c : Scene) (a : Create) (s : Subject) (plan : FilePlan) (new : Tree) (n : ℕ) (dir : Wcc) (x y z : Written) → IsGranted c s s → PlansFile c.tree c.now a plan s
     → Makes (after_making_or_taking c.tree plan a c.now) new → n ≡ number_of c.tree plan.present

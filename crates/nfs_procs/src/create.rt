@@ -40,7 +40,7 @@ pub(crate) fn create(tree: &mut Tree, call: &Call<'_>, args: &Create<'_>, out: &
     let Ok(file) = make_or_take(tree, &plan, args, call.moment) else {
         return Done::Memory;
     };
-    let dir = Number(plan.dir.attributes.fileid, plan.dir.tag);
+    let dir = Number(plan.dir.attributes.fileid, plan.dir.hint);
     let dir = change(Some(plan.dir.attributes), tree.attributes(dir));
     out.u32(0);
     write_new_file(out, tree, file, dir);

@@ -14,7 +14,7 @@ use nfs_args::create::{Create, CreateHow};
 use nfs_attrs::fattr::Fattr;
 use nfs_attrs::moment::Moment;
 use nfs_content::pages::Pages;
-use nfs_handles::number::Number;
+use nfs_handles::number::{Hint, Number};
 use nfs_inodes::tree::Tree;
 use std::alloc::AllocError;
 
@@ -36,7 +36,7 @@ pub(crate) fn make_or_take(
         None => make(tree, plan, args, now),
         Some(file) => {
             take(tree, plan.uid, &file, &args.how, now)?;
-            Ok(Number(file.fileid, 0))
+            Ok(Number(file.fileid, Hint::NONE))
         }
     }
 }
@@ -55,7 +55,7 @@ fn make(
 {
     let content = Pages::zeros(tree.allocator(), size_of(&args.how) as usize);
     tree.make_file(
-        Number(plan.dir.attributes.fileid, plan.dir.tag),
+        Number(plan.dir.attributes.fileid, plan.dir.hint),
         args.place.name.bytes(),
         content,
         &plan.given,
@@ -81,7 +81,7 @@ fn take(
         None => Ok(()),
         Some(size) => {
             let given = with_cleared_mode(uid, file, &size_alone(Some(size)));
-            set_given(tree, Number(file.fileid, 0), &given, now)
+            set_given(tree, Number(file.fileid, Hint::NONE), &given, now)
         }
     }
 }

@@ -49,8 +49,8 @@ fn room_of(tree: &Tree, file: &Fattr) -> Room
     ensures { result ≡ procedure.room_in (slice_get tree.now.volumes (file.now.fsid - 1)) (totals_at tree.now (file.now.fsid - 1))
         file.now }
 {
-    let place = file.fsid.saturating_sub(1) as usize;
-    room_in(tree.volume(place), tree.totals(place), file)
+    let index = file.fsid.saturating_sub(1) as usize;
+    room_in(tree.volume(index), tree.totals(index), file)
 }
 
 fn room_in(volume: Option<VolumeView<'_>>, totals: Option<Totals>, file: &Fattr) -> Room

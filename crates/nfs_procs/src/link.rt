@@ -37,8 +37,8 @@ pub(crate) fn link(tree: &mut Tree, call: &Call<'_>, args: &Link<'_>, out: &mut 
         Ok(plan) => plan,
         Err(denial) => return write_denied(out, &denial),
     };
-    let number = Number(file.attributes.fileid, file.tag);
-    let place = Number(dir.attributes.fileid, dir.tag);
+    let number = Number(file.attributes.fileid, file.hint);
+    let place = Number(dir.attributes.fileid, dir.hint);
     let Ok(()) = tree.link(number, place, args.place.name.bytes(), call.moment) else {
         return Done::Memory;
     };

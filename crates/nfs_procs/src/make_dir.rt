@@ -37,7 +37,7 @@ pub(crate) fn make_dir(
         Ok(plan) => plan,
         Err(denial) => return write_denied_change(out, &denial),
     };
-    let dir = Number(plan.dir.attributes.fileid, plan.dir.tag);
+    let dir = Number(plan.dir.attributes.fileid, plan.dir.hint);
     let Ok(made) = tree.make_dir(dir, args.place.name.bytes(), &plan.given, call.moment) else {
         return Done::Memory;
     };

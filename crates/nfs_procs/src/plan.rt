@@ -2,18 +2,18 @@
 ghost use Rattle.std.specs.Prelude.{◌≡◌};
 
 use nfs_attrs::fattr::Fattr;
-use nfs_handles::number::Number;
+use nfs_handles::number::{Hint, Number};
 use nfs_inodes::new_file::NewFile;
 use nfs_inodes::removal::Standing;
 use nfs_inodes::view::FileView;
 
-/// A file as it is before the call, with the hint by which it is found again without a search.
+/// A file as it is before the call.
 #[derive(Clone, Copy)]
 pub struct FileBefore {
     /// Its attributes.
     pub attributes: Fattr,
-    /// Its tag.
-    pub tag: u32,
+    /// Where it was found.
+    pub hint: Hint,
 }
 
 impl FileBefore {
@@ -24,7 +24,7 @@ impl FileBefore {
     {
         FileBefore {
             attributes: file.attributes(),
-            tag: file.number().1,
+            hint: file.number().1,
         }
     }
 }

@@ -20,7 +20,7 @@ use crate::subjects::subject_of;
 use nfs_args::link_path::{LinkPath, write_link_path};
 use nfs_args::opaque::Opaque;
 use nfs_attrs::fattr::Fattr;
-use nfs_handles::number::Number;
+use nfs_handles::number::{Hint, Number};
 use nfs_inodes::tree::Tree;
 use nfs_rules::subject::Subject;
 use nfs_xdr::output::Output;
@@ -55,7 +55,7 @@ fn write_granted(out: &mut Output, tree: &Tree, file: &Fattr)
     ensures { AppendsAnswer (answer.ReadLink (Ok
         (record { attributes = Some file.now; path = on_some (path_at tree.now file.now.fileid) [] (λ path. path) }))) out.old out.new }
 {
-    let path = path_of(tree, Number(file.fileid, 0));
+    let path = path_of(tree, Number(file.fileid, Hint::NONE));
     out.u32(0);
     write_link_path(
         out,

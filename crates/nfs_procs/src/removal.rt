@@ -54,7 +54,7 @@ pub(crate) fn remove_entry(
     ensures text { Appends (to_be_bytes w32 0 ++ wcc_text (directory_change tree.new plan.now)) out.old out.new }
     ensures spelled { IsWcc (directory_change tree.new plan.now) (wcc_text (directory_change tree.new plan.now)) }
 {
-    let dir = Number(plan.dir.attributes.fileid, plan.dir.tag);
+    let dir = Number(plan.dir.attributes.fileid, plan.dir.hint);
     tree.unlink_seen(dir, name, plan.number, plan.file, now);
     out.u32(0);
     write_wcc(

@@ -37,8 +37,8 @@ pub(crate) fn rename(tree: &mut Tree, call: &Call<'_>, args: &Rename<'_>, out: &
         Ok(plan) => plan,
         Err(denial) => return write_denied(out, &denial),
     };
-    let one = Number(from.attributes.fileid, from.tag);
-    let two = Number(to.attributes.fileid, to.tag);
+    let one = Number(from.attributes.fileid, from.hint);
+    let two = Number(to.attributes.fileid, to.hint);
     let (name, new_name) = (args.from.name.bytes(), args.to.name.bytes());
     let Ok(()) = tree.rename(one, name, two, new_name, call.moment) else {
         return Done::Memory;

@@ -35,7 +35,7 @@ pub(crate) fn set_attr(
         Ok(plan) => plan,
         Err(denial) => return write_denied_change(out, &denial),
     };
-    let number = Number(file.attributes.fileid, file.tag);
+    let number = Number(file.attributes.fileid, file.hint);
     let Ok(()) = set_given(tree, number, &given, call.moment) else {
         return Done::Memory;
     };

@@ -38,7 +38,7 @@ pub(crate) fn sym_link(
         Ok(plan) => plan,
         Err(denial) => return write_denied_change(out, &denial),
     };
-    let dir = Number(plan.dir.attributes.fileid, plan.dir.tag);
+    let dir = Number(plan.dir.attributes.fileid, plan.dir.hint);
     let Ok(made) = tree.make_link(
         dir,
         args.place.name.bytes(),

@@ -35,7 +35,7 @@ pub(crate) fn write(tree: &mut Tree, call: &Call<'_>, args: &Write<'_>, out: &mu
         Ok(plan) => plan,
         Err(denial) => return write_denied_change(out, &denial),
     };
-    let number = Number(file.attributes.fileid, file.tag);
+    let number = Number(file.attributes.fileid, file.hint);
     let bytes = args.content.bytes();
     let verifier = u64::from_be_bytes(tree.key());
     let Ok(()) = tree.write_at(number, args.offset as usize, bytes, call.moment) else {

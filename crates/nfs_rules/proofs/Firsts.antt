@@ -16,7 +16,7 @@ are_passed (t ∷ ts) e = by_test t.1
     (λ y. absurd (not_both e (if_true (Some t.0) (first ts) y)))
     (λ n. (n, are_passed ts (sym (if_false (Some t.0) (first ts) n) ∙ e)))
 
--- the test at a place among them
+-- the test of an index among them
 pub passed_at : (ts : List Test) → first ts ≡ None → (place : ℕ) (t : Test) → slice_get ts place ≡ Some t → t.1 ≡ false
 passed_at ts none place t e = of ts (are_passed ts none) place t e
   where

@@ -34,7 +34,7 @@ live_at t Bad = None
 abbrev pub named : Tree → List ℕ → Option Fattr
 named t handle = live_at t (reading (numbered_files t) handle)
 
--- the options that an address has at the volume of a file, if a pattern covers it; the number of a volume is 1 more than its place
+-- the options that an address has at the volume of a file, if a pattern covers it; the number of a volume is 1 more than its index
 abbrev pub granted : List (List Export) → Addr → Fattr → Option Options
 granted exports addr f = grant (exports_of exports (f.fsid - 1)) addr
 

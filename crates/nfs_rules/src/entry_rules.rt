@@ -12,7 +12,7 @@ use crate::subject::Subject;
 use nfs_args::create::CreateHow;
 use nfs_attrs::fattr::Fattr;
 use nfs_attrs::file_type::FileType;
-use nfs_handles::number::Number;
+use nfs_handles::number::{Hint, Number};
 use nfs_inodes::view::FileView;
 
 // The cookie of `..`, behind which the other entries stand.
@@ -90,7 +90,7 @@ impl<'a> Subject<'a> {
     fn was_made_by(&self, file: &Fattr, verifier: &[u8]) -> bool
         ensures { result ≡ on_some (verifier_at self.now.tree file.now.fileid) false (bytes_eq verifier.now) }
     {
-        match self.tree.verifier(Number(file.fileid, 0)) {
+        match self.tree.verifier(Number(file.fileid, Hint::NONE)) {
             Some(made_by) => verifier == made_by.as_slice(),
             None => false,
         }
@@ -114,7 +114,7 @@ impl<'a> Subject<'a> {
         ensures { result ≡ test.is_empty self.now.tree dir.now }
     {
         self.tree
-            .entry_after(Number(dir.fileid, 0), LAST_DOT_COOKIE)
+            .entry_after(Number(dir.fileid, Hint::NONE), LAST_DOT_COOKIE)
             .is_none()
     }
 }

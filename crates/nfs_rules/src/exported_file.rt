@@ -66,7 +66,7 @@ impl<'a> ExportedFile<'a> {
             Err(NoFile::Stale) => return Err(Rule::StaleHandle),
             Err(NoFile::Bad) => return Err(Rule::BadHandle),
         };
-        let Some(options) = table.grant(place_of(&file.attributes()), caller.addr) else {
+        let Some(options) = table.grant(volume_index(&file.attributes()), caller.addr) else {
             return Err(Rule::Export);
         };
         Ok(ExportedFile {
@@ -108,8 +108,8 @@ impl<'a> ExportedFile<'a> {
     }
 }
 
-// The place of a file's volume, from 0.
-pub(crate) fn place_of(file: &Fattr) -> usize
+// The index of a file's volume, from 0.
+pub(crate) fn volume_index(file: &Fattr) -> usize
     ensures { result ≡ file.now.fsid - 1 }
 {
     file.fsid.saturating_sub(1) as usize

@@ -6,7 +6,7 @@ ghost use Rattle.nfs_inodes.specs.Tree.{on_some};
 ghost use Rattle.nfs_rules.specs.Judging.{Tells, Judges};
 ghost use Rattle.nfs_rules.specs.Tests as test;
 
-use crate::exported_file::place_of;
+use crate::exported_file::volume_index;
 use crate::rule::{Rule, ensure};
 use crate::subject::Subject;
 use nfs_attrs::fattr::Fattr;
@@ -76,8 +76,8 @@ impl<'a> Subject<'a> {
     fn has_space(&self, bytes: u64) -> bool
         ensures { result ≡ not (test.in_volume self.now (λ volume totals. nat_lt volume.max_bytes (totals.bytes + bytes))) }
     {
-        let place = place_of(&self.attributes());
-        match (self.tree.volume(place), self.tree.totals(place)) {
+        let index = volume_index(&self.attributes());
+        match (self.tree.volume(index), self.tree.totals(index)) {
             (Some(volume), Some(totals)) => {
                 totals.bytes <= volume.max_bytes && bytes <= volume.max_bytes - totals.bytes
             }
@@ -88,8 +88,8 @@ impl<'a> Subject<'a> {
     fn has_file_left(&self) -> bool
         ensures { result ≡ not (test.in_volume self.now (λ volume totals. nat_le volume.max_files totals.files)) }
     {
-        let place = place_of(&self.attributes());
-        match (self.tree.volume(place), self.tree.totals(place)) {
+        let index = volume_index(&self.attributes());
+        match (self.tree.volume(index), self.tree.totals(index)) {
             (Some(volume), Some(totals)) => totals.files < volume.max_files,
             _ => true,
         }

@@ -10,7 +10,7 @@ use crate::rule::{Rule, ensure};
 use crate::subject::Subject;
 use nfs_attrs::fattr::Fattr;
 use nfs_attrs::file_type::FileType;
-use nfs_handles::number::Number;
+use nfs_handles::number::{Hint, Number};
 use nfs_inodes::tree::Tree;
 use nfs_inodes::view::FileView;
 
@@ -146,5 +146,8 @@ fn is_above(tree: &Tree, above: &Fattr, dir: &Fattr) -> bool
     ensures { result ≡ table.is_above tree.now above.now.fileid dir.now.fileid }
 {
     tree.law();
-    tree.is_below(Number(dir.fileid, 0), Number(above.fileid, 0))
+    tree.is_below(
+        Number(dir.fileid, Hint::NONE),
+        Number(above.fileid, Hint::NONE),
+    )
 }

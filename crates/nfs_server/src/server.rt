@@ -90,6 +90,13 @@ impl Server {
         &self.tree
     }
 
+    /// To whom its volumes are exported.
+    pub fn exports(&self) -> &Table
+        ensures { result.now ≡ self.now.setup.exports }
+    {
+        &self.table
+    }
+
     /// The line of the last call, where it was denied.
     pub fn last_audit(&self) -> Option<AuditLine>
         ensures { result ≡ self.now.line }

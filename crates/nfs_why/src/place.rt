@@ -16,7 +16,7 @@ pub struct InVolume<'a> {
 }
 
 /// The volume in which a path lies: of those whose path it goes on from, the one with the longest.
-pub(crate) fn volume_of<'a>(tree: &Tree, path: &'a [u8]) -> Option<InVolume<'a>> {
+pub(crate) fn volume_holding<'a>(tree: &Tree, path: &'a [u8]) -> Option<InVolume<'a>> {
     let mut found: Option<InVolume<'a>> = None;
     for place in 0..tree.volumes() {
         if let Some(volume) = tree.volume(place) {

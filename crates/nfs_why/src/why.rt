@@ -7,7 +7,7 @@ use crate::meaning::meaning;
 use crate::mounting::mount_failure;
 use crate::operation::{Operation, Shape};
 use crate::order::{HANDLE, HANDLES, MOUNT};
-use crate::place::{split_last, volume_of};
+use crate::place::{split_last, volume_holding};
 use crate::question::Question;
 use crate::text::Text;
 use nfs_attrs::fattr::Fattr;
@@ -107,7 +107,7 @@ impl<'a> Inquiry<'a> {
 
     // Where a path leads. `None` where it leads nowhere, which is told as the verdict then.
     fn target<'b>(&self, path: &'b [u8], is_name: bool, out: &mut Text) -> Option<Target<'b>> {
-        let Some(place) = volume_of(&self.loaded.tree, path) else {
+        let Some(place) = volume_holding(&self.loaded.tree, path) else {
             out.put(b"no volume has a path that this one goes on from\n");
             put_verdict(out, Some(Rule::MountPath));
             return None;

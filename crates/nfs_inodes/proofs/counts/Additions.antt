@@ -107,25 +107,25 @@ module _ (k : CountedTree) (n d : ℕ) (name : List ℕ) (now : Moment) (f g p w
       (λ y. let a = told.0 y in omega (arith, a, same, mine))
       (λ z. let a = told.1 z in omega (arith, a, same, mine, none))))
 
-  totals_linked : (place : ℕ) → (bytes_of place (with_file u d (entered p.file name n now)).files ≡ bytes_of place (tree_in k).files) × (files_of place (with_file u d (entered p.file name n now)).files ≡ files_of place (tree_in k).files)
-  totals_linked place =
+  totals_linked : (index : ℕ) → (bytes_of index (with_file u d (entered p.file name n now)).files ≡ bytes_of index (tree_in k).files) × (files_of index (with_file u d (entered p.file name n now)).files ≡ files_of index (tree_in k).files)
+  totals_linked index =
       let g2 : File = record f.file { ctime = now } in
       let w2 : File = entered p.file name n now in
-      let a = bytes_changed (tree_in k) n f.file g2 (shown k n f has.at_file) refl place in
-      let b = bytes_changed u d p.file w2 dir_u.0 (entered_placed p.file name n now).volume place in
+      let a = bytes_changed (tree_in k) n f.file g2 (shown k n f has.at_file) refl index in
+      let b = bytes_changed u d p.file w2 dir_u.0 (entered_placed p.file name n now).volume index in
       let no_more : length (bytes_in w2.kind) ≡ length (bytes_in p.file.kind) = ap length (entered_bytes p.file.kind name n) in
-      let first : bytes_of place u.files ≡ bytes_of place (tree_in k).files = by_number f.file.volume place (λ s. let y = a.0 s in omega (arith, y)) (λ o. a.1 o) in
-      let second : bytes_of place (with_file u d w2).files ≡ bytes_of place u.files = by_number p.file.volume place (λ s. let y = b.0 s in omega (arith, y, no_more)) (λ o. b.1 o) in (
+      let first : bytes_of index u.files ≡ bytes_of index (tree_in k).files = by_number f.file.volume index (λ s. let y = a.0 s in omega (arith, y)) (λ o. a.1 o) in
+      let second : bytes_of index (with_file u d w2).files ≡ bytes_of index u.files = by_number p.file.volume index (λ s. let y = b.0 s in omega (arith, y, no_more)) (λ o. b.1 o) in (
         second ∙ first,
-        count_changed u d p.file w2 dir_u.0 (entered_placed p.file name n now).volume place ∙ count_changed (tree_in k) n f.file g2 (shown k n f has.at_file) refl place,
+        count_changed u d p.file w2 dir_u.0 (entered_placed p.file name n now).volume index ∙ count_changed (tree_in k) n f.file g2 (shown k n f has.at_file) refl index,
       )
 
   pub agree_after_link : Agrees (counted_after_link k n g d w)
   agree_after_link = record {
     law = subst Law (sym view_after_link) (law_after_link (tree_in k) n d name now has.may keeps.law);
     links = λ m h e. links_linked m h e ∙ ap (λ fs. nlink fs m h.file) (sym files_linked);
-    totals = λ place c e. let r = keeps.totals place c e in let s = totals_linked place in
-        subst (λ fs. IsCounted fs place c) (sym files_linked) (record { bytes = r.bytes ∙ sym s.0; files = r.files ∙ sym s.1 });
+    totals = λ index c e. let r = keeps.totals index c e in let s = totals_linked index in
+        subst (λ fs. IsCounted fs index c) (sym files_linked) (record { bytes = r.bytes ∙ sym s.0; files = r.files ∙ sym s.1 });
     limits = keeps.limits;
   }
 
@@ -145,18 +145,18 @@ agree_after_add_volume k v root keeps may two wide_bytes wide_files =
     let c0 : CountedVolume = record { volume = v; bytes = 0; files = 1 } in
     let fs : files_in (k.files ++ (k.next, root) ∷ []) ≡ (with_new_file t root.file).files = shows_push (λ (a : CountedFile). a.file) k.next root k.files in
     let places : length t.volumes ≡ length k.volumes = length-map k.volumes (λ (c : CountedVolume). c.volume) in
-    let is_counted : (place : ℕ) (c : CountedVolume) → slice_get (k.volumes ++ c0 ∷ []) place ≡ Some c → IsCounted (with_new_file t root.file).files place c = λ place c e.
-    let bytes = bytes_born t root.file place in let files = files_born t root.file place in
-    elim (get_push k.volumes c0 c place e) [
-      | inl was ↦ let r = keeps.totals place c was in
-          let low = slice_get_within k.volumes place c was in
+    let is_counted : (index : ℕ) (c : CountedVolume) → slice_get (k.volumes ++ c0 ∷ []) index ≡ Some c → IsCounted (with_new_file t root.file).files index c = λ index c e.
+    let bytes = bytes_born t root.file index in let files = files_born t root.file index in
+    elim (get_push k.volumes c0 c index e) [
+      | inl was ↦ let r = keeps.totals index c was in
+          let low = slice_get_within k.volumes index c was in
           let vol = may.volume in
-          let off : root.file.volume ≢ place = λ s. omega (arith, s, vol, places, low) in
+          let off : root.file.volume ≢ index = λ s. omega (arith, s, vol, places, low) in
           record { bytes = r.bytes ∙ sym (bytes.1 off); files = r.files ∙ sym (files.1 off) }
-      | inr is ↦ let here : root.file.volume ≡ place = may.volume ∙ places ∙ sym is.0 in
-          let at_place : place ≡ length t.volumes = is.0 ∙ sym places in
-          let none : bytes_of place t.files ≡ 0 = ap (λ i. bytes_of i t.files) at_place ∙ no_bytes_yet t keeps.law in
-          let no_file : files_of place t.files ≡ 0 = ap (λ i. files_of i t.files) at_place ∙ no_files_yet t keeps.law in
+      | inr is ↦ let here : root.file.volume ≡ index = may.volume ∙ places ∙ sym is.0 in
+          let at_index : index ≡ length t.volumes = is.0 ∙ sym places in
+          let none : bytes_of index t.files ≡ 0 = ap (λ i. bytes_of i t.files) at_index ∙ no_bytes_yet t keeps.law in
+          let no_file : files_of index t.files ≡ 0 = ap (λ i. files_of i t.files) at_index ∙ no_files_yet t keeps.law in
           let empty : length (bytes_in root.file.kind) ≡ 0 = ap length may.no_bytes in
           let b = bytes.0 here in let n = files.0 here in
           let cb : c.bytes ≡ 0 = ap (λ (c : CountedVolume). c.bytes) (sym is.1) in
@@ -172,9 +172,9 @@ agree_after_add_volume k v root keeps may two wide_bytes wide_files =
           let mine : h.nlink ≡ root.nlink = ap (λ (a : CountedFile). a.nlink) (sym is) in
           omega (arith, first, yes, here, mine, two))
           (λ o was. keeps.links m h was ∙ sym (ap (λ l. nlink l m h.file) fs ∙ nlink_born t root.file m h.file keeps.law may.empty (shown k m h was)));
-      totals = λ place c e. subst (λ l. IsCounted l place c) (sym fs) (is_counted place c e);
-      limits = λ place c e. elim (get_push k.volumes c0 c place e) [
-        | inl was ↦ keeps.limits place c was
+      totals = λ index c e. subst (λ l. IsCounted l index c) (sym fs) (is_counted index c e);
+      limits = λ index c e. elim (get_push k.volumes c0 c index e) [
+        | inl was ↦ keeps.limits index c was
         | inr is ↦ subst (λ (c : CountedVolume). (c.volume.max_bytes < 2 ^ 64) × (c.volume.max_files < 2 ^ 64)) is.1 (wide_bytes, wide_files)
       ];
     }

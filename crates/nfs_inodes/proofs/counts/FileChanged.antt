@@ -23,8 +23,8 @@ AreLimits v = (v.max_bytes < 2 ^ 64) × (v.max_files < 2 ^ 64)
 pub record AgreesBut (x : ℕ) (k : CountedTree) : Type 0 where
   pub law : LawBut x (tree_in k)
   pub links : (n : ℕ) (h : CountedFile) → n ≢ x → at n k.files ≡ Some h → h.nlink ≡ nlink (files_in k.files) n h.file
-  pub totals : (place : ℕ) (c : CountedVolume) → slice_get k.volumes place ≡ Some c → IsCounted (files_in k.files) place c
-  pub limits : (place : ℕ) (c : CountedVolume) → slice_get k.volumes place ≡ Some c → AreLimits c.volume
+  pub totals : (index : ℕ) (c : CountedVolume) → slice_get k.volumes index ≡ Some c → IsCounted (files_in k.files) index c
+  pub limits : (index : ℕ) (c : CountedVolume) → slice_get k.volumes index ≡ Some c → AreLimits c.volume
 
 pub agrees_but_none : (k : CountedTree) → Agrees k → AgreesBut 0 k
 agrees_but_none k agrees = record { law = agrees.law; links = λ n h o e. agrees.links n h e; totals = agrees.totals; limits = agrees.limits }
@@ -59,7 +59,7 @@ pub record Recounts (y : ℕ) (k : CountedTree) (n : ℕ) (f w : CountedFile) (n
   pub here : n ≢ y → w.nlink ≡ nlink (with_file (tree_in k) n w.file).files n w.file
   pub others : (m : ℕ) (h : CountedFile) → m ≢ n → m ≢ y → at m k.files ≡ Some h → h.nlink ≡ nlink (with_file (tree_in k) n w.file).files m h.file
   pub volumes : volumes_in news ≡ volumes_in k.volumes
-  pub totals : (place : ℕ) (c : CountedVolume) → slice_get news place ≡ Some c → IsCounted (with_file (tree_in k) n w.file).files place c × AreLimits c.volume
+  pub totals : (index : ℕ) (c : CountedVolume) → slice_get news index ≡ Some c → IsCounted (with_file (tree_in k) n w.file).files index c × AreLimits c.volume
 
 pub agrees_recounted : (y : ℕ) (k : CountedTree) (n : ℕ) (f w : CountedFile) (news : List CountedVolume) → Recounts y k n f w news → AgreesBut y (recounted k n w news)
 agrees_recounted y k n f w news r =
@@ -70,34 +70,34 @@ agrees_recounted y k n f w news r =
           (λ s is. ap (λ (a : CountedFile). a.nlink) (sym is) ∙ r.here (λ q. o (s ∙ q)) ∙ ap (λ i. nlink (with_file (tree_in k) n w.file).files i w.file) (sym s)
           ∙ ap (λ (a : CountedFile). nlink (with_file (tree_in k) n w.file).files m a.file) is ∙ ap (λ fs. nlink fs m h.file) (sym files))
           (λ q was. r.others m h q o was ∙ ap (λ fs. nlink fs m h.file) (sym files));
-      totals = λ place c e. subst (λ fs. IsCounted fs place c) (sym files) (r.totals place c e).0;
-      limits = λ place c e. (r.totals place c e).1;
+      totals = λ index c e. subst (λ fs. IsCounted fs index c) (sym files) (r.totals index c e).0;
+      limits = λ index c e. (r.totals index c e).1;
     }
 
 -- ---- totals
 
 -- where files have the same bytes and volumes
 pub same_totals : (x : ℕ) (k : CountedTree) (n : ℕ) (f : CountedFile) (g : File) → AgreesBut x k → at n k.files ≡ Some f → g.volume ≡ f.file.volume → length (bytes_in g.kind) ≡ length (bytes_in f.file.kind) →
-    (place : ℕ) (c : CountedVolume) → slice_get k.volumes place ≡ Some c → IsCounted (with_file (tree_in k) n g).files place c × AreLimits c.volume
-same_totals x k n f g agrees at_file volume size place c e =
-    let was = agrees.totals place c e in
-    let bytes = bytes_changed (tree_in k) n f.file g (shown k n f at_file) volume place in
-    let same : bytes_of place (with_file (tree_in k) n g).files ≡ bytes_of place (tree_in k).files = by_number f.file.volume place (λ s. let b = bytes.0 s in omega (arith, b, size)) bytes.1 in
-    let files = count_changed (tree_in k) n f.file g (shown k n f at_file) volume place in
-    (record { bytes = was.bytes ∙ sym same; files = was.files ∙ sym files }, agrees.limits place c e)
+    (index : ℕ) (c : CountedVolume) → slice_get k.volumes index ≡ Some c → IsCounted (with_file (tree_in k) n g).files index c × AreLimits c.volume
+same_totals x k n f g agrees at_file volume size index c e =
+    let was = agrees.totals index c e in
+    let bytes = bytes_changed (tree_in k) n f.file g (shown k n f at_file) volume index in
+    let same : bytes_of index (with_file (tree_in k) n g).files ≡ bytes_of index (tree_in k).files = by_number f.file.volume index (λ s. let b = bytes.0 s in omega (arith, b, size)) bytes.1 in
+    let files = count_changed (tree_in k) n f.file g (shown k n f at_file) volume index in
+    (record { bytes = was.bytes ∙ sym same; files = was.files ∙ sym files }, agrees.limits index c e)
 
 -- a volume before and after a change of the totals at a place: so much more, and then so much less
-record Between (news olds : List CountedVolume) (place b n c m p : ℕ) (new : CountedVolume) : Type 0 where
+record Between (news olds : List CountedVolume) (index b n c m p : ℕ) (new : CountedVolume) : Type 0 where
   old : CountedVolume
   at_old : slice_get olds p ≡ Some old
   volume : new.volume ≡ old.volume
-  here : p ≡ place → (new.bytes + b ≡ old.bytes + c) × (new.files + n ≡ old.files + m)
-  elsewhere : p ≢ place → (new.bytes ≡ old.bytes) × (new.files ≡ old.files)
+  here : p ≡ index → (new.bytes + b ≡ old.bytes + c) × (new.files + n ≡ old.files + m)
+  elsewhere : p ≢ index → (new.bytes ≡ old.bytes) × (new.files ≡ old.files)
 
-totals_between : (news olds : List CountedVolume) (place b n c m : ℕ) → with_totals news place b n ≡ with_totals olds place c m → (p : ℕ) (new : CountedVolume) → slice_get news p ≡ Some new → Between news olds place b n c m p new
-totals_between [] olds place b n c m same p new e = absurd (not_both refl e)
+totals_between : (news olds : List CountedVolume) (index b n c m : ℕ) → with_totals news index b n ≡ with_totals olds index c m → (p : ℕ) (new : CountedVolume) → slice_get news p ≡ Some new → Between news olds index b n c m p new
+totals_between [] olds index b n c m same p new e = absurd (not_both refl e)
 totals_between (x ∷ xs) [] zero b n c m same p new e = cc
-totals_between (x ∷ xs) [] (suc place) b n c m same p new e = cc
+totals_between (x ∷ xs) [] (suc index) b n c m same p new e = cc
 totals_between (x ∷ xs) (y ∷ ys) zero b n c m same zero new e =
     let is : x ≡ new = same_some e in
     let both : record { volume = x.volume; bytes = x.bytes + b; files = x.files + n } ≡ record { volume = y.volume; bytes = y.bytes + c; files = y.files + m } = same_some (ap (λ l. slice_get l 0) same) in
@@ -111,38 +111,38 @@ totals_between (x ∷ xs) (y ∷ ys) zero b n c m same zero new e =
 totals_between (x ∷ xs) (y ∷ ys) zero b n c m same (suc p) new e =
     let rest : xs ≡ ys = same_tail same in
     record { old = new; at_old = subst (λ l. slice_get l p ≡ Some new) rest e; volume = refl; here = λ s. absurd (let z : suc p ≡ 0 = s in omega (arith, z)); elsewhere = λ o. (refl, refl) }
-totals_between (x ∷ xs) (y ∷ ys) (suc place) b n c m same zero new e =
+totals_between (x ∷ xs) (y ∷ ys) (suc index) b n c m same zero new e =
     let is : x ≡ new = same_some e in
     let head : x ≡ y = same_some (ap (λ l. slice_get l 0) same) in
-    record { old = new; at_old = ap Some (sym head ∙ is); volume = refl; here = λ s. absurd (let z : 0 ≡ suc place = s in omega (arith, z)); elsewhere = λ o. (refl, refl) }
-totals_between (x ∷ xs) (y ∷ ys) (suc place) b n c m same (suc p) new e =
-    let r = totals_between xs ys place b n c m (same_tail same) p new e in
-    record { old = r.old; at_old = r.at_old; volume = r.volume; here = λ s. r.here (let z : suc p ≡ suc place = s in omega (arith, z)); elsewhere = λ o. r.elsewhere (λ s. o (ap suc s)) }
+    record { old = new; at_old = ap Some (sym head ∙ is); volume = refl; here = λ s. absurd (let z : 0 ≡ suc index = s in omega (arith, z)); elsewhere = λ o. (refl, refl) }
+totals_between (x ∷ xs) (y ∷ ys) (suc index) b n c m same (suc p) new e =
+    let r = totals_between xs ys index b n c m (same_tail same) p new e in
+    record { old = r.old; at_old = r.at_old; volume = r.volume; here = λ s. r.here (let z : suc p ≡ suc index = s in omega (arith, z)); elsewhere = λ o. r.elsewhere (λ s. o (ap suc s)) }
 
 -- totals and limits after it, where the files have changed alike
-pub totals_moved : (x : ℕ) (k : CountedTree) (files : List (ℕ × File)) (news : List CountedVolume) (place b n c m : ℕ) → AgreesBut x k → with_totals news place b n ≡ with_totals k.volumes place c m →
-    ((p : ℕ) → (p ≡ place → (bytes_of p files + b ≡ bytes_of p (files_in k.files) + c) × (files_of p files + n ≡ files_of p (files_in k.files) + m)) × (p ≢ place → (bytes_of p files ≡ bytes_of p (files_in k.files)) × (files_of p files ≡ files_of p (files_in k.files)))) →
+pub totals_moved : (x : ℕ) (k : CountedTree) (files : List (ℕ × File)) (news : List CountedVolume) (index b n c m : ℕ) → AgreesBut x k → with_totals news index b n ≡ with_totals k.volumes index c m →
+    ((p : ℕ) → (p ≡ index → (bytes_of p files + b ≡ bytes_of p (files_in k.files) + c) × (files_of p files + n ≡ files_of p (files_in k.files) + m)) × (p ≢ index → (bytes_of p files ≡ bytes_of p (files_in k.files)) × (files_of p files ≡ files_of p (files_in k.files)))) →
     (p : ℕ) (new : CountedVolume) → slice_get news p ≡ Some new → IsCounted files p new × AreLimits new.volume
-totals_moved x k files news place b n c m agrees same sums p new e =
-    let r = totals_between news k.volumes place b n c m same p new e in
+totals_moved x k files news index b n c m agrees same sums p new e =
+    let r = totals_between news k.volumes index b n c m same p new e in
     let t = agrees.totals p r.old r.at_old in
     let bytes = t.bytes in let counts = t.files in
     let told = sums p in (
-      by_number p place
+      by_number p index
           (λ s. let y = told.0 s in let z = r.here s in let y0 = y.0 in let y1 = y.1 in let z0 = z.0 in let z1 = z.1 in record { bytes = omega (arith, bytes, y0, z0); files = omega (arith, counts, y1, z1) })
           (λ o. let y = told.1 o in let z = r.elsewhere o in record { bytes = z.0 ∙ bytes ∙ sym y.0; files = z.1 ∙ counts ∙ sym y.1 }),
       subst AreLimits (sym r.volume) (agrees.limits p r.old r.at_old),
     )
 
 -- the volumes stay
-pub volumes_moved : (news olds : List CountedVolume) (place b n c m : ℕ) → with_totals news place b n ≡ with_totals olds place c m → volumes_in news ≡ volumes_in olds
-volumes_moved news olds place b n c m same = sym (volumes_stay news place b n) ∙ ap volumes_in same ∙ volumes_stay olds place c m
+pub volumes_moved : (news olds : List CountedVolume) (index b n c m : ℕ) → with_totals news index b n ≡ with_totals olds index c m → volumes_in news ≡ volumes_in olds
+volumes_moved news olds index b n c m same = sym (volumes_stay news index b n) ∙ ap volumes_in same ∙ volumes_stay olds index c m
 
 -- ---- a file that stays where it is
 
 -- file n has other bytes or attributes
 pub agrees_alike : (k : CountedTree) (n : ℕ) (f w : CountedFile) (news : List CountedVolume) → Agrees k → at n k.files ≡ Some f → Alike f.file w.file → w.nlink ≡ f.nlink → Law (with_file (tree_in k) n w.file) → volumes_in news ≡ volumes_in k.volumes →
-    ((place : ℕ) (c : CountedVolume) → slice_get news place ≡ Some c → IsCounted (with_file (tree_in k) n w.file).files place c × AreLimits c.volume) → Agrees (recounted k n w news)
+    ((index : ℕ) (c : CountedVolume) → slice_get news index ≡ Some c → IsCounted (with_file (tree_in k) n w.file).files index c × AreLimits c.volume) → Agrees (recounted k n w news)
 agrees_alike k n f w news agrees at_file alike links law volumes totals =
     let like = one_alike (tree_in k) n f.file w.file agrees.law.rising agrees.law.numbers (shown k n f at_file) alike in
     let u : Tree = with_file (tree_in k) n w.file in
@@ -168,7 +168,7 @@ pub kept_as : {From : StoredFile → StoredFile → Type 0} (a b : NumberedFiles
 kept_as a b olds news n r g is = kept_revalued a b olds news n r ∙ ap (λ f. recounted (counted_tree_of a olds) n (record { file = f; nlink = r.value.nlink }) (map counted_volume_of news)) is
 
 -- no totals more
-pub totals_nothing : (cs : List CountedVolume) (place : ℕ) → with_totals cs place 0 0 ≡ cs
-totals_nothing [] place = refl
+pub totals_nothing : (cs : List CountedVolume) (index : ℕ) → with_totals cs index 0 0 ≡ cs
+totals_nothing [] index = refl
 totals_nothing (c ∷ cs) zero = ap (λ b. record { volume = c.volume; bytes = b; files = c.files + 0 } ∷ cs) (add-zero c.bytes) ∙ ap (λ n. record { volume = c.volume; bytes = c.bytes; files = n } ∷ cs) (add-zero c.files)
-totals_nothing (c ∷ cs) (suc place) = ap (λ l. c ∷ l) (totals_nothing cs place)
+totals_nothing (c ∷ cs) (suc index) = ap (λ l. c ∷ l) (totals_nothing cs index)

@@ -21,38 +21,38 @@ shown k n h e = at_shows (λ (a : CountedFile). a.file) n k.files ∙ ap (option
 
 -- ---- totals
 
-pub volumes_stay : (cs : List CountedVolume) (place b n : ℕ) → map (λ (c : CountedVolume). c.volume) (with_totals cs place b n) ≡ map (λ (c : CountedVolume). c.volume) cs
-volumes_stay [] place b n = refl
+pub volumes_stay : (cs : List CountedVolume) (index b n : ℕ) → map (λ (c : CountedVolume). c.volume) (with_totals cs index b n) ≡ map (λ (c : CountedVolume). c.volume) cs
+volumes_stay [] index b n = refl
 volumes_stay (c ∷ cs) zero b n = refl
-volumes_stay (c ∷ cs) (suc place) b n = ap (λ l. c.volume ∷ l) (volumes_stay cs place b n)
+volumes_stay (c ∷ cs) (suc index) b n = ap (λ l. c.volume ∷ l) (volumes_stay cs index b n)
 
 -- where a total after a change comes from
-record Before (cs : List CountedVolume) (place b n p : ℕ) (c : CountedVolume) : Type 0 where
+record Before (cs : List CountedVolume) (index b n p : ℕ) (c : CountedVolume) : Type 0 where
   was : CountedVolume
   at_was : slice_get cs p ≡ Some was
   volume : c.volume ≡ was.volume
-  here : p ≡ place → (c.bytes ≡ was.bytes + b) × (c.files ≡ was.files + n)
-  elsewhere : p ≢ place → (c.bytes ≡ was.bytes) × (c.files ≡ was.files)
+  here : p ≡ index → (c.bytes ≡ was.bytes + b) × (c.files ≡ was.files + n)
+  elsewhere : p ≢ index → (c.bytes ≡ was.bytes) × (c.files ≡ was.files)
 
-totals_back : (cs : List CountedVolume) (place b n p : ℕ) (c : CountedVolume) → slice_get (with_totals cs place b n) p ≡ Some c → Before cs place b n p c
-totals_back [] place b n p c e = absurd (not_both refl e)
+totals_back : (cs : List CountedVolume) (index b n p : ℕ) (c : CountedVolume) → slice_get (with_totals cs index b n) p ≡ Some c → Before cs index b n p c
+totals_back [] index b n p c e = absurd (not_both refl e)
 totals_back (a ∷ cs) zero b n zero c e =
     let same : record { volume = a.volume; bytes = a.bytes + b; files = a.files + n } ≡ c = same_some e in
     record { was = a; at_was = refl; volume = ap (λ (k : CountedVolume). k.volume) (sym same); here = λ s. (ap (λ (k : CountedVolume). k.bytes) (sym same), ap (λ (k : CountedVolume). k.files) (sym same)); elsewhere = λ o. absurd (o refl) }
 totals_back (a ∷ cs) zero b n (suc p) c e = record { was = c; at_was = e; volume = refl; here = λ s. absurd (let z : suc p ≡ 0 = s in omega (arith, z)); elsewhere = λ o. (refl, refl) }
-totals_back (a ∷ cs) (suc place) b n zero c e = let same : a ≡ c = same_some e in record { was = a; at_was = refl; volume = ap (λ (k : CountedVolume). k.volume) (sym same); here = λ s. absurd (let z : 0 ≡ suc place = s in omega (arith, z)); elsewhere = λ o. (ap (λ (k : CountedVolume). k.bytes) (sym same), ap (λ (k : CountedVolume). k.files) (sym same)) }
-totals_back (a ∷ cs) (suc place) b n (suc p) c e = let r = totals_back cs place b n p c e in
-    record { was = r.was; at_was = r.at_was; volume = r.volume; here = λ s. r.here (let z : suc p ≡ suc place = s in omega (arith, z)); elsewhere = λ o. r.elsewhere (λ s. o (ap suc s)) }
+totals_back (a ∷ cs) (suc index) b n zero c e = let same : a ≡ c = same_some e in record { was = a; at_was = refl; volume = ap (λ (k : CountedVolume). k.volume) (sym same); here = λ s. absurd (let z : 0 ≡ suc index = s in omega (arith, z)); elsewhere = λ o. (ap (λ (k : CountedVolume). k.bytes) (sym same), ap (λ (k : CountedVolume). k.files) (sym same)) }
+totals_back (a ∷ cs) (suc index) b n (suc p) c e = let r = totals_back cs index b n p c e in
+    record { was = r.was; at_was = r.at_was; volume = r.volume; here = λ s. r.here (let z : suc p ≡ suc index = s in omega (arith, z)); elsewhere = λ o. r.elsewhere (λ s. o (ap suc s)) }
 
 -- totals and limits after a change of the files
-pub totals_after : (k : CountedTree) (files : List (ℕ × File)) (place b n : ℕ) → Agrees k →
-    ((p : ℕ) → (p ≡ place → (bytes_of p files ≡ bytes_of p (files_in k.files) + b) × (files_of p files ≡ files_of p (files_in k.files) + n)) × (p ≢ place → (bytes_of p files ≡ bytes_of p (files_in k.files)) × (files_of p files ≡ files_of p (files_in k.files)))) →
-    (p : ℕ) (c : CountedVolume) → slice_get (with_totals k.volumes place b n) p ≡ Some c → IsCounted files p c × ((c.volume.max_bytes < 2 ^ 64) × (c.volume.max_files < 2 ^ 64))
-totals_after k files place b n keeps sums p c e =
-    let r = totals_back k.volumes place b n p c e in
+pub totals_after : (k : CountedTree) (files : List (ℕ × File)) (index b n : ℕ) → Agrees k →
+    ((p : ℕ) → (p ≡ index → (bytes_of p files ≡ bytes_of p (files_in k.files) + b) × (files_of p files ≡ files_of p (files_in k.files) + n)) × (p ≢ index → (bytes_of p files ≡ bytes_of p (files_in k.files)) × (files_of p files ≡ files_of p (files_in k.files)))) →
+    (p : ℕ) (c : CountedVolume) → slice_get (with_totals k.volumes index b n) p ≡ Some c → IsCounted files p c × ((c.volume.max_bytes < 2 ^ 64) × (c.volume.max_files < 2 ^ 64))
+totals_after k files index b n keeps sums p c e =
+    let r = totals_back k.volumes index b n p c e in
     let t = keeps.totals p r.was r.at_was in
     let told = sums p in (
-      by_number p place
+      by_number p index
           (λ s. let y = told.0 s in let z = r.here s in record { bytes = z.0 ∙ ap (λ m. m + b) t.bytes ∙ sym y.0; files = z.1 ∙ ap (λ m. m + n) t.files ∙ sym y.1 })
           (λ o. let y = told.1 o in let z = r.elsewhere o in record { bytes = z.0 ∙ t.bytes ∙ sym y.0; files = z.1 ∙ t.files ∙ sym y.1 }),
       subst (λ (v : Volume). (v.max_bytes < 2 ^ 64) × (v.max_files < 2 ^ 64)) (sym r.volume) (keeps.limits p r.was r.at_was),
@@ -61,7 +61,7 @@ totals_after k files place b n keeps sums p c e =
 -- ---- a new file
 
 abbrev pub counted_after_make : CountedTree → ℕ → CountedFile → CountedFile → ℕ → ℕ → CountedTree
-counted_after_make k d w new place size = record { files = with_at d w (k.files ++ (k.next, new) ∷ []); next = k.next + 1; key = k.key; volumes = with_totals k.volumes place size 1 }
+counted_after_make k d w new index size = record { files = with_at d w (k.files ++ (k.next, new) ∷ []); next = k.next + 1; key = k.key; volumes = with_totals k.volumes index size 1 }
 
 -- what is kept of directory d and of the new file
 pub record CountsNewFile (k : CountedTree) (d size : ℕ) (name : List ℕ) (now : Moment) (p w new : CountedFile) : Type 0 where
@@ -79,10 +79,10 @@ its_dir k d size name now p w new has = same_some (sym has.may.enter.at_dir.0 �
 files_made : (k : CountedTree) (d : ℕ) (w new : CountedFile) → files_in (with_at d w (k.files ++ (k.next, new) ∷ [])) ≡ (with_file (with_new_file (tree_in k) new.file) d w.file).files
 files_made k d w new = shows_with (λ (a : CountedFile). a.file) d w (k.files ++ (k.next, new) ∷ []) ∙ ap (with_at d w.file) (shows_push (λ (a : CountedFile). a.file) k.next new k.files)
 
-pub view_after_make : (k : CountedTree) (d size : ℕ) (name : List ℕ) (now : Moment) (p w new : CountedFile) (place : ℕ) → Law (tree_in k) → CountsNewFile k d size name now p w new → tree_in (counted_after_make k d w new place size) ≡ with_named_file (tree_in k) d name new.file now
-view_after_make k d size name now p w new place law has =
+pub view_after_make : (k : CountedTree) (d size : ℕ) (name : List ℕ) (now : Moment) (p w new : CountedFile) (index : ℕ) → Law (tree_in k) → CountsNewFile k d size name now p w new → tree_in (counted_after_make k d w new index size) ≡ with_named_file (tree_in k) d name new.file now
+view_after_make k d size name now p w new index law has =
     let t = tree_in k in
-    ap (λ vs. record { files = files_in (with_at d w (k.files ++ (k.next, new) ∷ [])); next = k.next + 1; key = k.key; volumes = vs }) (volumes_stay k.volumes place size 1)
+    ap (λ vs. record { files = files_in (with_at d w (k.files ++ (k.next, new) ∷ [])); next = k.next + 1; key = k.key; volumes = vs }) (volumes_stay k.volumes index size 1)
     ∙ ap (λ fs. record { files = fs; next = k.next + 1; key = k.key; volumes = t.volumes }) (files_made k d w new)
     ∙ ap (λ g. with_file (with_new_file t new.file) d g) has.entered
     ∙ sym (gained_is (with_new_file t new.file) d t.next now name p.file (stays t new.file d p.file law (shown k d p has.at_dir)))
@@ -145,18 +145,18 @@ links_made k d size name now p w new keeps has m h e =
     itself_named : (n m : ℕ) → m ≡ n → one_when (nat_eq n m) ≡ 1
     itself_named n m s = ap one_when (eq-eqb n m (sym s))
 
-pub agree_after_make : (k : CountedTree) (d size : ℕ) (name : List ℕ) (now : Moment) (p w new : CountedFile) (place : ℕ) → Agrees k → CountsNewFile k d size name now p w new → place ≡ p.file.volume → Agrees (counted_after_make k d w new place size)
-agree_after_make k d size name now p w new place keeps has is_place =
+pub agree_after_make : (k : CountedTree) (d size : ℕ) (name : List ℕ) (now : Moment) (p w new : CountedFile) (index : ℕ) → Agrees k → CountsNewFile k d size name now p w new → index ≡ p.file.volume → Agrees (counted_after_make k d w new index size)
+agree_after_make k d size name now p w new index keeps has is_place =
     let t = tree_in k in
     let law = keeps.law in
     let b : Tree = with_new_file t new.file in
     let g : File = entered p.file name k.next now in
     let files : files_in (with_at d w (k.files ++ (k.next, new) ∷ [])) ≡ (with_file b d g).files = files_made k d w new ∙ ap (λ f. (with_file b d f).files) has.entered in
-    let view = view_after_make k d size name now p w new place law has in
+    let view = view_after_make k d size name now p w new index law has in
     let dir : has.may.enter.dir ≡ p.file = its_dir k d size name now p w new has in
     let at_b : Lives b d p.file = stays t new.file d p.file law (shown k d p has.at_dir) in
-    let home : new.file.volume ≡ place = has.new_file.volume ∙ ap (λ (f : File). f.volume) dir ∙ sym is_place in
-    let after = totals_after k (with_file b d g).files place size 1 keeps (λ q.
+    let home : new.file.volume ≡ index = has.new_file.volume ∙ ap (λ (f : File). f.volume) dir ∙ sym is_place in
+    let after = totals_after k (with_file b d g).files index size 1 keeps (λ q.
     let same = bytes_changed b d p.file g at_b (entered_placed p.file name k.next now).volume q in
     let no_more : length (bytes_in g.kind) ≡ length (bytes_in p.file.kind) = ap length (entered_bytes p.file.kind name k.next) in
     let counted = count_changed b d p.file g at_b (entered_placed p.file name k.next now).volume q in

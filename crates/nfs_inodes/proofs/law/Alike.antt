@@ -33,7 +33,7 @@ pub record AreAlike (old new : Tree) : Type 0 where
   pub parents : (m : ℕ) → parent_of new.files m ≡ parent_of old.files m
   pub names : (m : ℕ) → names_of m new.files ≡ names_of m old.files
   pub directories : (e : Entry) → names_directory new.files e ≡ names_directory old.files e
-  pub count : (place : ℕ) → files_of place new.files ≡ files_of place old.files
+  pub count : (index : ℕ) → files_of index new.files ≡ files_of index old.files
 
 pub climb_alike : (old new : List (ℕ × File)) → ((m : ℕ) → parent_of new m ≡ parent_of old m) → (k m : ℕ) → climb k new m ≡ climb k old m
 climb_alike old new same zero m = refl
@@ -63,7 +63,7 @@ nlink_alike old new like n f g a = nlink_by (is_directory g.kind) (is_directory 
 pub not_root : (old new : Tree) (n : ℕ) → new.volumes ≡ old.volumes → (IsRoot new.volumes n → ⊥) → IsRoot old.volumes n → ⊥
 not_root old new n same free r = free (subst (λ vs. IsRoot vs n) (sym same) r)
 
-pub law_alike : (x : ℕ) (old new : Tree) → LawBut x old → AreAlike old new → ((m : ℕ) (h : File) → Lives new m h → IsSound h) → ((place : ℕ) (v : Volume) → slice_get new.volumes place ≡ Some v → bytes_of place new.files ≤ v.max_bytes) → LawBut x new
+pub law_alike : (x : ℕ) (old new : Tree) → LawBut x old → AreAlike old new → ((m : ℕ) (h : File) → Lives new m h → IsSound h) → ((index : ℕ) (v : Volume) → slice_get new.volumes index ≡ Some v → bytes_of index new.files ≤ v.max_bytes) → LawBut x new
 law_alike x old new law like sound bytes = record {
   numbers = like.numbers;
   rising = like.rising;
@@ -75,7 +75,7 @@ law_alike x old new law like sound bytes = record {
       let g = like.forth e.number l.0 l.1 in
       (g.0, g.1, g.2.placed.volume ∙ l.2 ∙ sym b.2.placed.volume);
   absent = λ n e. like.names n ∙ law.absent n (none_from (at n old.files) (λ f g. not_both e (like.forth n f g).1));
-  roots = λ place v e. let l = law.roots place v (subst (λ vs. slice_get vs place ≡ Some v) like.volumes e) in
+  roots = λ index v e. let l = law.roots index v (subst (λ vs. slice_get vs index ≡ Some v) like.volumes e) in
       let h = like.forth v.root l.0 l.1.0 in
       (h.0, (h.1, h.2.placed.directory ∙ l.1.1), h.2.placed.parent ∙ l.2, h.2.placed.volume ∙ l.3, like.names v.root ∙ l.4);
   once = λ n h other dir free. let b = like.back n h dir.0 in
@@ -100,7 +100,7 @@ law_alike x old new law like sound bytes = record {
       subst (λ k. k ≤ 1000) (sym (nlink_alike old new like n b.0 h b.2)) (law.links n b.0 b.1);
   volumes = subst AreVolumes (sym like.volumes) law.volumes;
   bytes = bytes;
-  count = λ place v e. subst (λ k. k ≤ v.max_files) (sym (like.count place)) (law.count place v (subst (λ vs. slice_get vs place ≡ Some v) like.volumes e));
+  count = λ index v e. subst (λ k. k ≤ v.max_files) (sym (like.count index)) (law.count index v (subst (λ vs. slice_get vs index ≡ Some v) like.volumes e));
 }
 
 pub placed_itself : (f : File) → Placed f f
@@ -123,11 +123,11 @@ directory_changed t n f g at_n same e = by_number e.number n
     ∙ same ∙ sym (ap (λ o. on_some o false (λ k. is_directory k.kind)) (ap (λ k. at k t.files) s ∙ at_n)))
     (λ o. ap (λ o. on_some o false (λ k. is_directory k.kind)) (at_with_other n e.number g t.files o))
 
-pub one_for_same : (place : ℕ) (f g : File) → g.volume ≡ f.volume → one_for place g ≡ one_for place f
-one_for_same place f g e = ap (λ k. one_when (nat_eq k place)) e
+pub one_for_same : (index : ℕ) (f g : File) → g.volume ≡ f.volume → one_for index g ≡ one_for index f
+one_for_same index f g e = ap (λ k. one_when (nat_eq k index)) e
 
-pub count_changed : (t : Tree) (n : ℕ) (f g : File) → Lives t n f → g.volume ≡ f.volume → (place : ℕ) → files_of place (with_file t n g).files ≡ files_of place t.files
-count_changed t n f g at_n same place = let s = sum_with (one_for place) n f g t.files at_n in let e = one_for_same place f g same in omega (arith, s, e)
+pub count_changed : (t : Tree) (n : ℕ) (f g : File) → Lives t n f → g.volume ≡ f.volume → (index : ℕ) → files_of index (with_file t n g).files ≡ files_of index t.files
+count_changed t n f g at_n same index = let s = sum_with (one_for index) n f g t.files at_n in let e = one_for_same index f g same in omega (arith, s, e)
 
 pub one_alike : (t : Tree) (n : ℕ) (f g : File) → AreRising 0 t.files t.next → IsNumbered (numbered_files t) → Lives t n f → Alike f g → AreAlike t (with_file t n g)
 one_alike t n f g rising numbers at_n like = record {
@@ -149,18 +149,18 @@ one_alike t n f g rising numbers at_n like = record {
   count = count_changed t n f g at_n like.placed.volume;
 }
 
-pub bytes_here : (place : ℕ) (f : File) → f.volume ≡ place → bytes_for place f ≡ length (bytes_in f.kind)
-bytes_here place f s = if_true _ _ (eq-eqb f.volume place s)
+pub bytes_here : (index : ℕ) (f : File) → f.volume ≡ index → bytes_for index f ≡ length (bytes_in f.kind)
+bytes_here index f s = if_true _ _ (eq-eqb f.volume index s)
 
-pub bytes_elsewhere : (place : ℕ) (f : File) → f.volume ≢ place → bytes_for place f ≡ 0
-bytes_elsewhere place f o = by_test (nat_eq f.volume place) (λ t. absurd (o (eqb-true f.volume place t))) (λ n. if_false _ _ n)
+pub bytes_elsewhere : (index : ℕ) (f : File) → f.volume ≢ index → bytes_for index f ≡ 0
+bytes_elsewhere index f o = by_test (nat_eq f.volume index) (λ t. absurd (o (eqb-true f.volume index t))) (λ n. if_false _ _ n)
 
 -- the bytes of a volume after a change of a file's bytes
-pub bytes_changed : (t : Tree) (n : ℕ) (f g : File) → Lives t n f → g.volume ≡ f.volume → (place : ℕ) →
-    (f.volume ≡ place → bytes_of place (with_file t n g).files + length (bytes_in f.kind) ≡ bytes_of place t.files + length (bytes_in g.kind)) × (f.volume ≢ place → bytes_of place (with_file t n g).files ≡ bytes_of place t.files)
-bytes_changed t n f g at_n same place = let s = sum_with (bytes_for place) n f g t.files at_n in (
-  λ h. let a = bytes_here place f h in let b = bytes_here place g (same ∙ h) in omega (arith, s, a, b),
-  λ o. let a = bytes_elsewhere place f o in let b = bytes_elsewhere place g (λ q. o (sym same ∙ q)) in omega (arith, s, a, b),
+pub bytes_changed : (t : Tree) (n : ℕ) (f g : File) → Lives t n f → g.volume ≡ f.volume → (index : ℕ) →
+    (f.volume ≡ index → bytes_of index (with_file t n g).files + length (bytes_in f.kind) ≡ bytes_of index t.files + length (bytes_in g.kind)) × (f.volume ≢ index → bytes_of index (with_file t n g).files ≡ bytes_of index t.files)
+bytes_changed t n f g at_n same index = let s = sum_with (bytes_for index) n f g t.files at_n in (
+  λ h. let a = bytes_here index f h in let b = bytes_here index g (same ∙ h) in omega (arith, s, a, b),
+  λ o. let a = bytes_elsewhere index f o in let b = bytes_elsewhere index g (λ q. o (sym same ∙ q)) in omega (arith, s, a, b),
 )
 
 -- the volume of file f has room for the bytes of g in its place
@@ -172,12 +172,12 @@ pub record HasRoom (t : Tree) (f g : File) : Type 0 where
 pub law_with_file : (x : ℕ) (t : Tree) (n : ℕ) (f g : File) → LawBut x t → Lives t n f → Alike f g → IsSound g → HasRoom t f g → LawBut x (with_file t n g)
 law_with_file x t n f g law at_n like sound has = law_alike x t (with_file t n g) law (one_alike t n f g law.rising law.numbers at_n like)
     (λ m h e. with_back n m f g h t.files at_n e (λ s is. subst IsSound is sound) (λ o was. law.sound m h was))
-    (λ place v e. let told = bytes_changed t n f g at_n like.placed.volume place in by_number f.volume place
+    (λ index v e. let told = bytes_changed t n f g at_n like.placed.volume index in by_number f.volume index
     (λ s. let same : has.volume ≡ v = same_some (sym has.at_volume ∙ ap (slice_get t.volumes) s ∙ e) in
     let limit : has.volume.max_bytes ≡ v.max_bytes = ap (λ (k : Volume). k.max_bytes) same in
-    let sums : bytes_of f.volume t.files ≡ bytes_of place t.files = ap (λ k. bytes_of k t.files) s in
+    let sums : bytes_of f.volume t.files ≡ bytes_of index t.files = ap (λ k. bytes_of k t.files) s in
     let now = told.0 s in let room = has.room in omega (arith, limit, sums, now, room))
-    (λ o. let was = law.bytes place v e in let now = told.1 o in omega (arith, was, now)))
+    (λ o. let was = law.bytes index v e in let now = told.1 o in omega (arith, was, now)))
 
 -- where a file has as many bytes as before, there is room
 pub room_same : (x : ℕ) (t : Tree) (n : ℕ) (f g : File) → LawBut x t → Lives t n f → bytes_in g.kind ≡ bytes_in f.kind → HasRoom t f g

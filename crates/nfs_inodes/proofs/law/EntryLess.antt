@@ -94,7 +94,7 @@ pub record HasLess (lost : Entry) (old new : Tree) : Type 0 where
   pub forth : (m : ℕ) (f : File) → Lives old m f → (h : File) × Lives new m h × Placed f h × ((e : Entry) → Contains (entries_in f.kind) e → Contains (entries_in h.kind) e ⊎ (lost ≡ e))
   pub parents : (m : ℕ) → parent_of new.files m ≡ parent_of old.files m
   pub names : (m : ℕ) → names_of m new.files + one_when (nat_eq lost.number m) ≡ names_of m old.files
-  pub count : (place : ℕ) → files_of place new.files ≡ files_of place old.files
+  pub count : (index : ℕ) → files_of index new.files ≡ files_of index old.files
 
 pub law_less : (lost : Entry) (old new : Tree) → Law old → HasLess lost old new → FitsAfter new → LawBut lost.number new
 law_less lost old new law less fits = record {
@@ -111,7 +111,7 @@ law_less lost old new law less fits = record {
       let was = law.absent m (none_from (at m old.files) (λ f g. not_both e (less.forth m f g).1)) in
       let told = less.names m in
       omega (arith, was, told);
-  roots = λ place v e. let l = law.roots place v (subst (λ vs. slice_get vs place ≡ Some v) less.volumes e) in
+  roots = λ index v e. let l = law.roots index v (subst (λ vs. slice_get vs index ≡ Some v) less.volumes e) in
       let h = less.forth v.root l.0 l.1.0 in
       let told = less.names v.root in
       let none = l.4 in
@@ -150,5 +150,5 @@ law_less lost old new law less fits = record {
   links = fits.links;
   volumes = subst AreVolumes (sym less.volumes) law.volumes;
   bytes = fits.bytes;
-  count = λ place v e. subst (λ k. k ≤ v.max_files) (sym (less.count place)) (law.count place v (subst (λ vs. slice_get vs place ≡ Some v) less.volumes e));
+  count = λ index v e. subst (λ k. k ≤ v.max_files) (sym (less.count index)) (law.count index v (subst (λ vs. slice_get vs index ≡ Some v) less.volumes e));
 }

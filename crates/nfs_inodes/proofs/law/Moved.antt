@@ -150,8 +150,8 @@ module _ (t : Tree) (n d : ℕ) (now : Moment) (f : File) (at_n : Lives t n f) w
           let k = forth e.number l.0 l.1 in
           (k.0, k.1, k.2.volume ∙ l.2 ∙ sym b.2.volume);
       absent = λ m e. names_moved m ∙ law.absent m (none_from (at m t.files) (λ h is. not_both e (forth m h is).1));
-      roots = λ place v e. let l = law.roots place v e in
-          (l.0, (at_with_other n v.root g t.files (λ s. may.free (place, v, e, s)) ∙ l.1.0, l.1.1), l.2, l.3, names_moved v.root ∙ l.4);
+      roots = λ index v e. let l = law.roots index v e in
+          (l.0, (at_with_other n v.root g t.files (λ s. may.free (index, v, e, s)) ∙ l.1.0, l.1.1), l.2, l.3, names_moved v.root ∙ l.4);
       once = λ m h other dir free. names_moved m ∙ law.once m h other (was_there m h other dir.0, dir.1) free;
       parents = λ a h e k at_a in_h dir. let b = back a h at_a in
           let in_b = subst (λ es. Contains es e) b.2.entries in_h in
@@ -171,11 +171,11 @@ module _ (t : Tree) (n d : ℕ) (now : Moment) (f : File) (at_n : Lives t n f) w
       named = λ m h other at_m dir. subst (λ k. 1 ≤ k) (sym (names_moved m)) (law.named m h other (was_there m h other at_m) dir);
       links = λ m h e. let b = back m h e in subst (λ k. k ≤ 1000) (sym (nlink_moved m b.0 h b.2)) (law.links m b.0 b.1);
       volumes = law.volumes;
-      bytes = λ place v e. let told = bytes_changed t n f g at_n like.volume place in
-          let was = law.bytes place v e in
+      bytes = λ index v e. let told = bytes_changed t n f g at_n like.volume index in
+          let was = law.bytes index v e in
           let same : length (bytes_in g.kind) ≡ length (bytes_in f.kind) = ap length like.bytes in
-          by_number f.volume place (λ s. let y = told.0 s in omega (arith, was, same, y)) (λ o. let z = told.1 o in omega (arith, was, z));
-      count = λ place v e. subst (λ k. k ≤ v.max_files) (sym (count_changed t n f g at_n like.volume place)) (law.count place v e);
+          by_number f.volume index (λ s. let y = told.0 s in omega (arith, was, same, y)) (λ o. let z = told.1 o in omega (arith, was, z));
+      count = λ index v e. subst (λ k. k ≤ v.max_files) (sym (count_changed t n f g at_n like.volume index)) (law.count index v e);
     }
 
 pub law_moved : (t : Tree) (n d : ℕ) (now : Moment) (f : File) → LawBut n t → MayMove t n d f → LawBut n (with_file t n (moved_to f d now))

@@ -24,7 +24,7 @@ fresh_sound f d size fresh mode large = let long = fresh.bytes in record {
 }
 
 -- a new file in directory d is as it has to be
-pub new_here : (t : Tree) (d size : ℕ) (name : List ℕ) (k : Kind) (given : NewFile) (f : File) (may : MayMake t d name size) → f.kind ≡ k → f.volume ≡ changes.volume_of t d → f.mode ≡ given.mode % 4096 → f.tag < 2 ^ 32 → IsFresh d size k → IsNew d size may.enter.dir f
+pub new_here : (t : Tree) (d size : ℕ) (name : List ℕ) (k : Kind) (given : NewFile) (f : File) (may : MayMake t d name size) → f.kind ≡ k → f.volume ≡ changes.volume_index t d → f.mode ≡ given.mode % 4096 → f.tag < 2 ^ 32 → IsFresh d size k → IsNew d size may.enter.dir f
 new_here t d size name k given f may kind volume mode fits fresh = record {
   tag = fits;
   sound = fresh_sound f d size (subst (IsFresh d size) (sym kind) fresh) (subst (λ m. m < 4096) (sym mode) (low_bits given.mode)) may.large;
@@ -77,17 +77,17 @@ may_be_founded t path max_bytes max_files tag given now f may fits is =
 
 pub law_after_make_file : (t : Tree) (d tag : ℕ) (name bytes : List ℕ) (given : NewFile) (verifier : Option (List ℕ)) (now : Moment) → MayMake t d name (length bytes) → tag < 2 ^ 32 → Law t → Law (after_make_file t d name bytes given verifier tag now)
 law_after_make_file t d tag name bytes given verifier now may fits law =
-    let f = new_file (changes.volume_of t d) (Regular bytes) given verifier tag now in
+    let f = new_file (changes.volume_index t d) (Regular bytes) given verifier tag now in
     law_with_named_file t d (length bytes) name f now may law (new_here t d (length bytes) name (Regular bytes) given f may refl refl refl fits (fresh_file d bytes)) impossible
 
 pub law_after_make_dir : (t : Tree) (d tag : ℕ) (name : List ℕ) (given : NewFile) (now : Moment) → MayMakeDirectory t d name → tag < 2 ^ 32 → Law t → Law (after_make_dir t d name given tag now)
 law_after_make_dir t d tag name given now may fits law =
-    let f = new_file (changes.volume_of t d) (Directory d 3 []) given None tag now in
+    let f = new_file (changes.volume_index t d) (Directory d 3 []) given None tag now in
     law_with_named_file t d 0 name f now may.make law (new_here t d 0 name (Directory d 3 []) given f may.make refl refl refl fits (fresh_directory d)) (λ y. may.links)
 
 pub law_after_make_link : (t : Tree) (d tag : ℕ) (name path : List ℕ) (given : NewFile) (now : Moment) → MayMakeLink t d name path → tag < 2 ^ 32 → Law t → Law (after_make_link t d name path given tag now)
 law_after_make_link t d tag name path given now may fits law =
-    let f = new_file (changes.volume_of t d) (Link path) given None tag now in
+    let f = new_file (changes.volume_index t d) (Link path) given None tag now in
     law_with_named_file t d 0 name f now may.make law (new_here t d 0 name (Link path) given f may.make refl refl refl fits (fresh_link d path may.long)) impossible
 
 pub law_after_add_volume : (t : Tree) (max_bytes max_files tag : ℕ) (path : List ℕ) (given : NewFile) (now : Moment) → MayAddVolume t path max_files → tag < 2 ^ 32 → Law t → Law (after_add_volume t path max_bytes max_files given tag now)

@@ -26,7 +26,7 @@ pub record HasMore (d : ℕ) (new_entry : Entry) (old new : Tree) : Type 0 where
   pub there : (h : File) × Lives new d h × Contains (entries_in h.kind) new_entry
   pub parents : (m : ℕ) → parent_of new.files m ≡ parent_of old.files m
   pub names : (m : ℕ) → names_of m new.files ≡ names_of m old.files + one_when (nat_eq new_entry.number m)
-  pub count : (place : ℕ) → files_of place new.files ≡ files_of place old.files
+  pub count : (index : ℕ) → files_of index new.files ≡ files_of index old.files
 
 -- when an entry of this name in d may name n
 pub record MayGain (x : ℕ) (t : Tree) (d : ℕ) (name : List ℕ) (n : ℕ) : Type 0 where
@@ -52,7 +52,7 @@ one_same m e s = ap one_when (eq-eqb e.number m (sym s))
 pub record FitsAfter (new : Tree) : Type 0 where
   pub sound : (m : ℕ) (h : File) → Lives new m h → IsSound h
   pub links : (m : ℕ) (h : File) → Lives new m h → nlink new.files m h ≤ 1000
-  pub bytes : (place : ℕ) (v : Volume) → slice_get new.volumes place ≡ Some v → bytes_of place new.files ≤ v.max_bytes
+  pub bytes : (index : ℕ) (v : Volume) → slice_get new.volumes index ≡ Some v → bytes_of index new.files ≤ v.max_bytes
 
 pub law_more : (x d n : ℕ) (name : List ℕ) (cookie : ℕ) (old new : Tree) → LawBut x old → HasMore d (record { cookie = cookie; name = name; number = n }) old new → MayGain x old d name n → FitsAfter new → LawBut 0 new
 law_more x d n name cookie old new law more may fits =
@@ -76,10 +76,10 @@ law_more x d n name cookie old new law more may fits =
           let o = one_other m e0 (λ s. not_both e ((more.forth m may.file (ap (λ k. at k old.files) s ∙ may.at_file)).1)) in
           let told = more.names m in
           omega (arith, was, o, told);
-      roots = λ place v e. let was = subst (λ vs. slice_get vs place ≡ Some v) more.volumes e in
-          let l = law.roots place v was in
+      roots = λ index v e. let was = subst (λ vs. slice_get vs index ≡ Some v) more.volumes e in
+          let l = law.roots index v was in
           let h = more.forth v.root l.0 l.1.0 in
-          let apart : v.root ≢ e0.number = λ q. may.free (place, v, was, q) in
+          let apart : v.root ≢ e0.number = λ q. may.free (index, v, was, q) in
           let none = one_other v.root e0 apart in
           let told = more.names v.root in
           let zero_names = l.4 in
@@ -123,7 +123,7 @@ law_more x d n name cookie old new law more may fits =
       links = fits.links;
       volumes = subst AreVolumes (sym more.volumes) law.volumes;
       bytes = fits.bytes;
-      count = λ place v e. subst (λ k. k ≤ v.max_files) (sym (more.count place)) (law.count place v (subst (λ vs. slice_get vs place ≡ Some v) more.volumes e));
+      count = λ index v e. subst (λ k. k ≤ v.max_files) (sym (more.count index)) (law.count index v (subst (λ vs. slice_get vs index ≡ Some v) more.volumes e));
     }
 
 -- ---- a directory with one entry more
@@ -281,8 +281,8 @@ law_with_entry x t d n now name law may =
           (λ s is. subst IsSound is (entered_sound may.dir name n now may.at_dir.1 (law.sound d may.dir may.at_dir.0) may.is_name may.fresh))
           (λ o was. law.sound m h was);
       links = links_after x t d n now name law may;
-      bytes = λ place v e. let told = bytes_changed t d may.dir g may.at_dir.0 placed.volume place in
-          let was = law.bytes place v e in
+      bytes = λ index v e. let told = bytes_changed t d may.dir g may.at_dir.0 placed.volume index in
+          let was = law.bytes index v e in
           let same : length (bytes_in g.kind) ≡ length (bytes_in may.dir.kind) = ap length (entered_bytes may.dir.kind name n) in
-          by_number may.dir.volume place (λ s. let y = told.0 s in omega (arith, was, same, y)) (λ o. let z = told.1 o in omega (arith, was, z));
+          by_number may.dir.volume index (λ s. let y = told.0 s in omega (arith, was, same, y)) (λ o. let z = told.1 o in omega (arith, was, z));
     }))

@@ -98,16 +98,16 @@ pub record MayBeBorn (t : Tree) (f : File) : Type 0 where
   pub bytes : bytes_of f.volume t.files + length (bytes_in f.kind) ≤ volume.max_bytes
   pub count : files_of f.volume t.files + 1 ≤ volume.max_files
 
-pub bytes_born : (t : Tree) (f : File) (place : ℕ) → (f.volume ≡ place → bytes_of place (with_new_file t f).files ≡ bytes_of place t.files + length (bytes_in f.kind)) × (f.volume ≢ place → bytes_of place (with_new_file t f).files ≡ bytes_of place t.files)
-bytes_born t f place = let s = sum_push (bytes_for place) t.next f t.files in (
-  λ h. let a = bytes_here place f h in omega (arith, s, a),
-  λ o. let a = bytes_elsewhere place f o in omega (arith, s, a),
+pub bytes_born : (t : Tree) (f : File) (index : ℕ) → (f.volume ≡ index → bytes_of index (with_new_file t f).files ≡ bytes_of index t.files + length (bytes_in f.kind)) × (f.volume ≢ index → bytes_of index (with_new_file t f).files ≡ bytes_of index t.files)
+bytes_born t f index = let s = sum_push (bytes_for index) t.next f t.files in (
+  λ h. let a = bytes_here index f h in omega (arith, s, a),
+  λ o. let a = bytes_elsewhere index f o in omega (arith, s, a),
 )
 
-pub files_born : (t : Tree) (f : File) (place : ℕ) → (f.volume ≡ place → files_of place (with_new_file t f).files ≡ files_of place t.files + 1) × (f.volume ≢ place → files_of place (with_new_file t f).files ≡ files_of place t.files)
-files_born t f place = let s = sum_push (one_for place) t.next f t.files in (
-  λ h. let a : one_for place f ≡ 1 = ap one_when (eq-eqb f.volume place h) in omega (arith, s, a),
-  λ o. let a : one_for place f ≡ 0 = by_test (nat_eq f.volume place) (λ t. absurd (o (eqb-true f.volume place t))) (λ z. ap one_when z) in omega (arith, s, a),
+pub files_born : (t : Tree) (f : File) (index : ℕ) → (f.volume ≡ index → files_of index (with_new_file t f).files ≡ files_of index t.files + 1) × (f.volume ≢ index → files_of index (with_new_file t f).files ≡ files_of index t.files)
+files_born t f index = let s = sum_push (one_for index) t.next f t.files in (
+  λ h. let a : one_for index f ≡ 1 = ap one_when (eq-eqb f.volume index h) in omega (arith, s, a),
+  λ o. let a : one_for index f ≡ 0 = by_test (nat_eq f.volume index) (λ t. absurd (o (eqb-true f.volume index t))) (λ z. ap one_when z) in omega (arith, s, a),
 )
 
 pub law_with_new_file : (t : Tree) (f : File) → Law t → MayBeBorn t f → LawBut t.next (with_new_file t f)
@@ -125,7 +125,7 @@ law_with_new_file t f law may =
       absent = λ n e. names n ∙ by_number n t.next
           (λ s. law.absent n (ap (λ k. at k t.files) s ∙ free))
           (λ o. law.absent n (sym (at_push_other t.next n f t.files o) ∙ e));
-      roots = λ place v e. let l = law.roots place v e in (l.0, (stays t f v.root l.0 law l.1.0, l.1.1), l.2, l.3, names v.root ∙ l.4);
+      roots = λ index v e. let l = law.roots index v e in (l.0, (stays t f v.root l.0 law l.1.0, l.1.1), l.2, l.3, names v.root ∙ l.4);
       once = λ n h other dir root. push_back t.next n f h t.files free dir.0
           (λ s is. absurd (other s))
           (λ o was. names n ∙ law.once n h (live_some t n h law was) (was, dir.1) root);
@@ -151,18 +151,18 @@ law_with_new_file t f law may =
           (λ o was. subst (λ k. 1 ≤ k) (sym (names n)) (law.named n h (live_some t n h law was) was dir));
       links = links_born t f law may.empty;
       volumes = law.volumes;
-      bytes = λ place v e. let told = bytes_born t f place in by_number f.volume place
+      bytes = λ index v e. let told = bytes_born t f index in by_number f.volume index
           (λ s. let same : may.volume ≡ v = same_some (sym may.at_volume ∙ ap (slice_get t.volumes) s ∙ e) in
           let limit : may.volume.max_bytes ≡ v.max_bytes = ap (λ (k : Volume). k.max_bytes) same in
-          let sums : bytes_of f.volume t.files ≡ bytes_of place t.files = ap (λ k. bytes_of k t.files) s in
+          let sums : bytes_of f.volume t.files ≡ bytes_of index t.files = ap (λ k. bytes_of k t.files) s in
           let now = told.0 s in let room = may.bytes in omega (arith, limit, sums, now, room))
-          (λ o. let was = law.bytes place v e in let now = told.1 o in omega (arith, was, now));
-      count = λ place v e. let told = files_born t f place in by_number f.volume place
+          (λ o. let was = law.bytes index v e in let now = told.1 o in omega (arith, was, now));
+      count = λ index v e. let told = files_born t f index in by_number f.volume index
           (λ s. let same : may.volume ≡ v = same_some (sym may.at_volume ∙ ap (slice_get t.volumes) s ∙ e) in
           let limit : may.volume.max_files ≡ v.max_files = ap (λ (k : Volume). k.max_files) same in
-          let sums : files_of f.volume t.files ≡ files_of place t.files = ap (λ k. files_of k t.files) s in
+          let sums : files_of f.volume t.files ≡ files_of index t.files = ap (λ k. files_of k t.files) s in
           let now = told.0 s in let room = may.count in omega (arith, limit, sums, now, room))
-          (λ o. let was = law.count place v e in let now = told.1 o in omega (arith, was, now));
+          (λ o. let was = law.count index v e in let now = told.1 o in omega (arith, was, now));
     }
 
 -- ---- a new volume
@@ -198,7 +198,7 @@ pub law_with_new_volume : (t : Tree) (v : Volume) (f : File) → Law t → MayBe
 law_with_new_volume t v f law may =
     let free = next_free t law in
     let names = names_born t f may.empty in
-    let old : (place : ℕ) (w : Volume) → slice_get t.volumes place ≡ Some w → slice_get (t.volumes ++ v ∷ []) place ≡ Some w = λ place w e. get_push_old t.volumes v w place e in
+    let old : (index : ℕ) (w : Volume) → slice_get t.volumes index ≡ Some w → slice_get (t.volumes ++ v ∷ []) index ≡ Some w = λ index w e. get_push_old t.volumes v w index e in
     let its_root : (n : ℕ) → n ≡ t.next → IsRoot (t.volumes ++ v ∷ []) n = λ n s. (length t.volumes, v, get_push_new t.volumes v, may.root ∙ sym s) in
     let older_root : (n : ℕ) → (IsRoot (t.volumes ++ v ∷ []) n → ⊥) → IsRoot t.volumes n → ⊥ = λ n no r. no (r.0, r.1, old r.0 r.1 r.2, r.3) in
     let its_volume : (n : ℕ) (h : File) → f ≡ h → slice_get (t.volumes ++ v ∷ []) h.volume ≡ Some v = λ n h is. ap (slice_get (t.volumes ++ v ∷ [])) (ap (λ (k : File). k.volume) (sym is) ∙ may.volume) ∙ get_push_new t.volumes v in
@@ -214,8 +214,8 @@ law_with_new_volume t v f law may =
       absent = λ n e. names n ∙ by_number n t.next
           (λ s. law.absent n (ap (λ k. at k t.files) s ∙ free))
           (λ o. law.absent n (sym (at_push_other t.next n f t.files o) ∙ e));
-      roots = λ place w e. elim (get_push t.volumes v w place e) [
-        | inl was ↦ let l = law.roots place w was in (l.0, (stays t f w.root l.0 law l.1.0, l.1.1), l.2, l.3, names w.root ∙ l.4)
+      roots = λ index w e. elim (get_push t.volumes v w index e) [
+        | inl was ↦ let l = law.roots index w was in (l.0, (stays t f w.root l.0 law l.1.0, l.1.1), l.2, l.3, names w.root ∙ l.4)
         | inr is ↦ let here : w.root ≡ t.next = ap (λ (k : Volume). k.root) (sym is.1) ∙ may.root in
             (f, (ap (λ k. at k (with_new_file t f).files) here ∙ new_lives t f law, may.is_dir), may.parent ∙ sym here, may.volume ∙ sym is.0, names w.root ∙ ap (λ k. names_of k t.files) here ∙ law.absent t.next free)
       ];
@@ -244,18 +244,18 @@ law_with_new_volume t v f law may =
         paths = All-push (λ (w : Volume). length w.path ≤ 255) t.volumes v law.volumes.paths may.path;
         apart = all_pairs_push (λ (w u : Volume). w.path ≢ u.path) t.volumes v law.volumes.apart may.fresh;
       };
-      bytes = λ place w e. let told = bytes_born t f place in elim (get_push t.volumes v w place e) [
-        | inl was ↦ let low = slice_get_within t.volumes place w was in
-            let now = told.1 (λ s. let k = may.volume in omega (arith, k, s, low)) in let l = law.bytes place w was in omega (arith, l, now)
+      bytes = λ index w e. let told = bytes_born t f index in elim (get_push t.volumes v w index e) [
+        | inl was ↦ let low = slice_get_within t.volumes index w was in
+            let now = told.1 (λ s. let k = may.volume in omega (arith, k, s, low)) in let l = law.bytes index w was in omega (arith, l, now)
         | inr is ↦ let now = told.0 (may.volume ∙ sym is.0) in
-            let none : bytes_of place t.files ≡ 0 = ap (λ k. bytes_of k t.files) is.0 ∙ no_bytes_yet t law in
+            let none : bytes_of index t.files ≡ 0 = ap (λ k. bytes_of k t.files) is.0 ∙ no_bytes_yet t law in
             let zero_bytes : length (bytes_in f.kind) ≡ 0 = ap length may.no_bytes in omega (arith, now, none, zero_bytes)
       ];
-      count = λ place w e. let told = files_born t f place in elim (get_push t.volumes v w place e) [
-        | inl was ↦ let low = slice_get_within t.volumes place w was in
-            let now = told.1 (λ s. let k = may.volume in omega (arith, k, s, low)) in let l = law.count place w was in omega (arith, l, now)
+      count = λ index w e. let told = files_born t f index in elim (get_push t.volumes v w index e) [
+        | inl was ↦ let low = slice_get_within t.volumes index w was in
+            let now = told.1 (λ s. let k = may.volume in omega (arith, k, s, low)) in let l = law.count index w was in omega (arith, l, now)
         | inr is ↦ let now = told.0 (may.volume ∙ sym is.0) in
-            let none : files_of place t.files ≡ 0 = ap (λ k. files_of k t.files) is.0 ∙ no_files_yet t law in
+            let none : files_of index t.files ≡ 0 = ap (λ k. files_of k t.files) is.0 ∙ no_files_yet t law in
             let limit : v.max_files ≡ w.max_files = ap (λ (k : Volume). k.max_files) is.1 in
             let some = may.files in omega (arith, now, none, limit, some)
       ];

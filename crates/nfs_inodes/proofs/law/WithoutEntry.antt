@@ -147,8 +147,8 @@ law_without_entry t d now name f lost law at_d found =
           (λ o old. let told = nlink_less_elsewhere t d now name f lost law.rising at_d.0 apart found m h in
           let was = law.links m h old in
           by_test (is_directory h.kind) (λ y. let a = told.0 y in omega (arith, a, was)) (λ z. let a = told.1 z in omega (arith, a, was)));
-      bytes = λ place v e. let told = bytes_changed t d f g at_d.0 (left_placed f name now).volume place in
-          let was = law.bytes place v e in
+      bytes = λ index v e. let told = bytes_changed t d f g at_d.0 (left_placed f name now).volume index in
+          let was = law.bytes index v e in
           let same : length (bytes_in g.kind) ≡ length (bytes_in f.kind) = ap length (left_bytes f.kind name) in
-          by_number f.volume place (λ s. let y = told.0 s in omega (arith, was, same, y)) (λ o. let z = told.1 o in omega (arith, was, z));
+          by_number f.volume index (λ s. let y = told.0 s in omega (arith, was, same, y)) (λ o. let z = told.1 o in omega (arith, was, z));
     })

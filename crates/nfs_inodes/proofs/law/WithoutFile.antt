@@ -40,9 +40,9 @@ root_or_not (v ∷ vs) n = by_number v.root n
       | inr none ↦ inr (λ r. behind v vs n o none r.0 r.1 r.2 r.3)
     ])
   where
-    behind : (v : Volume) (vs : List Volume) (n : ℕ) → v.root ≢ n → (IsRoot vs n → ⊥) → (place : ℕ) (w : Volume) → slice_get (v ∷ vs) place ≡ Some w → w.root ≡ n → ⊥
+    behind : (v : Volume) (vs : List Volume) (n : ℕ) → v.root ≢ n → (IsRoot vs n → ⊥) → (index : ℕ) (w : Volume) → slice_get (v ∷ vs) index ≡ Some w → w.root ≡ n → ⊥
     behind v vs n o none zero w e s = o (ap (λ (k : Volume). k.root) (same_some e) ∙ s)
-    behind v vs n o none (suc place) w e s = none (place, w, e, s)
+    behind v vs n o none (suc index) w e s = none (index, w, e, s)
 
 -- of the other files what they are, their ways and their links stay
 pub record LeavesOthers (n : ℕ) (old new : Tree) : Type 0 where
@@ -117,8 +117,8 @@ module _ (t : Tree) (n : ℕ) (law : LawBut n t) (may : MayBeRemoved t n) where
     absent = λ m e. names_gone m ∙ by_number m n
         (λ s. ap (λ k. names_of k t.files) s ∙ may.unnamed)
         (λ o. law.absent m (sym (at_without_other n m t.files o) ∙ e));
-    roots = λ place v e. let l = law.roots place v e in
-        (l.0, (stays v.root l.0 (λ s. may.free (place, v, e, s)) l.1.0, l.1.1), l.2, l.3, names_gone v.root ∙ l.4);
+    roots = λ index v e. let l = law.roots index v e in
+        (l.0, (stays v.root l.0 (λ s. may.free (index, v, e, s)) l.1.0, l.1.1), l.2, l.3, names_gone v.root ∙ l.4);
     once = λ m h other dir free. let b = back m h dir.0 in names_gone m ∙ law.once m h b.0 (b.1, dir.1) free;
     parents = λ d h e g at_d in_h dir. law.parents d h e g (back d h at_d).1 in_h ((back e.number g dir.0).1, dir.1);
     stands = λ m h other dir free. let b = back m h dir.0 in let l = law.stands m h b.0 (b.1, dir.1) free in
@@ -130,8 +130,8 @@ module _ (t : Tree) (n : ℕ) (law : LawBut n t) (may : MayBeRemoved t n) where
     named = λ m h other at_m dir. let b = back m h at_m in subst (λ k. 1 ≤ k) (sym (names_gone m)) (law.named m h b.0 b.1 dir);
     links = λ m h e. let b = back m h e in subst (λ k. k ≤ 1000) (sym (nlink_gone m h b.1)) (law.links m h b.1);
     volumes = law.volumes;
-    bytes = λ place v e. let s = sum_without (bytes_for place) n may.file t.files may.at_file in let l = law.bytes place v e in omega (arith, s, l);
-    count = λ place v e. let s = sum_without (one_for place) n may.file t.files may.at_file in let l = law.count place v e in omega (arith, s, l);
+    bytes = λ index v e. let s = sum_without (bytes_for index) n may.file t.files may.at_file in let l = law.bytes index v e in omega (arith, s, l);
+    count = λ index v e. let s = sum_without (one_for index) n may.file t.files may.at_file in let l = law.count index v e in omega (arith, s, l);
   }
 
   pub others_without_file : LeavesOthers n t new

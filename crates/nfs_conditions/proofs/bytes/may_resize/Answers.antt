@@ -14,7 +14,7 @@ pub returns-else-not-takes_bytes : goal.returns-else-not-takes_bytes
 returns-else-not-takes_bytes c = let takes = c.takes_bytes.ensures.0 c.if-not-takes_bytes.false in
     resizes_there c.args.tree.now c.args.number.0 c.in-Some.file c.in-Some.ensures c.args.size c.saturating_sub-growth.result c.has_space.result takes c.saturating_sub-growth.ensures
     (space_by c.args.tree.now (c.in-Some.file.fsid - 1) c.saturating_sub-growth.result c.has_space.result
-    (c.has_space.ensures ∙ ap (λ p. has_space c.args.tree.now p c.saturating_sub-growth.result) c.place_of.ensures))
+    (c.has_space.ensures ∙ ap (λ p. has_space c.args.tree.now p c.saturating_sub-growth.result) c.volume_index.ensures))
 
 pub returns-in-None : goal.returns-in-None
 returns-in-None c = never (λ may. none_lives c.args.tree.now c.args.number.0 c.in-None.ensures may.file may.at_file)

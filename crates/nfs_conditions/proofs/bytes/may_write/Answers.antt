@@ -24,7 +24,7 @@ pub returns-else-count-eq0 : goal.returns-else-count-eq0
 returns-else-count-eq0 c = let takes = c.takes_bytes.ensures.0 c.if-not-takes_bytes.false in
     writes_there c.args.tree.now c.args.number.0 c.in-Some.file c.in-Some.ensures c.args.offset c.args.count c.saturating_sub.result c.has_space.result takes (counted c.args.count c.if-count-eq0.false) c.saturating_sub.ensures
     (space_by c.args.tree.now (c.in-Some.file.fsid - 1) c.saturating_sub.result c.has_space.result
-    (c.has_space.ensures ∙ ap (λ p. has_space c.args.tree.now p c.saturating_sub.result) c.place_of.ensures))
+    (c.has_space.ensures ∙ ap (λ p. has_space c.args.tree.now p c.saturating_sub.result) c.volume_index.ensures))
 
 pub returns-in-None : goal.returns-in-None
 returns-in-None c = never (λ may. none_lives c.args.tree.now c.args.number.0 c.in-None.ensures may.file may.at_file)

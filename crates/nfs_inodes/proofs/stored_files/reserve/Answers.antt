@@ -10,8 +10,8 @@ returns-in_err-reserve_entry-in-Some-clause-same c = reserved c.args.files.now c
 pub returns-clause-same : goal.returns-clause-same
 returns-clause-same c = reserved c.args.files.now c.args.dir.0 c.requires c.in-Some.parent.now c.reserve_entry.new.stored_file c.in-Some.ensures.value c.reserve_entry.ensures.file c.reserve_entry.ensures.nlink
 
-pub returns-clause-place : goal.returns-clause-place
-returns-clause-place c = ap (option_map (λ (i : StoredFile). i.volume)) (sym c.in-Some.ensures.value) ∙ ap (λ (f : File). Some f.volume) (sym c.reserve_entry.ensures.file)
+pub returns-clause-index : goal.returns-clause-index
+returns-clause-index c = ap (option_map (λ (i : StoredFile). i.volume)) (sym c.in-Some.ensures.value) ∙ ap (λ (f : File). Some f.volume) (sym c.reserve_entry.ensures.file)
 
 pub returns-clause-ok : goal.returns-clause-ok
 returns-clause-ok c = room_there c.args.files.now c.args.dir.0 c.requires.dir c.reserve_entry.new.stored_file c.requires.at_dir c.in_ok-reserve_entry-in-Some.ensures.ok

@@ -1,6 +1,6 @@
 use Rattle.std.proofs.Common.{rules, ◌≡◌, Ok, Err, inl, refl}
 use Rattle.nfs_load.specs.Descriptions.{last_root}
-use Rattle.nfs_load.specs.Statements.{WantsContent, file_of}
+use Rattle.nfs_load.specs.Statements.{WantsContent, file_line_of}
 use Rattle.nfs_load.proofs.Descriptions.{root_fault, fields_refused, line_done}
 use Rattle.nfs_load.proofs.description.take_file.Goals as goal
 
@@ -12,7 +12,7 @@ returns-in_err-root-clause-done c =
 pub returns-in_err-line-clause-done : goal.returns-in_err-line-clause-done
 returns-in_err-line-clause-done c =
     let root : last_root c.args.loaded.now.tree ≡ Ok c.in_ok-root.root.0 = search rules in
-    fields_refused file_of (WantsContent c.args.fields.now) _ _ _ c.read.new.fields _ c.from_residual-in_err-line.result _ root c.in_err-line.ensures c.from_residual-in_err-line.ensures
+    fields_refused file_line_of (WantsContent c.args.fields.now) _ _ _ c.read.new.fields _ c.from_residual-in_err-line.result _ root c.in_err-line.ensures c.from_residual-in_err-line.ensures
 
 pub returns-clause-done : goal.returns-clause-done
 returns-clause-done c =

@@ -8,34 +8,34 @@ use Rattle.nfs_mount.proofs.exports.write_export.Goals as goal
 
 pub write_volume-requires : goal.write_volume-requires
 write_volume-requires c =
-    let more = count_more c.args.table.now c.loop-place.place in
-    let within = count_within c.args.table.now (c.loop-place.place + 1) in
-    omega (arith, more, within, c.law-2.ensures, c.law.ensures.volumes.few, c.loop-place-test.true, c.volumes-place-end.ensures, c.loop-place.invariant.room, c.requires)
+    let more = count_more c.args.table.now c.loop-index.index in
+    let within = count_within c.args.table.now (c.loop-index.index + 1) in
+    omega (arith, more, within, c.law-2.ensures, c.law.ensures.volumes.few, c.loop-index-test.true, c.volumes-index-end.ensures, c.loop-index.invariant.room, c.requires)
 
-pub loop-place-preserved : goal.loop-place-preserved
-loop-place-preserved c = record {
-  text = place_appended exported_text (exported_at c.args.tree.now c.args.table.now) c.loop-place.place c.args.out.now c.loop-place.out c.write_volume.new.out c.loop-place.invariant.text c.write_volume.ensures.text;
-  spelled = place_spelled exported_text IsExported (exported_at c.args.tree.now c.args.table.now) c.loop-place.place c.loop-place.invariant.spelled c.write_volume.ensures.spelled;
-  room = let more = count_more c.args.table.now c.loop-place.place in omega (arith, more, c.loop-place.invariant.room, c.write_volume.ensures.room);
+pub loop-index-preserved : goal.loop-index-preserved
+loop-index-preserved c = record {
+  text = place_appended exported_text (exported_at c.args.tree.now c.args.table.now) c.loop-index.index c.args.out.now c.loop-index.out c.write_volume.new.out c.loop-index.invariant.text c.write_volume.ensures.text;
+  spelled = place_spelled exported_text IsExported (exported_at c.args.tree.now c.args.table.now) c.loop-index.index c.loop-index.invariant.spelled c.write_volume.ensures.spelled;
+  room = let more = count_more c.args.table.now c.loop-index.index in omega (arith, more, c.loop-index.invariant.room, c.write_volume.ensures.room);
 }
 
 pub write_chain_end-requires : goal.write_chain_end-requires
 write_chain_end-requires c =
-    let within = count_within c.args.table.now c.loop-place.place in
-    omega (arith, within, c.law-2.ensures, c.law.ensures.volumes.few, c.loop-place.auto.place-end, c.volumes-place-end.ensures, c.loop-place.invariant.room, c.requires)
+    let within = count_within c.args.table.now c.loop-index.index in
+    omega (arith, within, c.law-2.ensures, c.law.ensures.volumes.few, c.loop-index.auto.index-end, c.volumes-index-end.ensures, c.loop-index.invariant.room, c.requires)
 
 pub returns-clause-text : goal.returns-clause-text
 returns-clause-text c =
-    let all : c.loop-place.place ≡ length c.args.tree.now.volumes = omega (arith, c.loop-place-test.false, c.loop-place.auto.place-end, c.volumes-place-end.ensures) in
-    places_ended exported_text (exported_at c.args.tree.now c.args.table.now) c.loop-place.place (length c.args.tree.now.volumes) c.args.out.now c.loop-place.out c.write_chain_end.new.out all c.loop-place.invariant.text c.write_chain_end.ensures.text
+    let all : c.loop-index.index ≡ length c.args.tree.now.volumes = omega (arith, c.loop-index-test.false, c.loop-index.auto.index-end, c.volumes-index-end.ensures) in
+    places_ended exported_text (exported_at c.args.tree.now c.args.table.now) c.loop-index.index (length c.args.tree.now.volumes) c.args.out.now c.loop-index.out c.write_chain_end.new.out all c.loop-index.invariant.text c.write_chain_end.ensures.text
 
 pub returns-clause-spelled : goal.returns-clause-spelled
 returns-clause-spelled c =
-    let all : c.loop-place.place ≡ length c.args.tree.now.volumes = omega (arith, c.loop-place-test.false, c.loop-place.auto.place-end, c.volumes-place-end.ensures) in
+    let all : c.loop-index.index ≡ length c.args.tree.now.volumes = omega (arith, c.loop-index-test.false, c.loop-index.auto.index-end, c.volumes-index-end.ensures) in
     let volumes = map (exported_at c.args.tree.now c.args.table.now) (range_with_len 0 (length c.args.tree.now.volumes)) in
-    (volumes, refl, places_spelled exported_text IsExported (exported_at c.args.tree.now c.args.table.now) c.loop-place.place (length c.args.tree.now.volumes) all c.loop-place.invariant.spelled)
+    (volumes, refl, places_spelled exported_text IsExported (exported_at c.args.tree.now c.args.table.now) c.loop-index.index (length c.args.tree.now.volumes) all c.loop-index.invariant.spelled)
 
 pub returns-clause-bound : goal.returns-clause-bound
 returns-clause-bound c = let text = returns-clause-text c in
-    let within = count_within c.args.table.now c.loop-place.place in
-    omega (arith, text.room, within, c.law-2.ensures, c.law.ensures.volumes.few, c.loop-place.auto.place-end, c.volumes-place-end.ensures, c.loop-place.invariant.room, c.write_chain_end.ensures.text.room)
+    let within = count_within c.args.table.now c.loop-index.index in
+    omega (arith, text.room, within, c.law-2.ensures, c.law.ensures.volumes.few, c.loop-index.auto.index-end, c.volumes-index-end.ensures, c.loop-index.invariant.room, c.write_chain_end.ensures.text.room)

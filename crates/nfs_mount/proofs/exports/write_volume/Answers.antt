@@ -11,4 +11,4 @@ use Rattle.nfs_mount.proofs.exports.write_volume.Goals as goal
 pub returns-clause-spelled : goal.returns-clause-spelled
 returns-clause-spelled c = let groups = map group c.patterns.result.now in
     let made = followed (IsString c.new.result) (IsChain IsString groups) (opaque_text c.new.result) (chain_text opaque_text groups) c.write_chained_string.ensures.spelled (chain_written IsString opaque_text groups c.write_patterns.ensures.spelled) in
-    volume_spelled c.new.result groups (exported_at c.args.tree.now c.args.table.now c.args.place) (c.new.ensures ∙ c.path_at.ensures.path) (ap (map group) c.patterns.ensures) made
+    volume_spelled c.new.result groups (exported_at c.args.tree.now c.args.table.now c.args.index) (c.new.ensures ∙ c.path_at.ensures.path) (ap (map group) c.patterns.ensures) made

@@ -2,7 +2,7 @@ use Rattle.nfs_inodes.proofs.Tests.{never, gains_link, none_lives}
 use Rattle.nfs_inodes.proofs.tree.Tree.may_gain_link.Goals as goal
 
 pub returns-in-Some : goal.returns-in-Some
-returns-in-Some c = gains_link c.self.inside.files c.self.inside.volumes.items c.args.self.now c.self.view_is c.self.invariant c.args.number.0 c.args.place c.in-Some.stored_file.now c.takes_link.result c.in-Some.ensures c.takes_link.ensures
+returns-in-Some c = gains_link c.self.inside.files c.self.inside.volumes.items c.args.self.now c.self.view_is c.self.invariant c.args.number.0 c.args.index c.in-Some.stored_file.now c.takes_link.result c.in-Some.ensures c.takes_link.ensures
 
 pub returns-in-None : goal.returns-in-None
 returns-in-None c = never (λ may. none_lives c.self.inside.files c.self.inside.volumes.items c.args.self.now c.self.view_is c.args.number.0 c.in-None.ensures may.file may.at_file)

@@ -1,0 +1,35 @@
+//! What a description holds, in one line.
+
+use crate::fault::Fault;
+use nfs_inodes::tree::Tree;
+use nfs_inodes::volumes::Totals;
+use nfs_xdr::device::{ByteOut, write_all};
+use std::alloc::Global;
+
+/// Prints `ok volumes=V files=F bytes=B`: how many volumes there are, and what they have together: files
+/// with their roots, and bytes of regular files. `Write` where the output fails, `Memory`.
+pub(crate) fn print_totals<W: ByteOut>(
+    alloc: Global,
+    tree: &Tree,
+    out: &mut W,
+) -> Result<(), Fault> {
+    let volumes = tree.volumes();
+    let Totals { bytes, files } = totals_of(tree);
+    let line = format!(in alloc; "ok volumes={volumes} files={files} bytes={bytes}\n")?;
+    match write_all(out, line.as_bytes()) {
+        Ok(()) => Ok(()),
+        Err(_) => Err(Fault::Write),
+    }
+}
+
+// What all volumes have together.
+fn totals_of(tree: &Tree) -> Totals {
+    let mut all = Totals { bytes: 0, files: 0 };
+    for index in 0..tree.volumes() {
+        if let Some(totals) = tree.totals(index) {
+            all.bytes = all.bytes.saturating_add(totals.bytes);
+            all.files = all.files.saturating_add(totals.files);
+        }
+    }
+    all
+}

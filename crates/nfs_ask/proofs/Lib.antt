@@ -1,0 +1,4 @@
+pub mod Numbers
+pub mod Writes
+pub mod Ways
+pub mod Rooms

@@ -1,0 +1,5 @@
+pub mod Calls
+pub mod Places
+pub mod Records
+pub mod Requests
+pub mod Ways

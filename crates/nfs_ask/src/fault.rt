@@ -1,0 +1,64 @@
+//! Why words ask for no call.
+ghost use Rattle.std.specs.Prelude.{◌≡◌};
+
+use std::alloc::AllocError;
+use thiserror::Error;
+
+/// What is wanted where a word is missing or is another one.
+#[derive(Clone, Copy, Debug, PartialEq, Eq, Error)]
+pub enum Wanted {
+    /// A user.
+    #[error("UID:GID[,GID..] is wanted, a user's number, its group's, and those of at most 16 more groups")]
+    User,
+    /// An operation.
+    #[error("OPERATION is wanted, one of stat, access, read, write, create, remove, mkdir, rmdir, rename, link, symlink, readlink, mknod, lookup, list, readdirplus, chmod, chown, chgrp, truncate, touch, utime, commit, df, fsinfo, pathconf, mount and umount")]
+    Operation,
+    /// A path.
+    #[error("PATH is wanted, the path of a volume and what stands behind it")]
+    Path,
+    /// A path that a symbolic link is to hold.
+    #[error("TARGET is wanted, the path that the link holds")]
+    Target,
+    /// A mode.
+    #[error("MODE is wanted, octal digits as 644")]
+    Mode,
+    /// A word of 32 bits.
+    #[error("a number is wanted, decimal digits to 4294967295")]
+    Word,
+    /// A word of 64 bits.
+    #[error("a number is wanted, decimal digits to 18446744073709551615")]
+    LongWord,
+    /// Bytes.
+    #[error("HEX is wanted, two hexadecimal digits for each byte")]
+    Bytes,
+    /// Nothing more.
+    #[error("no further word is wanted")]
+    Nothing,
+    /// A shorter word.
+    #[error("a word of at most 262144 bytes is wanted")]
+    Shorter,
+    /// A file that is there.
+    #[error("the path of a file that is there is wanted")]
+    File,
+}
+
+/// Why words ask for no call.
+#[derive(Clone, Copy, Debug, PartialEq, Eq, Error)]
+pub enum AskFault {
+    /// At a place, counted from 0, the user's, something else is wanted.
+    #[error("{1}")]
+    Word(usize, Wanted),
+    /// There is no memory.
+    #[error("out of memory")]
+    Memory,
+}
+
+impl From<AllocError> for AskFault {
+    ghost use Rattle.nfs_ask.specs.declared.fault.AskFault.TheVariants.{Memory};
+
+    ghost from_gives = { λ _ e. e ≡ Memory };
+
+    fn from(_error: AllocError) -> AskFault {
+        AskFault::Memory
+    }
+}

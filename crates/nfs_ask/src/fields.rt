@@ -1,0 +1,93 @@
+//! The words of an `ask`, taken from left to right.
+
+use crate::fault::{AskFault, Wanted};
+use nfs_text::number::decimal;
+use nfs_text::words::Words;
+
+/// The words that are to come, and the place of the next one.
+#[derive(Drop)]
+pub(crate) struct Fields<'a> {
+    words: Words<'a>,
+    place: usize,
+}
+
+impl<'a> Fields<'a> {
+    /// All of these words.
+    pub(crate) fn new(words: Words<'a>) -> Fields<'a> {
+        Fields { words, place: 0 }
+    }
+
+    /// The next word. A fault where none is left.
+    pub(crate) fn word(&mut self, wanted: Wanted) -> Result<&'a [u8], AskFault> {
+        match self.words.next() {
+            Some(word) => {
+                self.place = self.place.saturating_add(1);
+                Ok(word)
+            }
+            None => Err(AskFault::Word(self.place, wanted)),
+        }
+    }
+
+    /// That the word that was taken last isn't what is wanted there.
+    pub(crate) fn fault(&self, wanted: Wanted) -> AskFault {
+        AskFault::Word(self.place.saturating_sub(1), wanted)
+    }
+
+    /// A number of 32 bits.
+    pub(crate) fn number(&mut self) -> Result<u32, AskFault> {
+        let word = self.word(Wanted::Word)?;
+        match decimal(word, u64::from(u32::MAX)) {
+            Some(number) => Ok(number as u32),
+            None => Err(self.fault(Wanted::Word)),
+        }
+    }
+
+    /// A number of 64 bits.
+    pub(crate) fn long_number(&mut self) -> Result<u64, AskFault> {
+        let word = self.word(Wanted::LongWord)?;
+        match decimal(word, u64::MAX) {
+            Some(number) => Ok(number),
+            None => Err(self.fault(Wanted::LongWord)),
+        }
+    }
+
+    /// A mode.
+    pub(crate) fn mode(&mut self) -> Result<u32, AskFault> {
+        let word = self.word(Wanted::Mode)?;
+        match octal(word) {
+            Some(mode) => Ok(mode),
+            None => Err(self.fault(Wanted::Mode)),
+        }
+    }
+
+    /// Whether no word is left.
+    pub(crate) fn is_at_end(&self) -> bool {
+        let mut ahead = self.words;
+        ahead.next().is_none()
+    }
+
+    /// A fault where a word is left.
+    pub(crate) fn end(&self) -> Result<(), AskFault> {
+        if self.is_at_end() {
+            Ok(())
+        } else {
+            Err(AskFault::Word(self.place, Wanted::Nothing))
+        }
+    }
+}
+
+// The number that one or more octal digits say. `None` where the text is another one, or the number is
+// above 32 bits.
+fn octal(text: &[u8]) -> Option<u32> {
+    if text.is_empty() {
+        return None;
+    }
+    let mut number: u32 = 0;
+    for byte in text {
+        if *byte < b'0' || *byte > b'7' {
+            return None;
+        }
+        number = number.checked_mul(8)?.checked_add(u32::from(*byte - b'0'))?;
+    }
+    Some(number)
+}

@@ -1,0 +1,109 @@
+//! What a client may do, by the words that people use.
+
+/// What is done with a path.
+#[derive(Clone, Copy, PartialEq)]
+pub enum Operation {
+    /// GETATTR.
+    Stat,
+    /// SETATTR of a mode.
+    SetMode,
+    /// SETATTR of an owner.
+    SetOwner,
+    /// SETATTR of a group.
+    SetGroup,
+    /// SETATTR of a size.
+    Truncate,
+    /// SETATTR of both times to the server's.
+    Touch,
+    /// SETATTR of both times to some of the client's.
+    SetTimes,
+    /// LOOKUP.
+    Lookup,
+    /// ACCESS.
+    Access,
+    /// READLINK.
+    ReadLink,
+    /// READ.
+    Read,
+    /// WRITE.
+    Write,
+    /// CREATE.
+    Create,
+    /// MKDIR.
+    MakeDir,
+    /// SYMLINK.
+    SymLink,
+    /// MKNOD.
+    MakeNode,
+    /// REMOVE.
+    Remove,
+    /// RMDIR.
+    RemoveDir,
+    /// RENAME.
+    Rename,
+    /// LINK.
+    Link,
+    /// READDIR.
+    List,
+    /// READDIRPLUS.
+    ListPlus,
+    /// FSSTAT.
+    Room,
+    /// FSINFO.
+    Limits,
+    /// PATHCONF.
+    PathLimits,
+    /// COMMIT.
+    Commit,
+    /// MNT.
+    Mount,
+}
+
+/// The words, each with what it stands for.
+const WORDS: [(&[u8], Operation); 33] = [
+    (b"stat", Operation::Stat),
+    (b"chmod", Operation::SetMode),
+    (b"chown", Operation::SetOwner),
+    (b"chgrp", Operation::SetGroup),
+    (b"truncate", Operation::Truncate),
+    (b"touch", Operation::Touch),
+    (b"utime", Operation::SetTimes),
+    (b"lookup", Operation::Lookup),
+    (b"access", Operation::Access),
+    (b"readlink", Operation::ReadLink),
+    (b"read", Operation::Read),
+    (b"write", Operation::Write),
+    (b"create", Operation::Create),
+    (b"mkdir", Operation::MakeDir),
+    (b"symlink", Operation::SymLink),
+    (b"mknod", Operation::MakeNode),
+    (b"remove", Operation::Remove),
+    (b"rm", Operation::Remove),
+    (b"unlink", Operation::Remove),
+    (b"rmdir", Operation::RemoveDir),
+    (b"rename", Operation::Rename),
+    (b"mv", Operation::Rename),
+    (b"link", Operation::Link),
+    (b"ln", Operation::Link),
+    (b"list", Operation::List),
+    (b"ls", Operation::List),
+    (b"readdir", Operation::List),
+    (b"readdirplus", Operation::ListPlus),
+    (b"df", Operation::Room),
+    (b"fsinfo", Operation::Limits),
+    (b"pathconf", Operation::PathLimits),
+    (b"commit", Operation::Commit),
+    (b"mount", Operation::Mount),
+];
+
+impl Operation {
+    /// The operation that a word stands for.
+    pub(crate) fn of(word: &[u8]) -> Option<Operation> {
+        for (known, operation) in &WORDS {
+            if *known == word {
+                return Some(*operation);
+            }
+        }
+        None
+    }
+}

@@ -1,0 +1,57 @@
+//! The arguments that more than one command takes.
+
+use clap::{Arg, ArgAction, value_parser};
+use std::alloc::Global;
+
+/// A word that has to be there.
+pub(crate) fn word<'a>(alloc: Global, id: &'a str, name: &'a str, help: &'a str) -> Arg<'a> {
+    Arg::new(alloc, id)
+        .value_name(name)
+        .required(true)
+        .help(help)
+}
+
+/// An option with a value, `--id NAME`.
+pub(crate) fn option<'a>(alloc: Global, id: &'a str, name: &'a str, help: &'a str) -> Arg<'a> {
+    Arg::new(alloc, id).long(id).value_name(name).help(help)
+}
+
+/// An option without a value, `--id`.
+pub(crate) fn flag<'a>(alloc: Global, id: &'a str, help: &'a str) -> Arg<'a> {
+    Arg::new(alloc, id)
+        .long(id)
+        .action(ArgAction::SetTrue)
+        .help(help)
+}
+
+/// The description.
+pub(crate) fn tree<'a>(alloc: Global) -> Arg<'a> {
+    word(
+        alloc,
+        "tree",
+        "TREE",
+        "The description: a text of volumes, files and exports (docs/DESCRIPTION.md); - is standard input",
+    )
+}
+
+/// How many replies are kept.
+pub(crate) fn cache<'a>(alloc: Global) -> Arg<'a> {
+    option(
+        alloc,
+        "cache",
+        "C",
+        "How many replies are kept for repeated calls, 1 to 1024",
+    )
+    .value_parser(value_parser!(u32).range(1..=1024))
+    .default_value("128")
+}
+
+/// Where the tree is saved.
+pub(crate) fn save<'a>(alloc: Global) -> Arg<'a> {
+    option(
+        alloc,
+        "save",
+        "FILE",
+        "Writes the tree as it is at the end, as a description",
+    )
+}

@@ -1,0 +1,8 @@
+//! The words of the command line.
+#![tactic(auto)]
+
+mod arguments;
+mod questions;
+pub mod request;
+mod runs;
+pub mod words;

@@ -1,0 +1,200 @@
+//! What the words of the command line ask for.
+
+use clap::ArgMatches;
+
+/// A command with its words. A file `-` is standard input.
+#[derive(Clone, Copy)]
+pub enum Request<'a> {
+    /// How much a description holds.
+    Check {
+        /// The description's file.
+        tree: &'a str,
+        /// Whether a warning is a fault.
+        is_strict: bool,
+        /// Whether the lines behind the first faulty one are told too.
+        is_whole: bool,
+    },
+    /// Why a call is granted or denied.
+    Why(Why<'a>),
+    /// Who may reach which volume.
+    Exports {
+        /// The description's file.
+        tree: &'a str,
+    },
+    /// A script is run.
+    Replay(Replay<'a>),
+    /// Clients are served.
+    Serve(Serve<'a>),
+    /// A directory on disk is described.
+    Describe(Describe<'a>),
+    /// A call is served over a connection of its own.
+    SelfCall {
+        /// The description's file.
+        tree: &'a str,
+    },
+}
+
+/// The words of `why`.
+#[derive(Clone, Copy)]
+pub struct Why<'a> {
+    /// The description's file.
+    pub tree: &'a str,
+    /// The client's address.
+    pub address: &'a str,
+    /// The user, in the client's words.
+    pub user: &'a str,
+    /// What is done.
+    pub operation: &'a str,
+    /// With what.
+    pub path: &'a str,
+    /// What stands behind the path.
+    pub second: Option<&'a str>,
+}
+
+/// The words of `replay`.
+#[derive(Clone, Copy)]
+pub struct Replay<'a> {
+    /// The description's file.
+    pub tree: &'a str,
+    /// The script's.
+    pub script: &'a str,
+    /// How many replies are kept.
+    pub cache: usize,
+    /// Where the tree is saved.
+    pub save: Option<&'a str>,
+    /// Whether replies are printed in words too.
+    pub is_decoded: bool,
+    /// Whether denied calls are told with names.
+    pub is_named: bool,
+}
+
+/// The words of `serve`.
+#[derive(Clone, Copy)]
+pub struct Serve<'a> {
+    /// The description's file.
+    pub tree: &'a str,
+    /// The address that is listened at.
+    pub listen: &'a str,
+    /// Its port.
+    pub port: u16,
+    /// After how many connections it ends.
+    pub connections: Option<u64>,
+    /// How many clients are served at once.
+    pub clients: usize,
+    /// After how many seconds without a byte a connection ends.
+    pub idle: Option<u64>,
+    /// How many replies are kept.
+    pub cache: usize,
+    /// The file to which the lines of denied calls go.
+    pub audit: Option<&'a str>,
+    /// Where the tree is saved.
+    pub save: Option<&'a str>,
+    /// Whether it is told of clients that come and go.
+    pub is_verbose: bool,
+}
+
+/// The words of `describe`.
+#[derive(Clone, Copy)]
+pub struct Describe<'a> {
+    /// The directory.
+    pub directory: &'a str,
+    /// The server's key, in hexadecimal digits.
+    pub key: &'a str,
+    /// The path that clients mount it by.
+    pub mount: &'a str,
+    /// The volume's most bytes.
+    pub bytes: Option<u64>,
+    /// The volume's most files.
+    pub files: Option<u64>,
+    /// To whom it is exported, each as PATTERN=OPTIONS.
+    pub exports: &'a [&'a str],
+}
+
+impl<'a> Request<'a> {
+    /// The command of a name with its words. `None` where there is none of that name.
+    pub(crate) fn of(name: &str, words: &'a ArgMatches<'a>) -> Option<Request<'a>> {
+        match name {
+            "check" => Some(Request::Check {
+                tree: text(words, "tree"),
+                is_strict: words.get_flag("strict"),
+                is_whole: words.get_flag("all"),
+            }),
+            "why" => Some(Request::Why(Why::of(words))),
+            "exports" => Some(Request::Exports {
+                tree: text(words, "tree"),
+            }),
+            "replay" => Some(Request::Replay(Replay::of(words))),
+            "serve" => Some(Request::Serve(Serve::of(words))),
+            "describe" => Some(Request::Describe(Describe::of(words))),
+            "self" => Some(Request::SelfCall {
+                tree: text(words, "tree"),
+            }),
+            _ => None,
+        }
+    }
+}
+
+impl<'a> Why<'a> {
+    fn of(words: &'a ArgMatches<'a>) -> Why<'a> {
+        Why {
+            tree: text(words, "tree"),
+            address: text(words, "address"),
+            user: text(words, "user"),
+            operation: text(words, "operation"),
+            path: text(words, "path"),
+            second: words.get_str("second"),
+        }
+    }
+}
+
+impl<'a> Replay<'a> {
+    fn of(words: &'a ArgMatches<'a>) -> Replay<'a> {
+        Replay {
+            tree: text(words, "tree"),
+            script: text(words, "script"),
+            cache: cache(words),
+            save: words.get_str("save"),
+            is_decoded: words.get_flag("decode"),
+            is_named: words.get_flag("names"),
+        }
+    }
+}
+
+impl<'a> Serve<'a> {
+    fn of(words: &'a ArgMatches<'a>) -> Serve<'a> {
+        Serve {
+            tree: text(words, "tree"),
+            listen: text(words, "listen"),
+            port: words.get_one::<u16>("port").unwrap_or(2049),
+            connections: words.get_one::<u64>("connections"),
+            clients: words.get_one::<usize>("clients").unwrap_or(1024),
+            idle: words.get_one::<u64>("idle"),
+            cache: cache(words),
+            audit: words.get_str("audit"),
+            save: words.get_str("save"),
+            is_verbose: words.get_flag("verbose"),
+        }
+    }
+}
+
+impl<'a> Describe<'a> {
+    fn of(words: &'a ArgMatches<'a>) -> Describe<'a> {
+        Describe {
+            directory: text(words, "directory"),
+            key: text(words, "key"),
+            mount: text(words, "mount"),
+            bytes: words.get_one::<u64>("bytes"),
+            files: words.get_one::<u64>("files"),
+            exports: words.get_strs("export").unwrap_or(&[]),
+        }
+    }
+}
+
+// A word that has to be there.
+fn text<'a>(words: &ArgMatches<'a>, id: &str) -> &'a str {
+    words.get_str(id).unwrap_or("")
+}
+
+fn cache(words: &ArgMatches<'_>) -> usize {
+    words.get_one::<usize>("cache").unwrap_or(128)
+}

@@ -1,0 +1,91 @@
+//! The words that the program was started with, once they are understood.
+
+use crate::questions::{check, exports, why};
+use crate::request::Request;
+use crate::runs::{describe, replay, self_call, serve};
+use clap::error::ErrorKind;
+use clap::{ArgMatches, Command};
+use std::alloc::{AllocError, Global};
+use std::process::ExitCode;
+
+// What `--version` prints behind the program's name.
+const VERSION: &str = "1.0.0";
+
+/// Words that ask for something.
+#[derive(Drop)]
+pub struct Words<'a> {
+    matches: ArgMatches<'a>,
+}
+
+/// Why words ask for nothing more.
+#[derive(Clone, Copy)]
+pub enum Told {
+    /// They ask for help or the version, or one is faulty; that is printed, and the program ends.
+    All(ExitCode),
+    /// It can't be printed.
+    Write,
+    /// There is no memory.
+    Memory,
+}
+
+impl From<AllocError> for Told {
+    fn from(_error: AllocError) -> Told {
+        Told::Memory
+    }
+}
+
+impl<'a> Words<'a> {
+    /// Understands the words. What is wrong with them is printed on standard error, the help and the
+    /// version that they ask for on standard output.
+    pub fn read<R: Print + Eprint>(
+        rt: &R,
+        alloc: Global,
+        words: &'a [String],
+    ) -> Result<Words<'a>, Told> {
+        match command(alloc)?.try_get_matches_from(words) {
+            Ok(matches) => Ok(Words { matches }),
+            Err(error) if error.kind() == ErrorKind::OutOfMemory => Err(Told::Memory),
+            Err(error) if error.print(rt).is_err() => Err(Told::Write),
+            Err(error) if error.exit_code() == 0 => Err(Told::All(ExitCode::SUCCESS)),
+            Err(_) => Err(Told::All(ExitCode::from(2))),
+        }
+    }
+
+    /// What the words ask for, if anything.
+    pub fn request(&'a self) -> Option<Request<'a>> {
+        let (name, words) = self.matches.subcommand()?;
+        Request::of(name, words)
+    }
+}
+
+fn command<'a>(alloc: Global) -> Result<Command<'a>, AllocError> {
+    let command = Command::new(alloc, "nfs3d")
+        .bin_name("nfs3d")?
+        .version(VERSION)
+        .about(
+            "An NFS version 3 server with its MOUNT service, in memory, with access rules proved",
+        )
+        .after_help(
+            "A first try, beside the folder examples: nfs3d replay examples/e.tree examples/read.script",
+        )
+        .subcommand_required(true)
+        .arg_required_else_help(true);
+    with_runs(alloc, with_questions(alloc, command)?)
+}
+
+// With the commands that say something of a description.
+fn with_questions<'a>(alloc: Global, command: Command<'a>) -> Result<Command<'a>, AllocError> {
+    command
+        .subcommand(check(alloc)?)?
+        .subcommand(why(alloc)?)?
+        .subcommand(exports(alloc)?)
+}
+
+// With those that serve one, or make one.
+fn with_runs<'a>(alloc: Global, command: Command<'a>) -> Result<Command<'a>, AllocError> {
+    command
+        .subcommand(replay(alloc)?)?
+        .subcommand(serve(alloc)?)?
+        .subcommand(describe(alloc)?)?
+        .subcommand(self_call(alloc)?)
+}

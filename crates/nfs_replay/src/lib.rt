@@ -1,0 +1,13 @@
+//! Scripts of calls, run against a server of their own, and what is printed of them.
+#![tactic(auto)]
+
+pub mod call;
+mod captured;
+pub mod fault;
+mod heard;
+mod hexadecimal;
+mod names;
+pub mod printing;
+pub mod replay;
+mod script;
+pub mod shown;

@@ -1,0 +1,152 @@
+//! The names of calls: of their procedures, and of the files that they are about.
+
+use nfs_args::procedure::{MountProcedure, Procedure};
+use nfs_handles::number::Number;
+use nfs_handles::reading::Reading;
+use nfs_inodes::tree::Tree;
+use nfs_rpc::call::read_call;
+use nfs_text::number::decimal;
+use nfs_text::words::Words;
+use nfs_words::names::{mount_name, nfs_name};
+use nfs_words::text::Text;
+use nfs_xdr::input::Input;
+use std::alloc::{AllocError, Global};
+
+// The programs (RFC 1813, sections 3 and 5).
+const NFS: u32 = 100_003;
+
+const MOUNT: u32 = 100_005;
+
+// The largest handle, and the longest path of MOUNT (RFC 1813, sections 2.4 and 5.1.4).
+const MAX_HANDLE_BYTES: u32 = 64;
+
+const MAX_PATH_BYTES: u32 = 1_024;
+
+// How many names a path is looked for.
+const MOST_NAMES: u32 = 1_024;
+
+/// What stands behind the audit line of a call: ` call=NAME`, and ` path=PATH` where its first handle
+/// names a file that a path of the tree leads to, or a path is what it asks for. Nothing of a record that
+/// is no call of a procedure that there is. Refused without memory.
+pub(crate) fn names_of(alloc: Global, tree: &Tree, record: &[u8]) -> Result<Vec<u8>, AllocError> {
+    let mut names = Text::new(alloc);
+    if let Ok(head) = read_call(record)
+        && let Some(name) = procedure_name(head.prog, head.proc)
+    {
+        names.put(b" call=");
+        names.put(name);
+        put_path(alloc, tree, head.prog, head.args, &mut names)?;
+    }
+    names.into_bytes()
+}
+
+/// The name of the procedure of which an audit line tells, by its words `prog=` and `proc=`.
+pub(crate) fn name_in(line: &[u8]) -> Option<&'static [u8]> {
+    let program = number_behind(line, b"prog=")?;
+    procedure_name(program, number_behind(line, b"proc=")?)
+}
+
+fn number_behind(line: &[u8], key: &[u8]) -> Option<u32> {
+    for word in Words::new(line) {
+        if let Some(digits) = word.strip_prefix(key) {
+            return u32::try_from(decimal(digits, u64::from(u32::MAX))?).ok();
+        }
+    }
+    None
+}
+
+fn procedure_name(program: u32, procedure: u32) -> Option<&'static [u8]> {
+    match program {
+        NFS => Some(nfs_name(Procedure::of(procedure)?)),
+        MOUNT => Some(mount_name(MountProcedure::of(procedure)?)),
+        _ => None,
+    }
+}
+
+// Puts the path that a call is about, where its arguments begin with one or with a handle.
+fn put_path(
+    alloc: Global,
+    tree: &Tree,
+    program: u32,
+    args: Input<'_>,
+    out: &mut Text,
+) -> Result<(), AllocError> {
+    let mut args = args;
+    if program == MOUNT {
+        if let Ok(path) = args.opaque(MAX_PATH_BYTES) {
+            out.put(b" path=");
+            out.put_name(path);
+        }
+        return Ok(());
+    }
+    let Ok(handle) = args.opaque(MAX_HANDLE_BYTES) else {
+        return Ok(());
+    };
+    if let Reading::Live(number) = tree.read_handle(handle)
+        && let Some(path) = path_of(alloc, tree, number)?
+    {
+        out.put(b" path=");
+        out.put_name(path.as_slice());
+    }
+    Ok(())
+}
+
+// The path of a file, from the path of its volume on, by the first of its names. `None` where no path
+// leads to it.
+fn path_of(alloc: Global, tree: &Tree, number: Number) -> Result<Option<Vec<u8>>, AllocError> {
+    let mut names = Vec::new(alloc);
+    let mut at = number;
+    for _ in 0..MOST_NAMES {
+        if let Some(path) = path_of_root(tree, at) {
+            return Ok(Some(joined(alloc, path, names.as_slice())?));
+        }
+        let Some((dir, name)) = entry_of(tree, at) else {
+            break;
+        };
+        names.push(name)?;
+        at = dir;
+    }
+    Ok(None)
+}
+
+// The path of the volume that has this root.
+fn path_of_root(tree: &Tree, root: Number) -> Option<&[u8]> {
+    for index in 0..tree.volumes() {
+        if let Some(volume) = tree.volume(index)
+            && volume.root.0 == root.0
+        {
+            return Some(volume.path);
+        }
+    }
+    None
+}
+
+// The first directory with an entry of a file, and the entry's name.
+fn entry_of(tree: &Tree, file: Number) -> Option<(Number, &[u8])> {
+    for number in 1..tree.next_number() {
+        if let Some(name) = name_within(tree, Number::new(number), file) {
+            return Some((Number::new(number), name));
+        }
+    }
+    None
+}
+
+fn name_within(tree: &Tree, dir: Number, file: Number) -> Option<&[u8]> {
+    let mut entries = tree.view(dir)?.entries();
+    while let Some(entry) = entries.next() {
+        if entry.number.0 == file.0 {
+            return Some(entry.name);
+        }
+    }
+    None
+}
+
+// A path with names below it, of which the last comes first.
+fn joined(alloc: Global, path: &[u8], names: &[&[u8]]) -> Result<Vec<u8>, AllocError> {
+    let mut whole = path.to_vec(alloc)?;
+    for name in names.iter().rev() {
+        whole.push(b'/')?;
+        whole.extend_from_slice(name)?;
+    }
+    Ok(whole)
+}
