@@ -18,7 +18,7 @@ _nfs3d() {
     check:-*) COMPREPLY=($(compgen -W "--strict --all --help" -- "$word")) ;;
     serve:-*) COMPREPLY=($(compgen -W "--listen --port --connections --clients --idle --cache --audit --save --verbose --help" -- "$word")) ;;
     describe:-*) COMPREPLY=($(compgen -W "--mount --export --bytes --files --key --help" -- "$word")) ;;
-    replay:-*) COMPREPLY=($(compgen -W "--cache --save --help" -- "$word")) ;;
+    replay:-*) COMPREPLY=($(compgen -W "--cache --save --decode --names --help" -- "$word")) ;;
     *:-*) COMPREPLY=($(compgen -W "--help" -- "$word")) ;;
     *) COMPREPLY=($(compgen -f -- "$word")) ;;
     esac

@@ -5,6 +5,7 @@ use crate::source::Source;
 use nfs_advice::advice::Advice;
 use nfs_advice::description::advise;
 use nfs_advice::script::{advise_bytes, advise_file, advise_line};
+use nfs_ask::fault::Wanted;
 use nfs_load::load_error::LoadError;
 use nfs_replay::fault::{LineCause, ScriptFault};
 use std::alloc::{AllocError, Global};
@@ -68,11 +69,22 @@ fn script_advice(
         LineCause::BadLine => told(alloc, name, line, advise_line(script, line)),
         LineCause::BadHex => told(alloc, name, line, advise_bytes(script, line)),
         LineCause::NoHandle => told(alloc, name, line, advise_file(script, line)),
-        LineCause::BadWord(word, wanted) => {
-            let column = column_of(script, line, word.saturating_add(WORDS_BEFORE_USER));
-            format!(in alloc; "\n  {name}:{line}:{column}: {wanted}").ok()
-        }
+        LineCause::BadWord(word, wanted) => wanted_at(alloc, name, script, line, word, wanted),
+        LineCause::NoFile(word) => wanted_at(alloc, name, script, line, word, Wanted::File),
     }
+}
+
+// What is wanted in the place of a word of an `ask` line.
+fn wanted_at(
+    alloc: Global,
+    name: &str,
+    script: &[u8],
+    line: u64,
+    word: usize,
+    wanted: Wanted,
+) -> Option<String> {
+    let column = column_of(script, line, word.saturating_add(WORDS_BEFORE_USER));
+    format!(in alloc; "\n  {name}:{line}:{column}: {wanted}").ok()
 }
 
 // The column of a word of a line, from 1; behind the line where it has not so many.

@@ -5,7 +5,7 @@ use crate::fault::Fault;
 use crate::source::load_tree;
 use nfs_load::loaded::Loaded;
 use nfs_why::exports::put_exports;
-use nfs_why::text::Text;
+use nfs_words::text::Text;
 use nfs_xdr::device::{Device, write_all};
 use std::alloc::{AllocError, Global};
 use std::io;

@@ -33,6 +33,8 @@ pub enum ScriptReason {
     Missing,
     /// No byte follows.
     NoBytes,
+    /// Nothing is asked for.
+    NoQuestion,
     /// A word is too many.
     TooMany,
     /// Digits that are not pairs.
@@ -60,7 +62,7 @@ impl ScriptReason {
             }
             ScriptReason::Misspelled => "is no first word of a line",
             ScriptReason::Unknown => {
-                "is no first word of a line; those are attach, feed, detach, call and show"
+                "is no first word of a line; those are attach, feed, detach, call, ask and show"
             }
             ScriptReason::Connection => {
                 "is no connection; write a number of decimal digits, to 4294967295"
@@ -74,6 +76,9 @@ impl ScriptReason {
             ScriptReason::Missing =>
                 "a word is missing; docs/PROTOCOL.md has the lines of a script",
             ScriptReason::NoBytes => "the bytes are missing; write them in hexadecimal digits",
+            ScriptReason::NoQuestion => {
+                "nothing is asked for; write UID:GID, an operation and a path"
+            }
             ScriptReason::TooMany =>
                 "is a word too many; docs/PROTOCOL.md has the lines of a script",
             ScriptReason::Odd => "has an odd number of digits; write two for each byte",
@@ -91,7 +96,7 @@ impl ScriptReason {
     }
 }
 
-const VERBS: [&[u8]; 5] = [b"attach", b"feed", b"detach", b"call", b"show"];
+const VERBS: [&[u8]; 6] = [b"attach", b"feed", b"detach", b"call", b"ask", b"show"];
 
 /// What a word of a line has to be.
 #[derive(Clone, Copy)]
@@ -99,6 +104,14 @@ enum Wanted {
     Connection,
     Seconds,
     Address,
+}
+
+/// What stands behind the words of a line that are looked at.
+#[derive(Clone, Copy)]
+enum Behind {
+    Nothing,
+    Bytes,
+    Question,
 }
 
 /// What is wrong with a line that is none of a script. The line's number is counted from 1.
@@ -111,11 +124,16 @@ pub fn advise_line(script: &[u8], number: u64) -> Advice<'_>
     }
     let word = line.word(0).unwrap_or(line);
     match word.bytes() {
-        b"attach" => fields(line, &[Wanted::Connection, Wanted::Address], false),
-        b"detach" => fields(line, &[Wanted::Connection], false),
-        b"feed" => fields(line, &[Wanted::Connection, Wanted::Seconds], true),
-        b"call" => fields(line, &[Wanted::Address, Wanted::Seconds], true),
-        b"show" => fields(line, &[], false),
+        b"attach" => fields(
+            line,
+            &[Wanted::Connection, Wanted::Address],
+            Behind::Nothing,
+        ),
+        b"detach" => fields(line, &[Wanted::Connection], Behind::Nothing),
+        b"feed" => fields(line, &[Wanted::Connection, Wanted::Seconds], Behind::Bytes),
+        b"call" => fields(line, &[Wanted::Address, Wanted::Seconds], Behind::Bytes),
+        b"ask" => fields(line, &[Wanted::Address, Wanted::Seconds], Behind::Question),
+        b"show" => fields(line, &[], Behind::Nothing),
         verb => unknown_verb(word, verb),
     }
 }
@@ -166,7 +184,7 @@ fn unknown_verb<'a>(word: Piece<'a>, verb: &[u8]) -> Advice<'a>
 }
 
 // The first word of a line that isn't what is wanted there, or is missing, or is one too many.
-fn fields<'a>(line: Piece<'a>, wanted: &[Wanted], has_bytes: bool) -> Advice<'a>
+fn fields<'a>(line: Piece<'a>, wanted: &[Wanted], behind: Behind) -> Advice<'a>
     ensures { result.piece.line.now ≡ line.entry.line.now }
 {
     let end = line.behind(line.len());
@@ -178,8 +196,9 @@ fn fields<'a>(line: Piece<'a>, wanted: &[Wanted], has_bytes: bool) -> Advice<'a>
             return Advice::new(word, Reason::Script(reason));
         }
     }
-    match line.word(wanted.len() + 1) {
-        Some(word) if !has_bytes => Advice::new(word, Reason::Script(ScriptReason::TooMany)),
+    match (behind, line.word(wanted.len() + 1)) {
+        (Behind::Nothing, Some(word)) => Advice::new(word, Reason::Script(ScriptReason::TooMany)),
+        (Behind::Question, _) => Advice::new(end, Reason::Script(ScriptReason::NoQuestion)),
         _ => Advice::new(end, Reason::Script(ScriptReason::NoBytes)),
     }
 }

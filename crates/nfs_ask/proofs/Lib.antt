@@ -1,4 +1,1 @@
-pub mod Numbers
-pub mod Writes
-pub mod Ways
-pub mod Rooms
+pub mod Taking

@@ -1,5 +1,3 @@
-pub mod Calls
-pub mod Places
-pub mod Records
-pub mod Requests
-pub mod Ways
+pub mod Asks
+pub mod Operations
+pub mod Words

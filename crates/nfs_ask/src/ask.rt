@@ -1,18 +1,22 @@
 //! A call that is asked for in words.
 ghost use Rattle.std.specs.Prelude.{◌≡◌, Some, IfOk};
-ghost use Rattle.nfs_ask.specs.Records.{record_of};
+ghost use Rattle.nfs_ask.specs.Asks.{AsksBy, record_of};
+ghost use Rattle.nfs_ask.specs.Words.{Takes, value_at};
+ghost use Rattle.nfs_ask.specs.Words as spec;
+ghost use Rattle.nfs_ask.specs.declared.fault.Wanted.TheVariants as wanted;
+ghost use Rattle.nfs_rpc.specs.AuthSys.{credential_of};
+ghost use Rattle.nfs_text.specs.Words.{words_left};
 
 use crate::fault::{AskFault, Wanted};
 use crate::fields::Fields;
 use crate::operation::Operation;
-use crate::request::Request;
-use crate::sender::Sender;
+use crate::request::read_request;
 use crate::user::user_of;
-use nfs_args::procedure::MountProcedure;
+use nfs_client::request::Request;
+use nfs_client::sender::Sender;
 use nfs_inodes::tree::Tree;
 use nfs_rpc::auth_sys::Cred;
 use nfs_text::words::Words;
-use nfs_xdr::output::Output;
 use std::alloc::Global;
 
 /// Who asks for what of which path.
@@ -29,19 +33,17 @@ pub struct Ask<'a> {
 impl<'a> Ask<'a> {
     /// What these words ask for, `UID:GID[,GID..] OPERATION PATH ..`. The first word that isn't what is
     /// wanted there is the fault.
-    pub fn read(words: Words<'a>) -> Result<Ask<'a>, AskFault> {
+    pub fn read(words: Words<'a>) -> Result<Ask<'a>, AskFault>
+        ensures { IfOk result (λ ask. AsksBy (words_left words.entry) ask) }
+    {
         let mut fields = Fields::new(words);
         let cred = user(&mut fields)?;
         let word = fields.word(Wanted::Operation)?;
-        let known = Operation::of(word);
-        if known.is_none() && word != b"umount".as_slice() {
+        let Some(operation) = Operation::of(word) else {
             return Err(fields.fault(Wanted::Operation));
-        }
-        let path = fields.word(Wanted::Path)?;
-        let request = match known {
-            Some(operation) => Request::read(operation, &mut fields)?,
-            None => Request::Unmount,
         };
+        let path = fields.word(Wanted::Path)?;
+        let request = read_request(operation, &mut fields)?;
         fields.end()?;
         Ok(Ask {
             cred,
@@ -57,33 +59,22 @@ impl<'a> Ask<'a> {
     pub fn record(&self, alloc: Global, tree: &Tree, xid: u32) -> Result<Vec<u8>, AskFault>
         ensures { IfOk result (λ bytes. record_of tree.now self.now xid ≡ Some bytes.items) }
     {
-        let out = self.written(alloc, tree, xid)?;
-        let mut bytes = Vec::new(alloc);
-        bytes.extend_from_slice(out.bytes())?;
-        Ok(bytes)
-    }
-
-    fn written(&self, alloc: Global, tree: &Tree, xid: u32) -> Result<Output, AskFault>
-        ensures { IfOk result (λ out. record_of tree.now self.now xid ≡ Some out.bytes) }
-    {
         let sender = Sender {
             alloc,
             tree,
             xid,
             cred: &self.cred,
         };
-        match self.request {
-            Request::File(request) => sender.file(self.path, request),
-            Request::Name(request) => sender.name(self.path, request),
-            Request::Rename(to) => sender.rename(self.path, to),
-            Request::Link(name) => sender.link(self.path, name),
-            Request::Mount => sender.volume(MountProcedure::Mount, self.path),
-            Request::Unmount => sender.volume(MountProcedure::Unmount, self.path),
+        match sender.record(self.path, self.request) {
+            Ok(record) => Ok(record),
+            Err(fault) => Err(fault.into()),
         }
     }
 }
 
-fn user(fields: &mut Fields<'_>) -> Result<Cred, AskFault> {
+fn user(fields: &mut Fields<'_>) -> Result<Cred, AskFault>
+    ensures { Takes credential_of fields.new result (value_at wanted.User spec.user_of fields.old) }
+{
     let word = fields.word(Wanted::User)?;
     match user_of(word) {
         Some(cred) => Ok(cred),

@@ -1,7 +1,6 @@
 //! Why words ask for no call.
-ghost use Rattle.std.specs.Prelude.{◌≡◌};
 
-use std::alloc::AllocError;
+use nfs_client::fault::{CallFault, Part};
 use thiserror::Error;
 
 /// What is wanted where a word is missing or is another one.
@@ -53,12 +52,28 @@ pub enum AskFault {
     Memory,
 }
 
-impl From<AllocError> for AskFault {
-    ghost use Rattle.nfs_ask.specs.declared.fault.AskFault.TheVariants.{Memory};
+// The places of words, from the user's.
+const PATH: usize = 2;
 
-    ghost from_gives = { λ _ e. e ≡ Memory };
+const BEHIND_PATH: usize = 3;
 
-    fn from(_error: AllocError) -> AskFault {
-        AskFault::Memory
+const BYTES: usize = 4;
+
+impl From<CallFault> for AskFault {
+    fn from(fault: CallFault) -> AskFault {
+        match fault {
+            CallFault::NoFile(part) => AskFault::Word(place_of(part), Wanted::File),
+            CallFault::TooLong(part) => AskFault::Word(place_of(part), Wanted::Shorter),
+            CallFault::BadDigits => AskFault::Word(BYTES, Wanted::Bytes),
+            CallFault::Memory => AskFault::Memory,
+        }
+    }
+}
+
+fn place_of(part: Part) -> usize {
+    match part {
+        Part::Path => PATH,
+        Part::BehindPath => BEHIND_PATH,
+        Part::Bytes => BYTES,
     }
 }

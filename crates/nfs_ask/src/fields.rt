@@ -1,8 +1,12 @@
 //! The words of an `ask`, taken from left to right.
+ghost use Rattle.std.specs.Prelude.{◌≡◌};
+ghost use Rattle.nfs_text.specs.Words.{words_left};
+ghost use Rattle.nfs_ask.specs.Words.{Takes, word_at, number_at, long_number_at, mode_at, end_at, is_nothing, IsFault, octal_of, octal_more};
 
 use crate::fault::{AskFault, Wanted};
 use nfs_text::number::decimal;
 use nfs_text::words::Words;
+use std::marker::Model;
 
 /// The words that are to come, and the place of the next one.
 #[derive(Drop)]
@@ -11,14 +15,27 @@ pub(crate) struct Fields<'a> {
     place: usize,
 }
 
+impl<'a> Model for Fields<'a> {
+    ghost use Rattle.std.specs.Prelude.{ℕ, List};
+    ghost use Rattle.nfs_text.specs.Words.{words_left};
+
+    ghost Value = { List (List ℕ) };
+
+    ghost view = { λ a. words_left a.words };
+}
+
 impl<'a> Fields<'a> {
     /// All of these words.
-    pub(crate) fn new(words: Words<'a>) -> Fields<'a> {
+    pub(crate) fn new(words: Words<'a>) -> Fields<'a>
+        ensures { result ≡ words_left words.entry }
+    {
         Fields { words, place: 0 }
     }
 
     /// The next word. A fault where none is left.
-    pub(crate) fn word(&mut self, wanted: Wanted) -> Result<&'a [u8], AskFault> {
+    pub(crate) fn word(&mut self, wanted: Wanted) -> Result<&'a [u8], AskFault>
+        ensures { Takes (λ word. word.now) self.new result (word_at wanted self.old) }
+    {
         match self.words.next() {
             Some(word) => {
                 self.place = self.place.saturating_add(1);
@@ -29,12 +46,16 @@ impl<'a> Fields<'a> {
     }
 
     /// That the word that was taken last isn't what is wanted there.
-    pub(crate) fn fault(&self, wanted: Wanted) -> AskFault {
+    pub(crate) fn fault(&self, wanted: Wanted) -> AskFault
+        ensures { IsFault wanted result }
+    {
         AskFault::Word(self.place.saturating_sub(1), wanted)
     }
 
     /// A number of 32 bits.
-    pub(crate) fn number(&mut self) -> Result<u32, AskFault> {
+    pub(crate) fn number(&mut self) -> Result<u32, AskFault>
+        ensures { Takes (λ n. n) self.new result (number_at self.old) }
+    {
         let word = self.word(Wanted::Word)?;
         match decimal(word, u64::from(u32::MAX)) {
             Some(number) => Ok(number as u32),
@@ -43,7 +64,9 @@ impl<'a> Fields<'a> {
     }
 
     /// A number of 64 bits.
-    pub(crate) fn long_number(&mut self) -> Result<u64, AskFault> {
+    pub(crate) fn long_number(&mut self) -> Result<u64, AskFault>
+        ensures { Takes (λ n. n) self.new result (long_number_at self.old) }
+    {
         let word = self.word(Wanted::LongWord)?;
         match decimal(word, u64::MAX) {
             Some(number) => Ok(number),
@@ -52,7 +75,9 @@ impl<'a> Fields<'a> {
     }
 
     /// A mode.
-    pub(crate) fn mode(&mut self) -> Result<u32, AskFault> {
+    pub(crate) fn mode(&mut self) -> Result<u32, AskFault>
+        ensures { Takes (λ n. n) self.new result (mode_at self.old) }
+    {
         let word = self.word(Wanted::Mode)?;
         match octal(word) {
             Some(mode) => Ok(mode),
@@ -61,13 +86,17 @@ impl<'a> Fields<'a> {
     }
 
     /// Whether no word is left.
-    pub(crate) fn is_at_end(&self) -> bool {
+    pub(crate) fn is_at_end(&self) -> bool
+        ensures { result ≡ is_nothing self.now }
+    {
         let mut ahead = self.words;
         ahead.next().is_none()
     }
 
     /// A fault where a word is left.
-    pub(crate) fn end(&self) -> Result<(), AskFault> {
+    pub(crate) fn end(&self) -> Result<(), AskFault>
+        ensures { Takes (λ done. done) self.now result (end_at self.now) }
+    {
         if self.is_at_end() {
             Ok(())
         } else {
@@ -78,16 +107,25 @@ impl<'a> Fields<'a> {
 
 // The number that one or more octal digits say. `None` where the text is another one, or the number is
 // above 32 bits.
-fn octal(text: &[u8]) -> Option<u32> {
+fn octal(text: &[u8]) -> Option<u32>
+    ensures { result ≡ octal_of text.now }
+{
     if text.is_empty() {
         return None;
     }
-    let mut number: u32 = 0;
+    let mut number = 0;
     for byte in text {
-        if *byte < b'0' || *byte > b'7' {
-            return None;
-        }
-        number = number.checked_mul(8)?.checked_add(u32::from(*byte - b'0'))?;
+        number = with_digit(number, *byte)?;
     }
     Some(number)
+}
+
+// A number with one more digit.
+fn with_digit(number: u32, byte: u8) -> Option<u32>
+    ensures { result ≡ octal_more number byte }
+{
+    if byte < b'0' || byte > b'7' {
+        return None;
+    }
+    number.checked_mul(8)?.checked_add(u32::from(byte - b'0'))
 }

@@ -1,4 +1,6 @@
 //! What a client may do, by the words that people use.
+ghost use Rattle.std.specs.Prelude.{◌≡◌};
+ghost use Rattle.nfs_ask.specs.Operations as spec;
 
 /// What is done with a path.
 #[derive(Clone, Copy, PartialEq)]
@@ -57,10 +59,12 @@ pub enum Operation {
     Commit,
     /// MNT.
     Mount,
+    /// UMNT.
+    Unmount,
 }
 
 /// The words, each with what it stands for.
-const WORDS: [(&[u8], Operation); 33] = [
+const WORDS: [(&[u8], Operation); 34] = [
     (b"stat", Operation::Stat),
     (b"chmod", Operation::SetMode),
     (b"chown", Operation::SetOwner),
@@ -94,16 +98,26 @@ const WORDS: [(&[u8], Operation); 33] = [
     (b"pathconf", Operation::PathLimits),
     (b"commit", Operation::Commit),
     (b"mount", Operation::Mount),
+    (b"umount", Operation::Unmount),
 ];
 
 impl Operation {
     /// The operation that a word stands for.
-    pub(crate) fn of(word: &[u8]) -> Option<Operation> {
-        for (known, operation) in &WORDS {
-            if *known == word {
-                return Some(*operation);
-            }
-        }
-        None
+    pub fn of(word: &[u8]) -> Option<Operation>
+        ensures { result ≡ spec.operation_of word.now }
+    {
+        operation_in(&WORDS, word)
     }
+}
+
+// The operation of the first row with this word.
+fn operation_in(rows: &[(&[u8], Operation)], word: &[u8]) -> Option<Operation>
+    ensures { result ≡ spec.operation_in rows.now word.now }
+{
+    for (known, operation) in rows {
+        if *known == word {
+            return Some(*operation);
+        }
+    }
+    None
 }

@@ -1,31 +1,22 @@
 //! What an `ask` asks for.
+ghost use Rattle.std.specs.Prelude.{◌≡◌, IfOk};
+ghost use Rattle.nfs_client.specs.declared.request.Request.TheVariants as request;
+ghost use Rattle.nfs_client.specs.declared.file_request.FileRequest.TheVariants as of_file;
+ghost use Rattle.nfs_ask.specs.declared.operation.Operation.TheVariants as op;
+ghost use Rattle.nfs_ask.specs.Words.{Takes, or_else, long_number_at};
+ghost use Rattle.nfs_ask.specs.Asks as spec;
+ghost use Rattle.nfs_ask.specs.Asks.{Asks, AsksOfFile, moment_at, new_file_at};
 
 use crate::fault::{AskFault, Wanted};
 use crate::fields::Fields;
-use crate::file_request::FileRequest;
-use crate::name_request::NameRequest;
 use crate::operation::Operation;
 use nfs_args::limits::MAX_DATA_BYTES;
 use nfs_attrs::moment::Moment;
 use nfs_attrs::sattr::Sattr;
 use nfs_attrs::time_setting::TimeSetting;
-
-/// What is asked for, beside the path that it is asked of.
-#[derive(Clone, Copy)]
-pub enum Request<'a> {
-    /// Something of a file.
-    File(FileRequest<'a>),
-    /// Something of a name in a directory.
-    Name(NameRequest<'a>),
-    /// RENAME, of the name to this path.
-    Rename(&'a [u8]),
-    /// LINK, of the file under this path.
-    Link(&'a [u8]),
-    /// MNT.
-    Mount,
-    /// UMNT.
-    Unmount,
-}
+use nfs_client::file_request::FileRequest;
+use nfs_client::name_request::NameRequest;
+use nfs_client::request::Request;
 
 // No attribute at all.
 const NOTHING: Sattr = Sattr {
@@ -37,56 +28,87 @@ const NOTHING: Sattr = Sattr {
     mtime: TimeSetting::Leave,
 };
 
-impl<'a> Request<'a> {
-    /// What an operation asks for, with the words behind its path.
-    pub(crate) fn read(
-        operation: Operation,
-        fields: &mut Fields<'a>,
-    ) -> Result<Request<'a>, AskFault> {
-        match operation {
-            Operation::Lookup => Ok(Request::Name(NameRequest::Lookup)),
-            Operation::Create => Ok(Request::Name(NameRequest::Create(new_file(fields)?))),
-            Operation::MakeDir => Ok(Request::Name(NameRequest::MakeDir(new_file(fields)?))),
-            Operation::SymLink => {
-                Ok(Request::Name(NameRequest::SymLink(fields.word(Wanted::Target)?)))
-            }
-            Operation::MakeNode => Ok(Request::Name(NameRequest::MakeNode)),
-            Operation::Remove => Ok(Request::Name(NameRequest::Remove)),
-            Operation::RemoveDir => Ok(Request::Name(NameRequest::RemoveDir)),
-            Operation::Rename => Ok(Request::Rename(fields.word(Wanted::Path)?)),
-            Operation::Link => Ok(Request::Link(fields.word(Wanted::Path)?)),
-            Operation::Mount => Ok(Request::Mount),
-            _ => Ok(Request::File(file_request(operation, fields)?)),
-        }
+/// What an operation asks for, with the words behind its path.
+pub(crate) fn read_request<'a>(
+    operation: Operation,
+    fields: &mut Fields<'a>,
+) -> Result<Request<'a>, AskFault>
+    ensures { IfOk result (λ request. Asks operation fields.old request fields.new) }
+{
+    Ok(match operation {
+        Operation::Stat => Request::File(FileRequest::Stat),
+        Operation::SetMode => set(Sattr {
+            mode: Some(fields.mode()?),
+            ..NOTHING
+        }),
+        Operation::SetOwner => set(Sattr {
+            uid: Some(fields.number()?),
+            ..NOTHING
+        }),
+        Operation::SetGroup => set(Sattr {
+            gid: Some(fields.number()?),
+            ..NOTHING
+        }),
+        Operation::Truncate => set(Sattr {
+            size: Some(fields.long_number()?),
+            ..NOTHING
+        }),
+        Operation::Touch => set(with_times(TimeSetting::ServerTime)),
+        Operation::SetTimes => set(with_times(TimeSetting::ClientTime(moment(fields)?))),
+        Operation::Access => Request::File(FileRequest::Access),
+        Operation::ReadLink => Request::File(FileRequest::ReadLink),
+        Operation::Read => Request::File(read(fields)?),
+        Operation::Write => Request::File(write(fields)?),
+        Operation::List => Request::File(FileRequest::List(number_or(fields, 0)?)),
+        Operation::ListPlus => Request::File(FileRequest::ListPlus(number_or(fields, 0)?)),
+        Operation::Room => Request::File(FileRequest::Room),
+        Operation::Limits => Request::File(FileRequest::Limits),
+        Operation::PathLimits => Request::File(FileRequest::PathLimits),
+        Operation::Commit => Request::File(FileRequest::Commit),
+        Operation::Lookup => Request::Name(NameRequest::Lookup),
+        Operation::Create => Request::Name(NameRequest::Create(new_file(fields)?)),
+        Operation::MakeDir => Request::Name(NameRequest::MakeDir(new_file(fields)?)),
+        Operation::SymLink => Request::Name(NameRequest::SymLink(fields.word(Wanted::Target)?)),
+        Operation::MakeNode => Request::Name(NameRequest::MakeNode),
+        Operation::Remove => Request::Name(NameRequest::Remove),
+        Operation::RemoveDir => Request::Name(NameRequest::RemoveDir),
+        Operation::Rename => Request::Rename(fields.word(Wanted::Path)?),
+        Operation::Link => Request::Link(fields.word(Wanted::Path)?),
+        Operation::Mount => Request::Mount,
+        Operation::Unmount => Request::Unmount,
+    })
+}
+
+fn set<'a>(attributes: Sattr) -> Request<'a>
+    ensures { result ≡ request.File (of_file.Set attributes) }
+{
+    Request::File(FileRequest::Set(attributes))
+}
+
+// Both times, and nothing else.
+fn with_times(time: TimeSetting) -> Sattr
+    ensures { result ≡ spec.with_times time }
+{
+    Sattr {
+        atime: time,
+        mtime: time,
+        ..NOTHING
     }
 }
 
-// What is asked of a file.
-fn file_request<'a>(
-    operation: Operation,
-    fields: &mut Fields<'a>,
-) -> Result<FileRequest<'a>, AskFault> {
-    match operation {
-        Operation::Access => Ok(FileRequest::Access),
-        Operation::ReadLink => Ok(FileRequest::ReadLink),
-        Operation::Read => read(fields),
-        Operation::Write => Ok(FileRequest::Write {
-            offset: fields.long_number()?,
-            digits: fields.word(Wanted::Bytes)?,
-        }),
-        Operation::List => Ok(FileRequest::List(number_or(fields, 0)?)),
-        Operation::ListPlus => Ok(FileRequest::ListPlus(number_or(fields, 0)?)),
-        Operation::Room => Ok(FileRequest::Room),
-        Operation::Limits => Ok(FileRequest::Limits),
-        Operation::PathLimits => Ok(FileRequest::PathLimits),
-        Operation::Commit => Ok(FileRequest::Commit),
-        Operation::Stat => Ok(FileRequest::Stat),
-        _ => Ok(FileRequest::Set(setting(operation, fields)?)),
-    }
+// From which byte on, and which ones.
+fn write<'a>(fields: &mut Fields<'a>) -> Result<FileRequest<'a>, AskFault>
+    ensures { IfOk result (λ request. AsksOfFile op.Write fields.old request fields.new) }
+{
+    let offset = fields.long_number()?;
+    let digits = fields.word(Wanted::Bytes)?;
+    Ok(FileRequest::Write { offset, digits })
 }
 
 // From which byte on, and how many.
-fn read<'a>(fields: &mut Fields<'a>) -> Result<FileRequest<'a>, AskFault> {
+fn read<'a>(fields: &mut Fields<'a>) -> Result<FileRequest<'a>, AskFault>
+    ensures { IfOk result (λ request. AsksOfFile op.Read fields.old request fields.new) }
+{
     let offset = number_or(fields, 0)?;
     let count = if fields.is_at_end() {
         MAX_DATA_BYTES as u32
@@ -96,29 +118,10 @@ fn read<'a>(fields: &mut Fields<'a>) -> Result<FileRequest<'a>, AskFault> {
     Ok(FileRequest::Read { offset, count })
 }
 
-// What a SETATTR sets.
-fn setting(operation: Operation, fields: &mut Fields<'_>) -> Result<Sattr, AskFault> {
-    let mut given = NOTHING;
-    match operation {
-        Operation::SetMode => given.mode = Some(fields.mode()?),
-        Operation::SetOwner => given.uid = Some(fields.number()?),
-        Operation::SetGroup => given.gid = Some(fields.number()?),
-        Operation::Truncate => given.size = Some(fields.long_number()?),
-        Operation::Touch => {
-            given.atime = TimeSetting::ServerTime;
-            given.mtime = TimeSetting::ServerTime;
-        }
-        _ => {
-            let time = TimeSetting::ClientTime(moment(fields)?);
-            given.atime = time;
-            given.mtime = time;
-        }
-    }
-    Ok(given)
-}
-
 // Whole seconds, 0 where none are told.
-fn moment(fields: &mut Fields<'_>) -> Result<Moment, AskFault> {
+fn moment(fields: &mut Fields<'_>) -> Result<Moment, AskFault>
+    ensures { Takes (λ m. m) fields.new result (moment_at fields.old) }
+{
     let seconds = if fields.is_at_end() {
         0
     } else {
@@ -128,7 +131,9 @@ fn moment(fields: &mut Fields<'_>) -> Result<Moment, AskFault> {
 }
 
 // What a new file is to be like: a mode, where one is told.
-fn new_file(fields: &mut Fields<'_>) -> Result<Sattr, AskFault> {
+fn new_file(fields: &mut Fields<'_>) -> Result<Sattr, AskFault>
+    ensures { Takes (λ s. s) fields.new result (new_file_at fields.old) }
+{
     let mut given = NOTHING;
     if !fields.is_at_end() {
         given.mode = Some(fields.mode()?);
@@ -137,7 +142,9 @@ fn new_file(fields: &mut Fields<'_>) -> Result<Sattr, AskFault> {
 }
 
 // A number, where one is told.
-fn number_or(fields: &mut Fields<'_>, other: u64) -> Result<u64, AskFault> {
+fn number_or(fields: &mut Fields<'_>, other: u64) -> Result<u64, AskFault>
+    ensures { Takes (λ n. n) fields.new result (or_else other long_number_at fields.old) }
+{
     if fields.is_at_end() {
         Ok(other)
     } else {

@@ -1,4 +1,8 @@
 //! Users as words tell them.
+ghost use Rattle.std.specs.Prelude.{◌≡◌, option_map};
+ghost use Rattle.nfs_rpc.specs.AuthSys.{credential_of};
+ghost use Rattle.nfs_ask.specs.Words as spec;
+ghost use Rattle.nfs_ask.specs.Words.{gids_of, number_of};
 
 use arrayvec::ArrayVec;
 use nfs_rpc::auth_sys::Cred;
@@ -7,7 +11,9 @@ use nfs_text::pieces::{Pieces, cut};
 
 /// The credential that a word `UID[:GID[,GID..]]` tells: a user, its group, and at most 16 more that it is
 /// in. The group is of the user's number where none is told. `None` where the word is another one.
-pub(crate) fn user_of(word: &[u8]) -> Option<Cred> {
+pub fn user_of(word: &[u8]) -> Option<Cred>
+    ensures { option_map credential_of result ≡ spec.user_of word.now }
+{
     let (uid, groups) = cut(word, b':');
     let uid = id(uid)?;
     let Some(groups) = groups else {
@@ -23,12 +29,15 @@ pub(crate) fn user_of(word: &[u8]) -> Option<Cred> {
     Some(Cred { uid, gid, gids })
 }
 
-fn groups_of(text: Option<&[u8]>) -> Option<ArrayVec<u32, 16>> {
+fn groups_of(others: Option<&[u8]>) -> Option<ArrayVec<u32, 16>>
+    ensures { option_map (λ gids. gids.items) result ≡ gids_of (option_map (λ text. text.now) others.entry) }
+{
     let mut gids = ArrayVec::new();
-    let Some(text) = text else {
+    let Some(text) = others else {
         return Some(gids);
     };
-    for word in Pieces::new(text, b',') {
+    let mut words = Pieces::new(text, b',');
+    while let Some(word) = words.next() {
         let gid = id(word)?;
         if gids.try_push(gid).is_err() {
             return None;
@@ -37,8 +46,10 @@ fn groups_of(text: Option<&[u8]>) -> Option<ArrayVec<u32, 16>> {
     Some(gids)
 }
 
-// The number of a user or a group.
-fn id(word: &[u8]) -> Option<u32> {
+/// The number of a user or a group.
+pub fn id(word: &[u8]) -> Option<u32>
+    ensures { result ≡ number_of word.now }
+{
     match decimal(word, u64::from(u32::MAX)) {
         Some(id) => Some(id as u32),
         None => None,

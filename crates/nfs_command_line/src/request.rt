@@ -112,7 +112,7 @@ pub struct Describe<'a> {
 
 impl<'a> Request<'a> {
     /// The command of a name with its words. `None` where there is none of that name.
-    pub(crate) fn of(name: &str, words: &'a ArgMatches<'a>) -> Option<Request<'a>> {
+    pub(crate) fn of(name: &str, words: &'a ArgMatches<'_>) -> Option<Request<'a>> {
         match name {
             "check" => Some(Request::Check {
                 tree: text(words, "tree"),
@@ -135,7 +135,7 @@ impl<'a> Request<'a> {
 }
 
 impl<'a> Why<'a> {
-    fn of(words: &'a ArgMatches<'a>) -> Why<'a> {
+    fn of(words: &'a ArgMatches<'_>) -> Why<'a> {
         Why {
             tree: text(words, "tree"),
             address: text(words, "address"),
@@ -148,7 +148,7 @@ impl<'a> Why<'a> {
 }
 
 impl<'a> Replay<'a> {
-    fn of(words: &'a ArgMatches<'a>) -> Replay<'a> {
+    fn of(words: &'a ArgMatches<'_>) -> Replay<'a> {
         Replay {
             tree: text(words, "tree"),
             script: text(words, "script"),
@@ -161,7 +161,7 @@ impl<'a> Replay<'a> {
 }
 
 impl<'a> Serve<'a> {
-    fn of(words: &'a ArgMatches<'a>) -> Serve<'a> {
+    fn of(words: &'a ArgMatches<'_>) -> Serve<'a> {
         Serve {
             tree: text(words, "tree"),
             listen: text(words, "listen"),
@@ -178,7 +178,7 @@ impl<'a> Serve<'a> {
 }
 
 impl<'a> Describe<'a> {
-    fn of(words: &'a ArgMatches<'a>) -> Describe<'a> {
+    fn of(words: &'a ArgMatches<'_>) -> Describe<'a> {
         Describe {
             directory: text(words, "directory"),
             key: text(words, "key"),
@@ -191,8 +191,12 @@ impl<'a> Describe<'a> {
 }
 
 // A word that has to be there.
-fn text<'a>(words: &ArgMatches<'a>, id: &str) -> &'a str {
-    words.get_str(id).unwrap_or("")
+fn text<'a>(words: &'a ArgMatches<'_>, id: &str) -> &'a str {
+    let found = words.get_str(id);
+    match found {
+        Some(text) => text,
+        None => "",
+    }
 }
 
 fn cache(words: &ArgMatches<'_>) -> usize {

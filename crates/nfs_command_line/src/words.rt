@@ -52,7 +52,7 @@ impl<'a> Words<'a> {
     }
 
     /// What the words ask for, if anything.
-    pub fn request(&'a self) -> Option<Request<'a>> {
+    pub fn request(&self) -> Option<Request<'_>> {
         let (name, words) = self.matches.subcommand()?;
         Request::of(name, words)
     }

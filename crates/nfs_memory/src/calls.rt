@@ -1,6 +1,6 @@
 //! Each growth of a call that changes the tree refused in turn.
 use crate::ROUNDS;
-use crate::described::loaded;
+use crate::described::server;
 use crate::tree::snapshot_of;
 use ballast::Ballast;
 use nfs_attrs::moment::Moment;
@@ -118,7 +118,7 @@ fn refusals(alloc: Global, procedure: u32, args: &[&[u8]; 4]) -> Result<Option<u
         },
         bytes: record.as_slice(),
     };
-    let mut server = Server::new(alloc, loaded(alloc)?, 128)?;
+    let mut server = server(alloc)?;
     refusals_of(alloc, &mut server, event, procedure, &mut reply)
 }
 

@@ -4,6 +4,7 @@ use ballast::Ballast;
 use nfs_load::description::load;
 use nfs_load::load_error::LoadError;
 use nfs_load::loaded::Loaded;
+use nfs_server::server::Server;
 use std::alloc::{AllocError, Global};
 use std::test::Fail;
 
@@ -25,14 +26,24 @@ pub(crate) fn loaded(alloc: Global) -> Result<Loaded, AllocError> {
     }
 }
 
+/// A server of it that has seen no call. Refused without memory.
+pub(crate) fn server(alloc: Global) -> Result<Server, AllocError> {
+    Server::new(alloc, loaded(alloc)?, 128)
+}
+
+// Why it isn't loaded, if it isn't.
+fn fault(alloc: Global) -> Option<LoadError> {
+    load(alloc, TEXT).err()
+}
+
 // How often a description was refused until there was memory; none where it was at fault.
 fn refusals(alloc: Global) -> Result<Option<u32>, AllocError> {
     let mut ballast = Ballast::new(alloc)?;
     for refused in 0..ROUNDS {
-        match load(alloc, TEXT) {
-            Ok(_) => return Ok(Some(refused)),
-            Err(LoadError::Memory) if ballast.lighten() => {}
-            Err(_) => return Ok(None),
+        match fault(alloc) {
+            None => return Ok(Some(refused)),
+            Some(LoadError::Memory) if ballast.lighten() => {}
+            Some(_) => return Ok(None),
         }
     }
     Ok(None)

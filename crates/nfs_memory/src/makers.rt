@@ -1,12 +1,11 @@
 //! What is made, and files that are numbered, without memory.
 use crate::ROUNDS;
-use crate::described::loaded;
+use crate::described::server;
 use ballast::Ballast;
 use nfs_handles::fault::PutFault;
 use nfs_handles::files::Files;
 use nfs_handles::number::Number;
 use nfs_server::reply_buf::ReplyBuf;
-use nfs_server::server::Server;
 use nfs_server::sessions::Sessions;
 use nfs_xdr::output::Output;
 use std::alloc::{AllocError, Global};
@@ -29,7 +28,7 @@ fn is_made(alloc: Global, maker: Maker) -> bool {
 }
 
 fn sessions(alloc: Global) -> Result<Sessions, AllocError> {
-    let server = Server::new(alloc, loaded(alloc)?, 128)?;
+    let server = server(alloc)?;
     Sessions::new(alloc, server)
 }
 

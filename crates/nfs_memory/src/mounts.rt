@@ -1,7 +1,7 @@
 //! Each growth of the mount list refused in turn.
 use crate::ROUNDS;
 use crate::calls::{SUCCESS, is_refused};
-use crate::described::loaded;
+use crate::described::server;
 use crate::tree::snapshot_of;
 use ballast::Ballast;
 use nfs_attrs::moment::Moment;
@@ -40,7 +40,7 @@ fn event(addr: Addr, bytes: &[u8]) -> Event<'_> {
 
 // A server of whose volume so many other hosts are clients.
 fn server_of(alloc: Global, reply: &mut ReplyBuf, clients: u8) -> Result<Server, AllocError> {
-    let mut server = Server::new(alloc, loaded(alloc)?, 128)?;
+    let mut server = server(alloc)?;
     for client in 0..clients {
         let addr = Addr(0x0a00_0080 | u32::from(client));
         server.handle(event(addr, MNT), reply);

@@ -1,6 +1,6 @@
 //! Calls that take no memory, where there is none.
 use crate::calls::{CREDENTIAL, DIRECTORY, FILE};
-use crate::described::loaded;
+use crate::described::server;
 use ballast::Ballast;
 use nfs_attrs::moment::Moment;
 use nfs_exports::addr::Addr;
@@ -96,7 +96,7 @@ fn are_alike(
     calls: &[(u32, u32, [&[u8]; 2])],
 ) -> Result<bool, AllocError> {
     let mut reply = ReplyBuf::new(alloc)?;
-    let mut server = Server::new(alloc, loaded(alloc)?, 128)?;
+    let mut server = server(alloc)?;
     are_answered_alike(alloc, &mut server, &mut reply, addr, calls)
 }
 

@@ -2,7 +2,7 @@
 ghost use Rattle.std.specs.Prelude.{◌<◌};
 
 use crate::ROUNDS;
-use crate::described::loaded;
+use crate::described::server;
 use ballast::Ballast;
 use nfs_attrs::moment::Moment;
 use nfs_exports::addr::Addr;
@@ -136,7 +136,7 @@ fn is_lawful(
 
 // At how many calls the device failed, one after another, until the stream was served whole.
 fn broken_streams(alloc: Global, failing: Failing) -> Result<Option<u32>, AllocError> {
-    let mut server = Server::new(alloc, loaded(alloc)?, 128)?;
+    let mut server = server(alloc)?;
     Ok(broken_before(alloc, &mut server, failing))
 }
 
@@ -225,7 +225,7 @@ fn fails(alloc: Global, server: &mut Server, room: &mut Room, k: u32) -> Option<
 // At how many calls the link failed, one after another, until both clients were served whole.
 fn failed_links(alloc: Global) -> Result<Option<u32>, AllocError> {
     let mut room = Room::new(alloc)?;
-    let mut server = Server::new(alloc, loaded(alloc)?, 128)?;
+    let mut server = server(alloc)?;
     Ok(failed_before(alloc, &mut server, &mut room))
 }
 
@@ -268,7 +268,7 @@ fn meets(alloc: Global, server: &mut Server, room: &mut Room) -> Option<bool> {
 // How many clients ended without memory, until one got all its replies.
 fn poor_clients(alloc: Global) -> Result<Option<u32>, AllocError> {
     let mut room = Room::new(alloc)?;
-    let mut server = Server::new(alloc, loaded(alloc)?, 128)?;
+    let mut server = server(alloc)?;
     poor_turns(alloc, &mut server, &mut room)
 }
 
@@ -298,7 +298,7 @@ fn a_client_without_memory_ends_and_the_server_goes_on(rt: HostRuntime) -> Resul
 
 // How often a stream was refused for want of memory, until it was served.
 fn poor_streams(alloc: Global) -> Result<Option<u32>, AllocError> {
-    let mut server = Server::new(alloc, loaded(alloc)?, 128)?;
+    let mut server = server(alloc)?;
     let mut ballast = Ballast::new(alloc)?;
     Ok(poor_before(alloc, &mut server, &mut ballast))
 }

@@ -1,12 +1,11 @@
 //! Framers and connections without memory for a record.
 use crate::ROUNDS;
-use crate::described::loaded;
+use crate::described::server;
 use ballast::Ballast;
 use nfs_attrs::moment::Moment;
 use nfs_exports::addr::Addr;
 use nfs_rpc::framer::{Fed, FrameFault, Framer};
 use nfs_server::connection::MAX_RECORD_BYTES;
-use nfs_server::server::Server;
 use nfs_server::session_fault::SessionFault;
 use nfs_server::sessions::Sessions;
 use nfs_xdr::device::Device;
@@ -89,7 +88,7 @@ fn attached(alloc: Global, sessions: &mut Sessions) -> Option<Outcome> {
 // Whether it was first refused to attach a connection, then the connection ended, and then there
 // was memory for both.
 fn connections(alloc: Global) -> Result<bool, AllocError> {
-    let server = Server::new(alloc, loaded(alloc)?, 128)?;
+    let server = server(alloc)?;
     let mut sessions = Sessions::new(alloc, server)?;
     let mut ballast = Ballast::new(alloc)?;
     Ok(both_wanted(alloc, &mut sessions, &mut ballast))

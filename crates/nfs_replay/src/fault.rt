@@ -20,6 +20,9 @@ pub enum LineCause {
     /// A word of an `ask` line, counted from 0 at the user's, is not what is wanted there.
     #[error("BadLine")]
     BadWord(usize, Wanted),
+    /// Such a word is a path that names no file that lives.
+    #[error("NoHandle")]
+    NoFile(usize),
 }
 
 /// Why a run of a script ends before its end.

@@ -12,7 +12,7 @@ use crate::printing::{Printer, Replies};
 use crate::script::{Order, order_of};
 use crate::shown::Shown;
 use nfs_ask::ask::Ask;
-use nfs_ask::fault::AskFault;
+use nfs_ask::fault::{AskFault, Wanted};
 use nfs_attrs::moment::Moment;
 use nfs_exports::addr::Addr;
 use nfs_inodes::tree::Tree;
@@ -86,6 +86,7 @@ impl From<LineCause> for LineFault {
 impl From<AskFault> for LineFault {
     fn from(fault: AskFault) -> LineFault {
         match fault {
+            AskFault::Word(word, Wanted::File) => LineFault::Line(LineCause::NoFile(word)),
             AskFault::Word(word, wanted) => LineFault::Line(LineCause::BadWord(word, wanted)),
             AskFault::Memory => LineFault::Run(RunFault::Memory),
         }
@@ -151,7 +152,8 @@ impl Player {
         ensures { IfErr result IsNumbered }
     {
         for (index, line) in script.split(|b| *b == b'\n').enumerate() {
-            if let Err(fault) = self.line(line, index as u32, out) {
+            let before = u32::try_from(index).unwrap_or(u32::MAX);
+            if let Err(fault) = self.line(line, before, out) {
                 self.run_calls(out)?;
                 return Err(fault.at(index as u64));
             }

@@ -1,7 +1,5 @@
 //! What an operation asks for, as the arguments of its call.
 
-use crate::operation::Operation;
-use crate::user::id;
 use nfs_args::access::Access;
 use nfs_args::args::NfsArgs;
 use nfs_args::byte_range::ByteRange;
@@ -16,6 +14,8 @@ use nfs_args::rename::Rename;
 use nfs_args::set_attr::SetAttr;
 use nfs_args::sym_link::SymLink;
 use nfs_args::write::{Stability, Write};
+use nfs_ask::operation::Operation;
+use nfs_ask::user::id;
 use nfs_attrs::moment::Moment;
 use nfs_attrs::sattr::Sattr;
 use nfs_attrs::time_setting::TimeSetting;

@@ -1,10 +1,10 @@
 //! Who may reach which volume, as exportfs(8) prints it.
 
 use crate::grant::{put_anonymous, put_network};
-use crate::text::Text;
 use nfs_exports::options::{Options, Squash};
 use nfs_exports::table::Export;
 use nfs_load::loaded::Loaded;
+use nfs_words::text::Text;
 
 // How wide a path is, at least.
 const PATH_BYTES: usize = 14;

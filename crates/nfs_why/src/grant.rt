@@ -1,12 +1,12 @@
 //! The grant that an address has, and the line of the description that gives it.
 
-use crate::text::Text;
 use nfs_advice::earlier::export_line;
 use nfs_exports::addr::{Addr, put_addr};
 use nfs_exports::options::{NOBODY, Options, Squash};
 use nfs_exports::pattern::{Pattern, put_pattern};
 use nfs_load::loaded::Loaded;
 use nfs_text::line::Line;
+use nfs_words::text::Text;
 
 /// Puts which options an address has at a volume, by which pattern and in which line of the description.
 pub(crate) fn put_grant(out: &mut Text, text: &[u8], loaded: &Loaded, volume: usize, addr: Addr) {

@@ -1,63 +1,6 @@
-//! What a client may do, by the words that people use.
+//! What the paths of an operation name, and its procedure.
 
-/// What is done with a path.
-#[derive(Clone, Copy, PartialEq)]
-pub enum Operation {
-    /// GETATTR.
-    Stat,
-    /// SETATTR of a mode.
-    SetMode,
-    /// SETATTR of an owner.
-    SetOwner,
-    /// SETATTR of a group.
-    SetGroup,
-    /// SETATTR of a size.
-    Truncate,
-    /// SETATTR of both times to the server's.
-    Touch,
-    /// SETATTR of both times to some of the client's.
-    SetTimes,
-    /// LOOKUP.
-    Lookup,
-    /// ACCESS.
-    Access,
-    /// READLINK.
-    ReadLink,
-    /// READ.
-    Read,
-    /// WRITE.
-    Write,
-    /// CREATE.
-    Create,
-    /// MKDIR.
-    MakeDir,
-    /// SYMLINK.
-    SymLink,
-    /// MKNOD.
-    MakeNode,
-    /// REMOVE.
-    Remove,
-    /// RMDIR.
-    RemoveDir,
-    /// RENAME.
-    Rename,
-    /// LINK.
-    Link,
-    /// READDIR.
-    List,
-    /// READDIRPLUS.
-    ListPlus,
-    /// FSSTAT.
-    Room,
-    /// FSINFO.
-    Limits,
-    /// PATHCONF.
-    PathLimits,
-    /// COMMIT.
-    Commit,
-    /// MNT.
-    Mount,
-}
+use nfs_ask::operation::Operation;
 
 /// What the paths of an operation name.
 #[derive(Clone, Copy, PartialEq)]
@@ -74,57 +17,10 @@ pub enum Shape {
     Volume,
 }
 
-/// The words, each with what it stands for.
-const WORDS: [(&[u8], Operation); 33] = [
-    (b"stat", Operation::Stat),
-    (b"chmod", Operation::SetMode),
-    (b"chown", Operation::SetOwner),
-    (b"chgrp", Operation::SetGroup),
-    (b"truncate", Operation::Truncate),
-    (b"touch", Operation::Touch),
-    (b"utime", Operation::SetTimes),
-    (b"lookup", Operation::Lookup),
-    (b"access", Operation::Access),
-    (b"readlink", Operation::ReadLink),
-    (b"read", Operation::Read),
-    (b"write", Operation::Write),
-    (b"create", Operation::Create),
-    (b"mkdir", Operation::MakeDir),
-    (b"symlink", Operation::SymLink),
-    (b"mknod", Operation::MakeNode),
-    (b"remove", Operation::Remove),
-    (b"rm", Operation::Remove),
-    (b"unlink", Operation::Remove),
-    (b"rmdir", Operation::RemoveDir),
-    (b"rename", Operation::Rename),
-    (b"mv", Operation::Rename),
-    (b"link", Operation::Link),
-    (b"ln", Operation::Link),
-    (b"list", Operation::List),
-    (b"ls", Operation::List),
-    (b"readdir", Operation::List),
-    (b"readdirplus", Operation::ListPlus),
-    (b"df", Operation::Room),
-    (b"fsinfo", Operation::Limits),
-    (b"pathconf", Operation::PathLimits),
-    (b"commit", Operation::Commit),
-    (b"mount", Operation::Mount),
-];
-
-impl Operation {
-    /// The operation that a word stands for.
-    pub(crate) fn of(word: &[u8]) -> Option<Operation> {
-        for (known, operation) in &WORDS {
-            if *known == word {
-                return Some(*operation);
-            }
-        }
-        None
-    }
-
-    /// What its paths name.
-    pub(crate) fn shape(self) -> Shape {
-        match self {
+impl Shape {
+    /// What the paths of an operation name.
+    pub(crate) fn of(operation: Operation) -> Shape {
+        match operation {
             Operation::Lookup
             | Operation::Create
             | Operation::MakeDir
@@ -134,41 +30,42 @@ impl Operation {
             | Operation::RemoveDir => Shape::Name,
             Operation::Rename => Shape::TwoNames,
             Operation::Link => Shape::FileAndName,
-            Operation::Mount => Shape::Volume,
+            Operation::Mount | Operation::Unmount => Shape::Volume,
             _ => Shape::File,
         }
     }
+}
 
-    /// The name of its procedure.
-    pub(crate) fn procedure(self) -> &'static str {
-        match self {
-            Operation::Stat => "GETATTR",
-            Operation::SetMode
-            | Operation::SetOwner
-            | Operation::SetGroup
-            | Operation::Truncate
-            | Operation::Touch
-            | Operation::SetTimes => "SETATTR",
-            Operation::Lookup => "LOOKUP",
-            Operation::Access => "ACCESS",
-            Operation::ReadLink => "READLINK",
-            Operation::Read => "READ",
-            Operation::Write => "WRITE",
-            Operation::Create => "CREATE",
-            Operation::MakeDir => "MKDIR",
-            Operation::SymLink => "SYMLINK",
-            Operation::MakeNode => "MKNOD",
-            Operation::Remove => "REMOVE",
-            Operation::RemoveDir => "RMDIR",
-            Operation::Rename => "RENAME",
-            Operation::Link => "LINK",
-            Operation::List => "READDIR",
-            Operation::ListPlus => "READDIRPLUS",
-            Operation::Room => "FSSTAT",
-            Operation::Limits => "FSINFO",
-            Operation::PathLimits => "PATHCONF",
-            Operation::Commit => "COMMIT",
-            Operation::Mount => "MNT",
-        }
+/// The name of an operation's procedure.
+pub(crate) fn procedure_of(operation: Operation) -> &'static str {
+    match operation {
+        Operation::Stat => "GETATTR",
+        Operation::SetMode
+        | Operation::SetOwner
+        | Operation::SetGroup
+        | Operation::Truncate
+        | Operation::Touch
+        | Operation::SetTimes => "SETATTR",
+        Operation::Lookup => "LOOKUP",
+        Operation::Access => "ACCESS",
+        Operation::ReadLink => "READLINK",
+        Operation::Read => "READ",
+        Operation::Write => "WRITE",
+        Operation::Create => "CREATE",
+        Operation::MakeDir => "MKDIR",
+        Operation::SymLink => "SYMLINK",
+        Operation::MakeNode => "MKNOD",
+        Operation::Remove => "REMOVE",
+        Operation::RemoveDir => "RMDIR",
+        Operation::Rename => "RENAME",
+        Operation::Link => "LINK",
+        Operation::List => "READDIR",
+        Operation::ListPlus => "READDIRPLUS",
+        Operation::Room => "FSSTAT",
+        Operation::Limits => "FSINFO",
+        Operation::PathLimits => "PATHCONF",
+        Operation::Commit => "COMMIT",
+        Operation::Mount => "MNT",
+        Operation::Unmount => "UMNT",
     }
 }

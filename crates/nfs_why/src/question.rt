@@ -1,7 +1,8 @@
 //! A question: may this caller do that?
 
-use crate::operation::{Operation, Shape};
-use crate::user::{id, user_of};
+use crate::operation::Shape;
+use nfs_ask::operation::Operation;
+use nfs_ask::user::{id, user_of};
 use nfs_exports::addr::{Addr, parse_addr};
 use nfs_rpc::auth_sys::Cred;
 use nfs_text::number::decimal;
@@ -57,8 +58,10 @@ impl<'a> Question<'a> {
         let Some(cred) = user_of(user) else {
             return Err(BadQuestion::User);
         };
-        let Some(operation) = Operation::of(operation) else {
-            return Err(BadQuestion::Operation);
+        // UMNT is granted to everybody.
+        let operation = match Operation::of(operation) {
+            Some(operation) if operation != Operation::Unmount => operation,
+            _ => return Err(BadQuestion::Operation),
         };
         if let Some(fault) = second_fault(operation, second) {
             return Err(fault);
@@ -95,7 +98,7 @@ fn second_fault(operation: Operation, second: Option<&[u8]>) -> Option<BadQuesti
 }
 
 fn needs_second(operation: Operation) -> bool {
-    match operation.shape() {
+    match Shape::of(operation) {
         Shape::TwoNames | Shape::FileAndName => true,
         _ => match operation {
             Operation::SymLink | Operation::SetOwner | Operation::SetGroup => true,

@@ -5,11 +5,11 @@ use crate::grant::put_grant;
 use crate::judgement::{Judgement, exported_file, judge};
 use crate::meaning::meaning;
 use crate::mounting::mount_failure;
-use crate::operation::{Operation, Shape};
+use crate::operation::{Shape, procedure_of};
 use crate::order::{HANDLE, HANDLES, MOUNT};
 use crate::place::{split_last, volume_holding};
 use crate::question::Question;
-use crate::text::Text;
+use nfs_ask::operation::Operation;
 use nfs_attrs::fattr::Fattr;
 use nfs_handles::number::Number;
 use nfs_load::loaded::Loaded;
@@ -17,6 +17,7 @@ use nfs_rpc::auth_sys::Cred;
 use nfs_rules::caller::Caller;
 use nfs_rules::rule::Rule;
 use nfs_text::pieces::Pieces;
+use nfs_words::text::Text;
 use std::alloc::{AllocError, Global};
 
 /// Puts the answer to a question over a description, which is the text of what was loaded: the grant that
@@ -84,7 +85,7 @@ impl<'a> Inquiry<'a> {
     // The answer of a call of NFS.
     fn put(&self, question: &Question<'_>, out: &mut Text) {
         let second = question.second.unwrap_or(&[]);
-        let (is_name, has_second) = match question.operation.shape() {
+        let (is_name, has_second) = match Shape::of(question.operation) {
             Shape::Name => (true, false),
             Shape::TwoNames => (true, true),
             Shape::FileAndName => (false, true),
@@ -214,7 +215,7 @@ impl<'a> Inquiry<'a> {
         let Some(judgement) = judge(tree, &self.loaded.table, self.caller, handles, &args) else {
             return;
         };
-        out.put(question.operation.procedure().as_bytes());
+        out.put(procedure_of(question.operation).as_bytes());
         self.put_target(b" of ", one, out);
         if one.file.0 != two.file.0 || one.name != two.name {
             self.put_target(b", ", two, out);
@@ -261,7 +262,7 @@ fn put_claim(out: &mut Text, cred: &Cred) {
 }
 
 fn put_judgement(out: &mut Text, operation: Operation, judgement: Judgement) {
-    let handles: &[Rule] = match operation.shape() {
+    let handles: &[Rule] = match Shape::of(operation) {
         Shape::TwoNames | Shape::FileAndName => &HANDLES,
         _ => &HANDLE,
     };
@@ -269,7 +270,7 @@ fn put_judgement(out: &mut Text, operation: Operation, judgement: Judgement) {
         Judgement::Unreached(rule) => {
             put_rules(out, handles, Some(rule));
             out.put(b"  not looked at  the rules of ");
-            out.put(operation.procedure().as_bytes());
+            out.put(procedure_of(operation).as_bytes());
             out.put(b"\n");
         }
         Judgement::Judged(rules, failure) => {

@@ -1,0 +1,49 @@
+-- How much room arguments take.
+use Rattle.std.proofs.Common.{◌≡◌, ℕ, ◌+◌, ◌≤◌, List, [], ◌∷◌, ◌++◌, length, Option, Some, None, arith, length-append}
+use Rattle.std.proofs.lemmas.Grind.{common_steps}
+use Rattle.std.specs.Int.{w32, w64, to_be_bytes}
+use Rattle.nfs_xdr.specs.Spelling.{opaque_text, fixed_text, pad_text, padding, numbers_text, optional_text}
+use Rattle.nfs_attrs.specs.declared.sattr.Sattr.{Sattr}
+use Rattle.nfs_attrs.specs.declared.time_setting.TimeSetting.{TimeSetting}
+use Rattle.nfs_attrs.specs.declared.time_setting.TimeSetting.TheVariants.{Leave, ServerTime, ClientTime}
+use Rattle.nfs_attrs.specs.Spelling.{sattr_text, time_setting_text, moment_text}
+use Rattle.nfs_client.specs.declared.file_request.FileRequest.{FileRequest}
+use Rattle.nfs_client.specs.declared.file_request.FileRequest.TheVariants as of_file
+use Rattle.nfs_client.specs.Requests.{file_text, file_rest}
+
+pub word_room : (o : Option ℕ) → length (optional_text (to_be_bytes w32) o) ≤ 8
+word_room None = omega arith
+word_room (Some n) = omega arith
+
+pub hyper_room : (o : Option ℕ) → length (optional_text (to_be_bytes w64) o) ≤ 12
+hyper_room None = omega arith
+hyper_room (Some n) = omega arith
+
+pub time_room : (t : TimeSetting) → length (time_setting_text t) ≤ 12
+time_room Leave = omega arith
+time_room ServerTime = omega arith
+time_room (ClientTime m) = omega arith
+
+pub sattr_room : (s : Sattr) → length (sattr_text s) ≤ 60
+sattr_room s = grind (arith, length-append, word_room, hyper_room, time_room)
+
+pub opaque_room : (item : List ℕ) → length (opaque_text item) ≤ length item + 7
+opaque_room item = grind (arith, common_steps)
+
+pub rest_room : (r : FileRequest) (content : List ℕ) → length (file_rest r content) ≤ 64 + length content
+rest_room of_file.Stat content = omega arith
+rest_room (of_file.Set attributes) content = omega (arith, length-append (sattr_text attributes) (to_be_bytes w32 0), sattr_room attributes)
+rest_room of_file.Access content = omega arith
+rest_room of_file.ReadLink content = omega arith
+rest_room (of_file.Read offset count) content = omega arith
+rest_room (of_file.Write offset digits) content = omega (arith, opaque_room content)
+rest_room (of_file.List cookie) content = omega arith
+rest_room (of_file.ListPlus cookie) content = omega arith
+rest_room of_file.Room content = omega arith
+rest_room of_file.Limits content = omega arith
+rest_room of_file.PathLimits content = omega arith
+rest_room of_file.Commit content = omega arith
+
+-- behind a handle of 24 bytes
+pub file_room : (r : FileRequest) (file content : List ℕ) → length file ≡ 24 → length (file_text r file content) ≤ 128 + length content
+file_room r file content sized = omega (arith, sized, length-append (opaque_text file) (file_rest r content), opaque_room file, rest_room r content)

@@ -1,0 +1,102 @@
+-- The record of a call that is asked for, over a tree.
+use Rattle.std.specs.Prelude.{◌≡◌, ℕ, List, ◌++◌, Option, Some, None, Result, Ok, Err}
+use Rattle.nfs_xdr.specs.Spelling.{opaque_text}
+use Rattle.hex.specs.Hex.{decode_of}
+use Rattle.nfs_rpc.specs.AuthSys.{Credential, credential_of}
+use Rattle.nfs_args.specs.Procedures.{procedure_number, mount_number}
+use Rattle.nfs_args.specs.declared.procedure.Procedure.{Procedure}
+use Rattle.nfs_args.specs.declared.procedure.Procedure.TheVariants as proc
+use Rattle.nfs_args.specs.declared.procedure.MountProcedure.{MountProcedure}
+use Rattle.nfs_args.specs.declared.procedure.MountProcedure.TheVariants as mount
+use Rattle.nfs_inodes.specs.Tree.{Tree, on_some}
+use Rattle.nfs_client.specs.declared.fault.CallFault.{CallFault}
+use Rattle.nfs_client.specs.declared.fault.CallFault.TheVariants.{NoFile, TooLong, BadDigits, Memory}
+use Rattle.nfs_client.specs.declared.sender.Sender as kept_sender
+use Rattle.nfs_client.specs.declared.sender.Named as kept_named
+use Rattle.nfs_client.specs.declared.request.Request.{Request}
+use Rattle.nfs_client.specs.declared.request.Request.TheVariants as request
+use Rattle.nfs_client.specs.declared.file_request.FileRequest.{FileRequest}
+use Rattle.nfs_client.specs.declared.name_request.NameRequest.{NameRequest}
+use Rattle.nfs_client.specs.Calls.{head_text, auth_sys_text}
+use Rattle.nfs_client.specs.Places.{Place, place_at, file_at, handle_in}
+use Rattle.nfs_client.specs.Requests.{digits_of, file_procedure, file_text, name_procedure, name_text, dir_op_text}
+
+-- a call's number, and who calls
+pub record Sent : Type 0 where
+  pub xid : ℕ
+  pub cred : Credential
+
+abbrev pub sent_by : kept_sender.Sender → Sent
+sent_by sender = record { xid = sender.xid; cred = credential_of sender.cred.now }
+
+-- a call of NFS, and one of MOUNT
+abbrev pub nfs_text : Sent → Procedure → List ℕ → List ℕ
+nfs_text s p args = head_text (record { xid = s.xid; program = 100003; procedure = procedure_number p }) (auth_sys_text s.cred) ++ args
+
+abbrev pub mount_text : Sent → MountProcedure → List ℕ → List ℕ
+mount_text s p args = head_text (record { xid = s.xid; program = 100005; procedure = mount_number p }) (auth_sys_text s.cred) ++ args
+
+-- the handle of the file that a path names
+abbrev pub handle_of_path : Tree → List ℕ → Option (List ℕ)
+handle_of_path t path = on_some (file_at t path) None (λ n. handle_in t n)
+
+-- the handle of a directory, and a name in it
+pub record Named : Type 0 where
+  pub handle : List ℕ
+  pub name : List ℕ
+
+abbrev pub named_seen : kept_named.Named → Named
+named_seen named = record { handle = named.handle; name = named.name.now }
+
+abbrev pub named_at : Tree → Place → Option Named
+named_at t place = on_some (handle_in t place.dir) None (λ handle. Some (record { handle = handle; name = place.name }))
+
+-- the directory that a path ends in, and the name that it ends with
+abbrev pub name_of_path : Tree → List ℕ → Option Named
+name_of_path t path = on_some (place_at t path) None (λ place. named_at t place)
+
+abbrev pub on_ok : {X Y E : Type 0} → Result X E → (X → Option Y) → Option Y
+on_ok (Ok x) f = f x
+on_ok (Err e) f = None
+
+-- ---- by what is asked for
+
+abbrev pub file_record : Tree → Sent → List ℕ → FileRequest → Option (List ℕ)
+file_record t s path r = on_some (handle_of_path t path) None (λ file. on_ok (decode_of (digits_of r)) (λ content.
+    Some (nfs_text s (file_procedure r) (file_text r file content))))
+
+abbrev pub name_record : Tree → Sent → List ℕ → NameRequest → Option (List ℕ)
+name_record t s path r = on_some (name_of_path t path) None (λ named. Some (nfs_text s (name_procedure r) (name_text r named.handle named.name)))
+
+abbrev pub rename_record : Tree → Sent → List ℕ → List ℕ → Option (List ℕ)
+rename_record t s path to = on_some (name_of_path t path) None (λ one. on_some (name_of_path t to) None (λ two.
+    Some (nfs_text s proc.Rename (dir_op_text one.handle one.name ++ dir_op_text two.handle two.name))))
+
+abbrev pub link_record : Tree → Sent → List ℕ → List ℕ → Option (List ℕ)
+link_record t s path name = on_some (handle_of_path t path) None (λ file. on_some (name_of_path t name) None (λ to.
+    Some (nfs_text s proc.Link (opaque_text file ++ dir_op_text to.handle to.name))))
+
+abbrev pub mount_record : Sent → MountProcedure → List ℕ → List ℕ
+mount_record s p path = mount_text s p (opaque_text path)
+
+abbrev pub record_in : Tree → Sent → List ℕ → Request → Option (List ℕ)
+record_in t s path (request.File r) = file_record t s path r
+record_in t s path (request.Name r) = name_record t s path r
+record_in t s path (request.Rename to) = rename_record t s path to.now
+record_in t s path (request.Link name) = link_record t s path name.now
+record_in t s path request.Mount = Some (mount_record s mount.Mount path)
+record_in t s path request.Unmount = Some (mount_record s mount.Unmount path)
+
+-- ---- faults
+
+-- a fault other than of length and memory comes only where there is nothing
+abbrev pub OnlyWithout : {A : Type 0} → Option A → CallFault → Type 0
+OnlyWithout wanted (NoFile part) = wanted ≡ None
+OnlyWithout wanted (TooLong part) = Unit {0}
+OnlyWithout wanted BadDigits = wanted ≡ None
+OnlyWithout wanted Memory = Unit {0}
+
+-- the value, if there is one
+abbrev pub ok_of : {A E : Type 0} → Result A E → Option A
+ok_of (Ok x) = Some x
+ok_of (Err e) = None

@@ -1,0 +1,299 @@
+-- The line of the next step does it.
+use Rattle.std.proofs.Common.{inl, inr, ◌≡◌, ◌≢◌, ℕ, suc, ◌+◌, ◌-◌, ◌%◌, ◌<◌, ◌≤◌, Bool, true, false, List, [], ◌∷◌, ◌++◌, length, Option, Some, None, option_map, Ok, refl, sym, ap, subst, ◌∙◌, arith}
+use Rattle.std.specs.Prelude.{AllPairs, Contains, Err, Result, if◌then◌else◌, slice_get}
+use Rattle.std.proofs.lemmas.List.{length-append}
+use Rattle.hex.specs.Hex.{IsBytes}
+use Rattle.nfs_attrs.specs.declared.fattr.Fattr.{Fattr}
+use Rattle.nfs_inodes.specs.Changes.{Makes, after_link, after_make_dir, after_make_file, after_make_link, new_file, volume_index, with_named_file}
+use Rattle.nfs_inodes.specs.Conditions.{MayLink, MayMake, MayMakeDirectory, MayMakeLink}
+use Rattle.nfs_inodes.specs.Law.{IsName, Law, Lives, LivesAsDirectory}
+use Rattle.nfs_inodes.specs.Limits.{max_file_bytes}
+use Rattle.nfs_inodes.specs.Reading.{attributes_of, entries_at, is_directory_type, type_of}
+use Rattle.nfs_inodes.specs.Tree.{Tree, File, Kind, Regular, Directory, Link, Entry, Volume, at, bytes_in, is_directory, names_of, nlink, on_some, parent_in}
+use Rattle.nfs_inodes.proofs.Lists.{same_some}
+use Rattle.nfs_load.specs.Descriptions.{OnTree, Then, last_root, root_or_cause}
+use Rattle.nfs_load.specs.Effects.{AddsName, MakesDir, MakesFile, MakesLink, attributes, link_attributes, link_end, named_file, start}
+use Rattle.nfs_load.specs.Fields.{◌>>=◌}
+use Rattle.nfs_load.specs.PathEnds as path_ends
+use Rattle.nfs_load.specs.PathEnds.{PathEnd, file_at, free_end}
+use Rattle.nfs_load.specs.Statements.{Read, FileLine, LinkLine, dir_in, file_in, hard_in, link_in}
+use Rattle.nfs_load.specs.Paths as paths
+use Rattle.nfs_load.specs.declared.cause.Cause.{Cause}
+use Rattle.nfs_load.specs.declared.cause.Cause.TheVariants.{NoTarget}
+use Rattle.nfs_load.specs.declared.line.Keyword.TheVariants as keyword
+use Rattle.nfs_load.specs.declared.loaded.Loaded.{Loaded}
+use Rattle.nfs_load.specs.declared.refusal.Refusal.{Refusal}
+use Rattle.nfs_load.specs.declared.statement.DirLine.{DirLine}
+use Rattle.nfs_load.specs.declared.statement.Given.{Given}
+use Rattle.nfs_load.specs.declared.statement.HardLine.{HardLine}
+use Rattle.nfs_describe.specs.Lines.{dir_line, file_line, hard_line, link_line}
+use Rattle.nfs_describe.specs.Places.{Place, is_sayable}
+use Rattle.nfs_describe.specs.Texts.{given_of, own_line}
+use Rattle.nfs_read_back.specs.ReadBack.{is_said}
+use Rattle.nfs_read_back.proofs.Statements as read_back
+use Rattle.nfs_round_trip.specs.Copies.{CanBeSaid, copied, copied_kind, copied_mode, copied_volume}
+use Rattle.nfs_round_trip.proofs.Changes.{part_with_file, part_with_name}
+use Rattle.nfs_round_trip.proofs.Directories.{entries_of, none_named, one_named, shown}
+use Rattle.nfs_round_trip.proofs.Going.{IsNamed, end_free, file_found, last_of, path_in_names, path_said}
+use Rattle.nfs_round_trip.proofs.Made.{Has, holding, with_entries}
+use Rattle.nfs_round_trip.proofs.Parts.{IsPart, copy_is_directory, directory_made, file_made, none_before}
+use Rattle.nfs_round_trip.proofs.Paths.{AreNames, names_push, slashed, slashed_push}
+use Rattle.nfs_round_trip.proofs.Reaches.{HasNone, leads}
+use Rattle.nfs_round_trip.proofs.Rooms.{has_name, is_entry, may_link, may_make, may_make_dir, may_make_link, same_volume}
+use Rattle.nfs_round_trip.proofs.Runs.{Done, Goes, does_made, goes_on, root_is, then_is}
+use Rattle.nfs_round_trip.proofs.Walks.{Step, place_of}
+
+pub done_map : {A B : Type 0} (result : Result Unit Refusal) → (A → B) → Done result A → Done result B
+done_map result f done = elim done [ inl memory ↦ inl memory | inr it ↦ inr (it.0, f it.1) ]
+
+-- ---- lines of files
+
+own_regular : (path : List ℕ) (a : Fattr) (bytes : List ℕ) → path ≢ [] → own_line path a (Regular bytes) ≡ file_line path (given_of a) bytes
+own_regular [] a bytes some = absurd (some refl)
+own_regular (x ∷ path) a bytes some = refl
+
+own_directory : (path : List ℕ) (a : Fattr) (parent next_cookie : ℕ) (entries : List Entry) → path ≢ [] → own_line path a (Directory parent next_cookie entries) ≡ dir_line path (given_of a)
+own_directory [] a parent next_cookie entries some = absurd (some refl)
+own_directory (x ∷ path) a parent next_cookie entries some = refl
+
+own_link : (path : List ℕ) (a : Fattr) (target : List ℕ) → path ≢ [] → own_line path a (Link target) ≡ link_line path a.uid a.gid target
+own_link [] a target some = absurd (some refl)
+own_link (x ∷ path) a target some = refl
+
+small : (mode : ℕ) → mode < 4096 → mode % 4096 ≡ mode
+small mode less = omega (arith, less)
+
+no_end : (path name : List ℕ) → path ++ 47 ∷ name ≢ []
+no_end [] name e = cc
+no_end (x ∷ path) name e = cc
+
+-- what a line does in the last volume
+on_tree : {A : Type 0} (old : Loaded) (w : Volume) (number : ℕ → ℕ) → last_root old.tree ≡ Ok (number w.root) → (read : Read A) (line : A) → read ≡ Ok (line, [])
+    → (Does : Tree → ℕ → A → Result Unit Refusal → Tree → Type 0) (result : Result Unit Refusal) (loaded : Loaded) → OnTree read Does old result loaded
+    → Does old.tree (number w.root) line result loaded.tree × (loaded.table ≡ old.table)
+on_tree {A} old w number last read line is Does result loaded on =
+    then_is read line [] result (λ (it : A). Does old.tree (number w.root) it result loaded.tree × (loaded.table ≡ old.table)) is
+    (root_is (last_root old.tree) (number w.root) result (λ root. Then read result (λ (it : A). Does old.tree root it result loaded.tree × (loaded.table ≡ old.table))) last on)
+
+-- what is known before the next step
+pub record IsNext (t : Tree) (number : ℕ → ℕ) (all : List Step) (ns : List ℕ) (vs : List Volume) (w : Volume) (s : Step) (f g : File) : Type 0 where
+  pub at_w : slice_get t.volumes f.volume ≡ Some w
+  pub at_vs : slice_get vs f.volume ≡ Some (copied_volume number w)
+  pub last : length vs ≡ suc f.volume
+  pub has_root : Has w.root ns
+  pub at_dir : LivesAsDirectory t s.0.number f
+  pub has : Has s.0.number ns
+  pub rest : List Entry
+  pub here : entries_at t s.0.number ≡ shown all s.0.number ++ s.1 ∷ rest
+  pub lives : Lives t s.1.number g
+  pub words : CanBeSaid g
+  pub room : length all + length vs ≤ 1099511627776
+  pub named : IsNamed all w.root s.0
+  pub said : is_sayable (place_of s).path ≡ true
+
+module _ (Last : Option Loaded → Type 0) (t : Tree) (law : Law t) (number : ℕ → ℕ) (all : List Step) (ns : List ℕ) (vs : List Volume) (old : Loaded) (part : IsPart t number all ns vs old.tree)
+    (w : Volume) (s : Step) (f g : File) (next : IsNext t number all ns vs w s f g) where
+  abbrev names : List (List ℕ)
+  names = next.named.names ++ s.1.name ∷ []
+
+  abbrev path : List ℕ
+  path = (place_of s).path
+
+  abbrev end : PathEnd
+  end = record { dir = number s.0.number; name = s.1.name }
+
+  pub is_name : IsName s.1.name
+  is_name = has_name t law number all ns vs old.tree part s f next.at_dir next.has next.rest next.here next.room
+
+  pub fresh : HasNone s.1.name (shown all s.0.number)
+  fresh = none_before (shown all s.0.number) s.1 next.rest
+      (subst (AllPairs (λ (e g : Entry). (e.name ≢ g.name) × (e.cookie < g.cookie))) (sym (entries_of t law s.0.number f next.at_dir.0) ∙ next.here) (law.sound s.0.number f next.at_dir.0).apart)
+
+  path_is : path ≡ slashed names
+  path_is = ap (λ l. l ++ 47 ∷ s.1.name) next.named.path ∙ sym (slashed_push next.named.names s.1.name)
+
+  path_read : paths.path_in path ≡ Ok names
+  path_read = path_in_names path next.named.names s.1.name path_is (names_push next.named.names s.1.name next.named.are is_name) next.said
+
+  path_long : 0 < length path
+  path_long = let l = length-append s.0.path (47 ∷ s.1.name) in omega (arith, l)
+
+  path_word : is_said path ≡ true
+  path_word = path_said path path_long next.said
+
+  free : free_end old.tree (number w.root) names ≡ Ok end
+  free = end_free t law number all ns vs old.tree part w.root next.has_root s f next.at_dir next.named is_name fresh
+
+  last_is : last_root old.tree ≡ Ok (number w.root)
+  last_is =
+      let index : length vs - 1 ≡ f.volume = let l = next.last in omega (arith, l) in
+      ap (λ l. root_or_cause (option_map (λ (v : Volume). v.root) (slice_get l (length l - 1)))) part.volumes
+      ∙ ap (λ i. root_or_cause (option_map (λ (v : Volume). v.root) (slice_get vs i))) index
+      ∙ ap (λ o. root_or_cause (option_map (λ (v : Volume). v.root) o)) next.at_vs
+
+  -- ---- a new file
+
+  module _ (new : number s.1.number ≡ suc (length ns)) where
+    -- one file more, and the same table
+    abbrev pub IsMore : Loaded → Type 0
+    IsMore loaded = IsPart t number (all ++ s ∷ []) (ns ++ s.1.number ∷ []) vs loaded.tree × (loaded.table ≡ old.table)
+
+    volume_is : volume_index old.tree (number s.0.number) ≡ g.volume
+    volume_is =
+        let made = directory_made t law number all ns vs old.tree part s.0.number f next.has next.at_dir in
+        ap (λ o. on_some o 0 (λ (h : File). h.volume)) made.1.lives.0 ∙ made.1.volume
+        ∙ sym (same_volume t law number all ns vs old.tree part s f next.at_dir next.has next.rest next.here next.room w (copied_volume number w) next.at_w next.at_vs refl refl g next.lives new)
+
+    file_is : (tag mode : ℕ) (k : Kind) → k ≡ copied_kind number (with_entries [] g.kind) → mode % 4096 ≡ copied_mode (with_entries [] g.kind) g.mode
+        → new_file (volume_index old.tree (number s.0.number)) k (attributes (record { mode = mode; uid = g.uid; gid = g.gid })) None tag start ≡ copied number tag (holding [] g)
+    file_is tag mode k kind_is mode_is =
+        let given : Given = record { mode = mode; uid = g.uid; gid = g.gid } in
+        ap (λ v. new_file v k (attributes given) None tag start) volume_is
+        ∙ ap (λ k. new_file g.volume k (attributes given) None tag start) kind_is
+        ∙ ap (λ m. record (copied number tag (holding [] g)) { mode = m }) mode_is
+
+    more : (tag mode : ℕ) (k : Kind) → k ≡ copied_kind number (with_entries [] g.kind) → mode % 4096 ≡ copied_mode (with_entries [] g.kind) g.mode → (u : Tree)
+        → u ≡ with_named_file old.tree (number s.0.number) s.1.name (new_file (volume_index old.tree (number s.0.number)) k (attributes (record { mode = mode; uid = g.uid; gid = g.gid })) None tag start) start
+        → IsPart t number (all ++ s ∷ []) (ns ++ s.1.number ∷ []) vs u
+    more tag mode k kind_is mode_is u is = subst (IsPart t number (all ++ s ∷ []) (ns ++ s.1.number ∷ []) vs)
+        (ap (λ h. with_named_file old.tree (number s.0.number) s.1.name h start) (sym (file_is tag mode k kind_is mode_is)) ∙ sym is)
+        (part_with_file t law number all s f next.at_dir ns vs old.tree part next.has next.rest next.here tag g next.lives new)
+
+    abbrev given : Given
+    given = record { mode = g.mode; uid = g.uid; gid = g.gid }
+
+    module _ (All : Option Loaded → Type 0) (goes : (loaded : Loaded) → IsMore loaded → All (Some loaded)) (links : ℕ) where
+      regular_goes : (bytes : List ℕ) → g.kind ≡ Regular bytes → Goes Last (Some old) (own_line path (attributes_of s.1.number g links) (Regular bytes)) All
+      regular_goes bytes is =
+          let line : FileLine = record { path = names; given = given; content = bytes } in
+          let sound = law.sound s.1.number g next.lives in
+          let r = read_back.files path names given bytes path_word path_read (sound.mode, next.words.uid, next.words.gid)
+          (subst (λ k. IsBytes (bytes_in k)) is next.words.bytes) (subst (λ k. length (bytes_in k) ≤ max_file_bytes) is sound.bytes) in
+          subst (λ l. Goes Last (Some old) l All) (sym (own_regular path (attributes_of s.1.number g links) bytes (no_end s.0.path s.1.name)))
+          (goes_on Last old (file_line path given bytes) keyword.File r.0 IsMore All r.1 goes (λ result loaded done. elim done [
+            | inl on ↦
+                let it = on_tree old w number last_is (file_in r.0) line r.2 MakesFile result loaded on in
+                done_map result (λ made. (
+                  more made.tag g.mode (Regular bytes) (ap (λ k. copied_kind number (with_entries [] k)) (sym is))
+                      (small g.mode sound.mode ∙ ap (λ k. copied_mode (with_entries [] k) g.mode) (sym is)) loaded.tree made.new_is,
+                  it.1,
+                ))
+                (does_made old.tree (free_end old.tree (number w.root) names)
+                (λ (e : PathEnd). MayMake old.tree e.dir e.name (length bytes))
+                (λ (e : PathEnd). Makes (λ tag. after_make_file old.tree e.dir e.name bytes (attributes given) None tag start)) result loaded.tree end free
+                (may_make t law number all ns vs old.tree part s f next.at_dir next.has next.rest next.here next.room w (copied_volume number w) next.at_w next.at_vs refl refl g next.lives new
+                (length bytes) (ap (λ k. length (bytes_in k)) is)) it.0)
+            | inr memory ↦ inl memory.0
+          ]))
+
+      directory_goes : (parent next_cookie : ℕ) (entries : List Entry) → g.kind ≡ Directory parent next_cookie entries
+          → Goes Last (Some old) (own_line path (attributes_of s.1.number g links) (Directory parent next_cookie entries)) All
+      directory_goes parent next_cookie entries is =
+          let line : DirLine = record { path = names; given = given } in
+          let sound = law.sound s.1.number g next.lives in
+          let dir : is_directory g.kind ≡ true = ap is_directory is in
+          let above : parent ≡ s.0.number = ap parent_in (sym is)
+          ∙ law.parents s.0.number f s.1 g next.at_dir.0 (is_entry t law number all ns vs old.tree part s f next.at_dir next.has next.rest next.here next.room) (next.lives, dir) in
+          let r = read_back.dirs path names given path_word path_read (sound.mode, next.words.uid, next.words.gid) in
+          subst (λ l. Goes Last (Some old) l All) (sym (own_directory path (attributes_of s.1.number g links) parent next_cookie entries (no_end s.0.path s.1.name)))
+          (goes_on Last old (dir_line path given) keyword.Dir r.0 IsMore All r.1 goes (λ result loaded on.
+          let it = on_tree old w number last_is (dir_in r.0) line r.2 MakesDir result loaded on in
+          done_map result (λ made. (
+            more made.tag g.mode (Directory (number s.0.number) 3 [])
+                (ap (λ d. Directory (number d) 3 []) (sym above) ∙ ap (λ k. copied_kind number (with_entries [] k)) (sym is))
+                (small g.mode sound.mode ∙ ap (λ k. copied_mode (with_entries [] k) g.mode) (sym is)) loaded.tree made.new_is,
+            it.1,
+          ))
+          (does_made old.tree (free_end old.tree (number w.root) names)
+          (λ (e : PathEnd). MayMakeDirectory old.tree e.dir e.name)
+          (λ (e : PathEnd). Makes (λ tag. after_make_dir old.tree e.dir e.name (attributes given) tag start)) result loaded.tree end free
+          (may_make_dir t law number all ns vs old.tree part s f next.at_dir next.has next.rest next.here next.room w (copied_volume number w) next.at_w next.at_vs refl refl g next.lives new dir) it.0)))
+
+      link_goes : (target : List ℕ) → g.kind ≡ Link target → Goes Last (Some old) (own_line path (attributes_of s.1.number g links) (Link target)) All
+      link_goes target is =
+          let line : LinkLine = record { path = names; uid = g.uid; gid = g.gid; target = target } in
+          let r = read_back.links path names g.uid g.gid target path_word path_read next.words.uid next.words.gid (next.words.target target is) in
+          subst (λ l. Goes Last (Some old) l All) (sym (own_link path (attributes_of s.1.number g links) target (no_end s.0.path s.1.name)))
+          (goes_on Last old (link_line path g.uid g.gid target) keyword.Link r.0 IsMore All r.1 goes (λ result loaded on.
+          let it = on_tree old w number last_is (link_in r.0) line r.2 MakesLink result loaded on in
+          done_map result (λ made. (
+            more made.tag 511 (Link target) (ap (λ k. copied_kind number (with_entries [] k)) (sym is))
+                (ap (λ k. copied_mode (with_entries [] k) g.mode) (sym is)) loaded.tree made.new_is,
+            it.1,
+          ))
+          (does_made old.tree (free_end old.tree (number w.root) names)
+          (λ (e : PathEnd). MayMakeLink old.tree e.dir e.name target)
+          (λ (e : PathEnd). Makes (λ tag. after_make_link old.tree e.dir e.name target (link_attributes g.uid g.gid) tag start)) result loaded.tree end free
+          (may_make_link t law number all ns vs old.tree part s f next.at_dir next.has next.rest next.here next.room w (copied_volume number w) next.at_w next.at_vs refl refl g next.lives new target is) it.0)))
+
+      by_kind : (k : Kind) → g.kind ≡ k → Goes Last (Some old) (own_line path (attributes_of s.1.number g links) k) All
+      by_kind (Regular bytes) is = regular_goes bytes is
+      by_kind (Directory parent next_cookie entries) is = directory_goes parent next_cookie entries is
+      by_kind (Link target) is = link_goes target is
+
+      -- the line of a new file makes it
+      pub own_goes : Goes Last (Some old) (own_line path (attributes_of s.1.number g links) g.kind) All
+      own_goes = by_kind g.kind refl
+
+  -- ---- a further name
+
+  module _ (first : Place) (named : IsNamed all w.root first) (same : first.number ≡ s.1.number) (said : is_sayable first.path ≡ true) (there : Has s.1.number ns) (no_dir : is_directory g.kind ≡ false) where
+    -- one name more, and the same table
+    abbrev pub IsNamedMore : Loaded → Type 0
+    IsNamedMore loaded = IsPart t number (all ++ s ∷ []) ns vs loaded.tree × (loaded.table ≡ old.table)
+
+    no_root : named.names ≢ []
+    no_root none =
+        let is_root : w.root ≡ s.1.number = same_some (ap (leads (shown all) w.root) (sym none) ∙ named.lead) ∙ same in
+        let nowhere = none_named t law s.1.number s.0.number (ap (λ n. names_of n t.files) (sym is_root) ∙ (law.roots f.volume w next.at_w).4) in
+        let one = one_named s.1.number (entries_at t s.0.number) s.1
+        (subst (λ l. Contains l s.1) (sym (entries_of t law s.0.number f next.at_dir.0)) (is_entry t law number all ns vs old.tree part s f next.at_dir next.has next.rest next.here next.room)) refl in
+        omega (arith, nowhere, one)
+
+    first_read : (paths.path_in first.path ≡ Ok named.names) × (is_said first.path ≡ true)
+    first_read =
+        let l = last_of named.names no_root in
+        let is : first.path ≡ slashed (l.0 ++ l.1 ∷ []) = named.path ∙ ap slashed l.2 in
+        let long : length first.path ≡ length (slashed l.0 ++ 47 ∷ l.1) = ap length (is ∙ slashed_push l.0 l.1) in
+        let sum = length-append (slashed l.0) (47 ∷ l.1) in
+        (path_in_names first.path l.0 l.1 is (subst AreNames l.2 named.are) said ∙ ap Ok (sym l.2), path_said first.path (omega (arith, long, sum)) said)
+
+    not_directory : (o : Option File) (h : File) → o ≡ Some h → is_directory h.kind ≡ false
+        → path_ends.is_directory (option_map (λ (k : File). attributes_of (number s.1.number) k (nlink old.tree.files (number s.1.number) k)) o) ≡ false
+    not_directory o h is plain = ap (λ o. path_ends.is_directory (option_map (λ (k : File). attributes_of (number s.1.number) k (nlink old.tree.files (number s.1.number) k)) o)) is ∙ in_kind h.kind plain
+      where
+        in_kind : (k : Kind) → is_directory k ≡ false → is_directory_type (type_of k) ≡ false
+        in_kind (Regular bytes) e = refl
+        in_kind (Directory parent next_cookie entries) e = e
+        in_kind (Link target) e = refl
+
+    link_end_is : link_end old.tree (number w.root) names named.names ≡ Ok (end, number s.1.number)
+    link_end_is =
+        let found : file_at old.tree (number w.root) named.names ≡ Some (number s.1.number) =
+        file_found t law number all ns vs old.tree part w.root next.has_root first named no_root ∙ ap (λ n. Some (number n)) same in
+        let made = file_made t law number all ns vs old.tree part s.1.number g there next.lives in
+        let no : is_directory made.0.kind ≡ false = ap (λ (h : File). is_directory h.kind) made.3 ∙ copy_is_directory number (shown all s.1.number) g.kind ∙ no_dir in
+        let plain = not_directory (at (number s.1.number) old.tree.files) made.0 made.1 no in
+        ap (λ (r : Result PathEnd Cause). r >>= (λ (e : PathEnd). named_file old.tree (file_at old.tree (number w.root) named.names) >>= (λ (n : ℕ). Ok (e, n)))) free
+        ∙ ap (λ o. named_file old.tree o >>= (λ (n : ℕ). Ok (end, n))) found
+        ∙ ap (λ b. unless_directory b >>= (λ (n : ℕ). Ok (end, n))) plain
+      where
+        unless_directory : Bool → Result ℕ Cause
+        unless_directory b = if b then Err NoTarget else Ok (number s.1.number)
+
+    module _ (All : Option Loaded → Type 0) (goes : (loaded : Loaded) → IsNamedMore loaded → All (Some loaded)) where
+      pub hard_goes : Goes Last (Some old) (hard_line path first.path) All
+      hard_goes =
+          let line : HardLine = record { path = names; old = named.names } in
+          let r = read_back.hards path first.path names named.names path_word path_read first_read.1 first_read.0 in
+          goes_on Last old (hard_line path first.path) keyword.Hard r.0 IsNamedMore All r.1 goes (λ result loaded on.
+          let it = on_tree old w number last_is (hard_in r.0) line r.2 AddsName result loaded on in
+          done_map result (λ (made : loaded.tree ≡ after_link old.tree (number s.1.number) (number s.0.number) s.1.name start). (
+            subst (IsPart t number (all ++ s ∷ []) ns vs) (sym made)
+                (part_with_name t law number all s f next.at_dir ns vs old.tree part next.has next.rest next.here g next.lives no_dir there),
+            it.1,
+          ))
+          (does_made old.tree (link_end old.tree (number w.root) names named.names)
+          (λ (e : PathEnd × ℕ). MayLink old.tree e.1 e.0.dir e.0.name)
+          (λ (e : PathEnd × ℕ) (u : Tree). u ≡ after_link old.tree e.1 e.0.dir e.0.name start) result loaded.tree (end, number s.1.number) link_end_is
+          (may_link t law number all ns vs old.tree part s f next.at_dir next.has next.rest next.here next.room g next.lives no_dir there) it.0))

@@ -1,0 +1,192 @@
+-- What a description loads can be described.
+use Rattle.std.proofs.Common.{inl, inr, ◌≡◌, ◌≢◌, ◌⊎◌, ℕ, suc, zero, ◌+◌, ◌-◌, ◌<◌, ◌≤◌, ◌^◌, ◌&&◌, Bool, true, false, cond, List, [], ◌∷◌, ◌++◌, length, nat_eq, Option, Some, None, option_map, Ok, refl, sym, ap, subst, ◌∙◌, ◌==◌, arith}
+use Rattle.std.specs.List.{filter, list_all, onto_first}
+use Rattle.std.specs.Prelude.{All, Contains, Err, Result, if◌then◌else◌, nat_lt, nat_le, slice_get}
+use Rattle.std.proofs.lemmas.Bool.Decides.{nat_tests}
+use Rattle.std.proofs.lemmas.List.{length-append}
+use Rattle.std.proofs.lemmas.List.Elements.{All-nil, All-push}
+use Rattle.hex.specs.Hex.{IsBytes}
+use Rattle.nfs_attrs.specs.declared.moment.Moment.{Moment}
+use Rattle.nfs_text.specs.Pieces.{pieces}
+use Rattle.nfs_text.specs.Words.{is_word, words}
+use Rattle.nfs_exports.specs.Tables.{added, exports_of, pattern_count}
+use Rattle.nfs_exports.specs.declared.table.Export.{Export}
+use Rattle.nfs_inodes.specs.declared.new_file.NewFile.{NewFile}
+use Rattle.nfs_inodes.specs.Changes.{Makes, after_add_volume, after_link, after_make_dir, after_make_file, after_make_link, entered, kind_with_entry, new_file, touched, with_entry, with_file, with_named_file, with_new_file, with_new_volume}
+use Rattle.nfs_inodes.specs.Conditions.{MayAddVolume, MayLink, MayMake, MayMakeDirectory, MayMakeLink}
+use Rattle.nfs_inodes.specs.Law.{Law, Lives}
+use Rattle.nfs_inodes.specs.Tree.{Tree, File, Kind, Regular, Directory, Link, Entry, Volume, at, bytes_in, on_some, with_at}
+use Rattle.nfs_inodes.proofs.Lists.{by_test, in_head, in_tail, head_or_tail, not_in_empty, same_some, not_both, true_and_false}
+use Rattle.nfs_inodes.proofs.Maps.{at_next, push_back, with_back}
+use Rattle.nfs_inodes.proofs.law.NewFiles.{law_after_add_volume, law_after_make_dir, law_after_make_file, law_after_make_link}
+use Rattle.nfs_inodes.proofs.law.Operations.{law_after_link}
+use Rattle.nfs_load.specs.Effects.{attributes, link_attributes, start}
+use Rattle.nfs_load.specs.Lines.{Line, counted, is_comment, is_printable, is_text, keyword_named, shape, shape_of, takes}
+use Rattle.nfs_load.specs.declared.cause.Cause.{Cause}
+use Rattle.nfs_load.specs.declared.cause.Cause.TheVariants.{BadByte, FieldCount}
+use Rattle.nfs_load.specs.declared.line.Keyword.{Keyword}
+use Rattle.nfs_load.specs.declared.loaded.Loaded.{Loaded}
+use Rattle.nfs_load.specs.declared.statement.Given.{Given}
+use Rattle.nfs_describe.specs.Lines.{is_shown, is_target}
+use Rattle.nfs_read_back.specs.ReadBack.{IsExport, is_said}
+use Rattle.nfs_round_trip.specs.Copies.{CanBeSaid}
+use Rattle.nfs_round_trip.specs.RoundTrip.{IsVolumeSaid}
+use Rattle.nfs_round_trip.proofs.Runs as runs
+use Rattle.nfs_round_trip.proofs.Runs.{same_ok}
+
+-- ---- the words of a line
+
+and_true : (a b : Bool) → a ≡ true → b ≡ true → (a && b) ≡ true
+and_true true b one two = two
+and_true false b one two = one
+
+both : (a b : Bool) → (a && b) ≡ true → (a ≡ true) × (b ≡ true)
+both true b e = (refl, e)
+both false b e = absurd (true_and_false e refl)
+
+shown_byte : (x : ℕ) → is_printable x ≡ true → (x == 32) ≡ false → is_shown x ≡ true
+shown_byte x e o = grind (arith, nat_tests)
+
+abbrev EachShown : List (List ℕ) → Type 0
+EachShown [] = Unit {0}
+EachShown (w ∷ ws) = (list_all is_shown w ≡ true) × EachShown ws
+
+each_onto : (x : ℕ) (ws : List (List ℕ)) → is_shown x ≡ true → EachShown ws → EachShown (onto_first x ws)
+each_onto x [] e each = (and_true (is_shown x) true e refl, tt)
+each_onto x (w ∷ ws) e each = (and_true (is_shown x) (list_all is_shown w) e each.0, each.1)
+
+each_piece : (line : List ℕ) → is_text line ≡ true → EachShown (pieces 32 line)
+each_piece [] e = (refl, tt)
+each_piece (x ∷ line) e =
+    let p = both (is_printable x) (list_all is_printable line) e in
+    let rest = each_piece line p.1 in
+    by_test (x == 32)
+    (λ y. subst EachShown (sym (ap (λ b. cond b ([] ∷ pieces 32 line) (onto_first x (pieces 32 line))) y)) (refl, rest))
+    (λ o. subst EachShown (sym (ap (λ b. cond b ([] ∷ pieces 32 line) (onto_first x (pieces 32 line))) o)) (each_onto x (pieces 32 line) (shown_byte x p.0 o) rest))
+
+-- words of bytes from `!` to `~`
+abbrev pub AllSaid : List (List ℕ) → Type 0
+AllSaid [] = Unit {0}
+AllSaid (w ∷ ws) = (is_said w ≡ true) × AllSaid ws
+
+all_words : (ws : List (List ℕ)) → EachShown ws → AllSaid (filter is_word ws)
+all_words [] each = tt
+all_words (w ∷ ws) each = by_test (is_word w)
+    (λ y. subst AllSaid (sym (ap (λ b. cond b (w ∷ filter is_word ws) (filter is_word ws)) y)) (and_true (nat_lt 0 (length w)) (list_all is_shown w) y each.0, all_words ws each.1))
+    (λ o. subst AllSaid (sym (ap (λ b. cond b (w ∷ filter is_word ws) (filter is_word ws)) o)) (all_words ws each.1))
+
+-- the fields of a line are words
+pub fields_said : (line : List ℕ) (l : Line) → shape line ≡ Ok (Some l) → AllSaid l.fields
+fields_said line l e = by_test (is_comment line)
+    (λ y. absurd (none_some (shape line) (ap (λ b. if b then Ok None else shape_of line (words line)) y) e))
+    (λ o. of (words line) refl (sym (ap (λ b. if b then Ok None else shape_of line (words line)) o) ∙ e))
+  where
+    none_some : (r : Result (Option Line) Cause) → r ≡ Ok None → r ≡ Ok (Some l) → ⊥
+    none_some r one two = cc
+
+    some_of : (k : Option Keyword) (fields : List (List ℕ)) → AllSaid fields → counted k fields ≡ Ok (Some l) → AllSaid l.fields
+    some_of None fields said e = cc
+    some_of (Some k) fields said e = by_test (takes k (length fields))
+        (λ y. subst (λ (x : Line). AllSaid x.fields)
+        (same_some (same_ok (counted (Some k) fields) (Some (record { keyword = k; fields = fields })) (Some l)
+        (ap (λ b. if b then Ok (Some (record { keyword = k; fields = fields })) else Err FieldCount) y) e)) said)
+        (λ o. absurd (runs.not_both (counted (Some k) fields) (Some l) FieldCount e (ap (λ b. if b then Ok (Some (record { keyword = k; fields = fields })) else Err FieldCount) o)))
+
+    of : (ws : List (List ℕ)) → words line ≡ ws → shape_of line ws ≡ Ok (Some l) → AllSaid l.fields
+    of [] is e = absurd (none_some (shape_of line []) refl e)
+    of (w ∷ fields) is e = by_test (is_text line)
+        (λ y.
+        let said : AllSaid (w ∷ fields) = subst AllSaid is (all_words (pieces 32 line) (each_piece line y)) in
+        some_of (keyword_named w) fields said.1 (sym (ap (λ b. if b then counted (keyword_named w) fields else Err BadByte) y) ∙ e))
+        (λ o. absurd (runs.not_both (shape_of line (w ∷ fields)) (Some l) BadByte e (ap (λ b. if b then counted (keyword_named w) fields else Err BadByte) o)))
+
+-- ---- files that can be said
+
+abbrev pub FilesSaid : Tree → Type 0
+FilesSaid u = (n : ℕ) (f : File) → Lives u n f → CanBeSaid f
+
+said_with : (u : Tree) (d : ℕ) (h g : File) → Lives u d h → CanBeSaid g → FilesSaid u → FilesSaid (with_file u d g)
+said_with u d h g lives said all n f is = with_back d n h g f u.files lives is (λ s e. subst CanBeSaid e said) (λ o was. all n f was)
+
+entered_said : (f : File) (name : List ℕ) (n : ℕ) (now : Moment) → CanBeSaid f → CanBeSaid (entered f name n now)
+entered_said f name n now said = record {
+  uid = said.uid;
+  gid = said.gid;
+  bytes = subst IsBytes (sym (same f.kind)) said.bytes;
+  target = λ path is. said.target path (back f.kind path is);
+}
+  where
+    same : (k : Kind) → bytes_in (kind_with_entry k name n) ≡ bytes_in k
+    same (Regular bytes) = refl
+    same (Directory parent next_cookie entries) = refl
+    same (Link path) = refl
+
+    back : (k : Kind) (path : List ℕ) → kind_with_entry k name n ≡ Link path → k ≡ Link path
+    back (Regular bytes) path is = is
+    back (Directory parent next_cookie entries) path is = cc
+    back (Link other) path is = is
+
+said_entry : (u : Tree) (d : ℕ) (name : List ℕ) (n : ℕ) (now : Moment) → FilesSaid u → FilesSaid (with_entry u d name n now)
+said_entry u d name n now all = of (at d u.files) refl
+  where
+    of : (o : Option File) → at d u.files ≡ o → FilesSaid (on_some o u (λ f. with_file u d (entered f name n now)))
+    of None e = all
+    of (Some h) e = said_with u d h (entered h name n now) e (entered_said h name n now (all d h e)) all
+
+said_touched : (u : Tree) (n : ℕ) (now : Moment) → FilesSaid u → FilesSaid (touched u n now)
+said_touched u n now all = of (at n u.files) refl
+  where
+    of : (o : Option File) → at n u.files ≡ o → FilesSaid (on_some o u (λ f. with_file u n (record f { ctime = now })))
+    of None e = all
+    of (Some h) e = let said = all n h e in said_with u n h (record h { ctime = now }) e (record { uid = said.uid; gid = said.gid; bytes = said.bytes; target = said.target }) all
+
+said_push : (u : Tree) (f : File) → Law u → CanBeSaid f → FilesSaid u → (n : ℕ) (g : File) → at n (u.files ++ (u.next, f) ∷ []) ≡ Some g → CanBeSaid g
+said_push u f law said all n g is = push_back u.next n f g u.files (at_next 0 u.next u.files law.rising) is (λ s e. subst CanBeSaid e said) (λ o was. all n g was)
+
+said_named : (u : Tree) (d : ℕ) (name : List ℕ) (f : File) (now : Moment) → Law u → CanBeSaid f → FilesSaid u → FilesSaid (with_named_file u d name f now)
+said_named u d name f now law said all = said_entry (with_new_file u f) d name u.next now (said_push u f law said all)
+
+new_said : (volume : ℕ) (k : Kind) (given : NewFile) (tag : ℕ) → given.uid < 2 ^ 32 → given.gid < 2 ^ 32 → IsBytes (bytes_in k) → ((path : List ℕ) → k ≡ Link path → is_target path ≡ true)
+    → CanBeSaid (new_file volume k given None tag start)
+new_said volume k given tag uid gid bytes target = record { uid = uid; gid = gid; bytes = bytes; target = target }
+
+pub no_bytes : IsBytes []
+no_bytes i = omega arith
+
+-- what makes a tree keeps its law and that its files can be said
+abbrev pub IsKept : Tree → Type 0
+IsKept u = Law u × FilesSaid u
+
+pub kept_dir : (u : Tree) (d tag : ℕ) (name : List ℕ) (given : Given) → MayMakeDirectory u d name → tag < 2 ^ 32 → (given.uid < 2 ^ 32) × (given.gid < 2 ^ 32) → IsKept u
+    → IsKept (after_make_dir u d name (attributes given) tag start)
+kept_dir u d tag name given may fits ids kept = (
+  law_after_make_dir u d tag name (attributes given) start may fits kept.0,
+  said_named u d name _ start kept.0 (new_said _ (Directory d 3 []) (attributes given) tag ids.0 ids.1 no_bytes (λ path is. cc)) kept.1,
+)
+
+pub kept_file : (u : Tree) (d tag : ℕ) (name bytes : List ℕ) (given : Given) → MayMake u d name (length bytes) → tag < 2 ^ 32 → (given.uid < 2 ^ 32) × (given.gid < 2 ^ 32) → IsBytes bytes → IsKept u
+    → IsKept (after_make_file u d name bytes (attributes given) None tag start)
+kept_file u d tag name bytes given may fits ids all kept = (
+  law_after_make_file u d tag name bytes (attributes given) None start may fits kept.0,
+  said_named u d name _ start kept.0 (new_said _ (Regular bytes) (attributes given) tag ids.0 ids.1 all (λ path is. cc)) kept.1,
+)
+
+link_said : (target : List ℕ) → is_target target ≡ true → (path : List ℕ) → Link target ≡ Link path → is_target path ≡ true
+link_said target e path is = let same : target ≡ path = cc in subst (λ p. is_target p ≡ true) same e
+
+pub kept_link : (u : Tree) (d tag : ℕ) (name target : List ℕ) (uid gid : ℕ) → MayMakeLink u d name target → tag < 2 ^ 32 → uid < 2 ^ 32 → gid < 2 ^ 32 → is_target target ≡ true → IsKept u
+    → IsKept (after_make_link u d name target (link_attributes uid gid) tag start)
+kept_link u d tag name target uid gid may fits owner group holds kept = (
+  law_after_make_link u d tag name target (link_attributes uid gid) start may fits kept.0,
+  said_named u d name _ start kept.0 (new_said _ (Link target) (link_attributes uid gid) tag owner group no_bytes (link_said target holds)) kept.1,
+)
+
+pub kept_name : (u : Tree) (n d : ℕ) (name : List ℕ) → MayLink u n d name → IsKept u → IsKept (after_link u n d name start)
+kept_name u n d name may kept = (law_after_link u n d name start may kept.0, said_entry (touched u n start) d name n start (said_touched u n start kept.1))
+
+pub kept_volume : (u : Tree) (path : List ℕ) (max_bytes max_files tag : ℕ) (given : Given) → MayAddVolume u path max_files → tag < 2 ^ 32 → (given.uid < 2 ^ 32) × (given.gid < 2 ^ 32) → IsKept u
+    → IsKept (after_add_volume u path max_bytes max_files (attributes given) tag start)
+kept_volume u path max_bytes max_files tag given may fits ids kept = (
+  law_after_add_volume u max_bytes max_files tag path (attributes given) start may fits kept.0,
+  said_push u _ kept.0 (new_said _ (Directory u.next 3 []) (attributes given) tag ids.0 ids.1 no_bytes (λ path is. cc)) kept.1,
+)

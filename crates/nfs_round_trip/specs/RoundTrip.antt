@@ -1,0 +1,61 @@
+-- A description that is written of a tree loads, and is that tree again.
+use Rattle.std.specs.Prelude.{◌≡◌, ◌⊎◌, ℕ, ◌≤◌, true, List, length, map, All, Contains, Some, Result, Ok, Err, slice_get}
+use Rattle.nfs_exports.specs.Tables.{exports_of, pattern_count}
+use Rattle.nfs_exports.specs.declared.table.Export.{Export}
+use Rattle.nfs_inodes.specs.Law.{Law, Lives}
+use Rattle.nfs_inodes.specs.Tree.{Tree, File, Volume, nlink}
+use Rattle.nfs_load.specs.Descriptions.{Describes}
+use Rattle.nfs_load.specs.Paths.{volume_path_in}
+use Rattle.nfs_load.specs.declared.load_error.LoadError.{LoadError}
+use Rattle.nfs_load.specs.declared.load_error.LoadError.TheVariants.{Memory}
+use Rattle.nfs_load.specs.declared.loaded.Loaded.{Loaded}
+use Rattle.nfs_describe.specs.Places.{IsWalk, Place}
+use Rattle.nfs_describe.specs.Texts.{Says}
+use Rattle.nfs_read_back.specs.ReadBack.{IsExport, is_said}
+use Rattle.nfs_round_trip.specs.Copies.{CanBeSaid, copied, copied_volume, new_number}
+
+-- One tree is another again, with new numbers for its files: each is there as it was, with as many links, none is there twice, and none is added.
+pub record IsCopy (t : Tree) (number : ℕ → ℕ) (u : Tree) : Type 0 where
+  pub each : (n : ℕ) (f : File) → Lives t n f → (tag : ℕ) × Lives u (number n) (copied number tag f) × (nlink u.files (number n) (copied number tag f) ≡ nlink t.files n f)
+  pub once : (m n : ℕ) (f g : File) → Lives t m f → Lives t n g → number m ≡ number n → m ≡ n
+  pub all : (k : ℕ) (h : File) → Lives u k h → (n : ℕ) × (f : File) × Lives t n f × (number n ≡ k)
+  pub volumes : u.volumes ≡ map (copied_volume number) t.volumes
+  pub key : u.key ≡ t.key
+
+-- the walks of all volumes
+pub record AreWalks (t : Tree) (walks : List (List Place)) : Type 0 where
+  pub each : length walks ≡ length t.volumes
+  pub walked : (index : ℕ) (v : Volume) (walk : List Place) → slice_get t.volumes index ≡ Some v → slice_get walks index ≡ Some walk → IsWalk t v.root walk
+
+-- and the numbers are those of the order in which the walks of all volumes come to the files
+pub record IsAgain (t u : Tree) : Type 0 where
+  pub walks : List (List Place)
+  pub are_walks : AreWalks t walks
+  pub copy : IsCopy t (new_number walks) u
+
+-- a volume whose line can be written: a path of one word, and limits that a description takes
+pub record IsVolumeSaid (v : Volume) : Type 0 where
+  pub word : is_said v.path ≡ true
+  pub path : volume_path_in v.path ≡ Ok v.path
+  pub bytes : v.max_bytes ≤ 1099511627776
+  pub files : v.max_files ≤ 1000000
+
+-- a tree with exports that a description can hold: those that were loaded, and what clients made of them
+pub record IsDescribable (t : Tree) (table : List (List Export)) : Type 0 where
+  pub law : Law t
+  pub some : 1 ≤ length t.volumes
+  pub volumes : All IsVolumeSaid t.volumes
+  pub files : (n : ℕ) (f : File) → Lives t n f → CanBeSaid f
+  pub lists : length table ≡ length t.volumes
+  pub few : pattern_count table ≤ 256
+  pub exports : (place : ℕ) (e : Export) → Contains (exports_of table place) e → IsExport e
+
+-- What a text that describes a tree says, when it is loaded, is that tree with these exports, or memory is wanted.
+abbrev pub DescriptionsLoadAgain : Type 0
+DescriptionsLoadAgain = (t : Tree) (table : List (List Export)) (text : List ℕ) → IsDescribable t table → Says t table text → length text ≤ 1073741824
+    → (result : Result Loaded LoadError) → Describes text result
+    → (result ≡ Err Memory) ⊎ ((loaded : Loaded) × (result ≡ Ok loaded) × IsAgain t loaded.tree × (loaded.table ≡ table))
+
+-- What a description loads can be described.
+abbrev pub LoadedAreDescribable : Type 0
+LoadedAreDescribable = (text : List ℕ) (loaded : Loaded) → Describes text (Ok loaded) → IsDescribable loaded.tree loaded.table
