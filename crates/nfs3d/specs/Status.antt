@@ -3,9 +3,9 @@ use Rattle.std.specs.Prelude.{◌≡◌, ℕ}
 use Rattle.nfs_load.specs.declared.load_error.LoadError.{LoadError}
 use Rattle.nfs_load.specs.declared.load_error.LoadError.TheVariants as error
 use Rattle.nfs3d.specs.declared.fault.Fault.{Fault}
-use Rattle.nfs3d.specs.declared.fault.Fault.TheVariants.{Description, Script, NoText, CannotRead, TooLong, CannotWrite, Undescribed, Network, Write, Memory}
+use Rattle.nfs3d.specs.declared.fault.Fault.TheVariants.{Description, Script, NoText, CannotRead, TooLong, CannotWrite, Undescribed, Network, Write, Closed, Memory}
 
--- 1 where the description or the script is at fault, 2 where the words are, 3 where the machine is
+-- 1 where the description or the script is at fault, 2 where the words are, 3 where the machine is, 141 where nobody reads
 abbrev pub status_of : Fault → ℕ
 status_of (Description line cause) = 1
 status_of (Script line cause) = 1
@@ -16,6 +16,7 @@ status_of (CannotWrite name) = 3
 status_of (Undescribed fault) = 1
 status_of (Network address error) = 3
 status_of Write = 3
+status_of Closed = 141
 status_of (Memory e) = 3
 
 -- a faulty line of a description is told with its number and cause

@@ -7,9 +7,7 @@ use nfs_advice::every::{Faulty, every_fault};
 use nfs_advice::warnings::{Warning, warnings};
 use nfs_load::load_error::LoadError;
 use nfs_load::loaded::Loaded;
-use nfs_xdr::device::Device;
 use std::alloc::{AllocError, Global};
-use std::io;
 use std::process::ExitCode;
 use std::rt::Files;
 
@@ -28,7 +26,7 @@ pub(crate) fn check_file<R: Files + Input + Print + Eprint>(
         return Ok(ExitCode::from(1));
     }
     let loaded = description.load(alloc)?;
-    print_totals(alloc, &loaded.tree, &mut Device::new(io::writer(rt)))?;
+    print_totals(rt, alloc, &loaded.tree)?;
     let warnings = warn(rt, alloc, &description, &loaded)?;
     Ok(if is_strict && warnings > 0 {
         ExitCode::from(1)

@@ -1,8 +1,9 @@
 //! `nfs3d describe`: a directory on disk, as a description.
 
 use crate::fault::Fault;
+use crate::output::print;
 use nfs_command_line::request::Describe;
-use nfs_describe::description::write_description;
+use nfs_describe::description::describe;
 use nfs_describe::fault::DescribeFault;
 use nfs_disk::building::build;
 use nfs_disk::fault::DiskFault;
@@ -11,9 +12,7 @@ use nfs_disk::survey::Survey;
 use nfs_load::description::load;
 use nfs_load::load_error::LoadError;
 use nfs_load::loaded::Loaded;
-use nfs_xdr::device::Device;
 use std::alloc::{AllocError, Global};
-use std::io;
 use std::process::ExitCode;
 use std::rt::Files;
 
@@ -72,10 +71,8 @@ fn print_directory<R: Files + Print + Eprint + AllocGlobal>(
     for warning in &survey.warnings {
         let _ = eprintln!(rt; "nfs3d: {warning}");
     }
-    let mut out = Device::new(io::writer(rt));
-    match write_description(alloc, &loaded.tree, &loaded.table, &mut out) {
-        Ok(()) => Ok(()),
-        Err(DescribeFault::Write) => Err(Fault::Write),
+    match describe(alloc, &loaded.tree, &loaded.table) {
+        Ok(text) => print(rt, text.as_slice()),
         Err(DescribeFault::Memory) => Err(Fault::Memory(AllocError)),
         Err(fault) => Err(Fault::Undescribed(fault)),
     }

@@ -42,6 +42,16 @@ impl Diagnostic {
         }
     }
 
+    /// Tells it on standard error, unless nobody listens.
+    pub(crate) fn tell<R: Eprint>(&self, rt: &R) {
+        match self.fault {
+            Fault::Closed => {}
+            _ => {
+                let _ = eprintln!(rt; "{self}");
+            }
+        }
+    }
+
     /// A fault of a script. Without memory for the advice there is none.
     pub(crate) fn of_script(alloc: Global, fault: ScriptFault, script: &Source<'_>) -> Diagnostic {
         let advice = match fault {

@@ -1,14 +1,12 @@
 //! `nfs3d exports`: who may reach which volume.
 
 use crate::diagnostic::Diagnostic;
-use crate::fault::Fault;
+use crate::output::print;
 use crate::source::load_tree;
 use nfs_load::loaded::Loaded;
 use nfs_why::exports::put_exports;
 use nfs_words::text::Text;
-use nfs_xdr::device::{Device, write_all};
 use std::alloc::{AllocError, Global};
-use std::io;
 use std::process::ExitCode;
 use std::rt::Files;
 
@@ -20,10 +18,8 @@ pub(crate) fn print_exports<R: Files + Input + Print>(
 ) -> Result<ExitCode, Diagnostic> {
     let loaded = load_tree(rt, alloc, name)?;
     let lines = lines_of(alloc, &loaded)?;
-    match write_all(&mut Device::new(io::writer(rt)), lines.as_slice()) {
-        Ok(()) => Ok(ExitCode::SUCCESS),
-        Err(_) => Err(Fault::Write.into()),
-    }
+    print(rt, lines.as_slice())?;
+    Ok(ExitCode::SUCCESS)
 }
 
 // The lines of all exports.

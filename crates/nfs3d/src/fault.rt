@@ -61,6 +61,9 @@ pub enum Fault {
     /// The output can't be written.
     #[error("nfs3d: write fault")]
     Write,
+    /// Nobody reads the output any more, so that nothing is told either.
+    #[error("")]
+    Closed,
     /// There is no memory.
     #[error("nfs3d: out of memory")]
     Memory(#[from(alloc)] AllocError),
@@ -68,7 +71,7 @@ pub enum Fault {
 
 impl Fault {
     /// The program's exit status: 1 where the description or the script is at fault, 2 where the words are, 3 where the
-    /// machine is.
+    /// machine is; 141 where a pipe's reader has gone, as a shell says it of a program that SIGPIPE ended.
     pub fn status(&self) -> u8
         ensures { result ≡ status_of self.now }
     {
@@ -81,6 +84,7 @@ impl Fault {
             | Fault::Network { .. }
             | Fault::Write
             | Fault::Memory(_) => 3,
+            Fault::Closed => 141,
         }
     }
 }

@@ -8,6 +8,7 @@ mod diagnostic;
 mod exports;
 mod exposure;
 mod fault;
+mod output;
 mod replay;
 mod saving;
 mod serve;
@@ -29,7 +30,7 @@ fn main(rt: HostRuntime) -> ExitCode {
     match done {
         Ok(code) => code,
         Err(diagnostic) => {
-            let _ = eprintln!(rt; "{diagnostic}");
+            diagnostic.tell(&rt);
             ExitCode::from(diagnostic.fault.status())
         }
     }

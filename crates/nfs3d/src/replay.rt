@@ -1,17 +1,16 @@
 //! `nfs3d replay`: a script, run over a description.
 
 use crate::diagnostic::Diagnostic;
-use crate::fault::Fault;
+use crate::output::fault_of;
 use crate::saving::save;
 use crate::source::{Source, load_tree};
 use nfs_command_line::request::Replay;
 use nfs_load::loaded::Loaded;
-use nfs_replay::fault::ScriptFault;
 use nfs_replay::replay::replay;
 use nfs_replay::shown::Shown;
 use nfs_server::sessions::Sessions;
 use nfs_xdr::device::Device;
-use std::alloc::Global;
+use std::alloc::{AllocError, Global};
 use std::io::{self, BufWriter, Write};
 use std::process::ExitCode;
 use std::rt::Files;
@@ -27,10 +26,7 @@ pub(crate) fn replay_files<R: Files + Input + Print>(
 ) -> Result<ExitCode, Diagnostic> {
     let loaded = load_tree(rt, alloc, words.tree)?;
     let script = Source::read(rt, alloc, words.script)?;
-    let sessions = match run(rt, alloc, loaded, script.text.as_slice(), words) {
-        Ok(sessions) => sessions,
-        Err(fault) => return Err(Diagnostic::of_script(alloc, fault, &script)),
-    };
+    let sessions = run(rt, alloc, loaded, &script, words)?;
     if let Some(name) = words.save {
         save(rt, alloc, name, sessions.server())?;
     }
@@ -42,11 +38,11 @@ fn run<R: Print>(
     rt: &R,
     alloc: Global,
     loaded: Loaded,
-    script: &[u8],
+    script: &Source<'_>,
     words: &Replay<'_>,
-) -> Result<Sessions, ScriptFault> {
+) -> Result<Sessions, Diagnostic> {
     let Ok(lines) = BufWriter::with_capacity(alloc, RUN_BYTES, io::writer(rt)) else {
-        return Err(ScriptFault::Memory);
+        return Err(AllocError.into());
     };
     let mut out = Device::new(lines);
     let shown = Shown {
@@ -54,9 +50,19 @@ fn run<R: Print>(
         is_named: words.is_named,
     };
     let cache = words.cache.clamp(1, 1024);
-    let done = replay(alloc, loaded, script, cache, shown, &mut out);
-    match out.into_inner().flush() {
-        Ok(()) => done,
-        Err(_) => Err(ScriptFault::Write),
+    let done = replay(
+        alloc,
+        loaded,
+        script.text.as_slice(),
+        cache,
+        shown,
+        &mut out,
+    );
+    if let Err(error) = out.into_inner().flush() {
+        return Err(fault_of(error).into());
+    }
+    match done {
+        Ok(sessions) => Ok(sessions),
+        Err(fault) => Err(Diagnostic::of_script(alloc, fault, script)),
     }
 }

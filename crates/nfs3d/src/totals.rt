@@ -1,25 +1,18 @@
 //! What a description holds, in one line.
 
 use crate::fault::Fault;
+use crate::output::print;
 use nfs_inodes::tree::Tree;
 use nfs_inodes::volumes::Totals;
-use nfs_xdr::device::{ByteOut, write_all};
 use std::alloc::Global;
 
 /// Prints `ok volumes=V files=F bytes=B`: how many volumes there are, and what they have together: files
-/// with their roots, and bytes of regular files. `Write` where the output fails, `Memory`.
-pub(crate) fn print_totals<W: ByteOut>(
-    alloc: Global,
-    tree: &Tree,
-    out: &mut W,
-) -> Result<(), Fault> {
+/// with their roots, and bytes of regular files. `Write` and `Closed` where the output fails, `Memory`.
+pub(crate) fn print_totals<R: Print>(rt: &R, alloc: Global, tree: &Tree) -> Result<(), Fault> {
     let volumes = tree.volumes();
     let Totals { bytes, files } = totals_of(tree);
     let line = format!(in alloc; "ok volumes={volumes} files={files} bytes={bytes}\n")?;
-    match write_all(out, line.as_bytes()) {
-        Ok(()) => Ok(()),
-        Err(_) => Err(Fault::Write),
-    }
+    print(rt, line.as_bytes())
 }
 
 // What all volumes have together.

@@ -1,16 +1,14 @@
 //! `nfs3d why`: why a call is granted or denied.
 
 use crate::diagnostic::Diagnostic;
-use crate::fault::Fault;
+use crate::output::print;
 use crate::source::Source;
 use nfs_command_line::request::Why;
 use nfs_load::loaded::Loaded;
 use nfs_why::question::{BadQuestion, Question};
 use nfs_why::why::put_answer;
 use nfs_words::text::Text;
-use nfs_xdr::device::{Device, write_all};
 use std::alloc::{AllocError, Global};
-use std::io;
 use std::process::ExitCode;
 use std::rt::Files;
 
@@ -53,10 +51,8 @@ fn print_answer<R: Files + Input + Print>(
     let description = Source::read(rt, alloc, name)?;
     let loaded = description.load(alloc)?;
     let answer = answer(alloc, description.text.as_slice(), &loaded, question)?;
-    match write_all(&mut Device::new(io::writer(rt)), answer.as_slice()) {
-        Ok(()) => Ok(ExitCode::SUCCESS),
-        Err(_) => Err(Fault::Write.into()),
-    }
+    print(rt, answer.as_slice())?;
+    Ok(ExitCode::SUCCESS)
 }
 
 // What is answered over a description.

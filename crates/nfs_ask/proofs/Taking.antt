@@ -1,5 +1,5 @@
 -- Words that are taken one after another.
-use Rattle.std.proofs.Common.{◌≡◌, ℕ, List, [], ◌∷◌, Option, Some, None, Ok, Err, refl, sym, ap, subst, ◌∙◌}
+use Rattle.std.proofs.Common.{◌≡◌, ℕ, List, [], ◌∷◌, Option, Some, None, Ok, refl, sym, ap, subst, ◌∙◌}
 use Rattle.nfs_xdr.proofs.Finding.{ok_is}
 use Rattle.nfs_rpc.specs.AuthSys.{Credential, credential_of}
 use Rattle.nfs_ask.specs.declared.ask.Ask.{Ask}

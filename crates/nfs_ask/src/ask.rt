@@ -1,13 +1,14 @@
 //! A call that is asked for in words.
-ghost use Rattle.std.specs.Prelude.{◌≡◌, Some, IfOk};
+ghost use Rattle.std.specs.Prelude.{◌≡◌, Some, IfOk, IfErr};
 ghost use Rattle.nfs_ask.specs.Asks.{AsksBy, record_of};
+ghost use Rattle.nfs_ask.specs.Faults.{OnlyWithout};
 ghost use Rattle.nfs_ask.specs.Words.{Takes, value_at};
 ghost use Rattle.nfs_ask.specs.Words as spec;
 ghost use Rattle.nfs_ask.specs.declared.fault.Wanted.TheVariants as wanted;
 ghost use Rattle.nfs_rpc.specs.AuthSys.{credential_of};
 ghost use Rattle.nfs_text.specs.Words.{words_left};
 
-use crate::fault::{AskFault, Wanted};
+use crate::fault::{AskFault, Wanted, fault_of};
 use crate::fields::Fields;
 use crate::operation::Operation;
 use crate::request::read_request;
@@ -57,7 +58,8 @@ impl<'a> Ask<'a> {
     /// repeats of each other. A fault where a path names no file, digits are none or a word is too long, and
     /// where there is no memory; nothing is changed in any case.
     pub fn record(&self, alloc: Global, tree: &Tree, xid: u32) -> Result<Vec<u8>, AskFault>
-        ensures { IfOk result (λ bytes. record_of tree.now self.now xid ≡ Some bytes.items) }
+        ensures text { IfOk result (λ bytes. record_of tree.now self.now xid ≡ Some bytes.items) }
+        ensures fault { IfErr result (OnlyWithout (record_of tree.now self.now xid)) }
     {
         let sender = Sender {
             alloc,
@@ -67,7 +69,7 @@ impl<'a> Ask<'a> {
         };
         match sender.record(self.path, self.request) {
             Ok(record) => Ok(record),
-            Err(fault) => Err(fault.into()),
+            Err(fault) => Err(fault_of(fault)),
         }
     }
 }

@@ -1,4 +1,6 @@
 //! Why words ask for no call.
+ghost use Rattle.std.specs.Prelude.{◌≡◌};
+ghost use Rattle.nfs_ask.specs.Faults as spec;
 
 use nfs_client::fault::{CallFault, Part};
 use thiserror::Error;
@@ -59,18 +61,21 @@ const BEHIND_PATH: usize = 3;
 
 const BYTES: usize = 4;
 
-impl From<CallFault> for AskFault {
-    fn from(fault: CallFault) -> AskFault {
-        match fault {
-            CallFault::NoFile(part) => AskFault::Word(place_of(part), Wanted::File),
-            CallFault::TooLong(part) => AskFault::Word(place_of(part), Wanted::Shorter),
-            CallFault::BadDigits => AskFault::Word(BYTES, Wanted::Bytes),
-            CallFault::Memory => AskFault::Memory,
-        }
+/// The fault of a call that can't be written, by the word that it is at.
+pub(crate) fn fault_of(fault: CallFault) -> AskFault
+    ensures { result ≡ spec.fault_of fault }
+{
+    match fault {
+        CallFault::NoFile(part) => AskFault::Word(place_of(part), Wanted::File),
+        CallFault::TooLong(part) => AskFault::Word(place_of(part), Wanted::Shorter),
+        CallFault::BadDigits => AskFault::Word(BYTES, Wanted::Bytes),
+        CallFault::Memory => AskFault::Memory,
     }
 }
 
-fn place_of(part: Part) -> usize {
+fn place_of(part: Part) -> usize
+    ensures { result ≡ spec.place_of part }
+{
     match part {
         Part::Path => PATH,
         Part::BehindPath => BEHIND_PATH,

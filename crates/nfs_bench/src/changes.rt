@@ -1,6 +1,6 @@
 //! What changes the tree: names that come, go and move, attributes and sizes.
 
-use crate::tree::{GIVEN, ROUNDS, START, grown, letters};
+use crate::tree::{GIVEN, ROOT, ROUNDS, START, grown, letters};
 use nfs_conditions::bytes::may_resize;
 use nfs_conditions::entries::may_unlink;
 use nfs_conditions::moves::may_rename;
@@ -82,10 +82,10 @@ fn time<R: Clock + Print>(
 
 // A directory of ten files in the root.
 fn add_dir(alloc: Global, tree: &mut Tree, name: &[u8]) -> Result<Number, AllocError> {
-    if !tree.may_make_dir(Number::new(1), name) {
-        return Ok(Number::new(1));
+    if !tree.may_make_dir(ROOT, name) {
+        return Ok(ROOT);
     }
-    let dir = tree.make_dir(Number::new(1), name, &GIVEN, START)?;
+    let dir = tree.make_dir(ROOT, name, &GIVEN, START)?;
     for file in 0..10 {
         make(alloc, tree, dir, &letters(file));
     }

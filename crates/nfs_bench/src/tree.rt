@@ -3,13 +3,16 @@
 use nfs_attrs::moment::Moment;
 use nfs_conditions::bytes::may_write;
 use nfs_content::pages::Pages;
-use nfs_handles::number::Number;
+use nfs_handles::number::{Hint, Number};
 use nfs_inodes::new_file::NewFile;
 use nfs_inodes::tree::Tree;
 use std::alloc::{AllocError, Global};
 use std::io;
 use std::rt::Clock;
 use std::time::Instant;
+
+/// The root of the first volume.
+pub(crate) const ROOT: Number = Number(1, Hint::NONE);
 
 /// How often a reading is measured.
 pub(crate) const ROUNDS: u32 = 1_000_000;
@@ -104,10 +107,10 @@ pub(crate) fn fill(
     files: u32,
 ) -> Result<(), AllocError> {
     let name = letters(place);
-    if !tree.may_make_dir(Number::new(1), &name) {
+    if !tree.may_make_dir(ROOT, &name) {
         return Ok(());
     }
-    let dir = tree.make_dir(Number::new(1), &name, &GIVEN, START)?;
+    let dir = tree.make_dir(ROOT, &name, &GIVEN, START)?;
     for file in 0..files {
         let name = letters(file);
         if tree.may_make(dir, &name, 0) {

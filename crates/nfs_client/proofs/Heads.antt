@@ -1,8 +1,8 @@
 -- What is written for the head of a call spells it, and who calls.
-use Rattle.std.proofs.Common.{◌≡◌, ℕ, zero, suc, ◌^◌, ◌<◌, ◌≤◌, List, [], ◌∷◌, ◌++◌, length, get_or, refl, arith}
+use Rattle.std.proofs.Common.{ℕ, ◌^◌, ◌<◌, ◌≤◌, List, [], ◌∷◌, length, refl, arith}
 use Rattle.std.specs.Int.{w32, to_be_bytes}
 use Rattle.std.specs.List.{AllByRecursion}
-use Rattle.nfs_xdr.specs.Spelling.{IsNumber, IsOpaque, IsArray, AreItems, opaque_text, numbers_text}
+use Rattle.nfs_xdr.specs.Spelling.{IsNumber, IsOpaque, AreItems, numbers_text}
 use Rattle.nfs_xdr.proofs.Items.{opaque_written}
 use Rattle.nfs_xdr.proofs.Writing.{number_written, followed}
 use Rattle.nfs_rpc.specs.AuthSys.{Credential, IsAuthSys}
@@ -25,20 +25,24 @@ no_name : IsOpaque 255 [] (to_be_bytes w32 0)
 no_name = opaque_written 255 [] (omega arith) (omega arith)
 
 pub head_spelled : (call : Call) (body : List ℕ) → CallFits call → length body ≤ 400 → IsCallHead (call_said call body) (head_text call body)
-head_spelled call body fits few = (record { flavor = 0; body = [] },
-    followed _ _ _ _ (word call.xid fits.xid)
-    (followed _ _ _ _ (word 0 (omega arith))
-    (followed _ _ _ _ (word 2 (omega arith))
-    (followed _ _ _ _ (word call.program fits.program)
-    (followed _ _ _ _ (word 3 (omega arith))
-    (followed _ _ _ _ (word call.procedure fits.procedure)
-    (followed _ _ _ _ (followed _ _ _ _ (word 1 (omega arith)) (opaque_written 400 body (omega (arith, few)) few))
-    (followed _ _ _ _ (word 0 (omega arith)) no_bytes))))))))
+head_spelled call body fits few = (
+  record { flavor = 0; body = [] },
+  followed _ _ _ _ (word call.xid fits.xid)
+      (followed _ _ _ _ (word 0 (omega arith))
+      (followed _ _ _ _ (word 2 (omega arith))
+      (followed _ _ _ _ (word call.program fits.program)
+      (followed _ _ _ _ (word 3 (omega arith))
+      (followed _ _ _ _ (word call.procedure fits.procedure)
+      (followed _ _ _ _ (followed _ _ _ _ (word 1 (omega arith)) (opaque_written 400 body (omega (arith, few)) few))
+      (followed _ _ _ _ (word 0 (omega arith)) no_bytes))))))),
+)
 
 pub credential_spelled : (cred : Credential) → CredentialFits cred → IsAuthSys cred (auth_sys_text cred)
-credential_spelled cred fits = (record { stamp = 0; machine = [] },
-    followed _ _ _ _ (word 0 (omega arith))
-    (followed _ _ _ _ no_name
-    (followed _ _ _ _ (word cred.uid fits.uid)
-    (followed _ _ _ _ (word cred.gid fits.gid)
-    (record { bound = fits.few; spelled = followed _ _ _ _ (word (length cred.gids) (omega (arith, fits.few))) (are_words cred.gids fits.gids) })))))
+credential_spelled cred fits = (
+  record { stamp = 0; machine = [] },
+  followed _ _ _ _ (word 0 (omega arith))
+      (followed _ _ _ _ no_name
+      (followed _ _ _ _ (word cred.uid fits.uid)
+      (followed _ _ _ _ (word cred.gid fits.gid)
+      (record { bound = fits.few; spelled = followed _ _ _ _ (word (length cred.gids) (omega (arith, fits.few))) (are_words cred.gids fits.gids) })))),
+)

@@ -1,12 +1,12 @@
 -- How much room arguments take.
-use Rattle.std.proofs.Common.{◌≡◌, ℕ, ◌+◌, ◌≤◌, List, [], ◌∷◌, ◌++◌, length, Option, Some, None, arith, length-append}
+use Rattle.std.proofs.Common.{◌≡◌, ℕ, ◌+◌, ◌≤◌, List, length, Option, Some, None, arith, length-append}
 use Rattle.std.proofs.lemmas.Grind.{common_steps}
 use Rattle.std.specs.Int.{w32, w64, to_be_bytes}
-use Rattle.nfs_xdr.specs.Spelling.{opaque_text, fixed_text, pad_text, padding, numbers_text, optional_text}
+use Rattle.nfs_xdr.specs.Spelling.{opaque_text, optional_text}
 use Rattle.nfs_attrs.specs.declared.sattr.Sattr.{Sattr}
 use Rattle.nfs_attrs.specs.declared.time_setting.TimeSetting.{TimeSetting}
 use Rattle.nfs_attrs.specs.declared.time_setting.TimeSetting.TheVariants.{Leave, ServerTime, ClientTime}
-use Rattle.nfs_attrs.specs.Spelling.{sattr_text, time_setting_text, moment_text}
+use Rattle.nfs_attrs.specs.Spelling.{sattr_text, time_setting_text}
 use Rattle.nfs_client.specs.declared.file_request.FileRequest.{FileRequest}
 use Rattle.nfs_client.specs.declared.file_request.FileRequest.TheVariants as of_file
 use Rattle.nfs_client.specs.Requests.{file_text, file_rest}

@@ -1,11 +1,9 @@
 -- What is written for a request spells its arguments.
-use Rattle.std.proofs.Common.{◌≡◌, ℕ, ◌^◌, ◌<◌, ◌≤◌, List, [], ◌∷◌, ◌++◌, length, get_or, Option, Some, None, refl, sym, subst, append_assoc, append-nil, arith}
-use Rattle.std.specs.Int.{Width, w32, w64, byte_len, to_be_bytes}
-use Rattle.std.specs.List.{AllByRecursion}
-use Rattle.nfs_xdr.specs.Spelling.{IsNumber, IsOptional, IsOpaque, IsFixed, IsArray, AreItems, opaque_text, numbers_text, optional_text}
+use Rattle.std.proofs.Common.{◌≡◌, ℕ, ◌^◌, ◌<◌, ◌≤◌, List, [], ◌++◌, length, Option, Some, None, refl, sym, subst, append_assoc, append-nil, arith}
+use Rattle.std.specs.Int.{w32, w64, to_be_bytes}
+use Rattle.nfs_xdr.specs.Spelling.{IsNumber, IsOptional, opaque_text, optional_text}
 use Rattle.nfs_xdr.proofs.Items.{opaque_written}
 use Rattle.nfs_xdr.proofs.Writing.{number_written, followed}
-use Rattle.nfs_attrs.specs.declared.moment.Moment.{Moment}
 use Rattle.nfs_attrs.specs.declared.sattr.Sattr.{Sattr}
 use Rattle.nfs_attrs.specs.declared.time_setting.TimeSetting.{TimeSetting}
 use Rattle.nfs_attrs.specs.declared.time_setting.TimeSetting.TheVariants.{Leave, ServerTime, ClientTime}
@@ -57,8 +55,8 @@ regrouped a b c d e f = simp append_assoc
 
 sattr : (s : Sattr) → SattrFits s → IsSattr s (sattr_text s)
 sattr s fits = subst (IsSattr s) (regrouped (optional_text (to_be_bytes w32) s.mode) (optional_text (to_be_bytes w32) s.uid) (optional_text (to_be_bytes w32) s.gid)
-        (optional_text (to_be_bytes w64) s.size) (time_setting_text s.atime) (time_setting_text s.mtime))
-     (followed _ _ _ _ (optional_word s.mode fits.mode)
+    (optional_text (to_be_bytes w64) s.size) (time_setting_text s.atime) (time_setting_text s.mtime))
+    (followed _ _ _ _ (optional_word s.mode fits.mode)
     (followed _ _ _ _ (optional_word s.uid fits.uid)
     (followed _ _ _ _ (optional_word s.gid fits.gid)
     (followed _ _ _ _ (optional_hyper s.size fits.size)
@@ -80,12 +78,24 @@ file_spelled (of_file.Set attributes) file content fits f c = (_, refl, followed
 file_spelled of_file.Access file content fits f c = (_, refl, followed _ _ _ _ (handle file f) (word 63 (omega arith)))
 file_spelled of_file.ReadLink file content fits f c = (_, refl, alone IsHandle file _ (handle file f))
 file_spelled (of_file.Read offset count) file content fits f c = (_, refl, followed _ _ _ _ (handle file f) (followed _ _ _ _ (hyper offset fits.0) (word count fits.1)))
-file_spelled (of_file.Write offset digits) file content fits f c = (_, refl, followed _ _ _ _ (handle file f)
-    (followed _ _ _ _ (hyper offset fits) (followed _ _ _ _ (word (length content) c) (followed _ _ _ _ (word 0 (omega arith)) (string content c)))))
-file_spelled (of_file.List cookie) file content fits f c = (_, refl, followed _ _ _ _ (handle file f)
-    (followed _ _ _ _ (hyper cookie fits) (followed _ _ _ _ verifier (word 4096 (omega arith)))))
-file_spelled (of_file.ListPlus cookie) file content fits f c = (_, refl, followed _ _ _ _ (handle file f)
-    (followed _ _ _ _ (hyper cookie fits) (followed _ _ _ _ verifier (followed _ _ _ _ (word 4096 (omega arith)) (word 4096 (omega arith))))))
+file_spelled (of_file.Write offset digits) file content fits f c = (
+  _,
+  refl,
+  followed _ _ _ _ (handle file f)
+      (followed _ _ _ _ (hyper offset fits) (followed _ _ _ _ (word (length content) c) (followed _ _ _ _ (word 0 (omega arith)) (string content c)))),
+)
+file_spelled (of_file.List cookie) file content fits f c = (
+  _,
+  refl,
+  followed _ _ _ _ (handle file f)
+      (followed _ _ _ _ (hyper cookie fits) (followed _ _ _ _ verifier (word 4096 (omega arith)))),
+)
+file_spelled (of_file.ListPlus cookie) file content fits f c = (
+  _,
+  refl,
+  followed _ _ _ _ (handle file f)
+      (followed _ _ _ _ (hyper cookie fits) (followed _ _ _ _ verifier (followed _ _ _ _ (word 4096 (omega arith)) (word 4096 (omega arith))))),
+)
 file_spelled of_file.Room file content fits f c = (_, refl, alone IsHandle file _ (handle file f))
 file_spelled of_file.Limits file content fits f c = (_, refl, alone IsHandle file _ (handle file f))
 file_spelled of_file.PathLimits file content fits f c = (_, refl, alone IsHandle file _ (handle file f))

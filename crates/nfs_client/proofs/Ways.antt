@@ -1,5 +1,5 @@
 -- A path's way, volume by volume.
-use Rattle.std.proofs.Common.{◌≡◌, ℕ, zero, suc, ◌+◌, ◌<◌, List, [], ◌∷◌, length, drop, Option, refl, ap, ◌∙◌, arith, slice_get, add-one}
+use Rattle.std.proofs.Common.{◌≡◌, ℕ, zero, suc, ◌+◌, ◌<◌, List, [], ◌∷◌, length, drop, Option, refl, ◌∙◌, arith, slice_get, add-one}
 use Rattle.nfs_inodes.specs.Tree.{Volume}
 use Rattle.nfs_client.specs.Places.{Way, nearer, volume_way, way_from}
 

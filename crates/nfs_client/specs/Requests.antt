@@ -1,5 +1,5 @@
 -- What is asked for, and which bytes are written for it (RFC 1813, section 3.3).
-use Rattle.std.specs.Prelude.{ℕ, ◌≤◌, ◌<◌, ◌^◌, List, [], ◌∷◌, ◌++◌, length, Option, Some, None}
+use Rattle.std.specs.Prelude.{ℕ, List, [], ◌∷◌, ◌++◌, length, None}
 use Rattle.std.specs.Int.{w32, w64, to_be_bytes}
 use Rattle.nfs_xdr.specs.Spelling.{opaque_text, numbers_text}
 use Rattle.nfs_attrs.specs.declared.sattr.Sattr.{Sattr}

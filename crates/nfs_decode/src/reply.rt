@@ -1,4 +1,8 @@
 //! A reply, in words.
+ghost use Rattle.std.specs.Prelude.{◌≡◌, ◌++◌, codes};
+ghost use Rattle.nfs_words.specs.Texts.{Puts};
+ghost use Rattle.nfs_decode.specs.Called.{called_name};
+ghost use Rattle.nfs_decode.specs.Called as spec;
 
 use crate::mounting::put_mount_results;
 use crate::results::put_results;
@@ -17,6 +21,9 @@ const NFS: u32 = 100_003;
 
 const MOUNT: u32 = 100_005;
 
+// The version of both.
+const VERSION: u32 = 3;
+
 // Which procedure was called, as far as it is known.
 #[derive(Clone, Copy)]
 enum Called {
@@ -30,9 +37,7 @@ enum Called {
 /// number in it is none, a line tells so.
 pub fn put_reply(call: &[u8], reply: &[u8], out: &mut Text) {
     let called = called_by(call);
-    out.put(b"  ");
-    out.put(name_of(called));
-    out.put(b": ");
+    put_name(called, out);
     let mut input = Input::new(reply);
     match put_message(called, &mut input, out) {
         Ok(()) => put_rest(input.rest(), out),
@@ -41,29 +46,43 @@ pub fn put_reply(call: &[u8], reply: &[u8], out: &mut Text) {
 }
 
 // The procedure that a call's record names.
-fn called_by(record: &[u8]) -> Called {
-    let Ok(head) = read_call(record) else {
-        return Called::Other;
-    };
-    if head.vers != 3 {
-        return Called::Other;
-    }
-    if head.prog == NFS {
-        return match Procedure::of(head.proc) {
-            Some(procedure) => Called::Nfs(procedure),
-            None => Called::Other,
-        };
-    }
-    if head.prog != MOUNT {
-        return Called::Other;
-    }
-    match MountProcedure::of(head.proc) {
-        Some(procedure) => Called::Mount(procedure),
-        None => Called::Other,
+fn called_by(message: &[u8]) -> Called
+    ensures { result ≡ spec.called_by message.now }
+{
+    match read_call(message) {
+        Ok(head) if head.vers == VERSION => procedure_of(head.prog, head.proc),
+        _ => Called::Other,
     }
 }
 
-fn name_of(called: Called) -> &'static [u8] {
+fn procedure_of(program: u32, procedure: u32) -> Called
+    ensures { result ≡ spec.procedure_of program procedure }
+{
+    match program {
+        NFS => match Procedure::of(procedure) {
+            Some(procedure) => Called::Nfs(procedure),
+            None => Called::Other,
+        },
+        MOUNT => match MountProcedure::of(procedure) {
+            Some(procedure) => Called::Mount(procedure),
+            None => Called::Other,
+        },
+        _ => Called::Other,
+    }
+}
+
+// Begins the first line.
+fn put_name(called: Called, out: &mut Text)
+    ensures { Puts (codes "  " ++ called_name called ++ codes ": ") out.old out.new }
+{
+    out.put(b"  ");
+    out.put(name_of(called));
+    out.put(b": ");
+}
+
+fn name_of(called: Called) -> &'static [u8]
+    ensures { result.now ≡ called_name called }
+{
     match called {
         Called::Nfs(procedure) => nfs_name(procedure),
         Called::Mount(procedure) => mount_name(procedure),

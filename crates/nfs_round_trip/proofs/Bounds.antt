@@ -1,13 +1,13 @@
 -- What fields say is within the bounds of what is written.
-use Rattle.std.proofs.Common.{inl, inr, ◌≡◌, ◌≢◌, ◌⊎◌, ℕ, suc, zero, ◌+◌, ◌*◌, ◌<◌, ◌≤◌, ◌^◌, ◌&&◌, Bool, true, false, cond, List, [], ◌∷◌, ◌++◌, length, nat_eq, Option, Some, None, option_map, Ok, refl, sym, ap, subst, ◌∙◌, arith}
+use Rattle.std.proofs.Common.{◌≡◌, ℕ, ◌<◌, ◌≤◌, ◌^◌, ◌&&◌, Bool, true, false, List, [], ◌∷◌, length, nat_eq, Option, Some, None, option_map, Ok, refl, sym, ap}
+use Rattle.std.proofs.Common.{subst, ◌∙◌, arith}
 use Rattle.std.specs.Prelude.{Err, Result, bytes_eq, codes, if◌then◌else◌, nat_le, nat_lt}
 use Rattle.std.specs.List.{list_all}
 use Rattle.std.specs.Option.{ok_or, unwrap_or}
 use Rattle.std.specs.Str.Parse.{digits_value}
 use Rattle.std.specs.Char.{is_ascii_digit}
 use Rattle.std.specs.Int.{from_be_bytes, w32}
-use Rattle.std.proofs.lemmas.Bool.Decides.{nat_tests}
-use Rattle.hex.specs.Hex.{IsBytes, decode_of, decode_pairs, decode_sized}
+use Rattle.hex.specs.Hex.{IsBytes, decode_of, decode_sized}
 use Rattle.hex.specs.declared.error.FromHexError.{FromHexError}
 use Rattle.hex.proofs.HexLemmas.{decode_of-ok, decode_sized-ok, decode_sized-twice}
 use Rattle.nfs_text.specs.Numbers.{decimal_of, is_decimal}
@@ -15,7 +15,7 @@ use Rattle.nfs_text.specs.Pieces.{cut, pieces}
 use Rattle.nfs_exports.specs.Addresses as addresses
 use Rattle.nfs_exports.specs.Addresses.{address_of, number_of_parts, number_of_pieces, part}
 use Rattle.nfs_exports.specs.Options.{default_options}
-use Rattle.nfs_exports.specs.Patterns.{any, bits, bits_or_all, network_of, pattern_of}
+use Rattle.nfs_exports.specs.Patterns.{any, bits_or_all, network_of, pattern_of}
 use Rattle.nfs_exports.specs.Settings.{agreed, nothing, options_of, parse_options, same_flag, with_setting, with_words}
 use Rattle.nfs_exports.specs.Words as words
 use Rattle.nfs_exports.specs.Words.{flag_of, id_of, is_unsupported, is_without_effect, parts_of, setting_of, value_of}
@@ -27,13 +27,15 @@ use Rattle.nfs_exports.specs.declared.pattern.Pattern.{Pattern}
 use Rattle.nfs_exports.specs.declared.setting.Setting.{Setting}
 use Rattle.nfs_exports.specs.declared.setting.Setting.TheVariants.{ReadOnly, RootSquash, AllSquash, AnonUid, AnonGid, Nothing}
 use Rattle.nfs_exports.specs.declared.settings.Settings.{Settings}
-use Rattle.nfs_inodes.proofs.Lists.{by_test, if_false, if_true, not_both, same_some, true_and_false}
-use Rattle.nfs_load.specs.Fields.{◌>>=◌, at_least, behind, by, content_in, found_pattern, key_in, mode_in, keyed, number_in, options_at, options_in, options_or_cause, pattern_in, target_in, within}
-use Rattle.nfs_load.specs.Statements.{Read, given_in, id_in}
+use Rattle.nfs_inodes.proofs.Lists.{by_test, not_both, same_some}
+use Rattle.nfs_load.specs.Fields.{◌>>=◌, at_least, behind, by, content_in, found_pattern, key_in, mode_in, keyed, number_in, options_at, options_or_cause}
+use Rattle.nfs_load.specs.Fields.{pattern_in, target_in, within}
+use Rattle.nfs_load.specs.Statements.{given_in, id_in}
 use Rattle.nfs_load.specs.declared.cause.Cause.{Cause}
 use Rattle.nfs_load.specs.declared.cause.Cause.TheVariants.{BadContent, BadNumber as BadNumberCause}
 use Rattle.nfs_load.specs.declared.statement.Given.{Given}
 use Rattle.nfs_round_trip.proofs.Runs.{same_ok}
+use Rattle.nfs_round_trip.proofs.Truths.{both, within as at_most}
 
 -- ---- what was read before
 
@@ -58,20 +60,14 @@ if_ok : {A E P : Type 0} (b : Bool) (x y : Result A E) (a : A) → (x ≡ Ok a �
 if_ok true x y a one two e = one e
 if_ok false x y a one two e = two e
 
-both : (a b : Bool) → (a && b) ≡ true → (a ≡ true) × (b ≡ true)
-both true b e = (refl, e)
-both false b e = absurd (true_and_false e refl)
-
-upto : (m n : ℕ) → nat_le m n ≡ true → m ≤ n
-upto m n e = grind (arith, nat_tests)
-
 -- ---- numbers
 
 pub decimal_bound : (max : ℕ) (text : List ℕ) (n : ℕ) → decimal_of max text ≡ Some n → n ≤ max
 decimal_bound max text n e = by_test (is_decimal max text)
     (λ y.
     let is : digits_value 10 text ≡ n = same_some (sym (ap (λ b. if b then Some (digits_value 10 text) else None) y) ∙ e) in
-    let high = upto (digits_value 10 text) max (both (list_all is_ascii_digit text) (nat_le (digits_value 10 text) max) (both (nat_lt 0 (length text)) (list_all is_ascii_digit text && nat_le (digits_value 10 text) max) y).1).1 in
+    let high = at_most (digits_value 10 text) max (both (list_all is_ascii_digit text) (nat_le (digits_value 10 text) max)
+    (both (nat_lt 0 (length text)) (list_all is_ascii_digit text && nat_le (digits_value 10 text) max) y).1).1 in
     omega (arith, is, high))
     (λ o. absurd (not_both (ap (λ b. if b then Some (digits_value 10 text) else None) o) e))
 
@@ -87,14 +83,17 @@ number_bound min max field n e = from (decimal_of max field) refl e
 abbrev Left : Type 0 → Type 0
 Left A = A × List (List ℕ)
 
-pub given_bound : (fields : List (List ℕ)) (given : Given) (rest : List (List ℕ)) → given_in fields ≡ Ok (given, rest) → (given.uid < 2 ^ 32) × (given.gid < 2 ^ 32)
+pub given_bound : (fields : List (List ℕ)) (given : Given) (rest : List (List ℕ)) → given_in fields ≡ Ok (given, rest) → (given.uid < 2 ^ 32)
+    × (given.gid < 2 ^ 32)
 given_bound fields given rest e =
     let mode = bind_is (by mode_in fields) (λ (mode : Left ℕ). by id_in mode.1 >>= (λ (uid : Left ℕ). by id_in uid.1 >>= (λ (gid : Left ℕ).
     Ok (record { mode = mode.0; uid = uid.0; gid = gid.0 }, gid.1)))) (given, rest) e in
-    let uid = bind_is (by id_in mode.0.1) (λ (uid : Left ℕ). by id_in uid.1 >>= (λ (gid : Left ℕ). Ok (record { mode = mode.0.0; uid = uid.0; gid = gid.0 }, gid.1))) (given, rest) mode.2 in
+    let uid = bind_is (by id_in mode.0.1) (λ (uid : Left ℕ). by id_in uid.1 >>=
+    (λ (gid : Left ℕ). Ok (record { mode = mode.0.0; uid = uid.0; gid = gid.0 }, gid.1))) (given, rest) mode.2 in
     let gid = bind_is (by id_in uid.0.1) (λ (gid : Left ℕ). Ok (record { mode = mode.0.0; uid = uid.0.0; gid = gid.0 }, gid.1)) (given, rest) uid.2 in
     let made : Given = record { mode = mode.0.0; uid = uid.0.0; gid = gid.0.0 } in
-    let whole : ◌≡◌ {A = Given × List (List ℕ)} (made, gid.0.1) (given, rest) = same_ok {E = Cause} (Ok (made, gid.0.1)) (made, gid.0.1) (given, rest) refl gid.2 in
+    let whole : ◌≡◌ {A = Given × List (List ℕ)} (made, gid.0.1) (given, rest) = same_ok {E = Cause} (Ok (made, gid.0.1)) (made, gid.0.1)
+    (given, rest) refl gid.2 in
     let same : made ≡ given = ap (λ (p : Given × List (List ℕ)). p.0) whole in
     let u = by_is id_in mode.0.1 uid.0.0 uid.0.1 uid.1 in
     let g = by_is id_in uid.0.1 gid.0.0 gid.0.1 gid.1 in
@@ -154,11 +153,14 @@ four_bound a b c d n one two three four e = omega (arith, e)
 
 parts_bound : (a b c d : List ℕ) (n : ℕ) → number_of_parts a b c d ≡ Some n → n < 2 ^ 32
 parts_bound a b c d n e =
-    let one = some_bind (part a) (λ (a : ℕ). addresses.◌>>=◌ (part b) (λ (b : ℕ). addresses.◌>>=◌ (part c) (λ (c : ℕ). addresses.◌>>=◌ (part d) (λ (d : ℕ). Some (from_be_bytes w32 (a ∷ b ∷ c ∷ d ∷ [])))))) n e in
-    let two = some_bind (part b) (λ (b : ℕ). addresses.◌>>=◌ (part c) (λ (c : ℕ). addresses.◌>>=◌ (part d) (λ (d : ℕ). Some (from_be_bytes w32 (one.0 ∷ b ∷ c ∷ d ∷ []))))) n one.2 in
+    let one = some_bind (part a) (λ (a : ℕ). addresses.◌>>=◌ (part b)
+    (λ (b : ℕ). addresses.◌>>=◌ (part c) (λ (c : ℕ). addresses.◌>>=◌ (part d) (λ (d : ℕ). Some (from_be_bytes w32 (a ∷ b ∷ c ∷ d ∷ [])))))) n e in
+    let two = some_bind (part b) (λ (b : ℕ). addresses.◌>>=◌ (part c)
+    (λ (c : ℕ). addresses.◌>>=◌ (part d) (λ (d : ℕ). Some (from_be_bytes w32 (one.0 ∷ b ∷ c ∷ d ∷ []))))) n one.2 in
     let three = some_bind (part c) (λ (c : ℕ). addresses.◌>>=◌ (part d) (λ (d : ℕ). Some (from_be_bytes w32 (one.0 ∷ two.0 ∷ c ∷ d ∷ [])))) n two.2 in
     let four = some_bind (part d) (λ (d : ℕ). Some (from_be_bytes w32 (one.0 ∷ two.0 ∷ three.0 ∷ d ∷ []))) n three.2 in
-    four_bound one.0 two.0 three.0 four.0 n (part_bound a one.0 one.1) (part_bound b two.0 two.1) (part_bound c three.0 three.1) (part_bound d four.0 four.1) (same_some four.2)
+    four_bound one.0 two.0 three.0 four.0 n (part_bound a one.0 one.1) (part_bound b two.0 two.1) (part_bound c three.0 three.1) (part_bound d four.0 four.1)
+    (same_some four.2)
 
 pieces_bound : (ps : List (List ℕ)) (n : ℕ) → number_of_pieces ps ≡ Some n → n < 2 ^ 32
 pieces_bound (a ∷ b ∷ c ∷ d ∷ []) n e = parts_bound a b c d n e
@@ -184,9 +186,11 @@ pattern_bound field p e = found (pattern_of field) refl e
   where
     network : network_of (cut 47 field) ≡ Some p → (p.bits ≤ 32) × (p.address.0 < 2 ^ 32)
     network e =
-        let a = some_bind (address_of (cut 47 field).0) (λ (a : Addr). addresses.◌>>=◌ (bits_or_all (cut 47 field).1) (λ (b : ℕ). Some (record { address = a; bits = b }))) p e in
+        let a = some_bind (address_of (cut 47 field).0) (λ (a : Addr). addresses.◌>>=◌ (bits_or_all (cut 47 field).1)
+        (λ (b : ℕ). Some (record { address = a; bits = b }))) p e in
         let b = some_bind (bits_or_all (cut 47 field).1) (λ (b : ℕ). Some (record { address = a.0; bits = b })) p a.2 in
-        subst (λ (q : Pattern). (q.bits ≤ 32) × (q.address.0 < 2 ^ 32)) (same_some b.2) (bits_bound (cut 47 field).1 b.0 b.1, address_bound (cut 47 field).0 a.0 a.1)
+        subst (λ (q : Pattern). (q.bits ≤ 32) × (q.address.0 < 2 ^ 32)) (same_some b.2)
+        (bits_bound (cut 47 field).1 b.0 b.1, address_bound (cut 47 field).0 a.0 a.1)
 
     found : (o : Option Pattern) → pattern_of field ≡ o → found_pattern o ≡ Ok p → (p.bits ≤ 32) × (p.address.0 < 2 ^ 32)
     found None is e = cc
@@ -234,7 +238,8 @@ id_bound text n e = from (decimal_of 4294967295 text) refl e
   where
     from : (o : Option ℕ) → decimal_of 4294967295 text ≡ o → ok_or o BadNumber ≡ Ok n → n < 2 ^ 32
     from None is e = cc
-    from (Some m) is e = let high = decimal_bound 4294967295 text m is in let same : m ≡ n = same_ok (ok_or (Some m) BadNumber) m n refl e in omega (arith, high, same)
+    from (Some m) is e = let high = decimal_bound 4294967295 text m is in let same : m ≡ n = same_ok (ok_or (Some m) BadNumber) m n refl e in
+        omega (arith, high, same)
 
 value_bound : (name value : List ℕ) (s : Setting) → value_of name value ≡ Ok s → Bounded s
 value_bound name value s e =
@@ -248,9 +253,11 @@ value_bound name value s e =
     (λ x. absurd (none_is UnknownOption s (Err UnknownOption) refl x)))) e
 
 parts_kept : (parts : List ℕ × Option (List ℕ)) (s : Setting) → parts_of parts ≡ Ok s → Bounded s
-parts_kept (name, None) s e = if_ok (is_unsupported name) (Err UnsupportedOption) (flag_of name) s (λ x. absurd (none_is UnsupportedOption s (Err UnsupportedOption) refl x)) (flag_bound name s) e
+parts_kept (name, None) s e = if_ok (is_unsupported name) (Err UnsupportedOption)
+    (flag_of name) s (λ x. absurd (none_is UnsupportedOption s (Err UnsupportedOption) refl x)) (flag_bound name s) e
 parts_kept (name, Some value) s e =
-    if_ok (is_unsupported name) (Err UnsupportedOption) (value_of name value) s (λ x. absurd (none_is UnsupportedOption s (Err UnsupportedOption) refl x)) (value_bound name value s) e
+    if_ok (is_unsupported name) (Err UnsupportedOption) (value_of name value) s (λ x. absurd (none_is UnsupportedOption s (Err UnsupportedOption) refl x))
+    (value_bound name value s) e
 
 agreed_is : (o : Option ℕ) (said n : ℕ) → agreed nat_eq o said ≡ Ok n → said ≡ n
 agreed_is None said n e = same_ok (agreed nat_eq None said) said n refl e
@@ -295,15 +302,18 @@ options_kept : (o : Options) (field : List ℕ) → parse_options field ≡ Ok o
 options_kept o field e =
     let s = words_bind (with_words nothing (pieces 44 field)) (λ (settings : Settings). Ok (options_of settings)) o e in
     let ids = words_kept (pieces 44 field) nothing s.0 ((λ id is. absurd (not_both refl is)), (λ id is. absurd (not_both refl is))) s.1 in
-    subst (λ (it : Options). (it.anonuid < 2 ^ 32) × (it.anongid < 2 ^ 32)) (same_ok (Ok (options_of s.0)) (options_of s.0) o refl s.2) (or_bound s.0.anonuid ids.0, or_bound s.0.anongid ids.1)
+    subst (λ (it : Options). (it.anonuid < 2 ^ 32) × (it.anongid < 2 ^ 32)) (same_ok (Ok (options_of s.0)) (options_of s.0) o refl s.2)
+    (or_bound s.0.anonuid ids.0, or_bound s.0.anongid ids.1)
 
-pub options_bound : (fields : List (List ℕ)) (o : Options) (rest : List (List ℕ)) → options_at fields ≡ Ok (o, rest) → (o.anonuid < 2 ^ 32) × (o.anongid < 2 ^ 32)
+pub options_bound : (fields : List (List ℕ)) (o : Options) (rest : List (List ℕ)) → options_at fields ≡ Ok (o, rest) → (o.anonuid < 2 ^ 32)
+    × (o.anongid < 2 ^ 32)
 options_bound [] o rest e =
     let same : default_options ≡ o = ap (λ (p : Options × List (List ℕ)). p.0) (same_ok (options_at []) (default_options, []) (o, rest) refl e) in
     subst (λ (it : Options). (it.anonuid < 2 ^ 32) × (it.anongid < 2 ^ 32)) same (omega arith, omega arith)
 options_bound (field ∷ fields) o rest e = from (parse_options field) refl e
   where
-    from : (r : Result Options OptionsFault) → parse_options field ≡ r → behind fields (options_or_cause r) ≡ Ok (o, rest) → (o.anonuid < 2 ^ 32) × (o.anongid < 2 ^ 32)
+    from : (r : Result Options OptionsFault) → parse_options field ≡ r → behind fields (options_or_cause r) ≡ Ok (o, rest) → (o.anonuid < 2 ^ 32)
+        × (o.anongid < 2 ^ 32)
     from (Err x) is e = cc
     from (Ok it) is e =
         let same : it ≡ o = ap (λ (p : Options × List (List ℕ)). p.0) (same_ok (behind fields (options_or_cause (Ok it))) (it, fields) (o, rest) refl e) in

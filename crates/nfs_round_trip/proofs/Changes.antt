@@ -17,12 +17,17 @@ use Rattle.nfs_round_trip.proofs.Walks.{Step}
 -- ---- a directory with one entry more
 
 copied_push : (number : ℕ → ℕ) (cookie : ℕ) (es : List Entry) (e : Entry)
-    → copied_entries number cookie (es ++ e ∷ []) ≡ copied_entries number cookie es ++ record { cookie = cookie + length es; name = e.name; number = number e.number } ∷ []
+    → copied_entries number cookie (es ++ e ∷ []) ≡ copied_entries number cookie es ++ record {
+      cookie = cookie + length es;
+      name = e.name;
+      number = number e.number;
+    } ∷ []
 copied_push number cookie [] e = ap (λ c. record { cookie = c; name = e.name; number = number e.number } ∷ []) (omega arith)
 copied_push number cookie (x ∷ es) e =
     let more : cookie + 1 + length es ≡ cookie + suc (length es) = omega arith in
     ap (λ l. record { cookie = cookie; name = x.name; number = number x.number } ∷ l)
-    (copied_push number (cookie + 1) es e ∙ ap (λ c. copied_entries number (cookie + 1) es ++ record { cookie = c; name = e.name; number = number e.number } ∷ []) more)
+    (copied_push number (cookie + 1) es e
+    ∙ ap (λ c. copied_entries number (cookie + 1) es ++ record { cookie = c; name = e.name; number = number e.number } ∷ []) more)
 
 kind_more : (number : ℕ → ℕ) (es : List Entry) (e : Entry) (k : Kind) → is_directory k ≡ true
     → kind_with_entry (copied_kind number (with_entries es k)) e.name (number e.number) ≡ copied_kind number (with_entries (es ++ e ∷ []) k)
@@ -46,9 +51,11 @@ entered_is number tag es e f y =
     ∙ ap (λ (mode : ℕ). record old { kind = copied_kind number (with_entries (es ++ e ∷ []) f.kind); mode = mode }) (mode_same es (es ++ e ∷ []) f.kind f.mode)
 
 module _ (t : Tree) (law : Law t) (number : ℕ → ℕ) (done : List Step) (s : Step) (f : File) (at_dir : LivesAsDirectory t s.0.number f) where
-  entry_more : (ns : List ℕ) (xs : List (ℕ × File)) (u : Tree) (h : File) → AreMade t number (shown done) 1 ns xs → Has s.0.number ns → IsDirectoryMade t number (shown done s.0.number) u s.0.number f h
+  entry_more : (ns : List ℕ) (xs : List (ℕ × File)) (u : Tree) (h : File) → AreMade t number (shown done) 1 ns xs → Has s.0.number ns
+      → IsDirectoryMade t number (shown done s.0.number) u s.0.number f h
       → AreMade t number (shown (done ++ s ∷ [])) 1 ns (with_at (number s.0.number) (entered h s.1.name (number s.1.number) start) xs)
-  entry_more ns xs u h files has made = made_with t number (shown done) (shown (done ++ s ∷ [])) 1 ns xs s.0.number (entered h s.1.name (number s.1.number) start) files has
+  entry_more ns xs u h files has made = made_with t number (shown done)
+      (shown (done ++ s ∷ [])) 1 ns xs s.0.number (entered h s.1.name (number s.1.number) start) files has
       (λ m o. shown_there done s m (λ e. o (sym e)))
       (record {
         file = f;
@@ -58,7 +65,8 @@ module _ (t : Tree) (law : Law t) (number : ℕ → ℕ) (done : List Step) (s :
             ∙ ap (λ es. copied number made.tag (holding es f)) (sym (shown_here done s s.0.number refl));
       })
 
-  begun_more : (m : ℕ) (rest : List Entry) → entries_at t s.0.number ≡ shown done s.0.number ++ s.1 ∷ rest → (old : List Entry) → entries_at t m ≡ shown done m ++ old
+  begun_more : (m : ℕ) (rest : List Entry) → entries_at t s.0.number ≡ shown done s.0.number ++ s.1 ∷ rest → (old : List Entry)
+      → entries_at t m ≡ shown done m ++ old
       → (behind : List Entry) × (entries_at t m ≡ shown (done ++ s ∷ []) m ++ behind)
   begun_more m rest here old was = by_number s.0.number m
       (λ e. (
@@ -82,16 +90,20 @@ module _ (t : Tree) (law : Law t) (number : ℕ → ℕ) (done : List Step) (s :
         let pushed : AreMade t number (shown done) 1 (ns ++ s.1.number ∷ []) (u.files ++ (u.next, f0) ∷ []) =
         made_push t number (shown done) 1 ns u.files s.1.number u.next f0 part.files (let n = part.next in omega (arith, n)) name
         (record { file = g; at_file = lives; tag = tag; is = ap (λ es. copied number tag (holding es g)) (sym none) }) in
-        let apart : number s.0.number ≢ u.next = λ e. let high = (made_bounds t number (shown done) 1 ns u.files s.0.number part.files has).1 in let n = part.next in omega (arith, high, e, n) in
-        let found : at (number s.0.number) (u.files ++ (u.next, f0) ∷ []) ≡ Some made.0 = at_push_other u.next (number s.0.number) f0 u.files apart ∙ made.1.lives.0 in
+        let apart : number s.0.number ≢ u.next = λ e. let high = (made_bounds t number (shown done) 1 ns u.files s.0.number part.files has).1 in
+        let n = part.next in omega (arith, high, e, n) in
+        let found : at (number s.0.number) (u.files ++ (u.next, f0) ∷ []) ≡ Some made.0 = at_push_other u.next (number s.0.number) f0 u.files apart
+        ∙ made.1.lives.0 in
         let new_tree : Tree = with_file (with_new_file u f0) (number s.0.number) (entered made.0 s.1.name (number s.1.number) start) in
         let is : new_tree ≡ with_named_file u (number s.0.number) s.1.name f0 start =
         ap (λ m. with_file (with_new_file u f0) (number s.0.number) (entered made.0 s.1.name m start)) name
-        ∙ ap (λ o. on_some o (with_new_file u f0) (λ (h : File). with_file (with_new_file u f0) (number s.0.number) (entered h s.1.name u.next start))) (sym found) in
+        ∙ ap (λ o. on_some o (with_new_file u f0) (λ (h : File). with_file (with_new_file u f0) (number s.0.number) (entered h s.1.name u.next start)))
+        (sym found) in
         subst (IsPart t number (done ++ s ∷ []) (ns ++ s.1.number ∷ []) vs) is (record {
           files = entry_more (ns ++ s.1.number ∷ []) (u.files ++ (u.next, f0) ∷ []) u made.0 pushed (has_push s.0.number s.1.number ns has) made.1;
           next = let n = part.next in let l = length-append ns (s.1.number ∷ []) in omega (arith, n, l);
-          known = known_step (ns ++ s.1.number ∷ []) done s (known_number s.1.number ns done part.known) (has_push s.0.number s.1.number ns has) (has_last s.1.number ns);
+          known = known_step (ns ++ s.1.number ∷ []) done s (known_number s.1.number ns done part.known) (has_push s.0.number s.1.number ns has)
+              (has_last s.1.number ns);
           begun = λ m has_m. elim (push_has m s.1.number ns has_m) [
             | inl was ↦ let b = part.begun m was in begun_more m rest here b.0 b.1
             | inr e ↦ begun_more m rest here (entries_at t m) (ap (λ l. l ++ entries_at t m) (sym none ∙ ap (shown done) e))
@@ -116,7 +128,8 @@ module _ (t : Tree) (law : Law t) (number : ℕ → ℕ) (done : List Step) (s :
         let same : s.0.number ≡ s.1.number = made_once t number (shown done) 1 ns u.files s.0.number s.1.number part.files has there e in
         let same_file : f ≡ g = same_some (sym at_dir.0 ∙ ap (λ i. at i t.files) same ∙ lives) in
         true_and_false at_dir.1 (ap (λ (h : File). is_directory h.kind) same_file ∙ no_dir) in
-        let found : at (number s.0.number) touched_files ≡ Some made.0 = at_with_other (number s.1.number) (number s.0.number) touched_file u.files apart ∙ made.1.lives.0 in
+        let found : at (number s.0.number) touched_files ≡ Some made.0 = at_with_other (number s.1.number) (number s.0.number) touched_file u.files apart
+        ∙ made.1.lives.0 in
         let touched_tree : Tree = with_file u (number s.1.number) touched_file in
         let new_tree : Tree = with_file touched_tree (number s.0.number) (entered made.0 s.1.name (number s.1.number) start) in
         let is : new_tree ≡ after_link u (number s.1.number) (number s.0.number) s.1.name start =

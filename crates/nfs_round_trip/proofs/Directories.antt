@@ -1,12 +1,14 @@
 -- Which files a walk of a lawful tree comes to, and what it lists of each directory.
-use Rattle.std.proofs.Common.{inl, inr, ◌≡◌, ◌≢◌, ℕ, suc, zero, ◌≤◌, true, cond, List, [], ◌∷◌, ◌++◌, map, sum_by, nat_eq, Option, Some, None, refl, sym, ap, subst, ◌∙◌, append-nil, arith}
+use Rattle.std.proofs.Common.{inl, inr, ◌≡◌, ◌≢◌, ℕ, suc, zero, ◌≤◌, true, cond, List, [], ◌∷◌, ◌++◌, map, sum_by, nat_eq, Option, Some, None, refl, sym, ap}
+use Rattle.std.proofs.Common.{subst, ◌∙◌, append-nil, arith}
 use Rattle.std.specs.List.{flat_map}
 use Rattle.std.specs.Prelude.{Contains, slice_get}
 use Rattle.std.proofs.lemmas.List.Concat.{flat_map-append}
 use Rattle.std.proofs.lemmas.List.Sums.{sum_by-cons}
 use Rattle.nfs_inodes.specs.Law.{Law, Lives, LivesAsDirectory, IsRoot, AreRising, climb, parent_of}
 use Rattle.nfs_inodes.specs.Reading.{entries_at}
-use Rattle.nfs_inodes.specs.Tree.{Tree, File, Kind, Regular, Directory, Link, Entry, Volume, at, on_some, one_when, entries_in, parent_in, is_directory, names_in, names_of}
+use Rattle.nfs_inodes.specs.Tree.{Tree, File, Kind, Regular, Directory, Link, Entry, Volume, at, on_some, one_when, entries_in, parent_in, is_directory}
+use Rattle.nfs_inodes.specs.Tree.{names_in, names_of}
 use Rattle.nfs_inodes.proofs.Lists.{by_test, by_number, same_some, not_both, in_head, in_tail, head_or_tail, not_in_empty}
 use Rattle.nfs_inodes.proofs.Maps.{apart_number, itself, sum_some, at_here, at_after, rising_bounds}
 use Rattle.nfs_inodes.proofs.law.Alike.{sum_same}
@@ -29,8 +31,12 @@ some_of_sum w (y ∷ xs) le = let sum = sum_by-cons w y xs in by_number (w y) 0
     (λ some. (y, in_head y xs, omega (arith, some)))
 
 pub names_some : (n : ℕ) (es : List Entry) → 1 ≤ names_in n es → (e : Entry) × Contains es e × (e.number ≡ n)
-names_some n es le = let e = some_of_sum (λ (e : Entry). one_when (nat_eq e.number n)) es le in
-    (e.0, e.1, by_number e.0.number n (λ s. s) (λ o. absurd (let none : one_when (nat_eq e.0.number n) ≡ 0 = ap one_when (apart_number e.0.number n o) in let some = e.2 in omega (arith, none, some))))
+names_some n es le = let e = some_of_sum (λ (e : Entry). one_when (nat_eq e.number n)) es le in (
+  e.0,
+  e.1,
+  by_number e.0.number n (λ s. s) (λ o. absurd (let none : one_when (nat_eq e.0.number n) ≡ 0 = ap one_when (apart_number e.0.number n o) in
+      let some = e.2 in omega (arith, none, some))),
+)
 
 pub one_named : (n : ℕ) (es : List Entry) (e : Entry) → Contains es e → e.number ≡ n → 1 ≤ names_in n es
 one_named n es e c is =
@@ -41,7 +47,8 @@ one_named n es e c is =
 pub named_in : (n low next : ℕ) (files : List (ℕ × File)) → AreRising low files next → 1 ≤ names_of n files
     → (d : ℕ) × (f : File) × (at d files ≡ Some f) × (e : Entry) × Contains (entries_in f.kind) e × (e.number ≡ n)
 named_in n low next [] r le = absurd (omega (arith, le))
-named_in n low next (x ∷ files) r le = let sum = sum_by-cons (λ (e : ℕ × File). names_in n (entries_in e.1.kind)) x files in by_number (names_in n (entries_in x.1.kind)) 0
+named_in n low next (x ∷ files) r le = let sum = sum_by-cons (λ (e : ℕ × File). names_in n (entries_in e.1.kind)) x files in
+    by_number (names_in n (entries_in x.1.kind)) 0
     (λ none.
     let rest = named_in n x.0 next files r.1 (omega (arith, le, sum, none)) in
     let low = (rising_bounds x.0 next files rest.0 rest.1 r.1 rest.2).0 in
@@ -64,7 +71,8 @@ module _ (t : Tree) (law : Law t) where
   none_named n k none = let le = within n k (at k t.files) refl in omega (arith, le, none)
 
   module _ (m : ℕ) (f : File) (lives : LivesAsDirectory t m f) (free : IsRoot t.volumes m → ⊥) where
-    in_file : (k : ℕ) (o : Option File) → at k t.files ≡ o → names_in m (on_some o [] (λ (g : File). entries_in g.kind)) ≡ one_when (nat_eq k (parent_in f.kind))
+    in_file : (k : ℕ) (o : Option File) → at k t.files ≡ o
+        → names_in m (on_some o [] (λ (g : File). entries_in g.kind)) ≡ one_when (nat_eq k (parent_in f.kind))
     in_file k None e = by_number k (parent_in f.kind)
         (λ s. let home = law.homes m f lives in absurd (not_both e (ap (λ i. at i t.files) s ∙ home.1.0)))
         (λ o. sym (ap one_when (apart_number k (parent_in f.kind) o)))
@@ -121,7 +129,8 @@ module _ (t : Tree) (law : Law t) where
         let free = no_root m f v lives at_v other in
         let home = law.homes m f lives in
         let up_one : parent_of t.files m ≡ parent_in f.kind = ap (λ o. on_some o 0 (λ (g : File). parent_in g.kind)) lives.0 in
-        let rest = stands_reached count (parent_in f.kind) home.0 v home.1 (ap (slice_get t.volumes) home.2 ∙ at_v) (ap (climb count t.files) (sym up_one) ∙ up) in
+        let rest = stands_reached count (parent_in f.kind) home.0 v home.1 (ap (slice_get t.volumes) home.2 ∙ at_v)
+        (ap (climb count t.files) (sym up_one) ∙ up) in
         let all = stands_in_walk t w.root m walk walked in
         let parent = named_by_parent m f lives free walk in
         let apart : w.root ≢ m = λ s. free (index, w, at_w, s) in
@@ -154,7 +163,8 @@ module _ (t : Tree) (law : Law t) where
         let stood = stands_here named.0 named.1 (named.2, dir) volume in
         let place = some_of_sum (λ (p : Place). one_when (nat_eq p.number named.0)) walk (omega (arith, stood)) in
         let at_place : place.0.number ≡ named.0 = by_number place.0.number named.0 (λ s. s)
-        (λ o. absurd (let none : one_when (nat_eq place.0.number named.0) ≡ 0 = ap one_when (apart_number place.0.number named.0 o) in let some = place.2 in omega (arith, none, some))) in
+        (λ o. absurd (let none : one_when (nat_eq place.0.number named.0) ≡ 0 = ap one_when (apart_number place.0.number named.0 o) in let some = place.2 in
+        omega (arith, none, some))) in
         let below = one_of_sum (λ (p : Place). names_in n (entries_at t p.number)) walk place.0 place.1 in
         let entry = one_named n (entries_at t place.0.number) named.3
         (subst (λ l. Contains l named.3) (sym (ap (entries_at t) at_place ∙ entries_of named.0 named.1 named.2)) named.4) named.5 in
@@ -186,7 +196,8 @@ pub shown_here : (done : List Step) (s : Step) (d : ℕ) → s.0.number ≡ d �
 shown_here done s d e = shown_append done (s ∷ []) d ∙ ap (λ l. shown done d ++ l) (append-nil (listed_by d s) ∙ listed_here d s e)
 
 pub shown_there : (done : List Step) (s : Step) (d : ℕ) → s.0.number ≢ d → shown (done ++ s ∷ []) d ≡ shown done d
-shown_there done s d o = shown_append done (s ∷ []) d ∙ ap (λ l. shown done d ++ l) (append-nil (listed_by d s) ∙ listed_there d s o) ∙ append-nil (shown done d)
+shown_there done s d o = shown_append done (s ∷ []) d ∙ ap (λ l. shown done d ++ l) (append-nil (listed_by d s) ∙ listed_there d s o)
+    ∙ append-nil (shown done d)
 
 from_here : (p : Place) (es : List Entry) (d : ℕ) → p.number ≡ d → shown (map (step_from p) es) d ≡ es
 from_here p [] d e = refl
@@ -201,7 +212,8 @@ shown_none t [] d none = refl
 shown_none t (p ∷ places) d none =
     let sum = sum_by-cons (λ (q : Place). one_when (nat_eq q.number d)) p places in
     by_number p.number d
-    (λ s. absurd (let one : one_when (nat_eq p.number d) ≡ 1 = ap one_when (subst (λ i. nat_eq p.number i ≡ true) s (itself p.number)) in omega (arith, sum, one, none)))
+    (λ s. absurd (let one : one_when (nat_eq p.number d) ≡ 1 = ap one_when (subst (λ i. nat_eq p.number i ≡ true) s (itself p.number)) in
+    omega (arith, sum, one, none)))
     (λ o. shown_append (steps_from t p) (steps t places) d ∙ ap (λ l. l ++ shown (steps t places) d) (from_there p (entries_at t p.number) d o)
     ∙ shown_none t places d (omega (arith, sum, none)))
 

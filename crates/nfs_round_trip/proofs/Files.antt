@@ -1,5 +1,6 @@
 -- The line of the next step does it.
-use Rattle.std.proofs.Common.{inl, inr, ◌≡◌, ◌≢◌, ℕ, suc, ◌+◌, ◌-◌, ◌%◌, ◌<◌, ◌≤◌, Bool, true, false, List, [], ◌∷◌, ◌++◌, length, Option, Some, None, option_map, Ok, refl, sym, ap, subst, ◌∙◌, arith}
+use Rattle.std.proofs.Common.{inl, inr, ◌≡◌, ◌≢◌, ℕ, suc, ◌+◌, ◌-◌, ◌%◌, ◌<◌, ◌≤◌, Bool, true, false, List, [], ◌∷◌, ◌++◌, length, Option, Some, None}
+use Rattle.std.proofs.Common.{option_map, Ok, refl, sym, ap, subst, ◌∙◌, arith}
 use Rattle.std.specs.Prelude.{AllPairs, Contains, Err, Result, if◌then◌else◌, slice_get}
 use Rattle.std.proofs.lemmas.List.{length-append}
 use Rattle.hex.specs.Hex.{IsBytes}
@@ -52,7 +53,8 @@ own_regular : (path : List ℕ) (a : Fattr) (bytes : List ℕ) → path ≢ [] �
 own_regular [] a bytes some = absurd (some refl)
 own_regular (x ∷ path) a bytes some = refl
 
-own_directory : (path : List ℕ) (a : Fattr) (parent next_cookie : ℕ) (entries : List Entry) → path ≢ [] → own_line path a (Directory parent next_cookie entries) ≡ dir_line path (given_of a)
+own_directory : (path : List ℕ) (a : Fattr) (parent next_cookie : ℕ) (entries : List Entry) → path ≢ []
+    → own_line path a (Directory parent next_cookie entries) ≡ dir_line path (given_of a)
 own_directory [] a parent next_cookie entries some = absurd (some refl)
 own_directory (x ∷ path) a parent next_cookie entries some = refl
 
@@ -60,7 +62,7 @@ own_link : (path : List ℕ) (a : Fattr) (target : List ℕ) → path ≢ [] →
 own_link [] a target some = absurd (some refl)
 own_link (x ∷ path) a target some = refl
 
-small : (mode : ℕ) → mode < 4096 → mode % 4096 ≡ mode
+pub small : (mode : ℕ) → mode < 4096 → mode % 4096 ≡ mode
 small mode less = omega (arith, less)
 
 no_end : (path name : List ℕ) → path ++ 47 ∷ name ≢ []
@@ -68,12 +70,14 @@ no_end [] name e = cc
 no_end (x ∷ path) name e = cc
 
 -- what a line does in the last volume
-on_tree : {A : Type 0} (old : Loaded) (w : Volume) (number : ℕ → ℕ) → last_root old.tree ≡ Ok (number w.root) → (read : Read A) (line : A) → read ≡ Ok (line, [])
+on_tree : {A : Type 0} (old : Loaded) (w : Volume) (number : ℕ → ℕ) → last_root old.tree ≡ Ok (number w.root) → (read : Read A) (line : A)
+    → read ≡ Ok (line, [])
     → (Does : Tree → ℕ → A → Result Unit Refusal → Tree → Type 0) (result : Result Unit Refusal) (loaded : Loaded) → OnTree read Does old result loaded
     → Does old.tree (number w.root) line result loaded.tree × (loaded.table ≡ old.table)
 on_tree {A} old w number last read line is Does result loaded on =
     then_is read line [] result (λ (it : A). Does old.tree (number w.root) it result loaded.tree × (loaded.table ≡ old.table)) is
-    (root_is (last_root old.tree) (number w.root) result (λ root. Then read result (λ (it : A). Does old.tree root it result loaded.tree × (loaded.table ≡ old.table))) last on)
+    (root_is (last_root old.tree) (number w.root) result
+    (λ root. Then read result (λ (it : A). Does old.tree root it result loaded.tree × (loaded.table ≡ old.table))) last on)
 
 -- what is known before the next step
 pub record IsNext (t : Tree) (number : ℕ → ℕ) (all : List Step) (ns : List ℕ) (vs : List Volume) (w : Volume) (s : Step) (f g : File) : Type 0 where
@@ -91,7 +95,8 @@ pub record IsNext (t : Tree) (number : ℕ → ℕ) (all : List Step) (ns : List
   pub named : IsNamed all w.root s.0
   pub said : is_sayable (place_of s).path ≡ true
 
-module _ (Last : Option Loaded → Type 0) (t : Tree) (law : Law t) (number : ℕ → ℕ) (all : List Step) (ns : List ℕ) (vs : List Volume) (old : Loaded) (part : IsPart t number all ns vs old.tree)
+module _ (Last : Option Loaded → Type 0) (t : Tree) (law : Law t) (number : ℕ → ℕ) (all : List Step) (ns : List ℕ) (vs : List Volume) (old : Loaded)
+    (part : IsPart t number all ns vs old.tree)
     (w : Volume) (s : Step) (f g : File) (next : IsNext t number all ns vs w s f g) where
   abbrev names : List (List ℕ)
   names = next.named.names ++ s.1.name ∷ []
@@ -107,7 +112,8 @@ module _ (Last : Option Loaded → Type 0) (t : Tree) (law : Law t) (number : �
 
   pub fresh : HasNone s.1.name (shown all s.0.number)
   fresh = none_before (shown all s.0.number) s.1 next.rest
-      (subst (AllPairs (λ (e g : Entry). (e.name ≢ g.name) × (e.cookie < g.cookie))) (sym (entries_of t law s.0.number f next.at_dir.0) ∙ next.here) (law.sound s.0.number f next.at_dir.0).apart)
+      (subst (AllPairs (λ (e g : Entry). (e.name ≢ g.name) × (e.cookie < g.cookie))) (sym (entries_of t law s.0.number f next.at_dir.0) ∙ next.here)
+      (law.sound s.0.number f next.at_dir.0).apart)
 
   path_is : path ≡ slashed names
   path_is = ap (λ l. l ++ 47 ∷ s.1.name) next.named.path ∙ sym (slashed_push next.named.names s.1.name)
@@ -142,10 +148,12 @@ module _ (Last : Option Loaded → Type 0) (t : Tree) (law : Law t) (number : �
     volume_is =
         let made = directory_made t law number all ns vs old.tree part s.0.number f next.has next.at_dir in
         ap (λ o. on_some o 0 (λ (h : File). h.volume)) made.1.lives.0 ∙ made.1.volume
-        ∙ sym (same_volume t law number all ns vs old.tree part s f next.at_dir next.has next.rest next.here next.room w (copied_volume number w) next.at_w next.at_vs refl refl g next.lives new)
+        ∙ sym (same_volume t law number all ns vs old.tree part s f next.at_dir next.has next.rest next.here next.room w (copied_volume number w)
+        next.at_w next.at_vs refl refl g next.lives new)
 
     file_is : (tag mode : ℕ) (k : Kind) → k ≡ copied_kind number (with_entries [] g.kind) → mode % 4096 ≡ copied_mode (with_entries [] g.kind) g.mode
-        → new_file (volume_index old.tree (number s.0.number)) k (attributes (record { mode = mode; uid = g.uid; gid = g.gid })) None tag start ≡ copied number tag (holding [] g)
+        → new_file (volume_index old.tree (number s.0.number)) k (attributes (record { mode = mode; uid = g.uid; gid = g.gid })) None tag start
+        ≡ copied number tag (holding [] g)
     file_is tag mode k kind_is mode_is =
         let given : Given = record { mode = mode; uid = g.uid; gid = g.gid } in
         ap (λ v. new_file v k (attributes given) None tag start) volume_is
@@ -153,7 +161,8 @@ module _ (Last : Option Loaded → Type 0) (t : Tree) (law : Law t) (number : �
         ∙ ap (λ m. record (copied number tag (holding [] g)) { mode = m }) mode_is
 
     more : (tag mode : ℕ) (k : Kind) → k ≡ copied_kind number (with_entries [] g.kind) → mode % 4096 ≡ copied_mode (with_entries [] g.kind) g.mode → (u : Tree)
-        → u ≡ with_named_file old.tree (number s.0.number) s.1.name (new_file (volume_index old.tree (number s.0.number)) k (attributes (record { mode = mode; uid = g.uid; gid = g.gid })) None tag start) start
+        → u ≡ with_named_file old.tree (number s.0.number) s.1.name
+        (new_file (volume_index old.tree (number s.0.number)) k (attributes (record { mode = mode; uid = g.uid; gid = g.gid })) None tag start) start
         → IsPart t number (all ++ s ∷ []) (ns ++ s.1.number ∷ []) vs u
     more tag mode k kind_is mode_is u is = subst (IsPart t number (all ++ s ∷ []) (ns ++ s.1.number ∷ []) vs)
         (ap (λ h. with_named_file old.tree (number s.0.number) s.1.name h start) (sym (file_is tag mode k kind_is mode_is)) ∙ sym is)
@@ -181,7 +190,8 @@ module _ (Last : Option Loaded → Type 0) (t : Tree) (law : Law t) (number : �
                 (does_made old.tree (free_end old.tree (number w.root) names)
                 (λ (e : PathEnd). MayMake old.tree e.dir e.name (length bytes))
                 (λ (e : PathEnd). Makes (λ tag. after_make_file old.tree e.dir e.name bytes (attributes given) None tag start)) result loaded.tree end free
-                (may_make t law number all ns vs old.tree part s f next.at_dir next.has next.rest next.here next.room w (copied_volume number w) next.at_w next.at_vs refl refl g next.lives new
+                (may_make t law number all ns vs old.tree part s f next.at_dir next.has next.rest next.here next.room w (copied_volume number w)
+                next.at_w next.at_vs refl refl g next.lives new
                 (length bytes) (ap (λ k. length (bytes_in k)) is)) it.0)
             | inr memory ↦ inl memory.0
           ]))
@@ -193,9 +203,11 @@ module _ (Last : Option Loaded → Type 0) (t : Tree) (law : Law t) (number : �
           let sound = law.sound s.1.number g next.lives in
           let dir : is_directory g.kind ≡ true = ap is_directory is in
           let above : parent ≡ s.0.number = ap parent_in (sym is)
-          ∙ law.parents s.0.number f s.1 g next.at_dir.0 (is_entry t law number all ns vs old.tree part s f next.at_dir next.has next.rest next.here next.room) (next.lives, dir) in
+          ∙ law.parents s.0.number f s.1 g next.at_dir.0 (is_entry t law number all ns vs old.tree part s f next.at_dir next.has next.rest next.here next.room)
+          (next.lives, dir) in
           let r = read_back.dirs path names given path_word path_read (sound.mode, next.words.uid, next.words.gid) in
-          subst (λ l. Goes Last (Some old) l All) (sym (own_directory path (attributes_of s.1.number g links) parent next_cookie entries (no_end s.0.path s.1.name)))
+          subst (λ l. Goes Last (Some old) l All)
+          (sym (own_directory path (attributes_of s.1.number g links) parent next_cookie entries (no_end s.0.path s.1.name)))
           (goes_on Last old (dir_line path given) keyword.Dir r.0 IsMore All r.1 goes (λ result loaded on.
           let it = on_tree old w number last_is (dir_in r.0) line r.2 MakesDir result loaded on in
           done_map result (λ made. (
@@ -207,7 +219,8 @@ module _ (Last : Option Loaded → Type 0) (t : Tree) (law : Law t) (number : �
           (does_made old.tree (free_end old.tree (number w.root) names)
           (λ (e : PathEnd). MayMakeDirectory old.tree e.dir e.name)
           (λ (e : PathEnd). Makes (λ tag. after_make_dir old.tree e.dir e.name (attributes given) tag start)) result loaded.tree end free
-          (may_make_dir t law number all ns vs old.tree part s f next.at_dir next.has next.rest next.here next.room w (copied_volume number w) next.at_w next.at_vs refl refl g next.lives new dir) it.0)))
+          (may_make_dir t law number all ns vs old.tree part s f next.at_dir next.has next.rest next.here next.room w (copied_volume number w)
+          next.at_w next.at_vs refl refl g next.lives new dir) it.0)))
 
       link_goes : (target : List ℕ) → g.kind ≡ Link target → Goes Last (Some old) (own_line path (attributes_of s.1.number g links) (Link target)) All
       link_goes target is =
@@ -224,7 +237,8 @@ module _ (Last : Option Loaded → Type 0) (t : Tree) (law : Law t) (number : �
           (does_made old.tree (free_end old.tree (number w.root) names)
           (λ (e : PathEnd). MayMakeLink old.tree e.dir e.name target)
           (λ (e : PathEnd). Makes (λ tag. after_make_link old.tree e.dir e.name target (link_attributes g.uid g.gid) tag start)) result loaded.tree end free
-          (may_make_link t law number all ns vs old.tree part s f next.at_dir next.has next.rest next.here next.room w (copied_volume number w) next.at_w next.at_vs refl refl g next.lives new target is) it.0)))
+          (may_make_link t law number all ns vs old.tree part s f next.at_dir next.has next.rest next.here next.room w (copied_volume number w)
+          next.at_w next.at_vs refl refl g next.lives new target is) it.0)))
 
       by_kind : (k : Kind) → g.kind ≡ k → Goes Last (Some old) (own_line path (attributes_of s.1.number g links) k) All
       by_kind (Regular bytes) is = regular_goes bytes is
@@ -237,7 +251,8 @@ module _ (Last : Option Loaded → Type 0) (t : Tree) (law : Law t) (number : �
 
   -- ---- a further name
 
-  module _ (first : Place) (named : IsNamed all w.root first) (same : first.number ≡ s.1.number) (said : is_sayable first.path ≡ true) (there : Has s.1.number ns) (no_dir : is_directory g.kind ≡ false) where
+  module _ (first : Place) (named : IsNamed all w.root first) (same : first.number ≡ s.1.number) (said : is_sayable first.path ≡ true)
+      (there : Has s.1.number ns) (no_dir : is_directory g.kind ≡ false) where
     -- one name more, and the same table
     abbrev pub IsNamedMore : Loaded → Type 0
     IsNamedMore loaded = IsPart t number (all ++ s ∷ []) ns vs loaded.tree × (loaded.table ≡ old.table)
@@ -247,7 +262,8 @@ module _ (Last : Option Loaded → Type 0) (t : Tree) (law : Law t) (number : �
         let is_root : w.root ≡ s.1.number = same_some (ap (leads (shown all) w.root) (sym none) ∙ named.lead) ∙ same in
         let nowhere = none_named t law s.1.number s.0.number (ap (λ n. names_of n t.files) (sym is_root) ∙ (law.roots f.volume w next.at_w).4) in
         let one = one_named s.1.number (entries_at t s.0.number) s.1
-        (subst (λ l. Contains l s.1) (sym (entries_of t law s.0.number f next.at_dir.0)) (is_entry t law number all ns vs old.tree part s f next.at_dir next.has next.rest next.here next.room)) refl in
+        (subst (λ l. Contains l s.1) (sym (entries_of t law s.0.number f next.at_dir.0))
+        (is_entry t law number all ns vs old.tree part s f next.at_dir next.has next.rest next.here next.room)) refl in
         omega (arith, nowhere, one)
 
     first_read : (paths.path_in first.path ≡ Ok named.names) × (is_said first.path ≡ true)
@@ -260,7 +276,8 @@ module _ (Last : Option Loaded → Type 0) (t : Tree) (law : Law t) (number : �
 
     not_directory : (o : Option File) (h : File) → o ≡ Some h → is_directory h.kind ≡ false
         → path_ends.is_directory (option_map (λ (k : File). attributes_of (number s.1.number) k (nlink old.tree.files (number s.1.number) k)) o) ≡ false
-    not_directory o h is plain = ap (λ o. path_ends.is_directory (option_map (λ (k : File). attributes_of (number s.1.number) k (nlink old.tree.files (number s.1.number) k)) o)) is ∙ in_kind h.kind plain
+    not_directory o h is plain = ap (λ o. path_ends.is_directory
+        (option_map (λ (k : File). attributes_of (number s.1.number) k (nlink old.tree.files (number s.1.number) k)) o)) is ∙ in_kind h.kind plain
       where
         in_kind : (k : Kind) → is_directory k ≡ false → is_directory_type (type_of k) ≡ false
         in_kind (Regular bytes) e = refl
@@ -272,9 +289,11 @@ module _ (Last : Option Loaded → Type 0) (t : Tree) (law : Law t) (number : �
         let found : file_at old.tree (number w.root) named.names ≡ Some (number s.1.number) =
         file_found t law number all ns vs old.tree part w.root next.has_root first named no_root ∙ ap (λ n. Some (number n)) same in
         let made = file_made t law number all ns vs old.tree part s.1.number g there next.lives in
-        let no : is_directory made.0.kind ≡ false = ap (λ (h : File). is_directory h.kind) made.3 ∙ copy_is_directory number (shown all s.1.number) g.kind ∙ no_dir in
+        let no : is_directory made.0.kind ≡ false = ap (λ (h : File). is_directory h.kind) made.3 ∙ copy_is_directory number (shown all s.1.number) g.kind
+        ∙ no_dir in
         let plain = not_directory (at (number s.1.number) old.tree.files) made.0 made.1 no in
-        ap (λ (r : Result PathEnd Cause). r >>= (λ (e : PathEnd). named_file old.tree (file_at old.tree (number w.root) named.names) >>= (λ (n : ℕ). Ok (e, n)))) free
+        ap (λ (r : Result PathEnd Cause). r >>= (λ (e : PathEnd). named_file old.tree (file_at old.tree (number w.root) named.names) >>=
+        (λ (n : ℕ). Ok (e, n)))) free
         ∙ ap (λ o. named_file old.tree o >>= (λ (n : ℕ). Ok (end, n))) found
         ∙ ap (λ b. unless_directory b >>= (λ (n : ℕ). Ok (end, n))) plain
       where

@@ -1,12 +1,13 @@
 -- The next step of a walk, in a tree that is made again up to it.
-use Rattle.std.proofs.Common.{inl, inr, ◌≡◌, ◌≢◌, ℕ, ◌<◌, ◌≤◌, ◌&&◌, Bool, true, false, cond, List, [], ◌∷◌, ◌++◌, length, Option, Some, None, option_map, Ok, refl, sym, ap, subst, ◌∙◌, arith}
+use Rattle.std.proofs.Common.{inl, inr, ◌≡◌, ◌≢◌, ℕ, ◌<◌, ◌≤◌, Bool, true, false, cond, List, [], ◌∷◌, ◌++◌, length, Option, Some, None, option_map, Ok}
+use Rattle.std.proofs.Common.{refl, sym, ap, subst, ◌∙◌, arith}
 use Rattle.std.specs.List.{find, list_all}
 use Rattle.std.specs.Prelude.{Contains, Err, Result, bytes_eq, if◌then◌else◌, is_some, nat_le, nat_lt}
 use Rattle.std.proofs.lemmas.Bool.Decides.{nat_tests}
 use Rattle.nfs_inodes.specs.Law.{IsName, Law, LivesAsDirectory}
 use Rattle.nfs_inodes.specs.Reading.{entries_at, has_name, number_named, number_under}
 use Rattle.nfs_inodes.specs.Tree.{Tree, File, Kind, Regular, Directory, Link, Entry, Volume, at, entries_in, is_directory, on_some}
-use Rattle.nfs_inodes.proofs.Lists.{same_some, not_both, true_and_false, head_or_tail, not_in_empty}
+use Rattle.nfs_inodes.proofs.Lists.{same_some, not_both, head_or_tail, not_in_empty}
 use Rattle.nfs_load.specs.PathEnds.{PathEnd, end_at, file_at, free_end, unless_taken}
 use Rattle.nfs_load.specs.Listings.{is_plain}
 use Rattle.nfs_load.specs.Paths.{path_in}
@@ -19,8 +20,10 @@ use Rattle.nfs_round_trip.proofs.Directories.{shown, shown_append, shown_here}
 use Rattle.nfs_round_trip.proofs.Made.{Has}
 use Rattle.nfs_round_trip.proofs.Parts.{AllHave, IsPart, directory_made, shown_have}
 use Rattle.nfs_round_trip.proofs.Paths.{AreNames, names_push, path_read, slashed, slashed_push}
-use Rattle.nfs_round_trip.proofs.Reaches.{HasNone, end_is, found_copied, found_last, leads, leads_more, leads_push, none_found, on_some_is, reached, under_directory}
+use Rattle.nfs_round_trip.proofs.Reaches.{HasNone, end_is, found_copied, found_last, leads, leads_more, leads_push, none_found, on_some_is, reached}
+use Rattle.nfs_round_trip.proofs.Reaches.{under_directory}
 use Rattle.nfs_round_trip.proofs.Walks.{Step, place_of, root_place}
+use Rattle.nfs_round_trip.proofs.Truths.{and_true, both, some, within}
 
 -- ---- places and their names
 
@@ -42,7 +45,8 @@ named_more all s root p named = record {
   lead = leads_more (shown all) (shown (all ++ s ∷ [])) (grown all s) root p.number named.names named.lead;
 }
 
-pub named_new : (all : List Step) (s : Step) (root : ℕ) → IsNamed all root s.0 → IsName s.1.name → HasNone s.1.name (shown all s.0.number) → IsNamed (all ++ s ∷ []) root (place_of s)
+pub named_new : (all : List Step) (s : Step) (root : ℕ) → IsNamed all root s.0 → IsName s.1.name → HasNone s.1.name (shown all s.0.number)
+    → IsNamed (all ++ s ∷ []) root (place_of s)
 unfolding named_more
 named_new all s root named is none =
     let more = named_more all s root s.0 named in
@@ -58,14 +62,6 @@ pub named_root : (t : Tree) (all : List Step) (root : ℕ) → IsNamed all root 
 named_root t all root = record { names = []; are = tt; path = refl; lead = refl }
 
 -- a path that can be said is a word
-and_true : (a b : Bool) → a ≡ true → b ≡ true → (a && b) ≡ true
-and_true true b one two = two
-and_true false b one two = one
-
-both : (a b : Bool) → (a && b) ≡ true → (a ≡ true) × (b ≡ true)
-both true b e = (refl, e)
-both false b e = absurd (true_and_false e refl)
-
 shown_byte : (x : ℕ) → is_plain x ≡ true → is_shown x ≡ true
 shown_byte x e = grind (arith, nat_tests)
 
@@ -73,24 +69,20 @@ all_shown : (xs : List ℕ) → list_all is_plain xs ≡ true → list_all is_sh
 all_shown [] e = refl
 all_shown (x ∷ xs) e = let p = both (is_plain x) (list_all is_plain xs) e in and_true (is_shown x) (list_all is_shown xs) (shown_byte x p.0) (all_shown xs p.1)
 
-some : (n : ℕ) → 0 < n → nat_lt 0 n ≡ true
-some n less = grind (arith, nat_tests)
-
-within : (m n : ℕ) → nat_le m n ≡ true → m ≤ n
-within m n e = grind (arith, nat_tests)
-
 pub path_said : (path : List ℕ) → 0 < length path → is_sayable path ≡ true → is_said path ≡ true
 path_said path long e = let p = both (nat_le (length path) 1024) (list_all is_plain path) e in
     and_true (nat_lt 0 (length path)) (list_all is_shown path) (some (length path) long) (all_shown path p.1)
 
-pub path_in_names : (path : List ℕ) (names : List (List ℕ)) (name : List ℕ) → path ≡ slashed (names ++ name ∷ []) → AreNames (names ++ name ∷ []) → is_sayable path ≡ true
+pub path_in_names : (path : List ℕ) (names : List (List ℕ)) (name : List ℕ) → path ≡ slashed (names ++ name ∷ []) → AreNames (names ++ name ∷ [])
+    → is_sayable path ≡ true
     → path_in path ≡ Ok (names ++ name ∷ [])
 path_in_names path [] name is are e =
     let p = both (nat_le (length path) 1024) (list_all is_plain path) e in
     ap path_in is ∙ path_read name [] are (subst (λ l. length l ≤ 1024) is (within (length path) 1024 p.0)) (subst (λ l. list_all is_plain l ≡ true) is p.1)
 path_in_names path (first ∷ names) name is are e =
     let p = both (nat_le (length path) 1024) (list_all is_plain path) e in
-    ap path_in is ∙ path_read first (names ++ name ∷ []) are (subst (λ l. length l ≤ 1024) is (within (length path) 1024 p.0)) (subst (λ l. list_all is_plain l ≡ true) is p.1)
+    ap path_in is ∙ path_read first (names ++ name ∷ []) are (subst (λ l. length l ≤ 1024) is (within (length path) 1024 p.0))
+    (subst (λ l. list_all is_plain l ≡ true) is p.1)
 
 pub one_passes : (test : Place → Bool) (places : List Place) (p : Place) → list_all test places ≡ true → Contains places p → test p ≡ true
 one_passes test [] p all c = absurd (not_in_empty [] p refl c)
@@ -137,7 +129,8 @@ module _ (t : Tree) (law : Law t) (number : ℕ → ℕ) (all : List Step) (ns :
   have_found [] name i have e = absurd (not_both refl e)
   have_found (x ∷ es) name i have e = step (bytes_eq x.name name) e (have_found es name i have.1)
     where
-      step : (b : Bool) → option_map (λ (g : Entry). g.number) (cond b (Some x) (find (has_name name) es)) ≡ Some i → (number_named name es ≡ Some i → Has i ns) → Has i ns
+      step : (b : Bool) → option_map (λ (g : Entry). g.number) (cond b (Some x) (find (has_name name) es)) ≡ Some i
+          → (number_named name es ≡ Some i → Has i ns) → Has i ns
       step true e rest = subst (λ j. Has j ns) (same_some e) have.0
       step false e rest = rest e
 
@@ -149,15 +142,24 @@ module _ (t : Tree) (law : Law t) (number : ℕ → ℕ) (all : List Step) (ns :
 
       from : (o : Option File) → at d t.files ≡ o → (f : File) × LivesAsDirectory t d f
       from None e = absurd (more (no_more (shown all d) b.0 (sym b.1 ∙ ap (λ o. on_some o [] (λ (f : File). entries_in f.kind)) e)))
-      from (Some f) e = (f, (e, directory_kind f.kind (λ none. more (no_more (shown all d) b.0 (sym b.1 ∙ ap (λ o. on_some o [] (λ (g : File). entries_in g.kind)) e ∙ none)))))
+      from (Some f) e = (
+        f,
+        (
+          e,
+          directory_kind f.kind (λ none. more
+              (no_more (shown all d) b.0 (sym b.1 ∙ ap (λ o. on_some o [] (λ (g : File). entries_in g.kind)) e ∙ none))),
+        ),
+      )
 
   -- a name in a directory that is made
-  pub under_made : (d : ℕ) (f : File) (name : List ℕ) → Has d ns → LivesAsDirectory t d f → IsName name → number_under u (number d) name ≡ option_map number (number_named name (shown all d))
+  pub under_made : (d : ℕ) (f : File) (name : List ℕ) → Has d ns → LivesAsDirectory t d f → IsName name
+      → number_under u (number d) name ≡ option_map number (number_named name (shown all d))
   under_made d f name has lives is =
       let made = directory_made t law number all ns vs u part d f has lives in
       under_directory u (number d) made.0 name made.1.lives is ∙ ap (number_named name) made.1.entries ∙ found_copied number 3 name (shown all d)
 
-  pub reached_is : (n m : ℕ) (names : List (List ℕ)) → Has n ns → AreNames names → leads (shown all) n names ≡ Some m → (reached u (number n) names ≡ Some (number m)) × Has m ns
+  pub reached_is : (n m : ℕ) (names : List (List ℕ)) → Has n ns → AreNames names → leads (shown all) n names ≡ Some m
+      → (reached u (number n) names ≡ Some (number m)) × Has m ns
   reached_is n m [] has are e = let is : n ≡ m = same_some e in (ap (λ i. Some (number i)) is, subst (λ i. Has i ns) is has)
   reached_is n m (name ∷ names) has are e =
       let s = on_some_is (number_named name (shown all n)) (λ i. leads (shown all) i names) m e in
@@ -168,17 +170,20 @@ module _ (t : Tree) (law : Law t) (number : ℕ → ℕ) (all : List Step) (ns :
 
   -- ---- where a step goes
 
-  module _ (root : ℕ) (has_root : Has root ns) (s : Step) (f : File) (at_dir : LivesAsDirectory t s.0.number f) (named : IsNamed all root s.0) (is : IsName s.1.name) where
+  module _ (root : ℕ) (has_root : Has root ns) (s : Step) (f : File) (at_dir : LivesAsDirectory t s.0.number f) (named : IsNamed all root s.0)
+      (is : IsName s.1.name) where
     end_found : end_at u (number root) (named.names ++ s.1.name ∷ []) ≡ Some (record { dir = number s.0.number; name = s.1.name })
     end_found =
         let r = reached_is root s.0.number named.names has_root named.are named.lead in
         let made = directory_made t law number all ns vs u part s.0.number f r.1 at_dir in
         end_is u (number root) (number s.0.number) named.names s.1.name made.0 r.0 made.1.lives
 
-    pub end_free : HasNone s.1.name (shown all s.0.number) → free_end u (number root) (named.names ++ s.1.name ∷ []) ≡ Ok (record { dir = number s.0.number; name = s.1.name })
+    pub end_free : HasNone s.1.name (shown all s.0.number)
+        → free_end u (number root) (named.names ++ s.1.name ∷ []) ≡ Ok (record { dir = number s.0.number; name = s.1.name })
     end_free none =
         let r = reached_is root s.0.number named.names has_root named.are named.lead in
-        let free : number_under u (number s.0.number) s.1.name ≡ None = under_made s.0.number f s.1.name r.1 at_dir is ∙ ap (option_map number) (none_found s.1.name (shown all s.0.number) none) in
+        let free : number_under u (number s.0.number) s.1.name ≡ None = under_made s.0.number f s.1.name r.1 at_dir is
+        ∙ ap (option_map number) (none_found s.1.name (shown all s.0.number) none) in
         ap (unless_taken u) end_found
         ∙ ap (λ o. unless_when o (record { dir = number s.0.number; name = s.1.name })) free
       where
@@ -186,7 +191,8 @@ module _ (t : Tree) (law : Law t) (number : ℕ → ℕ) (all : List Step) (ns :
         unless_when o end = if is_some o then Err NameTaken else Ok end
 
   -- the file of a place with a name
-  pub file_found : (root : ℕ) → Has root ns → (p : Place) (named : IsNamed all root p) → named.names ≢ [] → file_at u (number root) named.names ≡ Some (number p.number)
+  pub file_found : (root : ℕ) → Has root ns → (p : Place) (named : IsNamed all root p) → named.names ≢ []
+      → file_at u (number root) named.names ≡ Some (number p.number)
   file_found root has_root p named more =
       let l = last_of named.names more in
       let are : AreNames (l.0 ++ l.1 ∷ []) = subst AreNames l.2 named.are in

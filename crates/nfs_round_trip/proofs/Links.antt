@@ -2,7 +2,8 @@
 use Rattle.std.proofs.Common.{◌≡◌, ℕ, ◌+◌, true, List, refl, sym, ap, subst, ◌∙◌, arith}
 use Rattle.std.specs.Prelude.{if◌then◌else◌}
 use Rattle.nfs_inodes.specs.Law.{Law, Lives, LivesAsDirectory}
-use Rattle.nfs_inodes.specs.Tree.{Tree, File, Kind, Regular, Directory, Link, Entry, Volume, entries_in, is_directory, names_in, names_of, nlink, on_some, subdirectories}
+use Rattle.nfs_inodes.specs.Tree.{Tree, File, Kind, Regular, Directory, Link, Entry, Volume, entries_in, is_directory, names_in, names_of, nlink, on_some}
+use Rattle.nfs_inodes.specs.Tree.{subdirectories}
 use Rattle.nfs_round_trip.specs.Copies.{copied, copied_kind}
 use Rattle.nfs_round_trip.proofs.Directories.{shown}
 use Rattle.nfs_round_trip.proofs.Made.{Has, at_most_once, made_once, made_sum_is, weighed, weighed_all, weighed_least, with_entries}

@@ -1,22 +1,20 @@
 -- What a description loads can be described.
-use Rattle.std.proofs.Common.{inl, inr, ◌≡◌, ◌≢◌, ◌⊎◌, ℕ, suc, zero, ◌+◌, ◌-◌, ◌<◌, ◌≤◌, ◌^◌, ◌&&◌, Bool, true, false, cond, List, [], ◌∷◌, ◌++◌, length, nat_eq, Option, Some, None, option_map, Ok, refl, sym, ap, subst, ◌∙◌, ◌==◌, arith}
+use Rattle.std.proofs.Common.{◌≡◌, ℕ, ◌<◌, ◌^◌, true, false, cond, List, [], ◌∷◌, ◌++◌, length, Option, Some, None, Ok, refl, sym, ap, subst, ◌∙◌}
+use Rattle.std.proofs.Common.{◌==◌, arith}
 use Rattle.std.specs.List.{filter, list_all, onto_first}
-use Rattle.std.specs.Prelude.{All, Contains, Err, Result, if◌then◌else◌, nat_lt, nat_le, slice_get}
+use Rattle.std.specs.Prelude.{Err, Result, if◌then◌else◌, nat_lt}
 use Rattle.std.proofs.lemmas.Bool.Decides.{nat_tests}
-use Rattle.std.proofs.lemmas.List.{length-append}
-use Rattle.std.proofs.lemmas.List.Elements.{All-nil, All-push}
 use Rattle.hex.specs.Hex.{IsBytes}
 use Rattle.nfs_attrs.specs.declared.moment.Moment.{Moment}
 use Rattle.nfs_text.specs.Pieces.{pieces}
 use Rattle.nfs_text.specs.Words.{is_word, words}
-use Rattle.nfs_exports.specs.Tables.{added, exports_of, pattern_count}
-use Rattle.nfs_exports.specs.declared.table.Export.{Export}
 use Rattle.nfs_inodes.specs.declared.new_file.NewFile.{NewFile}
-use Rattle.nfs_inodes.specs.Changes.{Makes, after_add_volume, after_link, after_make_dir, after_make_file, after_make_link, entered, kind_with_entry, new_file, touched, with_entry, with_file, with_named_file, with_new_file, with_new_volume}
+use Rattle.nfs_inodes.specs.Changes.{after_add_volume, after_link, after_make_dir, after_make_file, after_make_link, entered, kind_with_entry, new_file}
+use Rattle.nfs_inodes.specs.Changes.{touched, with_entry, with_file, with_named_file, with_new_file}
 use Rattle.nfs_inodes.specs.Conditions.{MayAddVolume, MayLink, MayMake, MayMakeDirectory, MayMakeLink}
 use Rattle.nfs_inodes.specs.Law.{Law, Lives}
-use Rattle.nfs_inodes.specs.Tree.{Tree, File, Kind, Regular, Directory, Link, Entry, Volume, at, bytes_in, on_some, with_at}
-use Rattle.nfs_inodes.proofs.Lists.{by_test, in_head, in_tail, head_or_tail, not_in_empty, same_some, not_both, true_and_false}
+use Rattle.nfs_inodes.specs.Tree.{Tree, File, Kind, Regular, Directory, Link, at, bytes_in, on_some}
+use Rattle.nfs_inodes.proofs.Lists.{by_test, same_some}
 use Rattle.nfs_inodes.proofs.Maps.{at_next, push_back, with_back}
 use Rattle.nfs_inodes.proofs.law.NewFiles.{law_after_add_volume, law_after_make_dir, law_after_make_file, law_after_make_link}
 use Rattle.nfs_inodes.proofs.law.Operations.{law_after_link}
@@ -25,24 +23,15 @@ use Rattle.nfs_load.specs.Lines.{Line, counted, is_comment, is_printable, is_tex
 use Rattle.nfs_load.specs.declared.cause.Cause.{Cause}
 use Rattle.nfs_load.specs.declared.cause.Cause.TheVariants.{BadByte, FieldCount}
 use Rattle.nfs_load.specs.declared.line.Keyword.{Keyword}
-use Rattle.nfs_load.specs.declared.loaded.Loaded.{Loaded}
 use Rattle.nfs_load.specs.declared.statement.Given.{Given}
 use Rattle.nfs_describe.specs.Lines.{is_shown, is_target}
-use Rattle.nfs_read_back.specs.ReadBack.{IsExport, is_said}
+use Rattle.nfs_read_back.specs.ReadBack.{is_said}
 use Rattle.nfs_round_trip.specs.Copies.{CanBeSaid}
-use Rattle.nfs_round_trip.specs.RoundTrip.{IsVolumeSaid}
 use Rattle.nfs_round_trip.proofs.Runs as runs
 use Rattle.nfs_round_trip.proofs.Runs.{same_ok}
+use Rattle.nfs_round_trip.proofs.Truths.{and_true, both}
 
 -- ---- the words of a line
-
-and_true : (a b : Bool) → a ≡ true → b ≡ true → (a && b) ≡ true
-and_true true b one two = two
-and_true false b one two = one
-
-both : (a b : Bool) → (a && b) ≡ true → (a ≡ true) × (b ≡ true)
-both true b e = (refl, e)
-both false b e = absurd (true_and_false e refl)
 
 shown_byte : (x : ℕ) → is_printable x ≡ true → (x == 32) ≡ false → is_shown x ≡ true
 shown_byte x e o = grind (arith, nat_tests)
@@ -62,7 +51,8 @@ each_piece (x ∷ line) e =
     let rest = each_piece line p.1 in
     by_test (x == 32)
     (λ y. subst EachShown (sym (ap (λ b. cond b ([] ∷ pieces 32 line) (onto_first x (pieces 32 line))) y)) (refl, rest))
-    (λ o. subst EachShown (sym (ap (λ b. cond b ([] ∷ pieces 32 line) (onto_first x (pieces 32 line))) o)) (each_onto x (pieces 32 line) (shown_byte x p.0 o) rest))
+    (λ o. subst EachShown (sym (ap (λ b. cond b ([] ∷ pieces 32 line) (onto_first x (pieces 32 line))) o))
+    (each_onto x (pieces 32 line) (shown_byte x p.0 o) rest))
 
 -- words of bytes from `!` to `~`
 abbrev pub AllSaid : List (List ℕ) → Type 0
@@ -72,7 +62,8 @@ AllSaid (w ∷ ws) = (is_said w ≡ true) × AllSaid ws
 all_words : (ws : List (List ℕ)) → EachShown ws → AllSaid (filter is_word ws)
 all_words [] each = tt
 all_words (w ∷ ws) each = by_test (is_word w)
-    (λ y. subst AllSaid (sym (ap (λ b. cond b (w ∷ filter is_word ws) (filter is_word ws)) y)) (and_true (nat_lt 0 (length w)) (list_all is_shown w) y each.0, all_words ws each.1))
+    (λ y. subst AllSaid (sym (ap (λ b. cond b (w ∷ filter is_word ws) (filter is_word ws)) y))
+    (and_true (nat_lt 0 (length w)) (list_all is_shown w) y each.0, all_words ws each.1))
     (λ o. subst AllSaid (sym (ap (λ b. cond b (w ∷ filter is_word ws) (filter is_word ws)) o)) (all_words ws each.1))
 
 -- the fields of a line are words
@@ -90,7 +81,8 @@ fields_said line l e = by_test (is_comment line)
         (λ y. subst (λ (x : Line). AllSaid x.fields)
         (same_some (same_ok (counted (Some k) fields) (Some (record { keyword = k; fields = fields })) (Some l)
         (ap (λ b. if b then Ok (Some (record { keyword = k; fields = fields })) else Err FieldCount) y) e)) said)
-        (λ o. absurd (runs.not_both (counted (Some k) fields) (Some l) FieldCount e (ap (λ b. if b then Ok (Some (record { keyword = k; fields = fields })) else Err FieldCount) o)))
+        (λ o. absurd (runs.not_both (counted (Some k) fields)
+        (Some l) FieldCount e (ap (λ b. if b then Ok (Some (record { keyword = k; fields = fields })) else Err FieldCount) o)))
 
     of : (ws : List (List ℕ)) → words line ≡ ws → shape_of line ws ≡ Ok (Some l) → AllSaid l.fields
     of [] is e = absurd (none_some (shape_of line []) refl e)
@@ -108,7 +100,7 @@ FilesSaid u = (n : ℕ) (f : File) → Lives u n f → CanBeSaid f
 said_with : (u : Tree) (d : ℕ) (h g : File) → Lives u d h → CanBeSaid g → FilesSaid u → FilesSaid (with_file u d g)
 said_with u d h g lives said all n f is = with_back d n h g f u.files lives is (λ s e. subst CanBeSaid e said) (λ o was. all n f was)
 
-entered_said : (f : File) (name : List ℕ) (n : ℕ) (now : Moment) → CanBeSaid f → CanBeSaid (entered f name n now)
+pub entered_said : (f : File) (name : List ℕ) (n : ℕ) (now : Moment) → CanBeSaid f → CanBeSaid (entered f name n now)
 entered_said f name n now said = record {
   uid = said.uid;
   gid = said.gid;
@@ -138,15 +130,18 @@ said_touched u n now all = of (at n u.files) refl
   where
     of : (o : Option File) → at n u.files ≡ o → FilesSaid (on_some o u (λ f. with_file u n (record f { ctime = now })))
     of None e = all
-    of (Some h) e = let said = all n h e in said_with u n h (record h { ctime = now }) e (record { uid = said.uid; gid = said.gid; bytes = said.bytes; target = said.target }) all
+    of (Some h) e = let said = all n h e in said_with u n h (record h { ctime = now }) e
+        (record { uid = said.uid; gid = said.gid; bytes = said.bytes; target = said.target }) all
 
 said_push : (u : Tree) (f : File) → Law u → CanBeSaid f → FilesSaid u → (n : ℕ) (g : File) → at n (u.files ++ (u.next, f) ∷ []) ≡ Some g → CanBeSaid g
-said_push u f law said all n g is = push_back u.next n f g u.files (at_next 0 u.next u.files law.rising) is (λ s e. subst CanBeSaid e said) (λ o was. all n g was)
+said_push u f law said all n g is = push_back u.next n f g u.files (at_next 0 u.next u.files law.rising) is (λ s e. subst CanBeSaid e said)
+    (λ o was. all n g was)
 
 said_named : (u : Tree) (d : ℕ) (name : List ℕ) (f : File) (now : Moment) → Law u → CanBeSaid f → FilesSaid u → FilesSaid (with_named_file u d name f now)
 said_named u d name f now law said all = said_entry (with_new_file u f) d name u.next now (said_push u f law said all)
 
-new_said : (volume : ℕ) (k : Kind) (given : NewFile) (tag : ℕ) → given.uid < 2 ^ 32 → given.gid < 2 ^ 32 → IsBytes (bytes_in k) → ((path : List ℕ) → k ≡ Link path → is_target path ≡ true)
+new_said : (volume : ℕ) (k : Kind) (given : NewFile) (tag : ℕ) → given.uid < 2 ^ 32 → given.gid < 2 ^ 32 → IsBytes (bytes_in k)
+    → ((path : List ℕ) → k ≡ Link path → is_target path ≡ true)
     → CanBeSaid (new_file volume k given None tag start)
 new_said volume k given tag uid gid bytes target = record { uid = uid; gid = gid; bytes = bytes; target = target }
 
@@ -157,24 +152,27 @@ no_bytes i = omega arith
 abbrev pub IsKept : Tree → Type 0
 IsKept u = Law u × FilesSaid u
 
-pub kept_dir : (u : Tree) (d tag : ℕ) (name : List ℕ) (given : Given) → MayMakeDirectory u d name → tag < 2 ^ 32 → (given.uid < 2 ^ 32) × (given.gid < 2 ^ 32) → IsKept u
+pub kept_dir : (u : Tree) (d tag : ℕ) (name : List ℕ) (given : Given) → MayMakeDirectory u d name → tag < 2 ^ 32 → (given.uid < 2 ^ 32) × (given.gid < 2 ^ 32)
+    → IsKept u
     → IsKept (after_make_dir u d name (attributes given) tag start)
 kept_dir u d tag name given may fits ids kept = (
   law_after_make_dir u d tag name (attributes given) start may fits kept.0,
   said_named u d name _ start kept.0 (new_said _ (Directory d 3 []) (attributes given) tag ids.0 ids.1 no_bytes (λ path is. cc)) kept.1,
 )
 
-pub kept_file : (u : Tree) (d tag : ℕ) (name bytes : List ℕ) (given : Given) → MayMake u d name (length bytes) → tag < 2 ^ 32 → (given.uid < 2 ^ 32) × (given.gid < 2 ^ 32) → IsBytes bytes → IsKept u
+pub kept_file : (u : Tree) (d tag : ℕ) (name bytes : List ℕ) (given : Given) → MayMake u d name (length bytes) → tag < 2 ^ 32 → (given.uid < 2 ^ 32)
+    × (given.gid < 2 ^ 32) → IsBytes bytes → IsKept u
     → IsKept (after_make_file u d name bytes (attributes given) None tag start)
 kept_file u d tag name bytes given may fits ids all kept = (
   law_after_make_file u d tag name bytes (attributes given) None start may fits kept.0,
   said_named u d name _ start kept.0 (new_said _ (Regular bytes) (attributes given) tag ids.0 ids.1 all (λ path is. cc)) kept.1,
 )
 
-link_said : (target : List ℕ) → is_target target ≡ true → (path : List ℕ) → Link target ≡ Link path → is_target path ≡ true
+pub link_said : (target : List ℕ) → is_target target ≡ true → (path : List ℕ) → Link target ≡ Link path → is_target path ≡ true
 link_said target e path is = let same : target ≡ path = cc in subst (λ p. is_target p ≡ true) same e
 
-pub kept_link : (u : Tree) (d tag : ℕ) (name target : List ℕ) (uid gid : ℕ) → MayMakeLink u d name target → tag < 2 ^ 32 → uid < 2 ^ 32 → gid < 2 ^ 32 → is_target target ≡ true → IsKept u
+pub kept_link : (u : Tree) (d tag : ℕ) (name target : List ℕ) (uid gid : ℕ) → MayMakeLink u d name target → tag < 2 ^ 32 → uid < 2 ^ 32 → gid < 2 ^ 32
+    → is_target target ≡ true → IsKept u
     → IsKept (after_make_link u d name target (link_attributes uid gid) tag start)
 kept_link u d tag name target uid gid may fits owner group holds kept = (
   law_after_make_link u d tag name target (link_attributes uid gid) start may fits kept.0,
@@ -184,7 +182,8 @@ kept_link u d tag name target uid gid may fits owner group holds kept = (
 pub kept_name : (u : Tree) (n d : ℕ) (name : List ℕ) → MayLink u n d name → IsKept u → IsKept (after_link u n d name start)
 kept_name u n d name may kept = (law_after_link u n d name start may kept.0, said_entry (touched u n start) d name n start (said_touched u n start kept.1))
 
-pub kept_volume : (u : Tree) (path : List ℕ) (max_bytes max_files tag : ℕ) (given : Given) → MayAddVolume u path max_files → tag < 2 ^ 32 → (given.uid < 2 ^ 32) × (given.gid < 2 ^ 32) → IsKept u
+pub kept_volume : (u : Tree) (path : List ℕ) (max_bytes max_files tag : ℕ) (given : Given) → MayAddVolume u path max_files → tag < 2 ^ 32
+    → (given.uid < 2 ^ 32) × (given.gid < 2 ^ 32) → IsKept u
     → IsKept (after_add_volume u path max_bytes max_files (attributes given) tag start)
 kept_volume u path max_bytes max_files tag given may fits ids kept = (
   law_after_add_volume u max_bytes max_files tag path (attributes given) start may fits kept.0,

@@ -1,7 +1,8 @@
 -- Each line keeps what can be described.
-use Rattle.std.proofs.Common.{inl, inr, ◌≡◌, ◌≢◌, ◌⊎◌, ℕ, suc, zero, ◌+◌, ◌-◌, ◌<◌, ◌≤◌, ◌^◌, ◌&&◌, Bool, true, false, cond, List, [], ◌∷◌, ◌++◌, length, nat_eq, Option, Some, None, option_map, Ok, refl, sym, ap, subst, ◌∙◌, arith}
+use Rattle.std.proofs.Common.{inl, inr, ◌≡◌, ◌≢◌, ◌⊎◌, ℕ, suc, zero, ◌+◌, ◌-◌, ◌<◌, ◌≤◌, ◌^◌, ◌&&◌, true, List, [], ◌∷◌, ◌++◌, length, nat_eq}
+use Rattle.std.proofs.Common.{Option, Some, None, Ok, refl, sym, ap, subst, ◌∙◌, arith}
 use Rattle.std.specs.List.{list_all}
-use Rattle.std.specs.Prelude.{All, Contains, Err, Result, if◌then◌else◌, is_some, nat_le, nat_lt, slice_get}
+use Rattle.std.specs.Prelude.{All, Contains, Err, Result, if◌then◌else◌, is_some, nat_le, nat_lt}
 use Rattle.nfs_inodes.specs.Reading.{volume_named}
 use Rattle.std.specs.List.Sorted.{IsStrictlySortedBy}
 use Rattle.std.specs.Ordering.{nat_cmp}
@@ -15,13 +16,13 @@ use Rattle.nfs_exports.specs.Tables.{added, exports_of, pattern_count}
 use Rattle.nfs_exports.specs.declared.options.Options.{Options}
 use Rattle.nfs_exports.specs.declared.pattern.Pattern.{Pattern}
 use Rattle.nfs_exports.specs.declared.table.Export.{Export}
-use Rattle.nfs_inodes.specs.Changes.{Makes, after_add_volume, after_link, after_make_dir, after_make_file, after_make_link, entered, touched, with_entry, with_file}
-use Rattle.nfs_inodes.specs.Law.{Law, Lives}
+use Rattle.nfs_inodes.specs.Changes.{entered, touched, with_entry, with_file}
+use Rattle.nfs_inodes.specs.Law.{Law}
 use Rattle.nfs_inodes.specs.Tree.{Tree, File, Volume, at, on_some}
-use Rattle.nfs_inodes.proofs.Lists.{by_test, head_or_tail, in_head, in_tail, not_in_empty, same_some, true_and_false}
-use Rattle.nfs_load.specs.Descriptions.{Asked, Begins, Describes, GoesOn, InRoot, IsFault, LineDone, Then, Through, begun, finished, last_root, with_export}
-use Rattle.nfs_load.specs.Effects.{attributes, free_path, link_attributes, start}
-use Rattle.nfs_load.specs.Fields.{◌>>=◌, by, content_in, key_in, mode_in, number_in, options_at, pattern_in, target_in}
+use Rattle.nfs_inodes.proofs.Lists.{by_test, head_or_tail, in_head, in_tail, not_in_empty, true_and_false}
+use Rattle.nfs_load.specs.Descriptions.{Asked, Begins, GoesOn, InRoot, IsFault, Then, Through, begun, finished, last_root}
+use Rattle.nfs_load.specs.Effects.{free_path, start}
+use Rattle.nfs_load.specs.Fields.{◌>>=◌, by, content_in, key_in, number_in, options_at, pattern_in, target_in}
 use Rattle.nfs_load.specs.Lines.{Line, shape}
 use Rattle.nfs_load.specs.Paths.{is_volume_path, path_in, volume_path_in}
 use Rattle.nfs_load.specs.Statements.{FileLine, LinkLine, Read, VolumeLine, dir_in, export_in, file_in, given_in, hard_in, id_in, link_in, volume_in}
@@ -30,7 +31,6 @@ use Rattle.nfs_load.specs.declared.cause.Cause.TheVariants.{BadVolumePath, NoVol
 use Rattle.nfs_load.specs.declared.line.Keyword.{Keyword}
 use Rattle.nfs_load.specs.declared.line.Keyword.TheVariants as keyword
 use Rattle.nfs_load.specs.declared.loaded.Loaded.{Loaded}
-use Rattle.nfs_load.specs.declared.refusal.Refusal.{Refusal}
 use Rattle.nfs_load.specs.declared.refusal.Refusal.TheVariants.{Fault, Memory}
 use Rattle.nfs_load.specs.declared.statement.DirLine.{DirLine}
 use Rattle.nfs_load.specs.declared.statement.ExportLine.{ExportLine}
@@ -38,12 +38,12 @@ use Rattle.nfs_load.specs.declared.statement.Given.{Given}
 use Rattle.nfs_load.proofs.Descriptions.{length_added}
 use Rattle.nfs_describe.specs.Lines.{is_shown, is_target}
 use Rattle.nfs_read_back.specs.ReadBack.{IsExport, is_said}
-use Rattle.nfs_round_trip.specs.Copies.{CanBeSaid}
 use Rattle.nfs_round_trip.specs.RoundTrip as law
 use Rattle.nfs_round_trip.specs.RoundTrip.{IsDescribable, IsVolumeSaid}
 use Rattle.nfs_round_trip.proofs.Bounds.{bind_is, by_is, content_bound, given_bound, key_bound, number_bound, options_bound, pattern_bound, target_bound}
-use Rattle.nfs_round_trip.proofs.Loaded.{AllSaid, FilesSaid, IsKept, fields_said, kept_dir, kept_file, kept_link, kept_name, kept_volume}
+use Rattle.nfs_round_trip.proofs.Loaded.{AllSaid, IsKept, fields_said, kept_dir, kept_file, kept_link, kept_name, kept_volume}
 use Rattle.nfs_round_trip.proofs.Runs.{not_both, same_ok}
+use Rattle.nfs_round_trip.proofs.Truths.{and_true, both}
 
 abbrev Left : Type 0 → Type 0
 Left A = A × List (List ℕ)
@@ -61,55 +61,56 @@ rest_said fields rest field is said = subst AllSaid is said
 
 dir_bound : (fields : List (List ℕ)) (line : DirLine) (rest : List (List ℕ)) → dir_in fields ≡ Ok (line, rest) → Ids line.given
 dir_bound fields line rest e =
-    let path = bind_is (by path_in fields) (λ (path : Left (List (List ℕ))). given_in path.1 >>= (λ (given : Left Given). Ok (record { path = path.0; given = given.0 }, given.1))) (line, rest) e in
+    let path = bind_is (by path_in fields) (λ (path : Left (List (List ℕ))). given_in path.1 >>=
+    (λ (given : Left Given). Ok (record { path = path.0; given = given.0 }, given.1))) (line, rest) e in
     let given = bind_is (given_in path.0.1) (λ (given : Left Given). Ok (record { path = path.0.0; given = given.0 }, given.1)) (line, rest) path.2 in
     let made : DirLine = record { path = path.0.0; given = given.0.0 } in
-    subst (λ (l : DirLine). Ids l.given) (line_is made line given.0.1 rest (Ok (made, given.0.1)) refl given.2) (given_bound path.0.1 given.0.0 given.0.1 given.1)
+    subst (λ (l : DirLine). Ids l.given) (line_is made line given.0.1 rest (Ok (made, given.0.1)) refl given.2)
+    (given_bound path.0.1 given.0.0 given.0.1 given.1)
 
 file_bound : (fields : List (List ℕ)) (line : FileLine) (rest : List (List ℕ)) → file_in fields ≡ Ok (line, rest) → Ids line.given × IsBytes line.content
 file_bound fields line rest e =
-    let path = bind_is (by path_in fields) (λ (path : Left (List (List ℕ))). given_in path.1 >>= (λ (given : Left Given). by content_in given.1 >>= (λ (content : Left (List ℕ)).
+    let path = bind_is (by path_in fields) (λ (path : Left (List (List ℕ))). given_in path.1 >>=
+    (λ (given : Left Given). by content_in given.1 >>= (λ (content : Left (List ℕ)).
     Ok (record { path = path.0; given = given.0; content = content.0 }, content.1)))) (line, rest) e in
     let given = bind_is (given_in path.0.1) (λ (given : Left Given). by content_in given.1 >>= (λ (content : Left (List ℕ)).
     Ok (record { path = path.0.0; given = given.0; content = content.0 }, content.1))) (line, rest) path.2 in
-    let content = bind_is (by content_in given.0.1) (λ (content : Left (List ℕ)). Ok (record { path = path.0.0; given = given.0.0; content = content.0 }, content.1)) (line, rest) given.2 in
+    let content = bind_is (by content_in given.0.1) (λ (content : Left (List ℕ)). Ok
+    (record { path = path.0.0; given = given.0.0; content = content.0 }, content.1)) (line, rest) given.2 in
     let made : FileLine = record { path = path.0.0; given = given.0.0; content = content.0.0 } in
     let c = by_is content_in given.0.1 content.0.0 content.0.1 content.1 in
     subst (λ (l : FileLine). Ids l.given × IsBytes l.content) (line_is made line content.0.1 rest (Ok (made, content.0.1)) refl content.2)
     (given_bound path.0.1 given.0.0 given.0.1 given.1, content_bound c.0 content.0.0 c.2)
 
-and_true : (a b : Bool) → a ≡ true → b ≡ true → (a && b) ≡ true
-and_true true b one two = two
-and_true false b one two = one
-
-both : (a b : Bool) → (a && b) ≡ true → (a ≡ true) × (b ≡ true)
-both true b e = (refl, e)
-both false b e = absurd (true_and_false e refl)
-
 word_target : (target : List ℕ) → is_said target ≡ true → nat_le (length target) 1024 ≡ true → is_target target ≡ true
 word_target target said short = let p = both (nat_lt 0 (length target)) (list_all is_shown target) said in
-    and_true (nat_lt 0 (length target) && nat_le (length target) 1024) (list_all is_shown target) (and_true (nat_lt 0 (length target)) (nat_le (length target) 1024) p.0 short) p.1
+    and_true (nat_lt 0 (length target) && nat_le (length target) 1024) (list_all is_shown target)
+    (and_true (nat_lt 0 (length target)) (nat_le (length target) 1024) p.0 short) p.1
 
 link_bound : (fields : List (List ℕ)) (line : LinkLine) (rest : List (List ℕ)) → AllSaid fields → link_in fields ≡ Ok (line, rest)
     → (line.uid < 2 ^ 32) × (line.gid < 2 ^ 32) × (is_target line.target ≡ true)
 link_bound fields line rest said e =
-    let path = bind_is (by path_in fields) (λ (path : Left (List (List ℕ))). by id_in path.1 >>= (λ (uid : Left ℕ). by id_in uid.1 >>= (λ (gid : Left ℕ). by target_in gid.1 >>= (λ (target : Left (List ℕ)).
+    let path = bind_is (by path_in fields) (λ (path : Left (List (List ℕ))). by id_in path.1 >>=
+    (λ (uid : Left ℕ). by id_in uid.1 >>= (λ (gid : Left ℕ). by target_in gid.1 >>= (λ (target : Left (List ℕ)).
     Ok (record { path = path.0; uid = uid.0; gid = gid.0; target = target.0 }, target.1))))) (line, rest) e in
     let uid = bind_is (by id_in path.0.1) (λ (uid : Left ℕ). by id_in uid.1 >>= (λ (gid : Left ℕ). by target_in gid.1 >>= (λ (target : Left (List ℕ)).
     Ok (record { path = path.0.0; uid = uid.0; gid = gid.0; target = target.0 }, target.1)))) (line, rest) path.2 in
     let gid = bind_is (by id_in uid.0.1) (λ (gid : Left ℕ). by target_in gid.1 >>= (λ (target : Left (List ℕ)).
     Ok (record { path = path.0.0; uid = uid.0.0; gid = gid.0; target = target.0 }, target.1))) (line, rest) uid.2 in
-    let target = bind_is (by target_in gid.0.1) (λ (target : Left (List ℕ)). Ok (record { path = path.0.0; uid = uid.0.0; gid = gid.0.0; target = target.0 }, target.1)) (line, rest) gid.2 in
+    let target = bind_is (by target_in gid.0.1) (λ (target : Left (List ℕ)). Ok
+    (record { path = path.0.0; uid = uid.0.0; gid = gid.0.0; target = target.0 }, target.1)) (line, rest) gid.2 in
     let made : LinkLine = record { path = path.0.0; uid = uid.0.0; gid = gid.0.0; target = target.0.0 } in
     let p = by_is path_in fields path.0.0 path.0.1 path.1 in
     let u = by_is id_in path.0.1 uid.0.0 uid.0.1 uid.1 in
     let g = by_is id_in uid.0.1 gid.0.0 gid.0.1 gid.1 in
     let x = by_is target_in gid.0.1 target.0.0 target.0.1 target.1 in
-    let word = (rest_said gid.0.1 target.0.1 x.0 x.1 (rest_said uid.0.1 gid.0.1 g.0 g.1 (rest_said path.0.1 uid.0.1 u.0 u.1 (rest_said fields path.0.1 p.0 p.1 said).1).1).1).0 in
+    let word = (rest_said gid.0.1 target.0.1 x.0 x.1 (rest_said uid.0.1 gid.0.1 g.0 g.1
+    (rest_said path.0.1 uid.0.1 u.0 u.1 (rest_said fields path.0.1 p.0 p.1 said).1).1).1).0 in
     let held = target_bound x.0 target.0.0 x.2 in
     let high_u = number_bound 0 4294967295 u.0 uid.0.0 u.2 in
     let high_g = number_bound 0 4294967295 g.0 gid.0.0 g.2 in
-    subst (λ (l : LinkLine). (l.uid < 2 ^ 32) × (l.gid < 2 ^ 32) × (is_target l.target ≡ true)) (line_is made line target.0.1 rest (Ok (made, target.0.1)) refl target.2)
+    subst (λ (l : LinkLine). (l.uid < 2 ^ 32) × (l.gid < 2 ^ 32) × (is_target l.target ≡ true))
+    (line_is made line target.0.1 rest (Ok (made, target.0.1)) refl target.2)
     (omega (arith, high_u), omega (arith, high_g), word_target target.0.0 (subst (λ t. is_said t ≡ true) held.0 word) held.1)
 
 volume_path_is : (field path : List ℕ) → volume_path_in field ≡ Ok path → (field ≡ path) × (volume_path_in path ≡ Ok path)
@@ -130,13 +131,18 @@ record IsLineSaid (l : VolumeLine) : Type 0 where
 
 volume_bound : (fields : List (List ℕ)) (line : VolumeLine) (rest : List (List ℕ)) → AllSaid fields → volume_in fields ≡ Ok (line, rest) → IsLineSaid line
 volume_bound fields line rest said e =
-    let path = bind_is (by volume_path_in fields) (λ (path : Left (List ℕ)). by (number_in 0 1099511627776) path.1 >>= (λ (max_bytes : Left ℕ). by (number_in 1 1000000) max_bytes.1 >>= (λ (max_files : Left ℕ).
-    given_in max_files.1 >>= (λ (given : Left Given). Ok (record { path = path.0; max_bytes = max_bytes.0; max_files = max_files.0; given = given.0 }, given.1))))) (line, rest) e in
+    let path = bind_is (by volume_path_in fields) (λ (path : Left (List ℕ)). by (number_in 0 1099511627776) path.1 >>=
+    (λ (max_bytes : Left ℕ). by (number_in 1 1000000) max_bytes.1 >>= (λ (max_files : Left ℕ).
+    given_in max_files.1 >>= (λ (given : Left Given). Ok
+    (record { path = path.0; max_bytes = max_bytes.0; max_files = max_files.0; given = given.0 }, given.1))))) (line, rest) e in
     let max_bytes = bind_is (by (number_in 0 1099511627776) path.0.1) (λ (max_bytes : Left ℕ). by (number_in 1 1000000) max_bytes.1 >>= (λ (max_files : Left ℕ).
-    given_in max_files.1 >>= (λ (given : Left Given). Ok (record { path = path.0.0; max_bytes = max_bytes.0; max_files = max_files.0; given = given.0 }, given.1)))) (line, rest) path.2 in
+    given_in max_files.1 >>= (λ (given : Left Given). Ok
+    (record { path = path.0.0; max_bytes = max_bytes.0; max_files = max_files.0; given = given.0 }, given.1)))) (line, rest) path.2 in
     let max_files = bind_is (by (number_in 1 1000000) max_bytes.0.1) (λ (max_files : Left ℕ).
-    given_in max_files.1 >>= (λ (given : Left Given). Ok (record { path = path.0.0; max_bytes = max_bytes.0.0; max_files = max_files.0; given = given.0 }, given.1))) (line, rest) max_bytes.2 in
-    let given = bind_is (given_in max_files.0.1) (λ (given : Left Given). Ok (record { path = path.0.0; max_bytes = max_bytes.0.0; max_files = max_files.0.0; given = given.0 }, given.1)) (line, rest) max_files.2 in
+    given_in max_files.1 >>= (λ (given : Left Given). Ok
+    (record { path = path.0.0; max_bytes = max_bytes.0.0; max_files = max_files.0; given = given.0 }, given.1))) (line, rest) max_bytes.2 in
+    let given = bind_is (given_in max_files.0.1) (λ (given : Left Given). Ok
+    (record { path = path.0.0; max_bytes = max_bytes.0.0; max_files = max_files.0.0; given = given.0 }, given.1)) (line, rest) max_files.2 in
     let made : VolumeLine = record { path = path.0.0; max_bytes = max_bytes.0.0; max_files = max_files.0.0; given = given.0.0 } in
     let p = by_is volume_path_in fields path.0.0 path.0.1 path.1 in
     let b = by_is (number_in 0 1099511627776) path.0.1 max_bytes.0.0 max_bytes.0.1 max_bytes.1 in
@@ -150,15 +156,19 @@ volume_bound fields line rest said e =
       ids = given_bound max_files.0.1 given.0.0 given.0.1 given.1;
     })
 
-export_bound : (fields : List (List ℕ)) (line : ExportLine) (rest : List (List ℕ)) → export_in fields ≡ Ok (line, rest) → IsExport (record { pattern = line.pattern; options = line.options })
+export_bound : (fields : List (List ℕ)) (line : ExportLine) (rest : List (List ℕ)) → export_in fields ≡ Ok (line, rest)
+    → IsExport (record { pattern = line.pattern; options = line.options })
 export_bound fields line rest e =
-    let pattern = bind_is (by pattern_in fields) (λ (pattern : Left Pattern). options_at pattern.1 >>= (λ (options : Left Options). Ok (record { pattern = pattern.0; options = options.0 }, options.1))) (line, rest) e in
-    let options = bind_is (options_at pattern.0.1) (λ (options : Left Options). Ok (record { pattern = pattern.0.0; options = options.0 }, options.1)) (line, rest) pattern.2 in
+    let pattern = bind_is (by pattern_in fields) (λ (pattern : Left Pattern). options_at pattern.1 >>=
+    (λ (options : Left Options). Ok (record { pattern = pattern.0; options = options.0 }, options.1))) (line, rest) e in
+    let options = bind_is (options_at pattern.0.1) (λ (options : Left Options). Ok (record { pattern = pattern.0.0; options = options.0 }, options.1))
+    (line, rest) pattern.2 in
     let made : ExportLine = record { pattern = pattern.0.0; options = options.0.0 } in
     let p = by_is pattern_in fields pattern.0.0 pattern.0.1 pattern.1 in
     let one = pattern_bound p.0 pattern.0.0 p.2 in
     let two = options_bound pattern.0.1 options.0.0 options.0.1 options.1 in
-    subst (λ (l : ExportLine). IsExport (record { pattern = l.pattern; options = l.options })) (line_is made line options.0.1 rest (Ok (made, options.0.1)) refl options.2) (one.0, one.1, two.0, two.1)
+    subst (λ (l : ExportLine). IsExport (record { pattern = l.pattern; options = l.options }))
+    (line_is made line options.0.1 rest (Ok (made, options.0.1)) refl options.2) (one.0, one.1, two.0, two.1)
 
 -- ---- what is kept
 
@@ -207,7 +217,8 @@ contains_push (y ∷ es) e x c = elim (head_or_tail y x (es ++ e ∷ []) c) [
   | inr r ↦ elim (contains_push es e x r) [ inl was ↦ inl (in_tail y x es was) | inr is ↦ inr is ]
 ]
 
-exports_added : (table : List (List Export)) (at_place place : ℕ) (e x : Export) → Contains (exports_of (added table at_place e) place) x → Contains (exports_of table place) x ⊎ (e ≡ x)
+exports_added : (table : List (List Export)) (at_place place : ℕ) (e x : Export) → Contains (exports_of (added table at_place e) place) x
+    → Contains (exports_of table place) x ⊎ (e ≡ x)
 exports_added [] at_place place e x c = inl c
 exports_added (es ∷ table) zero zero e x c = contains_push es e x c
 exports_added (es ∷ table) zero (suc place) e x c = inl c
@@ -233,7 +244,8 @@ root_of : (found : Result ℕ Cause) (Holds : ℕ → Type 0) → InRoot found (
 root_of (Ok root) Holds it = (root, it)
 root_of (Err cause) Holds it = absurd (no_fault cause it)
 
-then_of : {A : Type 0} (read : Read A) (Holds : A → Type 0) → Then read (Ok tt) Holds → (line : A) × (rest : List (List ℕ)) × (read ≡ Ok (line, rest)) × Holds line
+then_of : {A : Type 0} (read : Read A) (Holds : A → Type 0) → Then read (Ok tt) Holds → (line : A) × (rest : List (List ℕ)) × (read ≡ Ok (line, rest))
+    × Holds line
 then_of (Ok line) Holds it = (line.0, line.1, refl, it)
 then_of (Err cause) Holds it = absurd (no_fault cause it)
 
@@ -248,7 +260,8 @@ goes_held old new keyword.Volume fields said it held =
     let volumes : new.tree.volumes ≡ old.tree.volumes ++ volume ∷ [] = ap (λ (u : Tree). u.volumes) is in
     let path : made.0 ≡ line.0.path = free_is old.tree line.0.path made.0 made.1 in
     record {
-      tree = subst IsKept (sym is) (kept_volume old.tree made.0 line.0.max_bytes line.0.max_files made.3.tag line.0.given made.2 made.3.fits words.ids held.tree);
+      tree = subst IsKept (sym is)
+          (kept_volume old.tree made.0 line.0.max_bytes line.0.max_files made.3.tag line.0.given made.2 made.3.fits words.ids held.tree);
       volumes = subst (All IsVolumeSaid) (sym volumes) (All-push IsVolumeSaid old.tree.volumes volume held.volumes (record {
         word = ap is_said path ∙ words.word;
         path = ap volume_path_in path ∙ words.path ∙ ap Ok (sym path);
@@ -256,7 +269,8 @@ goes_held old new keyword.Volume fields said it held =
         files = words.files;
       }));
       lists =
-          let l = ap length line.3.1 in let m = length-append old.table ([] ∷ []) in let v = ap length volumes in let w = length-append old.tree.volumes (volume ∷ []) in
+          let l = ap length line.3.1 in let m = length-append old.table ([] ∷ []) in let v = ap length volumes in
+          let w = length-append old.tree.volumes (volume ∷ []) in
           let was = held.lists in omega (arith, l, m, v, w, was);
       few = let was = held.few in let c = ap pattern_count line.3.1 in let m = count_more old.table in omega (arith, was, c, m);
       exports = λ place e c. held.exports place e (subst (λ l. Contains l e) (ap (λ l. exports_of l place) line.3.1 ∙ exports_more old.table place) c);
@@ -277,18 +291,21 @@ goes_held old new keyword.Export fields said it held =
       tree = subst IsKept (sym tree) held.tree;
       volumes = subst (λ (u : Tree). All IsVolumeSaid u.volumes) (sym tree) held.volumes;
       lists = ap length table ∙ length_added old.table (length old.tree.volumes - 1) export ∙ held.lists ∙ ap (λ (u : Tree). length u.volumes) (sym tree);
-      few = let c = count_added old.table (length old.tree.volumes - 1) export in let e = ap pattern_count table in let few = line.3.0 in omega (arith, c, e, few);
-      exports = λ place e c. elim (exports_added old.table (length old.tree.volumes - 1) place export e (subst (λ l. Contains (exports_of l place) e) table c)) [
-        | inl was ↦ held.exports place e was
-        | inr same ↦ subst IsExport same (export_bound fields line.0 line.1 line.2)
-      ];
+      few = let c = count_added old.table (length old.tree.volumes - 1) export in let e = ap pattern_count table in let few = line.3.0 in
+          omega (arith, c, e, few);
+      exports = λ place e c. elim
+          (exports_added old.table (length old.tree.volumes - 1) place export e (subst (λ l. Contains (exports_of l place) e) table c)) [
+            | inl was ↦ held.exports place e was
+            | inr same ↦ subst IsExport same (export_bound fields line.0 line.1 line.2)
+          ];
     }
 goes_held old new keyword.Dir fields said it held =
     let root = root_of (last_root old.tree) _ it in
     let line = then_of (dir_in fields) _ root.1 in
     let made = line.3.0 in
     held_on old new held
-    (subst IsKept (sym made.3.new_is) (kept_dir old.tree made.0.dir made.3.tag made.0.name line.0.given made.2 made.3.fits (dir_bound fields line.0 line.1 line.2) held.tree))
+    (subst IsKept (sym made.3.new_is) (kept_dir old.tree made.0.dir made.3.tag made.0.name line.0.given made.2 made.3.fits
+    (dir_bound fields line.0 line.1 line.2) held.tree))
     (ap (λ (u : Tree). u.volumes) made.3.new_is ∙ entry_volumes _ made.0.dir made.0.name old.tree.next start) line.3.1
 goes_held old new keyword.File fields said it held = elim it [
   | inl on ↦
@@ -297,7 +314,8 @@ goes_held old new keyword.File fields said it held = elim it [
       let made = line.3.0 in
       let bound = file_bound fields line.0 line.1 line.2 in
       held_on old new held
-      (subst IsKept (sym made.3.new_is) (kept_file old.tree made.0.dir made.3.tag made.0.name line.0.content line.0.given made.2 made.3.fits bound.0 bound.1 held.tree))
+      (subst IsKept (sym made.3.new_is)
+      (kept_file old.tree made.0.dir made.3.tag made.0.name line.0.content line.0.given made.2 made.3.fits bound.0 bound.1 held.tree))
       (ap (λ (u : Tree). u.volumes) made.3.new_is ∙ entry_volumes _ made.0.dir made.0.name old.tree.next start) line.3.1
   | inr memory ↦ absurd (not_both (Ok tt) tt Memory refl memory.0)
 ]
@@ -307,7 +325,8 @@ goes_held old new keyword.Link fields said it held =
     let made = line.3.0 in
     let bound = link_bound fields line.0 line.1 said line.2 in
     held_on old new held
-    (subst IsKept (sym made.3.new_is) (kept_link old.tree made.0.dir made.3.tag made.0.name line.0.target line.0.uid line.0.gid made.2 made.3.fits bound.0 bound.1 bound.2 held.tree))
+    (subst IsKept (sym made.3.new_is)
+    (kept_link old.tree made.0.dir made.3.tag made.0.name line.0.target line.0.uid line.0.gid made.2 made.3.fits bound.0 bound.1 bound.2 held.tree))
     (ap (λ (u : Tree). u.volumes) made.3.new_is ∙ entry_volumes _ made.0.dir made.0.name old.tree.next start) line.3.1
 goes_held old new keyword.Hard fields said it held =
     let root = root_of (last_root old.tree) _ it in
@@ -315,7 +334,8 @@ goes_held old new keyword.Hard fields said it held =
     let made = line.3.0 in
     held_on old new held
     (subst IsKept (sym made.3) (kept_name old.tree made.0.1 made.0.0.dir made.0.0.name made.2 held.tree))
-    (ap (λ (u : Tree). u.volumes) made.3 ∙ entry_volumes (touched old.tree made.0.1 start) made.0.0.dir made.0.0.name made.0.1 start ∙ touched_volumes old.tree made.0.1 start) line.3.1
+    (ap (λ (u : Tree). u.volumes) made.3 ∙ entry_volumes (touched old.tree made.0.1 start) made.0.0.dir made.0.0.name made.0.1 start
+    ∙ touched_volumes old.tree made.0.1 start) line.3.1
 
 -- ---- the whole text
 
@@ -353,7 +373,8 @@ HeldOr (Some loaded) = IsHeld loaded
 
 begun_held : (k : Keyword) (fields : List (List ℕ)) (loaded : Loaded) → begun k fields ≡ Ok loaded → IsHeld loaded
 begun_held keyword.Server fields loaded e =
-    let key = bind_is (by key_in fields) (λ (key : Left (List ℕ)). Ok (record { tree = record { files = []; next = 1; key = key.0; volumes = [] }; table = [] })) loaded e in
+    let key = bind_is (by key_in fields) (λ (key : Left (List ℕ)). Ok
+    (record { tree = record { files = []; next = 1; key = key.0; volumes = [] }; table = [] })) loaded e in
     let made : Loaded = record { tree = record { files = []; next = 1; key = key.0.0; volumes = [] }; table = [] } in
     let k = by_is key_in fields key.0.0 key.0.1 key.1 in
     let bound = key_bound k.0 key.0.0 k.2 in
@@ -378,7 +399,8 @@ begins_held : (b : Result Loaded Cause) (new : Option Loaded) → Begins b (Ok t
 begins_held (Ok loaded) new it each = subst HeldOr (sym it.1) (each loaded refl)
 begins_held (Err cause) new it each = absurd (no_fault cause it)
 
-asked_held : (old new : Option Loaded) (asks : Result (Option Line) Cause) → ((l : Line) → asks ≡ Ok (Some l) → AllSaid l.fields) → Asked old asks (Ok tt) new → HeldOr old → HeldOr new
+asked_held : (old new : Option Loaded) (asks : Result (Option Line) Cause) → ((l : Line) → asks ≡ Ok (Some l) → AllSaid l.fields) → Asked old asks (Ok tt) new
+    → HeldOr old → HeldOr new
 asked_held old new (Err cause) said it held = absurd (no_fault cause it)
 asked_held old new (Ok None) said it held = subst HeldOr (sym it.1) held
 asked_held None new (Ok (Some line)) said it held = begins_held (begun line.keyword line.fields) new it (begun_held line.keyword line.fields)

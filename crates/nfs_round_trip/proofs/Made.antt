@@ -1,5 +1,6 @@
 -- The files of a tree that is made again, as far as it is made.
-use Rattle.std.proofs.Common.{inl, inr, ◌≡◌, ◌≢◌, ◌⊎◌, ℕ, suc, zero, ◌+◌, ◌*◌, ◌<◌, ◌≤◌, true, List, [], ◌∷◌, ◌++◌, length, sum_by, nat_eq, Some, None, refl, sym, ap, subst, ◌∙◌, arith}
+use Rattle.std.proofs.Common.{inl, inr, ◌≡◌, ◌≢◌, ◌⊎◌, ℕ, suc, zero, ◌+◌, ◌*◌, ◌<◌, ◌≤◌, true, List, [], ◌∷◌, ◌++◌, length, sum_by, nat_eq, Some, None, refl}
+use Rattle.std.proofs.Common.{sym, ap, subst, ◌∙◌, arith}
 use Rattle.std.proofs.lemmas.List.Sums.{sum_by-cons}
 use Rattle.nfs_inodes.specs.Tree.{Tree, File, Kind, Entry, Regular, Directory, Link, at, with_at, on_some, one_when, entries_in}
 use Rattle.nfs_inodes.specs.Law.{AreRising, Lives}
@@ -65,7 +66,8 @@ AreMade t number shown k (n ∷ ns) (x ∷ xs) = (x.0 ≡ k) × (number n ≡ k)
 
 module _ (t : Tree) (number : ℕ → ℕ) where
   pub made_push : (shown : ℕ → List Entry) (k : ℕ) (ns : List ℕ) (xs : List (ℕ × File)) (n m : ℕ) (h : File)
-      → AreMade t number shown k ns xs → m ≡ k + length ns → number n ≡ m → IsMade t number shown n h → AreMade t number shown k (ns ++ n ∷ []) (xs ++ (m, h) ∷ [])
+      → AreMade t number shown k ns xs → m ≡ k + length ns → number n ≡ m → IsMade t number shown n h
+      → AreMade t number shown k (ns ++ n ∷ []) (xs ++ (m, h) ∷ [])
   made_push shown k [] [] n m h all is named made = let e : m ≡ k = omega (arith, is) in (e, named ∙ e, made, tt)
   made_push shown k [] (x ∷ xs) n m h all is named made = absurd all
   made_push shown k (a ∷ ns) [] n m h all is named made = absurd all
@@ -99,15 +101,18 @@ module _ (t : Tree) (number : ℕ → ℕ) where
 
   -- one of them made anew
   pub made_with : (old new : ℕ → List Entry) (k : ℕ) (ns : List ℕ) (xs : List (ℕ × File)) (d : ℕ) (h : File)
-      → AreMade t number old k ns xs → Has d ns → ((n : ℕ) → n ≢ d → new n ≡ old n) → IsMade t number new d h → AreMade t number new k ns (with_at (number d) h xs)
+      → AreMade t number old k ns xs → Has d ns → ((n : ℕ) → n ≢ d → new n ≡ old n) → IsMade t number new d h
+      → AreMade t number new k ns (with_at (number d) h xs)
   made_with old new k [] xs d h all has same made = absurd has
   made_with old new k (a ∷ ns) [] d h all has same made = absurd all
   made_with old new k (a ∷ ns) (x ∷ xs) d h all has same made = elim has [
     | inl e ↦
         let is : number d ≡ x.0 = ap number (sym e) ∙ all.1 ∙ sym all.0 in
         let tail : AreMade t number new (suc k) ns xs = made_same old new (suc k) ns xs all.3
-        (λ n has. same n (λ s. let b = (made_bounds old (suc k) ns xs n all.3 has).0 in let one : number n ≡ k = ap number (s ∙ sym e) ∙ all.1 in omega (arith, b, one))) in
-        subst (λ l. AreMade t number new k (a ∷ ns) l) (sym (if_true ((x.0, h) ∷ xs) (x ∷ with_at (number d) h xs) (subst (λ m. nat_eq (number d) m ≡ true) is (itself (number d)))))
+        (λ n has. same n (λ s. let b = (made_bounds old (suc k) ns xs n all.3 has).0 in let one : number n ≡ k = ap number (s ∙ sym e) ∙ all.1 in
+        omega (arith, b, one))) in
+        subst (λ l. AreMade t number new k (a ∷ ns) l) (sym
+        (if_true ((x.0, h) ∷ xs) (x ∷ with_at (number d) h xs) (subst (λ m. nat_eq (number d) m ≡ true) is (itself (number d)))))
         (all.0, all.1, subst (λ m. IsMade t number new m h) (sym e) made, tail)
     | inr r ↦
         let low = (made_bounds old (suc k) ns xs d all.3 r).0 in
@@ -118,7 +123,8 @@ module _ (t : Tree) (number : ℕ → ℕ) where
   ]
 
   module _ (shown : ℕ → List Entry) where
-    pub made_at : (k : ℕ) (ns : List ℕ) (xs : List (ℕ × File)) (n : ℕ) → AreMade t number shown k ns xs → Has n ns → (h : File) × (at (number n) xs ≡ Some h) × IsMade t number shown n h
+    pub made_at : (k : ℕ) (ns : List ℕ) (xs : List (ℕ × File)) (n : ℕ) → AreMade t number shown k ns xs → Has n ns → (h : File) × (at (number n) xs ≡ Some h)
+        × IsMade t number shown n h
     made_at k [] xs n all has = absurd has
     made_at k (a ∷ ns) [] n all has = absurd all
     made_at k (a ∷ ns) (x ∷ xs) n all has = elim has [
@@ -148,13 +154,21 @@ module _ (t : Tree) (number : ℕ → ℕ) where
     made_once k (a ∷ ns) (x ∷ xs) m n all one two e = elim one [
       | inl here ↦ elim two [
         | inl there ↦ sym here ∙ there
-        | inr there ↦ absurd (let low = (made_bounds shown (suc k) ns xs n all.3 there).0 in let is : number n ≡ k = sym e ∙ ap number (sym here) ∙ all.1 in omega (arith, low, is))
+        | inr there ↦ absurd (let low = (made_bounds shown (suc k) ns xs n all.3 there).0 in let is : number n ≡ k = sym e ∙ ap number (sym here) ∙ all.1 in
+            omega (arith, low, is))
       ]
       | inr here ↦ elim two [
-        | inl there ↦ absurd (let low = (made_bounds shown (suc k) ns xs m all.3 here).0 in let is : number m ≡ k = e ∙ ap number (sym there) ∙ all.1 in omega (arith, low, is))
+        | inl there ↦ absurd (let low = (made_bounds shown (suc k) ns xs m all.3 here).0 in let is : number m ≡ k = e ∙ ap number (sym there) ∙ all.1 in
+            omega (arith, low, is))
         | inr there ↦ made_once (suc k) ns xs m n all.3 here there e
       ]
     ]
+
+    pub made_length : (k : ℕ) (ns : List ℕ) (xs : List (ℕ × File)) → AreMade t number shown k ns xs → length xs ≡ length ns
+    made_length k [] [] all = refl
+    made_length k [] (x ∷ xs) all = absurd all
+    made_length k (a ∷ ns) [] all = absurd all
+    made_length k (a ∷ ns) (x ∷ xs) all = ap suc (made_length (suc k) ns xs all.3)
 
     -- ---- what is counted
 
@@ -273,7 +287,8 @@ module _ {X : Type 0} (weight : X → ℕ) where
       let sum = sum_by-cons (λ (e : ℕ × X). weight e.1) x xs in omega (arith, step, rest, one, sum)
 
   -- numbers among which each value's stands count no less
-  weighed_same : (x : ℕ × X) (xs : List (ℕ × X)) (ns : List ℕ) → at x.0 xs ≡ None → sum_by (weighed (x ∷ xs)) ns ≡ times x.0 ns * weight x.1 + sum_by (weighed xs) ns
+  weighed_same : (x : ℕ × X) (xs : List (ℕ × X)) (ns : List ℕ) → at x.0 xs ≡ None
+      → sum_by (weighed (x ∷ xs)) ns ≡ times x.0 ns * weight x.1 + sum_by (weighed xs) ns
   weighed_same x xs [] none = omega arith
   weighed_same x xs (a ∷ ns) none =
       let rest = weighed_same x xs ns none in
@@ -309,6 +324,7 @@ module _ {X : Type 0} (weight : X → ℕ) where
   weighed_least low next (x ∷ xs) ns rising each =
       let none : at x.0 xs ≡ None = none_from (at x.0 xs) (λ y e. let b = (rising_bounds x.0 next xs x.0 y rising.1 e).0 in omega (arith, b)) in
       let step = weighed_same x xs ns none in
-      let rest = weighed_least x.0 next xs ns rising.1 (λ n y e. each n y (at_after n x xs (λ s. let b = (rising_bounds x.0 next xs n y rising.1 e).0 in omega (arith, b, s)) ∙ e)) in
+      let rest = weighed_least x.0 next xs ns rising.1 (λ n y e. each n y
+      (at_after n x xs (λ s. let b = (rising_bounds x.0 next xs n y rising.1 e).0 in omega (arith, b, s)) ∙ e)) in
       let one = at_least (times x.0 ns) (weight x.1) (has_times x.0 ns (each x.0 x.1 (at_here x xs))) in
       let sum = sum_by-cons (λ (e : ℕ × X). weight e.1) x xs in omega (arith, step, rest, one, sum)

@@ -1,5 +1,6 @@
 -- The numbers that files take, in the order in which walks come to them first.
-use Rattle.std.proofs.Common.{inl, inr, ◌≡◌, ◌≢◌, ◌⊎◌, ℕ, suc, ◌+◌, true, false, cond, List, [], ◌∷◌, ◌++◌, length, map, nat_eq, Option, Some, None, refl, sym, ap, subst, ◌∙◌, append_assoc, append-nil, arith}
+use Rattle.std.proofs.Common.{inl, inr, ◌≡◌, ◌≢◌, ◌⊎◌, ℕ, suc, ◌+◌, true, false, cond, List, [], ◌∷◌, ◌++◌, length, map, nat_eq, Option, Some, None, refl, sym}
+use Rattle.std.proofs.Common.{ap, subst, ◌∙◌, append_assoc, append-nil, arith}
 use Rattle.std.specs.Prelude.{Contains, if◌then◌else◌, slice_get}
 use Rattle.std.proofs.lemmas.List.{length-append, map-append}
 use Rattle.std.proofs.lemmas.List.Elements.{Contains-append_cases, Contains-append_left, Contains-append_right}
@@ -22,12 +23,14 @@ module _ (t : Tree) (law : Law t) (index : ℕ) where
   IsInside p = (f : File) × Lives t p.number f × (f.volume ≡ index)
 
   all_inside : (root : ℕ) (walk : List Place) (todo done : List Step) → IsWalk t root walk → steps t walk ≡ done ++ todo
-      → ((p : Place) → Contains (root_place t root ∷ map place_of done) p → IsInside p) → (p : Place) → Contains (root_place t root ∷ map place_of (steps t walk)) p → IsInside p
+      → ((p : Place) → Contains (root_place t root ∷ map place_of done) p → IsInside p) → (p : Place)
+      → Contains (root_place t root ∷ map place_of (steps t walk)) p → IsInside p
   all_inside root walk [] done walked are inside p c = inside p (subst (λ l. Contains (root_place t root ∷ map place_of l) p) (are ∙ append-nil done) c)
   all_inside root walk (s ∷ todo) done walked are inside p c =
       let parent = inside s.0 (parent_stands t root walk done s todo walked are) in
       let from = step_is_from t walk done s todo are in
-      let entry : Contains (entries_in parent.0.kind) s.1 = subst (λ l. Contains l s.1) (sym from.entries ∙ entries_of t law s.0.number parent.0 parent.1) (contains_middle s.1 from.one from.two) in
+      let entry : Contains (entries_in parent.0.kind) s.1 = subst (λ l. Contains l s.1) (sym from.entries ∙ entries_of t law s.0.number parent.0 parent.1)
+      (contains_middle s.1 from.one from.two) in
       let target = law.entries s.0.number parent.0 s.1 parent.1 entry in
       all_inside root walk todo (done ++ s ∷ []) walked (are ∙ sym (append_assoc done (s ∷ []) todo))
       (λ q there. elim (Contains-append_cases (root_place t root ∷ map place_of done) (place_of s ∷ []) q
@@ -76,7 +79,8 @@ module _ (order : List ℕ) (Old : ℕ → Type 0) where
   abbrev pub KnownOf : List Place → List ℕ → Type 0
   KnownOf before given = (m : ℕ) → Has m given → Old m ⊎ ((q : Place) × Contains before q × (q.number ≡ m))
 
-  known_on : (p : Place) (before : List Place) (given more : List ℕ) → KnownOf before given → ((m : ℕ) → Has m more → Has m given ⊎ (p.number ≡ m)) → KnownOf (before ++ p ∷ []) more
+  known_on : (p : Place) (before : List Place) (given more : List ℕ) → KnownOf before given → ((m : ℕ) → Has m more → Has m given ⊎ (p.number ≡ m))
+      → KnownOf (before ++ p ∷ []) more
   known_on p before given more known from m has = elim (from m has) [
     | inl was ↦ elim (known m was) [
       | inl old ↦ inl old
@@ -86,11 +90,14 @@ module _ (order : List ℕ) (Old : ℕ → Type 0) where
   ]
 
   step : (p : Place) (places before : List Place) (given later : List ℕ) → KnownOf before given → (Old p.number → ⊥)
-      → ((more behind : List ℕ) → order ≡ more ++ (first_seen (before ++ p ∷ []) places ++ behind) → KnownOf (before ++ p ∷ []) more → NumberedFrom places (before ++ p ∷ []) more)
+      → ((more behind : List ℕ) → order ≡ more ++ (first_seen (before ++ p ∷ []) places ++ behind) → KnownOf (before ++ p ∷ []) more
+      → NumberedFrom places (before ++ p ∷ []) more)
       → (o : Option Place) → first_name p.number before ≡ o
       → order ≡ given ++ (on_some o (p.number ∷ first_seen (before ++ p ∷ []) places) (λ first. first_seen (before ++ p ∷ []) places) ++ later)
       → OnFirst o
-      ((counted_from 1 order p.number ≡ suc (length given)) × Numbered (counted_from 1 order) (suc (length given + suc (length (first_seen (before ++ p ∷ []) places)))) (before ++ p ∷ []) places (suc (suc (length given))))
+      ((counted_from 1 order p.number ≡ suc (length given))
+      × Numbered (counted_from 1 order) (suc (length given + suc (length (first_seen (before ++ p ∷ []) places))))
+      (before ++ p ∷ []) places (suc (suc (length given))))
       (NumberedFrom places (before ++ p ∷ []) given)
   step p places before given later known new rest None none is =
       let behind : List ℕ = first_seen (before ++ p ∷ []) places in
@@ -111,12 +118,18 @@ module _ (order : List ℕ) (Old : ℕ → Type 0) where
 
   counted : (p : Place) (places before : List Place) (given : List ℕ) (o : Option Place)
       → OnFirst o
-      ((counted_from 1 order p.number ≡ suc (length given)) × Numbered (counted_from 1 order) (suc (length given + suc (length (first_seen (before ++ p ∷ []) places)))) (before ++ p ∷ []) places (suc (suc (length given))))
+      ((counted_from 1 order p.number ≡ suc (length given))
+      × Numbered (counted_from 1 order) (suc (length given + suc (length (first_seen (before ++ p ∷ []) places))))
+      (before ++ p ∷ []) places (suc (suc (length given))))
       (NumberedFrom places (before ++ p ∷ []) given)
       → OnFirst o
       ((counted_from 1 order p.number ≡ suc (length given))
-      × Numbered (counted_from 1 order) (suc (length given + length (on_some o (p.number ∷ first_seen (before ++ p ∷ []) places) (λ first. first_seen (before ++ p ∷ []) places)))) (before ++ p ∷ []) places (suc (suc (length given))))
-      (Numbered (counted_from 1 order) (suc (length given + length (on_some o (p.number ∷ first_seen (before ++ p ∷ []) places) (λ first. first_seen (before ++ p ∷ []) places)))) (before ++ p ∷ []) places (suc (length given)))
+      × Numbered (counted_from 1 order)
+      (suc (length given + length (on_some o (p.number ∷ first_seen (before ++ p ∷ []) places) (λ first. first_seen (before ++ p ∷ []) places))))
+      (before ++ p ∷ []) places (suc (suc (length given))))
+      (Numbered (counted_from 1 order)
+      (suc (length given + length (on_some o (p.number ∷ first_seen (before ++ p ∷ []) places) (λ first. first_seen (before ++ p ∷ []) places))))
+      (before ++ p ∷ []) places (suc (length given)))
   counted p places before given None it = it
   counted p places before given (Some first) it = it
 

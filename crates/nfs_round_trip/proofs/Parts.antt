@@ -1,17 +1,20 @@
 -- A tree that is made again as far as some steps: what it has, and what there is room for.
-use Rattle.std.proofs.Common.{◌≡◌, ◌≢◌, ℕ, suc, ◌+◌, ◌<◌, ◌≤◌, true, cond, List, [], ◌∷◌, ◌++◌, length, sum_by, nat_eq, get_or, Some, refl, sym, ap, subst, ◌∙◌, arith}
+use Rattle.std.proofs.Common.{◌≡◌, ◌≢◌, ℕ, suc, ◌+◌, ◌<◌, ◌≤◌, true, cond, List, [], ◌∷◌, ◌++◌, length, sum_by, nat_eq, get_or, Some, refl, sym, ap, subst, ◌∙◌}
+use Rattle.std.proofs.Common.{arith}
 use Rattle.std.specs.Prelude.{All, AllPairs, if◌then◌else◌}
 use Rattle.std.proofs.lemmas.List.{length-append}
 use Rattle.std.proofs.lemmas.List.Elements.{All-cons, All-nil}
 use Rattle.std.proofs.lemmas.List.Sums.{sum_by_push}
 use Rattle.nfs_inodes.specs.Law.{Law, Lives, LivesAsDirectory}
 use Rattle.nfs_inodes.specs.Reading.{entries_at}
-use Rattle.nfs_inodes.specs.Tree.{Tree, File, Kind, Regular, Directory, Link, Entry, Volume, at, bytes_for, bytes_in, bytes_of, entries_in, files_of, is_directory, next_cookie_in, on_some, one_for, one_when}
+use Rattle.nfs_inodes.specs.Tree.{Tree, File, Kind, Regular, Directory, Link, Entry, Volume, at, bytes_for, bytes_in, bytes_of, entries_in, files_of}
+use Rattle.nfs_inodes.specs.Tree.{is_directory, next_cookie_in, on_some, one_for, one_when}
 use Rattle.nfs_inodes.proofs.Lists.{by_number, same_some}
 use Rattle.nfs_inodes.proofs.Maps.{apart_number, itself}
 use Rattle.nfs_round_trip.specs.Copies.{copied, copied_entries, copied_kind}
 use Rattle.nfs_round_trip.proofs.Directories.{listed_by, shown}
-use Rattle.nfs_round_trip.proofs.Made.{AreMade, Has, at_most_once, has_push, holding, made_at, made_bounds, made_sum, none_high, times, weighed, weighed_all, with_entries}
+use Rattle.nfs_round_trip.proofs.Made.{AreMade, Has, at_most_once, has_push, holding, made_at, made_bounds, made_sum, none_high, times, weighed, weighed_all}
+use Rattle.nfs_round_trip.proofs.Made.{with_entries}
 use Rattle.nfs_round_trip.proofs.Reaches.{HasNone}
 use Rattle.nfs_round_trip.proofs.Walks.{Step}
 
@@ -69,12 +72,14 @@ copy_bytes number es (Regular bytes) = refl
 copy_bytes number es (Directory parent next_cookie entries) = refl
 copy_bytes number es (Link path) = refl
 
-pub copy_entries : (number : ℕ → ℕ) (es : List Entry) (k : Kind) → is_directory k ≡ true → entries_in (copied_kind number (with_entries es k)) ≡ copied_entries number 3 es
+pub copy_entries : (number : ℕ → ℕ) (es : List Entry) (k : Kind) → is_directory k ≡ true
+    → entries_in (copied_kind number (with_entries es k)) ≡ copied_entries number 3 es
 copy_entries number es (Regular bytes) y = cc
 copy_entries number es (Directory parent next_cookie entries) y = refl
 copy_entries number es (Link path) y = cc
 
-pub copy_cookie : (number : ℕ → ℕ) (es : List Entry) (k : Kind) → is_directory k ≡ true → next_cookie_in (copied_kind number (with_entries es k)) ≡ 3 + length es
+pub copy_cookie : (number : ℕ → ℕ) (es : List Entry) (k : Kind) → is_directory k ≡ true
+    → next_cookie_in (copied_kind number (with_entries es k)) ≡ 3 + length es
 copy_cookie number es (Regular bytes) y = cc
 copy_cookie number es (Directory parent next_cookie entries) y = refl
 copy_cookie number es (Link path) y = cc
@@ -85,17 +90,20 @@ same_behind : {X : Type 0} (xs : List X) (x : X) (rest : List X) (d : X) → get
 same_behind [] x rest d = refl
 same_behind (y ∷ xs) x rest d = same_behind xs x rest d
 
-pub none_before : (xs : List Entry) (e : Entry) (rest : List Entry) → AllPairs (λ e g. (e.name ≢ g.name) × (e.cookie < g.cookie)) (xs ++ e ∷ rest) → HasNone e.name xs
+pub none_before : (xs : List Entry) (e : Entry) (rest : List Entry) → AllPairs (λ e g. (e.name ≢ g.name) × (e.cookie < g.cookie)) (xs ++ e ∷ rest)
+    → HasNone e.name xs
 none_before [] e rest apart = tt
 none_before (x ∷ xs) e rest apart = (
-  λ s. (apart 0 (suc (length xs)) e (omega arith) (let l = length-append xs (e ∷ rest) in omega (arith, l))).0 (s ∙ ap (λ (g : Entry). g.name) (sym (same_behind xs e rest e))),
+  λ s. (apart 0 (suc (length xs)) e (omega arith) (let l = length-append xs (e ∷ rest) in omega (arith, l))).0 (s
+      ∙ ap (λ (g : Entry). g.name) (sym (same_behind xs e rest e))),
   none_before xs e rest (λ j k d less inside. apart (suc j) (suc k) d (omega (arith, less)) (omega (arith, inside))),
 )
 
 pub all_other : (number : ℕ → ℕ) (cookie : ℕ) (name : List ℕ) (es : List Entry) → HasNone name es → All (λ e. e.name ≢ name) (copied_entries number cookie es)
 all_other number cookie name [] none = All-nil (λ (e : Entry). e.name ≢ name)
 all_other number cookie name (e ∷ es) none =
-    All-cons (λ (g : Entry). g.name ≢ name) (record { cookie = cookie; name = e.name; number = number e.number }) (copied_entries number (cookie + 1) es) none.0 (all_other number (cookie + 1) name es none.1)
+    All-cons (λ (g : Entry). g.name ≢ name) (record { cookie = cookie; name = e.name; number = number e.number })
+    (copied_entries number (cookie + 1) es) none.0 (all_other number (cookie + 1) name es none.1)
 
 -- ---- the tree
 
@@ -118,7 +126,8 @@ pub record IsDirectoryMade (t : Tree) (number : ℕ → ℕ) (es : List Entry) (
   pub is : h ≡ copied number tag (holding es f)
 
 module _ (t : Tree) (law : Law t) (number : ℕ → ℕ) (done : List Step) (ns : List ℕ) (vs : List Volume) (u : Tree) (part : IsPart t number done ns vs u) where
-  pub file_made : (n : ℕ) (f : File) → Has n ns → Lives t n f → (h : File) × (at (number n) u.files ≡ Some h) × (tag : ℕ) × (h ≡ copied number tag (holding (shown done n) f))
+  pub file_made : (n : ℕ) (f : File) → Has n ns → Lives t n f → (h : File) × (at (number n) u.files ≡ Some h) × (tag : ℕ)
+      × (h ≡ copied number tag (holding (shown done n) f))
   file_made n f has lives =
       let m = made_at t number (shown done) 1 ns u.files n part.files has in
       let same : m.2.file ≡ f = same_some (sym m.2.at_file ∙ lives) in

@@ -1,5 +1,6 @@
 -- Paths of names: read as these names, and found in a directory's entries.
-use Rattle.std.proofs.Common.{◌≡◌, ◌≢◌, ℕ, ◌<◌, ◌≤◌, Bool, true, false, cond, ◌&&◌, List, [], ◌∷◌, ◌++◌, length, nat_eq, Some, None, Ok, refl, ap, ◌∙◌, ◌==◌, append-nil, arith}
+use Rattle.std.proofs.Common.{◌≡◌, ◌≢◌, ℕ, ◌≤◌, Bool, true, false, cond, ◌&&◌, List, [], ◌∷◌, ◌++◌, length, nat_eq, Some, None, Ok, refl, ap, ◌∙◌, ◌==◌}
+use Rattle.std.proofs.Common.{append-nil, arith}
 use Rattle.std.specs.List.{flat_map, list_all, onto_first}
 use Rattle.std.specs.Prelude.{◌||◌, All, bytes_eq, codes, nat_le, nat_lt, not, if◌then◌else◌}
 use Rattle.std.proofs.lemmas.Bool.Decides.{nat_tests}
@@ -8,25 +9,10 @@ use Rattle.std.proofs.lemmas.List.Elements.{All-head, All-tail}
 use Rattle.std.proofs.lemmas.Slice.Eq.{bytes_eq-Decides}
 use Rattle.nfs_text.specs.Pieces.{pieces}
 use Rattle.nfs_inodes.specs.Law.{IsName}
-use Rattle.nfs_inodes.proofs.Lists.{by_test, true_and_false}
+use Rattle.nfs_inodes.proofs.Lists.{by_test}
 use Rattle.nfs_load.specs.Listings.{is_plain}
 use Rattle.nfs_load.specs.Paths.{has_percent, is_name, named_path, path_in}
-
--- ---- tests
-
-and_true : (a b : Bool) → a ≡ true → b ≡ true → (a && b) ≡ true
-and_true true b one two = two
-and_true false b one two = one
-
-both : (a b : Bool) → (a && b) ≡ true → (a ≡ true) × (b ≡ true)
-both true b e = (refl, e)
-both false b e = absurd (true_and_false e refl)
-
-upto : (m n : ℕ) → m ≤ n → nat_le m n ≡ true
-upto m n le = grind (arith, nat_tests)
-
-some : (n : ℕ) → 0 < n → nat_lt 0 n ≡ true
-some n less = grind (arith, nat_tests)
+use Rattle.nfs_round_trip.proofs.Truths.{and_true, both, some, upto}
 
 -- ---- names
 
@@ -56,7 +42,8 @@ name_read name is plain =
     and_true (nat_lt 0 (length name) && nat_le (length name) 255) _
     (and_true (nat_lt 0 (length name)) (nat_le (length name) 255) (some (length name) (let l = is.some in omega (arith, l))) (upto (length name) 255 is.few))
     (and_true (not (bytes_eq name (codes ".")) && not (bytes_eq name (codes ".."))) (not (has_percent name))
-    (and_true (not (bytes_eq name (codes "."))) (not (bytes_eq name (codes ".."))) (ap not (other_bytes name (codes ".") is.no_dot)) (ap not (other_bytes name (codes "..") is.no_dot_dot)))
+    (and_true (not (bytes_eq name (codes "."))) (not (bytes_eq name (codes ".."))) (ap not (other_bytes name (codes ".") is.no_dot))
+    (ap not (other_bytes name (codes "..") is.no_dot_dot)))
     (ap not (no_percent name plain)))
 
 -- ---- a path
@@ -82,7 +69,8 @@ no_slash x o = by_test (x == 47) (λ e. absurd (o.1 (grind (arith, nat_tests))))
 cut_name : (name rest : List ℕ) → All (λ byte. (byte ≢ 0) × (byte ≢ 47)) name → pieces 47 (name ++ 47 ∷ rest) ≡ name ∷ pieces 47 rest
 cut_name [] rest all = refl
 cut_name (x ∷ name) rest all =
-    ap (λ b. cond b ([] ∷ pieces 47 (name ++ 47 ∷ rest)) (onto_first x (pieces 47 (name ++ 47 ∷ rest)))) (no_slash x (All-head (λ byte. (byte ≢ 0) × (byte ≢ 47)) x name all))
+    ap (λ b. cond b ([] ∷ pieces 47 (name ++ 47 ∷ rest)) (onto_first x (pieces 47 (name ++ 47 ∷ rest))))
+    (no_slash x (All-head (λ byte. (byte ≢ 0) × (byte ≢ 47)) x name all))
     ∙ ap (onto_first x) (cut_name name rest (All-tail (λ byte. (byte ≢ 0) × (byte ≢ 47)) x name all))
 
 last_name : (name : List ℕ) → All (λ byte. (byte ≢ 0) × (byte ≢ 47)) name → pieces 47 name ≡ name ∷ []
@@ -97,7 +85,8 @@ names_cut name (next ∷ names) are = cut_name name (next ++ slashed names) are.
 
 plain_parts : (xs ys : List ℕ) → list_all is_plain (xs ++ ys) ≡ true → (list_all is_plain xs ≡ true) × (list_all is_plain ys ≡ true)
 plain_parts [] ys e = (refl, e)
-plain_parts (x ∷ xs) ys e = let p = both (is_plain x) (list_all is_plain (xs ++ ys)) e in let rest = plain_parts xs ys p.1 in (and_true (is_plain x) (list_all is_plain xs) p.0 rest.0, rest.1)
+plain_parts (x ∷ xs) ys e = let p = both (is_plain x) (list_all is_plain (xs ++ ys)) e in let rest = plain_parts xs ys p.1 in
+    (and_true (is_plain x) (list_all is_plain xs) p.0 rest.0, rest.1)
 
 all_names : (names : List (List ℕ)) → AreNames names → list_all is_plain (slashed names) ≡ true → list_all is_name names ≡ true
 all_names [] are plain = refl
@@ -106,7 +95,8 @@ all_names (name ∷ names) are plain =
     and_true (is_name name) (list_all is_name names) (name_read name are.0 p.0) (all_names names are.1 p.1)
 
 -- a path that can be said is read as its names
-pub path_read : (name : List ℕ) (names : List (List ℕ)) → AreNames (name ∷ names) → length (slashed (name ∷ names)) ≤ 1024 → list_all is_plain (slashed (name ∷ names)) ≡ true
+pub path_read : (name : List ℕ) (names : List (List ℕ)) → AreNames (name ∷ names) → length (slashed (name ∷ names)) ≤ 1024
+    → list_all is_plain (slashed (name ∷ names)) ≡ true
     → path_in (slashed (name ∷ names)) ≡ Ok (name ∷ names)
 path_read name names are short plain =
     let cut = names_cut name names are in

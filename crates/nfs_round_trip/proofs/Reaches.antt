@@ -37,7 +37,8 @@ leads_push shown n m (first ∷ names) name e = let s = on_some_is (number_named
     ap (λ o. on_some o None (λ i. leads shown i (names ++ name ∷ []))) s.1 ∙ leads_push shown s.0 m names name s.2
 
 -- what is found is found in longer lists
-found_step : (x : Entry) (b : Bool) (n : ℕ) (one two : Option Entry) → (option_map (λ (e : Entry). e.number) one ≡ Some n → option_map (λ (e : Entry). e.number) two ≡ Some n)
+found_step : (x : Entry) (b : Bool) (n : ℕ) (one two : Option Entry)
+    → (option_map (λ (e : Entry). e.number) one ≡ Some n → option_map (λ (e : Entry). e.number) two ≡ Some n)
     → option_map (λ (e : Entry). e.number) (cond b (Some x) one) ≡ Some n → option_map (λ (e : Entry). e.number) (cond b (Some x) two) ≡ Some n
 found_step x true n one two goes e = e
 found_step x false n one two goes e = goes e
@@ -46,7 +47,8 @@ pub found_more : (name : List ℕ) (es more : List Entry) (n : ℕ) → number_n
 found_more name [] more n e = absurd (not_both refl e)
 found_more name (x ∷ es) more n e = found_step x (has_name name x) n (find (has_name name) es) (find (has_name name) (es ++ more)) (found_more name es more n) e
 
-pub leads_more : (old new : ℕ → List Entry) → ((n : ℕ) → (more : List Entry) × (new n ≡ old n ++ more)) → (n m : ℕ) (names : List (List ℕ)) → leads old n names ≡ Some m → leads new n names ≡ Some m
+pub leads_more : (old new : ℕ → List Entry) → ((n : ℕ) → (more : List Entry) × (new n ≡ old n ++ more)) → (n m : ℕ) (names : List (List ℕ))
+    → leads old n names ≡ Some m → leads new n names ≡ Some m
 leads_more old new grown n m [] e = e
 leads_more old new grown n m (name ∷ names) e = let s = on_some_is (number_named name (old n)) (λ i. leads old i names) m e in
     ap (λ o. on_some o None (λ i. leads new i names)) (ap (number_named name) (grown n).1 ∙ found_more name (old n) (grown n).0 s.0 s.1)
@@ -59,11 +61,13 @@ HasNone name (e ∷ es) = (e.name ≢ name) × HasNone name es
 
 pub none_found : (name : List ℕ) (es : List Entry) → HasNone name es → number_named name es ≡ None
 none_found name [] none = refl
-none_found name (x ∷ es) none = ap (λ b. option_map (λ (e : Entry). e.number) (cond b (Some x) (find (has_name name) es))) (other_bytes x.name name none.0) ∙ none_found name es none.1
+none_found name (x ∷ es) none = ap (λ b. option_map (λ (e : Entry). e.number) (cond b (Some x) (find (has_name name) es))) (other_bytes x.name name none.0)
+    ∙ none_found name es none.1
 
 pub found_last : (e : Entry) (es : List Entry) → HasNone e.name es → number_named e.name (es ++ e ∷ []) ≡ Some e.number
 found_last e [] none = ap (λ b. option_map (λ (g : Entry). g.number) (cond b (Some e) None)) (itself_bytes e.name)
-found_last e (x ∷ es) none = ap (λ b. option_map (λ (g : Entry). g.number) (cond b (Some x) (find (has_name e.name) (es ++ e ∷ [])))) (other_bytes x.name e.name none.0) ∙ found_last e es none.1
+found_last e (x ∷ es) none = ap (λ b. option_map (λ (g : Entry). g.number) (cond b (Some x) (find (has_name e.name) (es ++ e ∷ []))))
+    (other_bytes x.name e.name none.0) ∙ found_last e es none.1
 
 copied_step : (number : ℕ → ℕ) (x y : Entry) (b : Bool) (one two : Option Entry) → y.number ≡ number x.number
     → option_map (λ (e : Entry). e.number) one ≡ option_map number (option_map (λ (e : Entry). e.number) two)
@@ -71,7 +75,8 @@ copied_step : (number : ℕ → ℕ) (x y : Entry) (b : Bool) (one two : Option 
 copied_step number x y true one two is e = ap Some is
 copied_step number x y false one two is e = e
 
-pub found_copied : (number : ℕ → ℕ) (cookie : ℕ) (name : List ℕ) (es : List Entry) → number_named name (copied_entries number cookie es) ≡ option_map number (number_named name es)
+pub found_copied : (number : ℕ → ℕ) (cookie : ℕ) (name : List ℕ) (es : List Entry)
+    → number_named name (copied_entries number cookie es) ≡ option_map number (number_named name es)
 found_copied number cookie name [] = refl
 found_copied number cookie name (x ∷ es) =
     copied_step number x (record { cookie = cookie; name = x.name; number = number x.number }) (has_name name x)
@@ -80,7 +85,8 @@ found_copied number cookie name (x ∷ es) =
 -- ---- in a tree
 
 -- a name in a directory is that of one of its entries
-pub under_directory : (u : Tree) (d : ℕ) (h : File) (name : List ℕ) → LivesAsDirectory u d h → IsName name → number_under u d name ≡ number_named name (entries_in h.kind)
+pub under_directory : (u : Tree) (d : ℕ) (h : File) (name : List ℕ) → LivesAsDirectory u d h → IsName name
+    → number_under u d name ≡ number_named name (entries_in h.kind)
 under_directory u d h name lives is = ap (λ o. number_named name (on_some o [] (λ f. listing d f.kind))) lives.0 ∙ in_kind h.kind lives.1
   where
     in_kind : (k : Kind) → is_directory k ≡ true → number_named name (listing d k) ≡ number_named name (entries_in k)
@@ -90,7 +96,8 @@ under_directory u d h name lives is = ap (λ o. number_named name (on_some o [] 
         let itself : Entry = record { cookie = 1; name = dot; number = d } in
         let above : Entry = record { cookie = 2; name = dot_dot; number = parent } in
         let rest : Option Entry = find (has_name name) entries in
-        ap (λ b. option_map (λ (e : Entry). e.number) (cond b (Some itself) (cond (bytes_eq dot_dot name) (Some above) rest))) (other_bytes dot name (λ e. is.no_dot (sym e)))
+        ap (λ b. option_map (λ (e : Entry). e.number) (cond b (Some itself) (cond (bytes_eq dot_dot name) (Some above) rest)))
+        (other_bytes dot name (λ e. is.no_dot (sym e)))
         ∙ ap (λ b. option_map (λ (e : Entry). e.number) (cond b (Some above) rest)) (other_bytes dot_dot name (λ e. is.no_dot_dot (sym e)))
 
 -- where names lead in a tree
@@ -111,7 +118,8 @@ end_reached u n first (next ∷ names) name = on_both (number_under u n first) (
     (λ m. end_reached u m next names name ∙ end_inner u names name (number_under u m next))
 
 ends_here : (u : Tree) (d : ℕ) (name : List ℕ) (h : File) → LivesAsDirectory u d h → ends_in u d name ≡ Some (record { dir = d; name = name })
-ends_here u d name h lives = ap (λ o. if path_ends.is_directory (option_map (λ (f : File). attributes_of d f (nlink u.files d f)) o) then Some (record { dir = d; name = name }) else None) lives.0
+ends_here u d name h lives = ap (λ o. if path_ends.is_directory (option_map (λ (f : File). attributes_of d f (nlink u.files d f)) o) then Some
+    (record { dir = d; name = name }) else None) lives.0
     ∙ ap (λ b. if b then Some (record { dir = d; name = name }) else None) (in_kind h.kind lives.1)
   where
     in_kind : (k : Kind) → is_directory k ≡ true → is_directory_type (type_of k) ≡ true

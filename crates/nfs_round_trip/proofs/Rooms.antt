@@ -1,18 +1,21 @@
 -- Where the next step may be done in a tree that is made again.
-use Rattle.std.proofs.Common.{◌≡◌, ◌≢◌, ℕ, suc, ◌+◌, ◌<◌, ◌≤◌, true, false, List, [], ◌∷◌, ◌++◌, length, nat_eq, Option, Some, None, refl, sym, ap, subst, ◌∙◌, arith}
+use Rattle.std.proofs.Common.{◌≡◌, ◌≢◌, ℕ, suc, ◌+◌, ◌<◌, ◌≤◌, true, false, List, [], ◌∷◌, ◌++◌, length, nat_eq, Option, Some, None, refl, sym, ap, subst, ◌∙◌}
+use Rattle.std.proofs.Common.{arith}
 use Rattle.std.specs.Prelude.{All, AllPairs, Contains, if◌then◌else◌, slice_get}
 use Rattle.std.proofs.lemmas.List.Elements.{All-contains}
 use Rattle.std.proofs.lemmas.List.Sums.{sum_by-cons, sum_by-append}
 use Rattle.nfs_inodes.specs.Conditions.{MayEnter, MayMake, MayMakeDirectory, MayMakeLink, MayLink}
 use Rattle.nfs_inodes.specs.Law.{IsName, Law, Lives, LivesAsDirectory}
 use Rattle.nfs_inodes.specs.Reading.{entries_at}
-use Rattle.nfs_inodes.specs.Tree.{Tree, File, Kind, Regular, Directory, Link, Entry, Volume, at, bytes_for, bytes_in, bytes_of, entries_in, files_of, is_directory, names_directory, names_in, names_of, nlink, on_some, one_for, one_when, path_in, subdirectories}
+use Rattle.nfs_inodes.specs.Tree.{Tree, File, Kind, Regular, Directory, Link, Entry, Volume, at, bytes_for, bytes_in, bytes_of, entries_in, files_of}
+use Rattle.nfs_inodes.specs.Tree.{is_directory, names_directory, names_in, names_of, nlink, on_some, one_for, one_when, path_in, subdirectories}
 use Rattle.nfs_inodes.proofs.Lists.{by_number, same_some, in_head, in_tail}
 use Rattle.nfs_inodes.proofs.Maps.{apart_number, itself}
 use Rattle.nfs_round_trip.specs.Copies.{copied_entries, copied_kind}
 use Rattle.nfs_round_trip.proofs.Directories.{entries_of, shown}
 use Rattle.nfs_round_trip.proofs.Made.{Has, made_at, made_once, made_sum, sum_less, weighed, weighed_all, at_most_once, with_entries}
-use Rattle.nfs_round_trip.proofs.Parts.{AllHave, IsDirectoryMade, IsPart, all_other, copy_is_directory, directory_made, file_made, none_before, room_for_bytes, room_for_files, shown_few, shown_have}
+use Rattle.nfs_round_trip.proofs.Parts.{AllHave, IsDirectoryMade, IsPart, all_other, copy_is_directory, directory_made, file_made, none_before, room_for_bytes}
+use Rattle.nfs_round_trip.proofs.Parts.{room_for_files, shown_few, shown_have}
 use Rattle.nfs_round_trip.proofs.Walks.{Step}
 
 no_bytes : (k : Kind) → is_directory k ≡ true → length (bytes_in k) ≡ 0
@@ -31,7 +34,7 @@ one_here : (f : File) (index : ℕ) → f.volume ≡ index → one_for index f �
 one_here f index e = ap one_when (subst (λ i. nat_eq f.volume i ≡ true) e (itself f.volume))
 
 -- names that are copied
-same_test : (number : ℕ → ℕ) (a n : ℕ) → (number a ≡ number n → a ≡ n) → nat_eq (number a) (number n) ≡ nat_eq a n
+pub same_test : (number : ℕ → ℕ) (a n : ℕ) → (number a ≡ number n → a ≡ n) → nat_eq (number a) (number n) ≡ nat_eq a n
 same_test number a n once = by_number a n
     (λ s. subst (λ i. nat_eq (number a) (number i) ≡ true) s (itself (number a)) ∙ sym (subst (λ i. nat_eq a i ≡ true) s (itself a)))
     (λ o. apart_number (number a) (number n) (λ s. o (once s)) ∙ sym (apart_number a n o))
@@ -40,12 +43,15 @@ pub names_copied : (number : ℕ → ℕ) (ns : List ℕ) (n : ℕ) → ((a : �
     → names_in (number n) (copied_entries number cookie es) ≡ names_in n es
 names_copied number ns n once cookie [] have = refl
 names_copied number ns n once cookie (e ∷ es) have =
-    let one = sum_by-cons (λ (g : Entry). one_when (nat_eq g.number (number n))) (record { cookie = cookie; name = e.name; number = number e.number }) (copied_entries number (cookie + 1) es) in
+    let one = sum_by-cons (λ (g : Entry). one_when (nat_eq g.number (number n))) (record { cookie = cookie; name = e.name; number = number e.number })
+    (copied_entries number (cookie + 1) es) in
     let two = sum_by-cons (λ (g : Entry). one_when (nat_eq g.number n)) e es in
-    let here : one_when (nat_eq (number e.number) (number n)) ≡ one_when (nat_eq e.number n) = ap one_when (same_test number e.number n (once e.number have.0)) in
+    let here : one_when (nat_eq (number e.number) (number n)) ≡ one_when (nat_eq e.number n) =
+    ap one_when (same_test number e.number n (once e.number have.0)) in
     let rest = names_copied number ns n once (cookie + 1) es have.1 in omega (arith, one, two, here, rest)
 
-no_names : (m n : ℕ) (number : ℕ → ℕ) (es : List Entry) (k : Kind) → names_in m (copied_entries number 3 es) ≤ n → names_in m (entries_in (copied_kind number (with_entries es k))) ≤ n
+no_names : (m n : ℕ) (number : ℕ → ℕ) (es : List Entry) (k : Kind) → names_in m (copied_entries number 3 es) ≤ n
+    → names_in m (entries_in (copied_kind number (with_entries es k))) ≤ n
 no_names m n number es (Regular bytes) le = omega arith
 no_names m n number es (Directory parent next_cookie entries) le = le
 no_names m n number es (Link path) le = omega arith
@@ -56,13 +62,16 @@ in_option n (Some f) = refl
 
 module _ (t : Tree) (law : Law t) (number : ℕ → ℕ) (done : List Step) (ns : List ℕ) (vs : List Volume) (u : Tree) (part : IsPart t number done ns vs u) where
   -- a directory's copies name directories where it does
-  one_copied : (e : Entry) (cookie : ℕ) → Has e.number ns → names_directory u.files (record { cookie = cookie; name = e.name; number = number e.number }) ≡ names_directory t.files e
+  one_copied : (e : Entry) (cookie : ℕ) → Has e.number ns
+      → names_directory u.files (record { cookie = cookie; name = e.name; number = number e.number }) ≡ names_directory t.files e
   one_copied e cookie has =
       let m = made_at t number (shown done) 1 ns u.files e.number part.files has in
-      ap (λ o. on_some o false (λ (f : File). is_directory f.kind)) m.1 ∙ ap (λ (f : File). is_directory f.kind) m.2.is ∙ copy_is_directory number (shown done e.number) m.2.file.kind
+      ap (λ o. on_some o false (λ (f : File). is_directory f.kind)) m.1 ∙ ap (λ (f : File). is_directory f.kind) m.2.is
+      ∙ copy_is_directory number (shown done e.number) m.2.file.kind
       ∙ ap (λ o. on_some o false (λ (f : File). is_directory f.kind)) (sym m.2.at_file)
 
-  pub subdirectories_copied : (cookie : ℕ) (es : List Entry) → AllHave ns es → subdirectories u.files (copied_entries number cookie es) ≡ subdirectories t.files es
+  pub subdirectories_copied : (cookie : ℕ) (es : List Entry) → AllHave ns es
+      → subdirectories u.files (copied_entries number cookie es) ≡ subdirectories t.files es
   subdirectories_copied cookie [] have = refl
   subdirectories_copied cookie (e ∷ es) have =
       let new : Entry = record { cookie = cookie; name = e.name; number = number e.number } in
@@ -113,12 +122,14 @@ module _ (t : Tree) (law : Law t) (number : ℕ → ℕ) (done : List Step) (ns 
         let all : subdirectories t.files (entries_in f.kind) ≡ subdirectories t.files (shown done s.0.number) + subdirectories t.files (s.1 ∷ rest) =
         ap (subdirectories t.files) entries_are ∙ sum_by-append (λ (e : Entry). one_when (names_directory t.files e)) (shown done s.0.number) (s.1 ∷ rest) in
         let behind = sum_by-cons (λ (e : Entry). one_when (names_directory t.files e)) s.1 rest in
-        let one : one_when (names_directory t.files s.1) ≡ 1 = ap (λ o. one_when (on_some o false (λ (h : File). is_directory h.kind))) lives.0 ∙ ap one_when lives.1 in
+        let one : one_when (names_directory t.files s.1) ≡ 1 = ap (λ o. one_when (on_some o false (λ (h : File). is_directory h.kind))) lives.0
+        ∙ ap one_when lives.1 in
         omega (arith, most, of_t, of_u, same, all, behind, one)
 
     -- ---- a new file
 
-    module _ (v w : Volume) (at_v : slice_get t.volumes f.volume ≡ Some v) (at_w : slice_get vs f.volume ≡ Some w) (bytes : w.max_bytes ≡ v.max_bytes) (files : w.max_files ≡ v.max_files)
+    module _ (v w : Volume) (at_v : slice_get t.volumes f.volume ≡ Some v) (at_w : slice_get vs f.volume ≡ Some w) (bytes : w.max_bytes ≡ v.max_bytes)
+        (files : w.max_files ≡ v.max_files)
         (g : File) (lives : Lives t s.1.number g) (new : number s.1.number ≡ suc (length ns)) where
       pub same_volume : g.volume ≡ f.volume
       same_volume = let e = law.entries s.0.number f s.1 at_dir.0 is_entry in ap (λ (h : File). h.volume) (same_some (sym lives ∙ e.1)) ∙ e.2
@@ -135,13 +146,15 @@ module _ (t : Tree) (law : Law t) (number : ℕ → ℕ) (done : List Step) (ns 
             let total = room_for_files t law number done ns vs u part s.1.number g lives new f.volume in
             let one = one_here g f.volume same_volume in
             let most = law.count f.volume v at_v in
-            let same : files_of dir.volume u.files ≡ files_of f.volume u.files = ap (λ i. files_of i u.files) index in omega (arith, total, one, most, same, files);
+            let same : files_of dir.volume u.files ≡ files_of f.volume u.files = ap (λ i. files_of i u.files) index in
+            omega (arith, total, one, most, same, files);
         bytes =
             let index = (dir_made).volume in
             let total = room_for_bytes t law number done ns vs u part s.1.number g lives new f.volume in
             let one = bytes_here g f.volume same_volume in
             let most = law.bytes f.volume v at_v in
-            let same : bytes_of dir.volume u.files ≡ bytes_of f.volume u.files = ap (λ i. bytes_of i u.files) index in omega (arith, total, one, most, same, bytes, long);
+            let same : bytes_of dir.volume u.files ≡ bytes_of f.volume u.files = ap (λ i. bytes_of i u.files) index in
+            omega (arith, total, one, most, same, bytes, long);
         large = let few = (law.sound s.1.number g lives).bytes in omega (arith, few, long);
       }
 
@@ -175,13 +188,17 @@ module _ (t : Tree) (law : Law t) (number : ℕ → ℕ) (done : List Step) (ns 
 
       pub names_few : names_of (number s.1.number) u.files < 1000
       names_few =
-          let once = λ (a : ℕ) (has_a : Has a ns) (e : number a ≡ number s.1.number). made_once t number (shown done) 1 ns u.files a s.1.number part.files has_a there e in
-          let made = made_sum t number (shown done) (λ (h : File). names_in (number s.1.number) (entries_in h.kind)) (λ m. names_in s.1.number (shown done m)) 1 ns u.files part.files
+          let once = λ (a : ℕ) (has_a : Has a ns) (e : number a ≡ number s.1.number). made_once t number (shown done)
+          1 ns u.files a s.1.number part.files has_a there e in
+          let made = made_sum t number (shown done) (λ (h : File). names_in (number s.1.number) (entries_in h.kind))
+          (λ m. names_in s.1.number (shown done m)) 1 ns u.files part.files
           (λ m h has_m is. subst (λ (k : File). names_in (number s.1.number) (entries_in k.kind) ≤ names_in s.1.number (shown done m)) (sym is.is)
           (no_names (number s.1.number) (names_in s.1.number (shown done m)) number (shown done m) is.file.kind
           (let e = names_copied number ns s.1.number once 3 (shown done m) (shown_have ns done m part.known) in omega (arith, e)))) in
-          let less = sum_less (λ m. names_in s.1.number (shown done m)) (weighed (λ (h : File). names_in s.1.number (entries_in h.kind)) t.files) ns s.0.number share_least has share_here in
-          let all = weighed_all (λ (h : File). names_in s.1.number (entries_in h.kind)) t.files ns (λ m. at_most_once t number (shown done) 1 ns u.files m part.files) in
+          let less = sum_less (λ m. names_in s.1.number (shown done m))
+          (weighed (λ (h : File). names_in s.1.number (entries_in h.kind)) t.files) ns s.0.number share_least has share_here in
+          let all = weighed_all (λ (h : File). names_in s.1.number (entries_in h.kind)) t.files ns
+          (λ m. at_most_once t number (shown done) 1 ns u.files m part.files) in
           let most = law.links s.1.number g lives in
           let links : nlink t.files s.1.number g ≡ names_of s.1.number t.files =
           ap (λ b. if b then 2 + subdirectories t.files (entries_in g.kind) else names_of s.1.number t.files) no_dir in

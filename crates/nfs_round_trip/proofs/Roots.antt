@@ -1,5 +1,6 @@
 -- The line of a volume makes its root, and those of its exports add them.
-use Rattle.std.proofs.Common.{inl, inr, ◌≡◌, ◌≢◌, ℕ, suc, ◌+◌, ◌-◌, ◌%◌, ◌<◌, ◌≤◌, true, List, [], ◌∷◌, ◌++◌, length, Option, Some, None, option_map, Ok, refl, sym, ap, subst, ◌∙◌, append_assoc, append-nil, arith}
+use Rattle.std.proofs.Common.{inl, inr, ◌≡◌, ◌≢◌, ℕ, suc, ◌+◌, ◌-◌, ◌<◌, ◌≤◌, true, List, [], ◌∷◌, ◌++◌, length, Option, Some, None, option_map, Ok, refl}
+use Rattle.std.proofs.Common.{sym, ap, subst, ◌∙◌, append_assoc, append-nil, arith}
 use Rattle.std.specs.List.{flat_map}
 use Rattle.std.specs.Prelude.{All, Contains, Err, Result, bytes_eq, if◌then◌else◌, is_some, slice_get}
 use Rattle.std.proofs.lemmas.List.{length-append}
@@ -31,7 +32,7 @@ use Rattle.nfs_read_back.proofs.Exports as read_back_exports
 use Rattle.nfs_read_back.proofs.Statements as read_back
 use Rattle.nfs_round_trip.specs.Copies.{CanBeSaid, copied, copied_kind, copied_mode, copied_volume}
 use Rattle.nfs_round_trip.proofs.Directories.{shown}
-use Rattle.nfs_round_trip.proofs.Files.{done_map}
+use Rattle.nfs_round_trip.proofs.Files.{done_map, small}
 use Rattle.nfs_round_trip.proofs.Made.{Has, holding, made_push, push_has, with_entries}
 use Rattle.nfs_round_trip.proofs.Parts.{IsPart, known_number, shown_unknown}
 use Rattle.nfs_round_trip.proofs.Paths.{other_bytes}
@@ -50,9 +51,6 @@ root_mode (Regular bytes) mode y = refl
 root_mode (Directory parent next_cookie entries) mode y = refl
 root_mode (Link path) mode y = cc
 
-small : (mode : ℕ) → mode < 4096 → mode % 4096 ≡ mode
-small mode less = omega (arith, less)
-
 volume_given : File → Given
 volume_given f = record { mode = f.mode; uid = f.uid; gid = f.gid }
 
@@ -62,7 +60,8 @@ module _ (t : Tree) (law : Law t) (number : ℕ → ℕ) (all : List Step) (ns :
   next_is : number w.root ≡ u.next
   next_is = new ∙ sym part.next
 
-  root_is_copy : (tag : ℕ) → new_file (length u.volumes) (Directory u.next 3 []) (attributes (record { mode = f.mode; uid = f.uid; gid = f.gid })) None tag start ≡ copied number tag (holding [] f)
+  root_is_copy : (tag : ℕ) → new_file (length u.volumes) (Directory u.next 3 [])
+      (attributes (record { mode = f.mode; uid = f.uid; gid = f.gid })) None tag start ≡ copied number tag (holding [] f)
   root_is_copy tag =
       let given : Given = record { mode = f.mode; uid = f.uid; gid = f.gid } in
       ap (λ v. new_file v (Directory u.next 3 []) (attributes given) None tag start) (ap length part.volumes ∙ index)
@@ -86,7 +85,8 @@ module _ (t : Tree) (law : Law t) (number : ℕ → ℕ) (all : List Step) (ns :
           | inl was ↦ part.begun m was
           | inr e ↦ (entries_at t m, ap (λ l. l ++ entries_at t m) (sym none ∙ ap (shown all) e))
         ];
-        few = let l = length-append ns (w.root ∷ []) in let k = length-append vs (copied_volume number w ∷ []) in let was = part.few in omega (arith, l, k, was);
+        few = let l = length-append ns (w.root ∷ []) in let k = length-append vs (copied_volume number w ∷ []) in let was = part.few in
+            omega (arith, l, k, was);
         key = part.key;
         volumes = ap (λ l. l ++ record { path = w.path; max_bytes = w.max_bytes; max_files = w.max_files; root = u.next } ∷ []) part.volumes
             ∙ ap (λ n. vs ++ record { path = w.path; max_bytes = w.max_bytes; max_files = w.max_files; root = n } ∷ []) (sym next_is);
@@ -97,7 +97,8 @@ module _ (t : Tree) (law : Law t) (number : ℕ → ℕ) (all : List Step) (ns :
 none_where : (path : List ℕ) (vs : List Volume) → All (λ v. v.path ≢ path) vs → index_where (λ (v : Volume). bytes_eq v.path path) vs ≡ None
 none_where path [] all = refl
 none_where path (v ∷ vs) all =
-    ap (λ b. if b then Some 0 else option_map (λ n. n + 1) (index_where (λ (v : Volume). bytes_eq v.path path) vs)) (other_bytes v.path path (All-head (λ (v : Volume). v.path ≢ path) v vs all))
+    ap (λ b. if b then Some 0 else option_map (λ n. n + 1) (index_where (λ (v : Volume). bytes_eq v.path path) vs))
+    (other_bytes v.path path (All-head (λ (v : Volume). v.path ≢ path) v vs all))
     ∙ ap (option_map (λ n. n + 1)) (none_where path vs (All-tail (λ (v : Volume). v.path ≢ path) v vs all))
 
 taken : (old : Loaded) (line : VolumeLine) (result : Result Unit Refusal) (new : Loaded) (Made : Tree → Type 0)
@@ -110,10 +111,12 @@ taken old line (Err (Fault cause)) new Made does it = elim (does (Err (Fault cau
 ]
 taken old line (Err Memory) new Made does it = inl refl
 
-module _ (Last : Option Loaded → Type 0) (t : Tree) (law : Law t) (number : ℕ → ℕ) (all : List Step) (ns : List ℕ) (vs : List Volume) (old : Loaded) (part : IsPart t number all ns vs old.tree)
+module _ (Last : Option Loaded → Type 0) (t : Tree) (law : Law t) (number : ℕ → ℕ) (all : List Step) (ns : List ℕ) (vs : List Volume) (old : Loaded)
+    (part : IsPart t number all ns vs old.tree)
     (w : Volume) (f : File) (at_w : slice_get t.volumes f.volume ≡ Some w) (lives : LivesAsDirectory t w.root f) (parent : parent_in f.kind ≡ w.root)
     (index : length vs ≡ f.volume) (new : number w.root ≡ suc (length ns)) (fresh : Has w.root ns → ⊥)
-    (words : CanBeSaid f) (said : is_said w.path ≡ true) (path : volume_path_in w.path ≡ Ok w.path) (bytes : w.max_bytes ≤ 1099511627776) (some : 1 ≤ w.max_files) (files : w.max_files ≤ 1000000)
+    (words : CanBeSaid f) (said : is_said w.path ≡ true) (path : volume_path_in w.path ≡ Ok w.path) (bytes : w.max_bytes ≤ 1099511627776)
+    (some : 1 ≤ w.max_files) (files : w.max_files ≤ 1000000)
     (other : All (λ v. v.path ≢ w.path) vs) (few : length vs < 64) (short : length w.path ≤ 255) (room : length all + length vs ≤ 1099511627776) where
   may_add : MayAddVolume old.tree w.path w.max_files
   may_add = record {
@@ -130,23 +133,27 @@ module _ (Last : Option Loaded → Type 0) (t : Tree) (law : Law t) (number : �
       unless_found : Option ℕ → Result (List ℕ) Cause
       unless_found o = if is_some o then Err VolumeTwice else Ok w.path
 
-  pub root_goes : (All : Option Loaded → Type 0) → ((loaded : Loaded) → IsPart t number all (ns ++ w.root ∷ []) (vs ++ copied_volume number w ∷ []) loaded.tree → loaded.table ≡ old.table ++ [] ∷ [] → All (Some loaded))
+  pub root_goes : (All : Option Loaded → Type 0) → ((loaded : Loaded) → IsPart t number all (ns ++ w.root ∷ []) (vs ++ copied_volume number w ∷ []) loaded.tree
+      → loaded.table ≡ old.table ++ [] ∷ [] → All (Some loaded))
       → Goes Last (Some old) (root_text w (attributes_at t w.root)) All
   root_goes All goes =
       let given : Given = record { mode = f.mode; uid = f.uid; gid = f.gid } in
       let line : VolumeLine = record { path = w.path; max_bytes = w.max_bytes; max_files = w.max_files; given = given } in
-      let Rooted : Loaded → Type 0 = λ loaded. IsPart t number all (ns ++ w.root ∷ []) (vs ++ copied_volume number w ∷ []) loaded.tree × (loaded.table ≡ old.table ++ [] ∷ []) in
+      let Rooted : Loaded → Type 0 = λ loaded. IsPart t number all (ns ++ w.root ∷ []) (vs ++ copied_volume number w ∷ []) loaded.tree
+      × (loaded.table ≡ old.table ++ [] ∷ []) in
       let r = read_back.volumes w.path w.max_bytes w.max_files given said path bytes some files ((law.sound w.root f lives.0).mode, words.uid, words.gid) in
       subst (λ l. Goes Last (Some old) l All)
       (sym (ap (λ o. root_text w (option_map (λ (g : File). attributes_of w.root g (nlink t.files w.root g)) o)) lives.0))
-      (goes_on Last old (volume_line w.path w.max_bytes w.max_files given) keyword.Volume r.0 Rooted All r.1 (λ loaded it. goes loaded it.0 it.1) (λ result loaded done.
+      (goes_on Last old (volume_line w.path w.max_bytes w.max_files given) keyword.Volume r.0 Rooted All r.1 (λ loaded it. goes loaded it.0 it.1)
+      (λ result loaded done.
       taken old line result loaded (λ u. IsPart t number all (ns ++ w.root ∷ []) (vs ++ copied_volume number w ∷ []) u)
       (λ result adds. done_map result
       (λ (made : Makes (λ tag. after_add_volume old.tree w.path w.max_bytes w.max_files (attributes given) tag start) loaded.tree).
       subst (IsPart t number all (ns ++ w.root ∷ []) (vs ++ copied_volume number w ∷ [])) (sym made.new_is)
       (part_with_volume t law number all ns vs old.tree part w f at_w lives parent index new fresh made.tag))
       (does_made old.tree (free_path old.tree w.path) (λ (p : List ℕ). MayAddVolume old.tree p w.max_files)
-      (λ (p : List ℕ). Makes (λ tag. after_add_volume old.tree p w.max_bytes w.max_files (attributes given) tag start)) result loaded.tree w.path free may_add adds))
+      (λ (p : List ℕ). Makes (λ tag. after_add_volume old.tree p w.max_bytes w.max_files (attributes given) tag start))
+      result loaded.tree w.path free may_add adds))
       (then_is (volume_in r.0) line [] result (λ (it : VolumeLine). VolumeTaken old it result loaded) r.2 done)))
 
 -- ---- the lines of exports
@@ -159,20 +166,25 @@ count_last : (front : List (List Export)) (es : List Export) → pattern_count (
 count_last [] es = omega arith
 count_last (x ∷ front) es = let rest = count_last front es in omega (arith, rest)
 
-export_done : (old : Loaded) (line : ExportLine) (result : Result Unit Refusal) (new : Loaded) → pattern_count old.table < 256 → ExportDone old line result new → Done result (new ≡ with_export old line)
+export_done : (old : Loaded) (line : ExportLine) (result : Result Unit Refusal) (new : Loaded) → pattern_count old.table < 256 → ExportDone old line result new
+    → Done result (new ≡ with_export old line)
 export_done old line (Ok x) new few it = inr (refl, it.1)
 export_done old line (Err (Fault cause)) new few it = absurd (let many = it.0 in omega (arith, few, many))
 export_done old line (Err Memory) new few it = inl refl
 
-module _ (Last : Option Loaded → Type 0) (tree : Tree) (root : ℕ) (front : List (List Export)) (last_is : last_root tree ≡ Ok root) (index : length tree.volumes ≡ suc (length front)) where
+module _ (Last : Option Loaded → Type 0) (tree : Tree) (root : ℕ) (front : List (List Export)) (last_is : last_root tree ≡ Ok root)
+    (index : length tree.volumes ≡ suc (length front)) where
   -- they are the last of the last volume, and the tree stays
-  pub exports_go : (es so_far : List Export) (old : Loaded) → old.tree ≡ tree → old.table ≡ front ++ so_far ∷ [] → pattern_count front + (length so_far + length es) ≤ 256
+  pub exports_go : (es so_far : List Export) (old : Loaded) → old.tree ≡ tree → old.table ≡ front ++ so_far ∷ []
+      → pattern_count front + (length so_far + length es) ≤ 256
       → ((e : Export) → Contains es e → IsExport e) → (All : Option Loaded → Type 0)
-      → ((loaded : Loaded) → loaded.tree ≡ tree → loaded.table ≡ front ++ (so_far ++ es) ∷ [] → All (Some loaded)) → Goes Last (Some old) (flat_map export_line es) All
+      → ((loaded : Loaded) → loaded.tree ≡ tree → loaded.table ≡ front ++ (so_far ++ es) ∷ [] → All (Some loaded))
+      → Goes Last (Some old) (flat_map export_line es) All
   exports_go [] so_far old tree_is table_is few each All goes =
       goes_none Last (Some old) All (goes old tree_is (table_is ∙ ap (λ l. front ++ l ∷ []) (sym (append-nil so_far))))
   exports_go (e ∷ es) so_far old tree_is table_is few each All goes =
-      let Between : Option Loaded → Type 0 = λ new. (loaded : Loaded) × (new ≡ Some loaded) × (loaded.tree ≡ tree) × (loaded.table ≡ front ++ (so_far ++ e ∷ []) ∷ []) in
+      let Between : Option Loaded → Type 0 = λ new. (loaded : Loaded) × (new ≡ Some loaded) × (loaded.tree ≡ tree)
+      × (loaded.table ≡ front ++ (so_far ++ e ∷ []) ∷ []) in
       let line : ExportLine = record { pattern = e.pattern; options = e.options } in
       let r = read_back_exports.exports e (each e (in_head e es)) in
       let count : pattern_count old.table ≡ pattern_count front + length so_far = ap pattern_count table_is ∙ count_last front so_far in
@@ -188,7 +200,8 @@ module _ (Last : Option Loaded → Type 0) (tree : Tree) (root : ℕ) (front : L
       ))
       (export_done old line result loaded (omega (arith, count, few))
       (then_is (export_in r.0) line [] result (λ (it : ExportLine). ExportDone old it result loaded) r.2
-      (root_is (last_root old.tree) root result (λ (m : ℕ). Then (export_in r.0) result (λ (it : ExportLine). ExportDone old it result loaded)) (ap last_root tree_is ∙ last_is) done)))))
+      (root_is (last_root old.tree) root result (λ (m : ℕ). Then (export_in r.0) result (λ (it : ExportLine). ExportDone old it result loaded))
+      (ap last_root tree_is ∙ last_is) done)))))
       (λ new it. subst (λ o. Goes Last o (flat_map export_line es) All) (sym it.1)
       (exports_go es (so_far ++ e ∷ []) it.0 it.2 it.3 (omega (arith, few, long)) (λ x c. each x (in_tail e x es c)) All
       (λ loaded same table. goes loaded same (table ∙ ap (λ l. front ++ l ∷ []) (append_assoc so_far (e ∷ []) es)))))

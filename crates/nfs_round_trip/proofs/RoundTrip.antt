@@ -1,5 +1,6 @@
 -- The whole text.
-use Rattle.std.proofs.Common.{inl, inr, ◌≡◌, ◌≢◌, ◌⊎◌, ℕ, suc, zero, ◌+◌, ◌<◌, ◌≤◌, true, List, [], ◌∷◌, ◌++◌, length, map, take, Option, Some, None, Ok, refl, sym, ap, subst, ◌∙◌, append_assoc, append-nil, arith}
+use Rattle.std.proofs.Common.{inl, inr, ◌≡◌, ◌≢◌, ◌⊎◌, ℕ, suc, zero, ◌+◌, ◌<◌, ◌≤◌, true, List, [], ◌∷◌, ◌++◌, length, map, take, Option, Some, None, Ok, refl}
+use Rattle.std.proofs.Common.{sym, ap, subst, ◌∙◌, append_assoc, append-nil, arith}
 use Rattle.std.specs.List.{flat_map}
 use Rattle.std.specs.Prelude.{Contains, Err, Result, if◌then◌else◌, slice_get}
 use Rattle.std.proofs.lemmas.List.{length-append}
@@ -27,7 +28,7 @@ use Rattle.nfs_round_trip.specs.RoundTrip as law
 use Rattle.nfs_round_trip.specs.RoundTrip.{IsCopy, IsDescribable}
 use Rattle.nfs_round_trip.proofs.Directories.{entries_of, shown}
 use Rattle.nfs_round_trip.proofs.Links.{links_same}
-use Rattle.nfs_round_trip.proofs.Made.{Has, made_back, made_once, with_entries}
+use Rattle.nfs_round_trip.proofs.Made.{Has, made_back, made_length, made_once, with_entries}
 use Rattle.nfs_round_trip.proofs.Numbers.{inside_walk, numbered_from}
 use Rattle.nfs_round_trip.proofs.Parts.{file_made}
 use Rattle.nfs_round_trip.proofs.Runs.{Goes, Runs, describes, goes_both, goes_first}
@@ -59,7 +60,8 @@ seen_have m (p ∷ places) before has = on_first (first_name p.number before) ha
     tail it = (it.0, in_tail p it.0 places it.1, it.2)
 
     on_first : (o : Option Place) → Has m (on_some o (p.number ∷ first_seen (before ++ p ∷ []) places) (λ first. first_seen (before ++ p ∷ []) places))
-        → (Has m (first_seen (before ++ p ∷ []) places) → (q : Place) × Contains places q × (q.number ≡ m)) → (q : Place) × Contains (p ∷ places) q × (q.number ≡ m)
+        → (Has m (first_seen (before ++ p ∷ []) places) → (q : Place) × Contains places q × (q.number ≡ m)) → (q : Place) × Contains (p ∷ places) q
+        × (q.number ≡ m)
     on_first None has rest = elim has [
       | inl e ↦ (p, in_head p places, e)
       | inr r ↦ tail (rest r)
@@ -125,17 +127,21 @@ module _ (t : Tree) (table : List (List Export)) (d : IsDescribable t table) whe
   steps_few (suc n) text (before, part, says, is, e) =
       let front : List ℕ = root_text is.volume (attributes_at t is.volume.root) ++ flat_map export_line (exports_of table n) in
       let rest = steps_few n before says in
-      let all : length (steps_to n before says ++ steps t is.walk) ≡ length (steps_to n before says) + length (steps t is.walk) = length-append (steps_to n before says) (steps t is.walk) in
+      let all : length (steps_to n before says ++ steps t is.walk) ≡ length (steps_to n before says) + length (steps t is.walk) =
+      length-append (steps_to n before says) (steps t is.walk) in
       let long : length text ≡ length before + length part = ap length e ∙ length-append before part in
       let part_long : length part ≡ length front + length (files_text t [] is.walk) = ap length is.text_is ∙ length-append front (files_text t [] is.walk) in
-      let walk_is : is.walk ≡ root_place t is.volume.root ∷ map place_of (steps t is.walk) = is.walked ∙ ap (λ l. root_place t is.volume.root ∷ l) (sym (places_of_steps t is.walk)) in
+      let walk_is : is.walk ≡ root_place t is.volume.root ∷ map place_of (steps t is.walk) = is.walked
+      ∙ ap (λ l. root_place t is.volume.root ∷ l) (sym (places_of_steps t is.walk)) in
       let files : files_text t [] is.walk ≡ files_text t (root_place t is.volume.root ∷ []) (map place_of (steps t is.walk)) =
       ap (files_text t []) walk_is
-      ∙ ap (λ l. l ++ files_text t (root_place t is.volume.root ∷ []) (map place_of (steps t is.walk))) (root_is_none t is.volume.root (at is.volume.root t.files)) in
+      ∙ ap (λ l. l ++ files_text t (root_place t is.volume.root ∷ []) (map place_of (steps t is.walk)))
+      (root_is_none t is.volume.root (at is.volume.root t.files)) in
       let same = ap length files in
       let each = files_long t (root_place t is.volume.root ∷ []) (steps t is.walk) (λ s c.
       let inside = inside_walk t d.law n is.volume is.walk is.at_place is.walked (place_of s)
-      (subst (λ l. Contains l (place_of s)) (sym walk_is) (in_tail (root_place t is.volume.root) (place_of s) (map place_of (steps t is.walk)) (contains_map place_of (steps t is.walk) s c))) in
+      (subst (λ l. Contains l (place_of s)) (sym walk_is)
+      (in_tail (root_place t is.volume.root) (place_of s) (map place_of (steps t is.walk)) (contains_map place_of (steps t is.walk) s c))) in
       (inside.0, inside.1)) in
       omega (arith, rest, all, long, part_long, same, each)
 
@@ -144,9 +150,11 @@ module _ (t : Tree) (table : List (List Export)) (d : IsDescribable t table) whe
     number = counted_from 1 order
 
     walk_numbered : (n : ℕ) (before : List ℕ) (says : SaysTo t table n before) (part : List ℕ) (is : IsVolumeText t table n part) (later : List ℕ)
-        → order ≡ order_to n before says ++ (first_seen [] is.walk ++ later) → Numbered number (suc (length (order_to n before says ++ first_seen [] is.walk))) [] is.walk (suc (length (order_to n before says)))
+        → order ≡ order_to n before says ++ (first_seen [] is.walk ++ later)
+        → Numbered number (suc (length (order_to n before says ++ first_seen [] is.walk))) [] is.walk (suc (length (order_to n before says)))
     walk_numbered n before says part is later e =
-        subst (λ last. Numbered number (suc last) [] is.walk (suc (length (order_to n before says)))) (sym (length-append (order_to n before says) (first_seen [] is.walk)))
+        subst (λ last. Numbered number (suc last) [] is.walk (suc (length (order_to n before says))))
+        (sym (length-append (order_to n before says) (first_seen [] is.walk)))
         (numbered_from order (IsBelow n) is.walk [] (order_to n before says) later e (λ m has. inl (order_below n before says m has))
         (λ p c old.
         let inside = inside_walk t d.law n is.volume is.walk is.at_place is.walked p c in
@@ -165,7 +173,8 @@ module _ (t : Tree) (table : List (List Export)) (d : IsDescribable t table) whe
       others = λ m f lives more. refl;
     }
 
-    server_goes : (All : Option Loaded → Type 0) → ((loaded : Loaded) → IsThrough t number table 0 [] 1 loaded → All (Some loaded)) → Goes Last None (server_line t.key) All
+    server_goes : (All : Option Loaded → Type 0) → ((loaded : Loaded) → IsThrough t number table 0 [] 1 loaded → All (Some loaded))
+        → Goes Last None (server_line t.key) All
     server_goes All goes =
         let r = read_back.servers t.key d.law.numbers.key_bytes d.law.numbers.key_len in
         let loaded : Loaded = record { tree = record { files = []; next = 1; key = t.key; volumes = [] }; table = [] } in
@@ -174,14 +183,17 @@ module _ (t : Tree) (table : List (List Export)) (d : IsDescribable t table) whe
         (goes loaded none_through)
 
     goes_to : (n : ℕ) (text : List ℕ) (says : SaysTo t table n text) (later : List ℕ) → order ≡ order_to n text says ++ later → length text ≤ 1073741824
-        → (All : Option Loaded → Type 0) → ((loaded : Loaded) → IsThrough t number table n (steps_to n text says) (suc (length (order_to n text says))) loaded → All (Some loaded))
+        → (All : Option Loaded → Type 0) → ((loaded : Loaded) → IsThrough t number table n (steps_to n text says) (suc (length (order_to n text says))) loaded
+        → All (Some loaded))
         → Goes Last None text All
     goes_to zero text says later order_is short All goes = subst (λ l. Goes Last None l All) (sym says) (server_goes All goes)
     goes_to (suc n) text (before, part, says, is, e) later order_is short All goes =
-        let here : order ≡ order_to n before says ++ (first_seen [] is.walk ++ later) = order_is ∙ append_assoc (order_to n before says) (first_seen [] is.walk) later in
+        let here : order ≡ order_to n before says ++ (first_seen [] is.walk ++ later) = order_is
+        ∙ append_assoc (order_to n before says) (first_seen [] is.walk) later in
         let few = steps_few (suc n) text (before, part, says, is, e) in
         let long : length text ≡ length before + length part = ap length e ∙ length-append before part in
-        let Between : Option Loaded → Type 0 = λ new. (loaded : Loaded) × (new ≡ Some loaded) × IsThrough t number table n (steps_to n before says) (suc (length (order_to n before says))) loaded in
+        let Between : Option Loaded → Type 0 = λ new. (loaded : Loaded) × (new ≡ Some loaded)
+        × IsThrough t number table n (steps_to n before says) (suc (length (order_to n before says))) loaded in
         subst (λ l. Goes Last None l All) (sym e)
         (goes_both Last None before part Between All
         (goes_to n before says (first_seen [] is.walk ++ later) here (omega (arith, short, long)) Between (λ loaded through. (loaded, refl, through)))
@@ -205,27 +217,32 @@ copy_is t table d number all k loaded through =
       record {
         each = λ n f lives.
             let has : Has n through.ns = inside n f lives in
-            let made = file_made t d.law number all through.ns (map (copied_volume number) (take (length t.volumes) t.volumes)) loaded.tree part n f has lives in
+            let made = file_made t d.law number all through.ns (map (copied_volume number) (take (length t.volumes) t.volumes))
+            loaded.tree part n f has lives in
             let v = d.law.placed n f lives in
             let whole : with_entries (shown all n) f.kind ≡ f.kind = all_or_none (shown all n) f.kind
             (λ y. through.full n f (lives, y) (get_within t.volumes f.volume v.0 v.1) ∙ entries_of t d.law n f lives) in (
               made.2,
               made.1 ∙ ap Some (made.3 ∙ ap (λ kind. copied number made.2 (record f { kind = kind })) whole),
               links_same t d.law number all through.ns (map (copied_volume number) (take (length t.volumes) t.volumes)) loaded.tree part inside
-                  (λ m g dir. let w = d.law.placed m g dir.0 in through.full m g dir (get_within t.volumes g.volume w.0 w.1) ∙ entries_of t d.law m g dir.0) n made.2 f lives,
+                  (λ m g dir. let w = d.law.placed m g dir.0 in through.full m g dir (get_within t.volumes g.volume w.0 w.1) ∙ entries_of t d.law m g dir.0)
+                  n made.2 f lives,
             );
         once = λ m n f g one two same. made_once t number (shown all) 1 through.ns loaded.tree.files m n part.files (inside m f one) (inside n g two) same;
         all = λ j h lives. let b = made_back t number (shown all) 1 through.ns loaded.tree.files j h part.files lives in (b.0, b.3.file, b.3.at_file, b.2);
         volumes = part.volumes ∙ ap (map (copied_volume number)) (take_whole t.volumes);
         key = part.key;
+        next = let n = part.next in let l = made_length t number (shown all) 1 through.ns loaded.tree.files part.files in omega (arith, n, l);
       },
       through.table_is ∙ ap (λ n. take n table) (sym d.lists) ∙ take_whole table,
     )
 
-ends_in_order : (t : Tree) (table : List (List Export)) (number : ℕ → ℕ) (all : List Step) (k : ℕ) (old : Option Loaded) (loaded : Loaded) → 1 ≤ length t.volumes → old ≡ Some loaded
+ends_in_order : (t : Tree) (table : List (List Export)) (number : ℕ → ℕ) (all : List Step) (k : ℕ) (old : Option Loaded) (loaded : Loaded)
+    → 1 ≤ length t.volumes → old ≡ Some loaded
     → IsThrough t number table (length t.volumes) all k loaded → finished old ≡ Ok loaded
 ends_in_order t table number all k old loaded some is through =
-    let long : length loaded.tree.volumes ≡ length t.volumes = ap length (through.part.volumes ∙ ap (map (copied_volume number)) (take_whole t.volumes)) ∙ length_map (copied_volume number) t.volumes in
+    let long : length loaded.tree.volumes ≡ length t.volumes = ap length (through.part.volumes ∙ ap (map (copied_volume number)) (take_whole t.volumes))
+    ∙ length_map (copied_volume number) t.volumes in
     let not_none : length loaded.tree.volumes ≢ 0 = λ e. omega (arith, long, some, e) in
     ap finished is ∙ ap (λ b. if b then Err NoVolume else Ok loaded) (apart_number (length loaded.tree.volumes) 0 not_none)
 

@@ -56,7 +56,8 @@ module _ (Last : Option Loaded → Type 0) where
       subst (λ text. Runs Last old (lines text)) (sym (append_assoc one two behind)) (first (two ++ behind) (λ new holds. second new holds behind next))
 
   goes_line : (old : Option Loaded) (line : List ℕ) (keyword : Keyword) (fields : List (List ℕ)) (Then : Option Loaded → Type 0) → IsReadAs line keyword fields
-      → ((result : Result Unit Refusal) (new : Option Loaded) → Asked old (Ok (Some (record { keyword = keyword; fields = fields }))) result new → Done result (Then new))
+      → ((result : Result Unit Refusal) (new : Option Loaded) → Asked old (Ok (Some (record { keyword = keyword; fields = fields }))) result new
+      → Done result (Then new))
       → Goes old line Then
   goes_line old line keyword fields Then read does behind next =
       subst (Runs Last old) (sym (read.alone behind)) (λ result new done.
@@ -65,7 +66,8 @@ module _ (Last : Option Loaded → Type 0) where
         | inr it ↦ inr (it.0, next new it.1)
       ])
 
-  pub goes_on : (old : Loaded) (line : List ℕ) (keyword : Keyword) (fields : List (List ℕ)) (Then : Loaded → Type 0) (All : Option Loaded → Type 0) → IsReadAs line keyword fields
+  pub goes_on : (old : Loaded) (line : List ℕ) (keyword : Keyword) (fields : List (List ℕ)) (Then : Loaded → Type 0) (All : Option Loaded → Type 0)
+      → IsReadAs line keyword fields
       → ((new : Loaded) → Then new → All (Some new))
       → ((result : Result Unit Refusal) (new : Loaded) → GoesOn old keyword fields result new → Done result (Then new)) → Goes (Some old) line All
   goes_on old line keyword fields Then All read last does = goes_line (Some old) line keyword fields All read (λ result new asked.
@@ -94,29 +96,34 @@ module _ (Last : Option Loaded → Type 0) where
         | inr it ↦ absurd (not_both (Err refusal) tt refusal it.0 refl)
       ]
   stops_memory start old new (first ∷ before) line behind refusal runs (between, is_done, rest) done =
-      stops_memory between old new before line behind refusal (done_ok (Runs Last between (before ++ line ∷ behind)) (Ok tt) refl (runs (Ok tt) between is_done)) rest done
+      stops_memory between old new before line behind refusal
+      (done_ok (Runs Last between (before ++ line ∷ behind)) (Ok tt) refl (runs (Ok tt) between is_done)) rest done
 
   -- a text that is read says what holds then, or memory is wanted
-  pub describes : (text : List ℕ) (result : Result Loaded LoadError) → Runs Last None (lines text) → ((old : Option Loaded) → Last old → (loaded : Loaded) × (finished old ≡ Ok loaded))
+  pub describes : (text : List ℕ) (result : Result Loaded LoadError) → Runs Last None (lines text)
+      → ((old : Option Loaded) → Last old → (loaded : Loaded) × (finished old ≡ Ok loaded))
       → Describes text result → (result ≡ Err error.Memory) ⊎ ((loaded : Loaded) × (result ≡ Ok loaded) × Last (Some loaded))
   describes text (Ok loaded) runs ends is = inr (loaded, refl, through_last None (Some loaded) (lines text) runs is.0)
   describes text (Err error.Memory) runs ends is = inl refl
   describes text (Err (error.Fault number cause)) runs ends is = elim is [
     | inl stops ↦ absurd (no_memory cause (stops_memory None stops.old stops.new stops.before stops.line stops.behind (Fault cause)
         (subst (Runs Last None) stops.all_are runs) stops.in_order stops.refused))
-    | inr missing ↦ absurd (let f = ends missing.old (through_last None missing.old (lines text) runs missing.in_order) in not_both (finished missing.old) f.0 cause f.1 missing.missing)
+    | inr missing ↦ absurd (let f = ends missing.old (through_last None missing.old (lines text) runs missing.in_order) in
+        not_both (finished missing.old) f.0 cause f.1 missing.missing)
   ]
 
 -- ---- what a line does
 
-pub does_made : {P : Type 0} (t : Tree) (found : Result P Cause) (May : P → Type 0) (Made : P → Tree → Type 0) (result : Result Unit Refusal) (new : Tree) (end : P)
+pub does_made : {P : Type 0} (t : Tree) (found : Result P Cause) (May : P → Type 0) (Made : P → Tree → Type 0) (result : Result Unit Refusal) (new : Tree)
+    (end : P)
     → found ≡ Ok end → May end → Does t found May Made result new → Done result (Made end new)
 does_made {P} t found May Made (Ok x) new end is may does = inr (refl, subst (λ it. Made it new) (same_ok found does.0 end does.1 is) does.3)
 does_made {P} t found May Made (Err (Fault Full)) new end is may does = absurd (does.2 (subst May (same_ok found end does.0 is does.1) may))
 does_made {P} t found May Made (Err (Fault cause)) new end is may does = absurd (not_both found end cause is does.0)
 does_made {P} t found May Made (Err Memory) new end is may does = inl refl
 
-pub then_is : {A : Type 0} (read : Read A) (line : A) (rest : List (List ℕ)) (result : Result Unit Refusal) (Holds : A → Type 0) → read ≡ Ok (line, rest) → Then read result Holds → Holds line
+pub then_is : {A : Type 0} (read : Read A) (line : A) (rest : List (List ℕ)) (result : Result Unit Refusal) (Holds : A → Type 0) → read ≡ Ok (line, rest)
+    → Then read result Holds → Holds line
 then_is read line rest result Holds is holds = subst (λ r. Then r result Holds) is holds
 
 pub root_is : (found : Result ℕ Cause) (root : ℕ) (result : Result Unit Refusal) (Holds : ℕ → Type 0) → found ≡ Ok root → InRoot found result Holds → Holds root

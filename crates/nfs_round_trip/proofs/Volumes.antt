@@ -1,5 +1,6 @@
 -- The files of a volume, in the order of its walk.
-use Rattle.std.proofs.Common.{inl, inr, ◌≡◌, ℕ, suc, ◌+◌, ◌<◌, ◌≤◌, true, false, List, [], ◌∷◌, ◌++◌, length, map, nat_eq, Option, Some, None, refl, sym, ap, subst, ◌∙◌, append_assoc, append-nil, arith}
+use Rattle.std.proofs.Common.{inl, inr, ◌≡◌, ℕ, suc, ◌+◌, ◌<◌, ◌≤◌, true, false, List, [], ◌∷◌, ◌++◌, length, map, nat_eq, Option, Some, None, refl, sym, ap}
+use Rattle.std.proofs.Common.{subst, ◌∙◌, append_assoc, append-nil, arith}
 use Rattle.std.specs.Prelude.{Contains, slice_get}
 use Rattle.std.proofs.lemmas.List.{length-append, map-append}
 use Rattle.std.proofs.lemmas.List.Elements.{Contains-append_cases, Contains-append_left}
@@ -56,7 +57,8 @@ pub record IsStood (t : Tree) (all : List Step) (ns : List ℕ) (index : ℕ) (w
   pub volume : file.volume ≡ index
 
 -- what was made of it at some places, with the next number
-pub record IsGoing (t : Tree) (number : ℕ → ℕ) (vs : List Volume) (table : List (List Export)) (index : ℕ) (w : Volume) (all : List Step) (before : List Place) (k : ℕ) (loaded : Loaded) : Type 0 where
+pub record IsGoing (t : Tree) (number : ℕ → ℕ) (vs : List Volume) (table : List (List Export)) (index : ℕ) (w : Volume) (all : List Step) (before : List Place)
+    (k : ℕ) (loaded : Loaded) : Type 0 where
   pub ns : List ℕ
   pub part : IsPart t number all ns vs loaded.tree
   pub count : suc (length ns) ≡ k
@@ -65,7 +67,8 @@ pub record IsGoing (t : Tree) (number : ℕ → ℕ) (vs : List Volume) (table :
   pub below : (m : ℕ) → Has m ns → (f : File) × Lives t m f × (f.volume < suc index)
   pub have : (m : ℕ) (f : File) → Lives t m f → f.volume < index → Has m ns
 
-module _ (Last : Option Loaded → Type 0) (t : Tree) (law : Law t) (words : (n : ℕ) (f : File) → Lives t n f → CanBeSaid f) (number : ℕ → ℕ) (earlier : List Step) (vs : List Volume)
+module _ (Last : Option Loaded → Type 0) (t : Tree) (law : Law t) (words : (n : ℕ) (f : File) → Lives t n f → CanBeSaid f) (number : ℕ → ℕ)
+    (earlier : List Step) (vs : List Volume)
     (table : List (List Export)) (index : ℕ) (w : Volume) (walk : List Place) (to_make : IsToMake t number earlier vs index w walk) (last : ℕ) where
   abbrev Going : List Step → List Place → ℕ → Loaded → Type 0
   Going all before k loaded = IsGoing t number vs table index w all before k loaded
@@ -78,11 +81,14 @@ module _ (Last : Option Loaded → Type 0) (t : Tree) (law : Law t) (words : (n 
   walk_is : walk ≡ root_place t w.root ∷ map place_of (steps t walk)
   walk_is = to_make.walked ∙ ap (λ l. root_place t w.root ∷ l) (sym (places_of_steps t walk))
 
-  walk_cut : (done todo : List Step) (s : Step) → steps t walk ≡ done ++ s ∷ todo → walk ≡ (root_place t w.root ∷ map place_of done) ++ place_of s ∷ map place_of todo
-  walk_cut done todo s are = walk_is ∙ ap (λ l. root_place t w.root ∷ map place_of l) are ∙ ap (λ l. root_place t w.root ∷ l) (map-append place_of done (s ∷ todo))
+  walk_cut : (done todo : List Step) (s : Step) → steps t walk ≡ done ++ s ∷ todo
+      → walk ≡ (root_place t w.root ∷ map place_of done) ++ place_of s ∷ map place_of todo
+  walk_cut done todo s are = walk_is ∙ ap (λ l. root_place t w.root ∷ map place_of l) are
+      ∙ ap (λ l. root_place t w.root ∷ l) (map-append place_of done (s ∷ todo))
 
   module _ (todo done : List Step) (s : Step) (before : List Place) (all : List Step) (k : ℕ) (old : Loaded)
-      (before_is : before ≡ root_place t w.root ∷ map place_of done) (are : steps t walk ≡ done ++ s ∷ todo) (all_is : all ≡ earlier ++ done) (going : Going all before k old) where
+      (before_is : before ≡ root_place t w.root ∷ map place_of done) (are : steps t walk ≡ done ++ s ∷ todo) (all_is : all ≡ earlier ++ done)
+      (going : Going all before k old) where
     parent : IsStood t all going.ns index w s.0
     parent = going.stood s.0 (subst (λ l. Contains l s.0) (sym before_is) (parent_stands t w.root walk done s todo to_make.walked are))
 
@@ -100,7 +106,8 @@ module _ (Last : Option Loaded → Type 0) (t : Tree) (law : Law t) (words : (n 
     here =
         let once = stands_here t law index w to_make.at_w walk to_make.walked s.0.number parent.file at_dir parent.volume in
         let none : shown earlier s.0.number ≡ [] = to_make.others s.0.number parent.file at_dir parent.volume in
-        let so_far : shown all s.0.number ≡ shown done s.0.number = ap (λ l. shown l s.0.number) all_is ∙ shown_append earlier done s.0.number ∙ ap (λ l. l ++ shown done s.0.number) none in
+        let so_far : shown all s.0.number ≡ shown done s.0.number = ap (λ l. shown l s.0.number) all_is ∙ shown_append earlier done s.0.number
+        ∙ ap (λ l. l ++ shown done s.0.number) none in
         sym (shown_once t walk s.0.number once) ∙ ap (λ l. shown l s.0.number) are ∙ shown_append done (s ∷ todo) s.0.number
         ∙ ap (λ l. shown done s.0.number ++ l) (listed_yes s (shown todo s.0.number) s.0.number refl) ∙ ap (λ l. l ++ s.1 ∷ shown todo s.0.number) (sym so_far)
 
@@ -109,7 +116,8 @@ module _ (Last : Option Loaded → Type 0) (t : Tree) (law : Law t) (words : (n 
       at_w = ap (slice_get t.volumes) parent.volume ∙ to_make.at_w;
       at_vs = ap (slice_get vs) parent.volume ∙ to_make.at_vs;
       last = to_make.last ∙ ap suc (sym parent.volume);
-      has_root = (going.stood (root_place t w.root) (subst (λ l. Contains l (root_place t w.root)) (sym before_is) (in_head (root_place t w.root) (map place_of done)))).has;
+      has_root = (going.stood (root_place t w.root) (subst (λ l. Contains l (root_place t w.root)) (sym before_is)
+          (in_head (root_place t w.root) (map place_of done)))).has;
       at_dir = at_dir;
       has = parent.has;
       rest = shown todo s.0.number;
@@ -123,7 +131,8 @@ module _ (Last : Option Loaded → Type 0) (t : Tree) (law : Law t) (words : (n 
           let n : length all ≡ length earlier + length done = ap length all_is ∙ length-append earlier done in omega (arith, room, l, m, n);
       named = parent.named;
       said = one_passes (λ (p : Place). is_sayable p.path) walk (place_of s) to_make.sayable
-          (subst (λ l. Contains l (place_of s)) (sym (walk_cut done todo s are)) (contains_middle (place_of s) (root_place t w.root ∷ map place_of done) (map place_of todo)));
+          (subst (λ l. Contains l (place_of s)) (sym (walk_cut done todo s are))
+          (contains_middle (place_of s) (root_place t w.root ∷ map place_of done) (map place_of todo)));
     }
 
     -- the new place, where its file is made
@@ -147,7 +156,8 @@ module _ (Last : Option Loaded → Type 0) (t : Tree) (law : Law t) (words : (n 
       volume = stood.volume;
     }
 
-    all_stood : (ns : List ℕ) → ((n : ℕ) → Has n going.ns → Has n ns) → Has s.1.number ns → (p : Place) → Contains (before ++ place_of s ∷ []) p → IsStood t (all ++ s ∷ []) ns index w p
+    all_stood : (ns : List ℕ) → ((n : ℕ) → Has n going.ns → Has n ns) → Has s.1.number ns → (p : Place) → Contains (before ++ place_of s ∷ []) p
+        → IsStood t (all ++ s ∷ []) ns index w p
     all_stood ns more has p c = elim (Contains-append_cases before (place_of s ∷ []) p c) [
       | inl was ↦ old_place ns more p (going.stood p was)
       | inr is ↦ elim (head_or_tail (place_of s) p [] is) [
@@ -166,7 +176,8 @@ module _ (Last : Option Loaded → Type 0) (t : Tree) (law : Law t) (words : (n 
         ∙ sum_by-append (λ (p : Place). one_when (nat_eq p.number s.1.number)) before (place_of s ∷ map place_of todo) in
         let more = sum_by-cons (λ (p : Place). one_when (nat_eq p.number s.1.number)) (place_of s) (map place_of todo) in
         let itself_one : one_when (nat_eq s.1.number s.1.number) ≡ 1 = ap one_when (itself s.1.number) in
-        let there = one_of_sum (λ (p : Place). one_when (nat_eq p.number s.1.number)) before first (find_contains (λ (p : Place). nat_eq p.number s.1.number) before first found) in
+        let there = one_of_sum (λ (p : Place). one_when (nat_eq p.number s.1.number)) before first
+        (find_contains (λ (p : Place). nat_eq p.number s.1.number) before first found) in
         let one : one_when (nat_eq first.number s.1.number) ≡ 1 = ap one_when (passes (λ (p : Place). nat_eq p.number s.1.number) before first found) in
         omega (arith, once, cut, more, itself_one, there, one)))
         (λ n. n)
@@ -176,9 +187,11 @@ module _ (Last : Option Loaded → Type 0) (t : Tree) (law : Law t) (words : (n 
 
     -- the next place's line
     step_goes : (o : Option Place) → first_name s.1.number before ≡ o
-        → OnFirst o ((number s.1.number ≡ k) × Numbered number last (before ++ place_of s ∷ []) (map place_of todo) (suc k)) (Numbered number last (before ++ place_of s ∷ []) (map place_of todo) k)
+        → OnFirst o ((number s.1.number ≡ k) × Numbered number last (before ++ place_of s ∷ []) (map place_of todo) (suc k))
+        (Numbered number last (before ++ place_of s ∷ []) (map place_of todo) k)
         → (All : Option Loaded → Type 0)
-        → ((m : ℕ) (loaded : Loaded) → Numbered number last (before ++ place_of s ∷ []) (map place_of todo) m → Going (all ++ s ∷ []) (before ++ place_of s ∷ []) m loaded → All (Some loaded))
+        → ((m : ℕ) (loaded : Loaded) → Numbered number last (before ++ place_of s ∷ []) (map place_of todo) m
+        → Going (all ++ s ∷ []) (before ++ place_of s ∷ []) m loaded → All (Some loaded))
         → Goes Last (Some old) (on_some o (own_text t (place_of s)) (λ first. hard_line (place_of s).path first.path)) All
     step_goes None found numbers All goes =
         subst (λ l. Goes Last (Some old) l All) (sym own_is)
@@ -217,7 +230,8 @@ module _ (Last : Option Loaded → Type 0) (t : Tree) (law : Law t) (words : (n 
 
   -- all places, one after another
   pub files_go : (todo done : List Step) (before : List Place) (all : List Step) (k : ℕ) (old : Loaded)
-      → before ≡ root_place t w.root ∷ map place_of done → steps t walk ≡ done ++ todo → all ≡ earlier ++ done → Numbered number last before (map place_of todo) k
+      → before ≡ root_place t w.root ∷ map place_of done → steps t walk ≡ done ++ todo → all ≡ earlier ++ done
+      → Numbered number last before (map place_of todo) k
       → Going all before k old → (All : Option Loaded → Type 0) → ((loaded : Loaded) → Going (earlier ++ steps t walk) walk last loaded → All (Some loaded))
       → Goes Last (Some old) (files_text t before (map place_of todo)) All
   files_go [] done before all k old before_is are all_is numbers going All goes =

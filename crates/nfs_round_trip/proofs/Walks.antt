@@ -1,8 +1,9 @@
 -- What stands in a walk: each directory of the volume once, behind its parent.
-use Rattle.std.proofs.Common.{inl, inr, ◌≡◌, ◌⊎◌, ℕ, suc, zero, ◌+◌, ◌≤◌, Bool, true, cond, List, [], ◌∷◌, ◌++◌, length, map, sum_by, nat_eq, Some, refl, sym, ap, subst, ◌∙◌, append_assoc, arith}
+use Rattle.std.proofs.Common.{inl, inr, ◌≡◌, ◌⊎◌, ℕ, suc, zero, ◌+◌, ◌≤◌, Bool, true, cond, List, [], ◌∷◌, ◌++◌, length, map, sum_by, nat_eq, Some, refl, sym}
+use Rattle.std.proofs.Common.{ap, subst, ◌∙◌, append_assoc, append-nil, arith}
 use Rattle.std.specs.List.{find, flat_map}
 use Rattle.std.specs.Prelude.{Contains}
-use Rattle.std.proofs.lemmas.List.{map-append, length-append}
+use Rattle.std.proofs.lemmas.List.{append_cancel_left, map-append, length-append}
 use Rattle.std.proofs.lemmas.List.Concat.{flat_map-append}
 use Rattle.std.proofs.lemmas.List.Sums.{sum_by-cons, sum_by-append}
 use Rattle.nfs_inodes.specs.Reading.{entries_at}
@@ -73,7 +74,8 @@ pub record IsFrom (t : Tree) (places : List Place) (done : List Step) (s : Step)
   pub two : List Entry
   pub entries : entries_at t s.0.number ≡ one ++ s.1 ∷ two
 
-pub step_is_from : (t : Tree) (places : List Place) (done : List Step) (s : Step) (todo : List Step) → steps t places ≡ done ++ s ∷ todo → IsFrom t places done s
+pub step_is_from : (t : Tree) (places : List Place) (done : List Step) (s : Step) (todo : List Step) → steps t places ≡ done ++ s ∷ todo
+    → IsFrom t places done s
 step_is_from t [] [] s todo e = cc
 step_is_from t [] (d ∷ done) s todo e = cc
 step_is_from t (p ∷ places) done s todo e = elim (cut_two (steps_from t p) (steps t places) done s todo e) [
@@ -207,3 +209,49 @@ passes test [] x e = absurd (not_both refl e)
 passes {X} test (y ∷ xs) x e = by_test (test y)
     (λ t. subst (λ (z : X). test z ≡ true) (same_some (sym (ap (λ b. cond b (Some y) (find test xs)) t) ∙ e)) t)
     (λ f. passes test xs x (sym (ap (λ b. cond b (Some y) (find test xs)) f) ∙ e))
+
+-- ---- a volume has one walk
+
+none_below_itself : (t : Tree) (places : List Place) → places ≡ flat_map (places_below t) places → places ≡ []
+none_below_itself t [] e = refl
+none_below_itself t (p ∷ places) e = absurd (let long = (longer_all t [] (p ∷ places) (sym e) (suc (length p.path))).0 in omega (arith, long))
+
+module _ (t : Tree) (root : ℕ) where
+  -- what stands ahead leads on to the next place
+  next_known : (ahead : List Place) (p : Place) (behind : List Place) → IsWalk t root (ahead ++ p ∷ behind)
+      → (z : List Place) × (root_place t root ∷ flat_map (places_below t) ahead ≡ ahead ++ p ∷ z)
+  next_known ahead p behind walked =
+      let known : List Place = root_place t root ∷ flat_map (places_below t) ahead in
+      let below : List Place = flat_map (places_below t) (p ∷ behind) in
+      let all : known ++ below ≡ ahead ++ p ∷ behind = ap (λ l. root_place t root ∷ l) (sym (flat_map-append (places_below t) ahead (p ∷ behind)))
+      ∙ sym walked in
+      elim (cut_two known below ahead p behind all) [
+        | inl (z, f, g) ↦ (z, f)
+        | inr (z, f, g) ↦ absurd (let long = (longer_all t z (p ∷ behind) g (suc (length p.path))).0 in omega (arith, long))
+      ]
+
+  -- where all stands ahead nothing is behind
+  none_behind : (ahead behind : List Place) → IsWalk t root ahead → IsWalk t root (ahead ++ behind) → behind ≡ []
+  none_behind ahead behind whole walked = none_below_itself t behind
+      (append_cancel_left ahead behind (flat_map (places_below t) behind)
+      (walked ∙ ap (λ l. root_place t root ∷ l) (flat_map-append (places_below t) ahead behind) ∙ ap (λ l. l ++ flat_map (places_below t) behind) (sym whole)))
+
+  one_from : (ahead one two : List Place) → IsWalk t root (ahead ++ one) → IsWalk t root (ahead ++ two) → ahead ++ one ≡ ahead ++ two
+  one_from ahead [] two first second =
+      let whole : IsWalk t root ahead = subst (IsWalk t root) (append-nil ahead) first in
+      ap (λ l. ahead ++ l) (sym (none_behind ahead two whole second))
+  one_from ahead (p ∷ one) [] first second =
+      let whole : IsWalk t root ahead = subst (IsWalk t root) (append-nil ahead) second in
+      ap (λ l. ahead ++ l) (none_behind ahead (p ∷ one) whole first)
+  one_from ahead (p ∷ one) (q ∷ two) first second =
+      let known = next_known ahead p one first in
+      let other = next_known ahead q two second in
+      let heads : p ∷ known.0 ≡ q ∷ other.0 = append_cancel_left ahead (p ∷ known.0) (q ∷ other.0) (sym known.1 ∙ other.1) in
+      let same : p ≡ q = cc in
+      let next : (ahead ++ p ∷ []) ++ two ≡ ahead ++ q ∷ two = append_assoc ahead (p ∷ []) two ∙ ap (λ (r : Place). ahead ++ r ∷ two) same in
+      sym (append_assoc ahead (p ∷ []) one)
+      ∙ one_from (ahead ++ p ∷ []) one two (subst (IsWalk t root) (sym (append_assoc ahead (p ∷ []) one)) first) (subst (IsWalk t root) (sym next) second)
+      ∙ next
+
+  pub one_walk : (one two : List Place) → IsWalk t root one → IsWalk t root two → one ≡ two
+  one_walk one two first second = one_from [] one two first second

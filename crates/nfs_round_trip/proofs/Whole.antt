@@ -1,5 +1,6 @@
 -- All volumes, one after another.
-use Rattle.std.proofs.Common.{inl, inr, ◌≡◌, ◌≢◌, ℕ, suc, zero, ◌+◌, ◌-◌, ◌<◌, ◌≤◌, true, List, [], ◌∷◌, ◌++◌, length, map, nat_eq, get_or, take, Option, Some, None, option_map, Ok, refl, sym, ap, subst, ◌∙◌, append-nil, arith}
+use Rattle.std.proofs.Common.{inl, inr, ◌≡◌, ◌≢◌, ℕ, suc, zero, ◌+◌, ◌-◌, ◌<◌, ◌≤◌, true, List, [], ◌∷◌, ◌++◌, length, map, nat_eq, get_or, take, Option, Some}
+use Rattle.std.proofs.Common.{None, option_map, Ok, refl, sym, ap, subst, ◌∙◌, append-nil, arith}
 use Rattle.std.specs.List.{flat_map}
 use Rattle.std.specs.Prelude.{All, AllPairs, Contains, slice_get}
 use Rattle.std.proofs.lemmas.List.{length-append, map-append}
@@ -104,18 +105,22 @@ file_long path name t n f k = long (path ++ 47 ∷ name) (some path name) k
     long (x ∷ path) o (Link target) = omega arith
 
 module _ (t : Tree) where
-  place_long : (s : Step) (g : File) → Lives t s.1.number g → (o : Option Place) → 1 ≤ length (on_some o (own_text t (place_of s)) (λ first. hard_line (place_of s).path first.path))
+  place_long : (s : Step) (g : File) → Lives t s.1.number g → (o : Option Place)
+      → 1 ≤ length (on_some o (own_text t (place_of s)) (λ first. hard_line (place_of s).path first.path))
   place_long s g lives (Some first) = omega arith
-  place_long s g lives None = subst (λ o. 1 ≤ length (on_some o [] (λ (f : File). own_line (place_of s).path (attributes_of s.1.number f (nlink t.files s.1.number f)) f.kind))) (sym lives)
+  place_long s g lives None = subst (λ o. 1 ≤ length
+      (on_some o [] (λ (f : File). own_line (place_of s).path (attributes_of s.1.number f (nlink t.files s.1.number f)) f.kind))) (sym lives)
       (file_long s.0.path s.1.name t s.1.number g g.kind)
 
-  pub files_long : (before : List Place) (todo : List Step) → ((s : Step) → Contains todo s → (g : File) × Lives t s.1.number g) → length todo ≤ length (files_text t before (map place_of todo))
+  pub files_long : (before : List Place) (todo : List Step) → ((s : Step) → Contains todo s → (g : File) × Lives t s.1.number g)
+      → length todo ≤ length (files_text t before (map place_of todo))
   files_long before [] each = omega arith
   files_long before (s ∷ todo) each =
       let g = each s (in_head s todo) in
       let here = place_long s g.0 g.1 (first_name s.1.number before) in
       let rest = files_long (before ++ place_of s ∷ []) todo (λ r c. each r (in_tail s r todo c)) in
-      let all = length-append (place_text t before (place_of s)) (files_text t (before ++ place_of s ∷ []) (map place_of todo)) in omega (arith, here, rest, all)
+      let all = length-append (place_text t before (place_of s)) (files_text t (before ++ place_of s ∷ []) (map place_of todo)) in
+      omega (arith, here, rest, all)
 
 -- ---- one volume more
 
@@ -142,7 +147,8 @@ root_is_none t root None = refl
 root_is_none t root (Some f) = refl
 
 module _ (Last : Option Loaded → Type 0) (t : Tree) (table : List (List Export)) (d : IsDescribable t table) (number : ℕ → ℕ)
-    (n : ℕ) (all : List Step) (w : Volume) (walk : List Place) (k last : ℕ) (at_w : slice_get t.volumes n ≡ Some w) (walked : IsWalk t w.root walk) (sayable : are_sayable walk ≡ true)
+    (n : ℕ) (all : List Step) (w : Volume) (walk : List Place) (k last : ℕ) (at_w : slice_get t.volumes n ≡ Some w) (walked : IsWalk t w.root walk)
+    (sayable : are_sayable walk ≡ true)
     (numbers : Numbered number last [] walk k) (room : length (all ++ steps t walk) ≤ 1073741824) where
   abbrev vs : List Volume
   vs = map (copied_volume number) (take n t.volumes)
@@ -187,7 +193,8 @@ module _ (Last : Option Loaded → Type 0) (t : Tree) (table : List (List Export
 
   -- what is known of it when its files are made
   through_next : (loaded : Loaded) → IsGoing t number (vs ++ copied_volume number w ∷ []) (take (suc n) table) n w (all ++ steps t walk) walk last loaded
-      → ((m : ℕ) (f : File) → LivesAsDirectory t m f → f.volume < n → shown all m ≡ entries_at t m) → ((m : ℕ) (f : File) → LivesAsDirectory t m f → n ≤ f.volume → shown all m ≡ [])
+      → ((m : ℕ) (f : File) → LivesAsDirectory t m f → f.volume < n → shown all m ≡ entries_at t m)
+      → ((m : ℕ) (f : File) → LivesAsDirectory t m f → n ≤ f.volume → shown all m ≡ [])
       → IsThrough t number table (suc n) (all ++ steps t walk) last loaded
   through_next loaded going full others = record {
     ns = going.ns;
@@ -199,12 +206,15 @@ module _ (Last : Option Loaded → Type 0) (t : Tree) (table : List (List Export
         (λ here.
         let place = some_of_sum (λ (p : Place). one_when (nat_eq p.number m)) walk (all_stand t d.law n w at_w walk walked m f lives here) in
         let is : place.0.number ≡ m = by_number place.0.number m (λ s. s)
-        (λ o. absurd (let none : one_when (nat_eq place.0.number m) ≡ 0 = ap one_when (apart_number place.0.number m o) in let some = place.2 in omega (arith, none, some))) in
+        (λ o. absurd (let none : one_when (nat_eq place.0.number m) ≡ 0 = ap one_when (apart_number place.0.number m o) in let some = place.2 in
+        omega (arith, none, some))) in
         subst (λ i. Has i going.ns) is (going.stood place.0 place.1).has)
         (λ other. going.have m f lives (omega (arith, less, other)));
     full = λ m f lives less. shown_append all (steps t walk) m ∙ by_number f.volume n
-        (λ here. ap (λ l. l ++ shown (steps t walk) m) (others m f lives (omega (arith, here))) ∙ shown_once t walk m (stands_here t d.law n w at_w walk walked m f lives here))
-        (λ other. ap (λ l. shown all m ++ l) (shown_none t walk m (stands_elsewhere t d.law n w at_w walk walked m f lives other)) ∙ append-nil (shown all m) ∙ full m f lives (omega (arith, less, other)));
+        (λ here. ap (λ l. l ++ shown (steps t walk) m) (others m f lives (omega (arith, here)))
+        ∙ shown_once t walk m (stands_here t d.law n w at_w walk walked m f lives here))
+        (λ other. ap (λ l. shown all m ++ l) (shown_none t walk m (stands_elsewhere t d.law n w at_w walk walked m f lives other)) ∙ append-nil (shown all m)
+        ∙ full m f lives (omega (arith, less, other)));
     others = λ m f lives more. shown_append all (steps t walk) m ∙ ap (λ l. l ++ shown (steps t walk) m) (others m f lives (omega (arith, more)))
         ∙ shown_none t walk m (stands_elsewhere t d.law n w at_w walk walked m f lives (λ e. omega (arith, e, more)));
   }
@@ -215,7 +225,8 @@ module _ (Last : Option Loaded → Type 0) (t : Tree) (table : List (List Export
     ns = through.ns ++ w.root ∷ []
 
     abbrev Rooted : List (List Export) → Option Loaded → Type 0
-    Rooted exports new = (loaded : Loaded) × (new ≡ Some loaded) × IsPart t number all ns (vs ++ copied_volume number w ∷ []) loaded.tree × (loaded.table ≡ exports)
+    Rooted exports new = (loaded : Loaded) × (new ≡ Some loaded) × IsPart t number all ns (vs ++ copied_volume number w ∷ []) loaded.tree
+        × (loaded.table ≡ exports)
 
     room_so_far : length all + length vs ≤ 1099511627776
     room_so_far = let l = length-append all (steps t walk) in let m = vs_long in let i = inside in let f = few_volumes in omega (arith, room, l, m, i, f)
@@ -239,12 +250,14 @@ module _ (Last : Option Loaded → Type 0) (t : Tree) (table : List (List Export
         (Rooted (take n table ++ [] ∷ []))
         (λ loaded part table_is. (loaded, refl, part, table_is ∙ ap (λ l. l ++ [] ∷ []) through.table_is))
 
-    second_goes : (new : Option Loaded) → Rooted (take n table ++ [] ∷ []) new → Goes Last new (flat_map export_line (exports_of table n)) (Rooted (take (suc n) table))
+    second_goes : (new : Option Loaded) → Rooted (take n table ++ [] ∷ []) new
+        → Goes Last new (flat_map export_line (exports_of table n)) (Rooted (take (suc n) table))
     second_goes new it = subst (λ o. Goes Last o (flat_map export_line (exports_of table n)) (Rooted (take (suc n) table))) (sym it.1)
         (exports_go Last it.0.tree (number w.root) (take n table)
         (last_root_is it.0.tree vs (copied_volume number w) it.2.volumes)
         (ap length it.2.volumes ∙ length-append vs (copied_volume number w ∷ []) ∙ (let l = vs_long in let m = front_long in omega (arith, l, m)))
-        (exports_of table n) [] it.0 refl it.3 (let f = few_to table n in let c = d.few in omega (arith, f, c)) (λ e c. d.exports n e c) (Rooted (take (suc n) table))
+        (exports_of table n) [] it.0 refl it.3 (let f = few_to table n in let c = d.few in omega (arith, f, c)) (λ e c. d.exports n e c)
+        (Rooted (take (suc n) table))
         (λ loaded same table_is. (loaded, refl, subst (IsPart t number all ns (vs ++ copied_volume number w ∷ [])) (sym same) it.2, table_is ∙ sym table_next)))
 
     third_goes : (new : Option Loaded) → Rooted (take (suc n) table) new → Goes Last new (files_text t [] walk) All
@@ -257,7 +270,8 @@ module _ (Last : Option Loaded → Type 0) (t : Tree) (table : List (List Export
           others = λ m f lives e. through.others m f lives (omega (arith, e));
           at_vs = get_last vs n (copied_volume number w) vs_long;
           last = length-append vs (copied_volume number w ∷ []) ∙ (let l = vs_long in omega (arith, l));
-          room = let l = vs_long in let m = length-append vs (copied_volume number w ∷ []) in let i = inside in let f = few_volumes in omega (arith, room, l, m, i, f);
+          room = let l = vs_long in let m = length-append vs (copied_volume number w ∷ []) in let i = inside in let f = few_volumes in
+              omega (arith, room, l, m, i, f);
         })
         last (steps t walk) [] (root_place t w.root ∷ []) all (suc k) it.0 refl refl (sym (append-nil all)) root_numbers.1
         (record {
@@ -266,7 +280,13 @@ module _ (Last : Option Loaded → Type 0) (t : Tree) (table : List (List Export
           count = ap suc (length-append through.ns (w.root ∷ []) ∙ (let c = through.count in omega (arith, c)));
           table_is = it.3;
           stood = λ p c. elim (head_or_tail (root_place t w.root) p [] c) [
-            | inl e ↦ subst (IsStood t all ns n w) e (record { has = has_last w.root through.ns; named = named_root t all w.root; file = root.0; lives = root.1.0; volume = root.3 })
+            | inl e ↦ subst (IsStood t all ns n w) e (record {
+              has = has_last w.root through.ns;
+              named = named_root t all w.root;
+              file = root.0;
+              lives = root.1.0;
+              volume = root.3;
+            })
             | inr none ↦ absurd (not_in_empty [] p refl none)
           ];
           below = λ m has. elim (push_has m w.root through.ns has) [
@@ -279,6 +299,8 @@ module _ (Last : Option Loaded → Type 0) (t : Tree) (table : List (List Export
 
     -- the text of a volume
     pub volume_goes : Goes Last (Some old) (volume_text t table n w walk) All
-    volume_goes = goes_both Last (Some old) (root_text w (attributes_at t w.root) ++ flat_map export_line (exports_of table n)) (files_text t [] walk) (Rooted (take (suc n) table)) All
-        (goes_both Last (Some old) (root_text w (attributes_at t w.root)) (flat_map export_line (exports_of table n)) (Rooted (take n table ++ [] ∷ [])) (Rooted (take (suc n) table)) first_goes second_goes)
+    volume_goes = goes_both Last (Some old) (root_text w (attributes_at t w.root) ++ flat_map export_line (exports_of table n)) (files_text t [] walk)
+        (Rooted (take (suc n) table)) All
+        (goes_both Last (Some old) (root_text w (attributes_at t w.root)) (flat_map export_line (exports_of table n)) (Rooted (take n table ++ [] ∷ []))
+        (Rooted (take (suc n) table)) first_goes second_goes)
         third_goes

@@ -13,7 +13,8 @@ use Rattle.nfs_inodes.specs.Tree.{File, Kind, Entry, Volume, Regular, Directory,
 -- the files of some places behind others, each where it comes first
 abbrev pub first_seen : List Place → List Place → List ℕ
 first_seen before [] = []
-first_seen before (p ∷ behind) = on_some (first_name p.number before) (p.number ∷ first_seen (before ++ p ∷ []) behind) (λ first. first_seen (before ++ p ∷ []) behind)
+first_seen before (p ∷ behind) = on_some (first_name p.number before) (p.number ∷ first_seen (before ++ p ∷ []) behind)
+    (λ first. first_seen (before ++ p ∷ []) behind)
 
 -- where a number stands among others, counted from k on
 abbrev pub counted_from : ℕ → List ℕ → ℕ → ℕ

@@ -1,5 +1,5 @@
 -- A description that is written of a tree loads, and is that tree again.
-use Rattle.std.specs.Prelude.{◌≡◌, ◌⊎◌, ℕ, ◌≤◌, true, List, length, map, All, Contains, Some, Result, Ok, Err, slice_get}
+use Rattle.std.specs.Prelude.{◌≡◌, ◌⊎◌, ℕ, ◌+◌, ◌≤◌, true, List, length, map, All, Contains, Some, Result, Ok, Err, slice_get}
 use Rattle.nfs_exports.specs.Tables.{exports_of, pattern_count}
 use Rattle.nfs_exports.specs.declared.table.Export.{Export}
 use Rattle.nfs_inodes.specs.Law.{Law, Lives}
@@ -16,19 +16,21 @@ use Rattle.nfs_round_trip.specs.Copies.{CanBeSaid, copied, copied_volume, new_nu
 
 -- One tree is another again, with new numbers for its files: each is there as it was, with as many links, none is there twice, and none is added.
 pub record IsCopy (t : Tree) (number : ℕ → ℕ) (u : Tree) : Type 0 where
-  pub each : (n : ℕ) (f : File) → Lives t n f → (tag : ℕ) × Lives u (number n) (copied number tag f) × (nlink u.files (number n) (copied number tag f) ≡ nlink t.files n f)
+  pub each : (n : ℕ) (f : File) → Lives t n f → (tag : ℕ) × Lives u (number n) (copied number tag f)
+      × (nlink u.files (number n) (copied number tag f) ≡ nlink t.files n f)
   pub once : (m n : ℕ) (f g : File) → Lives t m f → Lives t n g → number m ≡ number n → m ≡ n
   pub all : (k : ℕ) (h : File) → Lives u k h → (n : ℕ) × (f : File) × Lives t n f × (number n ≡ k)
   pub volumes : u.volumes ≡ map (copied_volume number) t.volumes
   pub key : u.key ≡ t.key
+  pub next : u.next ≡ 1 + length u.files
 
 -- the walks of all volumes
 pub record AreWalks (t : Tree) (walks : List (List Place)) : Type 0 where
   pub each : length walks ≡ length t.volumes
   pub walked : (index : ℕ) (v : Volume) (walk : List Place) → slice_get t.volumes index ≡ Some v → slice_get walks index ≡ Some walk → IsWalk t v.root walk
 
--- and the numbers are those of the order in which the walks of all volumes come to the files
-pub record IsAgain (t u : Tree) : Type 0 where
+-- A tree is another again, with the numbers of the order in which the walks of all volumes come to its files.
+pub record IsRestored (t u : Tree) : Type 0 where
   pub walks : List (List Place)
   pub are_walks : AreWalks t walks
   pub copy : IsCopy t (new_number walks) u
@@ -40,7 +42,7 @@ pub record IsVolumeSaid (v : Volume) : Type 0 where
   pub bytes : v.max_bytes ≤ 1099511627776
   pub files : v.max_files ≤ 1000000
 
--- a tree with exports that a description can hold: those that were loaded, and what clients made of them
+-- A lawful tree and its exports, all within what lines can say: what was loaded, and what clients made of it.
 pub record IsDescribable (t : Tree) (table : List (List Export)) : Type 0 where
   pub law : Law t
   pub some : 1 ≤ length t.volumes
@@ -50,12 +52,25 @@ pub record IsDescribable (t : Tree) (table : List (List Export)) : Type 0 where
   pub few : pattern_count table ≤ 256
   pub exports : (place : ℕ) (e : Export) → Contains (exports_of table place) e → IsExport e
 
--- What a text that describes a tree says, when it is loaded, is that tree with these exports, or memory is wanted.
+-- A text that describes a tree with its exports says, when it is loaded, that tree with these exports; or memory is wanted.
 abbrev pub DescriptionsLoadAgain : Type 0
 DescriptionsLoadAgain = (t : Tree) (table : List (List Export)) (text : List ℕ) → IsDescribable t table → Says t table text → length text ≤ 1073741824
     → (result : Result Loaded LoadError) → Describes text result
-    → (result ≡ Err Memory) ⊎ ((loaded : Loaded) × (result ≡ Ok loaded) × IsAgain t loaded.tree × (loaded.table ≡ table))
+    → (result ≡ Err Memory) ⊎ ((loaded : Loaded) × (result ≡ Ok loaded) × IsRestored t loaded.tree × (loaded.table ≡ table))
 
--- What a description loads can be described.
+-- What a description loads is such a tree.
 abbrev pub LoadedAreDescribable : Type 0
 LoadedAreDescribable = (text : List ℕ) (loaded : Loaded) → Describes text (Ok loaded) → IsDescribable loaded.tree loaded.table
+
+-- Of any tree there is at most one walk from a root.
+abbrev pub WalksAreOne : Type 0
+WalksAreOne = (t : Tree) (root : ℕ) (one two : List Place) → IsWalk t root one → IsWalk t root two → one ≡ two
+
+-- Of a tree with its exports there is at most one description.
+abbrev pub DescriptionsAreOne : Type 0
+DescriptionsAreOne = (t : Tree) (table : List (List Export)) (one two : List ℕ) → Says t table one → Says t table two → one ≡ two
+
+-- What is loaded from it has the same description.
+abbrev pub DescriptionsAreKept : Type 0
+DescriptionsAreKept = (t : Tree) (table : List (List Export)) (text : List ℕ) → IsDescribable t table → Says t table text → length text ≤ 1073741824
+    → (loaded : Loaded) → Describes text (Ok loaded) → Says loaded.tree loaded.table text

@@ -1,2 +1,3 @@
 pub mod Names
 pub mod Statuses
+pub mod Texts

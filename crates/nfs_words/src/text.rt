@@ -1,8 +1,10 @@
 //! Text that is put together, all of it before it is printed.
-ghost use Rattle.std.specs.Prelude.{◌≡◌, ◌<◌, ◌++◌, [], false, IfOk};
+ghost use Rattle.std.specs.Prelude.{◌≡◌, ◌<◌, [], false, decimal, IfOk};
+ghost use Rattle.nfs_words.specs.Texts.{Puts};
 
 use itoa::Buffer;
 use std::alloc::{AllocError, Global};
+use std::marker::Model;
 
 /// A text that grows at its end. Where there is no memory for a part of it, it is no text.
 #[derive(Drop)]
@@ -11,13 +13,21 @@ pub struct Text {
     is_short: bool,
 }
 
+impl Model for Text {
+    ghost use Rattle.nfs_words.specs.Texts.{Put};
+
+    ghost Value = { Put };
+
+    ghost view = { λ a. record { bytes = a.bytes.items; is_short = a.is_short } };
+}
+
 // How many bytes of data are shown.
 const MAX_SHOWN_BYTES: usize = 64;
 
 impl Text {
     /// The empty text.
     pub fn new(alloc: Global) -> Text
-        ensures bytes { result.bytes.items ≡ [] }
+        ensures bytes { result.bytes ≡ [] }
         ensures memory { result.is_short ≡ false }
     {
         Text {
@@ -28,7 +38,7 @@ impl Text {
 
     /// Puts bytes at the end.
     pub fn put(&mut self, bytes: &[u8])
-        ensures { self.new.is_short ≡ false → self.new.bytes.items ≡ self.old.bytes.items ++ bytes.now }
+        ensures { Puts bytes.now self.old self.new }
     {
         if self.bytes.extend_from_slice(bytes).is_err() {
             self.is_short = true;
@@ -36,7 +46,9 @@ impl Text {
     }
 
     /// Puts a number in decimal digits at the end.
-    pub fn put_number(&mut self, number: u64) {
+    pub fn put_number(&mut self, number: u64)
+        ensures { Puts (decimal number) self.old self.new }
+    {
         self.put(Buffer::new().format(number).as_bytes());
     }
 
@@ -84,7 +96,7 @@ impl Text {
 
     /// The whole text. Refused where there was no memory for a part of it.
     pub fn into_bytes(self) -> Result<Vec<u8>, AllocError>
-        ensures { IfOk result (λ bytes. (bytes ≡ self.bytes) × (self.is_short ≡ false)) }
+        ensures { IfOk result (λ bytes. (bytes.items ≡ self.bytes) × (self.is_short ≡ false)) }
     {
         let Text { bytes, is_short } = self;
         if is_short { Err(AllocError) } else { Ok(bytes) }

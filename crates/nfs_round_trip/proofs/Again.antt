@@ -1,0 +1,208 @@
+-- The text of a tree is that of its copy.
+use Rattle.std.proofs.Common.{inl, inr, ◌≡◌, ℕ, suc, zero, ◌+◌, Bool, true, false, cond, ◌&&◌, List, [], ◌∷◌, ◌++◌, length, map, nat_eq, Option, Some, None}
+use Rattle.std.proofs.Common.{option_map, refl, sym, ap, subst, ◌∙◌}
+use Rattle.std.specs.List.{flat_map}
+use Rattle.std.specs.Prelude.{Contains, Ok, Err, Result, slice_get}
+use Rattle.std.proofs.lemmas.List.{map-append}
+use Rattle.std.proofs.lemmas.List.Elements.{Contains-append_cases}
+use Rattle.nfs_attrs.specs.declared.fattr.Fattr.{Fattr}
+use Rattle.nfs_exports.specs.Tables.{exports_of}
+use Rattle.nfs_exports.specs.declared.table.Export.{Export}
+use Rattle.nfs_inodes.specs.Law.{Law, Lives}
+use Rattle.nfs_inodes.specs.Reading.{attributes_at, attributes_of}
+use Rattle.nfs_inodes.specs.Tree.{Tree, File, Kind, Regular, Directory, Link, Entry, Volume, entries_in, is_directory, nlink, on_some}
+use Rattle.nfs_inodes.proofs.Lists.{head_or_tail, in_head, in_tail, not_in_empty, same_some}
+use Rattle.nfs_load.specs.declared.load_error.LoadError.{LoadError}
+use Rattle.nfs_load.specs.declared.load_error.LoadError.TheVariants as error
+use Rattle.nfs_load.specs.declared.loaded.Loaded.{Loaded}
+use Rattle.nfs_load.specs.declared.statement.Given.{Given}
+use Rattle.nfs_describe.specs.Lines.{dir_line, export_line, file_line, hard_line, link_line, server_line, volume_line}
+use Rattle.nfs_describe.specs.Places.{IsWalk, Place, are_sayable, is_sayable, place_below, places_below}
+use Rattle.nfs_describe.specs.Texts.{Says, SaysTo, files_text, first_name, given_of, own_line, own_text, place_text, root_text, volume_text}
+use Rattle.nfs_round_trip.specs.Copies.{copied, copied_entries, copied_kind, copied_mode, copied_volume, new_number}
+use Rattle.nfs_round_trip.specs.RoundTrip as law
+use Rattle.nfs_round_trip.specs.RoundTrip.{IsCopy, IsDescribable}
+use Rattle.nfs_round_trip.proofs.Numbers.{inside_walk}
+use Rattle.nfs_round_trip.proofs.Rooms.{same_test}
+use Rattle.nfs_round_trip.proofs.RoundTrip.{load_again}
+use Rattle.nfs_round_trip.proofs.Runs.{same_ok}
+use Rattle.nfs_round_trip.proofs.Walks.{one_walk, root_place}
+use Rattle.nfs_round_trip.proofs.Whole.{length_map}
+
+-- ---- one description
+
+says_once : (t : Tree) (table : List (List Export)) (n : ℕ) (one two : List ℕ) → SaysTo t table n one → SaysTo t table n two → one ≡ two
+says_once t table zero one two first second = first ∙ sym second
+says_once t table (suc n) one two (before, part, says, is, e) (other, rest, other_says, other_is, f) =
+    let volume : is.volume ≡ other_is.volume = same_some (sym is.at_place ∙ other_is.at_place) in
+    let walk : is.walk ≡ other_is.walk = one_walk t other_is.volume.root is.walk other_is.walk
+    (subst (λ (v : Volume). IsWalk t v.root is.walk) volume is.walked) other_is.walked in
+    let parts : part ≡ rest = is.text_is ∙ ap (λ (v : Volume). volume_text t table n v is.walk) volume ∙ ap (volume_text t table n other_is.volume) walk
+    ∙ sym other_is.text_is in
+    e ∙ ap (λ l. l ++ part) (says_once t table n before other says other_says) ∙ ap (λ l. other ++ l) parts ∙ sym f
+
+pub one_description : law.DescriptionsAreOne
+one_description t table one two first second = says_once t table (length t.volumes) one two first second
+
+-- ---- places
+
+abbrev again : (ℕ → ℕ) → Place → Place
+again number p = record { path = p.path; number = number p.number }
+
+below_copied : (number : ℕ → ℕ) (cookie : ℕ) (path : List ℕ) (es : List Entry)
+    → map (place_below path) (copied_entries number cookie es) ≡ map (again number) (map (place_below path) es)
+below_copied number cookie path [] = refl
+below_copied number cookie path (e ∷ es) = ap (λ l. again number (place_below path e) ∷ l) (below_copied number (cookie + 1) path es)
+
+sayable_again : (number : ℕ → ℕ) (places : List Place) → are_sayable (map (again number) places) ≡ are_sayable places
+sayable_again number [] = refl
+sayable_again number (p ∷ places) = ap (λ b. is_sayable p.path && b) (sayable_again number places)
+
+-- ---- lines
+
+own_same : (number : ℕ → ℕ) (path : List ℕ) (a b : Fattr) (k : Kind) → given_of b ≡ record { mode = copied_mode k a.mode; uid = a.uid; gid = a.gid }
+    → own_line path b (copied_kind number k) ≡ own_line path a k
+own_same number [] a b k e = refl
+own_same number (x ∷ path) a b (Regular bytes) e = ap (λ (g : Given). file_line (x ∷ path) g bytes) e
+own_same number (x ∷ path) a b (Directory parent next_cookie entries) e = ap (λ (g : Given). dir_line (x ∷ path) g) e
+own_same number (x ∷ path) a b (Link target) e = ap (λ (g : Given). link_line (x ∷ path) g.uid g.gid target) e
+
+mode_of : (k : Kind) (mode : ℕ) → is_directory k ≡ true → copied_mode k mode ≡ mode
+mode_of (Regular bytes) mode y = refl
+mode_of (Directory parent next_cookie entries) mode y = refl
+mode_of (Link path) mode y = cc
+
+entries_of_copy : (number : ℕ → ℕ) (k : Kind) → entries_in (copied_kind number k) ≡ copied_entries number 3 (entries_in k)
+entries_of_copy number (Regular bytes) = refl
+entries_of_copy number (Directory parent next_cookie entries) = refl
+entries_of_copy number (Link path) = refl
+
+module _ (t : Tree) (law : Law t) (number : ℕ → ℕ) (u : Tree) (copy : IsCopy t number u) where
+  abbrev Live : Place → Type 0
+  Live p = (f : File) × Lives t p.number f
+
+  below_again : (p : Place) → Live p → places_below u (again number p) ≡ map (again number) (places_below t p)
+  below_again p live =
+      let made = copy.each p.number live.0 live.1 in
+      ap (λ o. map (place_below p.path) (on_some o [] (λ (f : File). entries_in f.kind))) made.1
+      ∙ ap (map (place_below p.path)) (entries_of_copy number live.0.kind)
+      ∙ below_copied number 3 p.path (entries_in live.0.kind)
+      ∙ ap (λ o. map (again number) (map (place_below p.path) (on_some o [] (λ (f : File). entries_in f.kind)))) (sym live.1)
+
+  all_below : (places : List Place) → ((p : Place) → Contains places p → Live p)
+      → flat_map (places_below u) (map (again number) places) ≡ map (again number) (flat_map (places_below t) places)
+  all_below [] live = refl
+  all_below (p ∷ places) live =
+      ap (λ l. l ++ flat_map (places_below u) (map (again number) places)) (below_again p (live p (in_head p places)))
+      ∙ ap (λ l. map (again number) (places_below t p) ++ l) (all_below places (λ q c. live q (in_tail p q places c)))
+      ∙ sym (map-append (again number) (places_below t p) (flat_map (places_below t) places))
+
+  walk_again : (root : ℕ) (walk : List Place) → IsWalk t root walk → ((p : Place) → Contains walk p → Live p) → IsWalk u (number root) (map (again number) walk)
+  walk_again root walk walked live = ap (map (again number)) walked ∙ ap (λ l. root_place u (number root) ∷ l) (sym (all_below walk live))
+
+  first_again : (n : ℕ) (f : File) → Lives t n f → (before : List Place) → ((p : Place) → Contains before p → Live p)
+      → first_name (number n) (map (again number) before) ≡ option_map (again number) (first_name n before)
+  first_again n f lives [] live = refl
+  first_again n f lives (p ∷ before) live =
+      let here = live p (in_head p before) in
+      ap (λ b. cond b (Some (again number p)) (first_name (number n) (map (again number) before)))
+      (same_test number p.number n (copy.once p.number n here.0 f here.1 lives))
+      ∙ ap (λ o. cond (nat_eq p.number n) (Some (again number p)) o) (first_again n f lives before (λ q c. live q (in_tail p q before c)))
+      ∙ both_ways (nat_eq p.number n) p (first_name n before)
+    where
+      both_ways : (b : Bool) (p : Place) (o : Option Place)
+          → cond b (Some (again number p)) (option_map (again number) o) ≡ option_map (again number) (cond b (Some p) o)
+      both_ways true p o = refl
+      both_ways false p o = refl
+
+  own_again : (p : Place) → Live p → own_text u (again number p) ≡ own_text t p
+  own_again p live =
+      let made = copy.each p.number live.0 live.1 in
+      let new : File = copied number made.0 live.0 in
+      ap (λ o. on_some o [] (λ (f : File). own_line p.path (attributes_of (number p.number) f (nlink u.files (number p.number) f)) f.kind)) made.1
+      ∙ own_same number p.path (attributes_of p.number live.0 (nlink t.files p.number live.0))
+      (attributes_of (number p.number) new (nlink u.files (number p.number) new)) live.0.kind refl
+      ∙ ap (λ o. on_some o [] (λ (f : File). own_line p.path (attributes_of p.number f (nlink t.files p.number f)) f.kind)) (sym live.1)
+
+  place_again : (before : List Place) (p : Place) → ((q : Place) → Contains before q → Live q) → Live p
+      → place_text u (map (again number) before) (again number p) ≡ place_text t before p
+  place_again before p live here =
+      ap (λ o. on_some o (own_text u (again number p)) (λ (first : Place). hard_line p.path first.path)) (first_again p.number here.0 here.1 before live)
+      ∙ by (first_name p.number before)
+    where
+      by : (o : Option Place) → on_some (option_map (again number) o) (own_text u (again number p)) (λ (first : Place). hard_line p.path first.path)
+          ≡ on_some o (own_text t p) (λ (first : Place). hard_line p.path first.path)
+      by None = own_again p here
+      by (Some first) = refl
+
+  files_again : (before places : List Place) → ((q : Place) → Contains before q → Live q) → ((q : Place) → Contains places q → Live q)
+      → files_text u (map (again number) before) (map (again number) places) ≡ files_text t before places
+  files_again before [] known live = refl
+  files_again before (p ∷ places) known live =
+      ap (λ l. l ++ files_text u (map (again number) before ++ again number p ∷ []) (map (again number) places))
+      (place_again before p known (live p (in_head p places)))
+      ∙ ap (λ l. place_text t before p ++ files_text u l (map (again number) places)) (sym (map-append (again number) before (p ∷ [])))
+      ∙ ap (λ l. place_text t before p ++ l) (files_again (before ++ p ∷ []) places
+      (λ q c. elim (Contains-append_cases before (p ∷ []) q c) [
+        | inl was ↦ known q was
+        | inr is ↦ elim (head_or_tail p q [] is) [
+          | inl e ↦ subst Live e (live p (in_head p places))
+          | inr none ↦ absurd (not_in_empty [] q refl none)
+        ]
+      ])
+      (λ q c. live q (in_tail p q places c)))
+
+  root_again : (index : ℕ) (v : Volume) → slice_get t.volumes index ≡ Some v
+      → root_text (copied_volume number v) (attributes_at u (number v.root)) ≡ root_text v (attributes_at t v.root)
+  root_again index v at_v =
+      let root = law.roots index v at_v in
+      let made = copy.each v.root root.0 root.1.0 in
+      let new : File = copied number made.0 root.0 in
+      ap (λ o. root_text (copied_volume number v) (option_map (λ (f : File). attributes_of (number v.root) f (nlink u.files (number v.root) f)) o)) made.1
+      ∙ ap (λ m. volume_line v.path v.max_bytes v.max_files (record { mode = m; uid = root.0.uid; gid = root.0.gid }))
+      (mode_of root.0.kind root.0.mode root.1.1)
+      ∙ ap (λ o. root_text v (option_map (λ (f : File). attributes_of v.root f (nlink t.files v.root f)) o)) (sym root.1.0)
+
+  get_map : (vs : List Volume) (index : ℕ) (v : Volume) → slice_get vs index ≡ Some v
+      → slice_get (map (copied_volume number) vs) index ≡ Some (copied_volume number v)
+  get_map [] index v e = cc
+  get_map (w ∷ vs) zero v e = ap (λ (x : Volume). Some (copied_volume number x)) (same_some e)
+  get_map (w ∷ vs) (suc index) v e = get_map vs index v e
+
+  says_to_again : (table : List (List Export)) (n : ℕ) (text : List ℕ) → SaysTo t table n text → SaysTo u table n text
+  says_to_again table zero text says = says ∙ ap server_line (sym copy.key)
+  says_to_again table (suc n) text (before, part, says, is, e) =
+      let live : (p : Place) → Contains is.walk p → Live p =
+      λ p c. (let inside = inside_walk t law n is.volume is.walk is.at_place is.walked p c in (inside.0, inside.1)) in (
+        before,
+        part,
+        says_to_again table n before says,
+        record {
+          volume = copied_volume number is.volume;
+          at_place = ap (λ l. slice_get l n) copy.volumes ∙ get_map t.volumes n is.volume is.at_place;
+          walk = map (again number) is.walk;
+          walked = walk_again is.volume.root is.walk is.walked live;
+          sayable = sayable_again number is.walk ∙ is.sayable;
+          text_is = is.text_is
+              ∙ ap (λ l. l ++ flat_map export_line (exports_of table n) ++ files_text t [] is.walk) (sym (root_again n is.volume is.at_place))
+              ∙ ap (λ l. root_text (copied_volume number is.volume) (attributes_at u (number is.volume.root)) ++ flat_map export_line (exports_of table n) ++ l)
+              (sym (files_again [] is.walk (λ q c. absurd (not_in_empty [] q refl c)) live));
+        },
+        e,
+      )
+
+  pub says_again : (table : List (List Export)) (text : List ℕ) → Says t table text → Says u table text
+  says_again table text says = subst (λ n. SaysTo u table n text) (sym (ap length copy.volumes ∙ length_map (copied_volume number) t.volumes))
+      (says_to_again table (length t.volumes) text says)
+
+no_memory : (r : Result Loaded LoadError) (loaded : Loaded) → r ≡ Ok loaded → r ≡ Err error.Memory → ⊥
+no_memory r loaded one two = cc
+
+pub kept : law.DescriptionsAreKept
+kept t table text d says short loaded describes = elim (load_again t table text d says short (Ok loaded) describes) [
+  | inl memory ↦ absurd (no_memory (Ok loaded) loaded refl memory)
+  | inr it ↦
+      let same : it.0 ≡ loaded = same_ok {E = LoadError} (Ok loaded) it.0 loaded it.1 refl in
+      subst (λ (l : Loaded). Says l.tree l.table text) same
+      (subst (λ exports. Says it.0.tree exports text) (sym it.3) (says_again t d.law (new_number it.2.walks) it.0.tree it.2.copy table text says))
+]
