@@ -1,5 +1,5 @@
 -- What an `ask` asks for, and the record of its call.
-use Rattle.std.specs.Prelude.{◌≡◌, ℕ, List, [], ◌∷◌, Option, Some, None, Ok, Err}
+use Rattle.std.specs.Prelude.{◌≡◌, ℕ, Bool, List, [], ◌∷◌, Option, Some, None, Ok, Err}
 use Rattle.nfs_xdr.specs.Reading.{◌>>=◌}
 use Rattle.nfs_rpc.specs.AuthSys.{credential_of}
 use Rattle.nfs_attrs.specs.declared.sattr.Sattr.{Sattr}
@@ -13,14 +13,16 @@ use Rattle.nfs_client.specs.declared.name_request.NameRequest.{NameRequest}
 use Rattle.nfs_client.specs.declared.name_request.NameRequest.TheVariants as of_name
 use Rattle.nfs_client.specs.declared.request.Request.{Request}
 use Rattle.nfs_client.specs.declared.request.Request.TheVariants as request
-use Rattle.nfs_client.specs.Records.{record_in}
+use Rattle.nfs_client.specs.Records.{record_in, has_long_part}
 use Rattle.nfs_client.specs.Requests.{nothing}
 use Rattle.nfs_ask.specs.declared.ask.Ask.{Ask}
+use Rattle.nfs_ask.specs.declared.fault.AskFault.{AskFault}
+use Rattle.nfs_ask.specs.declared.fault.AskFault.TheVariants as fault
 use Rattle.nfs_ask.specs.declared.fault.Wanted.TheVariants as wanted
 use Rattle.nfs_ask.specs.declared.operation.Operation.{Operation}
 use Rattle.nfs_ask.specs.declared.operation.Operation.TheVariants as op
 use Rattle.nfs_ask.specs.Operations.{operation_of}
-use Rattle.nfs_ask.specs.Words.{Taken, word_at, number_at, long_number_at, mode_at, or_else, user_of}
+use Rattle.nfs_ask.specs.Words.{Taken, word_at, number_at, long_number_at, mode_at, or_else, user_of, value_at, end_at}
 
 -- ---- what stands behind a path
 
@@ -123,7 +125,50 @@ AsksBy (user ∷ operation ∷ []) ask = ⊥
 AsksBy (user ∷ operation ∷ path ∷ words) ask =
     (user_of user ≡ Some (credential_of ask.cred)) × (path ≡ ask.path.now) × AsksAs (operation_of operation) words ask.request
 
+-- ---- what is wanted where the words ask for nothing
+
+-- whatever they say
+abbrev pub passed : {A : Type 0} → Taken A → Taken (Unit {0})
+passed taken = do
+  value ← taken
+  Ok (tt, value.1)
+
+-- the words behind a path, by the operation
+abbrev pub behind_path : Operation → List (List ℕ) → Taken (Unit {0})
+behind_path op.SetMode words = passed (mode_at words)
+behind_path op.SetOwner words = passed (number_at words)
+behind_path op.SetGroup words = passed (number_at words)
+behind_path op.Truncate words = passed (long_number_at words)
+behind_path op.SetTimes words = passed (moment_at words)
+behind_path op.Read words = passed (range_at words)
+behind_path op.Write words = passed (write_at words)
+behind_path op.List words = passed (cookie_at words)
+behind_path op.ListPlus words = passed (cookie_at words)
+behind_path op.Create words = passed (new_file_at words)
+behind_path op.MakeDir words = passed (new_file_at words)
+behind_path op.SymLink words = passed (word_at wanted.Target words)
+behind_path op.Rename words = passed (word_at wanted.Path words)
+behind_path op.Link words = passed (word_at wanted.Path words)
+behind_path other words = Ok (tt, words)
+
+-- all of them
+abbrev pub passed_by : List (List ℕ) → Taken (Unit {0})
+passed_by words = do
+  user ← value_at wanted.User user_of words
+  operation ← value_at wanted.Operation operation_of user.1
+  path ← word_at wanted.Path operation.1
+  behind ← behind_path operation.0 path.1
+  end_at behind.1
+
+-- a fault tells what is wanted
+abbrev pub IsWanted : Taken (Unit {0}) → AskFault → Type 0
+IsWanted taken (fault.Word place wanted) = taken ≡ Err wanted
+IsWanted taken fault.Memory = ⊥
+
 -- ---- the record
 
 abbrev pub record_of : Tree → Ask → ℕ → Option (List ℕ)
 record_of t ask xid = record_in t (record { xid = xid; cred = credential_of ask.cred }) ask.path.now ask.request
+
+abbrev pub has_long_word : Tree → Ask → Bool
+has_long_word t ask = has_long_part t ask.path.now ask.request

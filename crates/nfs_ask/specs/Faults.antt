@@ -1,5 +1,5 @@
 -- The faults of a call, by the words that they are at.
-use Rattle.std.specs.Prelude.{◌≡◌, ℕ, List, Option, None}
+use Rattle.std.specs.Prelude.{◌≡◌, ℕ, Bool, true, List, Option, None}
 use Rattle.nfs_client.specs.declared.fault.CallFault.{CallFault}
 use Rattle.nfs_client.specs.declared.fault.CallFault.TheVariants.{NoFile, TooLong, BadDigits, Memory}
 use Rattle.nfs_client.specs.declared.fault.Part.{Part}
@@ -20,8 +20,10 @@ fault_of (TooLong part) = fault.Word (place_of part) wanted.Shorter
 fault_of BadDigits = fault.Word 4 wanted.Bytes
 fault_of Memory = fault.Memory
 
--- a file is wanted, or other digits, only where there is no record
-abbrev pub OnlyWithout : Option (List ℕ) → AskFault → Type 0
-OnlyWithout bytes (fault.Word place wanted.File) = bytes ≡ None
-OnlyWithout bytes (fault.Word place wanted.Bytes) = bytes ≡ None
-OnlyWithout bytes other = Unit {0}
+-- a file is wanted, or other digits, only where there is no record, and a shorter word where one is too long
+abbrev pub OnlyWithout : Option (List ℕ) → Bool → AskFault → Type 0
+OnlyWithout bytes long (fault.Word place wanted.File) = bytes ≡ None
+OnlyWithout bytes long (fault.Word place wanted.Bytes) = bytes ≡ None
+OnlyWithout bytes long (fault.Word place wanted.Shorter) = long ≡ true
+OnlyWithout bytes long (fault.Word place other) = ⊥
+OnlyWithout bytes long fault.Memory = Unit {0}

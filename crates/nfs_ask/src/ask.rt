@@ -1,6 +1,6 @@
 //! A call that is asked for in words.
 ghost use Rattle.std.specs.Prelude.{◌≡◌, Some, IfOk, IfErr};
-ghost use Rattle.nfs_ask.specs.Asks.{AsksBy, record_of};
+ghost use Rattle.nfs_ask.specs.Asks.{AsksBy, IsWanted, passed_by, record_of, has_long_word};
 ghost use Rattle.nfs_ask.specs.Faults.{OnlyWithout};
 ghost use Rattle.nfs_ask.specs.Words.{Takes, value_at};
 ghost use Rattle.nfs_ask.specs.Words as spec;
@@ -35,7 +35,8 @@ impl<'a> Ask<'a> {
     /// What these words ask for, `UID:GID[,GID..] OPERATION PATH ..`. The first word that isn't what is
     /// wanted there is the fault.
     pub fn read(words: Words<'a>) -> Result<Ask<'a>, AskFault>
-        ensures { IfOk result (λ ask. AsksBy (words_left words.entry) ask) }
+        ensures asks { IfOk result (AsksBy (words_left words.entry)) }
+        ensures fault { IfErr result (IsWanted (passed_by (words_left words.entry))) }
     {
         let mut fields = Fields::new(words);
         let cred = user(&mut fields)?;
@@ -59,7 +60,7 @@ impl<'a> Ask<'a> {
     /// where there is no memory; nothing is changed in any case.
     pub fn record(&self, alloc: Global, tree: &Tree, xid: u32) -> Result<Vec<u8>, AskFault>
         ensures text { IfOk result (λ bytes. record_of tree.now self.now xid ≡ Some bytes.items) }
-        ensures fault { IfErr result (OnlyWithout (record_of tree.now self.now xid)) }
+        ensures fault { IfErr result (OnlyWithout (record_of tree.now self.now xid) (has_long_word tree.now self.now)) }
     {
         let sender = Sender {
             alloc,

@@ -1,11 +1,11 @@
 //! What an `ask` asks for.
-ghost use Rattle.std.specs.Prelude.{◌≡◌, IfOk};
+ghost use Rattle.std.specs.Prelude.{◌≡◌, Ok, IfOk, IfErr, OnOk};
 ghost use Rattle.nfs_client.specs.declared.request.Request.TheVariants as request;
 ghost use Rattle.nfs_client.specs.declared.file_request.FileRequest.TheVariants as of_file;
 ghost use Rattle.nfs_ask.specs.declared.operation.Operation.TheVariants as op;
 ghost use Rattle.nfs_ask.specs.Words.{Takes, or_else, long_number_at};
 ghost use Rattle.nfs_ask.specs.Asks as spec;
-ghost use Rattle.nfs_ask.specs.Asks.{Asks, AsksOfFile, moment_at, new_file_at};
+ghost use Rattle.nfs_ask.specs.Asks.{Asks, AsksOfFile, IsWanted, behind_path, moment_at, new_file_at};
 
 use crate::fault::{AskFault, Wanted};
 use crate::fields::Fields;
@@ -33,7 +33,9 @@ pub(crate) fn read_request<'a>(
     operation: Operation,
     fields: &mut Fields<'a>,
 ) -> Result<Request<'a>, AskFault>
-    ensures { IfOk result (λ request. Asks operation fields.old request fields.new) }
+    ensures asks { IfOk result (λ request. Asks operation fields.old request fields.new) }
+    ensures passed { OnOk result (behind_path operation fields.old ≡ Ok (tt, fields.new)) }
+    ensures fault { IfErr result (IsWanted (behind_path operation fields.old)) }
 {
     Ok(match operation {
         Operation::Stat => Request::File(FileRequest::Stat),
@@ -98,7 +100,8 @@ fn with_times(time: TimeSetting) -> Sattr
 
 // From which byte on, and which ones.
 fn write<'a>(fields: &mut Fields<'a>) -> Result<FileRequest<'a>, AskFault>
-    ensures { IfOk result (λ request. AsksOfFile op.Write fields.old request fields.new) }
+    ensures asks { IfOk result (λ request. AsksOfFile op.Write fields.old request fields.new) }
+    ensures fault { IfErr result (IsWanted (behind_path op.Write fields.old)) }
 {
     let offset = fields.long_number()?;
     let digits = fields.word(Wanted::Bytes)?;
@@ -107,7 +110,8 @@ fn write<'a>(fields: &mut Fields<'a>) -> Result<FileRequest<'a>, AskFault>
 
 // From which byte on, and how many.
 fn read<'a>(fields: &mut Fields<'a>) -> Result<FileRequest<'a>, AskFault>
-    ensures { IfOk result (λ request. AsksOfFile op.Read fields.old request fields.new) }
+    ensures asks { IfOk result (λ request. AsksOfFile op.Read fields.old request fields.new) }
+    ensures fault { IfErr result (IsWanted (behind_path op.Read fields.old)) }
 {
     let offset = number_or(fields, 0)?;
     let count = if fields.is_at_end() {

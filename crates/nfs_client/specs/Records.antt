@@ -1,5 +1,5 @@
 -- The record of a call that is asked for, over a tree.
-use Rattle.std.specs.Prelude.{◌≡◌, ℕ, List, ◌++◌, Option, Some, None, Result, Ok, Err}
+use Rattle.std.specs.Prelude.{◌≡◌, ℕ, Bool, true, false, ◌||◌, nat_lt, length, List, ◌++◌, Option, Some, None, Result, Ok, Err}
 use Rattle.nfs_xdr.specs.Spelling.{opaque_text}
 use Rattle.hex.specs.Hex.{decode_of}
 use Rattle.nfs_rpc.specs.AuthSys.{Credential, credential_of}
@@ -19,7 +19,7 @@ use Rattle.nfs_client.specs.declared.file_request.FileRequest.{FileRequest}
 use Rattle.nfs_client.specs.declared.name_request.NameRequest.{NameRequest}
 use Rattle.nfs_client.specs.Calls.{head_text, auth_sys_text}
 use Rattle.nfs_client.specs.Places.{Place, place_at, file_at, handle_in}
-use Rattle.nfs_client.specs.Requests.{digits_of, file_procedure, file_text, name_procedure, name_text, dir_op_text}
+use Rattle.nfs_client.specs.Requests.{digits_of, target_of, file_procedure, file_text, name_procedure, name_text, dir_op_text}
 
 -- a call's number, and who calls
 pub record Sent : Type 0 where
@@ -29,12 +29,16 @@ pub record Sent : Type 0 where
 abbrev pub sent_by : kept_sender.Sender → Sent
 sent_by sender = record { xid = sender.xid; cred = credential_of sender.cred.now }
 
+-- the head of a call, by the numbers of the program and of the procedure
+abbrev pub head_of : Sent → ℕ → ℕ → List ℕ
+head_of s program procedure = head_text (record { xid = s.xid; program = program; procedure = procedure }) (auth_sys_text s.cred)
+
 -- a call of NFS, and one of MOUNT
 abbrev pub nfs_text : Sent → Procedure → List ℕ → List ℕ
-nfs_text s p args = head_text (record { xid = s.xid; program = 100003; procedure = procedure_number p }) (auth_sys_text s.cred) ++ args
+nfs_text s p args = head_of s 100003 (procedure_number p) ++ args
 
 abbrev pub mount_text : Sent → MountProcedure → List ℕ → List ℕ
-mount_text s p args = head_text (record { xid = s.xid; program = 100005; procedure = mount_number p }) (auth_sys_text s.cred) ++ args
+mount_text s p args = head_of s 100005 (mount_number p) ++ args
 
 -- the handle of the file that a path names
 abbrev pub handle_of_path : Tree → List ℕ → Option (List ℕ)
@@ -89,14 +93,53 @@ record_in t s path request.Unmount = Some (mount_record s mount.Unmount path)
 
 -- ---- faults
 
--- a fault other than of length and memory comes only where there is nothing
-abbrev pub OnlyWithout : {A : Type 0} → Option A → CallFault → Type 0
-OnlyWithout wanted (NoFile part) = wanted ≡ None
-OnlyWithout wanted (TooLong part) = Unit {0}
-OnlyWithout wanted BadDigits = wanted ≡ None
-OnlyWithout wanted Memory = Unit {0}
+-- whether a name, a path or bytes are longer than any that is written
+abbrev pub is_long : List ℕ → Bool
+is_long bytes = nat_lt 262144 (length bytes)
+
+abbrev pub has_long_name : Tree → List ℕ → Bool
+has_long_name t path = on_some (name_of_path t path) false (λ named. is_long named.name)
+
+abbrev pub is_long_content : {E : Type 0} → Result (List ℕ) E → Bool
+is_long_content (Ok content) = is_long content
+is_long_content (Err e) = false
+
+-- whether what is asked for has such a part
+abbrev pub has_long_part : Tree → List ℕ → Request → Bool
+has_long_part t path (request.File r) = is_long_content (decode_of (digits_of r))
+has_long_part t path (request.Name r) = has_long_name t path || is_long (target_of r)
+has_long_part t path (request.Rename to) = has_long_name t path || has_long_name t to.now
+has_long_part t path (request.Link name) = has_long_name t name.now
+has_long_part t path request.Mount = is_long path
+has_long_part t path request.Unmount = is_long path
+
+-- a fault other than of memory comes only where there is nothing, or a part that is too long
+abbrev pub OnlyWithout : {A : Type 0} → Option A → Bool → CallFault → Type 0
+OnlyWithout wanted long (NoFile part) = wanted ≡ None
+OnlyWithout wanted long (TooLong part) = long ≡ true
+OnlyWithout wanted long BadDigits = wanted ≡ None
+OnlyWithout wanted long Memory = Unit {0}
 
 -- the value, if there is one
 abbrev pub ok_of : {A E : Type 0} → Result A E → Option A
 ok_of (Ok x) = Some x
 ok_of (Err e) = None
+
+abbrev pub IsFileFault : Tree → Sent → List ℕ → FileRequest → CallFault → Type 0
+IsFileFault t s path r = OnlyWithout (file_record t s path r) (has_long_part t path (request.File r))
+
+abbrev pub IsNameFault : Tree → Sent → List ℕ → NameRequest → CallFault → Type 0
+IsNameFault t s path r = OnlyWithout (name_record t s path r) (has_long_part t path (request.Name r))
+
+abbrev pub IsRenameFault : Tree → Sent → List ℕ → List ℕ → CallFault → Type 0
+IsRenameFault t s path to = OnlyWithout (rename_record t s path to) (has_long_name t path || has_long_name t to)
+
+abbrev pub IsLinkFault : Tree → Sent → List ℕ → List ℕ → CallFault → Type 0
+IsLinkFault t s path name = OnlyWithout (link_record t s path name) (has_long_name t name)
+
+abbrev pub IsNamedFault : Tree → List ℕ → CallFault → Type 0
+IsNamedFault t path = OnlyWithout (name_of_path t path) (has_long_name t path)
+
+-- why a record can't be written
+abbrev pub IsRecordFault : Tree → Sent → List ℕ → Request → CallFault → Type 0
+IsRecordFault t s path r = OnlyWithout (record_in t s path r) (has_long_part t path r)

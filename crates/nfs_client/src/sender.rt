@@ -1,10 +1,11 @@
 //! Who sends a call, and over which tree.
-ghost use Rattle.std.specs.Prelude.{◌≡◌, Ok, vec_len, ◌≤◌, ◌<◌, ◌^◌, Some, IfOk, IfErr, length};
+ghost use Rattle.std.specs.Prelude.{◌≡◌, false, Ok, vec_len, ◌≤◌, ◌<◌, ◌^◌, Some, IfOk, IfErr, length};
 ghost use Rattle.hex.specs.Hex.{decode_of};
-ghost use Rattle.nfs_rpc.specs.AuthSys.{credential_of};
 ghost use Rattle.nfs_client.specs.declared.fault.CallFault.TheVariants.{Memory};
-ghost use Rattle.nfs_client.specs.Calls.{head_text, auth_sys_text};
-ghost use Rattle.nfs_client.specs.Records.{handle_of_path, name_of_path, named_seen, sent_by, file_record, name_record, rename_record, link_record, mount_record, record_in, OnlyWithout, ok_of};
+ghost use Rattle.nfs_client.specs.Records.{handle_of_path, name_of_path, named_seen, sent_by, head_of, record_in};
+ghost use Rattle.nfs_client.specs.Records.{file_record, name_record, rename_record, link_record, mount_record};
+ghost use Rattle.nfs_client.specs.Records.{OnlyWithout, IsFileFault, IsNameFault, IsRenameFault, IsLinkFault, IsNamedFault, IsRecordFault};
+ghost use Rattle.nfs_client.specs.Records.{is_long, is_long_content, ok_of};
 
 use crate::call::{Call, MAX_HEAD_BYTES, write_head};
 use crate::credential::{MAX_AUTH_SYS_BYTES, write_auth_sys};
@@ -54,7 +55,7 @@ impl<'a> Sender<'a> {
     /// none; nothing is changed in any case.
     pub fn record(self, path: &[u8], request: Request<'_>) -> Result<Vec<u8>, CallFault>
         ensures text { IfOk result (λ bytes. record_in self.entry.tree.now (sent_by self.entry) path.now request.entry ≡ Some bytes.items) }
-        ensures fault { IfErr result (OnlyWithout (record_in self.entry.tree.now (sent_by self.entry) path.now request.entry)) }
+        ensures fault { IfErr result (IsRecordFault self.entry.tree.now (sent_by self.entry) path.now request.entry) }
     {
         let out = self.written(path, request)?;
         let mut bytes = Vec::new(self.alloc);
@@ -64,7 +65,7 @@ impl<'a> Sender<'a> {
 
     fn written(self, path: &[u8], request: Request<'_>) -> Result<Output, CallFault>
         ensures text { IfOk result (λ out. record_in self.entry.tree.now (sent_by self.entry) path.now request.entry ≡ Some out.bytes) }
-        ensures fault { IfErr result (OnlyWithout (record_in self.entry.tree.now (sent_by self.entry) path.now request.entry)) }
+        ensures fault { IfErr result (IsRecordFault self.entry.tree.now (sent_by self.entry) path.now request.entry) }
     {
         match request {
             Request::File(request) => self.file(path, request),
@@ -79,7 +80,7 @@ impl<'a> Sender<'a> {
     // A call on a file.
     fn file(self, path: &[u8], request: FileRequest<'_>) -> Result<Output, CallFault>
         ensures text { IfOk result (λ out. file_record self.entry.tree.now (sent_by self.entry) path.now request.entry ≡ Some out.bytes) }
-        ensures fault { IfErr result (OnlyWithout (file_record self.entry.tree.now (sent_by self.entry) path.now request.entry)) }
+        ensures fault { IfErr result (IsFileFault self.entry.tree.now (sent_by self.entry) path.now request.entry) }
     {
         let file = self.handle_of(path)?;
         let content = self.content_of(request.digits())?;
@@ -92,7 +93,7 @@ impl<'a> Sender<'a> {
     // A call on a name.
     fn name(self, path: &[u8], request: NameRequest<'_>) -> Result<Output, CallFault>
         ensures text { IfOk result (λ out. name_record self.entry.tree.now (sent_by self.entry) path.now request.entry ≡ Some out.bytes) }
-        ensures fault { IfErr result (OnlyWithout (name_record self.entry.tree.now (sent_by self.entry) path.now request.entry)) }
+        ensures fault { IfErr result (IsNameFault self.entry.tree.now (sent_by self.entry) path.now request.entry) }
     {
         let named = self.named(path, Part::Path)?;
         let target = request.target();
@@ -108,7 +109,7 @@ impl<'a> Sender<'a> {
     // A RENAME.
     fn rename(self, path: &[u8], to: &[u8]) -> Result<Output, CallFault>
         ensures text { IfOk result (λ out. rename_record self.entry.tree.now (sent_by self.entry) path.now to.now ≡ Some out.bytes) }
-        ensures fault { IfErr result (OnlyWithout (rename_record self.entry.tree.now (sent_by self.entry) path.now to.now)) }
+        ensures fault { IfErr result (IsRenameFault self.entry.tree.now (sent_by self.entry) path.now to.now) }
     {
         let from = self.named(path, Part::Path)?;
         let to = self.named(to, Part::BehindPath)?;
@@ -124,7 +125,7 @@ impl<'a> Sender<'a> {
     // A LINK.
     fn link(self, path: &[u8], name: &[u8]) -> Result<Output, CallFault>
         ensures text { IfOk result (λ out. link_record self.entry.tree.now (sent_by self.entry) path.now name.now ≡ Some out.bytes) }
-        ensures fault { IfErr result (OnlyWithout (link_record self.entry.tree.now (sent_by self.entry) path.now name.now)) }
+        ensures fault { IfErr result (IsLinkFault self.entry.tree.now (sent_by self.entry) path.now name.now) }
     {
         let file = self.handle_of(path)?;
         let to = self.named(name, Part::BehindPath)?;
@@ -138,7 +139,7 @@ impl<'a> Sender<'a> {
     // An MNT or a UMNT, of a path as it stands.
     fn volume(self, procedure: MountProcedure, path: &[u8]) -> Result<Output, CallFault>
         ensures text { IfOk result (λ out. mount_record (sent_by self.entry) procedure path.now ≡ out.bytes) }
-        ensures fault { IfErr result (OnlyWithout (Some path.now)) }
+        ensures fault { IfErr result (OnlyWithout (Some path.now) (is_long path.now)) }
     {
         if path.len() > MAX_WORD_BYTES {
             return Err(CallFault::TooLong(Part::Path));
@@ -151,7 +152,7 @@ impl<'a> Sender<'a> {
     // An output with the head of a call, and with this room behind it.
     fn begin(self, program: u32, procedure: u32, room: usize) -> Result<Output, CallFault>
         requires { room < 2 ^ 32 }
-        ensures text { IfOk result (λ out. out.bytes ≡ head_text (record { xid = self.entry.xid; program = program; procedure = procedure }) (auth_sys_text (credential_of self.entry.cred.now))) }
+        ensures text { IfOk result (λ out. out.bytes ≡ head_of (sent_by self.entry) program procedure) }
         ensures room { IfOk result (λ out. room ≤ out.room) }
         ensures fault { IfErr result (λ fault. fault ≡ Memory) }
     {
@@ -170,7 +171,7 @@ impl<'a> Sender<'a> {
     // The handle of the file that a path names.
     fn handle_of(self, path: &[u8]) -> Result<[u8; 24], CallFault>
         ensures handle { IfOk result (λ handle. handle_of_path self.entry.tree.now path.now ≡ Some handle) }
-        ensures fault { IfErr result (OnlyWithout (handle_of_path self.entry.tree.now path.now)) }
+        ensures fault { IfErr result (OnlyWithout (handle_of_path self.entry.tree.now path.now) false) }
     {
         let Some(file) = find_file(self.tree, path) else {
             return Err(CallFault::NoFile(Part::Path));
@@ -185,7 +186,7 @@ impl<'a> Sender<'a> {
     fn named<'b>(self, path: &'b [u8], part: Part) -> Result<Named<'b>, CallFault>
         ensures place { IfOk result (λ named. name_of_path self.entry.tree.now path.entry.now ≡ Some (named_seen named)) }
         ensures bound { IfOk result (λ named. length named.name.now ≤ 262144) }
-        ensures fault { IfErr result (OnlyWithout (name_of_path self.entry.tree.now path.entry.now)) }
+        ensures fault { IfErr result (IsNamedFault self.entry.tree.now path.entry.now) }
     {
         let Some(place) = find_place(self.tree, path) else {
             return Err(CallFault::NoFile(part));
@@ -206,7 +207,7 @@ impl<'a> Sender<'a> {
     fn content_of(self, digits: &[u8]) -> Result<Vec<u8>, CallFault>
         ensures bytes { IfOk result (λ content. decode_of digits.now ≡ Ok content.items) }
         ensures bound { IfOk result (λ content. vec_len content ≤ 262144) }
-        ensures fault { IfErr result (OnlyWithout (ok_of (decode_of digits.now))) }
+        ensures fault { IfErr result (OnlyWithout (ok_of (decode_of digits.now)) (is_long_content (decode_of digits.now))) }
     {
         match hex::decode(self.alloc, digits) {
             Ok(content) if content.len() <= MAX_WORD_BYTES => Ok(content),

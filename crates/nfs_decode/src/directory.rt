@@ -30,7 +30,7 @@ fn put_entries(input: &mut Input<'_>, out: &mut Text, is_plus: bool) -> Result<(
         put_entry(input, out)?;
         if is_plus {
             put_post_op_attr(input, out, b"  ")?;
-            put_post_op_handle(input, out)?;
+            put_post_op_handle(input, out, b"  handle=")?;
         }
     }
     Ok(())

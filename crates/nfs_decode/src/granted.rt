@@ -54,7 +54,7 @@ fn put_fattr(input: &mut Input<'_>, out: &mut Text) -> Result<(), XdrFault> {
 
 // LOOKUP.
 fn put_found(input: &mut Input<'_>, out: &mut Text) -> Result<(), XdrFault> {
-    put_handle(input, out)?;
+    put_handle(input, out, b"handle=")?;
     put_post_op_attr(input, out, b"attributes: ")?;
     put_post_op_attr(input, out, b"directory: ")
 }
@@ -128,7 +128,7 @@ fn put_written(input: &mut Input<'_>, out: &mut Text) -> Result<(), XdrFault> {
 
 // CREATE, MKDIR, SYMLINK and MKNOD.
 fn put_made(input: &mut Input<'_>, out: &mut Text) -> Result<(), XdrFault> {
-    put_post_op_handle(input, out)?;
+    put_post_op_handle(input, out, b"handle=")?;
     put_post_op_attr(input, out, b"attributes: ")?;
     put_wcc(input, out, b"directory")
 }

@@ -41,7 +41,7 @@ fn put_mounted(input: &mut Input<'_>, out: &mut Text) -> Result<(), XdrFault> {
     if status != 0 {
         return Ok(());
     }
-    put_handle(input, out)?;
+    put_handle(input, out, b"handle=")?;
     put_flavors(input, out)
 }
 

@@ -48,18 +48,22 @@ pub fn put_moment(out: &mut Text, name: &[u8], moment: Moment) {
 }
 
 /// A handle, as a line.
-pub fn put_handle(input: &mut Input<'_>, out: &mut Text) -> Result<(), XdrFault> {
+pub fn put_handle(input: &mut Input<'_>, out: &mut Text, name: &[u8]) -> Result<(), XdrFault> {
     let handle = input.opaque(MAX_HANDLE_BYTES)?;
-    begin(out, b"handle=");
+    begin(out, name);
     out.put_hex(handle);
     out.put(b"\n");
     Ok(())
 }
 
 /// A handle, if there is one, as a line.
-pub fn put_post_op_handle(input: &mut Input<'_>, out: &mut Text) -> Result<(), XdrFault> {
+pub fn put_post_op_handle(
+    input: &mut Input<'_>,
+    out: &mut Text,
+    name: &[u8],
+) -> Result<(), XdrFault> {
     if input.boolean()? {
-        put_handle(input, out)
+        put_handle(input, out, name)
     } else {
         Ok(())
     }
