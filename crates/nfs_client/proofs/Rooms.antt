@@ -45,5 +45,5 @@ rest_room of_file.PathLimits content = omega arith
 rest_room of_file.Commit content = omega arith
 
 -- behind a handle of 24 bytes
-pub file_room : (r : FileRequest) (file content : List ℕ) → length file ≡ 24 → length (file_text r file content) ≤ 128 + length content
+pub file_room : (r : FileRequest) (file content : List ℕ) → length file ≡ 24 → length (file_text r file content) ≤ 100 + length content
 file_room r file content sized = omega (arith, sized, length-append (opaque_text file) (file_rest r content), opaque_room file, rest_room r content)

@@ -43,6 +43,21 @@ struct Named<'a> {
 // The longest path, link or content that is asked for.
 const MAX_WORD_BYTES: usize = 262_144;
 
+// The most bytes of what stands beside some opaque data (its length and its padding), of a handle behind its
+// length, and of sattr3 with the words beside it.
+const OPAQUE_BYTES: usize = 8;
+
+const HANDLE_BYTES: usize = 28;
+
+const ATTRIBUTES_BYTES: usize = 64;
+
+// The most bytes of arguments beside the names and the data in them.
+const FILE_BYTES: usize = HANDLE_BYTES + ATTRIBUTES_BYTES + OPAQUE_BYTES;
+
+const NAME_BYTES: usize = HANDLE_BYTES + OPAQUE_BYTES + ATTRIBUTES_BYTES + OPAQUE_BYTES;
+
+const TWO_PLACES_BYTES: usize = 2 * (HANDLE_BYTES + OPAQUE_BYTES);
+
 // The programs (RFC 1813, sections 3 and 5).
 const NFS: u32 = 100_003;
 
@@ -84,7 +99,7 @@ impl<'a> Sender<'a> {
     {
         let file = self.handle_of(path)?;
         let content = self.content_of(request.digits())?;
-        let room = 128 + content.len();
+        let room = FILE_BYTES + content.len();
         let mut out = self.begin(NFS, request.procedure().number(), room)?;
         request.write(&mut out, &file, content.as_slice());
         Ok(out)
@@ -100,7 +115,7 @@ impl<'a> Sender<'a> {
         if target.len() > MAX_WORD_BYTES {
             return Err(CallFault::TooLong(Part::BehindPath));
         }
-        let room = 192 + named.name.len() + target.len();
+        let room = NAME_BYTES + named.name.len() + target.len();
         let mut out = self.begin(NFS, request.procedure().number(), room)?;
         request.write(&mut out, &named.handle, named.name);
         Ok(out)
@@ -113,7 +128,7 @@ impl<'a> Sender<'a> {
     {
         let from = self.named(path, Part::Path)?;
         let to = self.named(to, Part::BehindPath)?;
-        let room = 128 + from.name.len() + to.name.len();
+        let room = TWO_PLACES_BYTES + from.name.len() + to.name.len();
         let mut out = self.begin(NFS, Procedure::Rename.number(), room)?;
         out.opaque(&from.handle);
         out.opaque(from.name);
@@ -129,7 +144,11 @@ impl<'a> Sender<'a> {
     {
         let file = self.handle_of(path)?;
         let to = self.named(name, Part::BehindPath)?;
-        let mut out = self.begin(NFS, Procedure::Link.number(), 128 + to.name.len())?;
+        let mut out = self.begin(
+            NFS,
+            Procedure::Link.number(),
+            TWO_PLACES_BYTES + to.name.len(),
+        )?;
         out.opaque(&file);
         out.opaque(&to.handle);
         out.opaque(to.name);
@@ -144,7 +163,7 @@ impl<'a> Sender<'a> {
         if path.len() > MAX_WORD_BYTES {
             return Err(CallFault::TooLong(Part::Path));
         }
-        let mut out = self.begin(MOUNT, procedure.number(), 8 + path.len())?;
+        let mut out = self.begin(MOUNT, procedure.number(), OPAQUE_BYTES + path.len())?;
         out.opaque(path);
         Ok(out)
     }

@@ -1,4 +1,6 @@
 //! Items that several results have.
+ghost use Rattle.std.specs.Prelude.{◌++◌, codes};
+ghost use Rattle.nfs_words.specs.Texts.{Puts};
 
 use crate::attributes::put_attributes;
 use crate::text::Text;
@@ -12,7 +14,9 @@ use nfs_xdr::input::Input;
 const MAX_HANDLE_BYTES: u32 = 64;
 
 /// Begins a line of an item.
-pub fn begin(out: &mut Text, name: &[u8]) {
+pub fn begin(out: &mut Text, name: &[u8])
+    ensures { Puts (codes "    " ++ name.now) out.old out.new }
+{
     out.put(b"    ");
     out.put(name);
 }

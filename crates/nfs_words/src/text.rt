@@ -1,6 +1,7 @@
 //! Text that is put together, all of it before it is printed.
-ghost use Rattle.std.specs.Prelude.{◌≡◌, ◌<◌, [], false, decimal, IfOk};
-ghost use Rattle.nfs_words.specs.Texts.{Puts};
+ghost use Rattle.std.specs.Prelude.{◌≡◌, ◌<◌, ◌++◌, [], false, decimal, IfOk};
+ghost use Rattle.nfs_words.specs.Texts.{Puts, hex_text, hex_byte, name_text, name_byte};
+ghost use Rattle.nfs_words.specs.Texts as spec;
 
 use itoa::Buffer;
 use std::alloc::{AllocError, Global};
@@ -53,7 +54,9 @@ impl Text {
     }
 
     /// Puts a name and a number.
-    pub fn put_field(&mut self, name: &[u8], number: u64) {
+    pub fn put_field(&mut self, name: &[u8], number: u64)
+        ensures { Puts (name.now ++ decimal number) self.old self.new }
+    {
         self.put(name);
         self.put_number(number);
     }
@@ -66,22 +69,37 @@ impl Text {
     }
 
     /// Puts bytes in hexadecimal digits at the end.
-    pub fn put_hex(&mut self, bytes: &[u8]) {
+    pub fn put_hex(&mut self, bytes: &[u8])
+        ensures { Puts (hex_text bytes.now) self.old self.new }
+    {
         for byte in bytes {
-            self.put(&[digit(*byte / 16), digit(*byte % 16)]);
+            self.put_digits(*byte);
         }
+    }
+
+    fn put_digits(&mut self, byte: u8)
+        ensures { Puts (hex_byte byte) self.old self.new }
+    {
+        self.put(&[digit(byte / 16), digit(byte % 16)]);
     }
 
     /// Puts bytes of a client: those from `!` to `~` but `%` as they are, and each other one as `%` and
     /// two hexadecimal digits.
-    pub fn put_name(&mut self, name: &[u8]) {
+    pub fn put_name(&mut self, name: &[u8])
+        ensures { Puts (name_text name.now) self.old self.new }
+    {
         for byte in name {
-            if byte.is_ascii_graphic() && *byte != b'%' {
-                self.put(&[*byte]);
-            } else {
-                self.put(b"%");
-                self.put_hex(&[*byte]);
-            }
+            self.put_byte(*byte);
+        }
+    }
+
+    fn put_byte(&mut self, byte: u8)
+        ensures { Puts (name_byte byte) self.old self.new }
+    {
+        if byte.is_ascii_graphic() && byte != b'%' {
+            self.put(&[byte]);
+        } else {
+            self.put(&[b'%', digit(byte / 16), digit(byte % 16)]);
         }
     }
 
@@ -106,6 +124,7 @@ impl Text {
 // The digit for a value below 16.
 fn digit(value: u8) -> u8
     requires { value < 16 }
+    ensures { result ≡ spec.digit value }
 {
     if value < 10 {
         b'0' + value

@@ -1,0 +1,6 @@
+use Rattle.nfs_words.specs.Texts.{hex_byte}
+use Rattle.nfs_words.proofs.Texts.{puts_more}
+use Rattle.nfs_words.proofs.text.Text.put_hex.Goals as goal
+
+pub loop-byte-preserved : goal.loop-byte-preserved
+loop-byte-preserved c = puts_more hex_byte c.args.bytes.now c.loop-byte.byte-index c.args.self.now _ _ c.loop-byte-test.true c.loop-byte.invariant c.put_digits.ensures
