@@ -1,5 +1,5 @@
 -- Judgements of calls.
-use Rattle.std.specs.Prelude.{◌≡◌, ℕ, List, Option, Some, None, map}
+use Rattle.std.specs.Prelude.{◌≡◌, ◌⊎◌, ℕ, List, Option, Some, None, map}
 use Rattle.nfs_args.specs.declared.args.NfsArgs.{NfsArgs}
 use Rattle.nfs_exports.specs.declared.table.Export.{Export}
 use Rattle.nfs_inodes.specs.Tree.{Tree}
@@ -19,6 +19,11 @@ IsJudged t exports caller one two args (Judged rules failure) = (s : Subject) ×
     × ((first (handles_rules t exports caller (handles_in args)) ≡ None)
     × ((subject_at t exports caller one ≡ Some s) × ((subject_at t exports caller two ≡ Some u)
     × ((rules.now ≡ map (λ test. test.0) (rules_of s u args)) × (failure ≡ first (rules_of s u args)))))))
+
+-- the call's own handles pass, and one of the given ones names no file that the caller may see
+abbrev pub IsUnjudged : Tree → List (List Export) → Caller → List ℕ → List ℕ → NfsArgs → Type 0
+IsUnjudged t exports caller one two args = (first (handles_rules t exports caller (handles_in args)) ≡ None)
+    × ((subject_at t exports caller one ≡ None) ⊎ (subject_at t exports caller two ≡ None))
 
 -- the first rule that fails, whether of the handles or of the procedure
 abbrev pub failure_of : Judgement → Option Rule

@@ -1,7 +1,7 @@
 //! The judgement of a call: which rules are looked at, and which of them fails first.
-ghost use Rattle.std.specs.Prelude.{◌≡◌, IfSome};
+ghost use Rattle.std.specs.Prelude.{◌≡◌, IfNone, IfSome};
 ghost use Rattle.nfs_rules.specs.Views.{caller_of};
-ghost use Rattle.nfs_why.specs.Judgements.{IsJudged, failure_of};
+ghost use Rattle.nfs_why.specs.Judgements.{IsJudged, IsUnjudged, failure_of};
 
 use crate::order::rules_of;
 use nfs_args::args::NfsArgs;
@@ -43,7 +43,8 @@ pub fn judge(
     handles: (&[u8], &[u8]),
     args: &NfsArgs<'_>,
 ) -> Option<Judgement>
-    ensures { IfSome result (IsJudged tree.now table.now (caller_of caller.entry) handles.entry.0.now handles.entry.1.now args.now) }
+    ensures judged { IfSome result (IsJudged tree.now table.now (caller_of caller.entry) handles.entry.0.now handles.entry.1.now args.now) }
+    ensures none { IfNone result (IsUnjudged tree.now table.now (caller_of caller.entry) handles.entry.0.now handles.entry.1.now args.now) }
 {
     if let Some(rule) = handle_failure(tree, table, caller, args) {
         return Some(Judgement::Unreached(rule));
