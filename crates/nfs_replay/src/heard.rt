@@ -26,7 +26,7 @@ impl Heard {
         }
     }
 
-    /// A new connection of this number, or the end of the one that had it.
+    /// A connection has ended; what comes on another one of its number begins anew.
     pub(crate) fn forget(&mut self, conn: u32) {
         for stream in self.streams.iter_mut() {
             if stream.conn == conn {

@@ -22,6 +22,9 @@ const MAX_HANDLE_BYTES: u32 = 64;
 
 const MAX_PATH_BYTES: u32 = 1_024;
 
+// The version of both whose procedures have these names.
+const VERSION: u32 = 3;
+
 // How many names a path is looked for.
 const MOST_NAMES: u32 = 1_024;
 
@@ -31,6 +34,7 @@ const MOST_NAMES: u32 = 1_024;
 pub(crate) fn names_of(alloc: Global, tree: &Tree, record: &[u8]) -> Result<Vec<u8>, AllocError> {
     let mut names = Text::new(alloc);
     if let Ok(head) = read_call(record)
+        && head.vers == VERSION
         && let Some(name) = procedure_name(head.prog, head.proc)
     {
         names.put(b" call=");
@@ -40,8 +44,12 @@ pub(crate) fn names_of(alloc: Global, tree: &Tree, record: &[u8]) -> Result<Vec<
     names.into_bytes()
 }
 
-/// The name of the procedure of which an audit line tells, by its words `prog=` and `proc=`.
+/// The name of the procedure of which an audit line tells, by its words `prog=` and `proc=`, unless the
+/// call was of another version of its program.
 pub(crate) fn name_in(line: &[u8]) -> Option<&'static [u8]> {
+    if Words::new(line).any(|word| word == b"rule=program-version".as_slice()) {
+        return None;
+    }
     let program = number_behind(line, b"prog=")?;
     procedure_name(program, number_behind(line, b"proc=")?)
 }
