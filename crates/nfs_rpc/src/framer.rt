@@ -1,10 +1,11 @@
 //! Records from the pieces of a stream.
 ghost use Rattle.std.specs.Prelude.{◌≡◌, ◌≢◌, ℕ, ◌+◌, ◌<◌, ◌≤◌, ◌↔◌, ◌⊎◌, [], ◌++◌, true, nat_lt, length, take, vec_len, vec_capacity};
-ghost use Rattle.std.specs.Prelude.{IfOk, IfErr, OnOk, OnErr, IsTrue, IsErr, IsErrOf};
+ghost use Rattle.std.specs.Prelude.{IfOk, IfErr, IfSome, OnOk, OnErr, IsTrue, IsErr, IsErrOf};
 ghost use Rattle.nfs_rpc.specs.Progress.{Progress, Unfinished, Moves, BringsTooLong, AsksForRoom};
+ghost use Rattle.nfs_rpc.specs.Lent.{IsAtFront, IsBefore, IsLent};
 ghost use Rattle.nfs_rpc.specs.Stages.{stage_of};
 
-use crate::record::read_header;
+use crate::record::{HEADER_BYTES, read_header};
 use std::alloc::{AllocError, Global};
 use std::marker::Model;
 use thiserror::Error;
@@ -194,6 +195,28 @@ impl Framer {
         n
     }
 
+    /// The record that stands at the front of the piece, lent from it: where it stands there whole, in
+    /// one fragment, and nothing of it came before. Who takes it, with its header, takes what `feed`
+    /// would take, and reads what `whole` would lend; the framer stays before the next record.
+    pub fn lend<'a>(&self, piece: &'a [u8]) -> Option<&'a [u8]>
+        ensures { IfSome result (λ content. IsLent self.now content.now piece.entry.now) }
+    {
+        if !self.is_before_record() {
+            return None;
+        }
+        record_at_front(piece, self.limit)
+    }
+
+    // Whether nothing of a record came yet, but for fragments without content.
+    fn is_before_record(&self) -> bool
+        ensures { IsTrue result → IsBefore self.now }
+    {
+        match self.stage {
+            Stage::Header { bytes: _, have } => have == 0 && self.content.is_empty(),
+            _ => false,
+        }
+    }
+
     /// The whole record, lent.
     pub fn whole(&self) -> &[u8]
         requires { self.now.stage ≡ Stage.Ready }
@@ -212,6 +235,21 @@ impl Framer {
         self.content.clear();
         self.stage = Stage::START;
     }
+}
+
+// The record that stands whole at the front of some bytes, in one fragment of at most `limit` bytes.
+fn record_at_front(bytes: &[u8], limit: usize) -> Option<&[u8]>
+    ensures { IfSome result (λ content. IsAtFront limit content.now bytes.entry.now) }
+{
+    if bytes.len() < HEADER_BYTES {
+        return None;
+    }
+    let (header, behind) = bytes.split_at(HEADER_BYTES);
+    let (last, len) = read_header([header[0], header[1], header[2], header[3]]);
+    if !last || len > limit || len > behind.len() {
+        return None;
+    }
+    Some(&behind[..len])
 }
 
 // Makes room for so many bytes more: just for these, but at least twice what there was, so that the

@@ -3,6 +3,9 @@ ghost use Rattle.std.specs.Prelude.{◌≡◌, ◌^◌, ◌<◌, true};
 ghost use Rattle.std.specs.Int.{w32, to_be_bytes};
 ghost use Rattle.nfs_rpc.specs.Records.{mark};
 
+/// How many bytes the header of a fragment has.
+pub const HEADER_BYTES: usize = 4;
+
 /// The header of a record of `len` bytes that goes out as one fragment: the highest bit, which
 /// says that the fragment is the last of its record, and the length.
 #[inline(always)]
