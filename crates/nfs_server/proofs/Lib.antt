@@ -3,6 +3,7 @@ pub mod Going
 pub mod Forward
 pub mod Cases
 pub mod Joined
+pub mod Room
 pub mod Performed
 pub mod Mounted
 pub mod Judged

@@ -32,27 +32,26 @@ use Rattle.nfs_server.specs.InMemory.{told}
 use Rattle.nfs_server.specs.Steps.{MountDecided, MountDone, State, success}
 use Rattle.nfs_server.specs.declared.audit_line.AuditLine.{AuditLine}
 use Rattle.nfs_server.specs.declared.audit_line.Reason.TheVariants as reason
-use Rattle.nfs_server.proofs.Performed.{appends_room, no_choice}
+use Rattle.nfs_server.specs.ReplyRoom.{Adds}
+use Rattle.nfs_server.proofs.Performed.{no_choice}
+use Rattle.nfs_server.proofs.Room.{adds, adds_none}
 use Rattle.nfs_xdr.specs.Reading.{numbered}
 use Rattle.nfs_xdr.specs.Written.{Written, Appends}
 
 -- ---- the room
 
-leaves_room : (answer : MountAnswer) (mounts : List Mount) (came : MountOutcome) (new : List Mount) (before after : Written) → Leaves answer mounts came new before after → length after.bytes + after.room ≡ length before.bytes + before.room
-leaves_room answer mounts came new before after l = appends_room (mount_text answer) before after l.2
+adds_left : (answer : MountAnswer) (mounts : List Mount) (came : MountOutcome) (new : List Mount) (before after : Written) → Leaves answer mounts came new before after → Adds before after
+adds_left answer mounts came new before after l = adds (mount_text answer) before after l.2
 
-pub mount_room : (args : MountArgs) (t : Tree) (exports : List (List Export)) (addr : Addr) (came : MountOutcome) (old new : List Mount) (before after : Written) → MountsAs args t exports addr came old new before after → length after.bytes + after.room ≡ length before.bytes + before.room
-mount_room asked.Null t exports addr came old new before after m = leaves_room result.Null old came new before after m
-mount_room (asked.Mount path) t exports addr Granted old new before after m = appends_room (mount_text (granted_answer m.2)) before after m.4
-mount_room (asked.Mount path) t exports addr (Denied rule) old new before after m = appends_room (mount_text (denied_answer rule)) before after m.2
-mount_room (asked.Mount path) t exports addr Memory old new before after m = ap (λ (w : Written). length w.bytes + w.room) m.3
-mount_room asked.Dump t exports addr came old new before after m = leaves_room (dump_answer t old) old came new before after m
-mount_room (asked.Unmount path) t exports addr came old new before after m = leaves_room result.Unmount (after_umnt t addr path old) came new before after m
-mount_room asked.UnmountAll t exports addr came old new before after m = leaves_room result.UnmountAll (without_addr addr old) came new before after m
-mount_room asked.Export t exports addr came old new before after m = leaves_room (export_answer t exports) old came new before after m
-
-pub none_written : (w : Written) → Appends [] w w
-none_written w = record { bytes = sym (append-nil w.bytes); room = add-zero w.room }
+pub adds_mount : (args : MountArgs) (t : Tree) (exports : List (List Export)) (addr : Addr) (came : MountOutcome) (old new : List Mount) (before after : Written) → MountsAs args t exports addr came old new before after → Adds before after
+adds_mount asked.Null t exports addr came old new before after m = adds_left result.Null old came new before after m
+adds_mount (asked.Mount path) t exports addr Granted old new before after m = adds (mount_text (granted_answer m.2)) before after m.4
+adds_mount (asked.Mount path) t exports addr (Denied rule) old new before after m = adds (mount_text (denied_answer rule)) before after m.2
+adds_mount (asked.Mount path) t exports addr Memory old new before after m = adds_none before after m.3
+adds_mount asked.Dump t exports addr came old new before after m = adds_left (dump_answer t old) old came new before after m
+adds_mount (asked.Unmount path) t exports addr came old new before after m = adds_left result.Unmount (after_umnt t addr path old) came new before after m
+adds_mount asked.UnmountAll t exports addr came old new before after m = adds_left result.UnmountAll (without_addr addr old) came new before after m
+adds_mount asked.Export t exports addr came old new before after m = adds_left (export_answer t exports) old came new before after m
 
 -- ---- what is asked for
 

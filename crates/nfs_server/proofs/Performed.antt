@@ -22,6 +22,8 @@ use Rattle.nfs_rules.specs.declared.rule.Rule.{Rule}
 use Rattle.nfs_server.specs.AuditLines.{line_of}
 use Rattle.nfs_server.specs.Events.{Choice, Answer, granted, denied}
 use Rattle.nfs_server.specs.Repeats.{may_change}
+use Rattle.nfs_server.specs.ReplyRoom.{Adds}
+use Rattle.nfs_server.proofs.Room.{adds, adds_none}
 use Rattle.nfs_server.specs.InMemory.{told}
 use Rattle.nfs_server.specs.Steps.{Decided, Performed, Refusable, success}
 use Rattle.nfs_server.specs.declared.audit_line.AuditLine.{AuditLine}
@@ -30,38 +32,13 @@ use Rattle.nfs_xdr.specs.Written.{Written, Appends}
 
 -- ---- the room
 
-pub appends_room : (text : List ℕ) (before after : Written) → Appends text before after → length after.bytes + after.room ≡ length before.bytes + before.room
-appends_room text before after w = omega (arith, ap length w.bytes ∙ length-append before.bytes text, w.room)
-
-pub room_kept : (c : Scene) (o : Option Doing) (came : Option Done) (new : Tree) (before after : Written) → PerformsAs c o came new before after → length after.bytes + after.room ≡ length before.bytes + before.room
-room_kept c None None new before after p = ap (λ (w : Written). length w.bytes + w.room) p.1
-room_kept c None (Some came) new before after p = absurd p
-room_kept c (Some doing) None new before after p = absurd p
-room_kept c (Some doing) (Some Granted) new before after p = appends_room _ before after p.written.text
-room_kept c (Some doing) (Some (Denied rule uid)) new before after p = appends_room _ before after p.written.text
-room_kept c (Some doing) (Some Memory) new before after p = ap (λ (w : Written). length w.bytes + w.room) p.written
-
-longer : (text : List ℕ) (before after : Written) → Appends text before after → length before.bytes ≤ length after.bytes
-longer text before after w = omega (arith, ap length w.bytes ∙ length-append before.bytes text)
-
-pub none_lost : (c : Scene) (o : Option Doing) (came : Option Done) (new : Tree) (before after : Written) → PerformsAs c o came new before after → length before.bytes ≤ length after.bytes
-none_lost c None None new before after p = omega (arith, ap (λ (w : Written). length w.bytes) p.1)
-none_lost c None (Some came) new before after p = absurd p
-none_lost c (Some doing) None new before after p = absurd p
-none_lost c (Some doing) (Some Granted) new before after p = longer _ before after p.written.text
-none_lost c (Some doing) (Some (Denied rule uid)) new before after p = longer _ before after p.written.text
-none_lost c (Some doing) (Some Memory) new before after p = omega (arith, ap (λ (w : Written). length w.bytes) p.written)
-
--- ---- the reply
-
--- what is written behind a mark is the reply
-pub behind_mark : (old text new : List ℕ) → length old ≡ 4 → new ≡ old ++ text → drop 4 new ≡ text
-behind_mark old text new mark new_is = ap (drop 4) new_is ∙ subst (λ n. drop n (old ++ text) ≡ text) mark (drop-append_seam old text)
-
--- a head, and what is written behind it
-pub reply_text : (old first headed text new : List ℕ) → length old ≡ 4 → headed ≡ old ++ first → new ≡ headed ++ text → drop 4 new ≡ first ++ text
-reply_text old first headed text new mark headed_is new_is =
-    behind_mark old (first ++ text) new mark (new_is ∙ ap (λ x. x ++ text) headed_is ∙ append_assoc old first text)
+pub adds_result : (c : Scene) (o : Option Doing) (came : Option Done) (new : Tree) (before after : Written) → PerformsAs c o came new before after → Adds before after
+adds_result c None None new before after p = adds_none before after p.1
+adds_result c None (Some came) new before after p = absurd p
+adds_result c (Some doing) None new before after p = absurd p
+adds_result c (Some doing) (Some Granted) new before after p = adds _ before after p.written.text
+adds_result c (Some doing) (Some (Denied rule uid)) new before after p = adds _ before after p.written.text
+adds_result c (Some doing) (Some Memory) new before after p = adds_none before after p.written
 
 -- ---- the steps
 

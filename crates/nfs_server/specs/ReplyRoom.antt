@@ -1,31 +1,48 @@
--- The room in which a reply is written, behind its mark.
-use Rattle.std.specs.Prelude.{◌≡◌, ℕ, ◌+◌, ◌≤◌, List, ◌++◌, true, length, drop}
+-- The room in which a reply is written, behind its mark, and replies that gather in front of it.
+use Rattle.std.specs.Prelude.{◌≡◌, ℕ, ◌+◌, ◌≤◌, List, ◌++◌, true, length, take, drop}
 use Rattle.nfs_rpc.specs.Records.{header}
 use Rattle.nfs_server.specs.declared.reply_buf.ReplyBuf.TheInside.{Inside}
-use Rattle.nfs_xdr.specs.Written.{Written}
+use Rattle.nfs_xdr.specs.Written.{Written, Appends}
 
--- the bytes of a mark, and how many there are of the mark, the reply and the room that is left
+-- the bytes of a mark, and how many there are of the mark, the reply and the room that is left for it
 abbrev pub mark_bytes : ℕ
 mark_bytes = 4
 
 abbrev pub room_bytes : ℕ
 room_bytes = 294912
 
--- the reply
-abbrev pub reply_in : Written → List ℕ
-reply_in out = drop mark_bytes out.bytes
+-- the most bytes of replies that gather
+abbrev pub most_gathered : ℕ
+most_gathered = 557056
 
--- a reply stands behind a mark, in the room that was made
-pub record IsReply (out : Written) : Type 0 where
-  pub mark : mark_bytes ≤ length out.bytes
-  pub room : length out.bytes + out.room ≡ room_bytes
+-- what a buffer holds: the sealed replies that have gathered, and the reply
+pub record Buffered : Type 0 where
+  pub earlier : List ℕ
+  pub reply : List ℕ
 
--- nothing but a mark stands there
-pub record IsBegun (out : Written) : Type 0 where
-  pub mark : length out.bytes ≡ mark_bytes
-  pub room : length out.bytes + out.room ≡ room_bytes
+-- the reply whose mark stands at a place
+abbrev pub reply_at : ℕ → Written → List ℕ
+reply_at start out = drop (start + mark_bytes) out.bytes
+
+-- a mark and a reply stand there, with the room that a reply may need
+pub record IsReply (start : ℕ) (out : Written) : Type 0 where
+  pub mark : start + mark_bytes ≤ length out.bytes
+  pub room : start + room_bytes ≤ length out.bytes + out.room
+  pub bound : length out.bytes + out.room ≤ most_gathered + room_bytes
 
 -- the mark is that of the reply
 pub record IsSealed (a : Inside) : Type 0 where
-  pub reply : IsReply a.out
-  pub sealed : a.out.bytes ≡ header true (length (reply_in a.out)) ++ reply_in a.out
+  pub reply : IsReply a.start a.out
+  pub sealed : drop a.start a.out.bytes ≡ header true (length (reply_at a.start a.out)) ++ reply_at a.start a.out
+
+-- there is room for a reply behind its mark
+abbrev pub HasReplyRoom : Written → Type 0
+HasReplyRoom out = room_bytes ≤ mark_bytes + out.room
+
+-- what was written behind what stood there
+abbrev pub behind : Written → Written → List ℕ
+behind old new = drop (length old.bytes) new.bytes
+
+-- what stood there is as it was, and what was written behind it took its room
+abbrev pub Adds : Written → Written → Type 0
+Adds old new = Appends (behind old new) old new

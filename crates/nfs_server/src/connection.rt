@@ -5,6 +5,7 @@ ghost use Rattle.nfs_server.specs.Feeding.{device, EndsWith};
 ghost use Rattle.nfs_server.specs.Taking.{FeedsSome};
 
 use crate::reply_buf::ReplyBuf;
+use crate::reply_out::ReplyOut;
 use crate::server::Server;
 use crate::session_fault::SessionFault;
 use crate::taking::{Origin, Taken, take_piece};
@@ -56,30 +57,30 @@ impl Connection {
     ///
     /// `Ended` where a fault ended it: then nothing is written, and nothing changes. Any other fault
     /// ends it.
-    pub fn feed<W: ByteOut, A: ByteOut>(
+    pub fn feed<R: ReplyOut, A: ByteOut>(
         &mut self,
         server: &mut Server,
         reply: &mut ReplyBuf,
         moment: Moment,
         piece: &[u8],
         room: Option<usize>,
-        replies: &mut W,
+        replies: &mut R,
         audit: &mut A,
     ) -> Result<Taken, SessionFault>
         ensures ended { IsErrOf result SessionFault.Ended ↔ (self.old.ended ≡ true) }
         ensures idle { self.old.ended ≡ true →
-            (self.new ≡ self.old) × (server.new ≡ server.old) × (replies.new ≡ replies.old) × (audit.new ≡ audit.old) }
+            (self.new ≡ self.old) × (server.new ≡ server.old) × (reply.new ≡ reply.old) × (replies.new ≡ replies.old) × (audit.new ≡ audit.old) }
         ensures ok { OnOk result (self.new.ended ≡ false) }
         ensures fault { OnErr result (self.new.ended ≡ true) }
         ensures addr { self.new.addr ≡ self.old.addr }
         ensures limit { self.new.progress.limit ≡ self.old.progress.limit }
-        ensures kind { self.old.ended ≡ false → IfErr result (EndsWith (A.failed audit.new) (W.failed replies.new)) }
+        ensures kind { self.old.ended ≡ false → IfErr result (EndsWith (A.failed audit.new) (R.failed replies.new)) }
         ensures setup { server.new.setup ≡ server.old.setup }
         ensures used { IfOk result (λ taken. taken.used ≤ length piece.now) }
         ensures feeds { self.old.ended ≡ false → FeedsSome (record { addr = self.old.addr; moment = moment }) piece.now room
             result server.old server.new self.old.progress self.new.progress
             (device (A.contents audit.old) (A.contents audit.new))
-            (device (W.contents replies.old) (W.contents replies.new)) }
+            (device (R.contents replies.old reply.old.earlier) (R.contents replies.new reply.new.earlier)) }
     {
         if self.ended {
             return Err(SessionFault::Ended);

@@ -11,6 +11,7 @@ mod mount;
 mod nfs_call;
 mod reply;
 pub mod reply_buf;
+pub mod reply_out;
 pub mod rpc_rules;
 pub mod serve_fault;
 pub mod server;

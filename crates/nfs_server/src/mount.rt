@@ -3,7 +3,7 @@ ghost use Rattle.std.specs.Prelude.{◌≡◌, ◌+◌, ◌≤◌, length};
 ghost use Rattle.std.specs.Result.{result_ok};
 ghost use Rattle.nfs_rpc.specs.Calls.{call_of};
 ghost use Rattle.nfs_server.specs.OneEvent.{AnswersMount, MountsAs};
-ghost use Rattle.nfs_server.specs.ReplyRoom.{IsBegun, IsReply, reply_in};
+ghost use Rattle.nfs_server.specs.ReplyRoom.{Adds, HasReplyRoom, behind};
 ghost use Rattle.nfs_server.specs.Requests.{mount_args_in};
 ghost use Rattle.nfs_server.specs.InMemory.{told};
 
@@ -46,17 +46,18 @@ pub(crate) fn answer_mount(
     addr: Addr,
     args: &MountArgs<'_>,
 ) -> Option<AuditLine>
-    requires { IsBegun out.old }
-    ensures reply { IsReply out.new }
+    requires { HasReplyRoom out.old }
+    ensures adds { Adds out.old out.new }
     ensures answers { AnswersMount args.now table.now (record { tree = tree.now; mounts = mounts.old }) addr (call_of head.now)
-        (told (reply_in out.new) result) mounts.new }
+        (told (behind out.old out.new) result) mounts.new }
 {
+    let start = out.bytes().len();
     write_accepted(out, head.xid, Accept::Success);
     match mount(tree, table, mounts, addr, args, out) {
         MountOutcome::Granted => None,
         MountOutcome::Denied(rule) => Some(AuditLine::of(addr, head, Reason::Rule(rule, None))),
         MountOutcome::Memory => {
-            give_up(out, head.xid);
+            give_up(out, start, head.xid);
             Some(AuditLine::of(addr, head, Reason::Memory))
         }
     }
@@ -75,7 +76,7 @@ fn mount(
 ) -> MountOutcome
     requires { MAX_DUMP_BYTES ≤ out.old.room }
     ensures mounts { MountsAs args.now tree.now table.now addr result mounts.old mounts.new out.old out.new }
-    ensures room { length out.new.bytes + out.new.room ≡ length out.old.bytes + out.old.room }
+    ensures adds { Adds out.old out.new }
 {
     match args {
         MountArgs::Null => {}

@@ -5,7 +5,7 @@ ghost use Rattle.nfs_procs.specs.Scenes.{scene};
 ghost use Rattle.nfs_rpc.specs.Calls.{call_of};
 ghost use Rattle.nfs_server.specs.OneEvent.{AnswersCall};
 ghost use Rattle.nfs_server.specs.Repeats as repeats;
-ghost use Rattle.nfs_server.specs.ReplyRoom.{IsBegun, IsReply, reply_in};
+ghost use Rattle.nfs_server.specs.ReplyRoom.{Adds, HasReplyRoom, behind};
 ghost use Rattle.nfs_server.specs.InMemory.{told};
 
 use crate::audit_line::{AuditLine, Reason};
@@ -50,19 +50,20 @@ pub(crate) fn answer_call(
     call: &Call<'_>,
     args: &NfsArgs<'_>,
 ) -> Option<AuditLine>
-    requires { IsBegun out.old }
-    ensures reply { IsReply out.new }
-    ensures short { repeats.may_change args.now ≡ true → length (reply_in out.new) ≤ MAX_KEPT_BYTES }
+    requires { HasReplyRoom out.old }
+    ensures adds { Adds out.old out.new }
+    ensures short { repeats.may_change args.now ≡ true → length (behind out.old out.new) ≤ MAX_KEPT_BYTES }
     ensures answers { AnswersCall (scene tree.old call.now args.now) (call_of head.now)
-        (told (reply_in out.new) result) tree.new }
+        (told (behind out.old out.new) result) tree.new }
 {
+    let start = out.bytes().len();
     write_accepted(out, head.xid, Accept::Success);
     match write_result(out, tree, call, args) {
         Some(Done::Denied(rule, uid)) => {
             Some(AuditLine::of(call.caller.addr, head, Reason::Rule(rule, uid)))
         }
         Some(Done::Memory) => {
-            give_up(out, head.xid);
+            give_up(out, start, head.xid);
             Some(AuditLine::of(call.caller.addr, head, Reason::Memory))
         }
         Some(Done::Granted) => None,
@@ -80,8 +81,7 @@ fn write_result(
 ) -> Option<Done>
     requires { MAX_RESULT_BYTES ≤ out.old.room }
     ensures performs { PerformsAs (scene tree.old call.now args.now) (doing_of args.now) result tree.new out.old out.new }
-    ensures room { length out.new.bytes + out.new.room ≡ length out.old.bytes + out.old.room }
-    ensures longer { length out.old.bytes ≤ length out.new.bytes }
+    ensures adds { Adds out.old out.new }
     ensures short { repeats.may_change args.now ≡ true → length out.new.bytes ≤ length out.old.bytes + 280 }
 {
     let done = perform(tree, call, args, out);

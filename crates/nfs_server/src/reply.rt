@@ -1,11 +1,10 @@
 //! Replies that say no more than whether a call is accepted (RFC 5531, section 9).
-ghost use Rattle.std.specs.Prelude.{◌≡◌, ◌≤◌, length};
+ghost use Rattle.std.specs.Prelude.{◌≡◌, ◌+◌, ◌≤◌, ◌++◌, length, take};
 ghost use Rattle.nfs_rpc.specs.Replies.{accepted_text};
 ghost use Rattle.nfs_rpc.specs.declared.reply.Accept.TheVariants.{Success, SystemErr};
-ghost use Rattle.nfs_server.specs.ReplyRoom.{IsBegun, IsReply, reply_in};
+ghost use Rattle.nfs_server.specs.ReplyRoom.{Adds, HasReplyRoom, behind, room_bytes};
 ghost use Rattle.nfs_server.specs.RpcRules.{rpc_reply};
 
-use crate::reply_buf::begin;
 use crate::rpc_rules::RpcRule;
 use nfs_kept::kept_replies::MAX_KEPT_BYTES;
 use nfs_rpc::reply::{Accept, Refused, write_accepted, write_refused};
@@ -13,9 +12,9 @@ use nfs_xdr::output::Output;
 
 /// The reply to a call that fails a rule of RPC.
 pub(crate) fn refuse(out: &mut Output, rule: RpcRule, xid: u32)
-    requires { IsBegun out.old }
-    ensures room { IsReply out.new }
-    ensures reply { reply_in out.new ≡ rpc_reply rule xid }
+    requires { HasReplyRoom out.old }
+    ensures adds { Adds out.old out.new }
+    ensures reply { behind out.old out.new ≡ rpc_reply rule xid }
 {
     match rule {
         RpcRule::Version => write_refused(out, xid, Refused::RpcMismatch),
@@ -32,29 +31,30 @@ pub(crate) fn refuse(out: &mut Output, rule: RpcRule, xid: u32)
 /// The reply to a call that succeeds without a result.
 #[inline(always)]
 pub(crate) fn succeed(out: &mut Output, xid: u32)
-    requires { IsBegun out.old }
-    ensures room { IsReply out.new }
-    ensures reply { reply_in out.new ≡ accepted_text xid Success }
+    requires { HasReplyRoom out.old }
+    ensures adds { Adds out.old out.new }
+    ensures reply { behind out.old out.new ≡ accepted_text xid Success }
 {
     write_accepted(out, xid, Accept::Success);
 }
 
-/// The reply to a call for which there is no memory, in the place of what stands there.
-pub(crate) fn give_up(out: &mut Output, xid: u32)
-    requires { IsReply out.old }
-    ensures room { IsReply out.new }
-    ensures reply { reply_in out.new ≡ accepted_text xid SystemErr }
+/// The reply to a call for which there is no memory, in the place of what stands from `start` on.
+pub(crate) fn give_up(out: &mut Output, start: usize, xid: u32)
+    requires start { start ≤ length out.old.bytes }
+    requires room { room_bytes + start ≤ 4 + length out.old.bytes + out.old.room }
+    ensures bytes { out.new.bytes ≡ take start out.old.bytes ++ accepted_text xid SystemErr }
+    ensures room { length out.new.bytes + out.new.room ≡ length out.old.bytes + out.old.room }
 {
-    begin(out);
+    out.cut(start);
     write_accepted(out, xid, Accept::SystemErr);
 }
 
 /// A reply that was given before.
 pub(crate) fn repeat(out: &mut Output, reply: &[u8])
-    requires begun { IsBegun out.old }
+    requires room { HasReplyRoom out.old }
     requires short { length reply.now ≤ MAX_KEPT_BYTES }
-    ensures room { IsReply out.new }
-    ensures reply { reply_in out.new ≡ reply.now }
+    ensures adds { Adds out.old out.new }
+    ensures reply { behind out.old out.new ≡ reply.now }
 {
     out.part(reply);
 }

@@ -1,34 +1,37 @@
 //! The room in which replies are written.
-ghost use Rattle.std.specs.Prelude.{◌≡◌, [], ◌++◌, true, length, take, IfOk};
-ghost use Rattle.nfs_rpc.specs.Records.{header};
-ghost use Rattle.nfs_server.specs.ReplyRoom.{IsBegun, IsReply, reply_in};
+ghost use Rattle.std.specs.Prelude.{◌≡◌, ◌+◌, ◌≤◌, ◌⊎◌, [], ◌++◌, true, length, take, drop, IfOk, IsTrue};
+ghost use Rattle.nfs_rpc.specs.Records.{fragment, header};
+ghost use Rattle.nfs_server.specs.ReplyRoom.{HasReplyRoom, IsReply, reply_at};
 
-use nfs_rpc::record::seal_record;
+use nfs_rpc::record::{HEADER_BYTES, seal_record};
 use nfs_xdr::output::Output;
 use std::alloc::{AllocError, Global};
 use std::marker::Model;
 
 /// Room for one reply and the record mark in front of it, made once, so that no reply takes
-/// memory and a sealed reply goes out by one write. Contracts see the reply.
+/// memory and a sealed reply goes out by one write. Sealed replies may gather in front of it, where
+/// there is room for them, so that they go out by one write together and none is copied.
 #[derive(Drop)]
 pub struct ReplyBuf {
     // While a reply is written, its mark is not yet that of the reply.
     pub(crate) out: Output,
+    // Where the mark of the reply stands, behind the replies that have gathered.
+    pub(crate) start: usize,
 }
 
 /// How many bytes of room there are, for the mark and the reply.
 pub const ROOM: usize = 294_912;
 
-// How many bytes a record's mark has (RFC 5531, section 11).
-const MARK_BYTES: usize = 4;
+/// The most bytes of replies that gather: 256 KiB, and one reply more.
+pub const MOST_GATHERED: usize = 262_144 + ROOM;
 
 impl Model for ReplyBuf {
-    ghost use Rattle.std.specs.Prelude.{ℕ, List};
-    ghost use Rattle.nfs_server.specs.ReplyRoom.{IsSealed, reply_in};
+    ghost use Rattle.std.specs.Prelude.{take};
+    ghost use Rattle.nfs_server.specs.ReplyRoom.{Buffered, IsSealed, reply_at};
 
-    ghost Value = { List ℕ };
+    ghost Value = { Buffered };
 
-    ghost view = { λ a. reply_in a.out };
+    ghost view = { λ a. record { earlier = take a.start a.out.bytes; reply = reply_at a.start a.out } };
 
     ghost invariant = { IsSealed };
 }
@@ -36,63 +39,119 @@ impl Model for ReplyBuf {
 impl ReplyBuf {
     /// Room, with no reply in it. Refused where there is no memory.
     pub fn new(alloc: Global) -> Result<ReplyBuf, AllocError>
-        ensures { IfOk result (λ reply. reply ≡ []) }
+        ensures earlier { IfOk result (λ reply. reply.earlier ≡ []) }
+        ensures reply { IfOk result (λ reply. reply.reply ≡ []) }
     {
-        let mut out = Output::new(alloc, ROOM)?;
-        out.part(&seal_record(0));
-        Ok(ReplyBuf { out })
+        with_room(alloc, ROOM)
+    }
+
+    /// The same, where replies may gather in front of it. Refused where there is no memory.
+    pub fn gathering(alloc: Global) -> Result<ReplyBuf, AllocError>
+        ensures earlier { IfOk result (λ reply. reply.earlier ≡ []) }
+        ensures reply { IfOk result (λ reply. reply.reply ≡ []) }
+    {
+        with_room(alloc, MOST_GATHERED + ROOM)
+    }
+
+    /// The sealed replies that have gathered, one after another.
+    pub fn gathered(&self) -> &[u8]
+        ensures all { result.now ≡ self.now.earlier }
+        ensures bound { length result.now ≤ MOST_GATHERED }
+    {
+        &self.out.bytes()[..self.start]
     }
 
     /// The reply, empty where there is none.
     pub fn bytes(&self) -> &[u8]
-        ensures { result.now ≡ self.now }
+        ensures { result.now ≡ self.now.reply }
     {
-        written(&self.out)
+        &self.out.bytes()[self.start + HEADER_BYTES..]
     }
 
     /// The reply as one record, with its mark in front.
     pub fn sealed(&self) -> &[u8]
-        ensures { result.now ≡ header true (length self.now) ++ self.now }
+        ensures { result.now ≡ fragment true self.now.reply }
     {
-        self.out.bytes()
+        &self.out.bytes()[self.start..]
     }
 
-    /// No reply.
+    /// No reply; those that have gathered stay.
     pub fn clear(&mut self)
-        ensures { self.new ≡ [] }
+        ensures earlier { self.new.earlier ≡ self.old.earlier }
+        ensures reply { self.new.reply ≡ [] }
     {
-        begin(&mut self.out);
-        seal(&mut self.out);
+        begin(&mut self.out, self.start);
+        seal(&mut self.out, self.start);
+    }
+
+    /// No reply, and none that has gathered.
+    pub fn clear_all(&mut self)
+        ensures earlier { self.new.earlier ≡ [] }
+        ensures reply { self.new.reply ≡ [] }
+    {
+        self.start = 0;
+        begin(&mut self.out, 0);
+        seal(&mut self.out, 0);
+    }
+
+    /// The reply gathers behind the earlier ones, and there is none then. `false` where there is no
+    /// room for that: nothing changes.
+    pub fn gather(&mut self) -> bool
+        ensures done { IsTrue result → self.new.earlier ≡ self.old.earlier ++ fragment true self.old.reply }
+        ensures reply { IsTrue result → self.new.reply ≡ [] }
+        ensures full { IsTrue result ⊎ (self.new ≡ self.old) }
+    {
+        if self.out.room() < ROOM {
+            return false;
+        }
+        self.start = self.out.bytes().len();
+        self.out.part(&seal_record(0));
+        true
     }
 }
 
-/// The reply that was written behind the mark.
-#[inline(always)]
-pub(crate) fn written(out: &Output) -> &[u8]
-    requires { IsReply out.now }
-    ensures { result.now ≡ reply_in out.now }
+// A buffer with so many bytes of room, and no reply in it.
+fn with_room(alloc: Global, room: usize) -> Result<ReplyBuf, AllocError>
+    requires least { ROOM ≤ room }
+    requires most { room ≤ MOST_GATHERED + ROOM }
+    ensures earlier { IfOk result (λ reply. reply.earlier ≡ []) }
+    ensures reply { IfOk result (λ reply. reply.reply ≡ []) }
 {
-    &out.bytes()[MARK_BYTES..]
+    let mut out = Output::new(alloc, room)?;
+    out.part(&seal_record(0));
+    Ok(ReplyBuf { out, start: 0 })
 }
 
-/// Leaves nothing but the mark.
+/// What was written from a place on.
 #[inline(always)]
-pub(crate) fn begin(out: &mut Output)
-    requires { IsReply out.old }
-    ensures begun { IsBegun out.new }
-    ensures bytes { out.new.bytes ≡ take 4 out.old.bytes }
+pub(crate) fn written(out: &Output, start: usize) -> &[u8]
+    requires { start ≤ length out.now.bytes }
+    ensures { result.now ≡ drop start out.now.bytes }
 {
-    out.cut(MARK_BYTES);
+    &out.bytes()[start..]
 }
 
-/// Makes the mark that of the reply.
+/// Leaves nothing of the reply at a place but its mark.
 #[inline(always)]
-pub(crate) fn seal(out: &mut Output)
-    requires { IsReply out.old }
-    ensures reply { IsReply out.new }
-    ensures bytes { out.new.bytes ≡ header true (length (reply_in out.old)) ++ reply_in out.old }
-    ensures same { reply_in out.new ≡ reply_in out.old }
+pub(crate) fn begin(out: &mut Output, start: usize)
+    requires { IsReply start out.old }
+    ensures room { HasReplyRoom out.new }
+    ensures reply { IsReply start out.new }
+    ensures mark { length out.new.bytes ≡ start + 4 }
+    ensures bytes { out.new.bytes ≡ take (start + 4) out.old.bytes }
 {
-    let len = out.bytes().len() - MARK_BYTES;
-    out.overwrite(0, &seal_record(len as u32));
+    out.cut(start + HEADER_BYTES);
+}
+
+/// Makes the mark at a place that of the reply.
+#[inline(always)]
+pub(crate) fn seal(out: &mut Output, start: usize)
+    requires { IsReply start out.old }
+    ensures reply { IsReply start out.new }
+    ensures front { take start out.new.bytes ≡ take start out.old.bytes }
+    ensures sealed { drop start out.new.bytes ≡ header true (length (reply_at start out.old)) ++ reply_at start out.old }
+    ensures same { reply_at start out.new ≡ reply_at start out.old }
+{
+    let len = out.bytes().len() - start - HEADER_BYTES;
+    out.overwrite(start, &seal_record(len as u32));
 }

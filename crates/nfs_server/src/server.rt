@@ -13,7 +13,7 @@ ghost use Rattle.nfs_server.specs.InMemory.{event_of, answer_of, answered, told}
 ghost use Rattle.nfs_server.specs.Fits.{Held, Past, Fits, GoesOn};
 ghost use Rattle.nfs_server.specs.OneEvent.{AnswersRecord, AnswersBy, AnswersChange, PerformsAnew, scene_for};
 ghost use Rattle.nfs_server.specs.Repeats as repeats;
-ghost use Rattle.nfs_server.specs.ReplyRoom.{IsBegun, IsReply, reply_in};
+ghost use Rattle.nfs_server.specs.ReplyRoom.{Adds, HasReplyRoom, behind};
 ghost use Rattle.nfs_kept.specs.Places.{Key, Place, place_for};
 ghost use Rattle.nfs_server.specs.Runs.{events_of, RunsThrough};
 
@@ -109,8 +109,9 @@ impl Server {
     pub fn handle(&mut self, event: Event<'_>, reply: &mut ReplyBuf) -> Handled
         ensures setup { self.new.setup ≡ self.old.setup }
         ensures step { (past : Past) → Fits past self.old → (choice : Choice)
-            × GoesOn past self.old (event_of event.entry) choice (answered result reply.new self.new.line) self.new }
-        ensures silent { result ≡ Handled.NoReply → (reply.new ≡ []) × (self.new.line ≡ None) }
+            × GoesOn past self.old (event_of event.entry) choice (answered result reply.new.reply self.new.line) self.new }
+        ensures silent { result ≡ Handled.NoReply → (reply.new.reply ≡ []) × (self.new.line ≡ None) }
+        ensures earlier { reply.new.earlier ≡ reply.old.earlier }
     {
         self.answer(event, reply)
     }
@@ -118,17 +119,18 @@ impl Server {
     /// The same, said without a past, for who keeps none.
     #[inline(always)]
     pub fn answer(&mut self, event: Event<'_>, reply: &mut ReplyBuf) -> Handled
-        ensures answers { AnswersRecord self.old (event_of event.entry) (answered result reply.new self.new.line) self.new }
-        ensures silent { result ≡ Handled.NoReply → (reply.new ≡ []) × (self.new.line ≡ None) }
+        ensures answers { AnswersRecord self.old (event_of event.entry) (answered result reply.new.reply self.new.line) self.new }
+        ensures silent { result ≡ Handled.NoReply → (reply.new.reply ≡ []) × (self.new.line ≡ None) }
+        ensures earlier { reply.new.earlier ≡ reply.old.earlier }
     {
         let Ok(head) = read_call(event.bytes) else {
             reply.clear();
             self.line = None;
             return Handled::NoReply;
         };
-        begin(&mut reply.out);
+        begin(&mut reply.out, reply.start);
         let line = self.respond(&head, event, &mut reply.out);
-        seal(&mut reply.out);
+        seal(&mut reply.out, reply.start);
         keep(&mut self.line, line);
         Handled::Answered
     }
@@ -141,11 +143,11 @@ impl Server {
         event: Event<'_>,
         out: &mut Output,
     ) -> Option<AuditLine>
-        requires { IsBegun out.old }
-        ensures reply { IsReply out.new }
+        requires { HasReplyRoom out.old }
+        ensures adds { Adds out.old out.new }
         ensures setup { self.new.setup ≡ self.old.setup }
         ensures judged { AnswersBy rpc_rules self.old (event_of event.entry) (call_of head.now) head.now.args
-            (told (reply_in out.new) result) self.new }
+            (told (behind out.old out.new) result) self.new }
     {
         match admit(head) {
             Err(rule) => Some(deny(out, head, event, rule)),
@@ -166,13 +168,13 @@ impl Server {
         event: Event<'_>,
         out: &mut Output,
     ) -> Option<AuditLine>
-        requires begun { IsBegun out.old }
+        requires room { HasReplyRoom out.old }
         requires nfs { is_nfs (call_of head.now) ≡ true }
         requires null { is_null (call_of head.now) ≡ false }
-        ensures reply { IsReply out.new }
+        ensures adds { Adds out.old out.new }
         ensures setup { self.new.setup ≡ self.old.setup }
         ensures judged { AnswersBy (caller_rules ++ Arguments ∷ []) self.old (event_of event.entry) (call_of head.now) head.now.args
-            (told (reply_in out.new) result) self.new }
+            (told (behind out.old out.new) result) self.new }
     {
         let mut cred = Cred::nobody();
         match identify(head, &mut cred) {
@@ -190,15 +192,15 @@ impl Server {
         cred: &Cred,
         out: &mut Output,
     ) -> Option<AuditLine>
-        requires begun { IsBegun out.old }
+        requires room { HasReplyRoom out.old }
         requires nfs { is_nfs (call_of head.now) ≡ true }
         requires null { is_null (call_of head.now) ≡ false }
         requires known { find (fails_rpc (call_of head.now) head.now.args) caller_rules ≡ None }
         requires cred { caller (call_of head.now).cred.body ≡ Some (credential_of cred.now) }
-        ensures reply { IsReply out.new }
+        ensures adds { Adds out.old out.new }
         ensures setup { self.new.setup ≡ self.old.setup }
         ensures judged { AnswersBy (caller_rules ++ Arguments ∷ []) self.old (event_of event.entry) (call_of head.now) head.now.args
-            (told (reply_in out.new) result) self.new }
+            (told (behind out.old out.new) result) self.new }
     {
         let mut args = NfsArgs::Null;
         match read_args(head.proc, Input::new(head.args.rest()), &mut args) {
@@ -219,19 +221,20 @@ impl Server {
         args: &NfsArgs<'_>,
         out: &mut Output,
     ) -> Option<AuditLine>
-        requires begun { IsBegun out.old }
+        requires room { HasReplyRoom out.old }
         requires change { repeats.may_change args.now ≡ true }
-        ensures reply { IsReply out.new }
+        ensures adds { Adds out.old out.new }
         ensures setup { self.new.setup ≡ self.old.setup }
         ensures answers { AnswersChange (scene_for self.old (event_of event.entry) cred.now args.now) (call_of head.now) self.old
-            (event_of event.entry) (told (reply_in out.new) result) self.new }
+            (event_of event.entry) (told (behind out.old out.new) result) self.new }
     {
+        let start = out.bytes().len();
         if self.kept.find(event.addr, event.bytes) {
             give_again(&self.kept, out);
             return None;
         }
         if self.kept.take_place(event.addr, event.bytes).is_err() {
-            give_up(out, head.xid);
+            give_up(out, start, head.xid);
             return Some(AuditLine::of(event.addr, head, Reason::Memory));
         }
         let call = Call {
@@ -246,7 +249,7 @@ impl Server {
         if wants_memory(&line) {
             self.kept.give_back();
         } else {
-            self.kept.keep(written(out));
+            self.kept.keep(written(out, start));
         }
         line
     }
@@ -261,12 +264,12 @@ impl Server {
         args: &NfsArgs<'_>,
         out: &mut Output,
     ) -> Option<AuditLine>
-        requires { IsBegun out.old }
-        ensures reply { IsReply out.new }
+        requires { HasReplyRoom out.old }
+        ensures adds { Adds out.old out.new }
         ensures setup { self.new.setup ≡ self.old.setup }
         ensures kept { self.new.kept ≡ self.old.kept }
         ensures answers { PerformsAnew (scene_for self.old (event_of event.entry) cred.now args.now) (call_of head.now)
-            (told (reply_in out.new) result) self.old self.new }
+            (told (behind out.old out.new) result) self.old self.new }
     {
         let call = Call {
             table: &self.table,
@@ -288,13 +291,13 @@ impl Server {
         event: Event<'_>,
         out: &mut Output,
     ) -> Option<AuditLine>
-        requires begun { IsBegun out.old }
+        requires room { HasReplyRoom out.old }
         requires mount { is_nfs (call_of head.now) ≡ false }
         requires null { is_null (call_of head.now) ≡ false }
-        ensures reply { IsReply out.new }
+        ensures adds { Adds out.old out.new }
         ensures setup { self.new.setup ≡ self.old.setup }
         ensures judged { AnswersBy (caller_rules ++ Arguments ∷ []) self.old (event_of event.entry) (call_of head.now) head.now.args
-            (told (reply_in out.new) result) self.new }
+            (told (behind out.old out.new) result) self.new }
     {
         if let Some(rule) = caller_failure(head) {
             return Some(deny(out, head, event, rule));
@@ -333,9 +336,9 @@ impl Server {
 
 // The reply to a call that fails a rule of RPC, and its line.
 fn deny(out: &mut Output, head: &CallHead<'_>, event: Event<'_>, rule: RpcRule) -> AuditLine
-    requires { IsBegun out.old }
-    ensures room { IsReply out.new }
-    ensures reply { reply_in out.new ≡ rpc_reply rule head.now.xid }
+    requires { HasReplyRoom out.old }
+    ensures adds { Adds out.old out.new }
+    ensures reply { behind out.old out.new ≡ rpc_reply rule head.now.xid }
     ensures line { result ≡ line_of event.entry.addr (call_of head.now) (Rpc rule) }
 {
     refuse(out, rule, head.xid);
@@ -344,10 +347,10 @@ fn deny(out: &mut Output, head: &CallHead<'_>, event: Event<'_>, rule: RpcRule) 
 
 // The kept reply at the front once more.
 fn give_again(kept: &KeptReplies, out: &mut Output)
-    requires { IsBegun out.old }
-    ensures room { IsReply out.new }
+    requires { HasReplyRoom out.old }
+    ensures adds { Adds out.old out.new }
     ensures reply { (key : Key) (reply : List ℕ) (rest : List Place) → kept.now.places ≡ place_for key reply ∷ rest
-        → reply_in out.new ≡ reply }
+        → behind out.old out.new ≡ reply }
 {
     if let Some(reply) = kept.first() {
         repeat(out, reply);
@@ -377,7 +380,7 @@ fn keep(kept: &mut Option<AuditLine>, line: Option<AuditLine>)
 
 // What is handed to a sink.
 fn outcome_of(handled: Handled, reply: &ReplyBuf, line: Option<AuditLine>) -> Outcome<'_>
-    ensures { answer_of result ≡ answered handled reply.now line }
+    ensures { answer_of result ≡ answered handled reply.now.reply line }
 {
     match handled {
         Handled::Answered => Outcome {

@@ -11,11 +11,13 @@ ghost use Rattle.nfs_xdr.specs.Known.{Grows, GrowsByPart};
 use crate::audit_line::AuditLine;
 use crate::event::{Event, Handled};
 use crate::reply_buf::ReplyBuf;
+use crate::reply_out::ReplyOut;
 use crate::server::Server;
 use crate::session_fault::SessionFault;
 use nfs_attrs::moment::Moment;
 use nfs_exports::addr::Addr;
 use nfs_rpc::framer::{Framer, Stage};
+use nfs_rpc::record::HEADER_BYTES;
 use nfs_text::line::Line;
 use nfs_xdr::device::{ByteOut, write_all};
 
@@ -50,14 +52,14 @@ struct Step {
 
 // Takes a piece, and answers each record that it makes whole. Where there is room for so many
 // bytes of replies alone, it stops behind the record whose reply fills it.
-pub(crate) fn take_piece<W: ByteOut, A: ByteOut>(
+pub(crate) fn take_piece<R: ReplyOut, A: ByteOut>(
     server: &mut Server,
     reply: &mut ReplyBuf,
     framer: &mut Framer,
     origin: Origin,
     piece: &[u8],
     room: Option<usize>,
-    replies: &mut W,
+    replies: &mut R,
     audit: &mut A,
 ) -> Result<Taken, SessionFault>
     requires { IsBetween framer.old }
@@ -65,10 +67,10 @@ pub(crate) fn take_piece<W: ByteOut, A: ByteOut>(
     ensures between { OnOk result (IsBetween framer.new) }
     ensures limit { framer.new.limit ≡ framer.old.limit }
     ensures setup { server.new.setup ≡ server.old.setup }
-    ensures fault { IfErr result (EndsWith (A.failed audit.new) (W.failed replies.new)) }
+    ensures fault { IfErr result (EndsWith (A.failed audit.new) (R.failed replies.new)) }
     ensures feeds { FeedsSome origin piece.now room result server.old server.new framer.old framer.new
         (device (A.contents audit.old) (A.contents audit.new))
-        (device (W.contents replies.old) (W.contents replies.new)) }
+        (device (R.contents replies.old reply.old.earlier) (R.contents replies.new reply.new.earlier)) }
 {
     let mut used = 0;
     let mut records = 0;
@@ -116,15 +118,16 @@ fn room_after(room: Option<usize>, len: usize) -> Option<usize>
     }
 }
 
-// Takes a piece up to the end of the first record, which it answers.
+// Takes a piece up to the end of the first record, which it answers. One that stands whole in the
+// piece is read there.
 #[inline(always)]
-fn take_record<W: ByteOut, A: ByteOut>(
+fn take_record<R: ReplyOut, A: ByteOut>(
     server: &mut Server,
     reply: &mut ReplyBuf,
     framer: &mut Framer,
     origin: Origin,
     piece: &[u8],
-    replies: &mut W,
+    replies: &mut R,
     audit: &mut A,
 ) -> Result<Step, SessionFault>
     requires { IsBetween framer.old }
@@ -134,10 +137,48 @@ fn take_record<W: ByteOut, A: ByteOut>(
     ensures between { OnOk result (IsBetween framer.new) }
     ensures limit { framer.new.limit ≡ framer.old.limit }
     ensures setup { server.new.setup ≡ server.old.setup }
-    ensures fault { IfErr result (EndsWith (A.failed audit.new) (W.failed replies.new)) }
+    ensures fault { IfErr result (EndsWith (A.failed audit.new) (R.failed replies.new)) }
     ensures feeds { FeedsOne origin piece.now result server.old server.new framer.old framer.new
         (device (A.contents audit.old) (A.contents audit.new))
-        (device (W.contents replies.old) (W.contents replies.new)) }
+        (device (R.contents replies.old reply.old.earlier) (R.contents replies.new reply.new.earlier)) }
+{
+    let Some(content) = framer.lend(piece) else {
+        return take_fed(server, reply, framer, origin, piece, replies, audit);
+    };
+    let event = Event {
+        addr: origin.addr,
+        moment: origin.moment,
+        bytes: content,
+    };
+    let replied = answer_event(server, reply, event, replies, audit)?;
+    Ok(Step {
+        used: HEADER_BYTES + content.len(),
+        records: 1,
+        replied,
+    })
+}
+
+// The same, where the record doesn't stand whole in the piece.
+fn take_fed<R: ReplyOut, A: ByteOut>(
+    server: &mut Server,
+    reply: &mut ReplyBuf,
+    framer: &mut Framer,
+    origin: Origin,
+    piece: &[u8],
+    replies: &mut R,
+    audit: &mut A,
+) -> Result<Step, SessionFault>
+    requires { IsBetween framer.old }
+    ensures used { IfOk result (λ step. step.used ≤ length piece.now) }
+    ensures some { 0 < length piece.now → IfOk result (λ step. 0 < step.used) }
+    ensures counted { IfOk result (λ step. step.records ≤ step.used) }
+    ensures between { OnOk result (IsBetween framer.new) }
+    ensures limit { framer.new.limit ≡ framer.old.limit }
+    ensures setup { server.new.setup ≡ server.old.setup }
+    ensures fault { IfErr result (EndsWith (A.failed audit.new) (R.failed replies.new)) }
+    ensures feeds { FeedsOne origin piece.now result server.old server.new framer.old framer.new
+        (device (A.contents audit.old) (A.contents audit.new))
+        (device (R.contents replies.old reply.old.earlier) (R.contents replies.new reply.new.earlier)) }
 {
     let fed = framer.feed(piece)?;
     if !fed.ready {
@@ -158,22 +199,22 @@ fn take_record<W: ByteOut, A: ByteOut>(
 // Answers the record that is whole, and goes on to the next. Answers how many bytes of replies were
 // written.
 #[inline(always)]
-pub(crate) fn answer_record<W: ByteOut, A: ByteOut>(
+pub(crate) fn answer_record<R: ReplyOut, A: ByteOut>(
     server: &mut Server,
     reply: &mut ReplyBuf,
     framer: &mut Framer,
     origin: Origin,
-    replies: &mut W,
+    replies: &mut R,
     audit: &mut A,
 ) -> Result<usize, SessionFault>
     requires { framer.old.stage ≡ Stage.Ready }
     ensures next { BeginsAnew framer.new }
     ensures limit { framer.new.limit ≡ framer.old.limit }
     ensures setup { server.new.setup ≡ server.old.setup }
-    ensures fault { IfErr result (EndsWith (A.failed audit.new) (W.failed replies.new)) }
+    ensures fault { IfErr result (EndsWith (A.failed audit.new) (R.failed replies.new)) }
     ensures answers { AnswersEvent (event_at origin framer.old.content) result server.old server.new
         (device (A.contents audit.old) (A.contents audit.new))
-        (device (W.contents replies.old) (W.contents replies.new)) }
+        (device (R.contents replies.old reply.old.earlier) (R.contents replies.new reply.new.earlier)) }
 {
     let event = Event {
         addr: origin.addr,
@@ -187,18 +228,18 @@ pub(crate) fn answer_record<W: ByteOut, A: ByteOut>(
 
 // Answers an event, and how many bytes of replies were written.
 #[inline(always)]
-fn answer_event<W: ByteOut, A: ByteOut>(
+fn answer_event<R: ReplyOut, A: ByteOut>(
     server: &mut Server,
     reply: &mut ReplyBuf,
     event: Event<'_>,
-    replies: &mut W,
+    replies: &mut R,
     audit: &mut A,
 ) -> Result<usize, SessionFault>
     ensures setup { server.new.setup ≡ server.old.setup }
-    ensures fault { IfErr result (EndsWith (A.failed audit.new) (W.failed replies.new)) }
+    ensures fault { IfErr result (EndsWith (A.failed audit.new) (R.failed replies.new)) }
     ensures answers { AnswersEvent (event_of event.entry) result server.old server.new
         (device (A.contents audit.old) (A.contents audit.new))
-        (device (W.contents replies.old) (W.contents replies.new)) }
+        (device (R.contents replies.old reply.old.earlier) (R.contents replies.new reply.new.earlier)) }
 {
     match server.handle(event, reply) {
         Handled::Answered => write_answer(server.last_audit(), reply, replies, audit),
@@ -208,23 +249,22 @@ fn answer_event<W: ByteOut, A: ByteOut>(
 
 // Writes the audit line of a call, if it has one, and then its reply, and answers the number of the
 // reply's bytes.
-fn write_answer<W: ByteOut, A: ByteOut>(
+fn write_answer<R: ReplyOut, A: ByteOut>(
     denied: Option<AuditLine>,
-    reply: &ReplyBuf,
-    replies: &mut W,
+    reply: &mut ReplyBuf,
+    replies: &mut R,
     audit: &mut A,
 ) -> Result<usize, SessionFault>
-    ensures fault { IfErr result (EndsWith (A.failed audit.new) (W.failed replies.new)) }
-    ensures writes { Writes (told reply.now denied) result
+    ensures fault { IfErr result (EndsWith (A.failed audit.new) (R.failed replies.new)) }
+    ensures writes { Writes (told reply.old.reply denied) result
         (device (A.contents audit.old) (A.contents audit.new))
-        (device (W.contents replies.old) (W.contents replies.new)) }
+        (device (R.contents replies.old reply.old.earlier) (R.contents replies.new reply.new.earlier)) }
 {
     if let Some(denied) = denied {
         write_line(&denied, audit)?;
     }
-    let sealed = reply.sealed();
-    match write_all(replies, sealed) {
-        Ok(()) => Ok(sealed.len()),
+    match replies.take(reply) {
+        Ok(len) => Ok(len),
         Err(_) => Err(SessionFault::WriteFault),
     }
 }

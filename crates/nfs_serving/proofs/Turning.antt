@@ -13,7 +13,7 @@ use Rattle.nfs_server.specs.declared.session_fault.SessionFault.TheVariants.{Con
 use Rattle.nfs_server.specs.declared.taking.Origin.{Origin}
 use Rattle.nfs_server.specs.declared.taking.Taken.{Taken}
 use Rattle.nfs_serving.specs.Outgoing.{Outgoing, Passes, with_owed}
-use Rattle.nfs_serving.specs.Turns.{Standing, Rests, Takes, Turns, origin_of, written}
+use Rattle.nfs_serving.specs.Turns.{Standing, Gathers, Rests, Takes, Turns, origin_of, written}
 use Rattle.nfs_xdr.specs.Known.{Grows, Shrinks}
 use Rattle.nfs_xdr.proofs.Knowing.{Grows-then}
 
@@ -63,12 +63,17 @@ passes_keep (Some s) b x y p before e =
     let all : s ++ x ≡ (s ++ p.sent) ++ y = ap (λ t. s ++ t) p.owed_is ∙ sym (append_assoc s p.sent y) in
     ap (λ o. with_owed o y) sent ∙ ap Some (sym all ∙ some_same e ∙ sym (append-nil before))
 
--- what a batch was given is owed then
+-- what has gathered stands behind what was sent
 gives_over : (a : Option (List ℕ)) (batch xs : List ℕ) → Grows (Some []) xs (Some batch) → Grows (with_owed a []) xs (with_owed a batch)
 gives_over None batch xs g before e = absurd (none_some e)
 gives_over (Some s) batch xs g before e =
     let is : batch ≡ xs = some_same (g [] refl) in
     ap (λ t. Some (s ++ t)) is ∙ ap (λ t. Some (t ++ xs)) (sym (append-nil s) ∙ some_same e)
+
+-- what has gathered was sent, or is owed then
+sent_on : (a b : Option (List ℕ)) (gathered left xs : List ℕ) → Passes a gathered b left → Grows (Some []) xs (Some gathered) → Grows (with_owed a []) xs (with_owed b left)
+sent_on a b gathered left xs p g = subst (λ t. Grows (with_owed a []) t (with_owed b left)) (append-nil xs)
+    (Grows-then (with_owed a []) (with_owed a gathered) (with_owed b left) xs [] (gives_over a gathered xs g) (passes_keep a b gathered left p))
 
 -- ---- a feed whose replies go elsewhere
 
@@ -200,44 +205,60 @@ module _ {L : Type 0} (outgoing incoming : L → Option (List ℕ)) where
           feeds = subst (λ (j : Joined). Feeds (origin_of old moment) f.taken f.result server served old.connection.progress j.progress audit (device (written outgoing old) (written outgoing new))) (sym g.connection_stays) moved;
         }
 
-    pub takes_fed : (old new : Standing L) (result : Result Taken SessionFault) (room : Option ℕ) (piece first batch : List ℕ)
+    pub gathers_fed : (old new : Standing L) (result : Result Taken SessionFault) (room : Option ℕ) (piece first gathered : List ℕ)
         → old.connection.ended ≡ false
         → OnOk result (new.connection.ended ≡ false)
         → OnErr result (new.connection.ended ≡ true)
         → new.connection.addr ≡ old.connection.addr
         → new.connection.progress.limit ≡ old.connection.progress.limit
-        → old.outlet.owed ≡ []
-        → new.outlet.owed ≡ batch
-        → new.outlet.link ≡ old.outlet.link
+        → new.outlet ≡ old.outlet
         → new.piece ≡ left_of result old.piece
         → piece ≡ old.piece
         → first ≡ []
-        → FeedsSome (origin_of old moment) piece room result server served old.connection.progress new.connection.progress audit (device (Some first) (Some batch))
-        → Takes outgoing incoming moment [] old new server served audit
-    takes_fed old new result room piece first batch alive ok err addr limit none owed link left whole empty feeds =
-        let same : incoming new.outlet.link ≡ incoming old.outlet.link = ap incoming link in
-        let out : outgoing new.outlet.link ≡ outgoing old.outlet.link = ap outgoing link in
-        let before : with_owed (outgoing old.outlet.link) [] ≡ written outgoing old = ap (with_owed (outgoing old.outlet.link)) (sym none) in
-        let after : with_owed (outgoing old.outlet.link) batch ≡ written outgoing new = ap (λ o. with_owed o batch) (sym out) ∙ ap (with_owed (outgoing new.outlet.link)) (sym owed) in
-        let emptied = subst (λ b. FeedsSome (origin_of old moment) piece room result server served old.connection.progress new.connection.progress audit (device (Some b) (Some batch))) empty feeds in
-        let fed = subst (λ p. FeedsSome (origin_of old moment) p room result server served old.connection.progress new.connection.progress audit (device (Some []) (Some batch))) whole emptied in
-        let plain : Feeds (origin_of old moment) (bytes_taken result old.piece) (count_taken result) server served old.connection.progress new.connection.progress audit (device (Some []) (Some batch)) = λ past fits text u. (fed past fits text u).0 in
-        let moved = feeds_by (Some []) (Some batch) (with_owed (outgoing old.outlet.link) []) (with_owed (outgoing old.outlet.link) batch) (gives_over (outgoing old.outlet.link) batch)
-        audit (origin_of old moment) (bytes_taken result old.piece) (count_taken result) server served old.connection.progress new.connection.progress plain in
-        let first = subst (λ o. Feeds (origin_of old moment) (bytes_taken result old.piece) (count_taken result) server served old.connection.progress new.connection.progress audit (device o (with_owed (outgoing old.outlet.link) batch))) before moved in
-        let nothing_sent : Grows (outgoing old.outlet.link) [] (outgoing new.outlet.link) = subst (λ o. Grows (outgoing old.outlet.link) [] o) (sym out) (grows_none (outgoing old.outlet.link)) in
+        → FeedsSome (origin_of old moment) piece room result server served old.connection.progress new.connection.progress audit (device (Some first) (Some gathered))
+        → Gathers moment old new server served audit gathered
+    gathers_fed old new result room piece first gathered alive ok err addr limit outlet left whole empty feeds =
+        let emptied = subst (λ b. FeedsSome (origin_of old moment) piece room result server served old.connection.progress new.connection.progress audit (device (Some b) (Some gathered))) empty feeds in
+        let fed = subst (λ p. FeedsSome (origin_of old moment) p room result server served old.connection.progress new.connection.progress audit (device (Some []) (Some gathered))) whole emptied in
         record {
-          comes = subst (λ o. Shrinks (incoming old.outlet.link) [] o) (sym same) (shrinks_none (incoming old.outlet.link));
           taken = bytes_taken result old.piece;
-          in_order = all_there result old.piece new.piece left;
-          more = [];
-          settles = subst (λ t. Grows (outgoing old.outlet.link) t (outgoing new.outlet.link)) (sym (append-nil old.outlet.owed ∙ none)) nothing_sent;
+          in_order = sym (append-nil old.piece) ∙ all_there result old.piece new.piece left;
           result = count_taken result;
           alive = alive;
           ended_is = ended_as result new.connection.ended ok err;
           addr_stays = addr;
           limit_stays = limit;
-          feeds = subst (λ o. Feeds (origin_of old moment) (bytes_taken result old.piece) (count_taken result) server served old.connection.progress new.connection.progress audit (device (written outgoing old) o)) after first;
+          outlet_stays = outlet;
+          feeds = λ past fits text u. (fed past fits text u).0;
+        }
+
+    pub gathers_then_sent : (old mid new : Standing L) (gathered : List ℕ) → Gathers moment old mid server served audit gathered
+        → old.outlet.owed ≡ []
+        → new.connection ≡ mid.connection
+        → new.piece ≡ mid.piece
+        → incoming new.outlet.link ≡ incoming mid.outlet.link
+        → Passes (outgoing mid.outlet.link) gathered (outgoing new.outlet.link) new.outlet.owed
+        → Takes outgoing incoming moment [] old new server served audit
+    gathers_then_sent old mid new gathered f none same piece come passed =
+        let a = outgoing old.outlet.link in
+        let b = outgoing new.outlet.link in
+        let passes : Passes a gathered b new.outlet.owed = subst (λ (o : Outgoing L). Passes (outgoing o.link) gathered b new.outlet.owed) f.outlet_stays passed in
+        let come_is : incoming new.outlet.link ≡ incoming old.outlet.link = come ∙ ap (λ (o : Outgoing L). incoming o.link) f.outlet_stays in
+        let moved = feeds_by (Some []) (Some gathered) (with_owed a []) (written outgoing new) (λ xs g. sent_on a b gathered new.outlet.owed xs passes g)
+        audit (origin_of old moment) f.taken f.result server served old.connection.progress mid.connection.progress f.feeds in
+        let from = subst (λ owed. Feeds (origin_of old moment) f.taken f.result server served old.connection.progress mid.connection.progress audit (device (with_owed a owed) (written outgoing new))) (sym none) moved in
+        record {
+          comes = subst (λ o. Shrinks (incoming old.outlet.link) [] o) (sym come_is) (shrinks_none (incoming old.outlet.link));
+          taken = f.taken;
+          in_order = append-nil old.piece ∙ f.in_order ∙ ap (λ t. f.taken ++ t) (sym piece);
+          more = passes.sent;
+          settles = subst (λ owed. Grows a (owed ++ passes.sent) b) (sym none) passes.grows;
+          result = f.result;
+          alive = f.alive;
+          ended_is = ap (λ (j : Joined). j.ended) same ∙ f.ended_is;
+          addr_stays = ap (λ (j : Joined). j.addr) same ∙ f.addr_stays;
+          limit_stays = ap (λ (j : Joined). j.progress.limit) same ∙ f.limit_stays;
+          feeds = subst (λ (j : Joined). Feeds (origin_of old moment) f.taken f.result server served old.connection.progress j.progress audit (device (written outgoing old) (written outgoing new))) (sym same) from;
         }
 
     -- ---- a turn

@@ -10,11 +10,6 @@ pub record Outgoing (L : Type 0) : Type 0 where
   pub owed : List ℕ
   pub failed : Bool
 
--- what was written to a batch, and whether that failed
-pub record Gathered : Type 0 where
-  pub bytes : List ℕ
-  pub failed : Bool
-
 -- what was sent, where that is known, and what is owed behind it
 abbrev pub with_owed : Option (List ℕ) → List ℕ → Option (List ℕ)
 with_owed sent owed = option_map (λ bytes. bytes ++ owed) sent

@@ -49,6 +49,18 @@ pub record Takes {L : Type 0} (outgoing incoming : L → Option (List ℕ))
   pub limit_stays : new.connection.progress.limit ≡ old.connection.progress.limit
   pub feeds : Feeds (origin_of old moment) taken result server served old.connection.progress new.connection.progress audit (device (written outgoing old) (written outgoing new))
 
+-- Some of the bytes that had come were taken, in their order. What the records that they make whole are answered has gathered.
+pub record Gathers {L : Type 0} (moment : Moment) (old new : Standing L) (server served : Held) (audit : Device) (gathered : List ℕ) : Type 0 where
+  pub taken : List ℕ
+  pub in_order : old.piece ≡ taken ++ new.piece
+  pub result : Result ℕ SessionFault
+  pub alive : old.connection.ended ≡ false
+  pub ended_is : new.connection.ended ≡ is_err result
+  pub addr_stays : new.connection.addr ≡ old.connection.addr
+  pub limit_stays : new.connection.progress.limit ≡ old.connection.progress.limit
+  pub outlet_stays : new.outlet ≡ old.outlet
+  pub feeds : Feeds (origin_of old moment) taken result server served old.connection.progress new.connection.progress audit (device (Some []) (Some gathered))
+
 -- a turn in which these bytes came; one that takes nothing leaves the server and writes no line
 abbrev pub TurnsBy : {L : Type 0} → (L → Option (List ℕ)) → (L → Option (List ℕ)) → Moment → List ℕ → Standing L → Standing L → Held → Held → Device → Type 0
 TurnsBy outgoing incoming moment came old new server served audit =

@@ -1,8 +1,8 @@
 //! A client of a server.
-ghost use Rattle.std.specs.Prelude.{◌≡◌, ◌≢◌, ◌↔◌, Bool, ℕ, List, [], None, Some, true, false, IsTrue, IsNone, IfSome, OnErr};
+ghost use Rattle.std.specs.Prelude.{◌≡◌, ◌≢◌, ◌≤◌, ◌↔◌, Bool, vec_capacity, ℕ, List, [], None, Some, true, false, IsTrue, IsNone, IfSome, OnErr};
 ghost use Rattle.nfs_server.specs.Connections.{IsAtStart};
 ghost use Rattle.nfs_server.specs.Feeding.{device, EndsWith};
-ghost use Rattle.nfs_serving.specs.Turns.{Rests, Takes, Tells, Turns};
+ghost use Rattle.nfs_serving.specs.Turns.{Gathers, Rests, Takes, Tells, Turns};
 
 use crate::outlet::Outlet;
 use crate::room::Room;
@@ -11,6 +11,8 @@ use crate::window::Window;
 use nfs_attrs::moment::Moment;
 use nfs_exports::addr::Addr;
 use nfs_server::connection::Connection;
+use nfs_server::reply_buf::ReplyBuf;
+use nfs_server::reply_out::Gathering;
 use nfs_server::serve_fault::ServeFault;
 use nfs_server::server::Server;
 use nfs_server::session_fault::SessionFault;
@@ -135,12 +137,15 @@ impl<L: Link> Client<L> {
         ensures tells { Tells result self.new }
         ensures setup { server.new.setup ≡ server.old.setup }
     {
+        if room.make().is_err() {
+            return self.ends(End::Fault(ServeFault::Memory));
+        }
         let turn = self.take_some(server, room, moment, audit);
         self.piece.give_back(&mut room.bytes);
         turn
     }
 
-    // The same, and keeps the room.
+    // The same, where there is room for all replies to be owed, and keeps the room for what came.
     fn take_some<A: ByteOut>(
         &mut self,
         server: &mut Server,
@@ -150,6 +155,7 @@ impl<L: Link> Client<L> {
     ) -> Turn
         requires owed { self.old.outlet.owed ≡ [] }
         requires alive { self.old.end ≡ None }
+        requires room { MOST_GATHERED ≤ vec_capacity room.old.owed }
         ensures turns { Turns L.outgoing L.incoming moment self.old self.new server.old server.new
             (device (A.contents audit.old) (A.contents audit.new)) }
         ensures tells { Tells result self.new }
@@ -200,15 +206,15 @@ impl<L: Link> Client<L> {
     ) -> Turn
         requires owed { self.old.outlet.owed ≡ [] }
         requires alive { self.old.end ≡ None }
+        requires room { MOST_GATHERED ≤ vec_capacity room.old.owed }
         ensures takes { Takes L.outgoing L.incoming moment [] self.old self.new server.old server.new
             (device (A.contents audit.old) (A.contents audit.new)) }
         ensures tells { Tells result self.new }
         ensures setup { server.new.setup ≡ server.old.setup }
     {
-        self.answer(server, room, moment, audit);
-        let is_whole = self.pass_on().is_ok();
-        self.outlet.give_back(&mut room.batch);
-        self.outcome(is_whole, may_be_more)
+        self.answer(server, &mut room.reply, moment, audit);
+        let sent = self.outlet.send(room.reply.gathered(), &mut room.owed);
+        self.outcome(sent.is_ok(), may_be_more)
     }
 
     // What became of a turn behind which the link is whole or broken, and which took bytes behind
@@ -233,26 +239,25 @@ impl<L: Link> Client<L> {
         }
     }
 
-    // Feeds the connection with what has come. The replies are owed then.
+    // Feeds the connection with what has come. The replies gather in the buffer in which they are
+    // written.
     fn answer<A: ByteOut>(
         &mut self,
         server: &mut Server,
-        room: &mut Room,
+        reply: &mut ReplyBuf,
         moment: Moment,
         audit: &mut A,
     )
-        requires owed { self.old.outlet.owed ≡ [] }
         requires alive { self.old.end ≡ None }
-        ensures takes { Takes L.outgoing L.incoming moment [] self.old self.new server.old server.new
-            (device (A.contents audit.old) (A.contents audit.new)) }
+        ensures gathers { Gathers moment self.old self.new server.old server.new
+            (device (A.contents audit.old) (A.contents audit.new)) reply.new.earlier }
         ensures setup { server.new.setup ≡ server.old.setup }
     {
-        let (reply, batch) = (&mut room.reply, &mut room.batch);
-        batch.clear();
+        reply.clear_all();
+        let mut gathering = Gathering::new();
         let piece = self.piece.bytes();
-        let fed = self.connection.feed(server, reply, moment, piece, Some(MOST_OWED), batch, audit);
-        self.outlet.take_over(batch);
-        match fed {
+        let (most, out) = (Some(MOST_OWED), &mut gathering);
+        match self.connection.feed(server, reply, moment, piece, most, out, audit) {
             Ok(taken) => {
                 self.piece.take(taken.used);
                 self.calls = self.calls.saturating_add(taken.records);
@@ -277,7 +282,7 @@ impl<L: Link> Client<L> {
     }
 }
 
-// The fault that a connection ends with. A batch fails where there is no memory.
+// The fault that a connection ends with. Where replies don't gather, there is no room for them.
 fn fault_of(fault: SessionFault) -> ServeFault
     requires { (audit_failed : Bool) × (replies_failed : Bool) × EndsWith audit_failed replies_failed fault }
 {

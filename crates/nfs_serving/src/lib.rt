@@ -1,7 +1,6 @@
 //! Clients of a server, each on a link that never waits, served in turns.
 #![tactic(auto)]
 
-pub mod batch;
 pub mod client;
 pub mod laws;
 pub mod outlet;

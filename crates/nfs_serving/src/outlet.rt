@@ -1,8 +1,8 @@
 //! The way out to a client.
-ghost use Rattle.std.specs.Prelude.{◌≡◌, ◌↔◌, [], true, false, IsTrue, IfOk, OnOk, OnErr};
+ghost use Rattle.std.specs.Prelude.{◌≡◌, ◌≤◌, ◌↔◌, [], true, false, length, take, vec_capacity, IsTrue, IfOk, OnOk, OnErr};
 ghost use Rattle.nfs_serving.specs.Outgoing.{Passes, Brings};
+ghost use Rattle.nfs_xdr.specs.Known.{Grows};
 
-use crate::batch::Batch;
 use crate::window::Window;
 use nfs_xdr::device::DeviceFault;
 use nfs_xdr::link::{Came, Link};
@@ -60,19 +60,29 @@ impl<L: Link> Outlet<L> {
         ensures outgoing { OnErr result (L.outgoing self.new.link ≡ L.outgoing self.old.link) }
         ensures owed { OnErr result (self.new.owed ≡ self.old.owed) }
     {
-        if self.ended {
-            return Err(DeviceFault);
-        }
-        if self.owed.is_empty() {
-            return Ok(());
-        }
-        match self.link.send(self.owed.bytes()) {
+        let n = send_some(&mut self.link, &mut self.ended, self.owed.bytes())?;
+        self.owed.take(n);
+        Ok(())
+    }
+
+    /// Sends these bytes, where nothing is owed, as much of them as the link takes now. The others are
+    /// owed then, all of them where the link is broken, in a list that has room for them, in whose
+    /// stead another comes.
+    pub fn send(&mut self, bytes: &[u8], room: &mut Vec<u8>) -> Result<(), DeviceFault>
+        requires owed { self.old.owed ≡ [] }
+        requires room { length bytes.now ≤ vec_capacity room.old }
+        ensures passes { Passes (L.outgoing self.old.link) bytes.now (L.outgoing self.new.link) self.new.owed }
+        ensures incoming { L.incoming self.new.link ≡ L.incoming self.old.link }
+        ensures alive { OnOk result (self.new.failed ≡ self.old.failed) }
+        ensures fault { OnErr result (self.new.failed ≡ true) }
+    {
+        match send_some(&mut self.link, &mut self.ended, bytes) {
             Ok(n) => {
-                self.owed.take(n);
+                self.owed.hold(room, &bytes[n..]);
                 Ok(())
             }
             Err(fault) => {
-                self.ended = true;
+                self.owed.hold(room, bytes);
                 Err(fault)
             }
         }
@@ -89,20 +99,24 @@ impl<L: Link> Outlet<L> {
     {
         piece.receive(&mut self.link)
     }
+}
 
-    /// Takes over what a batch has, where nothing is owed: it is owed now.
-    pub fn take_over(&mut self, batch: &mut Batch)
-        requires { self.old.owed ≡ [] }
-        ensures owed { self.new.owed ≡ batch.old.bytes }
-        ensures same { (self.new.link ≡ self.old.link) × (self.new.failed ≡ self.old.failed) }
-    {
-        batch.hand_over(&mut self.owed);
+// Sends some first bytes of these, as many as the link takes now, unless it is broken.
+fn send_some<L: Link>(link: &mut L, ended: &mut bool, bytes: &[u8]) -> Result<usize, DeviceFault>
+    ensures count { IfOk result (λ n. n ≤ length bytes.now) }
+    ensures sent { IfOk result (λ n. Grows (L.outgoing link.old) (take n bytes.now) (L.outgoing link.new)) }
+    ensures incoming { L.incoming link.new ≡ L.incoming link.old }
+    ensures alive { OnOk result (ended.new ≡ ended.old) }
+    ensures fault { OnErr result (ended.new ≡ true) }
+    ensures outgoing { OnErr result (L.outgoing link.new ≡ L.outgoing link.old) }
+{
+    if *ended {
+        return Err(DeviceFault);
     }
-
-    /// Gives the room of a batch back, unless something is owed.
-    pub fn give_back(&mut self, batch: &mut Batch)
-        ensures { self.new ≡ self.old }
-    {
-        batch.take_back(&mut self.owed);
+    if bytes.is_empty() {
+        return Ok(0);
     }
+    let sent = link.send(bytes);
+    *ended = sent.is_err();
+    sent
 }

@@ -1,24 +1,33 @@
 //! What all clients of a server share.
-use crate::batch::Batch;
-use nfs_server::reply_buf::ReplyBuf;
+ghost use Rattle.std.specs.Prelude.{◌≤◌, OnOk, vec_capacity};
+
+use nfs_server::reply_buf::{MOST_GATHERED, ReplyBuf};
 use std::alloc::{AllocError, Global};
 
-/// Room that a client has while it has its turn: for what it sends, for a reply, and for the replies
-/// of the turn together.
+/// Room that a client has while it has its turn: for what it sends, for the replies of the turn
+/// together, and for those of them that its link doesn't take.
 #[derive(Drop)]
 pub struct Room {
     pub(crate) bytes: Vec<u8>,
     pub(crate) reply: ReplyBuf,
-    pub(crate) batch: Batch,
+    pub(crate) owed: Vec<u8>,
 }
 
 impl Room {
-    /// Room for a reply; the other grows as it is wanted. Refused where there is no memory.
+    /// Room for replies; the other is made as it is wanted. Refused where there is no memory.
     pub fn new(alloc: Global) -> Result<Room, AllocError> {
         Ok(Room {
             bytes: Vec::new(alloc),
-            reply: ReplyBuf::new(alloc)?,
-            batch: Batch::new(alloc),
+            reply: ReplyBuf::gathering(alloc)?,
+            owed: Vec::new(alloc),
         })
+    }
+
+    /// Makes room for all replies of a turn to be owed. Refused where there is no memory.
+    pub(crate) fn make(&mut self) -> Result<(), AllocError>
+        ensures { OnOk result (MOST_GATHERED ≤ vec_capacity self.new.owed) }
+    {
+        self.owed.clear();
+        self.owed.reserve_exact(MOST_GATHERED)
     }
 }

@@ -1,5 +1,5 @@
 //! Bytes in a list, of which the first may be gone already.
-ghost use Rattle.std.specs.Prelude.{◌≡◌, ◌≤◌, ◌↔◌, [], drop, length, IsTrue, IfOk, OnErr, true};
+ghost use Rattle.std.specs.Prelude.{◌≡◌, ◌≤◌, ◌↔◌, [], drop, length, vec_capacity, IsTrue, IfOk, OnErr, true};
 ghost use Rattle.nfs_serving.specs.Outgoing.{Brings};
 
 use nfs_xdr::device::DeviceFault;
@@ -9,7 +9,7 @@ use std::marker::Model;
 use std::mem;
 
 /// The most bytes that are received at once.
-pub const MOST_RECEIVED: usize = 131_072;
+pub const MOST_RECEIVED: usize = 163_840;
 
 /// Some of a list's bytes: those that have come on a link and are not taken yet, or those that are
 /// owed on it.
@@ -90,12 +90,20 @@ impl Window {
         Ok(())
     }
 
-    /// Holds these bytes, in the room where they stand, and leaves its own room for them.
-    pub fn hold(&mut self, bytes: &mut Vec<u8>)
-        ensures { self.new ≡ bytes.old.items }
+    /// Holds these bytes, in a list that has room for them, and leaves its own list for it; with no
+    /// bytes each keeps its list.
+    pub fn hold(&mut self, room: &mut Vec<u8>, bytes: &[u8])
+        requires { length bytes.now ≤ vec_capacity room.old }
+        ensures { self.new ≡ bytes.now }
     {
-        mem::swap(&mut self.bytes, bytes);
         self.from = 0;
+        self.to = 0;
+        if bytes.is_empty() {
+            return;
+        }
+        room.clear();
+        room.extend_from_slice(bytes).unwrap();
+        mem::swap(&mut self.bytes, room);
         self.to = self.bytes.len();
     }
 

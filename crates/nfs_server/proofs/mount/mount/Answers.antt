@@ -1,7 +1,8 @@
 use Rattle.std.proofs.Common.{◌≡◌, refl, subst}
 use Rattle.nfs_mount.specs.MountAnswers.{Mounts}
 use Rattle.nfs_mount.specs.Mounts.{after_umnt}
-use Rattle.nfs_server.proofs.Mounted.{none_written, of_args}
+use Rattle.nfs_server.proofs.Mounted.{of_args}
+use Rattle.nfs_server.proofs.Room.{none_written}
 use Rattle.nfs_server.proofs.mount.mount.Goals as goal
 
 pub returns-in-Mount-clause-mounts : goal.returns-in-Mount-clause-mounts

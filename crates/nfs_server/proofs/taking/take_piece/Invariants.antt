@@ -13,7 +13,7 @@ invariant-loop-used g l = record {
   setup : l.server.setup ≡ l.fn.server.setup;
   feeds : FeedsWith (IsRoomLeft l.fn.room l.left) l.origin (take l.used l.piece) (Ok l.records) l.fn.server l.server l.fn.framer l.framer
       (device (g.A.ByteOut.contents l.fn.audit) (g.A.ByteOut.contents l.audit))
-      (device (g.W.ByteOut.contents l.fn.replies) (g.W.ByteOut.contents l.replies));
+      (device (g.R.ReplyOut.contents l.fn.replies l.fn.reply.earlier) (g.R.ReplyOut.contents l.replies l.reply.earlier));
 }
 
 abbrev pub decreases-loop-used : goal.decreases-loop-used

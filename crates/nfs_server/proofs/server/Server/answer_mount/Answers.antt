@@ -5,7 +5,7 @@ use Rattle.nfs_server.specs.Requests.{mount_args_in}
 use Rattle.nfs_server.specs.RpcRules.{caller_rules}
 use Rattle.nfs_server.specs.Fits.{Held}
 use Rattle.nfs_server.specs.OneEvent.{AnswersBy}
-use Rattle.nfs_server.specs.ReplyRoom.{reply_in}
+use Rattle.nfs_server.specs.ReplyRoom.{behind}
 use Rattle.nfs_server.specs.InMemory.{event_of, held, told}
 use Rattle.nfs_server.specs.declared.rpc_rules.RpcRule.TheVariants.{Arguments}
 use Rattle.std.proofs.Common.{[], ◌∷◌}
@@ -26,6 +26,6 @@ returns-clause-judged c =
     let inside = c.self.inside in
     let new : Held = held inside.kept inside.table inside.tree c.answer_mount.new.mounts inside.line in
     let bytes = c.args.head.now.args in
-    subst (λ (h : Held). AnswersBy (caller_rules ++ Arguments ∷ []) h (event_of c.args.event) (call_of c.args.head.now) bytes (told (reply_in c.answer_mount.new.out) c.answer_mount.result) new) c.self.view_is
+    subst (λ (h : Held). AnswersBy (caller_rules ++ Arguments ∷ []) h (event_of c.args.event) (call_of c.args.head.now) bytes (told (behind c.args.out.now c.answer_mount.new.out) c.answer_mount.result) new) c.self.view_is
     (mount_requested (held inside.kept inside.table inside.tree inside.mounts inside.line) (event_of c.args.event) (call_of c.args.head.now) bytes c.in-Ok.args _ new c.requires.mount c.requires.null (sym c.caller_failure.ensures ∙ c.in_default.is)
     (sym (c.read_mount_args.ensures ∙ ap (mount_args_in c.args.head.now.proc) (c.new.ensures ∙ c.rest.ensures.all)) ∙ ap result_ok c.in-Ok.is) refl refl c.answer_mount.ensures.answers)
