@@ -80,12 +80,7 @@ fn take(
         None => Ok(()),
         Some(size) => {
             let given = with_cleared_mode(uid, &file.attributes, &size_alone(Some(size)));
-            set_given(
-                tree,
-                Number(file.attributes.fileid, file.hint),
-                &given,
-                now,
-            )
+            set_given(tree, Number(file.attributes.fileid, file.hint), &given, now)
         }
     }
 }

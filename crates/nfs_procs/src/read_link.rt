@@ -54,8 +54,9 @@ fn write_granted(out: &mut Output, tree: &Tree, file: &FileView<'_>)
     requires room { largest_of proc.ReadLink ≤ out.old.room }
     requires seen { IsSeen tree.now file.now }
     ensures { AppendsAnswer (answer.ReadLink (Ok (record {
-        attributes = Some file.now.attributes;
-        path = on_some (path_at tree.now file.now.attributes.fileid) [] (λ path. path) }))) out.old out.new }
+      attributes = Some file.now.attributes;
+      path = on_some (path_at tree.now file.now.attributes.fileid) [] (λ path. path);
+    }))) out.old out.new }
 {
     let path = path_of(tree, file);
     out.u32(0);

@@ -12,6 +12,6 @@ use Rattle.nfs_procs.proofs.read_link.write_granted.Goals as goal
 pub returns : goal.returns
 returns c = subst (λ path. AppendsAnswer (answer.ReadLink (Ok (record { attributes = Some c.args.file.now.attributes; path = path }))) c.args.out.now c.write_link_path.new.out) (c.new.ensures ∙ c.path_of-path.ensures.path)
     (subst (λ (f : Fattr). AppendsAnswer (answer.ReadLink (Ok (record { attributes = Some f; path = c.new.result }))) c.args.out.now c.write_link_path.new.out) c.attributes.ensures (record {
-  text = appends_then _ _ _ _ _ c.u32.ensures.text c.write_link_path.ensures.text;
-  spelled = granted_spelled answer.ReadLink IsLinkPath IsPostOpAttr link_path_text _ c.write_link_path.ensures.spelled;
-}))
+      text = appends_then _ _ _ _ _ c.u32.ensures.text c.write_link_path.ensures.text;
+      spelled = granted_spelled answer.ReadLink IsLinkPath IsPostOpAttr link_path_text _ c.write_link_path.ensures.spelled;
+    }))
