@@ -182,17 +182,25 @@ impl<T: Drop> Files<T> {
         requires { IsSome (at self.now number.0) }
         ensures { handle_at self.now number.0 ≡ Some result }
     {
-        let tag = match slot_at(&self.slots, &self.places, number) {
-            Some(slot) => tag_of(slot),
+        match self.handle_of(number) {
+            Some(handle) => handle,
             None => unreachable!(),
-        };
+        }
+    }
+
+    /// The handle of the file of a number, if it lives.
+    #[inline(always)]
+    pub fn handle_of(&self, number: Number) -> Option<[u8; 24]>
+        ensures { result ≡ handle_at self.now number.0 }
+    {
+        let slot = slot_at(&self.slots, &self.places, number)?;
         let k = self.key;
-        let t = tag.to_be_bytes();
+        let t = tag_of(slot).to_be_bytes();
         let n = number.0.to_be_bytes();
-        [
+        Some([
             MAGIC[0], MAGIC[1], MAGIC[2], MAGIC[3], k[0], k[1], k[2], k[3], k[4], k[5], k[6], k[7],
             t[0], t[1], t[2], t[3], n[0], n[1], n[2], n[3], n[4], n[5], n[6], n[7],
-        ]
+        ])
     }
 
     /// The file of a number, if it lives.

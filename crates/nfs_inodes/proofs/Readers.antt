@@ -15,7 +15,7 @@ use Rattle.nfs_inodes.specs.Tree.{Tree, File, Kind, Volume, on_some, nlink, entr
 use Rattle.nfs_inodes.specs.Tree as tree
 use Rattle.nfs_inodes.specs.Counts.{CountedFile, CountedVolume, Agrees, tree_in, files_in}
 use Rattle.nfs_inodes.specs.Storage.{file_of, kind_of, counted_files, counted_volume_of, volume_of, counted_tree_of}
-use Rattle.nfs_inodes.specs.Reading.{attributes_of, attributes_at, kind_at, listing, listing_at, cookie_of_next, next_cookie_at, bytes_at, totals_at, numbered_files, IsFirstChunk}
+use Rattle.nfs_inodes.specs.Reading.{attributes_of, attributes_at, kind_at, listing, listing_at, cookie_of_next, next_cookie_at, path_of, path_at, bytes_at, totals_at, numbered_files, IsFirstChunk}
 use Rattle.nfs_inodes.specs.Views.{kind_seen, bytes_seen, IsSeen}
 use Rattle.nfs_inodes.specs.Views.{FileView}
 use Rattle.nfs_inodes.proofs.Maps.{at_shows}
@@ -75,6 +75,9 @@ listed_seen t v s = of_kind [] (listing v.attributes.fileid) (tree.at v.attribut
 
 pub seen_cookie : (t : Tree) (v : FileView) → IsSeen t v → cookie_of_next (kind_seen v) ≡ next_cookie_at t v.attributes.fileid
 seen_cookie t v s = of_kind None cookie_of_next (tree.at v.attributes.fileid t.files) (kind_seen v) s.1
+
+pub seen_path : (t : Tree) (v : FileView) → IsSeen t v → path_of (kind_seen v) ≡ path_at t v.attributes.fileid
+seen_path t v s = of_kind None path_of (tree.at v.attributes.fileid t.files) (kind_seen v) s.1
 
 pub seen_bytes : (t : Tree) (v : FileView) → IsSeen t v → bytes_seen v ≡ bytes_at t v.attributes.fileid
 seen_bytes t v s = of_kind [] bytes_in (tree.at v.attributes.fileid t.files) (kind_seen v) s.1
@@ -176,10 +179,3 @@ handle_kept a stored_volumes n = same (at a n) ∙ sym (ap (option_map (λ (f : 
 
 pub handle_there : (a : NumberedFiles StoredFile) (stored_volumes : List StoredVolume) (t : Tree) → tree_in (counted_tree_of a stored_volumes) ≡ t → (n : ℕ) → handle_at a n ≡ handle_at (numbered_files t) n
 handle_there a stored_volumes t view n = handle_kept a stored_volumes n ∙ ap (λ (t : Tree). handle_at (numbered_files t) n) view
-
-pub handle_none : (a : NumberedFiles StoredFile) (n : ℕ) → None ≡ value_at a n → handle_at a n ≡ None
-handle_none a n e = of (at a n) e
-  where
-    of : (o : Option (TaggedFile StoredFile)) → None ≡ option_map (λ (f : TaggedFile StoredFile). f.value) o → option_map (λ (f : TaggedFile StoredFile). handle_text a.key f.tag n) o ≡ None
-    of None e = refl
-    of (Some f) e = cc

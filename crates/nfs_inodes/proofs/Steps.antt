@@ -1,7 +1,6 @@
 -- A new file, in what is kept.
 use Rattle.std.proofs.Common.{◌≡◌, ℕ, ◌<◌, Bool, true, List, [], ◌∷◌, ◌++◌, ◌≢◌, map, length, Option, Some, None, option_map, refl, sym, ap, subst, ◌∙◌, arith}
 use Rattle.std.proofs.Common.{Fits, w64}
-use Rattle.nfs_entries.specs.Listing.{Listed}
 use Rattle.std.specs.Prelude.{All, slice_get, if◌then◌else◌}
 use Rattle.nfs_attrs.specs.declared.moment.Moment.{Moment}
 use Rattle.nfs_handles.specs.NumberedFiles.{NumberedFiles, value_at}
@@ -248,9 +247,9 @@ unchanged a b stored_volumes news e f keeps = subst (λ (b : NumberedFiles Store
 pub may_found : (a : NumberedFiles StoredFile) (stored_volumes : List StoredVolume) (max_files : ℕ) (path given : List ℕ) (t : Tree) → tree_in (counted_tree_of a stored_volumes) ≡ t → path ≡ given → MayAddVolume t given max_files → MayAddVolume (tree_in (counted_tree_of a stored_volumes)) path max_files
 may_found a stored_volumes max_files path given t view is may = subst (λ (t : Tree). MayAddVolume t path max_files) (sym view) (subst (λ (path : List ℕ). MayAddVolume t path max_files) (sym is) may)
 
-pub root_file : (f : File) (index places next number : ℕ) (given : NewFile) (now : Moment) (entries : Listed) → index ≡ places → next ≡ number → entries.next ≡ 3 → entries.entries ≡ [] → f ≡ new_file index (Directory next entries.next entries.entries) given None 0 now → f ≡ new_file places (Directory number 3 []) given None 0 now
-root_file f index places next number given now entries a b c e is =
-    is ∙ (λ k. new_file index (Directory next (c k) (e k)) given None 0 now)
+pub root_file : (f : File) (index places next number : ℕ) (given : NewFile) (now : Moment) (kind : Kind) → index ≡ places → next ≡ number → kind ≡ Directory next 3 [] → f ≡ new_file index kind given None 0 now → f ≡ new_file places (Directory number 3 []) given None 0 now
+root_file f index places next number given now kind a b c is =
+    is ∙ ap (λ kind. new_file index kind given None 0 now) c
     ∙ ap (λ n. new_file index (Directory n 3 []) given None 0 now) b
     ∙ ap (λ n. new_file n (Directory number 3 []) given None 0 now) a
 

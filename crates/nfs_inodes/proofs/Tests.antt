@@ -10,7 +10,6 @@ use Rattle.nfs_handles.specs.declared.number.Number.{Number}
 use Rattle.nfs_handles.specs.NumberedFiles.{NumberedFiles, value_at}
 use Rattle.nfs_entries.specs.Listing.{Listed}
 use Rattle.nfs_inodes.specs.declared.stored_file.StoredFile.{StoredFile}
-use Rattle.nfs_inodes.specs.declared.stored_file.Node.TheVariants as node
 use Rattle.nfs_inodes.specs.declared.stored_volume.StoredVolume.{StoredVolume}
 use Rattle.nfs_inodes.specs.Tree.{Tree, File, Kind, Directory, Entry, Volume, entries_in, next_cookie_in, is_directory, nlink, names_of, bytes_of, files_of}
 use Rattle.nfs_inodes.specs.Law.{IsName, Lives}
@@ -75,10 +74,9 @@ no_entry_named name es fresh = is_none_of (entry_named name es) ((unlisted name 
     is_none_of (Some x) e = cc
 
 -- the kept directory takes the name where no entry has it
-pub takes_name : (i : StoredFile) (parent : Number) (entries : Listed) (name : List ℕ) (o : Option Number) (b : Bool) → i.node ≡ node.Directory parent entries → entries.next < 18446744073709551615 → IsName name →
+pub takes_name : (i : StoredFile) (parent : ℕ) (entries : Listed) (name : List ℕ) (o : Option Number) (b : Bool) → kind_of i.node ≡ Directory parent entries.next entries.entries → entries.next < 18446744073709551615 → IsName name →
     option_map (λ (n : Number). n.0) o ≡ number_named name entries.entries → is_some o ≡ not b → Decides b (TakesName i name)
-takes_name i parent entries name o b is below is_name search none =
-    let kind : kind_of i.node ≡ Directory parent.0 entries.next entries.entries = ap kind_of is in
+takes_name i parent entries name o b kind below is_name search none =
     Decides-at b (is_none (entry_named name entries.entries)) (none_told o b none ∙ none_alike (λ (n : Number). n.0) (λ (e : Entry). e.number) o (entry_named name entries.entries) search)
     (Decides-like (is_none (entry_named name entries.entries))
     (λ all. record {

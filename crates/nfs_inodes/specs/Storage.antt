@@ -10,7 +10,7 @@ use Rattle.nfs_handles.specs.NumberedFiles.{NumberedFiles, TaggedFile}
 
 abbrev pub kind_of : Node → Kind
 kind_of (node.Regular content) = Regular content
-kind_of (node.Directory parent entries) = Directory parent.0 entries.next entries.entries
+kind_of (node.Directory parent entries) = Directory parent.0 entries.value.next entries.value.entries
 kind_of (node.Link path) = Link path.items
 
 -- the file, under some tag
@@ -40,7 +40,7 @@ counted_volume_of s = record { volume = volume_of s; bytes = s.bytes; files = s.
 -- a directory takes an entry with no growth
 abbrev pub has_room : Node → Type 0
 has_room (node.Regular content) = ⊥
-has_room (node.Directory parent entries) = 0 < entries.spare
+has_room (node.Directory parent entries) = 0 < entries.value.spare
 has_room (node.Link path) = ⊥
 
 abbrev pub HasRoom : StoredFile → Type 0

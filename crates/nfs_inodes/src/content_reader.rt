@@ -4,9 +4,11 @@ ghost use Rattle.nfs_inodes.specs.Tree.{bytes_in};
 ghost use Rattle.nfs_inodes.specs.Storage.{kind_of};
 ghost use Rattle.nfs_inodes.specs.Reading.{IsFirstChunk, bytes_at, path_at};
 ghost use Rattle.nfs_inodes.specs.Reading as spec;
+ghost use Rattle.nfs_inodes.specs.Views.{IsSeen};
 
 use crate::stored_file::Node;
 use crate::tree::Tree;
+use crate::view::FileView;
 use nfs_content::content::Content;
 use nfs_handles::number::Number;
 
@@ -31,6 +33,14 @@ impl Tree {
             Some(stored_file) => path_of(&stored_file.node),
             None => None,
         }
+    }
+
+    /// The same of a link that is seen, without a search.
+    pub fn link_path_of<'a>(&self, link: &FileView<'a>) -> Option<&'a [u8]>
+        requires { IsSeen self.now link.now }
+        ensures { option_map (λ path. path.now) result ≡ path_at self.now link.now.attributes.fileid }
+    {
+        path_of(link.node())
     }
 }
 

@@ -90,6 +90,14 @@ impl Tree {
         }
     }
 
+    /// The same of a directory that is seen, without a search.
+    pub fn entry_after_in<'a>(&self, dir: &FileView<'a>, cookie: u64) -> Option<EntryView<'a>>
+        requires { IsSeen self.now dir.now }
+        ensures { option_map entry_seen result ≡ entry_after self.now dir.now.attributes.fileid cookie }
+    {
+        after_cookie(dir.node(), dir.number(), cookie)
+    }
+
     // The file that the entry of a name in directory `dir` names; `.` and `..` are no entries.
     pub(crate) fn entry(&self, dir: Number, name: &[u8]) -> Option<Number>
         ensures { option_map (λ n. n.0) result ≡ option_map (λ e. e.number) (entry_at self.now dir.0 name.now) }

@@ -15,11 +15,7 @@ impl Tree {
     pub fn handle_of(&self, number: u64) -> Option<[u8; 24]>
         ensures { result ≡ handle_at (numbered_files self.now) number }
     {
-        let number = Number::new(number);
-        match self.files.get(number) {
-            Some(_) => Some(self.files.handle(number)),
-            None => None,
-        }
+        self.files.handle_of(Number::new(number))
     }
 
     /// What the bytes of a handle say.

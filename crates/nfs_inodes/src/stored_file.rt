@@ -1,8 +1,8 @@
 //! A file as it is kept, and what is done to it alone.
 ghost use Rattle.std.specs.Prelude.{◌≡◌, ◌+◌, ◌<◌, ◌≤◌, ◌^◌, ◌*◌, OnOk, OnErr, length, IsTrue};
-ghost use Rattle.std.specs.Prelude.{◌%◌, if◌then◌else◌, None};
+ghost use Rattle.std.specs.Prelude.{◌%◌, if◌then◌else◌, None, IfOk, []};
 ghost use Rattle.nfs_inodes.specs.Limits.{max_file_bytes, max_links};
-ghost use Rattle.nfs_inodes.specs.Tree.{is_directory, is_regular, entries_in, next_cookie_in, bytes_in};
+ghost use Rattle.nfs_inodes.specs.Tree.{Directory, is_directory, is_regular, entries_in, next_cookie_in, bytes_in};
 ghost use Rattle.nfs_inodes.specs.Tree.{one_when, on_some};
 ghost use Rattle.nfs_inodes.specs.Changes.{entered, file_with_bytes, new_file};
 ghost use Rattle.nfs_inodes.specs.Changes.{left, moved_to, resized_to};
@@ -17,17 +17,31 @@ use nfs_content::content::Content;
 use nfs_content::pages::Pages;
 use nfs_entries::directory_entries::DirectoryEntries;
 use nfs_handles::number::Number;
-use std::alloc::AllocError;
+use std::alloc::{AllocError, Global};
 
 /// What a file is, as it is kept.
 #[derive(Drop)]
 pub(crate) enum Node {
     Regular(Pages),
+    // The entries lie apart, so that a file of another kind takes no room for them.
     Directory {
         parent: Number,
-        entries: DirectoryEntries,
+        entries: Box<DirectoryEntries>,
     },
     Link(Vec<u8>),
+}
+
+// `.` and `..` have the cookies 1 and 2.
+const FIRST_COOKIE: u64 = 3;
+
+impl Node {
+    /// A directory with no entries.
+    pub(crate) fn directory(alloc: Global, parent: Number) -> Result<Node, AllocError>
+        ensures { IfOk result (λ node. kind_of node ≡ Directory parent.0 3 []) }
+    {
+        let entries = Box::new(alloc, DirectoryEntries::new(alloc, FIRST_COOKIE))?;
+        Ok(Node::Directory { parent, entries })
+    }
 }
 
 /// A file as it is kept, with the number of its links.

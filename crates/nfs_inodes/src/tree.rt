@@ -21,7 +21,6 @@ use crate::stored_files::{add, link, reserve, resize, set, write};
 use crate::stored_volume::StoredVolume;
 use nfs_attrs::moment::Moment;
 use nfs_content::pages::Pages;
-use nfs_entries::directory_entries::DirectoryEntries;
 use nfs_handles::files::Files;
 use nfs_handles::number::Number;
 use std::alloc::{AllocError, Global};
@@ -47,9 +46,6 @@ impl Model for Tree {
 
     ghost invariant = { λ a. Agrees (counted_tree_of a.files a.volumes.items) };
 }
-
-// `.` and `..` have the cookies 1 and 2.
-const FIRST_COOKIE: u64 = 3;
 
 impl Tree {
     /// No volumes and no files; the key is the server's, in every handle.
@@ -119,10 +115,7 @@ impl Tree {
         ensures err { OnErr result (self.new ≡ self.old) }
     {
         let name = copied(self.alloc, name)?;
-        let node = Node::Directory {
-            parent: dir,
-            entries: DirectoryEntries::new(self.alloc, FIRST_COOKIE),
-        };
+        let node = Node::directory(self.alloc, dir)?;
         self.make(dir, name, node, given, None, now)
     }
 
@@ -228,10 +221,7 @@ impl Tree {
         let path = copied(self.alloc, path)?;
         self.volumes.reserve(1)?;
         let parent = Number::new(self.files.next());
-        let node = Node::Directory {
-            parent,
-            entries: DirectoryEntries::new(self.alloc, FIRST_COOKIE),
-        };
+        let node = Node::directory(self.alloc, parent)?;
         let stored_file = StoredFile::new(self.volumes.len(), node, given, None, now);
         let root = match self.files.put(stored_file) {
             Ok(root) => root,

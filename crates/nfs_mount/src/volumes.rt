@@ -26,8 +26,8 @@ pub(crate) fn root_handle(tree: &Tree, volume: usize) -> [u8; 24]
         Some(volume) => volume.root,
         None => unreachable!(),
     };
-    match tree.handle_of(root.0) {
-        Some(handle) => handle,
+    match tree.view(root) {
+        Some(file) => tree.handle(&file),
         None => unreachable!(),
     }
 }

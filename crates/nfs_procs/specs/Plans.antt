@@ -1,5 +1,5 @@
 -- What is planned of procedures that change the tree, once their rules are kept.
-use Rattle.std.specs.Prelude.{◌≡◌, ℕ, true, false, List, length, Option, Some, None, Result, Ok, Err}
+use Rattle.std.specs.Prelude.{◌≡◌, ℕ, true, false, List, length, Option, Some, None, option_map, Result, Ok, Err}
 use Rattle.nfs_args.specs.declared.create.Create.{Create}
 use Rattle.nfs_args.specs.declared.create.CreateHow.{CreateHow}
 use Rattle.nfs_args.specs.declared.make_dir.MakeDir.{MakeDir}
@@ -140,8 +140,12 @@ MayMakeOrTake t d a (Some f) = MayTake t f.fileid a.how
 abbrev pub after_making : Tree → FilePlan → Create → Moment → ℕ → Tree
 after_making t plan a now tag = after_make_file t plan.dir.attributes.fileid a.place.name (zeros (on_some (size_in a.how) 0 (λ size. size))) plan.given (verifier_in a.how) tag now
 
+-- the file that is taken, if there is one
+abbrev pub present_in : FilePlan → Option Fattr
+present_in plan = option_map (λ f. f.attributes) plan.present
+
 abbrev pub after_making_or_taking : Tree → FilePlan → Create → Moment → ℕ → Tree
-after_making_or_taking t plan a now tag = on_some plan.present (after_making t plan a now tag) (λ f. after_taking t plan.uid f a.how now)
+after_making_or_taking t plan a now tag = on_some (present_in plan) (after_making t plan a now tag) (λ f. after_taking t plan.uid f a.how now)
 
 -- the number of the file that is there, or of a new one
 abbrev pub number_of : Tree → Option Fattr → ℕ
@@ -151,7 +155,7 @@ number_of t present = on_some present t.next (λ f. f.fileid)
 pub record PlansFile (t : Tree) (now : Moment) (a : Create) (plan : FilePlan) (s : Subject) : Type 0 where
   pub tree : s.tree ≡ t
   pub dir : plan.dir.attributes ≡ s.file
-  pub present : plan.present ≡ found s a.place.name
+  pub present : present_in plan ≡ found s a.place.name
   pub uid : plan.uid ≡ s.ids.uid
   pub given : plan.given ≡ new_file_of file_mode s.ids now (attributes_in a.how)
-  pub may : MayMakeOrTake t plan.dir.attributes.fileid a plan.present
+  pub may : MayMakeOrTake t plan.dir.attributes.fileid a (present_in plan)

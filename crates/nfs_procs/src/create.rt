@@ -17,7 +17,6 @@ use crate::replies::{change, write_denied_change, write_new_file};
 use crate::settings::size_alone;
 use crate::subjects::subject_of;
 use nfs_args::create::{Create, CreateHow};
-use nfs_attrs::fattr::Fattr;
 use nfs_attrs::sattr::Sattr;
 use nfs_handles::number::Number;
 use nfs_inodes::tree::Tree;
@@ -55,7 +54,7 @@ fn decide(tree: &Tree, call: &Call<'_>, args: &Create<'_>) -> Result<FilePlan, D
     match create_rules(&dir, args) {
         Ok(present) => Ok(FilePlan {
             dir: FileBefore::of(dir.view()),
-            present: attributes_of(&present),
+            present: before_of(&present),
             uid: dir.uid(),
             given: new_file_of(FILE_MODE, &dir, call.moment, &given_in(&args.how)),
         }),
@@ -63,11 +62,11 @@ fn decide(tree: &Tree, call: &Call<'_>, args: &Create<'_>) -> Result<FilePlan, D
     }
 }
 
-fn attributes_of(file: &Option<FileView<'_>>) -> Option<Fattr>
-    ensures { result ≡ option_map (λ f. f.attributes) file.now }
+fn before_of(file: &Option<FileView<'_>>) -> Option<FileBefore>
+    ensures { option_map (λ f. f.attributes) result ≡ option_map (λ f. f.attributes) file.now }
 {
     match file {
-        Some(file) => Some(file.attributes()),
+        Some(file) => Some(FileBefore::of(file)),
         None => None,
     }
 }

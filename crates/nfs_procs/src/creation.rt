@@ -5,16 +5,15 @@ ghost use Rattle.nfs_inodes.specs.Conditions.{MayMake};
 ghost use Rattle.nfs_inodes.specs.Tree.{on_some};
 ghost use Rattle.nfs_procs.specs.Changers as changers;
 ghost use Rattle.nfs_procs.specs.Plans.{MayTake, MayMakeOrTake, after_making, after_making_or_taking};
-ghost use Rattle.nfs_procs.specs.Plans.{number_of};
+ghost use Rattle.nfs_procs.specs.Plans.{number_of, present_in};
 ghost use Rattle.nfs_rules.specs.Table.{size_in};
 
-use crate::plan::FilePlan;
+use crate::plan::{FileBefore, FilePlan};
 use crate::settings::{set_given, size_alone, with_cleared_mode};
 use nfs_args::create::{Create, CreateHow};
-use nfs_attrs::fattr::Fattr;
 use nfs_attrs::moment::Moment;
 use nfs_content::pages::Pages;
-use nfs_handles::number::{Hint, Number};
+use nfs_handles::number::Number;
 use nfs_inodes::tree::Tree;
 use std::alloc::AllocError;
 
@@ -26,17 +25,17 @@ pub(crate) fn make_or_take(
     args: &Create<'_>,
     now: Moment,
 ) -> Result<Number, AllocError>
-    requires { MayMakeOrTake tree.old plan.now.dir.attributes.fileid args.now plan.now.present }
+    requires { MayMakeOrTake tree.old plan.now.dir.attributes.fileid args.now (present_in plan.now) }
     ensures ok { OnOk result (Makes (after_making_or_taking tree.old plan.now args.now now) tree.new) }
-    ensures number { IfOk result (λ n. n.0 ≡ number_of tree.old plan.now.present) }
+    ensures number { IfOk result (λ n. n.0 ≡ number_of tree.old (present_in plan.now)) }
     ensures err { OnErr result (tree.new ≡ tree.old) }
-    ensures full { OnErr result (on_some plan.now.present true (λ f. changers.taking_grows tree.old f.fileid args.now.how) ≡ true) }
+    ensures full { OnErr result (on_some (present_in plan.now) true (λ f. changers.taking_grows tree.old f.fileid args.now.how) ≡ true) }
 {
     match plan.present {
         None => make(tree, plan, args, now),
         Some(file) => {
             take(tree, plan.uid, &file, &args.how, now)?;
-            Ok(Number(file.fileid, Hint::NONE))
+            Ok(Number(file.attributes.fileid, file.hint))
         }
     }
 }
@@ -68,20 +67,20 @@ fn make(
 fn take(
     tree: &mut Tree,
     uid: u32,
-    file: &Fattr,
+    file: &FileBefore,
     how: &CreateHow,
     now: Moment,
 ) -> Result<(), AllocError>
-    requires { MayTake tree.old file.now.fileid how.now }
-    ensures ok { OnOk result (tree.new ≡ changers.after_taking tree.old uid file.now how.now now) }
+    requires { MayTake tree.old file.now.attributes.fileid how.now }
+    ensures ok { OnOk result (tree.new ≡ changers.after_taking tree.old uid file.now.attributes how.now now) }
     ensures err { OnErr result (tree.new ≡ tree.old) }
-    ensures full { OnErr result (changers.taking_grows tree.old file.now.fileid how.now ≡ true) }
+    ensures full { OnErr result (changers.taking_grows tree.old file.now.attributes.fileid how.now ≡ true) }
 {
     match size_taken(how) {
         None => Ok(()),
         Some(size) => {
-            let given = with_cleared_mode(uid, file, &size_alone(Some(size)));
-            set_given(tree, Number(file.fileid, Hint::NONE), &given, now)
+            let given = with_cleared_mode(uid, &file.attributes, &size_alone(Some(size)));
+            set_given(tree, Number(file.attributes.fileid, file.hint), &given, now)
         }
     }
 }

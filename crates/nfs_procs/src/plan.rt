@@ -54,8 +54,8 @@ pub struct RemovalPlan {
 pub struct FilePlan {
     /// The directory.
     pub dir: FileBefore,
-    /// The file that is taken, if there is one, before the call.
-    pub present: Option<Fattr>,
+    /// The file that is taken, if there is one.
+    pub present: Option<FileBefore>,
     /// The caller, for what a size takes from the mode of the one that is taken.
     pub uid: u32,
     /// What a new file is like.

@@ -6,6 +6,7 @@ ghost use Rattle.nfs_args.specs.declared.answer.NfsAnswer.TheVariants as answer;
 ghost use Rattle.nfs_args.specs.declared.args.NfsArgs.TheVariants as nfs;
 ghost use Rattle.nfs_inodes.specs.Reading.{path_at};
 ghost use Rattle.nfs_inodes.specs.Tree.{on_some};
+ghost use Rattle.nfs_inodes.specs.Views.{IsSeen};
 ghost use Rattle.nfs_procs.specs.Denials.{Decides};
 ghost use Rattle.nfs_procs.specs.Performing.{AppendsAnswer, Performs};
 ghost use Rattle.nfs_procs.specs.Plans.{PlansReading};
@@ -19,9 +20,8 @@ use crate::replies::write_denied_attributes;
 use crate::subjects::subject_of;
 use nfs_args::link_path::{LinkPath, write_link_path};
 use nfs_args::opaque::Opaque;
-use nfs_attrs::fattr::Fattr;
-use nfs_handles::number::{Hint, Number};
 use nfs_inodes::tree::Tree;
+use nfs_inodes::view::FileView;
 use nfs_rules::subject::Subject;
 use nfs_xdr::output::Output;
 
@@ -32,7 +32,7 @@ pub(crate) fn read_link(tree: &Tree, call: &Call<'_>, handle: &Opaque<'_>, out: 
 {
     match decide(tree, call, handle) {
         Ok(file) => {
-            write_granted(out, tree, &file.attributes());
+            write_granted(out, tree, file.view());
             Done::Granted
         }
         Err(denial) => write_denied_attributes(out, &denial),
@@ -50,29 +50,33 @@ fn decide<'a>(tree: &'a Tree, call: &Call<'a>, handle: &Opaque<'_>) -> Result<Su
     }
 }
 
-fn write_granted(out: &mut Output, tree: &Tree, file: &Fattr)
-    requires { largest_of proc.ReadLink ≤ out.old.room }
-    ensures { AppendsAnswer (answer.ReadLink (Ok
-        (record { attributes = Some file.now; path = on_some (path_at tree.now file.now.fileid) [] (λ path. path) }))) out.old out.new }
+fn write_granted(out: &mut Output, tree: &Tree, file: &FileView<'_>)
+    requires room { largest_of proc.ReadLink ≤ out.old.room }
+    requires seen { IsSeen tree.now file.now }
+    ensures { AppendsAnswer (answer.ReadLink (Ok (record {
+      attributes = Some file.now.attributes;
+      path = on_some (path_at tree.now file.now.attributes.fileid) [] (λ path. path);
+    }))) out.old out.new }
 {
-    let path = path_of(tree, Number(file.fileid, Hint::NONE));
+    let path = path_of(tree, file);
     out.u32(0);
     write_link_path(
         out,
         &LinkPath {
-            attributes: Some(*file),
+            attributes: Some(file.attributes()),
             path: Opaque::new(path),
         },
     );
 }
 
 // The path of a link; of another file none.
-fn path_of(tree: &Tree, number: Number) -> &[u8]
-    ensures path { result.now ≡ on_some (path_at tree.entry.now number.0) [] (λ path. path) }
+fn path_of<'a>(tree: &Tree, file: &FileView<'a>) -> &'a [u8]
+    requires { IsSeen tree.now file.now }
+    ensures path { result.now ≡ on_some (path_at tree.now file.now.attributes.fileid) [] (λ path. path) }
     ensures bound { length result.now ≤ max_path }
 {
     tree.law();
-    match tree.link_path(number) {
+    match tree.link_path_of(file) {
         Some(path) => path,
         None => &[],
     }

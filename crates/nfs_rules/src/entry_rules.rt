@@ -12,7 +12,6 @@ use crate::subject::Subject;
 use nfs_args::create::CreateHow;
 use nfs_attrs::fattr::Fattr;
 use nfs_attrs::file_type::FileType;
-use nfs_handles::number::{Hint, Number};
 use nfs_inodes::view::FileView;
 
 // The cookie of `..`, behind which the other entries stand.
@@ -65,7 +64,7 @@ impl<'a> Subject<'a> {
         match self.found(name) {
             None => Ok(None),
             Some(file) => {
-                if self.takes(how, &file.attributes()) {
+                if self.takes(how, &file) {
                     Ok(Some(file))
                 } else {
                     Err(Rule::Exists)
@@ -75,22 +74,23 @@ impl<'a> Subject<'a> {
     }
 
     // Whether CREATE takes a file that is there.
-    fn takes(&self, how: &CreateHow, file: &Fattr) -> bool
-        ensures { result ≡ test.takes self.now.tree how.now file.now }
+    fn takes(&self, how: &CreateHow, file: &FileView<'_>) -> bool
+        ensures { result ≡ test.takes self.now.tree how.now file.now.attributes }
     {
+        let regular = file.attributes().file_type == FileType::Regular;
         match how {
-            CreateHow::Unchecked(_) => file.file_type == FileType::Regular,
+            CreateHow::Unchecked(_) => regular,
             CreateHow::Guarded(_) => false,
             CreateHow::Exclusive(verifier) => {
-                file.file_type == FileType::Regular && self.was_made_by(file, verifier.as_slice())
+                regular && self.was_made_by(file, verifier.as_slice())
             }
         }
     }
 
-    fn was_made_by(&self, file: &Fattr, verifier: &[u8]) -> bool
-        ensures { result ≡ on_some (verifier_at self.now.tree file.now.fileid) false (bytes_eq verifier.now) }
+    fn was_made_by(&self, file: &FileView<'_>, verifier: &[u8]) -> bool
+        ensures { result ≡ on_some (verifier_at self.now.tree file.now.attributes.fileid) false (bytes_eq verifier.now) }
     {
-        match self.tree.verifier(Number(file.fileid, Hint::NONE)) {
+        match self.tree.verifier(file.number()) {
             Some(made_by) => verifier == made_by.as_slice(),
             None => false,
         }
@@ -104,18 +104,18 @@ impl<'a> Subject<'a> {
     }
 
     /// `NotEmpty`: a directory lists nothing but `.` and `..`.
-    pub(crate) fn must_be_empty(&self, dir: &Fattr) -> Result<(), Rule>
-        ensures { Tells result (test.not_empty self.now.tree dir.now) }
+    pub(crate) fn must_be_empty(&self, dir: &FileView<'_>) -> Result<(), Rule>
+        requires { IsSeen self.now.tree dir.now }
+        ensures { Tells result (test.not_empty self.now.tree dir.now.attributes) }
     {
         ensure(self.is_empty(dir), Rule::NotEmpty)
     }
 
-    pub(crate) fn is_empty(&self, dir: &Fattr) -> bool
-        ensures { result ≡ test.is_empty self.now.tree dir.now }
+    pub(crate) fn is_empty(&self, dir: &FileView<'_>) -> bool
+        requires { IsSeen self.now.tree dir.now }
+        ensures { result ≡ test.is_empty self.now.tree dir.now.attributes }
     {
-        self.tree
-            .entry_after(Number(dir.fileid, Hint::NONE), LAST_DOT_COOKIE)
-            .is_none()
+        self.tree.entry_after_in(dir, LAST_DOT_COOKIE).is_none()
     }
 }
 

@@ -1,6 +1,7 @@
 //! The rules that look at what RENAME moves, and at what it takes the place of.
-ghost use Rattle.std.specs.Prelude.{◌≡◌, ◌&&◌, not, true, nat_eq, Some, option_map};
-ghost use Rattle.nfs_inodes.specs.Reading.{attributes_at, is_directory_type};
+ghost use Rattle.std.specs.Prelude.{◌≡◌, ◌&&◌, not, true, nat_eq, IfSome, option_map};
+ghost use Rattle.nfs_inodes.specs.Reading.{is_directory_type};
+ghost use Rattle.nfs_inodes.specs.Views.{IsSeen};
 ghost use Rattle.nfs_rules.specs.Judging.{Judges, Tells};
 ghost use Rattle.nfs_rules.specs.Table as table;
 ghost use Rattle.nfs_rules.specs.Tests as test;
@@ -8,9 +9,7 @@ ghost use Rattle.nfs_rules.specs.Tests as test;
 use crate::limit_rules::must_have_link_left;
 use crate::rule::{Rule, ensure};
 use crate::subject::Subject;
-use nfs_attrs::fattr::Fattr;
 use nfs_attrs::file_type::FileType;
-use nfs_handles::number::{Hint, Number};
 use nfs_inodes::tree::Tree;
 use nfs_inodes::view::FileView;
 
@@ -19,11 +18,12 @@ use nfs_inodes::view::FileView;
 pub(crate) fn move_rules(
     from: &Subject<'_>,
     to: &Subject<'_>,
-    moved: &Fattr,
-    old: &Option<Fattr>,
+    moved: &FileView<'_>,
+    old: &Option<FileView<'_>>,
 ) -> Result<(), Rule>
-    requires { is_directory_type to.now.file.file_type ≡ true }
-    ensures { Judges result (table.move_rules from.now to.now moved.now old.now) }
+    requires directory { is_directory_type to.now.file.file_type ≡ true }
+    requires seen { IfSome old.now (λ f. IsSeen to.now.tree f) }
+    ensures { Judges result (table.move_rules from.now to.now moved.now.attributes (option_map (λ f. f.attributes) old.now)) }
 {
     if is_moved(moved, old) {
         return Ok(());
@@ -36,11 +36,12 @@ pub(crate) fn move_rules(
 fn entering_rules(
     from: &Subject<'_>,
     to: &Subject<'_>,
-    moved: &Fattr,
-    old: &Option<Fattr>,
+    moved: &FileView<'_>,
+    old: &Option<FileView<'_>>,
 ) -> Result<(), Rule>
-    requires { is_directory_type to.now.file.file_type ≡ true }
-    ensures { Judges result (table.entering_rules from.now to.now moved.now old.now) }
+    requires directory { is_directory_type to.now.file.file_type ≡ true }
+    requires seen { IfSome old.now (λ f. IsSeen to.now.tree f) }
+    ensures { Judges result (table.entering_rules from.now to.now moved.now.attributes (option_map (λ f. f.attributes) old.now)) }
 {
     match old {
         None => {
@@ -56,23 +57,12 @@ fn entering_rules(
     }
 }
 
-/// The attributes of a file, if there is one.
-#[inline(always)]
-pub(crate) fn attributes_of(file: Option<FileView<'_>>) -> Option<Fattr>
-    ensures { result ≡ option_map (λ f. f.attributes) file.entry }
-{
-    match file {
-        Some(file) => Some(file.attributes()),
-        None => None,
-    }
-}
-
 // Whether what the new name names is what is moved.
-fn is_moved(moved: &Fattr, old: &Option<Fattr>) -> bool
-    ensures { result ≡ table.is_moved moved.now old.now }
+fn is_moved(moved: &FileView<'_>, old: &Option<FileView<'_>>) -> bool
+    ensures { result ≡ table.is_moved moved.now.attributes (option_map (λ f. f.attributes) old.now) }
 {
     match old {
-        Some(old) => moved.fileid == old.fileid,
+        Some(old) => moved.number().0 == old.number().0,
         None => false,
     }
 }
@@ -82,21 +72,26 @@ impl<'a> Subject<'a> {
     fn must_let_go_with(
         &self,
         to: &Subject<'_>,
-        moved: &Fattr,
-        old: &Option<Fattr>,
+        moved: &FileView<'_>,
+        old: &Option<FileView<'_>>,
     ) -> Result<(), Rule>
-        ensures { Tells result (table.sticky_move self.now to.now moved.now old.now) }
+        ensures { Tells result (table.sticky_move self.now to.now moved.now.attributes (option_map (λ f. f.attributes) old.now)) }
     {
-        self.must_let_go(moved)?;
+        self.must_let_go(&moved.attributes())?;
         match old {
-            Some(old) => to.must_let_go(old),
+            Some(old) => to.must_let_go(&old.attributes()),
             None => Ok(()),
         }
     }
 
     /// `Incompatible`: what is there may be replaced by what is moved.
-    pub(crate) fn must_be_replaceable(&self, moved: &Fattr, old: &Fattr) -> Result<(), Rule>
-        ensures { Tells result (table.incompatible self.now moved.now old.now) }
+    pub(crate) fn must_be_replaceable(
+        &self,
+        moved: &FileView<'_>,
+        old: &FileView<'_>,
+    ) -> Result<(), Rule>
+        requires { IsSeen self.now.tree old.now }
+        ensures { Tells result (table.incompatible self.now moved.now.attributes old.now.attributes) }
     {
         let kept = if is_directory(moved) {
             is_directory(old) && self.is_empty(old)
@@ -107,20 +102,20 @@ impl<'a> Subject<'a> {
     }
 
     /// `IntoItself`: what is moved is neither this directory nor above it.
-    pub(crate) fn must_not_be_below(&self, moved: &Fattr) -> Result<(), Rule>
+    pub(crate) fn must_not_be_below(&self, moved: &FileView<'_>) -> Result<(), Rule>
         requires { is_directory_type self.now.file.file_type ≡ true }
-        ensures { Tells result (table.into_itself self.now moved.now) }
+        ensures { Tells result (table.into_itself self.now moved.now.attributes) }
     {
         if !is_directory(moved) {
             return Ok(());
         }
-        let kept = !is_above(self.tree, moved, &self.attributes());
+        let kept = !is_above(self.tree, moved, self.view());
         ensure(kept, Rule::IntoItself)
     }
 
     // `Links`, where a directory comes into another directory than this one, which gains a link.
-    fn must_have_link_left_for(&self, to: &Subject<'_>, moved: &Fattr) -> Result<(), Rule>
-        ensures { Tells result (test.only_where (is_directory_type moved.now.file_type && not
+    fn must_have_link_left_for(&self, to: &Subject<'_>, moved: &FileView<'_>) -> Result<(), Rule>
+        ensures { Tells result (test.only_where (is_directory_type moved.now.attributes.file_type && not
             (nat_eq self.now.file.fileid to.now.file.fileid)) (test.links to.now.file)) }
     {
         if !is_directory(moved) || self.attributes().fileid == to.attributes().fileid {
@@ -130,24 +125,21 @@ impl<'a> Subject<'a> {
     }
 }
 
-fn is_directory(file: &Fattr) -> bool
-    ensures { result ≡ is_directory_type file.now.file_type }
+fn is_directory(file: &FileView<'_>) -> bool
+    ensures { result ≡ is_directory_type file.now.attributes.file_type }
 {
-    match file.file_type {
+    match file.attributes().file_type {
         FileType::Directory => true,
         _ => false,
     }
 }
 
 // Whether a directory is another one, or above it.
-fn is_above(tree: &Tree, above: &Fattr, dir: &Fattr) -> bool
-    requires shown { attributes_at tree.now dir.now.fileid ≡ Some dir.now }
-    requires directory { is_directory_type dir.now.file_type ≡ true }
-    ensures { result ≡ table.is_above tree.now above.now.fileid dir.now.fileid }
+fn is_above(tree: &Tree, above: &FileView<'_>, dir: &FileView<'_>) -> bool
+    requires seen { IsSeen tree.now dir.now }
+    requires directory { is_directory_type dir.now.attributes.file_type ≡ true }
+    ensures { result ≡ table.is_above tree.now above.now.attributes.fileid dir.now.attributes.fileid }
 {
     tree.law();
-    tree.is_below(
-        Number(dir.fileid, Hint::NONE),
-        Number(above.fileid, Hint::NONE),
-    )
+    tree.is_below(dir.number(), above.number())
 }

@@ -9,7 +9,7 @@ ghost use Rattle.nfs_rules.specs.Tests.{found};
 
 use crate::entry_rules::{must_be_directory, must_not_be_directory};
 use crate::limit_rules::{must_have_link_left, must_not_be_too_big};
-use crate::move_rules::{attributes_of, move_rules};
+use crate::move_rules::move_rules;
 use crate::name_rules::{
     name_must_be_formed, name_must_be_short, name_must_not_be_dot, name_must_not_be_dot_dot,
     name_must_not_be_dots, path_must_be_short,
@@ -192,7 +192,7 @@ pub fn remove_dir_rules<'a>(dir: &Subject<'a>, name: &[u8]) -> Result<FileView<'
     let target = found.attributes();
     dir.must_let_go(&target)?;
     must_be_directory(&target)?;
-    dir.must_be_empty(&target)?;
+    dir.must_be_empty(&found)?;
     Ok(found)
 }
 
@@ -225,12 +225,7 @@ fn rename_entry_rules(from: &Subject<'_>, to: &Subject<'_>, args: &Rename<'_>) -
     let moved = from.must_find(name)?;
     from.must_be_changeable()?;
     to.must_be_changeable()?;
-    move_rules(
-        from,
-        to,
-        &moved.attributes(),
-        &attributes_of(to.found(new_name)),
-    )
+    move_rules(from, to, &moved, &to.found(new_name))
 }
 
 /// LINK (RFC 1813, section 3.3.15): of the file and the directory that takes the further name.

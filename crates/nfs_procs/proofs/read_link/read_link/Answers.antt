@@ -6,6 +6,7 @@ use Rattle.nfs_attrs.specs.Spelling.{IsPostOpAttr}
 use Rattle.nfs_attrs.specs.declared.fattr.Fattr.{Fattr}
 use Rattle.nfs_inodes.specs.Reading.{path_at}
 use Rattle.nfs_inodes.specs.Tree.{on_some}
+use Rattle.nfs_inodes.specs.Views.{IsSeen}
 use Rattle.nfs_procs.proofs.Reading.{reads, denies, with_attributes}
 use Rattle.nfs_procs.proofs.Spelled.{denied_spelled}
 use Rattle.nfs_procs.specs.Performing.{AppendsAnswer}
@@ -14,6 +15,9 @@ use Rattle.nfs_procs.specs.Scenes.{scene}
 use Rattle.nfs_rules.specs.Subjects.{Subject}
 use Rattle.nfs_procs.proofs.read_link.read_link.Goals as goal
 
+pub write_granted-requires-clause-seen : goal.write_granted-requires-clause-seen
+write_granted-requires-clause-seen c = let plans = c.in-Ok.ensures.2 in subst (λ t. IsSeen t c.view.result.now) (ap (λ (u : Subject). u.tree) plans.subject ∙ plans.tree) c.view.ensures.seen
+
 pub returns-in-Ok : goal.returns-in-Ok
 returns-in-Ok c =
     let s = c.in-Ok.ensures.0 in
@@ -21,7 +25,7 @@ returns-in-Ok c =
     reads (scene c.args.tree.now c.args.call.now (nfs.ReadLink c.args.handle.now)) (procedure.read_link c.args.handle.now) s _ _ refl c.in-Ok.ensures.1 plans.tree
     (subst (λ t. AppendsAnswer (answer.ReadLink (Ok (record { attributes = Some s.file; path = on_some (path_at t s.file.fileid) [] (λ path. path) }))) c.args.out.now c.write_granted.new.out) (sym plans.tree)
     (subst (λ (f : Fattr). AppendsAnswer (answer.ReadLink (Ok (record { attributes = Some f; path = on_some (path_at c.args.tree.now f.fileid) [] (λ path. path) }))) c.args.out.now c.write_granted.new.out)
-    (c.attributes.ensures ∙ ap (λ (u : Subject). u.file) plans.subject) c.write_granted.ensures))
+    (c.view.ensures.attributes ∙ ap (λ (u : Subject). u.file) plans.subject) c.write_granted.ensures))
 
 pub returns-in-Err : goal.returns-in-Err
 returns-in-Err c =
