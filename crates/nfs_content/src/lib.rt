@@ -3,5 +3,7 @@
 
 pub mod content;
 pub mod limits;
+mod page;
 pub mod pages;
-mod table;
+mod pieces;
+mod rows;

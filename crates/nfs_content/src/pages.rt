@@ -5,7 +5,8 @@ ghost use Rattle.nfs_content.specs.Limits.{max_content, page_bytes};
 
 use crate::content::Content;
 use crate::limits::PAGE_BYTES;
-use crate::table::{cut, hold, one, page_at, put};
+use crate::pieces::{cut, hold, put};
+use crate::rows::{Row, page_at};
 use std::alloc::{AllocError, Global};
 use std::marker::Model;
 
@@ -17,7 +18,7 @@ static ZEROS: [u8; PAGE_BYTES] = [0; PAGE_BYTES];
 #[derive(Drop)]
 pub struct Pages {
     alloc: Global,
-    pages: Vec<Vec<u8>>,
+    rows: Vec<Row>,
     len: usize,
 }
 
@@ -27,9 +28,9 @@ impl Model for Pages {
 
     ghost Value = { List ℕ };
 
-    ghost view = { λ p. shown (kept p.pages.items) p.len };
+    ghost view = { λ p. shown (kept p.rows.items) p.len };
 
-    ghost invariant = { λ p. IsPaged (kept p.pages.items) p.len };
+    ghost invariant = { λ p. IsPaged (kept p.rows.items) p.len };
 }
 
 impl Pages {
@@ -39,7 +40,7 @@ impl Pages {
     {
         Pages {
             alloc,
-            pages: Vec::new(alloc),
+            rows: Vec::new(alloc),
             len,
         }
     }
@@ -49,19 +50,18 @@ impl Pages {
         requires { length bytes.items ≤ max_content }
         ensures { IfOk result (λ pages. pages ≡ bytes.items) }
     {
-        if bytes.len() > PAGE_BYTES {
-            let mut pages = Pages::zeros(alloc, 0);
-            pages.put_at(0, bytes.as_slice())?;
-            return Ok(pages);
-        }
-        let len = bytes.len();
-        let pages = one(alloc, bytes)?;
-        Ok(Pages { alloc, pages, len })
+        let mut pages = Pages::zeros(alloc, 0);
+        pages.put_at(0, bytes.as_slice())?;
+        Ok(pages)
     }
 
     /// How many pages are kept.
     pub fn held(&self) -> usize {
-        self.pages.iter().filter(|page| !page.is_empty()).count()
+        let mut count: usize = 0;
+        for row in self.rows.iter() {
+            count = count.saturating_add(row.iter().filter(|page| !page.is_empty()).count());
+        }
+        count
     }
 }
 
@@ -79,7 +79,7 @@ impl Content for Pages {
         }
         let first = offset % PAGE_BYTES;
         let most = (self.len - offset).min(PAGE_BYTES - first);
-        let page = page_at(self.pages.as_slice(), offset / PAGE_BYTES);
+        let page = page_at(self.rows.as_slice(), offset / PAGE_BYTES);
         if first < page.len() {
             &page[first..page.len().min(first + most)]
         } else {
@@ -92,15 +92,15 @@ impl Content for Pages {
             return Ok(());
         }
         let end = offset + new.len();
-        hold(&mut self.pages, self.alloc, offset, end)?;
-        put(&mut self.pages, offset, new);
+        hold(&mut self.rows, self.alloc, offset, end)?;
+        put(&mut self.rows, offset, new);
         self.len = self.len.max(end);
         Ok(())
     }
 
     fn set_len(&mut self, len: usize) -> Result<(), AllocError> {
         if len < self.len {
-            cut(&mut self.pages, len);
+            cut(&mut self.rows, len);
             self.len = len;
             return Ok(());
         }

@@ -4,4 +4,4 @@ use Rattle.nfs_content.proofs.Shown.{shown_len}
 use Rattle.nfs_content.proofs.pages.PagesContent.len.Goals as goal
 
 pub returns : goal.returns
-returns c = sym (shown_len (kept c.self.inside.pages.items) c.self.inside.len) ∙ ap (λ (xs : List ℕ). length xs) c.self.view_is
+returns c = sym (shown_len (kept c.self.inside.rows.items) c.self.inside.len) ∙ ap (λ (xs : List ℕ). length xs) c.self.view_is
