@@ -121,3 +121,13 @@ room_there {A} vs k some = let size = length-map vs (λ (v : Vec A Global). vec_
     there [] (suc k) some = absurd (omega (arith, some))
     there (n ∷ ns) zero some = omega arith
     there (n ∷ ns) (suc k) some = let less = there ns k some in omega (arith, less)
+
+-- ---- one list alone
+
+pub one_items : {A : Type 0} (v : Vec A Global) (k : ℕ) → 0 < k → items_at (v ∷ []) k ≡ []
+one_items v zero past = absurd (omega (arith, past))
+one_items v (suc k) past = past_items [] k (omega arith)
+
+pub no_items : {A : Type 0} (v : Vec A Global) → v.items ≡ [] → (k : ℕ) → items_at (v ∷ []) k ≡ []
+no_items v none zero = none
+no_items v none (suc k) = past_items [] k (omega arith)

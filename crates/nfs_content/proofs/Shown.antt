@@ -72,6 +72,13 @@ module _ (old : List ℕ) (size : ℕ) where
       (λ past. get_or-append_right (take size old) (zeros (size - length old)) (length old) i 0 (omega (arith, past, to, len)) past
       ∙ get_or-replicate (size - length old) (i - length old) 0 0 (omega (arith, past, to)) ∙ sym (get_or_past old i 0 past))
 
+pub sized_none : (old : List ℕ) (size : ℕ) → size ≡ 0 → [] ≡ sized old size
+sized_none old size none = nothing (sized old size) (sized_len old size ∙ none)
+  where
+    nothing : (xs : List ℕ) → length xs ≡ 0 → [] ≡ xs
+    nothing [] e = refl
+    nothing (x ∷ xs) e = absurd (omega (arith, e))
+
 -- ---- what is shown
 
 module _ (ps : ℕ → List ℕ) (len : ℕ) where
@@ -189,3 +196,24 @@ module _ (ps : ℕ → List ℕ) (len offset : ℕ) (h : IsPaged ps len) (to : o
       is_chunk (shown ps len) (zeros most) offset (omega (arith, size, most_is, to)) (omega (arith, size, most_is, to, all)) (λ j less.
       place_byte j (omega (arith, less, size, most_is)) (omega (arith, less, size, most_is, to))
       ∙ get_or_past (ps (offset / 4096)) (offset % 4096 + j) 0 (omega (arith, none)) ∙ sym (get_or-replicate most j 0 0 (omega (arith, less, size))))
+
+-- ---- the first page alone
+
+module _ (ps : ℕ → List ℕ) (p : List ℕ) (first : ps 0 ≡ p) (rest : (k : ℕ) → 0 < k → ps k ≡ []) (small : length p ≤ 4096) where
+  first_byte : (i : ℕ) → i < 4096 → byte_at ps i ≡ get_or p i 0
+  first_byte i low =
+      let place : i / 4096 ≡ 0 = omega (arith, low) in
+      let at : i % 4096 ≡ i = omega (arith, low) in
+      ap (λ k. get_or (ps k) (i % 4096) 0) place ∙ ap (λ (q : List ℕ). get_or q (i % 4096) 0) first ∙ ap (λ n. get_or p n 0) at
+
+  pub one_shown : shown ps (length p) ≡ p
+  one_shown = shown_as ps (length p) p refl (λ i to. first_byte i (omega (arith, to, small)))
+
+  pub one_paged : IsPaged ps (length p)
+  one_paged = record {
+    short = λ k. by_less 0 k (λ past. subst (λ (q : List ℕ). length q ≤ 4096) (sym (rest k past)) (omega arith))
+        (λ none. subst (λ j. length (ps j) ≤ 4096) (let e : 0 ≡ k = omega (arith, none) in e) (subst (λ (q : List ℕ). length q ≤ 4096) (sym first) small));
+    zero = λ i past. by_less i 4096
+        (λ low. first_byte i low ∙ get_or_past p i 0 past)
+        (λ high. ap (λ (q : List ℕ). get_or q (i % 4096) 0) (rest (i / 4096) (omega (arith, high))) ∙ get_or_past [] (i % 4096) 0 (omega arith));
+  }

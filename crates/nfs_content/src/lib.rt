@@ -7,3 +7,4 @@ mod page;
 pub mod pages;
 mod pieces;
 mod rows;
+mod table;

@@ -6,13 +6,14 @@ ghost use Rattle.nfs_content.specs.Paged.{Puts};
 use crate::limits::PAGE_BYTES;
 use std::alloc::AllocError;
 
-/// Room for so many bytes, and for twice as many as there was, but for no more than a page has.
-/// Refused without memory.
+/// Room for so many bytes: twice as much as there was, so that small pieces don't move a page each
+/// time, but never more than for a whole page. Refused without memory.
 pub(crate) fn widen(page: &mut Vec<u8>, size: usize) -> Result<(), AllocError>
     requires { size ≤ page_bytes }
     ensures ok { OnOk result (size ≤ vec_capacity page.new) }
     ensures same { page.new.items ≡ page.old.items }
     ensures room { vec_capacity page.old ≤ vec_capacity page.new }
+    ensures most { vec_capacity page.new ≤ max (vec_capacity page.old) page_bytes }
 {
     let old = page.capacity();
     if size <= old {

@@ -126,3 +126,12 @@ fn shorten_in(row: &mut Row, at: usize, len: usize)
         row[at].truncate(len);
     }
 }
+
+/// How many pages are kept.
+pub(crate) fn held(rows: &[Row]) -> usize {
+    let mut count: usize = 0;
+    for row in rows {
+        count = count.saturating_add(row.iter().filter(|page| !page.is_empty()).count());
+    }
+    count
+}

@@ -1,5 +1,5 @@
 use Rattle.std.proofs.Common.{◌∙◌, refl, arith}
-use Rattle.nfs_content.specs.Paged.{room}
+use Rattle.nfs_content.specs.Tables.{room_of}
 use Rattle.nfs_content.proofs.Putting.{held_more}
 use Rattle.nfs_content.proofs.pieces.hold.Goals as goal
 
@@ -12,7 +12,7 @@ returns-in_err-make_room-clause-same c = λ k. c.make_room.ensures.same k ∙ c.
 pub loop-place-preserved : goal.loop-place-preserved
 loop-place-preserved c = (
   λ k. c.make_room.ensures.same k ∙ c.loop-place.invariant.0 k,
-  held_more c.args.start c.args.end c.loop-place.place c.min-size.result (room c.loop-place.rows.items) (room c.make_room.new.rows.items) c.loop-place.invariant.1 c.make_room.ensures.room c.in_ok-make_room.ensures.ok c.min-size.ensures,
+  held_more c.args.start c.args.end c.loop-place.place c.min-size.result (room_of c.loop-place.table) (room_of c.make_room.new.self) c.loop-place.invariant.1 c.make_room.ensures.room c.in_ok-make_room.ensures.ok c.min-size.ensures,
 )
 
 pub returns-clause-same : goal.returns-clause-same

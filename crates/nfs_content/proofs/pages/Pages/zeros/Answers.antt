@@ -1,8 +1,6 @@
-use Rattle.std.proofs.Common.{List, [], ap, ◌∙◌}
-use Rattle.nfs_content.specs.Paged.{kept, shown}
-use Rattle.nfs_content.proofs.InRows.{Row, no_page}
+use Rattle.nfs_content.proofs.Lists.{no_items}
 use Rattle.nfs_content.proofs.Shown.{zeros_shown}
 use Rattle.nfs_content.proofs.pages.Pages.zeros.Goals as goal
 
 pub returns : goal.returns
-returns c = ap (λ (rows : List Row). shown (kept rows) c.args.len) c.new.ensures.items ∙ zeros_shown (kept []) no_page c.args.len
+returns c = zeros_shown _ (no_items c.new.result c.new.ensures.items) c.args.len
