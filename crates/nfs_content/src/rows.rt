@@ -1,5 +1,5 @@
 //! Pages by their places, in rows of 64, so that a place far behind takes little memory.
-ghost use Rattle.std.specs.Prelude.{◌≡◌, ◌+◌, ◌<◌, ◌≤◌, List, OnOk, length, take, vec_len};
+ghost use Rattle.std.specs.Prelude.{◌≡◌, ◌+◌, ◌<◌, ◌≤◌, OnOk, length, take, vec_len};
 ghost use Rattle.nfs_content.specs.Limits.{page_bytes, row_pages};
 ghost use Rattle.nfs_content.specs.Paged.{items_at, kept, room, room_at, Keeps, MoreRoom, Puts, SameElsewhere, SamePages, Widens};
 

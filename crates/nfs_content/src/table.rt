@@ -1,5 +1,5 @@
 //! The pages of a content: the first alone, or any in rows.
-ghost use Rattle.std.specs.Prelude.{◌≡◌, ◌+◌, ◌<◌, ◌≤◌, ◌∷◌, [], IfOk, List, OnErr, OnOk, length, take, vec_len};
+ghost use Rattle.std.specs.Prelude.{◌≡◌, ◌+◌, ◌<◌, ◌≤◌, ◌∷◌, [], IfOk, OnErr, OnOk, length, take};
 ghost use Rattle.nfs_content.specs.Limits.{page_bytes};
 ghost use Rattle.nfs_content.specs.Paged.{items_at, kept, room, room_at, Keeps, MoreRoom, Puts, SameElsewhere, SamePages};
 ghost use Rattle.nfs_content.specs.Tables.{pages_of, room_of};
