@@ -1,4 +1,5 @@
-pub mod Kept
-pub mod Overwriting
+pub mod Lists
+pub mod Putting
 pub mod Cutting
+pub mod InRows
 pub mod Shown

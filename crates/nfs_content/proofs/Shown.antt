@@ -4,7 +4,7 @@ use Rattle.std.proofs.lemmas.Bool.{cases_lt}
 use Rattle.std.proofs.lemmas.List.{ext_get_or, get_or-take, get_or-drop, get_or_past, get_or_append_left, get_or-append_right, get_or-replicate, length-take, length-drop, length-replicate, length-append, take-append-drop}
 use Rattle.std.proofs.lemmas.List.FromFn.{length-map-range_with_len, get_or-map-range_with_len}
 use Rattle.nfs_content.specs.Bytes.{IsFirstChunk, zeros, put_bytes, sized}
-use Rattle.nfs_content.specs.Paged.{page, byte_at, shown, AreShort, IsPaged, SameBytes, Writes, Cuts}
+use Rattle.nfs_content.specs.Paged.{byte_at, shown, AreShort, IsPaged, SamePages, Writes, Cuts}
 
 by_less : {P : Type 0} (a b : ℕ) → (a < b → P) → (b ≤ a → P) → P
 by_less {P} a b p q = choose (cases_lt a b)
@@ -72,9 +72,16 @@ module _ (old : List ℕ) (size : ℕ) where
       (λ past. get_or-append_right (take size old) (zeros (size - length old)) (length old) i 0 (omega (arith, past, to, len)) past
       ∙ get_or-replicate (size - length old) (i - length old) 0 0 (omega (arith, past, to)) ∙ sym (get_or_past old i 0 past))
 
+pub sized_none : (old : List ℕ) (size : ℕ) → size ≡ 0 → [] ≡ sized old size
+sized_none old size none = nothing (sized old size) (sized_len old size ∙ none)
+  where
+    nothing : (xs : List ℕ) → length xs ≡ 0 → [] ≡ xs
+    nothing [] e = refl
+    nothing (x ∷ xs) e = absurd (omega (arith, e))
+
 -- ---- what is shown
 
-module _ (ps : List (List ℕ)) (len : ℕ) where
+module _ (ps : ℕ → List ℕ) (len : ℕ) where
   pub shown_len : length (shown ps len) ≡ len
   shown_len = length-map-range_with_len (byte_at ps) 0 len
 
@@ -85,12 +92,12 @@ module _ (ps : List (List ℕ)) (len : ℕ) where
   shown_any h i = by_less i len (shown_at i) (λ past. let n = shown_len in get_or_past (shown ps len) i 0 (omega (arith, n, past)) ∙ sym (h.zero i past))
 
 -- a list is shown where its bytes are those
-pub shown_as : (ps : List (List ℕ)) (len : ℕ) (xs : List ℕ) → length xs ≡ len → ((i : ℕ) → i < len → byte_at ps i ≡ get_or xs i 0) → shown ps len ≡ xs
+pub shown_as : (ps : ℕ → List ℕ) (len : ℕ) (xs : List ℕ) → length xs ≡ len → ((i : ℕ) → i < len → byte_at ps i ≡ get_or xs i 0) → shown ps len ≡ xs
 shown_as ps len xs size each =
     let n = shown_len ps len in
     ext_get_or 0 (shown ps len) xs (n ∙ sym size) (λ i to. let less : i < len = omega (arith, to, n) in shown_at ps len i less ∙ each i less)
 
-module _ (old new : List (List ℕ)) (len : ℕ) (h : IsPaged old len) where
+module _ (old new : ℕ → List ℕ) (len : ℕ) (h : IsPaged old len) where
   pub put_shown : (offset : ℕ) (bytes : List ℕ) (size : ℕ) → size ≡ max len (offset + length bytes) → Writes old offset bytes new → shown new size ≡ put_bytes (shown old len) offset bytes
   put_shown offset bytes size is writes =
       let n = shown_len old len in let all = put_len (shown old len) offset bytes in
@@ -109,50 +116,37 @@ module _ (old new : List (List ℕ)) (len : ℕ) (h : IsPaged old len) where
   pub cut_paged : (size : ℕ) → Cuts old size new → AreShort new → IsPaged new size
   cut_paged size cuts short = record { short = short; zero = cuts.behind }
 
-  -- room alone changes nothing
-  pub same_shown : SameBytes old new → shown new len ≡ shown old len
-  same_shown same = let n = shown_len old len in shown_as new len (shown old len) n (λ i to. same i ∙ sym (shown_at old len i to))
+-- room alone changes nothing
+module _ (old new : ℕ → List ℕ) (same : SamePages old new) where
+  same_bytes : (i : ℕ) → byte_at new i ≡ byte_at old i
+  same_bytes i = ap (λ (p : List ℕ). get_or p (i % 4096) 0) (same (i / 4096))
 
-  pub same_paged : SameBytes old new → AreShort new → IsPaged new len
-  same_paged same short = record { short = short; zero = λ i past. same i ∙ h.zero i past }
+  pub same_shown : (len : ℕ) → shown new len ≡ shown old len
+  same_shown len = let n = shown_len old len in shown_as new len (shown old len) n (λ i to. same_bytes i ∙ sym (shown_at old len i to))
 
-pub grown_shown : (old : List (List ℕ)) (len size : ℕ) → IsPaged old len → shown old size ≡ sized (shown old len) size
+  pub same_short : AreShort old → AreShort new
+  same_short short = λ k. subst (λ (p : List ℕ). length p ≤ 4096) (sym (same k)) (short k)
+
+  pub same_paged : (len : ℕ) → IsPaged old len → IsPaged new len
+  same_paged len h = record { short = same_short h.short; zero = λ i past. same_bytes i ∙ h.zero i past }
+
+pub grown_shown : (old : ℕ → List ℕ) (len size : ℕ) → IsPaged old len → shown old size ≡ sized (shown old len) size
 grown_shown old len size h = shown_as old size (sized (shown old len) size) (sized_len (shown old len) size) (λ i to. sym (shown_any old len h i) ∙ sym (sized_at (shown old len) size i to))
 
-pub grown_paged : (old : List (List ℕ)) (len size : ℕ) → IsPaged old len → len ≤ size → IsPaged old size
+pub grown_paged : (old : ℕ → List ℕ) (len size : ℕ) → IsPaged old len → len ≤ size → IsPaged old size
 grown_paged old len size h more = record { short = h.short; zero = λ i past. h.zero i (omega (arith, past, more)) }
 
--- ---- no page, and one page
+-- ---- no page
 
-no_byte : (i : ℕ) → byte_at [] i ≡ 0
-no_byte i = ap (λ p. get_or p (i % 4096) 0) (get_or_past [] (i / 4096) [] (omega arith))
+module _ (ps : ℕ → List ℕ) (none : (k : ℕ) → ps k ≡ []) where
+  no_byte : (i : ℕ) → byte_at ps i ≡ 0
+  no_byte i = ap (λ (p : List ℕ). get_or p (i % 4096) 0) (none (i / 4096)) ∙ get_or_past [] (i % 4096) 0 (omega arith)
 
-pub zeros_shown : (len : ℕ) → shown [] len ≡ zeros len
-zeros_shown len = shown_as [] len (zeros len) (length-replicate {A = ℕ} len 0) (λ i to. no_byte i ∙ sym (get_or-replicate len i 0 0 to))
+  pub zeros_shown : (len : ℕ) → shown ps len ≡ zeros len
+  zeros_shown len = shown_as ps len (zeros len) (length-replicate {A = ℕ} len 0) (λ i to. no_byte i ∙ sym (get_or-replicate len i 0 0 to))
 
-pub none_paged : (len : ℕ) → IsPaged [] len
-none_paged len = record { short = λ k. subst (λ (p : List ℕ). length p ≤ 4096) (sym (get_or_past [] k [] (omega arith))) (omega arith); zero = λ i past. no_byte i }
-
-module _ (p : List ℕ) (small : length p ≤ 4096) where
-  first_byte : (i : ℕ) → i < 4096 → byte_at (p ∷ []) i ≡ get_or p i 0
-  first_byte i low =
-      let place : i / 4096 ≡ 0 = omega (arith, low) in
-      let at : i % 4096 ≡ i = omega (arith, low) in
-      ap (λ k. get_or (page (p ∷ []) k) (i % 4096) 0) place ∙ ap (λ n. get_or p n 0) at
-
-  page_past : (k : ℕ) → 0 < k → page (p ∷ []) k ≡ []
-  page_past k past = get_or_past (p ∷ []) k [] (omega (arith, past))
-
-  pub one_shown : shown (p ∷ []) (length p) ≡ p
-  one_shown = shown_as (p ∷ []) (length p) p refl (λ i to. first_byte i (omega (arith, to, small)))
-
-  pub one_paged : IsPaged (p ∷ []) (length p)
-  one_paged = record {
-    short = λ k. by_less 0 k (λ past. subst (λ (q : List ℕ). length q ≤ 4096) (sym (page_past k past)) (omega arith)) (λ none. subst (λ j. length (page (p ∷ []) j) ≤ 4096) (let e : 0 ≡ k = omega (arith, none) in e) small);
-    zero = λ i past. by_less i 4096
-        (λ low. first_byte i low ∙ get_or_past p i 0 past)
-        (λ high. ap (λ q. get_or q (i % 4096) 0) (page_past (i / 4096) (omega (arith, high))));
-  }
+  pub none_paged : (len : ℕ) → IsPaged ps len
+  none_paged len = record { short = λ k. subst (λ (p : List ℕ). length p ≤ 4096) (sym (none k)) (omega arith); zero = λ i past. no_byte i }
 
 -- ---- a first run
 
@@ -176,17 +170,17 @@ no_chunk xs offset past = record { rest = drop offset xs; bytes_are = refl; some
     nothing [] e = refl
     nothing (y ∷ ys) e = absurd (omega (arith, e))
 
-module _ (ps : List (List ℕ)) (len offset : ℕ) (h : IsPaged ps len) (to : offset < len) where
-  place_byte : (j : ℕ) → offset % 4096 + j < 4096 → offset + j < len → get_or (shown ps len) (offset + j) 0 ≡ get_or (page ps (offset / 4096)) (offset % 4096 + j) 0
+module _ (ps : ℕ → List ℕ) (len offset : ℕ) (h : IsPaged ps len) (to : offset < len) where
+  place_byte : (j : ℕ) → offset % 4096 + j < 4096 → offset + j < len → get_or (shown ps len) (offset + j) 0 ≡ get_or (ps (offset / 4096)) (offset % 4096 + j) 0
   place_byte j low within =
       let place : (offset + j) / 4096 ≡ offset / 4096 = omega (arith, low) in
       let at : (offset + j) % 4096 ≡ offset % 4096 + j = omega (arith, low) in
-      shown_at ps len (offset + j) within ∙ ap (λ k. get_or (page ps k) ((offset + j) % 4096) 0) place ∙ ap (λ n. get_or (page ps (offset / 4096)) n 0) at
+      shown_at ps len (offset + j) within ∙ ap (λ k. get_or (ps k) ((offset + j) % 4096) 0) place ∙ ap (λ n. get_or (ps (offset / 4096)) n 0) at
 
-  pub kept_chunk : (most end : ℕ) → most ≡ min (len - offset) (4096 - offset % 4096) → end ≡ min (length (page ps (offset / 4096))) (offset % 4096 + most) → offset % 4096 < length (page ps (offset / 4096))
-      → IsFirstChunk (take (end - offset % 4096) (drop (offset % 4096) (page ps (offset / 4096)))) (drop offset (shown ps len))
+  pub kept_chunk : (most end : ℕ) → most ≡ min (len - offset) (4096 - offset % 4096) → end ≡ min (length (ps (offset / 4096))) (offset % 4096 + most) → offset % 4096 < length (ps (offset / 4096))
+      → IsFirstChunk (take (end - offset % 4096) (drop (offset % 4096) (ps (offset / 4096)))) (drop offset (shown ps len))
   kept_chunk most end most_is end_is some =
-      let p = page ps (offset / 4096) in
+      let p = ps (offset / 4096) in
       let m : ℕ = end - offset % 4096 in
       let run_len = length-take m (drop (offset % 4096) p) in let left = length-drop (offset % 4096) p in
       let size : length (take m (drop (offset % 4096) p)) ≡ m = omega (arith, run_len, left, end_is, some) in
@@ -195,10 +189,31 @@ module _ (ps : List (List ℕ)) (len offset : ℕ) (h : IsPaged ps len) (to : of
       place_byte j (omega (arith, less, size, end_is, most_is, some)) (omega (arith, less, size, end_is, most_is, to))
       ∙ sym (get_or-take m (drop (offset % 4096) p) j 0 (omega (arith, less, size)) ∙ get_or-drop (offset % 4096) p j 0))
 
-  pub hole_chunk : (most : ℕ) → most ≡ min (len - offset) (4096 - offset % 4096) → length (page ps (offset / 4096)) ≤ offset % 4096 → IsFirstChunk (zeros most) (drop offset (shown ps len))
+  pub hole_chunk : (most : ℕ) → most ≡ min (len - offset) (4096 - offset % 4096) → length (ps (offset / 4096)) ≤ offset % 4096 → IsFirstChunk (zeros most) (drop offset (shown ps len))
   hole_chunk most most_is none =
       let size = length-replicate {A = ℕ} most 0 in
       let all = shown_len ps len in
       is_chunk (shown ps len) (zeros most) offset (omega (arith, size, most_is, to)) (omega (arith, size, most_is, to, all)) (λ j less.
       place_byte j (omega (arith, less, size, most_is)) (omega (arith, less, size, most_is, to))
-      ∙ get_or_past (page ps (offset / 4096)) (offset % 4096 + j) 0 (omega (arith, none)) ∙ sym (get_or-replicate most j 0 0 (omega (arith, less, size))))
+      ∙ get_or_past (ps (offset / 4096)) (offset % 4096 + j) 0 (omega (arith, none)) ∙ sym (get_or-replicate most j 0 0 (omega (arith, less, size))))
+
+-- ---- the first page alone
+
+module _ (ps : ℕ → List ℕ) (p : List ℕ) (first : ps 0 ≡ p) (rest : (k : ℕ) → 0 < k → ps k ≡ []) (small : length p ≤ 4096) where
+  first_byte : (i : ℕ) → i < 4096 → byte_at ps i ≡ get_or p i 0
+  first_byte i low =
+      let place : i / 4096 ≡ 0 = omega (arith, low) in
+      let at : i % 4096 ≡ i = omega (arith, low) in
+      ap (λ k. get_or (ps k) (i % 4096) 0) place ∙ ap (λ (q : List ℕ). get_or q (i % 4096) 0) first ∙ ap (λ n. get_or p n 0) at
+
+  pub one_shown : shown ps (length p) ≡ p
+  one_shown = shown_as ps (length p) p refl (λ i to. first_byte i (omega (arith, to, small)))
+
+  pub one_paged : IsPaged ps (length p)
+  one_paged = record {
+    short = λ k. by_less 0 k (λ past. subst (λ (q : List ℕ). length q ≤ 4096) (sym (rest k past)) (omega arith))
+        (λ none. subst (λ j. length (ps j) ≤ 4096) (let e : 0 ≡ k = omega (arith, none) in e) (subst (λ (q : List ℕ). length q ≤ 4096) (sym first) small));
+    zero = λ i past. by_less i 4096
+        (λ low. first_byte i low ∙ get_or_past p i 0 past)
+        (λ high. ap (λ (q : List ℕ). get_or q (i % 4096) 0) (rest (i / 4096) (omega (arith, high))) ∙ get_or_past [] (i % 4096) 0 (omega arith));
+  }

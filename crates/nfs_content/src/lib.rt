@@ -3,5 +3,8 @@
 
 pub mod content;
 pub mod limits;
+mod page;
 pub mod pages;
+mod pieces;
+mod rows;
 mod table;

@@ -5,7 +5,8 @@ ghost use Rattle.nfs_content.specs.Limits.{max_content, page_bytes};
 
 use crate::content::Content;
 use crate::limits::PAGE_BYTES;
-use crate::table::{cut, hold, one, page_at, put};
+use crate::pieces::{cut, hold, put};
+use crate::table::Table;
 use std::alloc::{AllocError, Global};
 use std::marker::Model;
 
@@ -13,23 +14,24 @@ use std::marker::Model;
 static ZEROS: [u8; PAGE_BYTES] = [0; PAGE_BYTES];
 
 /// Bytes in pages of 4,096. Of a page its first bytes are kept, up to the last that was written; a
-/// hole takes none.
+/// hole takes none, and a content of one page no rows.
 #[derive(Drop)]
 pub struct Pages {
     alloc: Global,
-    pages: Vec<Vec<u8>>,
+    table: Table,
     len: usize,
 }
 
 impl Model for Pages {
     ghost use Rattle.std.specs.Prelude.{ℕ, List};
-    ghost use Rattle.nfs_content.specs.Paged.{kept, shown, IsPaged};
+    ghost use Rattle.nfs_content.specs.Paged.{shown, IsPaged};
+    ghost use Rattle.nfs_content.specs.Tables.{pages_of};
 
     ghost Value = { List ℕ };
 
-    ghost view = { λ p. shown (kept p.pages.items) p.len };
+    ghost view = { λ p. shown (pages_of p.table) p.len };
 
-    ghost invariant = { λ p. IsPaged (kept p.pages.items) p.len };
+    ghost invariant = { λ p. IsPaged (pages_of p.table) p.len };
 }
 
 impl Pages {
@@ -39,13 +41,13 @@ impl Pages {
     {
         Pages {
             alloc,
-            pages: Vec::new(alloc),
+            table: Table::One(Vec::new(alloc)),
             len,
         }
     }
 
     /// These bytes, at most 16,777,216. Refused without memory.
-    pub fn of(alloc: Global, bytes: Vec<u8>) -> Result<Pages, AllocError>
+    pub fn of(alloc: Global, mut bytes: Vec<u8>) -> Result<Pages, AllocError>
         requires { length bytes.items ≤ max_content }
         ensures { IfOk result (λ pages. pages ≡ bytes.items) }
     {
@@ -54,14 +56,15 @@ impl Pages {
             pages.put_at(0, bytes.as_slice())?;
             return Ok(pages);
         }
+        bytes.shrink_to_fit();
         let len = bytes.len();
-        let pages = one(alloc, bytes)?;
-        Ok(Pages { alloc, pages, len })
+        let table = Table::One(bytes);
+        Ok(Pages { alloc, table, len })
     }
 
     /// How many pages are kept.
     pub fn held(&self) -> usize {
-        self.pages.iter().filter(|page| !page.is_empty()).count()
+        self.table.held()
     }
 }
 
@@ -79,7 +82,7 @@ impl Content for Pages {
         }
         let first = offset % PAGE_BYTES;
         let most = (self.len - offset).min(PAGE_BYTES - first);
-        let page = page_at(self.pages.as_slice(), offset / PAGE_BYTES);
+        let page = self.table.page_at(offset / PAGE_BYTES);
         if first < page.len() {
             &page[first..page.len().min(first + most)]
         } else {
@@ -92,15 +95,19 @@ impl Content for Pages {
             return Ok(());
         }
         let end = offset + new.len();
-        hold(&mut self.pages, self.alloc, offset, end)?;
-        put(&mut self.pages, offset, new);
+        hold(&mut self.table, self.alloc, offset, end)?;
+        put(&mut self.table, offset, new);
         self.len = self.len.max(end);
         Ok(())
     }
 
     fn set_len(&mut self, len: usize) -> Result<(), AllocError> {
+        if len == 0 {
+            *self = Pages::zeros(self.alloc, 0);
+            return Ok(());
+        }
         if len < self.len {
-            cut(&mut self.pages, len);
+            cut(&mut self.table, len);
             self.len = len;
             return Ok(());
         }

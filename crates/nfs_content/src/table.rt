@@ -1,131 +1,117 @@
-//! Pages by their places, and what is done to them; a page that isn't kept is all zeros.
-ghost use Rattle.std.specs.Prelude.{◌≡◌, ◌+◌, ◌<◌, ◌≤◌, ◌∷◌, [], IfOk, OnOk, length, vec_len};
-ghost use Rattle.nfs_content.specs.Limits.{max_content, page_bytes};
-ghost use Rattle.nfs_content.specs.Paged.{kept, page, AreShort, Cuts, Fills, Holds, Puts, SameBytes, Writes};
+//! The pages of a content: the first alone, or any in rows.
+ghost use Rattle.std.specs.Prelude.{◌≡◌, ◌+◌, ◌<◌, ◌≤◌, ◌∷◌, [], IfOk, OnErr, OnOk, length, take};
+ghost use Rattle.nfs_content.specs.Limits.{page_bytes};
+ghost use Rattle.nfs_content.specs.Paged.{items_at, kept, room, room_at, Keeps, MoreRoom, Puts, SameElsewhere, SamePages};
+ghost use Rattle.nfs_content.specs.Tables.{pages_of, room_of};
 
-use crate::limits::PAGE_BYTES;
+use crate::page::{put_into, widen};
+use crate::rows::{Row, held, keep, make_room, page_at, put_in, shorten};
 use std::alloc::{AllocError, Global};
+use std::mem::replace;
 
-/// The bytes that are kept of a page.
-#[inline(always)]
-pub(crate) fn page_at(pages: &[Vec<u8>], place: usize) -> &[u8]
-    ensures { result.now ≡ page (kept pages.now) place }
-{
-    match pages.get(place) {
-        Some(page) => page.as_slice(),
-        None => &[],
-    }
+/// Pages by their places. A content of one page needs no rows.
+#[derive(Drop)]
+pub(crate) enum Table {
+    /// The first page.
+    One(Vec<u8>),
+    /// Pages in rows.
+    Rows(Vec<Row>),
 }
 
-/// One page alone. Refused without memory.
-pub(crate) fn one(alloc: Global, page: Vec<u8>) -> Result<Vec<Vec<u8>>, AllocError>
-    ensures { IfOk result (λ pages. kept pages.items ≡ page.items ∷ []) }
-{
-    let mut pages = Vec::new(alloc);
-    match pages.push(page) {
-        Ok(()) => Ok(pages),
-        Err(_) => Err(AllocError),
-    }
-}
-
-/// Room for the bytes from one on and before another, at least one: all are kept then. Refused
-/// without memory; the bytes are the same in any case.
-pub(crate) fn hold(
-    pages: &mut Vec<Vec<u8>>,
-    alloc: Global,
-    start: usize,
-    end: usize,
-) -> Result<(), AllocError>
-    requires some { start < end }
-    requires large { end ≤ max_content }
-    requires short { AreShort (kept pages.old.items) }
-    ensures ok { OnOk result (Holds (kept pages.new.items) start end) }
-    ensures same { SameBytes (kept pages.old.items) (kept pages.new.items) }
-    ensures short { AreShort (kept pages.new.items) }
-{
-    let last = (end - 1) / PAGE_BYTES;
-    lengthen(pages, alloc, last)?;
-    for place in start / PAGE_BYTES..last + 1 {
-        let size = (end - place * PAGE_BYTES).min(PAGE_BYTES);
-        fill(&mut pages[place], size)?;
-    }
-    Ok(())
-}
-
-// There are places up to this one, and there.
-fn lengthen(pages: &mut Vec<Vec<u8>>, alloc: Global, last: usize) -> Result<(), AllocError>
-    requires large { last < page_bytes }
-    requires short { AreShort (kept pages.old.items) }
-    ensures ok { OnOk result (last < vec_len pages.new) }
-    ensures same { SameBytes (kept pages.old.items) (kept pages.new.items) }
-    ensures short { AreShort (kept pages.new.items) }
-{
-    for place in pages.len()..last + 1 {
-        match pages.push(Vec::new(alloc)) {
-            Ok(()) => {}
-            Err(_) => return Err(AllocError),
+impl Table {
+    /// The bytes that are kept of a page.
+    #[inline(always)]
+    pub(crate) fn page_at(&self, place: usize) -> &[u8]
+        ensures { result.now ≡ pages_of self.now place }
+    {
+        match self {
+            Table::One(page) if place == 0 => page.as_slice(),
+            Table::One(_) => &[],
+            Table::Rows(rows) => page_at(rows.as_slice(), place),
         }
     }
-    Ok(())
+
+    /// Room for so many bytes of a page. Refused without memory.
+    pub(crate) fn make_room(
+        &mut self,
+        alloc: Global,
+        place: usize,
+        size: usize,
+    ) -> Result<(), AllocError>
+        requires { size ≤ page_bytes }
+        ensures ok { OnOk result (size ≤ room_of self.new place) }
+        ensures same { SamePages (pages_of self.old) (pages_of self.new) }
+        ensures room { MoreRoom (room_of self.old) (room_of self.new) }
+    {
+        match self {
+            Table::Rows(rows) => make_room(rows, alloc, place, size),
+            Table::One(page) => {
+                if place == 0 {
+                    return widen(page, size);
+                }
+                let mut rows = in_rows(alloc, page)?;
+                let made = make_room(&mut rows, alloc, place, size);
+                *self = Table::Rows(rows);
+                made
+            }
+        }
+    }
+
+    /// Puts bytes into a page that has room for them, at least one.
+    pub(crate) fn put_in(&mut self, place: usize, at: usize, bytes: &[u8])
+        requires some { 0 < length bytes.now }
+        requires room { at + length bytes.now ≤ room_of self.old place }
+        ensures here { Puts (pages_of self.old place) at bytes.now (pages_of self.new place) }
+        ensures elsewhere { SameElsewhere (pages_of self.old) place (pages_of self.new) }
+        ensures room { MoreRoom (room_of self.old) (room_of self.new) }
+    {
+        match self {
+            Table::One(page) => put_into(page, at, bytes),
+            Table::Rows(rows) => put_in(rows, place, at, bytes),
+        }
+    }
+
+    /// The first so many pages are kept, and none behind them.
+    pub(crate) fn keep(&mut self, count: usize)
+        ensures { Keeps (pages_of self.old) count (pages_of self.new) }
+    {
+        match self {
+            Table::One(_) if count > 0 => {}
+            Table::One(page) => page.truncate(0),
+            Table::Rows(rows) => keep(rows, count),
+        }
+    }
+
+    /// Of a page the first so many bytes are kept.
+    pub(crate) fn shorten(&mut self, place: usize, len: usize)
+        ensures here { pages_of self.new place ≡ take len (pages_of self.old place) }
+        ensures elsewhere { SameElsewhere (pages_of self.old) place (pages_of self.new) }
+    {
+        match self {
+            Table::One(page) if place == 0 => page.truncate(len),
+            Table::One(_) => {}
+            Table::Rows(rows) => shorten(rows, place, len),
+        }
+    }
+
+    /// How many pages are kept.
+    pub(crate) fn held(&self) -> usize {
+        match self {
+            Table::One(page) => usize::from(!page.is_empty()),
+            Table::Rows(rows) => held(rows.as_slice()),
+        }
+    }
 }
 
-// So many bytes of a page are kept, zeros where it was shorter.
-fn fill(page: &mut Vec<u8>, size: usize) -> Result<(), AllocError>
-    requires { size ≤ page_bytes }
-    ensures ok { OnOk result (size ≤ vec_len page.new) }
-    ensures same { Fills page.old.items page.new.items }
+// The first page, moved into rows. Refused without memory, and then it stays.
+fn in_rows(alloc: Global, page: &mut Vec<u8>) -> Result<Vec<Row>, AllocError>
+    ensures same { IfOk result (λ rows. SamePages (items_at (page.old ∷ [])) (kept rows.items)) }
+    ensures room { IfOk result (λ rows. MoreRoom (room_at (page.old ∷ [])) (room rows.items)) }
+    ensures err { OnErr result (page.new ≡ page.old) }
 {
-    if size <= page.len() {
-        return Ok(());
-    }
-    page.resize(size, 0)
-}
-
-/// Puts bytes at an offset, at least one, where all that they take the place of are kept.
-pub(crate) fn put(pages: &mut Vec<Vec<u8>>, offset: usize, bytes: &[u8])
-    requires some { 0 < length bytes.now }
-    requires large { offset + length bytes.now ≤ max_content }
-    requires short { AreShort (kept pages.old.items) }
-    requires held { Holds (kept pages.old.items) offset (offset + length bytes.now) }
-    ensures writes { Writes (kept pages.old.items) offset bytes.now (kept pages.new.items) }
-    ensures short { AreShort (kept pages.new.items) }
-{
-    let end = offset + bytes.len();
-    let last = (end - 1) / PAGE_BYTES;
-    for place in offset / PAGE_BYTES..last + 1 {
-        let first = place * PAGE_BYTES;
-        let start = first.max(offset);
-        let stop = end.min(first + PAGE_BYTES);
-        overwrite(
-            &mut pages[place],
-            start - first,
-            &bytes[start - offset..stop - offset],
-        );
-    }
-}
-
-// Puts bytes over others of a page.
-fn overwrite(page: &mut Vec<u8>, at: usize, bytes: &[u8])
-    requires { at + length bytes.now ≤ vec_len page.old }
-    ensures { Puts page.old.items at bytes.now page.new.items }
-{
-    let place = &mut page[at..at + bytes.len()];
-    place.copy_from_slice(bytes);
-}
-
-/// The first so many bytes are kept, and none behind them.
-pub(crate) fn cut(pages: &mut Vec<Vec<u8>>, len: usize)
-    requires { AreShort (kept pages.old.items) }
-    ensures cuts { Cuts (kept pages.old.items) len (kept pages.new.items) }
-    ensures short { AreShort (kept pages.new.items) }
-{
-    let (whole, rest) = (len / PAGE_BYTES, len % PAGE_BYTES);
-    if rest == 0 {
-        pages.truncate(whole);
-        return;
-    }
-    pages.truncate(whole + 1);
-    if whole < pages.len() {
-        pages[whole].truncate(rest);
-    }
+    let mut row = Vec::with_capacity(alloc, 1)?;
+    let mut rows = Vec::with_capacity(alloc, 1)?;
+    row.push(replace(page, Vec::new(alloc))).unwrap();
+    rows.push(row).unwrap();
+    Ok(rows)
 }

@@ -1,6 +1,6 @@
 use Rattle.std.proofs.Common.{false, ◌==◌, ◌≡◌, ◌∙◌, List, ℕ, [], ◌∷◌, length, refl, ap}
 use Rattle.nfs_content.specs.Bytes.{put_bytes, written}
-use Rattle.nfs_content.specs.Paged.{kept}
+use Rattle.nfs_content.specs.Tables.{pages_of}
 use Rattle.nfs_content.proofs.Shown.{put_shown, same_shown, same_paged}
 use Rattle.nfs_content.proofs.pages.PagesContent.put_at.Goals as goal
 
@@ -11,9 +11,9 @@ put_some old offset (b ∷ bs) e = refl
 
 pub returns-clause-ok : goal.returns-clause-ok
 returns-clause-ok c =
-    let old = kept c.self.inside.pages.items in
-    let held = kept c.hold.new.pages.items in
-    let there = same_paged old held c.self.inside.len c.self.invariant c.in_ok-hold.ensures.same c.in_ok-hold.ensures.short in
-    put_shown held (kept c.put.new.pages.items) c.self.inside.len there c.args.offset c.args.new.now c.max-self-inside.result c.max-self-inside.ensures c.put.ensures.writes
-    ∙ ap (λ (xs : List ℕ). put_bytes xs c.args.offset c.args.new.now) (same_shown old held c.self.inside.len c.self.invariant c.in_ok-hold.ensures.same ∙ c.self.view_is)
+    let old = pages_of c.self.inside.table in
+    let held = pages_of c.hold.new.table in
+    let there = same_paged old held c.in_ok-hold.ensures.same c.self.inside.len c.self.invariant in
+    put_shown held (pages_of c.put.new.table) c.self.inside.len there c.args.offset c.args.new.now c.max-self-inside.result c.max-self-inside.ensures c.put.ensures.writes
+    ∙ ap (λ (xs : List ℕ). put_bytes xs c.args.offset c.args.new.now) (same_shown old held c.in_ok-hold.ensures.same c.self.inside.len ∙ c.self.view_is)
     ∙ put_some c.args.self.now c.args.offset c.args.new.now c.if-is_empty.ensures
