@@ -1,9 +1,8 @@
 -- Records that are read where they stand in a piece.
-use Rattle.std.proofs.Common.{◌≡◌, ℕ, ◌+◌, ◌^◌, ◌<◌, true, List, [], ◌++◌, length, take, refl, sym, ap, subst, ◌∙◌, append_assoc, append-nil, arith}
-use Rattle.nfs_rpc.specs.declared.framer.Stage.{Stage}
-use Rattle.nfs_rpc.specs.declared.framer.Stage.TheVariants.{Header, Ready}
+use Rattle.std.proofs.Common.{◌≡◌, ℕ, ◌+◌, ◌^◌, ◌<◌, true, List, [], ◌++◌, length, take, refl, sym, ap, subst, ◌∙◌, append-nil, arith}
+use Rattle.nfs_rpc.specs.declared.framer.Stage.TheVariants.{Header}
 use Rattle.nfs_rpc.specs.Lent.{IsAtFront, IsBefore, IsLent}
-use Rattle.nfs_rpc.specs.Progress.{Progress, Leads, Moves, Unfinished}
+use Rattle.nfs_rpc.specs.Progress.{Progress}
 use Rattle.nfs_rpc.specs.Records.{fragment, unended, joined, IsRecord, Follows}
 
 abbrev before : ℕ → List ℕ → Progress

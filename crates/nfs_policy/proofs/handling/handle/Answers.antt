@@ -4,8 +4,8 @@ use Rattle.nfs_server.specs.InMemory.{answered, event_of}
 
 pub returns-clause-confined : goal.returns-clause-confined
 returns-clause-confined c past fits = let g = c.handle.ensures.step past fits in
-    step_leaves past c.args.server.now (event_of c.args.event) g.0 (answered c.handle.result c.handle.new.reply c.handle.new.self.line) c.handle.new.self fits g.1
+    step_leaves past c.args.server.now (event_of c.args.event) g.0 (answered c.handle.result c.handle.new.reply.reply c.handle.new.self.line) c.handle.new.self fits g.1
 
 pub returns-clause-names : goal.returns-clause-names
 returns-clause-names c past fits = let g = c.handle.ensures.step past fits in
-    step_names past c.args.server.now (event_of c.args.event) g.0 (answered c.handle.result c.handle.new.reply c.handle.new.self.line) c.handle.new.self fits g.1
+    step_names past c.args.server.now (event_of c.args.event) g.0 (answered c.handle.result c.handle.new.reply.reply c.handle.new.self.line) c.handle.new.self fits g.1
