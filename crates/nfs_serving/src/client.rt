@@ -11,7 +11,7 @@ use crate::window::Window;
 use nfs_attrs::moment::Moment;
 use nfs_exports::addr::Addr;
 use nfs_server::connection::Connection;
-use nfs_server::reply_buf::ReplyBuf;
+use nfs_server::reply_buf::{MOST_GATHERED, ReplyBuf};
 use nfs_server::reply_out::Gathering;
 use nfs_server::serve_fault::ServeFault;
 use nfs_server::server::Server;

@@ -7,7 +7,7 @@ use Rattle.nfs_serving.proofs.client.Client.answer.Goals as goal
 
 pub returns-in-Ok-clause-gathers : goal.returns-in-Ok-clause-gathers
 returns-in-Ok-clause-gathers g c =
-    let alive : c.self.inside.connection.ended ≡ false = c.self.invariant (ap (λ (s : Standing g.row.L.Denot). s.end) c.self.view_is ∙ c.requires) in
+    let alive : c.self.inside.connection.ended ≡ false = c.self.invariant (ap (λ (s : Standing g.row.L.Denot). s.end) c.self.view_is ∙ c.requires.alive) in
     let old : Standing g.row.L.Denot = record { connection = c.self.inside.connection; outlet = c.self.inside.outlet; piece = c.self.inside.piece; end = c.self.inside.end } in
     let new : Standing g.row.L.Denot = record { connection = c.feed.new.self; outlet = c.self.inside.outlet; piece = c.take.new.self; end = c.self.inside.end } in
     subst (λ (s : Standing g.row.L.Denot). Gathers c.args.moment s new c.args.server.now c.feed.new.server (device (g.A.ByteOut.contents c.args.audit.now) (g.A.ByteOut.contents c.feed.new.audit)) c.feed.new.reply.earlier) c.self.view_is
@@ -16,7 +16,7 @@ returns-in-Ok-clause-gathers g c =
 
 pub returns-in-Err-clause-gathers : goal.returns-in-Err-clause-gathers
 returns-in-Err-clause-gathers g c =
-    let alive : c.self.inside.connection.ended ≡ false = c.self.invariant (ap (λ (s : Standing g.row.L.Denot). s.end) c.self.view_is ∙ c.requires) in
+    let alive : c.self.inside.connection.ended ≡ false = c.self.invariant (ap (λ (s : Standing g.row.L.Denot). s.end) c.self.view_is ∙ c.requires.alive) in
     let old : Standing g.row.L.Denot = record { connection = c.self.inside.connection; outlet = c.self.inside.outlet; piece = c.self.inside.piece; end = c.self.inside.end } in
     let new : Standing g.row.L.Denot = record { connection = c.feed.new.self; outlet = c.self.inside.outlet; piece = c.clear.new.self; end = Some (Fault c.fault_of.result) } in
     subst (λ (s : Standing g.row.L.Denot). Gathers c.args.moment s new c.args.server.now c.feed.new.server (device (g.A.ByteOut.contents c.args.audit.now) (g.A.ByteOut.contents c.feed.new.audit)) c.feed.new.reply.earlier) c.self.view_is
