@@ -1,5 +1,5 @@
 -- What became of a call of MOUNT is a step of the server.
-use Rattle.std.proofs.Common.{◌≡◌, ℕ, ◌+◌, Bool, true, false, List, [], ◌++◌, length, Some, None, refl, sym, ap, subst, ◌∙◌, append-nil, add-zero, arith}
+use Rattle.std.proofs.Common.{◌≡◌, ℕ, Bool, true, false, List, ◌++◌, Some, None, refl, sym, ap, subst, ◌∙◌, arith}
 use Rattle.std.proofs.lemmas.Bool.{true≢false}
 use Rattle.std.specs.Prelude.{Result, Ok, Err}
 use Rattle.std.specs.Result.{result_ok}
@@ -36,7 +36,7 @@ use Rattle.nfs_server.specs.ReplyRoom.{Adds}
 use Rattle.nfs_server.proofs.Performed.{no_choice}
 use Rattle.nfs_server.proofs.Room.{adds, adds_none}
 use Rattle.nfs_xdr.specs.Reading.{numbered}
-use Rattle.nfs_xdr.specs.Written.{Written, Appends}
+use Rattle.nfs_xdr.specs.Written.{Written}
 
 -- ---- the room
 

@@ -1,8 +1,6 @@
 -- What became of a call of NFS is a step of the server.
-use Rattle.std.proofs.Common.{◌≡◌, ℕ, ◌+◌, ◌≤◌, Bool, true, false, List, [], ◌++◌, length, drop, Option, Some, None, refl, sym, ap, subst, ◌∙◌, append_assoc, append-nil, arith}
-use Rattle.std.proofs.Math.Seq.{drop-append_seam}
+use Rattle.std.proofs.Common.{◌≡◌, ℕ, Bool, true, false, List, [], ◌++◌, Option, Some, None, refl, sym, ap, subst, ◌∙◌, append-nil, arith}
 use Rattle.std.proofs.lemmas.Bool.{false≢true}
-use Rattle.std.proofs.lemmas.List.{length-append}
 use Rattle.nfs_args.specs.Answers.{nfs_text}
 use Rattle.nfs_args.specs.declared.args.NfsArgs.{NfsArgs}
 use Rattle.nfs_args.specs.declared.args.NfsArgs.TheVariants as nfs
@@ -28,7 +26,7 @@ use Rattle.nfs_server.specs.InMemory.{told}
 use Rattle.nfs_server.specs.Steps.{Decided, Performed, Refusable, success}
 use Rattle.nfs_server.specs.declared.audit_line.AuditLine.{AuditLine}
 use Rattle.nfs_server.specs.declared.audit_line.Reason.TheVariants as reason
-use Rattle.nfs_xdr.specs.Written.{Written, Appends}
+use Rattle.nfs_xdr.specs.Written.{Written}
 
 -- ---- the room
 

@@ -1,5 +1,5 @@
 -- The room in which a reply is written, behind its mark, and replies that gather in front of it.
-use Rattle.std.specs.Prelude.{◌≡◌, ℕ, ◌+◌, ◌≤◌, List, ◌++◌, true, length, take, drop}
+use Rattle.std.specs.Prelude.{◌≡◌, ℕ, ◌+◌, ◌≤◌, List, ◌++◌, true, length, drop}
 use Rattle.nfs_rpc.specs.Records.{header}
 use Rattle.nfs_server.specs.declared.reply_buf.ReplyBuf.TheInside.{Inside}
 use Rattle.nfs_xdr.specs.Written.{Written, Appends}

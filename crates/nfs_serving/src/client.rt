@@ -257,7 +257,10 @@ impl<L: Link> Client<L> {
         let mut gathering = Gathering::new();
         let piece = self.piece.bytes();
         let (most, out) = (Some(MOST_OWED), &mut gathering);
-        match self.connection.feed(server, reply, moment, piece, most, out, audit) {
+        match self
+            .connection
+            .feed(server, reply, moment, piece, most, out, audit)
+        {
             Ok(taken) => {
                 self.piece.take(taken.used);
                 self.calls = self.calls.saturating_add(taken.records);

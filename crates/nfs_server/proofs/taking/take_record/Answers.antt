@@ -1,4 +1,4 @@
-use Rattle.std.proofs.Common.{◌≡◌, ◌+◌, length, refl, subst, sym, ap}
+use Rattle.std.proofs.Common.{◌+◌, length, refl}
 use Rattle.nfs_rpc.specs.Progress.{Progress}
 use Rattle.nfs_rpc.specs.declared.framer.Stage.TheVariants.{Ready}
 use Rattle.nfs_server.specs.Feeding.{device}

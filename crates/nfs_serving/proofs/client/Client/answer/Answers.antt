@@ -1,4 +1,4 @@
-use Rattle.std.proofs.Common.{◌≡◌, [], Some, false, Ok, Err, refl, ap, subst, ◌∙◌}
+use Rattle.std.proofs.Common.{◌≡◌, Some, false, Ok, Err, refl, ap, subst, ◌∙◌}
 use Rattle.nfs_server.specs.Feeding.{device}
 use Rattle.nfs_serving.specs.Turns.{Standing, Gathers}
 use Rattle.nfs_serving.specs.declared.turn.End.TheVariants.{Fault}

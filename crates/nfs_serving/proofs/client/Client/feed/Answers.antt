@@ -1,4 +1,4 @@
-use Rattle.std.proofs.Common.{[], refl, ap, subst, ◌∙◌}
+use Rattle.std.proofs.Common.{ap, subst, ◌∙◌}
 use Rattle.nfs_server.specs.Feeding.{device}
 use Rattle.nfs_serving.specs.Outgoing.{Outgoing, Passes}
 use Rattle.nfs_serving.specs.Turns.{Standing}
