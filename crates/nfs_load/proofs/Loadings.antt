@@ -1,7 +1,7 @@
 -- Lines that are taken one by one are the lines of a text.
-use Rattle.std.proofs.Common.{◌≡◌, ℕ, ◌+◌, ◌-◌, ◌^◌, ◌<◌, List, [], ◌∷◌, ◌++◌, length, Bool, true, false, Option, None, Some, Result, Ok, Err, inl, inr, refl, ap, ◌∙◌, arith}
+use Rattle.std.proofs.Common.{◌≡◌, ℕ, ◌+◌, ◌-◌, ◌^◌, ◌<◌, List, ◌∷◌, ◌++◌, length, Bool, true, false, Option, None, Some, Ok, Err, inr, refl, ap, ◌∙◌, arith}
 use Rattle.std.proofs.lemmas.List.{length-append}
-use Rattle.std.specs.Prelude.{if◌then◌else◌, nat_eq, min}
+use Rattle.std.specs.Prelude.{if◌then◌else◌, nat_eq}
 use Rattle.nfs_text.specs.Lines.{lines}
 use Rattle.nfs_load.specs.declared.cause.Cause.TheVariants.{NoVolume}
 use Rattle.nfs_load.specs.declared.load_error.LoadError.{LoadError}

@@ -1,8 +1,7 @@
 use Rattle.std.proofs.Common.{◌≡◌, ◌+◌, ◌-◌, ◌^◌, ◌<◌, ◌++◌, [], ◌∷◌, ◌∙◌, length, ap, subst, sym, None, append-nil, arith}
 use Rattle.std.proofs.lemmas.List.{length-append}
-use Rattle.nfs_text.specs.Lines.{lines, lines_left}
+use Rattle.nfs_text.specs.Lines.{lines}
 use Rattle.nfs_load.specs.Descriptions.{Through, Describes}
-use Rattle.nfs_load.specs.Loadings.{number_behind}
 use Rattle.nfs_load.proofs.Descriptions.{cut_more, through_more}
 use Rattle.nfs_load.proofs.Loadings.{ends, number_is, stops}
 use Rattle.nfs_load.proofs.description.load.Goals as goal
