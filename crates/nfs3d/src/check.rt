@@ -1,5 +1,6 @@
 //! `nfs3d check`: whether a description is in order, and how much it holds.
 
+use crate::description::Description;
 use crate::diagnostic::Diagnostic;
 use crate::source::Source;
 use crate::totals::print_totals;
@@ -21,13 +22,38 @@ pub(crate) fn check_file<R: Files + Input + Print + Eprint>(
     is_strict: bool,
     is_whole: bool,
 ) -> Result<ExitCode, Diagnostic> {
+    if is_whole {
+        return check_whole(rt, alloc, name, is_strict);
+    }
+    let Description { source, loaded } = Description::read(rt, alloc, name)?;
+    tell_loaded(rt, alloc, &source, &loaded, is_strict)
+}
+
+// The same with all its faulty lines.
+fn check_whole<R: Files + Input + Print + Eprint>(
+    rt: &R,
+    alloc: Global,
+    name: &str,
+    is_strict: bool,
+) -> Result<ExitCode, Diagnostic> {
     let description = Source::read(rt, alloc, name)?;
-    if is_whole && tell_faults(rt, alloc, &description)? {
+    if tell_faults(rt, alloc, &description)? {
         return Ok(ExitCode::from(1));
     }
     let loaded = description.load(alloc)?;
+    tell_loaded(rt, alloc, &description, &loaded, is_strict)
+}
+
+// Prints what a description holds, and warns.
+fn tell_loaded<R: Print + Eprint>(
+    rt: &R,
+    alloc: Global,
+    description: &Source<'_>,
+    loaded: &Loaded,
+    is_strict: bool,
+) -> Result<ExitCode, Diagnostic> {
     print_totals(rt, alloc, &loaded.tree)?;
-    let warnings = warn(rt, alloc, &description, &loaded)?;
+    let warnings = warn(rt, alloc, description, loaded)?;
     Ok(if is_strict && warnings > 0 {
         ExitCode::from(1)
     } else {

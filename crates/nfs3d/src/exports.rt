@@ -1,8 +1,8 @@
 //! `nfs3d exports`: who may reach which volume.
 
+use crate::description::load_tree;
 use crate::diagnostic::Diagnostic;
 use crate::output::print;
-use crate::source::load_tree;
 use nfs_load::loaded::Loaded;
 use nfs_why::exports::put_exports;
 use nfs_words::text::Text;

@@ -4,6 +4,7 @@
 mod check;
 mod commands;
 mod describing;
+mod description;
 mod diagnostic;
 mod exports;
 mod exposure;

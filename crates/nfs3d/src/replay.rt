@@ -1,9 +1,10 @@
 //! `nfs3d replay`: a script, run over a description.
 
+use crate::description::load_tree;
 use crate::diagnostic::Diagnostic;
 use crate::output::fault_of;
 use crate::saving::save;
-use crate::source::{Source, load_tree};
+use crate::source::Source;
 use nfs_command_line::request::Replay;
 use nfs_load::loaded::Loaded;
 use nfs_replay::replay::replay;

@@ -1,9 +1,9 @@
 //! Serving over TCP.
+use crate::description::load_tree;
 use crate::diagnostic::Diagnostic;
 use crate::exposure::warn_of_open_volumes;
 use crate::fault::Fault;
 use crate::saving::save;
-use crate::source::load_tree;
 use log::sink::Console;
 use log::{Level, Log, Logged};
 use mio::net::TcpListener;

@@ -4,7 +4,7 @@ use crate::diagnostic::Diagnostic;
 use crate::fault::Fault;
 use nfs_load::description::load;
 use nfs_load::loaded::Loaded;
-use std::alloc::Global;
+use std::alloc::{AllocError, Global};
 use std::fs;
 use std::io::{self, ErrorKind, Read};
 use std::rt::Files;
@@ -20,25 +20,20 @@ const PIECE_BYTES: usize = 1 << 16;
 pub(crate) struct Source<'a> {
     /// The name.
     pub(crate) name: &'a str,
-    /// All its bytes.
+    /// Its bytes.
     pub(crate) text: Vec<u8>,
 }
 
 impl<'a> Source<'a> {
-    /// The text of a file, or of a pipe up to its end. `CannotRead` where the system reads no more of
-    /// it, `TooLong` above 1 GiB, which an endless one reaches, `Memory`.
+    /// The whole text of this name.
     pub(crate) fn read<R: Files + Input>(
         rt: &R,
         alloc: Global,
         name: &'a str,
     ) -> Result<Source<'a>, Fault> {
-        if name == "-" {
-            return read_all(alloc, &mut rt.reader(), name);
-        }
-        match fs::open(rt, name) {
-            Ok(mut file) => read_all(alloc, &mut file, name),
-            Err(error) => Err(cannot_read(alloc, name, error)),
-        }
+        let mut text = Vec::new(alloc);
+        read_text(rt, alloc, name, &mut text)?;
+        Ok(Source { name, text })
     }
 
     /// What the text describes, or its first fault.
@@ -50,31 +45,56 @@ impl<'a> Source<'a> {
     }
 }
 
-/// The tree that a text of this name describes; the text is let go.
-pub(crate) fn load_tree<R: Files + Input>(
+/// What takes a text piece by piece.
+pub(crate) trait Sink {
+    /// Takes the next piece. Refused without memory.
+    fn take(&mut self, piece: &[u8]) -> Result<(), AllocError>;
+}
+
+impl Sink for Vec<u8> {
+    fn take(&mut self, piece: &[u8]) -> Result<(), AllocError> {
+        self.extend_from_slice(piece)
+    }
+}
+
+/// Hands on the text of a file, or of a pipe up to its end. `CannotRead` where the system reads no
+/// more of it, `TooLong` above 1 GiB, which an endless one reaches, `Memory`.
+pub(crate) fn read_text<R: Files + Input, S: Sink>(
     rt: &R,
     alloc: Global,
     name: &str,
-) -> Result<Loaded, Diagnostic> {
-    Source::read(rt, alloc, name)?.load(alloc)
+    sink: &mut S,
+) -> Result<(), Fault> {
+    if name == "-" {
+        return read_all(alloc, &mut rt.reader(), name, sink);
+    }
+    match fs::open(rt, name) {
+        Ok(mut file) => read_all(alloc, &mut file, name, sink),
+        Err(error) => Err(cannot_read(alloc, name, error)),
+    }
 }
 
-// All bytes that a reader of this name gives.
-fn read_all<'a, I: Read>(alloc: Global, file: &mut I, name: &'a str) -> Result<Source<'a>, Fault> {
-    let mut text = Vec::new(alloc);
+// Hands on all bytes that a reader of this name gives.
+fn read_all<I: Read, S: Sink>(
+    alloc: Global,
+    file: &mut I,
+    name: &str,
+    sink: &mut S,
+) -> Result<(), Fault> {
+    let mut piece = Vec::new(alloc);
+    piece.resize(PIECE_BYTES, 0)?;
+    let mut len = 0usize;
     for _ in 0..u64::MAX {
-        let len = text.len();
         if len > MOST_BYTES {
-            return Err(Fault::TooLong(name.to_string(alloc)?));
+            break;
         }
-        text.resize(len + PIECE_BYTES, 0)?;
-        match file.read(&mut text[len..]) {
-            Ok(0) => {
-                text.truncate(len);
-                return Ok(Source { name, text });
+        match file.read(piece.as_mut_slice()) {
+            Ok(0) => return Ok(()),
+            Ok(n) => {
+                len = len.saturating_add(n);
+                sink.take(&piece[..n])?;
             }
-            Ok(n) => text.truncate(len + n),
-            Err(error) if error.kind() == ErrorKind::Interrupted => text.truncate(len),
+            Err(error) if error.kind() == ErrorKind::Interrupted => {}
             Err(error) => return Err(cannot_read(alloc, name, error)),
         }
     }

@@ -1,8 +1,8 @@
 //! `nfs3d why`: why a call is granted or denied.
 
+use crate::description::Description;
 use crate::diagnostic::Diagnostic;
 use crate::output::print;
-use crate::source::Source;
 use nfs_command_line::request::Why;
 use nfs_load::loaded::Loaded;
 use nfs_why::question::{BadQuestion, Question};
@@ -48,9 +48,8 @@ fn print_answer<R: Files + Input + Print>(
     name: &str,
     question: &Question<'_>,
 ) -> Result<ExitCode, Diagnostic> {
-    let description = Source::read(rt, alloc, name)?;
-    let loaded = description.load(alloc)?;
-    let answer = answer(alloc, description.text.as_slice(), &loaded, question)?;
+    let Description { source, loaded } = Description::read(rt, alloc, name)?;
+    let answer = answer(alloc, source.text.as_slice(), &loaded, question)?;
     print(rt, answer.as_slice())?;
     Ok(ExitCode::SUCCESS)
 }

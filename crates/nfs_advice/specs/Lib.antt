@@ -1,3 +1,4 @@
 pub mod Firsts
+pub mod LeftOut
 pub mod Numbered
 pub mod Open

@@ -12,6 +12,7 @@ pub mod every;
 pub mod field;
 pub mod keys;
 pub mod keywords;
+pub mod left_out;
 pub mod limits;
 pub mod nearest;
 pub mod numbers;

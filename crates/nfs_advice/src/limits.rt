@@ -3,6 +3,7 @@ ghost use Rattle.std.specs.Prelude.{◌≡◌};
 
 use crate::advice::{Advice, Reason, Remedy};
 use crate::earlier::{first_word, word_of};
+use crate::left_out::bytes_of;
 use crate::piece::Piece;
 use nfs_text::lines::Lines;
 use nfs_text::number::decimal;
@@ -94,7 +95,7 @@ impl Held {
                 bytes: 0,
                 files: 1,
             },
-            b"file" => self.with_file(word_of(line, 5).len() as u64 / 2),
+            b"file" => self.with_file(bytes_of(word_of(line, 5))),
             b"dir" | b"link" => self.with_file(0),
             _ => self,
         }

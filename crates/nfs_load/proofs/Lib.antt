@@ -5,3 +5,4 @@ pub mod Contents
 pub mod Writes
 pub mod Entries
 pub mod Statements
+pub mod Loadings

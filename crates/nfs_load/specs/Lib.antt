@@ -8,3 +8,4 @@ pub mod Effects
 pub mod Errors
 pub mod Descriptions
 pub mod Listings
+pub mod Loadings

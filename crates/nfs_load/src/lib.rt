@@ -12,6 +12,7 @@ pub mod listing;
 mod listing_line;
 pub mod load_error;
 pub mod loaded;
+pub mod loading;
 pub mod path;
 pub mod path_end;
 pub mod refusal;

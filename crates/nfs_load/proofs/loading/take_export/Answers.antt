@@ -4,7 +4,7 @@ use Rattle.nfs_load.specs.declared.refusal.Refusal.TheVariants.{Fault}
 use Rattle.nfs_exports.specs.Tables.{added, pattern_count}
 use Rattle.nfs_load.specs.Descriptions.{last_root}
 use Rattle.nfs_load.proofs.Descriptions.{root_fault, fields_fault, line_done, length_added}
-use Rattle.nfs_load.proofs.description.take_export.Goals as goal
+use Rattle.nfs_load.proofs.loading.take_export.Goals as goal
 
 pub returns-in_err-last_root-clause-done : goal.returns-in_err-last_root-clause-done
 returns-in_err-last_root-clause-done c =

@@ -1,7 +1,7 @@
 use Rattle.std.proofs.Common.{rules, ◌≡◌, Ok, Err, refl}
 use Rattle.nfs_load.specs.Descriptions.{last_root}
 use Rattle.nfs_load.proofs.Descriptions.{root_fault, fields_fault, line_done}
-use Rattle.nfs_load.proofs.description.take_link.Goals as goal
+use Rattle.nfs_load.proofs.loading.take_link.Goals as goal
 
 pub returns-in_err-root-clause-done : goal.returns-in_err-root-clause-done
 returns-in_err-root-clause-done c =

@@ -2,7 +2,7 @@ use Rattle.std.proofs.Common.{rules, ◌≡◌, Ok, Err, inl, refl}
 use Rattle.nfs_load.specs.Descriptions.{last_root}
 use Rattle.nfs_load.specs.Statements.{WantsContent, file_line_of}
 use Rattle.nfs_load.proofs.Descriptions.{root_fault, fields_refused, line_done}
-use Rattle.nfs_load.proofs.description.take_file.Goals as goal
+use Rattle.nfs_load.proofs.loading.take_file.Goals as goal
 
 pub returns-in_err-root-clause-done : goal.returns-in_err-root-clause-done
 returns-in_err-root-clause-done c =

@@ -1,7 +1,7 @@
 use Rattle.std.proofs.Common.{rules, ◌≡◌, Ok, Err, refl}
 use Rattle.nfs_load.specs.Descriptions.{last_root}
 use Rattle.nfs_load.proofs.Descriptions.{root_fault, fields_fault, line_done}
-use Rattle.nfs_load.proofs.description.take_hard.Goals as goal
+use Rattle.nfs_load.proofs.loading.take_dir.Goals as goal
 
 pub returns-in_err-root-clause-done : goal.returns-in_err-root-clause-done
 returns-in_err-root-clause-done c =
@@ -16,4 +16,4 @@ returns-in_err-line-clause-done c =
 pub returns-clause-done : goal.returns-clause-done
 returns-clause-done c =
     let root : last_root c.args.loaded.now.tree ≡ Ok c.in_ok-root.root.0 = search rules in
-    line_done _ _ _ _ _ c.add_name.result _ root c.in_ok-line.ensures (c.add_name.ensures, refl)
+    line_done _ _ _ _ _ c.make_dir.result _ root c.in_ok-line.ensures (c.make_dir.ensures, refl)

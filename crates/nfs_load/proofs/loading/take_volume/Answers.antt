@@ -2,7 +2,7 @@ use Rattle.std.proofs.Common.{Ok, arith}
 use Rattle.nfs_load.specs.Descriptions.{VolumeTaken}
 use Rattle.nfs_load.specs.Statements.{volume_line_of}
 use Rattle.nfs_load.proofs.Descriptions.{then_fault, then_done, handed_on, volume_refused}
-use Rattle.nfs_load.proofs.description.take_volume.Goals as goal
+use Rattle.nfs_load.proofs.loading.take_volume.Goals as goal
 
 pub returns-in_err-line-clause-done : goal.returns-in_err-line-clause-done
 returns-in_err-line-clause-done c = then_fault _ _ c.from_residual.result _ c.in_err-line.ensures c.from_residual.ensures

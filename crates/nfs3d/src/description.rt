@@ -1,0 +1,147 @@
+//! Descriptions that are loaded while they are read.
+
+use crate::diagnostic::Diagnostic;
+use crate::source::{Sink, Source, read_text};
+use nfs_advice::left_out::{content_of, put_mark};
+use nfs_load::load_error::LoadError;
+use nfs_load::loaded::Loaded;
+use nfs_load::loading::Loading;
+use nfs_text::line::Line;
+use nfs_text::pieces::Pieces;
+use std::alloc::{AllocError, Global};
+use std::rt::Files;
+
+// Of a line with more bytes the content is left out of the text once it is loaded.
+const LONG_LINE_BYTES: usize = 4_096;
+
+/// A description: what it says, and its text, in which long contents are left out.
+#[derive(Drop)]
+pub(crate) struct Description<'a> {
+    /// Its text.
+    pub(crate) source: Source<'a>,
+    /// What it says.
+    pub(crate) loaded: Loaded,
+}
+
+impl<'a> Description<'a> {
+    /// The description of this name. Its first fault where there is one, but only once all of it was read.
+    pub(crate) fn read<R: Files + Input>(
+        rt: &R,
+        alloc: Global,
+        name: &'a str,
+    ) -> Result<Description<'a>, Diagnostic> {
+        let mut reader = Reader::new(alloc);
+        read_text(rt, alloc, name, &mut reader)?;
+        reader.end()?;
+        reader.described(alloc, name)
+    }
+}
+
+/// The tree that a text of this name describes; the text is let go.
+pub(crate) fn load_tree<R: Files + Input>(
+    rt: &R,
+    alloc: Global,
+    name: &str,
+) -> Result<Loaded, Diagnostic> {
+    let Description { loaded, .. } = Description::read(rt, alloc, name)?;
+    Ok(loaded)
+}
+
+// A description, as far as it was read.
+#[derive(Drop)]
+struct Reader {
+    loading: Loading,
+    // The lines that were taken, the first faulty one last. Nothing behind that is kept.
+    text: Vec<u8>,
+    // The line that has not ended yet.
+    line: Vec<u8>,
+    fault: Option<LoadError>,
+}
+
+impl Reader {
+    fn new(alloc: Global) -> Reader {
+        Reader {
+            loading: Loading::new(alloc),
+            text: Vec::new(alloc),
+            line: Vec::new(alloc),
+            fault: None,
+        }
+    }
+
+    // The last line may lack its LF.
+    fn end(&mut self) -> Result<(), AllocError> {
+        if self.fault.is_none() && !self.line.is_empty() {
+            self.end_line()?;
+        }
+        Ok(())
+    }
+
+    // Loads the line that has ended.
+    fn end_line(&mut self) -> Result<(), AllocError> {
+        let line = self.line.as_slice();
+        match self.loading.take(line) {
+            Ok(()) => keep(&mut self.text, line)?,
+            Err(error) => {
+                self.fault = Some(error);
+                self.text.extend_from_slice(line)?;
+            }
+        }
+        self.text.push(b'\n')?;
+        self.line.clear();
+        Ok(())
+    }
+
+    fn described<'a>(self, alloc: Global, name: &'a str) -> Result<Description<'a>, Diagnostic> {
+        let Reader {
+            loading,
+            text,
+            fault,
+            ..
+        } = self;
+        let source = Source { name, text };
+        match outcome(loading, fault) {
+            Ok(loaded) => Ok(Description { source, loaded }),
+            Err(error) => Err(Diagnostic::of_description(alloc, error, &source)),
+        }
+    }
+}
+
+impl Sink for Reader {
+    fn take(&mut self, piece: &[u8]) -> Result<(), AllocError> {
+        let mut is_first = true;
+        for part in Pieces::new(piece, b'\n') {
+            if !is_first {
+                self.end_line()?;
+            }
+            if self.fault.is_some() {
+                break;
+            }
+            is_first = false;
+            self.line.extend_from_slice(part)?;
+        }
+        Ok(())
+    }
+}
+
+fn outcome(loading: Loading, fault: Option<LoadError>) -> Result<Loaded, LoadError> {
+    match fault {
+        Some(error) => Err(error),
+        None => loading.finish(),
+    }
+}
+
+// Keeps what is looked at of a line that is loaded.
+fn keep(text: &mut Vec<u8>, line: &[u8]) -> Result<(), AllocError> {
+    if line.len() <= LONG_LINE_BYTES {
+        return text.extend_from_slice(line);
+    }
+    match content_of(line) {
+        Some(content) => {
+            let mut mark = Line::new();
+            put_mark(&mut mark, content.bytes);
+            text.extend_from_slice(&line[..content.start])?;
+            text.extend_from_slice(mark.as_slice())
+        }
+        None => text.extend_from_slice(line),
+    }
+}

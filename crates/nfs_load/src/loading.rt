@@ -1,0 +1,226 @@
+//! Descriptions that are loaded line by line.
+ghost use Rattle.std.specs.Prelude.{◌≡◌, Ok, IfOk, IfSome, OnOk, length, option_map};
+ghost use Rattle.std.specs.Result.{result_map_both};
+ghost use Rattle.nfs_inodes.specs.Law.{Law};
+ghost use Rattle.nfs_text.specs.Words.{words_left};
+ghost use Rattle.nfs_load.specs.Descriptions as spec;
+ghost use Rattle.nfs_load.specs.Descriptions.{GoesOn, LineDone, begun, finished};
+ghost use Rattle.nfs_load.specs.Loadings.{LineTaken, at_end, nothing};
+
+use crate::cause::Cause;
+use crate::changes::{add_name, add_volume, make_dir, make_file, make_link};
+use crate::fields::Fields;
+use crate::line::{Keyword, Line, read_line};
+use crate::load_error::LoadError;
+use crate::loaded::Loaded;
+use crate::refusal::Refusal;
+use crate::statement::{DirLine, ExportLine, FileLine, HardLine, LinkLine, VolumeLine};
+use nfs_exports::limits::MAX_PATTERNS;
+use nfs_exports::table::Table;
+use nfs_handles::number::Number;
+use nfs_inodes::tree::Tree;
+use std::alloc::Global;
+use std::marker::Model;
+
+/// A description that is loaded line by line, so that a line may be let go as soon as it is taken.
+/// Contracts see what was described so far, and how many lines were taken.
+#[derive(Drop)]
+pub struct Loading {
+    alloc: Global,
+    described: Option<Loaded>,
+    count: u64,
+}
+
+impl Model for Loading {
+    ghost use Rattle.std.specs.Prelude.{◌≡◌, IfSome, length};
+    ghost use Rattle.nfs_load.specs.Loadings.{SoFar};
+
+    ghost Value = { SoFar };
+
+    ghost view = { λ a. record { described = a.described; count = a.count } };
+
+    ghost invariant = { λ a. IfSome a.described (λ l. length l.table ≡ length l.tree.volumes) };
+}
+
+impl Loading {
+    /// No line was taken.
+    pub fn new(alloc: Global) -> Loading
+        ensures { result ≡ nothing }
+    {
+        Loading {
+            alloc,
+            described: None,
+            count: 0,
+        }
+    }
+
+    /// Takes the next line, which is given without its LF. Where it is refused, it is told by its
+    /// number, counted from 1, and nothing is described any more: what was made is given back.
+    pub fn take(&mut self, line: &[u8]) -> Result<(), LoadError>
+        ensures { LineTaken self.old line.now result self.new }
+    {
+        self.count = self.count.saturating_add(1);
+        match take_line(self.alloc, &mut self.described, line) {
+            Ok(()) => Ok(()),
+            Err(refusal) => {
+                self.described = None;
+                Err(refusal.at(self.count))
+            }
+        }
+    }
+
+    /// What all lines describe. `NoServer`, then `NoVolume`, for the line behind the last.
+    pub fn finish(self) -> Result<Loaded, LoadError>
+        ensures described { result ≡ at_end self.count (finished self.described) }
+        ensures law { IfOk result (λ loaded. Law loaded.tree) }
+        ensures lists { IfOk result (λ loaded. length loaded.table ≡ length loaded.tree.volumes) }
+    {
+        match finish(self.described) {
+            Ok(loaded) => Ok(loaded),
+            Err(cause) => Err(LoadError::Fault {
+                line: self.count.saturating_add(1),
+                cause,
+            }),
+        }
+    }
+}
+
+// A server and a volume have to be described.
+fn finish(described: Option<Loaded>) -> Result<Loaded, Cause>
+    ensures { result ≡ finished described }
+{
+    match described {
+        None => Err(Cause::NoServer),
+        Some(loaded) if loaded.tree.volumes() == 0 => Err(Cause::NoVolume),
+        Some(loaded) => Ok(loaded),
+    }
+}
+
+// One line more.
+fn take_line(alloc: Global, described: &mut Option<Loaded>, line: &[u8]) -> Result<(), Refusal>
+    requires { IfSome described.old (λ l. length l.table ≡ length l.tree.volumes) }
+    ensures done { LineDone described.old line.now result described.new }
+    ensures lists { OnOk result (IfSome described.new (λ l. length l.table ≡ length l.tree.volumes)) }
+{
+    let Some(line) = read_line(line)? else {
+        return Ok(());
+    };
+    match described {
+        Some(loaded) => go_on(alloc, loaded, line),
+        None => {
+            *described = Some(begin(alloc, line)?);
+            Ok(())
+        }
+    }
+}
+
+// The first line that asks for something, which has to be the server's.
+fn begin(alloc: Global, line: Line<'_>) -> Result<Loaded, Cause>
+    ensures { result ≡ begun line.entry.keyword (words_left line.entry.fields) }
+{
+    if line.keyword != Keyword::Server {
+        return Err(Cause::NoServer);
+    }
+    let key = Fields::new(line.fields).key()?;
+    Ok(Loaded {
+        tree: Tree::new(alloc, key),
+        table: Table::new(alloc),
+    })
+}
+
+// A line behind the server's.
+fn go_on(alloc: Global, loaded: &mut Loaded, line: Line<'_>) -> Result<(), Refusal>
+    requires { length loaded.old.table ≡ length loaded.old.tree.volumes }
+    ensures done { GoesOn loaded.old line.entry.keyword (words_left line.entry.fields) result loaded.new }
+    ensures lists { OnOk result (length loaded.new.table ≡ length loaded.new.tree.volumes) }
+{
+    let mut fields = Fields::new(line.fields);
+    match line.keyword {
+        Keyword::Server => Err(Refusal::Fault(Cause::ServerTwice)),
+        Keyword::Volume => take_volume(loaded, &mut fields),
+        Keyword::Export => take_export(loaded, &mut fields),
+        Keyword::Dir => take_dir(loaded, &mut fields),
+        Keyword::File => take_file(alloc, loaded, &mut fields),
+        Keyword::Link => take_link(loaded, &mut fields),
+        Keyword::Hard => take_hard(loaded, &mut fields),
+    }
+}
+
+fn take_volume(loaded: &mut Loaded, fields: &mut Fields<'_>) -> Result<(), Refusal>
+    requires { length loaded.old.table ≡ length loaded.old.tree.volumes }
+    ensures done { GoesOn loaded.old Keyword.Volume fields.old result loaded.new }
+    ensures lists { OnOk result (length loaded.new.table ≡ length loaded.new.tree.volumes) }
+{
+    let line = VolumeLine::read(fields)?;
+    add_volume(&mut loaded.tree, &line)?;
+    loaded.table.add_volume()?;
+    Ok(())
+}
+
+fn take_export(loaded: &mut Loaded, fields: &mut Fields<'_>) -> Result<(), Refusal>
+    requires { length loaded.old.table ≡ length loaded.old.tree.volumes }
+    ensures done { GoesOn loaded.old Keyword.Export fields.old result loaded.new }
+    ensures lists { OnOk result (length loaded.new.table ≡ length loaded.new.tree.volumes) }
+{
+    let _ = last_root(&loaded.tree)?;
+    let line = ExportLine::read(fields)?;
+    if loaded.table.pattern_count() >= MAX_PATTERNS {
+        return Err(Refusal::Fault(Cause::Full));
+    }
+    let volume = loaded.table.volume_count() - 1;
+    loaded.table.add(volume, line.pattern, line.options)?;
+    Ok(())
+}
+
+fn take_dir(loaded: &mut Loaded, fields: &mut Fields<'_>) -> Result<(), Refusal>
+    requires { length loaded.old.table ≡ length loaded.old.tree.volumes }
+    ensures done { GoesOn loaded.old Keyword.Dir fields.old result loaded.new }
+    ensures lists { OnOk result (length loaded.new.table ≡ length loaded.new.tree.volumes) }
+{
+    let root = last_root(&loaded.tree)?;
+    let line = DirLine::read(fields)?;
+    make_dir(&mut loaded.tree, root, &line)
+}
+
+fn take_file(alloc: Global, loaded: &mut Loaded, fields: &mut Fields<'_>) -> Result<(), Refusal>
+    requires { length loaded.old.table ≡ length loaded.old.tree.volumes }
+    ensures done { GoesOn loaded.old Keyword.File fields.old result loaded.new }
+    ensures lists { OnOk result (length loaded.new.table ≡ length loaded.new.tree.volumes) }
+{
+    let root = last_root(&loaded.tree)?;
+    let line = FileLine::read(alloc, fields)?;
+    make_file(&mut loaded.tree, root, line)
+}
+
+fn take_link(loaded: &mut Loaded, fields: &mut Fields<'_>) -> Result<(), Refusal>
+    requires { length loaded.old.table ≡ length loaded.old.tree.volumes }
+    ensures done { GoesOn loaded.old Keyword.Link fields.old result loaded.new }
+    ensures lists { OnOk result (length loaded.new.table ≡ length loaded.new.tree.volumes) }
+{
+    let root = last_root(&loaded.tree)?;
+    let line = LinkLine::read(fields)?;
+    make_link(&mut loaded.tree, root, &line)
+}
+
+fn take_hard(loaded: &mut Loaded, fields: &mut Fields<'_>) -> Result<(), Refusal>
+    requires { length loaded.old.table ≡ length loaded.old.tree.volumes }
+    ensures done { GoesOn loaded.old Keyword.Hard fields.old result loaded.new }
+    ensures lists { OnOk result (length loaded.new.table ≡ length loaded.new.tree.volumes) }
+{
+    let root = last_root(&loaded.tree)?;
+    let line = HardLine::read(fields)?;
+    add_name(&mut loaded.tree, root, &line)
+}
+
+// The root of the last volume. `NoVolume` where there is none.
+fn last_root(tree: &Tree) -> Result<Number, Cause>
+    ensures { result_map_both (λ n. n.0) (λ cause. cause) result ≡ spec.last_root tree.now }
+{
+    let Some(last) = tree.volumes().checked_sub(1) else {
+        return Err(Cause::NoVolume);
+    };
+    match tree.volume(last) {
+        Some(volume) => Ok(volume.root),
+        None => Err(Cause::NoVolume),
+    }
+}
