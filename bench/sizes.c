@@ -1,20 +1,21 @@
 /* The baselines of calls that name many files, in an order that wanders: the same calls, written plainly.
  *
- * The files stand in an array, in directories of a thousand; a handle tells the slot of its file, and a directory's names
+ * The files stand in an array, in directories of the same size; a handle tells the slot of its file, and a directory's names
  * stand in a table that their hashes index. A name, and a file's bytes, are allocated.
  */
 #include "files.h"
 #include <stdio.h>
 #include <stdlib.h>
 
-enum { EACH = 1000, PLACES = 2048, STRIDE = 618041, CALLS = 1000000, RUNS = 5, ADDRESS = 0x0a000001, MAX_READ = 131072 };
+enum { STRIDE = 618041, CALLS = 1000000, RUNS = 5, ADDRESS = 0x0a000001, MAX_READ = 131072 };
 
 struct place {
     unsigned char handle[HANDLE], name[4];
 };
 
 static struct file *files;
-static size_t count;
+static size_t count, table;
+static uint32_t dirs, each;
 static struct server s = {{1, 2, 3, 4, 5, 6, 7, 8}, 0, NULL, 0, (const struct export[]){{0, 0x0a000000, 24, ROOT, 65534, 65534}}, 1};
 
 /* ---- files and names */
@@ -31,7 +32,7 @@ static struct entry *entry_of(const struct file *dir, const unsigned char *name,
     for (size_t i = 0; i < len; i++)
         hash = (hash ^ name[i]) * 16777619u;
     struct entry *entries = (struct entry *)dir->entries;
-    for (size_t at = hash % PLACES;; at = (at + 1) % PLACES)
+    for (size_t at = hash & (table - 1);; at = (at + 1) & (table - 1))
         if (entries[at].number == 0 || (entries[at].len == len && memcmp(entries[at].name, name, len) == 0))
             return &entries[at];
 }
@@ -45,7 +46,7 @@ static void add(uint32_t type, uint64_t dir) {
     struct file *f = &files[count++];
     *f = (struct file){.number = count, .type = type, .mode = 0755, .nlink = 1, .uid = OWNER, .gid = OWNER, .parent = dir};
     if (type == 2)
-        f->entries = some(PLACES, sizeof *f->entries);
+        f->entries = some(table, sizeof *f->entries);
     else {
         char *name = some(4, 1);
         f->bytes = memcpy(some(5, 1), "hello", 5);
@@ -55,14 +56,17 @@ static void add(uint32_t type, uint64_t dir) {
     }
 }
 
-static void grow(uint32_t dirs) {
-    files = some(dirs * (EACH + 1) + 1, sizeof *files);
+static void grow(uint32_t some_dirs, uint32_t some_files) {
+    dirs = some_dirs, each = some_files;
+    for (table = 1; table < 2 * each; table *= 2)
+        ;
+    files = some(dirs * (each + 1) + 1, sizeof *files);
     count = 0;
     add(2, 1);
     for (uint32_t dir = 0; dir < dirs; dir++) {
         uint64_t number = count + 1;
         add(2, 1);
-        for (int file = 0; file < EACH; file++)
+        for (uint32_t file = 0; file < each; file++)
             add(1, number);
     }
 }
@@ -170,11 +174,11 @@ __attribute__((noinline, noclone)) static size_t answer(const unsigned char *rec
 
 /* ---- what is measured */
 
-static struct place *wander(uint32_t dirs, int of_dir) {
-    uint64_t all = (uint64_t)dirs * EACH;
+static struct place *wander(int of_dir) {
+    uint64_t all = (uint64_t)dirs * each;
     struct place *places = some(all, sizeof *places);
     for (uint64_t step = 0; step < all; step++) {
-        uint64_t index = step * STRIDE % all, file = index % EACH, dir = index / EACH * (EACH + 1) + 2;
+        uint64_t index = step * STRIDE % all, file = index % each, dir = index / each * (each + 1) + 2;
         memcpy(places[step].handle, "NFS3", 4);
         memcpy(places[step].handle + 4, s.key, 8);
         put64(places[step].handle + 16, of_dir ? dir : dir + 1 + file);
@@ -183,14 +187,14 @@ static struct place *wander(uint32_t dirs, int of_dir) {
     return places;
 }
 
-static void measure(const char *name, uint32_t dirs, uint32_t proc, const unsigned char *rest, size_t len) {
+static void measure(const char *name, uint32_t proc, const unsigned char *rest, size_t len) {
     static unsigned char reply[1000], record[200] = {
         0, 0, 0, 42, 0, 0, 0, 0, 0, 0, 0, 2, 0, 1, 0x86, 0xa3, 0, 0, 0, 3, 0, 0, 0, 0, 0, 0, 0, 1, 0, 0, 0, 20,
         0, 0, 0, 0, 0, 0, 0, 0, 0, 0, 0, OWNER, 0, 0, 0, OWNER, 0, 0, 0, 0, 0, 0, 0, 0, 0, 0, 0, 0, 0, 0, 0, HANDLE};
-    struct place *places = wander(dirs, proc == 3);
+    struct place *places = wander(proc == 3);
     uint64_t least = UINT64_MAX;
     size_t bytes = 0;
-    uint32_t xid = 0, all = dirs * EACH, passes = CALLS / all;
+    uint32_t xid = 0, all = dirs * each, passes = CALLS / all;
     record[23] = (unsigned char)proc;
     memcpy(record + 88, rest, len);
     for (int run = 0; run < RUNS; run++) {
@@ -206,20 +210,22 @@ static void measure(const char *name, uint32_t dirs, uint32_t proc, const unsign
         uint64_t time = (now() - start) * 10 / ((uint64_t)passes * all);
         least = time < least ? time : least;
     }
-    printf("%s-%u %llu.%llu %zu\n", name, dirs == 1 ? EACH : 1000000, (unsigned long long)(least / 10), (unsigned long long)(least % 10), bytes / xid);
+    printf("%s-%zu %llu.%llu %zu\n", name, dirs == 1 ? each : count, (unsigned long long)(least / 10), (unsigned long long)(least % 10), bytes / xid);
     free(places);
 }
 
 int main(void) {
     static const unsigned char name[8] = {0, 0, 0, 4}, bits[4] = {0, 0, 0, 0x3f}, range[12] = {[10] = 16}, mode[32] = {[3] = 1, [6] = 1, [7] = 0xa4};
-    static const uint32_t sizes[] = {1, 999};
-    for (int i = 0; i < 2; i++) {
-        grow(sizes[i]);
-        measure("getattr", sizes[i], 1, name, 0);
-        measure("lookup-x", sizes[i], 3, name, 8);
-        measure("read-4096", sizes[i], 6, range, 12);
-        measure("access", sizes[i], 4, bits, 4);
-        measure("setattr", sizes[i], 2, mode, 32);
+    static const struct { uint32_t dirs, each; } sizes[] = {{1, 10}, {1, 100000}, {1, 1000}, {999, 1000}};
+    for (int i = 0; i < 4; i++) {
+        grow(sizes[i].dirs, sizes[i].each);
+        measure("lookup-x", 3, name, 8);
+        if (i < 2)
+            continue;
+        measure("getattr", 1, name, 0);
+        measure("read-4096", 6, range, 12);
+        measure("access", 4, bits, 4);
+        measure("setattr", 2, mode, 32);
     }
     return 0;
 }
