@@ -89,14 +89,15 @@ pub(crate) fn hold<R: Print + AllocGlobal>(rt: &R, thousands: u32) -> io::Result
     println!(rt; "held {}", tree.next_number().saturating_sub(1))
 }
 
-/// The same with one name more for each file, in as many directories more.
-pub(crate) fn hold_names<R: Print + AllocGlobal>(rt: &R, thousands: u32) -> io::Result<()> {
-    let mut tree = grown(rt.alloc(), thousands)?;
-    let mut names = 0u32;
-    for place in 0..thousands {
-        names = names.saturating_add(name_again(&mut tree, place)?);
+/// Holds a hundred thousand empty files with one name more for each, in so many directories more of
+/// so many names, and prints how many there are.
+pub(crate) fn hold_names<R: Print + AllocGlobal>(rt: &R, dirs: u32, names: u32) -> io::Result<()> {
+    let mut tree = grown(rt.alloc(), 100)?;
+    let mut named = 0u32;
+    for _ in 0..dirs {
+        named = name_again(&mut tree, named, names)?;
     }
-    println!(rt; "held {names} names more")
+    println!(rt; "held {named} names more")
 }
 
 /// Holds so many files of 16 MiB with a byte at their ends, and prints the bytes of their volume.
@@ -167,23 +168,21 @@ fn add(
     Ok(())
 }
 
-// One name more for each file of the directory at a place, in a directory of their own: how many
-// there are.
-fn name_again(tree: &mut Tree, place: u32) -> Result<u32, AllocError> {
-    let dir = fill(tree, place.saturating_add(FILES), 0, 0, &[])?;
-    let first = u64::from(place)
-        .saturating_mul(u64::from(FILES) + 1)
-        .saturating_add(3);
-    let mut names = 0u32;
-    for file in 0..FILES {
-        let number = Number::new(first.saturating_add(u64::from(file)));
-        let name = letters(file);
+// One name more for each of so many files behind the first that have one, in a directory of their
+// own: how many have one then.
+fn name_again(tree: &mut Tree, named: u32, names: u32) -> Result<u32, AllocError> {
+    let dir = fill(tree, named.saturating_add(FILES), 0, 0, &[])?;
+    let until = named.saturating_add(names);
+    for index in named..until {
+        // The root stands before the files, and each directory before its own.
+        let before = (index / FILES).saturating_add(3);
+        let number = Number::new(u64::from(index.saturating_add(before)));
+        let name = letters(index);
         if tree.may_link(number, dir, &name) {
             tree.link(number, dir, &name, START)?;
-            names = names.saturating_add(1);
         }
     }
-    Ok(names)
+    Ok(until)
 }
 
 /// A name of four bytes for a number below 1,048,576.
