@@ -1,6 +1,6 @@
 //! Calls through the server: of NULL, that read, that change the tree, and one that is denied.
 
-use crate::records::{first_of, number, second_of, served};
+use crate::records::{TARGET, Target, first_of, number, second_of, served};
 use nfs_attrs::moment::Moment;
 use nfs_exports::addr::Addr;
 use nfs_server::event::{Event, Handled};
@@ -51,7 +51,8 @@ pub(crate) fn fixed<R: Print + AllocGlobal>(rt: &R) -> io::Result<()> {
 
 // What three rounds come to.
 fn few(alloc: Global, name: &str) -> io::Result<Counted> {
-    let mut asked = Asked::new(alloc, name)?;
+    let mut asked = Asked::new(alloc, served(alloc)?)?;
+    asked.set(alloc, &TARGET, name)?;
     let mut counted = Counted::default();
     for xid in 0..3 {
         asked.round(xid, &mut counted);
@@ -72,7 +73,8 @@ pub(crate) fn measure<R: Clock + Print + AllocGlobal>(rt: &R, name: &str) -> io:
 
 // The nanoseconds of a round, in tenths, the least of five runs.
 fn least<R: Clock + AllocGlobal>(rt: &R, name: &str, rounds: u32) -> io::Result<u128> {
-    let mut asked = Asked::new(rt.alloc(), name)?;
+    let mut asked = Asked::new(rt.alloc(), served(rt.alloc())?)?;
+    asked.set(rt.alloc(), &TARGET, name)?;
     let mut least = u128::MAX;
     for _ in 0..5u8 {
         least = least.min(asked.time(rt, rounds)?);
@@ -80,44 +82,52 @@ fn least<R: Clock + AllocGlobal>(rt: &R, name: &str, rounds: u32) -> io::Result<
     Ok(least)
 }
 
-// What the calls of some rounds came to.
+/// What the calls of some rounds came to.
 #[derive(Clone, Copy, Default)]
-struct Counted {
-    answered: u64,
-    denied: u64,
-    bytes: u64,
+pub(crate) struct Counted {
+    pub(crate) answered: u64,
+    pub(crate) denied: u64,
+    pub(crate) bytes: u64,
 }
 
-// A server and the calls of a round.
+/// A server and the calls of a round.
 #[derive(Drop)]
-struct Asked {
-    server: Server,
+pub(crate) struct Asked {
+    pub(crate) server: Server,
     reply: ReplyBuf,
     line: Line,
     addr: Addr,
     is_repeated: bool,
-    first: Vec<u8>,
-    second: Option<Vec<u8>>,
+    pub(crate) first: Vec<u8>,
+    pub(crate) second: Option<Vec<u8>>,
 }
 
 impl Asked {
-    fn new(alloc: Global, name: &str) -> io::Result<Asked> {
-        let server = served(alloc)?;
-        let first = first_of(alloc, server.tree(), name)?;
-        let second = second_of(alloc, server.tree(), name)?;
+    /// A server and no calls.
+    pub(crate) fn new(alloc: Global, server: Server) -> io::Result<Asked> {
+        let reply = ReplyBuf::new(alloc)?;
         Ok(Asked {
             server,
-            reply: ReplyBuf::new(alloc)?,
+            reply,
             line: Line::new(),
-            addr: if name == "denied" { DENIED } else { GRANTED },
-            is_repeated: name == "setattr-again",
-            first,
-            second,
+            addr: GRANTED,
+            is_repeated: false,
+            first: Vec::new(alloc),
+            second: None,
         })
     }
 
-    // The calls of a round, each of the same number: that of the round, unless they are repeated.
-    fn round(&mut self, round: u32, counted: &mut Counted) {
+    /// Sets the calls of a round.
+    pub(crate) fn set(&mut self, alloc: Global, target: &Target, name: &str) -> io::Result<()> {
+        self.addr = if name == "denied" { DENIED } else { GRANTED };
+        self.is_repeated = name == "setattr-again";
+        self.first = first_of(alloc, self.server.tree(), target, name)?;
+        self.second = second_of(alloc, self.server.tree(), target, name)?;
+        Ok(())
+    }
+
+    /// The calls of a round, each of the same number: that of the round, unless they are repeated.
+    pub(crate) fn round(&mut self, round: u32, counted: &mut Counted) {
         let xid = if self.is_repeated { 0 } else { round };
         number(self.first.as_mut_slice(), xid);
         answer(

@@ -98,7 +98,8 @@ fn make(alloc: Global, tree: &mut Tree, dir: Number, name: &[u8]) {
     }
 }
 
-fn unlink(tree: &mut Tree, dir: Number, name: &[u8]) {
+/// The entry of a name goes, if it may.
+pub(crate) fn unlink(tree: &mut Tree, dir: Number, name: &[u8]) {
     if may_unlink(tree, dir, name) {
         tree.unlink(dir, name, START);
     }
@@ -127,7 +128,7 @@ impl Changed {
         let mut tree = grown(alloc, thousands)?;
         let first = add_dir(alloc, &mut tree, b"first")?;
         let second = add_dir(alloc, &mut tree, b"second")?;
-        let file = tree.lookup(first, b"aaaa").unwrap_or(first);
+        let file = tree.lookup(first, &letters(0)).unwrap_or(first);
         Ok(Changed {
             alloc,
             tree,
@@ -161,9 +162,9 @@ impl Changed {
 
     fn rename(&mut self, to: Number, there: bool) {
         if there {
-            rename(&mut self.tree, self.first, b"aaaa", to, b"new");
+            rename(&mut self.tree, self.first, &letters(0), to, b"new");
         } else {
-            rename(&mut self.tree, to, b"new", self.first, b"aaaa");
+            rename(&mut self.tree, to, b"new", self.first, &letters(0));
         }
     }
 }

@@ -1,12 +1,12 @@
-//! The description that is served.
+//! The descriptions that are served.
 
 use nfs_load::description::load;
 use nfs_load::loaded::Loaded;
 use std::alloc::Global;
 use std::io;
 
-// As in `examples/e.tree`.
-const TEXT: &[u8] = b"server 0102030405060708\n\
+/// As in `examples/e.tree`.
+pub(crate) const EXAMPLE: &[u8] = b"server 0102030405060708\n\
     volume /a 20000000 12 0755 0 0\n\
     export 10.0.0.0/24 rw\n\
     export 10.0.1.0/24 ro,no_root_squash\n\
@@ -20,9 +20,14 @@ const TEXT: &[u8] = b"server 0102030405060708\n\
     volume /b 1000 4 0777 0 0\n\
     export 10.0.0.0/24 rw,no_root_squash\n";
 
-/// Two volumes with eight files. Refused without memory.
-pub(crate) fn loaded(alloc: Global) -> io::Result<Loaded> {
-    match load(alloc, TEXT) {
+/// A volume with room for many files, and none.
+pub(crate) const ROOM: &[u8] = b"server 0102030405060708\n\
+    volume /a 1000000000 1000000 0755 0 0\n\
+    export 10.0.0.0/24 rw\n";
+
+/// What a description says. Refused without memory.
+pub(crate) fn loaded(alloc: Global, text: &[u8]) -> io::Result<Loaded> {
+    match load(alloc, text) {
         Ok(loaded) => Ok(loaded),
         Err(_) => Err(io::Error::from(io::ErrorKind::OutOfMemory)),
     }

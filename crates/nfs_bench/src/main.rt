@@ -11,8 +11,10 @@ mod framing;
 mod kept;
 mod pages;
 mod records;
+mod sizes;
 mod tree;
 
+use crate::sizes::{OF_FILES, OF_NAMES, Size};
 use std::process::ExitCode;
 use std::rt::{Clock, Env};
 use std::{env, io};
@@ -40,6 +42,8 @@ fn fixed<R: Clock + Print + AllocGlobal>(rt: &R) -> io::Result<()> {
     answers::each(rt, false)?;
     tree::fixed(rt)?;
     pages::fixed(rt)?;
+    pages::fixed_removal(rt)?;
+    sizes::fixed(rt)?;
     changes::fixed(rt)?;
     kept::fixed(rt)
 }
@@ -65,6 +69,37 @@ fn measure<R: Clock + Print + AllocGlobal>(rt: &R, name: &str) -> io::Result<()>
         "kept-131172" => kept::measure(rt, 131_172),
         "hold-0" => tree::hold(rt, 0),
         "hold-100000" => tree::hold(rt, 100),
+        "hold-names-1000" => tree::hold_names(rt, 100, 1_000),
+        "hold-names-100000" => tree::hold_names(rt, 1, 100_000),
+        "hold-sparse" => tree::hold_sparse(rt, 100),
+        "removal-100" => pages::measure_removal(rt, 100),
+        "removal-100000" => pages::measure_removal(rt, 100_000),
+        "files-1000" => sizes::measure(
+            rt,
+            Size {
+                dirs: 1,
+                files: 1_000,
+            },
+            &OF_FILES,
+        ),
+        // A volume has at most 1,000,000 files, its root and its directories among them.
+        "files-1000000" => sizes::measure(
+            rt,
+            Size {
+                dirs: 999,
+                files: 1_000,
+            },
+            &OF_FILES,
+        ),
+        "names-10" => sizes::measure(rt, Size { dirs: 1, files: 10 }, &OF_NAMES),
+        "names-100000" => sizes::measure(
+            rt,
+            Size {
+                dirs: 1,
+                files: 100_000,
+            },
+            &OF_NAMES,
+        ),
         call if calls::MEASURES.contains(&call) => calls::measure(rt, call),
         _ => println!(rt; "no such measure"),
     }

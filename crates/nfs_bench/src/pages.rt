@@ -1,6 +1,7 @@
 //! Pages of directories.
 
-use crate::tree::{fill, grown};
+use crate::changes::unlink;
+use crate::tree::{ROOT, fill, grown, letters};
 use nfs_args::limits::MAX_PAGE_BYTES;
 use nfs_dirs::answer::Page;
 use nfs_dirs::limits::{PAGE_HEAD_BYTES, entry_bytes, plus_bytes};
@@ -8,6 +9,7 @@ use nfs_dirs::read_dir::page;
 use nfs_dirs::read_dir_plus::page_plus;
 use nfs_handles::number::{Hint, Number};
 use nfs_inodes::tree::Tree;
+use nfs_inodes::volumes::Totals;
 use nfs_xdr::output::Output;
 use std::alloc::Global;
 use std::io;
@@ -29,7 +31,7 @@ const SHOWN: usize = 200;
 pub(crate) fn fixed<R: Print + AllocGlobal>(rt: &R) -> io::Result<()> {
     let tree = directory(rt.alloc(), 1_000)?;
     let mut out = Output::new(rt.alloc(), MAX_PAGE_BYTES)?;
-    let entries = plain(&tree, 0, u32::MAX, &mut out).map_or(0, |page: Page| page.given);
+    let entries = plain(&tree, DIR, 0, u32::MAX, &mut out).map_or(0, |page: Page| page.given);
     let shown = plus(&tree, &mut out).map_or(0, |page: Page| page.given);
     let read = whole(&tree, &mut out);
     println!(rt; "pages of {entries} and of {shown} entries, {read} read by pages")
@@ -44,7 +46,7 @@ pub(crate) fn measure<R: Clock + Print + AllocGlobal>(rt: &R) -> io::Result<()> 
     for _ in 0..5u8 {
         let start = Instant::now(rt)?;
         for _ in 0..ROUNDS {
-            let _ = plain(&tree, 0, u32::MAX, &mut out);
+            let _ = plain(&tree, DIR, 0, u32::MAX, &mut out);
         }
         entries = entries.min(start.elapsed(rt)?.as_nanos() / u128::from(ROUNDS / 10));
         let start = Instant::now(rt)?;
@@ -76,16 +78,91 @@ pub(crate) fn measure_whole<R: Clock + Print + AllocGlobal>(rt: &R, files: u32) 
     println!(rt; "entry {}.{}", least / 10, least % 10)
 }
 
+/// Removes two directories by pages, and prints how many files they had.
+pub(crate) fn fixed_removal<R: Print + AllocGlobal>(rt: &R) -> io::Result<()> {
+    let mut tree = grown(rt.alloc(), 0)?;
+    let mut out = Output::new(rt.alloc(), MAX_PAGE_BYTES)?;
+    let mut removed = 0u32;
+    for _ in 0..2u8 {
+        let dir = fill(&mut tree, 0, 1_000, 0, &[])?;
+        removed = removed.saturating_add(remove(&mut tree, dir, &mut out));
+        unlink(&mut tree, ROOT, &letters(0));
+    }
+    let left = tree.totals(0).map_or(0, |totals: Totals| totals.files);
+    println!(rt; "removed {removed} files by pages, {left} left")
+}
+
+/// Prints the nanoseconds for each file of a directory of so many that is removed in the order of its
+/// pages, in tenths, the least of five runs.
+pub(crate) fn measure_removal<R: Clock + Print + AllocGlobal>(
+    rt: &R,
+    files: u32,
+) -> io::Result<()> {
+    let mut tree = grown(rt.alloc(), 0)?;
+    let mut out = Output::new(rt.alloc(), MAX_PAGE_BYTES)?;
+    let mut least = u128::MAX;
+    for _ in 0..5u8 {
+        least = least.min(time_removal(rt, &mut tree, files, &mut out)?);
+    }
+    println!(rt; "removed {}.{}", least / 10, least % 10)
+}
+
+// The nanoseconds for each file of directories of so many, in tenths; they are filled meanwhile, which
+// is not counted.
+fn time_removal<R: Clock>(
+    rt: &R,
+    tree: &mut Tree,
+    files: u32,
+    out: &mut Output,
+) -> io::Result<u128> {
+    let mut time = 0u128;
+    let mut removed = 0u32;
+    for _ in 0..100_000 / files.max(1) {
+        let dir = fill(tree, 0, files, 0, &[])?;
+        let start = Instant::now(rt)?;
+        removed = removed.saturating_add(remove(tree, dir, out));
+        time = time.saturating_add(start.elapsed(rt)?.as_nanos());
+        unlink(tree, ROOT, &letters(0));
+    }
+    Ok(time.saturating_mul(10) / u128::from(removed.max(1)))
+}
+
+// Reads a directory by pages, and removes the files of each page: how many there were.
+fn remove(tree: &mut Tree, dir: Number, out: &mut Output) -> u32 {
+    let mut listed = 0u32;
+    for _ in 0..ROUNDS {
+        match plain(tree, dir, u64::from(listed), COUNT, out) {
+            Some(page) => {
+                let until = listed.saturating_add((page.given % 65_536) as u32);
+                remove_listed(tree, dir, listed, until);
+                listed = until;
+                if page.eof {
+                    break;
+                }
+            }
+            None => break,
+        }
+    }
+    listed.saturating_sub(2)
+}
+
+// Removes what is listed behind the first so many entries, up to so many; the first two are no files.
+fn remove_listed(tree: &mut Tree, dir: Number, from: u32, until: u32) {
+    for place in from.max(2)..until {
+        unlink(tree, dir, &letters(place.saturating_sub(2)));
+    }
+}
+
 // A volume with one directory of so many files.
 fn directory(alloc: Global, files: u32) -> io::Result<Tree> {
     let mut tree = grown(alloc, 0)?;
-    fill(alloc, &mut tree, 0, files)?;
+    fill(&mut tree, 0, files, 0, &[])?;
     Ok(tree)
 }
 
 // A page of READDIR behind a cookie.
-fn plain(tree: &Tree, cookie: u64, count: u32, out: &mut Output) -> Option<Page> {
-    let dir = tree.view(DIR)?;
+fn plain(tree: &Tree, dir: Number, cookie: u64, count: u32, out: &mut Output) -> Option<Page> {
+    let dir = tree.view(dir)?;
     out.clear();
     if out.room() < MAX_PAGE_BYTES {
         return None;
@@ -108,7 +185,7 @@ fn plus(tree: &Tree, out: &mut Output) -> Option<Page> {
 fn whole(tree: &Tree, out: &mut Output) -> u64 {
     let mut cookie = 0u64;
     for _ in 0..ROUNDS {
-        match plain(tree, cookie, COUNT, out) {
+        match plain(tree, DIR, cookie, COUNT, out) {
             Some(page) => {
                 cookie = cookie.saturating_add(page.given as u64);
                 if page.eof {

@@ -1,6 +1,7 @@
 //! The server that is measured, and the records of its calls.
 
-use crate::described::loaded;
+use crate::described::{EXAMPLE, ROOM, loaded};
+use crate::tree::grow;
 use nfs_args::limits::MAX_DATA_BYTES;
 use nfs_attrs::moment::Moment;
 use nfs_content::pages::Pages;
@@ -56,12 +57,34 @@ const NOTHING: [u8; 24] = [0; 24];
 
 const MODE: [u8; 8] = [0, 0, 0, 1, 0, 0, 1, 0xa4];
 
+/// What the calls of a round name: a directory, a file, and a name in the directory behind its length.
+#[derive(Clone, Copy)]
+pub(crate) struct Target {
+    pub(crate) dir: u64,
+    pub(crate) file: u64,
+    pub(crate) name: [u8; 8],
+}
+
+/// What the calls of the example name.
+pub(crate) const TARGET: Target = Target {
+    dir: PUB,
+    file: LARGE,
+    name: X,
+};
+
 /// A server of the description, with a file of 128 KiB in `/pub`.
 pub(crate) fn served(alloc: Global) -> io::Result<Server> {
-    let Loaded { mut tree, table } = loaded(alloc)?;
+    let Loaded { mut tree, table } = loaded(alloc, EXAMPLE)?;
     let mut bytes = Vec::new(alloc);
     bytes.resize(MAX_DATA_BYTES, 7)?;
     make(&mut tree, bytes)?;
+    Ok(Server::new(alloc, Loaded { tree, table }, 128)?)
+}
+
+/// A server of so many directories of so many files of five bytes each.
+pub(crate) fn served_many(alloc: Global, dirs: u32, files: u32) -> io::Result<Server> {
+    let Loaded { mut tree, table } = loaded(alloc, ROOM)?;
+    grow(&mut tree, dirs, files, 0, b"hello")?;
     Ok(Server::new(alloc, Loaded { tree, table }, 128)?)
 }
 
@@ -100,53 +123,75 @@ pub(crate) fn number(record: &mut [u8], xid: u32) {
 }
 
 /// The first call of a round.
-pub(crate) fn first_of(alloc: Global, tree: &Tree, name: &str) -> io::Result<Vec<u8>> {
+pub(crate) fn first_of(
+    alloc: Global,
+    tree: &Tree,
+    target: &Target,
+    name: &str,
+) -> io::Result<Vec<u8>> {
     match name {
         "null" => with(Vec::new(alloc), &[&NULL]),
-        "lookup-x" => record(alloc, tree, 3, PUB, &X),
-        "read-4096" => read(alloc, tree, 4_096),
-        "read-65536" => read(alloc, tree, 65_536),
-        "read-131072" => read(alloc, tree, 131_072),
-        "access" => record(alloc, tree, 4, LARGE, &[0, 0, 0, 0x3f]),
-        "setattr" | "setattr-again" => with(record(alloc, tree, 2, LARGE, &MODE)?, &[&NOTHING]),
-        "create-remove" => with(record(alloc, tree, 8, PUB, &Y)?, &[&[0, 0, 0, 1], &NOTHING]),
-        "rename" => renamed(alloc, tree, &X, &Y),
-        "write-4096" => written(alloc, tree, 4_096),
-        "write-65536" => written(alloc, tree, 65_536),
-        "write-131072" => written(alloc, tree, 131_072),
-        _ => record(alloc, tree, 1, LARGE, &[]),
+        "lookup-x" => record(alloc, tree, 3, target.dir, &target.name),
+        "read-4096" => read(alloc, tree, target.file, 4_096),
+        "read-65536" => read(alloc, tree, target.file, 65_536),
+        "read-131072" => read(alloc, tree, target.file, 131_072),
+        "access" => record(alloc, tree, 4, target.file, &[0, 0, 0, 0x3f]),
+        "setattr" | "setattr-again" => {
+            with(record(alloc, tree, 2, target.file, &MODE)?, &[&NOTHING])
+        }
+        "create-remove" => created(alloc, tree, target.dir, &Y),
+        "remove-create" => record(alloc, tree, 12, target.dir, &target.name),
+        "rename" => renamed(alloc, tree, target.dir, &target.name, &Y),
+        "write-4096" => written(alloc, tree, target.file, 4_096),
+        "write-65536" => written(alloc, tree, target.file, 65_536),
+        "write-131072" => written(alloc, tree, target.file, 131_072),
+        _ => record(alloc, tree, 1, target.file, &[]),
     }
 }
 
 /// The second one, which undoes the first.
-pub(crate) fn second_of(alloc: Global, tree: &Tree, name: &str) -> io::Result<Option<Vec<u8>>> {
+pub(crate) fn second_of(
+    alloc: Global,
+    tree: &Tree,
+    target: &Target,
+    name: &str,
+) -> io::Result<Option<Vec<u8>>> {
     match name {
-        "create-remove" => Ok(Some(record(alloc, tree, 12, PUB, &Y)?)),
-        "rename" => Ok(Some(renamed(alloc, tree, &Y, &X)?)),
+        "create-remove" => Ok(Some(record(alloc, tree, 12, target.dir, &Y)?)),
+        "remove-create" => Ok(Some(created(alloc, tree, target.dir, &target.name)?)),
+        "rename" => Ok(Some(renamed(alloc, tree, target.dir, &Y, &target.name)?)),
         _ => Ok(None),
     }
 }
 
 // A READ of so many bytes from the file's beginning.
-fn read(alloc: Global, tree: &Tree, count: u32) -> io::Result<Vec<u8>> {
+fn read(alloc: Global, tree: &Tree, file: u64, count: u32) -> io::Result<Vec<u8>> {
     let [a, b, c, d] = count.to_be_bytes();
-    record(alloc, tree, 6, LARGE, &[0, 0, 0, 0, 0, 0, 0, 0, a, b, c, d])
+    record(alloc, tree, 6, file, &[0, 0, 0, 0, 0, 0, 0, 0, a, b, c, d])
+}
+
+// A guarded CREATE.
+fn created(alloc: Global, tree: &Tree, dir: u64, name: &[u8]) -> io::Result<Vec<u8>> {
+    with(
+        record(alloc, tree, 8, dir, name)?,
+        &[&[0, 0, 0, 1], &NOTHING],
+    )
 }
 
 // A RENAME within the directory.
-fn renamed(alloc: Global, tree: &Tree, from: &[u8], to: &[u8]) -> io::Result<Vec<u8>> {
-    let call = with(record(alloc, tree, 14, PUB, from)?, &[&[0, 0, 0, 24]])?;
-    match tree.handle_of(PUB) {
+fn renamed(alloc: Global, tree: &Tree, dir: u64, from: &[u8], to: &[u8]) -> io::Result<Vec<u8>> {
+    let call = with(record(alloc, tree, 14, dir, from)?, &[&[0, 0, 0, 24]])?;
+    match tree.handle_of(dir) {
         Some(handle) => with(call, &[&handle, to]),
         None => Ok(call),
     }
 }
 
 // A WRITE of so many zeros over the file's first bytes.
-fn written(alloc: Global, tree: &Tree, count: u32) -> io::Result<Vec<u8>> {
+fn written(alloc: Global, tree: &Tree, file: u64, count: u32) -> io::Result<Vec<u8>> {
     let count_bytes = count.to_be_bytes();
     let mut call = with(
-        record(alloc, tree, 7, LARGE, &[0; 8])?,
+        record(alloc, tree, 7, file, &[0; 8])?,
         &[&count_bytes, &[0, 0, 0, 2], &count_bytes],
     )?;
     let len = call.len().saturating_add(count as usize);

@@ -4,8 +4,10 @@ use nfs_attrs::moment::Moment;
 use nfs_conditions::bytes::may_write;
 use nfs_content::pages::Pages;
 use nfs_handles::number::{Hint, Number};
+use nfs_inodes::limits::MAX_FILE_BYTES;
 use nfs_inodes::new_file::NewFile;
 use nfs_inodes::tree::Tree;
+use nfs_inodes::volumes::Totals;
 use std::alloc::{AllocError, Global};
 use std::io;
 use std::rt::Clock;
@@ -23,11 +25,11 @@ pub(crate) const START: Moment = Moment {
     nanos: 0,
 };
 
-/// What a new file is given.
+/// What a new file is given: to be that of the user who calls.
 pub(crate) const GIVEN: NewFile = NewFile {
     mode: 0o755,
-    uid: 0,
-    gid: 0,
+    uid: 9,
+    gid: 9,
     atime: START,
     mtime: START,
 };
@@ -87,43 +89,106 @@ pub(crate) fn hold<R: Print + AllocGlobal>(rt: &R, thousands: u32) -> io::Result
     println!(rt; "held {}", tree.next_number().saturating_sub(1))
 }
 
+/// Holds a hundred thousand empty files with one name more for each, in so many directories more of
+/// so many names, and prints how many there are.
+pub(crate) fn hold_names<R: Print + AllocGlobal>(rt: &R, dirs: u32, names: u32) -> io::Result<()> {
+    let mut tree = grown(rt.alloc(), 100)?;
+    let mut named = 0u32;
+    for _ in 0..dirs {
+        named = name_again(&mut tree, named, names)?;
+    }
+    println!(rt; "held {named} names more")
+}
+
+/// Holds so many files of 16 MiB with a byte at their ends, and prints the bytes of their volume.
+pub(crate) fn hold_sparse<R: Print + AllocGlobal>(rt: &R, files: u32) -> io::Result<()> {
+    let mut tree = grown(rt.alloc(), 0)?;
+    fill(&mut tree, 0, files, MAX_FILE_BYTES - 1, &[7])?;
+    let bytes = tree.totals(0).map_or(0, |totals: Totals| totals.bytes);
+    println!(rt; "held {bytes} bytes")
+}
+
 /// A volume with so many directories of a thousand empty files each.
 pub(crate) fn grown(alloc: Global, thousands: u32) -> Result<Tree, AllocError> {
     let mut tree = Tree::new(alloc, [0; 8]);
-    if tree.may_add_volume(b"/", 1_000_000) {
-        tree.add_volume(b"/", 1_000_000, 1_000_000, &GIVEN, START)?;
+    if tree.may_add_volume(b"/", 2_000_000) {
+        tree.add_volume(b"/", 10_000_000_000, 2_000_000, &GIVEN, START)?;
     }
-    for place in 0..thousands {
-        fill(alloc, &mut tree, place, FILES)?;
-    }
+    grow(&mut tree, thousands, FILES, 0, &[])?;
     Ok(tree)
 }
 
-/// One directory of so many empty files.
-pub(crate) fn fill(
-    alloc: Global,
+/// So many directories of so many files, each with these bytes at an offset.
+pub(crate) fn grow(
     tree: &mut Tree,
-    place: u32,
+    dirs: u32,
     files: u32,
+    offset: usize,
+    bytes: &[u8],
 ) -> Result<(), AllocError> {
-    let name = letters(place);
-    if !tree.may_make_dir(ROOT, &name) {
-        return Ok(());
-    }
-    let dir = tree.make_dir(ROOT, &name, &GIVEN, START)?;
-    for file in 0..files {
-        let name = letters(file);
-        if tree.may_make(dir, &name, 0) {
-            tree.make_file(dir, &name, Pages::zeros(alloc, 0), &GIVEN, None, START)?;
-        }
+    for place in 0..dirs {
+        fill(tree, place, files, offset, bytes)?;
     }
     Ok(())
 }
 
-/// A name of four letters for a number below 65,536.
+/// One directory of so many files, each with these bytes at an offset: the directory's number, or
+/// that of the root where none may be made.
+pub(crate) fn fill(
+    tree: &mut Tree,
+    place: u32,
+    files: u32,
+    offset: usize,
+    bytes: &[u8],
+) -> Result<Number, AllocError> {
+    let name = letters(place);
+    if !tree.may_make_dir(ROOT, &name) {
+        return Ok(ROOT);
+    }
+    let dir = tree.make_dir(ROOT, &name, &GIVEN, START)?;
+    for file in 0..files {
+        add(tree, dir, &letters(file), offset, bytes)?;
+    }
+    Ok(dir)
+}
+
+// A file with these bytes at an offset.
+fn add(
+    tree: &mut Tree,
+    dir: Number,
+    name: &[u8],
+    offset: usize,
+    bytes: &[u8],
+) -> Result<(), AllocError> {
+    if tree.may_make(dir, name, 0) {
+        let content = Pages::zeros(tree.allocator(), 0);
+        let file = tree.make_file(dir, name, content, &GIVEN, None, START)?;
+        put(tree, file, offset, bytes);
+    }
+    Ok(())
+}
+
+// One name more for each of so many files behind the first that have one, in a directory of their
+// own: how many have one then.
+fn name_again(tree: &mut Tree, named: u32, names: u32) -> Result<u32, AllocError> {
+    let dir = fill(tree, named.saturating_add(FILES), 0, 0, &[])?;
+    let until = named.saturating_add(names);
+    for index in named..until {
+        // The root stands before the files, and each directory before its own.
+        let before = (index / FILES).saturating_add(3);
+        let number = Number::new(u64::from(index.saturating_add(before)));
+        let name = letters(index);
+        if tree.may_link(number, dir, &name) {
+            tree.link(number, dir, &name, START)?;
+        }
+    }
+    Ok(until)
+}
+
+/// A name of four bytes for a number below 1,048,576.
 pub(crate) fn letters(number: u32) -> [u8; 4] {
-    let letter = |shift: u32| b'a' + (number >> shift & 15) as u8;
-    [letter(12), letter(8), letter(4), letter(0)]
+    let letter = |shift: u32| b'A' + (number >> shift & 31) as u8;
+    [letter(15), letter(10), letter(5), letter(0)]
 }
 
 // So many times the attributes of files one after another: the sum of their links.
@@ -159,8 +224,13 @@ fn look_up(tree: &Tree, rounds: u32) -> u64 {
 // So many times these bytes over those of the first file.
 fn write(tree: &mut Tree, bytes: &[u8], rounds: u32) {
     for _ in 0..rounds {
-        if may_write(tree, Number::new(3), 0, bytes.len()) {
-            let _ = tree.write_at(Number::new(3), 0, bytes, START);
-        }
+        put(tree, Number::new(3), 0, bytes);
+    }
+}
+
+// Puts bytes at an offset of a file, if it may have them.
+fn put(tree: &mut Tree, file: Number, offset: usize, bytes: &[u8]) {
+    if may_write(tree, file, offset, bytes.len()) {
+        let _ = tree.write_at(file, offset, bytes, START);
     }
 }
