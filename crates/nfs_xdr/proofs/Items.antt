@@ -1,9 +1,9 @@
 -- Reading an item finds its spelling.
-use Rattle.std.proofs.Common.{◌≡◌, ℕ, suc, zero, ◌+◌, ◌-◌, ◌*◌, ◌^◌, ◌%◌, ◌/◌, ◌<◌, ◌≤◌, Bool, true, false, ltb, eqb, List, [], ◌∷◌, ◌++◌, length, take, drop, Option, Some, None, if◌then◌else◌, Ok, Err, refl, sym, ap, subst, ◌∙◌, append_assoc, append-nil, take-add, length-drop, arith, get_or, ◌⊎◌, inl, inr}
+use Rattle.std.proofs.Common.{◌≡◌, ℕ, suc, zero, ◌+◌, ◌-◌, ◌^◌, ◌%◌, ◌/◌, ◌<◌, ◌≤◌, Bool, true, false, ltb, eqb, List, [], ◌∷◌, ◌++◌, length, take, drop, Option, Some, None, if◌then◌else◌, Ok, Err, refl, sym, ap, subst, ◌∙◌, append_assoc, append-nil, take-add, length-drop, arith, flat_map, get_or, set, ◌⊎◌, inl, inr}
 use Rattle.std.specs.Int.{Width, w32, w64, byte_len, from_be_bytes, to_be_bytes}
 use Rattle.std.proofs.lemmas.Bool.{cases_lt, ltb-false, ltb-true, le-ltb, eqb-true}
 use Rattle.std.proofs.lemmas.Grind.{flat_map-append}
-use Rattle.std.proofs.lemmas.List.{take_at, drop_at, take-append-drop, take_more, take_rest, length-append, length-take}
+use Rattle.std.proofs.lemmas.List.{take_at, drop_at, take-append-drop, take_more, take_more_set, take_rest, length-append, length-take}
 use Rattle.std.proofs.lemmas.Nat.{be_bytes_4, be_bytes_8, from_be_bytes-to_be_bytes_4, from_be_bytes-to_be_bytes_8}
 use Rattle.nfs_xdr.specs.declared.fault.XdrFault.TheVariants.{Short, TooLong, BadBool}
 use Rattle.nfs_xdr.specs.Spelling.{padding, number_of, fixed_text, opaque_text, numbers_text, IsNumber, IsBoolean, IsEnum, IsOptional, IsFixed, IsOpaque, AreItems, IsArray, Begins}
@@ -322,20 +322,16 @@ opaque_written max item counted bound = record {
 }
 
 -- what a loop has after one number more
-pub numbers_put : (ns place bytes new : List ℕ) (i : ℕ) → i < length ns → length place ≡ 4 * length ns
-    → bytes ≡ to_be_bytes w32 (get_or ns i 0)
-    → new ≡ take (4 * i) place ++ bytes ++ drop (4 * i + length bytes) place
-    → take (4 * i) place ≡ numbers_text (take i ns)
-    → take (4 * (i + 1)) new ≡ numbers_text (take (i + 1) ns)
-numbers_put ns place bytes new i below long bytes_is new_is before =
-    let front = take (4 * i) place in
-    let rest = drop (4 * i + length bytes) place in
-    let len : length front ≡ 4 * i = omega (arith, length-take (4 * i) place) in
-    ap (take (4 * (i + 1))) new_is
-    ∙ take_at (front ++ bytes) rest (4 * (i + 1)) (length-append front bytes ∙ omega (arith, len, ap length bytes_is))
-    ∙ ap (λ t. t ++ bytes) before
-    ∙ ap (λ t. numbers_text (take i ns) ++ t) (bytes_is ∙ sym (append-nil (to_be_bytes w32 (get_or ns i 0))))
-    ∙ sym (ap numbers_text (take_more ns i 0 below) ∙ flat_map-append (to_be_bytes w32) (take i ns) (get_or ns i 0 ∷ []))
+pub numbers_more : (ns : List ℕ) (words : List (List ℕ)) (i : ℕ) (word : List ℕ) → i < length ns → i < length words
+    → word ≡ to_be_bytes w32 (get_or ns i 0)
+    → flat_map (λ w. w) (take i words) ≡ numbers_text (take i ns)
+    → flat_map (λ w. w) (take (i + 1) (set words i word)) ≡ numbers_text (take (i + 1) ns)
+numbers_more ns words i word in_numbers in_words word_is before =
+    ap (flat_map (λ w. w)) (take_more_set words i word in_words)
+    ∙ flat_map-append (λ w. w) (take i words) (word ∷ [])
+    ∙ ap (λ t. t ++ (word ++ [])) before
+    ∙ ap (λ t. numbers_text (take i ns) ++ (t ++ [])) word_is
+    ∙ sym (ap numbers_text (take_more ns i 0 in_numbers) ∙ flat_map-append (to_be_bytes w32) (take i ns) (get_or ns i 0 ∷ []))
 
 cons_same : (m n : ℕ) (ms ns : List ℕ) → m ≡ n → ms ≡ ns → m ∷ ms ≡ n ∷ ns
 cons_same m n ms ns head tail = ap (λ k. k ∷ ms) head ∙ ap (λ t. n ∷ t) tail

@@ -92,9 +92,11 @@ impl Output {
         ensures text { Appends (numbers_text ns.entry) self.old self.new }
         ensures spelled { AreItems (IsNumber w32) ns.entry (numbers_text ns.entry) }
     {
-        let end = self.len + 4 * N;
-        put_numbers(&mut self.all[self.len..end], ns);
-        self.len = end;
+        let mut words = [[0u8; 4]; N];
+        for i in 0..N {
+            words[i] = bytes_of(ns[i]);
+        }
+        self.part(words.as_flattened());
     }
 
     /// Writes opaque data of a fixed length (RFC 4506, section 4.9), padded with zeros.
@@ -181,19 +183,6 @@ pub fn halves(n: u64) -> (u32, u32)
     ensures spelled { IsNumber w64 n (to_be_bytes w64 n) }
 {
     ((n >> 32) as u32, (n % (1 << 32)) as u32)
-}
-
-// Puts numbers over as many bytes as they have, each where it will stand: numbers that are put together
-// elsewhere first are waited for as they are copied.
-#[inline(always)]
-fn put_numbers<const N: usize>(place: &mut [u8], ns: [u32; N])
-    requires { length place.old ≡ 4 * N }
-    ensures text { place.new ≡ numbers_text ns.entry }
-    ensures spelled { AreItems (IsNumber w32) ns.entry (numbers_text ns.entry) }
-{
-    for i in 0..N {
-        put_over(place, 4 * i, &bytes_of(ns[i]));
-    }
 }
 
 // Puts bytes over as many others.
