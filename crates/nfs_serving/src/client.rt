@@ -11,7 +11,7 @@ use crate::window::Window;
 use nfs_attrs::moment::Moment;
 use nfs_exports::addr::Addr;
 use nfs_server::connection::Connection;
-use nfs_server::reply_buf::{MOST_GATHERED, ReplyBuf};
+use nfs_server::reply_buf::{MOST_GATHERED, ROOM, ReplyBuf};
 use nfs_server::reply_out::Gathering;
 use nfs_server::serve_fault::ServeFault;
 use nfs_server::server::Server;
@@ -21,8 +21,9 @@ use nfs_xdr::link::{Came, Link};
 use std::alloc::Global;
 use std::marker::Model;
 
-// Behind the reply with which so many bytes are owed, no more is taken.
-const MOST_OWED: usize = 262_144;
+// Behind the reply with which so many bytes are owed, no more is taken: so all that gather in a turn
+// have room.
+const MOST_OWED: usize = MOST_GATHERED - ROOM;
 
 /// A connection over a link: what has come and is not taken yet, and what is owed.
 #[derive(Drop)]

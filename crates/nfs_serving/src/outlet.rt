@@ -51,7 +51,8 @@ impl<L: Link> Outlet<L> {
         self.owed.is_empty()
     }
 
-    /// Sends what is owed, as much of it as the link takes now.
+    /// Sends what is owed, as much of it as the link takes now. Where nothing is owed any more, it
+    /// holds no memory for it.
     pub fn pass_on(&mut self) -> Result<(), DeviceFault>
         ensures passes { OnOk result (Passes (L.outgoing self.old.link) self.old.owed (L.outgoing self.new.link) self.new.owed) }
         ensures incoming { L.incoming self.new.link ≡ L.incoming self.old.link }
@@ -62,6 +63,7 @@ impl<L: Link> Outlet<L> {
     {
         let n = send_some(&mut self.link, &mut self.ended, self.owed.bytes())?;
         self.owed.take(n);
+        self.owed.let_go();
         Ok(())
     }
 

@@ -107,6 +107,18 @@ impl Window {
         self.to = self.bytes.len();
     }
 
+    /// Lets its list go, where there are no bytes.
+    pub fn let_go(&mut self)
+        ensures { self.new ≡ self.old }
+    {
+        if self.from == self.to {
+            self.from = 0;
+            self.to = 0;
+            self.bytes.clear();
+            self.bytes.shrink_to_fit();
+        }
+    }
+
     /// Gives the room back, where there are no bytes.
     pub fn give_back(&mut self, room: &mut Vec<u8>)
         ensures { self.new ≡ self.old }
