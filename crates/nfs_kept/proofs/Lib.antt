@@ -1,5 +1,4 @@
 pub mod Lookups
 pub mod Places
-pub mod Rooms
 pub mod Shows
-pub mod Slots
+pub mod Counts

@@ -1,87 +1,44 @@
--- What the places show of look-ups in the cache.
-use Rattle.std.proofs.Common.{◌≡◌, ℕ, ◌-◌, Bool, true, false, cond, List, [], ◌∷◌, take, is_some, option_map, Option, Some, None, refl, sym, ap, ◌∙◌}
+-- What the places show of look-ups among what is kept.
+use Rattle.std.proofs.Common.{◌≡◌, ◌<◌, ℕ, zero, suc, length, arith, Bool, true, false, cond, List, [], ◌∷◌, ◌++◌, take, drop, is_some, Option, Some, None, refl, sym, ap, ◌∙◌}
+use Rattle.std.specs.Prelude.{slice_index_or, ⊤}
 use Rattle.std.specs.Option.{option_map_or}
-use Rattle.std.specs.Map.{lookup, lookup_entry, remove_entry}
-use Rattle.arrayvec.specs.ArrayVec.{ArrayVec}
-use Rattle.slab.specs.Slab.{Slab}
-use Rattle.lru.specs.LruCache.{lru_cache, promoted, put_entries}
-use Rattle.lru.proofs.CallerLemmas.{Contains-lookup_entry}
-use Rattle.nfs_exports.specs.declared.addr.Addr.{Addr}
-use Rattle.nfs_kept.proofs.Places.{same_keys}
-use Rattle.nfs_kept.specs.declared.key.Key.{Key as CodeKey}
-use Rattle.nfs_kept.specs.contracts.key.KeyPartialEq.TheImpl as keys
+use Rattle.std.specs.List.{remove}
+use Rattle.std.proofs.lemmas.List.{map-append}
+use Rattle.nfs_kept.specs.declared.kept.Kept.{Kept}
 use Rattle.nfs_kept.specs.Places.{Key, Place, same, place_for, kept_reply, without, found_first}
-use Rattle.nfs_kept.specs.Shown.{place_of, places_of, shown, shown_reply}
+use Rattle.nfs_kept.specs.Shown.{IsFirstFor, key_of, moved_first, place_of, places_of}
+use Rattle.nfs_kept.proofs.Places.{same_keys}
 
--- the test of the look-ups
-abbrev pub test : CodeKey → CodeKey → Bool
-test k = keys.eq-value.it k
+-- ---- the first that is kept for a key
 
-pub shown_as : (k : CodeKey) (addr : Addr) (bytes : List ℕ) → k.addr ≡ addr → k.bytes.items ≡ bytes → shown k ≡ (addr, bytes)
-shown_as k addr bytes a b = ap (λ x. (x, k.bytes.items)) a ∙ ap (λ x. (addr, x)) b
+skipped : {X : Type 0} (b : Bool) (x y : X) → b ≡ false → cond b x y ≡ y
+skipped b x y e = ap (λ t. cond t x y) e
 
-agrees : (k e : CodeKey) → test k e ≡ same (shown k) (shown e)
-agrees k e = refl
+taken : {X : Type 0} (b : Bool) (x y : X) → b ≡ true → cond b x y ≡ x
+taken b x y e = ap (λ t. cond t x y) e
 
-module _ (replies : Slab (ArrayVec ℕ)) (k : CodeKey) where
-  reply_by : (b : Bool) (e : CodeKey × ℕ) (es : List (CodeKey × ℕ)) → kept_reply (shown k) (places_of replies es) ≡ option_map (shown_reply replies) (lookup (test k) es)
-      → cond b (Some (shown_reply replies e.1)) (kept_reply (shown k) (places_of replies es)) ≡ option_map (shown_reply replies) (cond b (Some e.1) (lookup (test k) es))
-  reply_by true e es h = refl
-  reply_by false e es h = h
+-- its reply is found
+found : (key : Key) (n : ℕ) (ks : List Kept) → IsFirstFor key n ks
+    → (reply : List ℕ) × (kept_reply key (places_of ks) ≡ Some reply) × (places_of (take 1 (drop n ks)) ≡ place_for key reply ∷ [])
+found key n [] f = absurd f
+found key zero (k ∷ ks) f = (k.reply.value.items, taken (same key (key_of k)) (Some k.reply.value.items) (kept_reply key (places_of ks)) f, ap (λ (other : Key). place_for other k.reply.value.items ∷ []) (sym (same_keys key (key_of k) f)))
+found key (suc n) (k ∷ ks) f = let behind = found key n ks f.1 in
+    (behind.0, skipped (same key (key_of k)) (Some k.reply.value.items) (kept_reply key (places_of ks)) f.0 ∙ behind.1, behind.2)
 
-  pub shows_reply : (es : List (CodeKey × ℕ)) → kept_reply (shown k) (places_of replies es) ≡ option_map (shown_reply replies) (lookup (test k) es)
-  shows_reply [] = refl
-  shows_reply (e ∷ es) = reply_by (test k e.0) e es (shows_reply es)
+-- the others are those without the key
+others : (key : Key) (n : ℕ) (ks : List Kept) → IsFirstFor key n ks → places_of (remove ks n) ≡ without key (places_of ks)
+others key n [] f = absurd f
+others key zero (k ∷ ks) f = sym (taken (same key (key_of k)) (places_of ks) (place_of k ∷ without key (places_of ks)) f)
+others key (suc n) (k ∷ ks) f =
+    ap (λ ps. place_of k ∷ ps) (others key n ks f.1) ∙ sym (skipped (same key (key_of k)) (places_of ks) (place_of k ∷ without key (places_of ks)) f.0)
 
-  without_by : (b : Bool) (e : CodeKey × ℕ) (es : List (CodeKey × ℕ)) → without (shown k) (places_of replies es) ≡ places_of replies (remove_entry (test k) es)
-      → cond b (places_of replies es) (place_of replies e ∷ without (shown k) (places_of replies es)) ≡ places_of replies (cond b es (e ∷ remove_entry (test k) es))
-  without_by true e es h = refl
-  without_by false e es h = ap (λ ps. place_of replies e ∷ ps) h
+-- its place goes first
+pub shows_found : (key : Key) (n : ℕ) (ks : List Kept) → IsFirstFor key n ks
+    → (reply : List ℕ) × (kept_reply key (places_of ks) ≡ Some reply) × (places_of (moved_first n ks) ≡ place_for key reply ∷ without key (places_of ks))
+shows_found key n ks f = let it = found key n ks f in
+    (it.0, it.1, map-append place_of (take 1 (drop n ks)) (remove ks n) ∙ ap (λ ps. ps ++ places_of (remove ks n)) it.2 ∙ ap (λ ps. place_for key it.0 ∷ ps) (others key n ks f))
 
-  pub shows_without : (es : List (CodeKey × ℕ)) → without (shown k) (places_of replies es) ≡ places_of replies (remove_entry (test k) es)
-  shows_without [] = refl
-  shows_without (e ∷ es) = without_by (test k e.0) e es (shows_without es)
-
-  entry_by : (b : Bool) (e : CodeKey × ℕ) (es : List (CodeKey × ℕ)) → kept_reply (shown k) (places_of replies es) ≡ option_map (λ e. shown_reply replies e.1) (lookup_entry (test k) es)
-      → cond b (Some (shown_reply replies e.1)) (kept_reply (shown k) (places_of replies es)) ≡ option_map (λ e. shown_reply replies e.1) (cond b (Some e) (lookup_entry (test k) es))
-  entry_by true e es h = refl
-  entry_by false e es h = h
-
-  pub shows_entry : (es : List (CodeKey × ℕ)) → kept_reply (shown k) (places_of replies es) ≡ option_map (λ e. shown_reply replies e.1) (lookup_entry (test k) es)
-  shows_entry [] = refl
-  shows_entry (e ∷ es) = entry_by (test k e.0) e es (shows_entry es)
-
-  -- an entry that passes shows the key's place
-  shows_place : (e : CodeKey) (reply : List ℕ) → test k e ≡ true → place_for (shown k) reply ≡ place_for (shown e) reply
-  shows_place e reply t = ap (λ key. place_for key reply) (same_keys (shown k) (shown e) t)
-
-  found_by : (es : List (CodeKey × ℕ)) (o : Option (CodeKey × ℕ)) → lookup_entry (test k) es ≡ o
-      → option_map_or (λ reply. place_for (shown k) reply ∷ without (shown k) (places_of replies es)) (option_map (λ e. shown_reply replies e.1) o) (places_of replies es) ≡ places_of replies (option_map_or (λ e. e ∷ remove_entry (test k) es) o es)
-  found_by es None h = refl
-  found_by es (Some e) h = ap (λ p. p ∷ without (shown k) (places_of replies es)) (shows_place e.0 (shown_reply replies e.1) (Contains-lookup_entry (test k) es e h).1) ∙ ap (λ ps. place_of replies e ∷ ps) (shows_without es)
-
-  pub shows_found : (es : List (CodeKey × ℕ)) → found_first (shown k) (places_of replies es) ≡ places_of replies (promoted (test k) es)
-  shows_found es = ap (λ o. option_map_or (λ reply. place_for (shown k) reply ∷ without (shown k) (places_of replies es)) o (places_of replies es)) (shows_entry es) ∙ found_by es (lookup_entry (test k) es) refl
-
-  entries_by : (v : ℕ) (most : ℕ) (es : List (CodeKey × ℕ)) (o : Option (CodeKey × ℕ)) → option_map (λ e. shown_reply replies e.1) o ≡ None
-      → option_map_or (λ e. (e.0, v) ∷ remove_entry (test k) es) o ((k, v) ∷ take (most - 1) es) ≡ (k, v) ∷ take (most - 1) es
-  entries_by v most es None h = refl
-  entries_by v most es (Some e) h = cc
-
-  -- a key that has no place is put first
-  pub entries_put : (v : ℕ) (most : ℕ) (es : List (CodeKey × ℕ)) → kept_reply (shown k) (places_of replies es) ≡ None
-      → put_entries test (lru_cache es most) k v ≡ (k, v) ∷ take (most - 1) es
-  entries_put v most es none = entries_by v most es (lookup_entry (test k) es) (sym (shows_entry es) ∙ none)
-
-  is_some_by : (o : Option ℕ) → is_some (option_map (shown_reply replies) o) ≡ is_some o
-  is_some_by None = refl
-  is_some_by (Some v) = refl
-
-  pub shows_whether : (es : List (CodeKey × ℕ)) → is_some (kept_reply (shown k) (places_of replies es)) ≡ is_some (lookup (test k) es)
-  shows_whether es = ap is_some (shows_reply es) ∙ is_some_by (lookup (test k) es)
-
-  pub shows_none : (es : List (CodeKey × ℕ)) → lookup (test k) es ≡ None → kept_reply (shown k) (places_of replies es) ≡ None
-  shows_none es e = shows_reply es ∙ ap (option_map (shown_reply replies)) e
+-- ---- what a look-up answers
 
 -- what a place at the front is, by the reply that is kept
 pub front_by : (key : Key) (reply : List ℕ) (ps : List Place) → kept_reply key ps ≡ Some reply → found_first key ps ≡ place_for key reply ∷ without key ps
@@ -97,5 +54,39 @@ none_by (Some r) e = cc
 pub none_found : (key : Key) (ps : List Place) → is_some (kept_reply key ps) ≡ false → kept_reply key ps ≡ None
 none_found key ps e = none_by (kept_reply key ps) e
 
-pub none_moved : (key : Key) (ps : List Place) → kept_reply key ps ≡ None → found_first key ps ≡ ps
-none_moved key ps e = ap (λ o. option_map_or (λ reply. place_for key reply ∷ without key ps) o ps) e
+pub same_reply : (a b : List ℕ) → Some a ≡ Some b → a ≡ b
+same_reply a b e = cc
+
+-- ---- one after another
+
+-- none of the first n is kept for the key
+abbrev pub NoneBefore : Key → ℕ → List Kept → Type 0
+NoneBefore key zero ks = ⊤
+NoneBefore key (suc n) [] = ⊤
+NoneBefore key (suc n) (k ∷ ks) = (same key (key_of k) ≡ false) × NoneBefore key n ks
+
+pub first_at : (key : Key) (n : ℕ) (ks : List Kept) (d : Kept) → NoneBefore key n ks → n < length ks → same key (key_of (slice_index_or ks n d)) ≡ true → IsFirstFor key n ks
+first_at key n [] d none within here = absurd (omega (arith, within))
+first_at key zero (k ∷ ks) d none within here = here
+first_at key (suc n) (k ∷ ks) d none within here = (none.0, first_at key n ks d none.1 (omega (arith, within)) here)
+
+pub one_more : (key : Key) (n : ℕ) (ks : List Kept) (d : Kept) → NoneBefore key n ks → same key (key_of (slice_index_or ks n d)) ≡ false → NoneBefore key (suc n) ks
+one_more key zero [] d none other = tt
+one_more key zero (k ∷ ks) d none other = (other, tt)
+one_more key (suc n) [] d none other = tt
+one_more key (suc n) (k ∷ ks) d none other = (none.0, one_more key n ks d none.1 other)
+
+pub none_of_all : (key : Key) (ks : List Kept) → NoneBefore key (length ks) ks → kept_reply key (places_of ks) ≡ None
+none_of_all key [] none = refl
+none_of_all key (k ∷ ks) none = skipped (same key (key_of k)) (Some k.reply.value.items) (kept_reply key (places_of ks)) none.0 ∙ none_of_all key ks none.1
+
+pub first_within : (key : Key) (n : ℕ) (ks : List Kept) → IsFirstFor key n ks → n < length ks
+first_within key n [] f = absurd f
+first_within key zero (k ∷ ks) f = omega arith
+first_within key (suc n) (k ∷ ks) f = let behind = first_within key n ks f.1 in omega (arith, behind)
+
+-- the one that is taken out stands where it stood
+pub stood : (n : ℕ) (ks : List Kept) (k : Kept) → n < length ks → k ≡ slice_index_or ks n k → k ∷ [] ≡ take 1 (drop n ks)
+stood n [] k within is = absurd (omega (arith, within))
+stood zero (j ∷ ks) k within is = ap (λ (x : Kept). x ∷ []) is
+stood (suc n) (j ∷ ks) k within is = stood n ks k (omega (arith, within)) is

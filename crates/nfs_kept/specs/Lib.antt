@@ -1,3 +1,3 @@
 pub mod Places
 pub mod Shown
-pub mod Fed
+pub mod Keeps

@@ -1,5 +1,5 @@
 -- Kept replies, the most recently used first.
-use Rattle.std.specs.Prelude.{◌≡◌, ℕ, ◌-◌, Bool, List, [], ◌∷◌, Option, Some, None, nat_eq, ◌&&◌, ◌⊎◌, if◌then◌else◌, take}
+use Rattle.std.specs.Prelude.{ℕ, ◌-◌, Bool, List, [], ◌∷◌, Option, Some, None, nat_eq, ◌&&◌, if◌then◌else◌, take}
 use Rattle.std.specs.Option.{option_map_or}
 use Rattle.std.specs.Cmp.Lexicographic.{pointwise}
 use Rattle.nfs_exports.specs.declared.addr.Addr.{Addr}
@@ -38,16 +38,11 @@ abbrev pub with_first_reply : List ℕ → List Place → List Place
 with_first_reply reply [] = []
 with_first_reply reply (p ∷ ps) = place_for p.key reply ∷ ps
 
--- the places, how many there may be, and the key of the last look-up
+-- the places, and how many there may be
 pub record Replies : Type 0 where
   pub places : List Place
   pub most : ℕ
-  pub key : Key
 
 -- a place at the front, for which the last one goes where there are too many
 abbrev pub with_first : Place → Replies → List Place
 with_first place kept = place ∷ take (kept.most - 1) kept.places
-
--- All of a key stands there, or its address alone.
-abbrev pub IsPartOf : Key → Key → Type 0
-IsPartOf key part = (part ≡ key) ⊎ (part ≡ (key.0, []))

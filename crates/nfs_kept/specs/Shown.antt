@@ -1,50 +1,50 @@
--- The places that a cache of slots and the replies in them show.
-use Rattle.std.specs.Prelude.{ℕ, ◌≤◌, ◌≢◌, List, [], ◌∷◌, map, length, Contains, IsSome, ⊤}
-use Rattle.std.specs.Option.{option_map_or}
-use Rattle.std.specs.Vec.{vec_capacity}
-use Rattle.arrayvec.specs.ArrayVec.{ArrayVec}
-use Rattle.slab.specs.Slab.{Slab, get}
-use Rattle.nfs_kept.specs.declared.key.Key.{Key as CodeKey}
-use Rattle.nfs_kept.specs.Places.{Key, Place, place_for}
+-- What the replies that are kept show, and what is counted of them.
+use Rattle.std.specs.Prelude.{◌≡◌, ℕ, zero, suc, ◌+◌, ◌*◌, ◌%◌, ◌<◌, true, false, List, [], ◌∷◌, ◌++◌, map, length, take, drop, nat_eq, nat_lt, slice_index, slice_index_or, if◌then◌else◌}
+use Rattle.std.specs.List.{remove}
+use Rattle.nfs_kept.specs.declared.kept.Kept.{Kept}
+use Rattle.nfs_kept.specs.Places.{Key, Place, place_for, same}
 
--- the key that a key of the code shows
-abbrev pub shown : CodeKey → Key
-shown k = (k.addr, k.bytes.items)
+abbrev pub key_of : Kept → Key
+key_of k = (k.addr, k.record.items)
 
--- the reply in a slot
-abbrev pub shown_reply : Slab (ArrayVec ℕ) → ℕ → List ℕ
-shown_reply replies slot = option_map_or (λ r. r.items) (get replies slot) []
+abbrev pub place_of : Kept → Place
+place_of k = place_for (key_of k) k.reply.value.items
 
-abbrev pub place_of : Slab (ArrayVec ℕ) → CodeKey × ℕ → Place
-place_of replies e = place_for (shown e.0) (shown_reply replies e.1)
+abbrev pub places_of : List Kept → List Place
+places_of ks = map place_of ks
 
-abbrev pub places_of : Slab (ArrayVec ℕ) → List (CodeKey × ℕ) → List Place
-places_of replies es = map (place_of replies) es
+-- ---- buckets, which tell most records apart
 
--- the list of a key has room for each record that is kept
-abbrev pub HasRoom : CodeKey → List (CodeKey × ℕ) → Type 0
-HasRoom key es = (e : CodeKey × ℕ) → Contains es e → length e.0.bytes.items ≤ vec_capacity key.bytes
+-- the last two bytes of a call's number
+abbrev pub xid_end : List ℕ → ℕ
+xid_end bytes = if nat_lt (length bytes) 4 then 0 else slice_index bytes 2 * 256 + slice_index bytes 3
 
--- What has room for a key and for each that was kept has room for each that is kept now.
-abbrev pub KeepsRoom : CodeKey → List (CodeKey × ℕ) → List (CodeKey × ℕ) → Type 0
-KeepsRoom key old new = (room : CodeKey) → HasRoom room old → length key.bytes.items ≤ vec_capacity room.bytes → HasRoom room new
+abbrev pub bucket_of : Key → ℕ
+bucket_of key = (xid_end key.1 + key.0.0 * 40503) % 65536
 
--- no entry has this slot
-abbrev pub Differs : ℕ → List (CodeKey × ℕ) → Type 0
-Differs slot [] = ⊤
-Differs slot (e ∷ es) = (slot ≢ e.1) × Differs slot es
+abbrev pub IsBucketed : Kept → Type 0
+IsBucketed k = k.bucket ≡ bucket_of (key_of k)
 
--- no two entries have one slot
-abbrev pub AreApart : List (CodeKey × ℕ) → Type 0
-AreApart [] = ⊤
-AreApart (e ∷ es) = Differs e.1 es × AreApart es
+-- how many of them fall into a bucket
+abbrev pub in_bucket : ℕ → List Kept → ℕ
+in_bucket b [] = 0
+in_bucket b (k ∷ ks) = (if nat_eq b k.bucket then 1 else 0) + in_bucket b ks
 
--- each slot has a reply
-abbrev pub ArePresent : Slab (ArrayVec ℕ) → List (CodeKey × ℕ) → Type 0
-ArePresent replies [] = ⊤
-ArePresent replies (e ∷ es) = IsSome (get replies e.1) × ArePresent replies es
+-- how many there are in a bucket, by the counts of all of them
+abbrev pub count_at : List ℕ → ℕ → ℕ
+count_at counts b = slice_index_or counts b 0
 
--- each entry has a slot of its own, with a reply
-pub record IsKept (replies : Slab (ArrayVec ℕ)) (es : List (CodeKey × ℕ)) : Type 0 where
-  pub present : ArePresent replies es
-  pub apart : AreApart es
+abbrev pub AreCounted : List ℕ → List Kept → Type 0
+AreCounted counts ks = (b : ℕ) → b < 65536 → count_at counts b ≡ in_bucket b ks
+
+-- ---- places
+
+-- the first that is kept for a key stands there
+abbrev pub IsFirstFor : Key → ℕ → List Kept → Type 0
+IsFirstFor key n [] = ⊥
+IsFirstFor key zero (k ∷ ks) = same key (key_of k) ≡ true
+IsFirstFor key (suc n) (k ∷ ks) = (same key (key_of k) ≡ false) × IsFirstFor key n ks
+
+-- with that of a place first
+abbrev pub moved_first : ℕ → List Kept → List Kept
+moved_first n ks = take 1 (drop n ks) ++ remove ks n

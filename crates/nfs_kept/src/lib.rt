@@ -1,5 +1,6 @@
 //! The replies that are kept for repeated calls.
 #![tactic(auto)]
 
+mod buckets;
+mod kept;
 pub mod kept_replies;
-pub mod key;

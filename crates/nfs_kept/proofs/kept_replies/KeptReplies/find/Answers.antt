@@ -1,45 +1,54 @@
-use Rattle.std.proofs.Common.{◌≡◌, ◌<◌, length, is_some, None, sym, ap, subst, ◌∙◌}
-use Rattle.lru.proofs.CallerLemmas.{Contains-promoted}
-use Rattle.nfs_kept.specs.Places.{Key, Replies, kept_reply, found_first}
-use Rattle.nfs_kept.specs.Shown.{HasRoom, IsKept, places_of}
-use Rattle.nfs_kept.proofs.Rooms.{more_room, too_long}
-use Rattle.nfs_kept.proofs.Slots.{kept_promoted}
-use Rattle.nfs_kept.proofs.Shows.{test, shown_as, shows_whether, shows_found, front_by, none_found, none_moved, none_some}
+use Rattle.std.proofs.Common.{◌≡◌, ◌≤◌, ℕ, List, ◌∷◌, length, is_some, None, Some, true, All, sym, ap, subst, ◌∙◌}
+use Rattle.std.proofs.lemmas.Bool.Decides.{Decides-eqb}
+use Rattle.nfs_kept.specs.declared.kept.Kept.{Kept}
+use Rattle.nfs_kept.specs.Places.{Key, Replies, kept_reply, place_for, without}
+use Rattle.nfs_kept.specs.Shown.{AreCounted, IsBucketed, bucket_of, count_at, in_bucket, places_of}
+use Rattle.nfs_kept.proofs.Counts.{bucket_bound, bucketed_moved, counted_moved, length_moved, none_in}
+use Rattle.nfs_kept.proofs.Shows.{first_within, none_some, same_reply, shows_found}
 use Rattle.nfs_kept.proofs.kept_replies.KeptReplies.find.Goals as goal
-use Rattle.nfs_kept.proofs.kept_replies.KeptReplies.find.Goals.{After-set, After-promote}
+use Rattle.nfs_kept.proofs.kept_replies.KeptReplies.find.Goals.{Then-is_empty}
 
-not_kept : (c : After-set) → kept_reply (c.args.addr, c.args.bytes.now) c.args.self.now.places ≡ None
-not_kept c = subst (λ (r : Replies). kept_reply (c.args.addr, c.args.bytes.now) r.places ≡ None) c.self.view_is
-    (too_long c.self.inside.replies c.self.inside.key c.self.inside.cache.entries c.args.addr c.args.bytes.now c.self.invariant.0 (subst (λ n. n < length c.args.bytes.now) c.capacity.ensures c.if-bytes-capacity.true))
+-- nothing is kept where the bucket is empty
+none : (c : Then-is_empty) → kept_reply (c.args.addr, c.args.bytes.now) c.args.self.now.places ≡ None
+none c =
+    let inside = c.self.inside in let keeps = c.self.invariant in let key : Key = (c.args.addr, c.args.bytes.now) in let b = c.bucket_of-bucket.result in
+    let empty : count_at inside.buckets b ≡ 0 = (Decides-eqb (count_at inside.buckets b) 0).0 (sym c.is_empty.ensures ∙ c.if-is_empty.true) in
+    let zero : in_bucket (bucket_of key) inside.kept.items ≡ 0 =
+    subst (λ n. in_bucket n inside.kept.items ≡ 0) c.bucket_of-bucket.ensures (sym (keeps.counted b (bucket_bound b key c.bucket_of-bucket.ensures)) ∙ empty) in
+    subst (λ (r : Replies). kept_reply key r.places ≡ None) c.self.view_is (none_in key inside.kept.items keeps.bucketed zero)
 
-pub returns-then-bytes-capacity-clause-found : goal.returns-then-bytes-capacity-clause-found
-returns-then-bytes-capacity-clause-found c = ap is_some (sym (not_kept c))
+pub returns-then-is_empty-clause-found : goal.returns-then-is_empty-clause-found
+returns-then-is_empty-clause-found c = ap is_some (sym (none c))
 
-pub returns-then-bytes-capacity-clause-front : goal.returns-then-bytes-capacity-clause-front
-returns-then-bytes-capacity-clause-front c = λ reply e. absurd (none_some (sym (not_kept c) ∙ e))
+pub returns-then-is_empty-clause-front : goal.returns-then-is_empty-clause-front
+returns-then-is_empty-clause-front c = λ reply e. absurd (none_some (sym (none c) ∙ e))
 
-pub invariant_of-self-2 : goal.invariant_of-self-2
-invariant_of-self-2 c =
-    let k = c.set-2.new.self in let es = c.self.inside.cache.entries in
-    subst (λ cache. HasRoom k cache.entries × IsKept c.self.inside.replies cache.entries) (sym c.promote.ensures.entries)
-    ((λ e there. more_room c.self.inside.key k es c.self.invariant.0 c.set-2.ensures.capacity e (Contains-promoted (test k) es e there)), kept_promoted (test k) c.self.inside.replies es c.self.invariant.1)
+pub move_first-requires-clause-within : goal.move_first-requires-clause-within
+move_first-requires-clause-within c = first_within (c.args.addr, c.args.bytes.now) c.in-Some.place c.self.inside.kept.items c.in-Some.ensures.some
 
-pub returns-clause-found : goal.returns-clause-found
-returns-clause-found c = let k = c.set-2.new.self in let es = c.self.inside.cache.entries in let replies = c.self.inside.replies in
-    c.promote.ensures.value ∙ sym (shows_whether replies k es)
-    ∙ ap (λ (key : Key). is_some (kept_reply key (places_of replies es))) (shown_as k c.args.addr c.args.bytes.now c.set-2.ensures.addr c.set-2.ensures.bytes)
-    ∙ ap (λ (r : Replies). is_some (kept_reply (c.args.addr, c.args.bytes.now) r.places)) c.self.view_is
+pub invariant_of-self : goal.invariant_of-self
+invariant_of-self c =
+    let inside = c.self.inside in let keeps = c.self.invariant in let n = c.in-Some.place in let items = c.move_first.ensures.items in let len = c.move_first.ensures.len in
+    record {
+      some = keeps.some;
+      few = keeps.few;
+      len = len ∙ keeps.len ∙ sym (length_moved n inside.kept.items) ∙ ap length (sym items);
+      within = subst (λ m. m ≤ inside.most) (sym len) keeps.within;
+      room = subst (λ m. inside.most ≤ m) (sym c.move_first.ensures.capacity) keeps.room;
+      bucketed = subst (λ (ks : List Kept). All IsBucketed ks) (sym items) (bucketed_moved n inside.kept.items keeps.bucketed);
+      all = keeps.all;
+      counted = subst (λ (ks : List Kept). AreCounted inside.buckets ks) (sym items) (counted_moved inside.buckets n inside.kept.items keeps.counted);
+    }
 
-places : (c : After-promote) → places_of c.self.inside.replies c.promote.new.self.entries ≡ found_first (c.args.addr, c.args.bytes.now) c.args.self.now.places
-places c = let k = c.set-2.new.self in let es = c.self.inside.cache.entries in let replies = c.self.inside.replies in
-    ap (λ cache. places_of replies cache.entries) c.promote.ensures.entries
-    ∙ sym (shows_found replies k es)
-    ∙ ap (λ (key : Key). found_first key (places_of replies es)) (shown_as k c.args.addr c.args.bytes.now c.set-2.ensures.addr c.set-2.ensures.bytes)
-    ∙ ap (λ (r : Replies). found_first (c.args.addr, c.args.bytes.now) r.places) c.self.view_is
+pub returns-in-Some-clause-found : goal.returns-in-Some-clause-found
+returns-in-Some-clause-found c =
+    let key : Key = (c.args.addr, c.args.bytes.now) in let it = shows_found key c.in-Some.place c.self.inside.kept.items c.in-Some.ensures.some in
+    subst (λ (r : Replies). true ≡ is_some (kept_reply key r.places)) c.self.view_is (ap is_some (sym it.1))
 
-pub returns-clause-none : goal.returns-clause-none
-returns-clause-none c = λ e. let key : Key = (c.args.addr, c.args.bytes.now) in let old = c.args.self.now in
-    places c ∙ none_moved key old.places (none_found key old.places (sym (returns-clause-found c) ∙ e))
-
-pub returns-clause-front : goal.returns-clause-front
-returns-clause-front c = λ reply e. places c ∙ front_by (c.args.addr, c.args.bytes.now) reply c.args.self.now.places e
+pub returns-in-Some-clause-front : goal.returns-in-Some-clause-front
+returns-in-Some-clause-front c = λ reply e.
+    let key : Key = (c.args.addr, c.args.bytes.now) in let it = shows_found key c.in-Some.place c.self.inside.kept.items c.in-Some.ensures.some in
+    let is : kept_reply key (places_of c.self.inside.kept.items) ≡ Some reply = ap (λ (r : Replies). kept_reply key r.places) c.self.view_is ∙ e in
+    ap places_of c.move_first.ensures.items ∙ it.2
+    ∙ ap (λ (r : List ℕ). place_for key r ∷ without key (places_of c.self.inside.kept.items)) (same_reply it.0 reply (sym it.1 ∙ is))
+    ∙ ap (λ (r : Replies). place_for key reply ∷ without key r.places) c.self.view_is

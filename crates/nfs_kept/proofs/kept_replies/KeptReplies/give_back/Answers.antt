@@ -1,17 +1,27 @@
-use Rattle.std.proofs.Common.{drop, sym, ap, subst, ◌∙◌}
-use Rattle.nfs_kept.specs.Places.{Replies}
-use Rattle.nfs_kept.specs.Shown.{HasRoom, IsKept, places_of}
-use Rattle.nfs_kept.proofs.Rooms.{drop_room}
-use Rattle.nfs_kept.proofs.Slots.{Entry, kept_dropped, places_dropped}
+use Rattle.std.proofs.Common.{◌≡◌, ◌<◌, ◌≤◌, ◌-◌, ℕ, List, ◌∷◌, length, All, sym, ap, subst, ◌∙◌, arith}
+use Rattle.std.proofs.lemmas.List.{length-set}
+use Rattle.std.proofs.lemmas.List.Elements.{All-head, All-tail}
+use Rattle.nfs_kept.specs.declared.kept.Kept.{Kept}
+use Rattle.nfs_kept.specs.Shown.{AreCounted, IsBucketed, count_at}
+use Rattle.nfs_kept.proofs.Counts.{bucket_within, counted_less}
 use Rattle.nfs_kept.proofs.kept_replies.KeptReplies.give_back.Goals as goal
 
 pub invariant_of-self-2 : goal.invariant_of-self-2
-invariant_of-self-2 c = let inside = c.self.inside in let es = inside.cache.entries in let m : Entry = (c.in-Some._key, c.in-Some.slot) in
-    subst (λ cache. HasRoom inside.key cache.entries × IsKept c.try_remove.new.self cache.entries) (sym c.pop_mru.ensures.entries)
-    (drop_room inside.key es c.self.invariant.0, kept_dropped inside.replies c.try_remove.new.self m es (sym c.pop_mru.ensures.value ∙ c.in-Some.is) c.self.invariant.1 c.try_remove.ensures.updates.others)
-
-pub returns-clause-places : goal.returns-clause-places
-returns-clause-places c = let inside = c.self.inside in let es = inside.cache.entries in let m : Entry = (c.in-Some._key, c.in-Some.slot) in
-    ap (λ cache. places_of c.try_remove.new.self cache.entries) c.pop_mru.ensures.entries
-    ∙ places_dropped inside.replies c.try_remove.new.self m es (sym c.pop_mru.ensures.value ∙ c.in-Some.is) c.self.invariant.1 c.try_remove.ensures.updates.others
-    ∙ ap (λ (r : Replies). drop 1 r.places) c.self.view_is
+invariant_of-self-2 c =
+    let inside = c.self.inside in let keeps = c.self.invariant in let first = c.in-Some.first in let rest = c.pop_front.new.self.items in
+    let is : inside.kept.items ≡ first ∷ rest = c.in-Some.ensures.items in
+    let bucketed : All IsBucketed (first ∷ rest) = subst (λ (ks : List Kept). All IsBucketed ks) is keeps.bucketed in
+    let counted : AreCounted inside.buckets (first ∷ rest) = subst (λ (ks : List Kept). AreCounted inside.buckets ks) is keeps.counted in
+    let within : first.bucket < length inside.buckets = subst (λ n. first.bucket < n) (sym keeps.all) (bucket_within first (All-head IsBucketed first rest bucketed)) in
+    let len = c.in-Some.ensures.len in
+    let was : length inside.kept.items ≡ length (first ∷ rest) = ap length is in
+    record {
+      some = keeps.some;
+      few = keeps.few;
+      len = omega (arith, len, was, keeps.len);
+      within = omega (arith, len, keeps.within);
+      room = subst (λ n. inside.most ≤ n) (sym c.in-Some.ensures.capacity) keeps.room;
+      bucketed = All-tail IsBucketed first rest bucketed;
+      all = ap length c.remove.ensures ∙ length-set inside.buckets first.bucket (count_at inside.buckets first.bucket - 1) ∙ keeps.all;
+      counted = subst (λ (counts : List ℕ). AreCounted counts rest) (sym c.remove.ensures) (counted_less inside.buckets first rest within counted);
+    }
