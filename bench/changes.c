@@ -483,7 +483,7 @@ static void measure(const char *name, uint32_t address, int count, uint32_t roun
         uint64_t start = now();
         for (uint32_t xid = 0; xid < rounds; xid++)
             for (int i = 0; i < count; i++) {
-                put(records[i], keeps == 2 ? 0 : xid);
+                put(records[i], keeps == 2 ? 0 : 2 * xid + (uint32_t)i);
                 bytes += answer(address, records[i], lengths[i], reply, line);
             }
         uint64_t time = (now() - start) * 10 / rounds;

@@ -115,6 +115,44 @@ static unsigned char *do_setattr(const struct ids *ids, struct file *f, uint32_t
     return shown(at, f);
 }
 
+/* takes an entry out of the table, and closes the gap */
+static void drop(const struct file *dir, struct entry *gap) {
+    struct entry *entries = (struct entry *)dir->entries;
+    free((void *)gap->name);
+    for (size_t hole = (size_t)(gap - entries), at = hole;;) {
+        at = (at + 1) & (table - 1);
+        if (entries[at].number == 0) {
+            entries[hole].number = 0;
+            return;
+        }
+        uint32_t hash = 2166136261u;
+        for (size_t i = 0; i < entries[at].len; i++)
+            hash = (hash ^ (unsigned char)entries[at].name[i]) * 16777619u;
+        if (((at - hash) & (table - 1)) >= ((at - hole) & (table - 1)))
+            entries[hole] = entries[at], hole = at;
+    }
+}
+
+/* a name of a directory becomes another one there, which has no entry */
+static unsigned char *do_rename(const struct ids *ids, struct file *dir, struct bytes from, struct bytes to, unsigned char *at) {
+    struct entry *old = dir->type == 2 && (rights(ids, dir) & 3) == 3 ? entry_of(dir, from.at, from.len) : NULL;
+    struct moment now = {100, 0};
+    if (!old || old->number == 0)
+        return put(at, old ? 2 : 13);
+    uint64_t number = old->number;
+    unsigned char *end = put(at, 0);
+    for (int side = 0; side < 2; side++) {
+        end = put64(put(end, 1), 4096);
+        end = put(put(put(put(end, dir->mtime.seconds), dir->mtime.nanos), dir->ctime.seconds), dir->ctime.nanos);
+        end = shown(end, dir);
+    }
+    char *name = memcpy(some(to.len, 1), to.at, to.len);
+    drop(dir, old);
+    *entry_of(dir, to.at, to.len) = (struct entry){name, to.len, number};
+    files[number - 1].ctime = dir->mtime = dir->ctime = now;
+    return end;
+}
+
 static unsigned char *do_access(const struct ids *ids, const struct file *f, uint32_t asked, unsigned char *at) {
     uint32_t r = rights(ids, f);
     return put(shown(put(at, 0), f), ((r & 4 ? 1 : 0) | (r & 2 ? 12 : 0) | (r & 1 ? 32 : 0)) & asked);
@@ -122,7 +160,7 @@ static unsigned char *do_access(const struct ids *ids, const struct file *f, uin
 
 /* what stands behind a handle: a name, or words; of the words of a SETATTR the mode alone counts */
 struct rest {
-    struct bytes name;
+    struct bytes name, dir, new_name;
     uint32_t words[9];
 };
 
@@ -130,6 +168,8 @@ static int read_rest(struct input *in, uint32_t proc, struct rest *rest) {
     static const unsigned counts[] = {[1] = 0, [2] = 8, [4] = 1, [6] = 3};
     if (proc == 3)
         return opaque(in, UINT32_MAX, &rest->name);
+    if (proc == 14)
+        return opaque(in, UINT32_MAX, &rest->name) && opaque(in, 64, &rest->dir) && opaque(in, UINT32_MAX, &rest->new_name);
     for (unsigned i = 0; i < counts[proc]; i++)
         if (!get(in, &rest->words[i]))
             return 0;
@@ -149,6 +189,8 @@ static unsigned char *perform(uint32_t proc, struct ids *ids, struct bytes handl
         return do_setattr(ids, f, rest->words[1], at);
     case 3:
         return do_lookup(ids, f, rest->name, at);
+    case 14:
+        return file_of(rest->dir) == f ? do_rename(ids, f, rest->name, rest->new_name, at) : put(at, 70);
     case 4:
         return do_access(ids, f, rest->words[0], at);
     default:
@@ -165,7 +207,7 @@ __attribute__((noinline, noclone)) static size_t answer(const unsigned char *rec
     rest.name = (struct bytes){NULL, 0};
     if (!get(&in, &xid) || !get(&in, &kind) || kind != 0 || !get(&in, &rpcvers) || rpcvers != 2 || !get(&in, &prog) || prog != 100003 ||
         !get(&in, &vers) || vers != 3 || !get(&in, &proc) || !get(&in, &flavor) || flavor != 1 || !opaque(&in, 400, &body) || !read_ids(body, &ids) ||
-        !get(&in, &other) || !opaque(&in, 400, &verifier) || (proc > 4 && proc != 6) || proc == 0 || !opaque(&in, 64, &handle) || !read_rest(&in, proc, &rest))
+        !get(&in, &other) || !opaque(&in, 400, &verifier) || (proc > 4 && proc != 6 && proc != 14) || proc == 0 || !opaque(&in, 64, &handle) || !read_rest(&in, proc, &rest))
         return 0;
     unsigned char *at = perform(proc, &ids, handle, &rest, put(put64(put(put(reply + 4, xid), 1), 0), 0) + 4);
     put(reply, 0x80000000u | (uint32_t)(at - reply - 4));
@@ -188,10 +230,10 @@ static struct place *wander(int of_dir) {
 }
 
 static void measure(const char *name, uint32_t proc, const unsigned char *rest, size_t len) {
-    static unsigned char reply[1000], record[200] = {
+    static unsigned char reply[1000], record[300] = {
         0, 0, 0, 42, 0, 0, 0, 0, 0, 0, 0, 2, 0, 1, 0x86, 0xa3, 0, 0, 0, 3, 0, 0, 0, 0, 0, 0, 0, 1, 0, 0, 0, 20,
         0, 0, 0, 0, 0, 0, 0, 0, 0, 0, 0, OWNER, 0, 0, 0, OWNER, 0, 0, 0, 0, 0, 0, 0, 0, 0, 0, 0, 0, 0, 0, 0, HANDLE};
-    struct place *places = wander(proc == 3);
+    struct place *places = wander(proc == 3 || proc == 14);
     uint64_t least = UINT64_MAX;
     size_t bytes = 0;
     uint32_t xid = 0, all = dirs * each, passes = CALLS / all;
@@ -203,8 +245,21 @@ static void measure(const char *name, uint32_t proc, const unsigned char *rest, 
             for (uint32_t i = 0; i < all; i++) {
                 put(record, xid++);
                 memcpy(record + 64, places[i].handle, HANDLE);
-                if (proc == 3)
+                if (proc == 3 || proc == 14)
                     memcpy(record + 92, places[i].name, 4);
+                if (proc == 14) {
+                    /* to the name y, and back */
+                    memcpy(record + 100, places[i].handle, HANDLE);
+                    memcpy(record + 124, "\0\0\0\1y\0\0\0", 8);
+                    bytes += answer(record, 132, reply);
+                    memcpy(record + 88, "\0\0\0\1y\0\0\0", 8);
+                    memcpy(record + 124, "\0\0\0\4", 4);
+                    memcpy(record + 128, places[i].name, 4);
+                    put(record, xid++);
+                    bytes += answer(record, 132, reply);
+                    memcpy(record + 88, rest, len);
+                    continue;
+                }
                 bytes += answer(record, 88 + len, reply);
             }
         uint64_t time = (now() - start) * 10 / ((uint64_t)passes * all);
@@ -215,13 +270,15 @@ static void measure(const char *name, uint32_t proc, const unsigned char *rest, 
 }
 
 int main(void) {
-    static const unsigned char name[8] = {0, 0, 0, 4}, bits[4] = {0, 0, 0, 0x3f}, range[12] = {[10] = 16}, mode[32] = {[3] = 1, [6] = 1, [7] = 0xa4};
+    static const unsigned char name[8] = {0, 0, 0, 4}, named[12] = {[3] = 4, [11] = HANDLE}, bits[4] = {0, 0, 0, 0x3f}, range[12] = {[10] = 16}, mode[32] = {[3] = 1, [6] = 1, [7] = 0xa4};
     static const struct { uint32_t dirs, each; } sizes[] = {{1, 10}, {1, 100000}, {1, 1000}, {999, 1000}};
     for (int i = 0; i < 4; i++) {
         grow(sizes[i].dirs, sizes[i].each);
         measure("lookup-x", 3, name, 8);
-        if (i < 2)
+        if (i < 2) {
+            measure("rename", 14, named, 12);
             continue;
+        }
         measure("getattr", 1, name, 0);
         measure("read-4096", 6, range, 12);
         measure("access", 4, bits, 4);

@@ -126,9 +126,14 @@ impl Asked {
         Ok(())
     }
 
-    /// The calls of a round, each of the same number: that of the round, unless they are repeated.
+    /// The calls of a round, each of a number of its own, as a client gives them, unless they are
+    /// repeated.
     pub(crate) fn round(&mut self, round: u32, counted: &mut Counted) {
-        let xid = if self.is_repeated { 0 } else { round };
+        let xid = if self.is_repeated {
+            0
+        } else {
+            round.wrapping_mul(2)
+        };
         number(self.first.as_mut_slice(), xid);
         answer(
             &mut self.server,
@@ -139,7 +144,7 @@ impl Asked {
             counted,
         );
         if let Some(second) = &mut self.second {
-            number(second.as_mut_slice(), xid);
+            number(second.as_mut_slice(), xid.wrapping_add(1));
             answer(
                 &mut self.server,
                 &mut self.reply,
