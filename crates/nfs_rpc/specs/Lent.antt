@@ -11,11 +11,20 @@ pub record IsAtFront (limit : ℕ) (content bytes : List ℕ) : Type 0 where
   pub whole : 4 + length content ≤ length bytes
   pub front : take (4 + length content) bytes ≡ fragment true content
 
+-- no such record stands there
+abbrev pub HasNoneAtFront : ℕ → List ℕ → Type 0
+HasNoneAtFront limit bytes = (content : List ℕ) → IsAtFront limit content bytes → ⊥
+
 -- nothing of a record's content came, and nothing of a header
 pub record IsBefore (p : Progress) : Type 0 where
   pub bytes : List ℕ
   pub stage : p.stage ≡ Header bytes 0
   pub content : p.content ≡ []
+
+-- nothing of a record came, and one stands whole at the front of the piece
+pub record BeginsWhole (p : Progress) (content piece : List ℕ) : Type 0 where
+  pub before : IsBefore p
+  pub front : IsAtFront p.limit content piece
 
 -- The record at the front of a piece: whatever stood before, with its bytes it is whole; and without any, a record begins.
 pub record IsLent (p : Progress) (content piece : List ℕ) : Type 0 where

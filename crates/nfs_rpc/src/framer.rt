@@ -1,8 +1,8 @@
 //! Records from the pieces of a stream.
 ghost use Rattle.std.specs.Prelude.{◌≡◌, ◌≢◌, ℕ, ◌+◌, ◌<◌, ◌≤◌, ◌↔◌, ◌⊎◌, [], ◌++◌, true, nat_lt, length, take, vec_len, vec_capacity};
-ghost use Rattle.std.specs.Prelude.{IfOk, IfErr, IfSome, OnOk, OnErr, IsTrue, IsErr, IsErrOf};
+ghost use Rattle.std.specs.Prelude.{IfOk, IfErr, IfSome, OnOk, OnErr, IsTrue, IsNone, IsErr, IsErrOf};
 ghost use Rattle.nfs_rpc.specs.Progress.{Progress, Unfinished, Moves, BringsTooLong, AsksForRoom};
-ghost use Rattle.nfs_rpc.specs.Lent.{IsAtFront, IsBefore, IsLent};
+ghost use Rattle.nfs_rpc.specs.Lent.{BeginsWhole, HasNoneAtFront, IsAtFront, IsBefore, IsLent};
 ghost use Rattle.nfs_rpc.specs.Stages.{stage_of};
 
 use crate::record::{HEADER_BYTES, read_header};
@@ -196,10 +196,12 @@ impl Framer {
     }
 
     /// The record that stands at the front of the piece, lent from it: where it stands there whole, in
-    /// one fragment, and nothing of it came before. Who takes it, with its header, takes what `feed`
+    /// one fragment, and nothing of it came before; none elsewhere. Who takes it, with its header, takes what `feed`
     /// would take, and reads what `whole` would lend; the framer stays before the next record.
     pub fn lend<'a>(&self, piece: &'a [u8]) -> Option<&'a [u8]>
-        ensures { IfSome result (λ content. IsLent self.now content.now piece.entry.now) }
+        ensures lent { IfSome result (λ content. IsLent self.now content.now piece.entry.now) }
+        ensures some { IfSome result (λ content. BeginsWhole self.now content.now piece.entry.now) }
+        ensures none { IsNone result → IsBefore self.now → HasNoneAtFront self.now.limit piece.entry.now }
     {
         if !self.is_before_record() {
             return None;
@@ -209,7 +211,7 @@ impl Framer {
 
     // Whether nothing of a record came yet, but for fragments without content.
     fn is_before_record(&self) -> bool
-        ensures { IsTrue result → IsBefore self.now }
+        ensures { IsTrue result ↔ IsBefore self.now }
     {
         match self.stage {
             Stage::Header { bytes: _, have } => have == 0 && self.content.is_empty(),
@@ -239,7 +241,8 @@ impl Framer {
 
 // The record that stands whole at the front of some bytes, in one fragment of at most `limit` bytes.
 fn record_at_front(bytes: &[u8], limit: usize) -> Option<&[u8]>
-    ensures { IfSome result (λ content. IsAtFront limit content.now bytes.entry.now) }
+    ensures some { IfSome result (λ content. IsAtFront limit content.now bytes.entry.now) }
+    ensures none { IsNone result → HasNoneAtFront limit bytes.entry.now }
 {
     if bytes.len() < HEADER_BYTES {
         return None;

@@ -1,5 +1,5 @@
 -- What a feed does to the connections of a server.
-use Rattle.std.proofs.Common.{◌≡◌, ℕ, ◌≤◌, ◌⊎◌, inl, inr, ◌↔◌, Bool, true, false, List, ◌++◌, length, Option, Some, None, IfSome, IfErr, Result, Ok, Err, nat_eq, refl, sym, ap, subst, ◌∙◌, arith}
+use Rattle.std.proofs.Common.{◌≡◌, ℕ, ◌≤◌, ◌⊎◌, inl, inr, ◌↔◌, Bool, true, false, List, ◌++◌, length, Option, Some, None, IfSome, IfErr, OnOk, OnErr, is_err, Result, Ok, Err, nat_eq, refl, sym, ap, subst, ◌∙◌, arith}
 use Rattle.std.specs.Map.{lookup, set_value}
 use Rattle.std.proofs.lemmas.List.{take_all}
 use Rattle.std.proofs.lemmas.Map.Steps.{set_value_same}
@@ -53,3 +53,20 @@ all_fed conn moment piece taken (Some was) old new audit replies within fed = λ
       ended_is = f.ended_is;
       does = all_taken (record { addr = was.addr; moment = moment }) piece taken old.server new.server was.progress f.now.progress audit replies within f.does;
     }
+
+-- ---- one connection is fed
+
+-- the connection that was there was fed, and is written back
+pub one_fed : (conn : ℕ) (moment : Moment) (piece : List ℕ) (room : Option ℕ) (result : Result Taken SessionFault) (was now : Joined) (es fs : List (ℕ × Joined)) (server held : Held) (audit replies : Device)
+    → Some was ≡ lookup (nat_eq conn) es → lookup (nat_eq conn) fs ≡ Some now → now.addr ≡ was.addr → now.progress.limit ≡ was.progress.limit → now.ended ≡ is_err result
+    → (was.ended ≡ false → FeedsSome (record { addr = was.addr; moment = moment }) piece room result held server was.progress now.progress audit replies)
+    → IfSome (lookup (nat_eq conn) es) (λ was. was.ended ≡ false → IsFed conn was (opened held es) (opened server fs) (is_err result)
+    (λ before after from to. FeedsSome (record { addr = was.addr; moment = moment }) piece room result before after from to audit replies))
+one_fed conn moment piece room result was now es fs server held audit replies found there addr limit ended feeds =
+    subst (λ o. IfSome o (λ was. was.ended ≡ false → IsFed conn was (opened held es) (opened server fs) (is_err result)
+    (λ before after from to. FeedsSome (record { addr = was.addr; moment = moment }) piece room result before after from to audit replies))) found
+    (λ alive. record { now = now; there = there; addr_stays = addr; limit_stays = limit; ended_is = ended; does = feeds alive })
+
+pub ended_as : {X : Type 0} (r : Result X SessionFault) (ended : Bool) → OnOk r (ended ≡ false) → OnErr r (ended ≡ true) → ended ≡ is_err r
+ended_as (Ok x) ended ok err = ok
+ended_as (Err e) ended ok err = err

@@ -1,6 +1,6 @@
 -- The room in which a reply is written, behind its mark, and replies that gather in front of it.
-use Rattle.std.specs.Prelude.{◌≡◌, ℕ, ◌+◌, ◌≤◌, List, ◌++◌, true, length, drop}
-use Rattle.nfs_rpc.specs.Records.{header}
+use Rattle.std.specs.Prelude.{◌≡◌, ℕ, ◌+◌, ◌≤◌, List, ◌++◌, Bool, true, nat_lt, length, drop}
+use Rattle.nfs_rpc.specs.Records.{fragment, header}
 use Rattle.nfs_server.specs.declared.reply_buf.ReplyBuf.TheInside.{Inside}
 use Rattle.nfs_xdr.specs.Written.{Written, Appends}
 
@@ -15,10 +15,15 @@ room_bytes = 294912
 abbrev pub most_gathered : ℕ
 most_gathered = 557056
 
--- what a buffer holds: the sealed replies that have gathered, and the reply
+-- what a buffer holds: the sealed replies that have gathered, and the reply; and how many bytes may gather
 pub record Buffered : Type 0 where
   pub earlier : List ℕ
   pub reply : List ℕ
+  pub most : ℕ
+
+-- whether the reply, sealed, has no room behind those that have gathered
+abbrev pub is_full : Buffered → Bool
+is_full b = nat_lt b.most (length (b.earlier ++ fragment true b.reply))
 
 -- the reply whose mark stands at a place
 abbrev pub reply_at : ℕ → Written → List ℕ

@@ -74,8 +74,9 @@ impl Connection {
         ensures fault { OnErr result (self.new.ended ≡ true) }
         ensures addr { self.new.addr ≡ self.old.addr }
         ensures limit { self.new.progress.limit ≡ self.old.progress.limit }
-        ensures kind { self.old.ended ≡ false → IfErr result (EndsWith (A.failed audit.new) (R.failed replies.new)) }
+        ensures kind { self.old.ended ≡ false → IfErr result (EndsWith (A.failed audit.new) (R.failed replies.new reply.new)) }
         ensures setup { server.new.setup ≡ server.old.setup }
+        ensures most { reply.new.most ≡ reply.old.most }
         ensures used { IfOk result (λ taken. taken.used ≤ length piece.now) }
         ensures feeds { self.old.ended ≡ false → FeedsSome (record { addr = self.old.addr; moment = moment }) piece.now room
             result server.old server.new self.old.progress self.new.progress

@@ -1,7 +1,7 @@
 //! The room in which replies are written.
-ghost use Rattle.std.specs.Prelude.{◌≡◌, ◌+◌, ◌≤◌, ◌⊎◌, [], ◌++◌, true, length, take, drop, IfOk, IsTrue};
+ghost use Rattle.std.specs.Prelude.{◌≡◌, ◌+◌, ◌≤◌, ◌⊎◌, ◌↔◌, [], ◌++◌, true, false, length, take, drop, IfOk, IsTrue};
 ghost use Rattle.nfs_rpc.specs.Records.{fragment, header};
-ghost use Rattle.nfs_server.specs.ReplyRoom.{HasReplyRoom, IsReply, reply_at};
+ghost use Rattle.nfs_server.specs.ReplyRoom.{HasReplyRoom, IsReply, is_full, reply_at};
 
 use nfs_rpc::record::{HEADER_BYTES, seal_record};
 use nfs_xdr::output::Output;
@@ -26,12 +26,16 @@ pub const ROOM: usize = 294_912;
 pub const MOST_GATHERED: usize = 262_144 + ROOM;
 
 impl Model for ReplyBuf {
-    ghost use Rattle.std.specs.Prelude.{take};
-    ghost use Rattle.nfs_server.specs.ReplyRoom.{Buffered, IsSealed, reply_at};
+    ghost use Rattle.std.specs.Prelude.{◌+◌, ◌-◌, length, take};
+    ghost use Rattle.nfs_server.specs.ReplyRoom.{Buffered, IsSealed, reply_at, room_bytes};
 
     ghost Value = { Buffered };
 
-    ghost view = { λ a. record { earlier = take a.start a.out.bytes; reply = reply_at a.start a.out } };
+    ghost view = { λ a. record {
+      earlier = take a.start a.out.bytes;
+      reply = reply_at a.start a.out;
+      most = length a.out.bytes + a.out.room - room_bytes;
+    } };
 
     ghost invariant = { IsSealed };
 }
@@ -41,6 +45,7 @@ impl ReplyBuf {
     pub fn new(alloc: Global) -> Result<ReplyBuf, AllocError>
         ensures earlier { IfOk result (λ reply. reply.earlier ≡ []) }
         ensures reply { IfOk result (λ reply. reply.reply ≡ []) }
+        ensures most { IfOk result (λ reply. reply.most ≡ 0) }
     {
         with_room(alloc, ROOM)
     }
@@ -49,6 +54,7 @@ impl ReplyBuf {
     pub fn gathering(alloc: Global) -> Result<ReplyBuf, AllocError>
         ensures earlier { IfOk result (λ reply. reply.earlier ≡ []) }
         ensures reply { IfOk result (λ reply. reply.reply ≡ []) }
+        ensures most { IfOk result (λ reply. reply.most ≡ MOST_GATHERED) }
     {
         with_room(alloc, MOST_GATHERED + ROOM)
     }
@@ -79,6 +85,7 @@ impl ReplyBuf {
     pub fn clear(&mut self)
         ensures earlier { self.new.earlier ≡ self.old.earlier }
         ensures reply { self.new.reply ≡ [] }
+        ensures most { self.new.most ≡ self.old.most }
     {
         begin(&mut self.out, self.start);
         seal(&mut self.out, self.start);
@@ -88,18 +95,21 @@ impl ReplyBuf {
     pub fn clear_all(&mut self)
         ensures earlier { self.new.earlier ≡ [] }
         ensures reply { self.new.reply ≡ [] }
+        ensures most { self.new.most ≡ self.old.most }
     {
         self.start = 0;
         begin(&mut self.out, 0);
         seal(&mut self.out, 0);
     }
 
-    /// The reply gathers behind the earlier ones, and there is none then. `false` where there is no
-    /// room for that: nothing changes.
+    /// The reply gathers behind the earlier ones, and there is none then. `false` exactly where they
+    /// would be more than may gather: nothing changes.
     pub fn gather(&mut self) -> bool
         ensures done { IsTrue result → self.new.earlier ≡ self.old.earlier ++ fragment true self.old.reply }
         ensures reply { IsTrue result → self.new.reply ≡ [] }
         ensures full { IsTrue result ⊎ (self.new ≡ self.old) }
+        ensures refuses { (result ≡ false) ↔ (is_full self.old ≡ true) }
+        ensures most { self.new.most ≡ self.old.most }
     {
         if self.out.room() < ROOM {
             return false;
@@ -116,6 +126,7 @@ fn with_room(alloc: Global, room: usize) -> Result<ReplyBuf, AllocError>
     requires most { room ≤ MOST_GATHERED + ROOM }
     ensures earlier { IfOk result (λ reply. reply.earlier ≡ []) }
     ensures reply { IfOk result (λ reply. reply.reply ≡ []) }
+    ensures most { IfOk result (λ reply. reply.most + ROOM ≡ room) }
 {
     let mut out = Output::new(alloc, room)?;
     out.part(&seal_record(0));
@@ -139,6 +150,7 @@ pub(crate) fn begin(out: &mut Output, start: usize)
     ensures reply { IsReply start out.new }
     ensures mark { length out.new.bytes ≡ start + 4 }
     ensures bytes { out.new.bytes ≡ take (start + 4) out.old.bytes }
+    ensures all { length out.new.bytes + out.new.room ≡ length out.old.bytes + out.old.room }
 {
     out.cut(start + HEADER_BYTES);
 }
@@ -151,6 +163,7 @@ pub(crate) fn seal(out: &mut Output, start: usize)
     ensures front { take start out.new.bytes ≡ take start out.old.bytes }
     ensures sealed { drop start out.new.bytes ≡ header true (length (reply_at start out.old)) ++ reply_at start out.old }
     ensures same { reply_at start out.new ≡ reply_at start out.old }
+    ensures all { length out.new.bytes + out.new.room ≡ length out.old.bytes + out.old.room }
 {
     let len = out.bytes().len() - start - HEADER_BYTES;
     out.overwrite(start, &seal_record(len as u32));

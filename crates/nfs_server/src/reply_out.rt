@@ -1,6 +1,7 @@
 //! Where sealed replies go.
 ghost use Rattle.std.specs.Prelude.{◌≡◌, ℕ, List, Option, Some, Bool, true, length, IfOk, OnOk, OnErr};
 ghost use Rattle.nfs_rpc.specs.Records.{fragment};
+ghost use Rattle.nfs_server.specs.ReplyRoom.{Buffered, is_full};
 ghost use Rattle.nfs_xdr.specs.Known.{Grows, GrowsByPart};
 
 use crate::reply_buf::ReplyBuf;
@@ -11,8 +12,8 @@ pub trait ReplyOut {
     /// The bytes that were taken, where they are known, with those that have gathered in the buffer.
     ghost contents: { Self → List ℕ → Option (List ℕ) };
 
-    /// Whether a call answered the fault.
-    ghost failed: { Self → Bool };
+    /// Whether a call may have answered the fault, with what is in the buffer then.
+    ghost failed: { Self → Buffered → Bool };
 
     /// Takes the reply in the buffer, sealed, and answers how many bytes it has. At a fault some
     /// first ones were taken.
@@ -22,13 +23,14 @@ pub trait ReplyOut {
             (contents self.new reply.new.earlier)) }
         ensures part { OnErr result (GrowsByPart (contents self.old reply.old.earlier) (fragment true reply.old.reply)
             (contents self.new reply.new.earlier)) }
-        ensures fault { OnErr result (failed self.new ≡ true) };
+        ensures fault { OnErr result (failed self.new reply.new ≡ true) }
+        ensures most { reply.new.most ≡ reply.old.most };
 }
 
 impl<W: ByteOut> ReplyOut for W {
     ghost contents = { λ w earlier. W.contents w };
 
-    ghost failed = { λ w. W.failed w };
+    ghost failed = { λ w reply. W.failed w };
 
     fn take(&mut self, reply: &mut ReplyBuf) -> Result<usize, DeviceFault> {
         let sealed = reply.sealed();
@@ -37,28 +39,18 @@ impl<W: ByteOut> ReplyOut for W {
     }
 }
 
-/// The buffer itself: replies gather in it, as long as there is room.
+/// The buffer itself: replies gather in it, as long as there is room. Without room nothing changes.
 #[derive(Drop)]
-pub struct Gathering {
-    is_full: bool,
-}
-
-impl Gathering {
-    /// Nothing was refused yet.
-    pub fn new() -> Gathering {
-        Gathering { is_full: false }
-    }
-}
+pub struct Gathering;
 
 impl ReplyOut for Gathering {
     ghost contents = { λ g earlier. Some earlier };
 
-    ghost failed = { λ g. g.is_full };
+    ghost failed = { λ g reply. is_full reply };
 
     fn take(&mut self, reply: &mut ReplyBuf) -> Result<usize, DeviceFault> {
         let len = reply.sealed().len();
         if !reply.gather() {
-            self.is_full = true;
             return Err(DeviceFault);
         }
         Ok(len)

@@ -117,6 +117,7 @@ impl Server {
             × GoesOn past self.old (event_of event.entry) choice (answered result reply.new.reply self.new.line) self.new }
         ensures silent { result ≡ Handled.NoReply → (reply.new.reply ≡ []) × (self.new.line ≡ None) }
         ensures earlier { reply.new.earlier ≡ reply.old.earlier }
+        ensures most { reply.new.most ≡ reply.old.most }
     {
         self.answer(event, reply)
     }
@@ -127,6 +128,7 @@ impl Server {
         ensures answers { AnswersRecord self.old (event_of event.entry) (answered result reply.new.reply self.new.line) self.new }
         ensures silent { result ≡ Handled.NoReply → (reply.new.reply ≡ []) × (self.new.line ≡ None) }
         ensures earlier { reply.new.earlier ≡ reply.old.earlier }
+        ensures most { reply.new.most ≡ reply.old.most }
     {
         let Ok(head) = read_call(event.bytes) else {
             reply.clear();

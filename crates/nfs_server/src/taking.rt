@@ -67,7 +67,8 @@ pub(crate) fn take_piece<R: ReplyOut, A: ByteOut>(
     ensures between { OnOk result (IsBetween framer.new) }
     ensures limit { framer.new.limit ≡ framer.old.limit }
     ensures setup { server.new.setup ≡ server.old.setup }
-    ensures fault { IfErr result (EndsWith (A.failed audit.new) (R.failed replies.new)) }
+    ensures fault { IfErr result (EndsWith (A.failed audit.new) (R.failed replies.new reply.new)) }
+    ensures most { reply.new.most ≡ reply.old.most }
     ensures feeds { FeedsSome origin piece.now room result server.old server.new framer.old framer.new
         (device (A.contents audit.old) (A.contents audit.new))
         (device (R.contents replies.old reply.old.earlier) (R.contents replies.new reply.new.earlier)) }
@@ -137,7 +138,8 @@ fn take_record<R: ReplyOut, A: ByteOut>(
     ensures between { OnOk result (IsBetween framer.new) }
     ensures limit { framer.new.limit ≡ framer.old.limit }
     ensures setup { server.new.setup ≡ server.old.setup }
-    ensures fault { IfErr result (EndsWith (A.failed audit.new) (R.failed replies.new)) }
+    ensures fault { IfErr result (EndsWith (A.failed audit.new) (R.failed replies.new reply.new)) }
+    ensures most { reply.new.most ≡ reply.old.most }
     ensures feeds { FeedsOne origin piece.now result server.old server.new framer.old framer.new
         (device (A.contents audit.old) (A.contents audit.new))
         (device (R.contents replies.old reply.old.earlier) (R.contents replies.new reply.new.earlier)) }
@@ -175,7 +177,8 @@ fn take_fed<R: ReplyOut, A: ByteOut>(
     ensures between { OnOk result (IsBetween framer.new) }
     ensures limit { framer.new.limit ≡ framer.old.limit }
     ensures setup { server.new.setup ≡ server.old.setup }
-    ensures fault { IfErr result (EndsWith (A.failed audit.new) (R.failed replies.new)) }
+    ensures fault { IfErr result (EndsWith (A.failed audit.new) (R.failed replies.new reply.new)) }
+    ensures most { reply.new.most ≡ reply.old.most }
     ensures feeds { FeedsOne origin piece.now result server.old server.new framer.old framer.new
         (device (A.contents audit.old) (A.contents audit.new))
         (device (R.contents replies.old reply.old.earlier) (R.contents replies.new reply.new.earlier)) }
@@ -211,7 +214,8 @@ pub(crate) fn answer_record<R: ReplyOut, A: ByteOut>(
     ensures next { BeginsAnew framer.new }
     ensures limit { framer.new.limit ≡ framer.old.limit }
     ensures setup { server.new.setup ≡ server.old.setup }
-    ensures fault { IfErr result (EndsWith (A.failed audit.new) (R.failed replies.new)) }
+    ensures fault { IfErr result (EndsWith (A.failed audit.new) (R.failed replies.new reply.new)) }
+    ensures most { reply.new.most ≡ reply.old.most }
     ensures answers { AnswersEvent (event_at origin framer.old.content) result server.old server.new
         (device (A.contents audit.old) (A.contents audit.new))
         (device (R.contents replies.old reply.old.earlier) (R.contents replies.new reply.new.earlier)) }
@@ -236,7 +240,8 @@ fn answer_event<R: ReplyOut, A: ByteOut>(
     audit: &mut A,
 ) -> Result<usize, SessionFault>
     ensures setup { server.new.setup ≡ server.old.setup }
-    ensures fault { IfErr result (EndsWith (A.failed audit.new) (R.failed replies.new)) }
+    ensures fault { IfErr result (EndsWith (A.failed audit.new) (R.failed replies.new reply.new)) }
+    ensures most { reply.new.most ≡ reply.old.most }
     ensures answers { AnswersEvent (event_of event.entry) result server.old server.new
         (device (A.contents audit.old) (A.contents audit.new))
         (device (R.contents replies.old reply.old.earlier) (R.contents replies.new reply.new.earlier)) }
@@ -255,7 +260,8 @@ fn write_answer<R: ReplyOut, A: ByteOut>(
     replies: &mut R,
     audit: &mut A,
 ) -> Result<usize, SessionFault>
-    ensures fault { IfErr result (EndsWith (A.failed audit.new) (R.failed replies.new)) }
+    ensures fault { IfErr result (EndsWith (A.failed audit.new) (R.failed replies.new reply.new)) }
+    ensures most { reply.new.most ≡ reply.old.most }
     ensures writes { Writes (told reply.old.reply denied) result
         (device (A.contents audit.old) (A.contents audit.new))
         (device (R.contents replies.old reply.old.earlier) (R.contents replies.new reply.new.earlier)) }

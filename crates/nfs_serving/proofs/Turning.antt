@@ -5,15 +5,16 @@ use Rattle.nfs_attrs.specs.declared.moment.Moment.{Moment}
 use Rattle.nfs_rpc.specs.Progress.{Progress}
 use Rattle.nfs_server.specs.Connections.{Joined}
 use Rattle.nfs_server.specs.Events.{Done}
-use Rattle.nfs_server.specs.Feeding.{Device, device, Ends, Feeds, replies_of, sealed}
+use Rattle.nfs_server.specs.Feeding.{Device, device, Ends, EndsWith, Feeds, replies_of, sealed}
 use Rattle.nfs_server.specs.Fits.{Held}
+use Rattle.nfs_server.specs.ReplyRoom.{Buffered}
 use Rattle.nfs_server.specs.Taking.{FeedsSome, bytes_taken, count_taken}
 use Rattle.nfs_server.specs.declared.session_fault.SessionFault.{SessionFault}
 use Rattle.nfs_server.specs.declared.session_fault.SessionFault.TheVariants.{ConnectionTaken, UnknownConnection, Ended, TooLong, Memory, AuditFault, WriteFault}
 use Rattle.nfs_server.specs.declared.taking.Origin.{Origin}
 use Rattle.nfs_server.specs.declared.taking.Taken.{Taken}
 use Rattle.nfs_serving.specs.Outgoing.{Outgoing, Passes, with_owed}
-use Rattle.nfs_serving.specs.Turns.{Standing, Gathers, Rests, Takes, Turns, origin_of, written}
+use Rattle.nfs_serving.specs.Turns.{Standing, Gathers, StandsBy, Rests, Takes, Turns, origin_of, written}
 use Rattle.nfs_xdr.specs.Known.{Grows, Shrinks}
 use Rattle.nfs_xdr.proofs.Knowing.{Grows-then}
 
@@ -108,6 +109,10 @@ all_there (Err fault) piece left e = ap (λ t. piece ++ t) (sym e)
 ended_as : (result : Result Taken SessionFault) (ended : Bool) → OnOk result (ended ≡ false) → OnErr result (ended ≡ true) → ended ≡ is_err (count_taken result)
 ended_as (Ok taken) ended ok err = ok
 ended_as (Err fault) ended ok err = err
+
+-- a device that ends a connection has failed
+pub has_failed : (fault : SessionFault) (audit_failed replies_failed : Bool) → EndsWith audit_failed replies_failed fault → fault ≡ WriteFault → replies_failed ≡ true
+has_failed fault audit_failed replies_failed ends e = subst (EndsWith audit_failed replies_failed) e ends
 
 -- ---- turns
 
@@ -205,7 +210,7 @@ module _ {L : Type 0} (outgoing incoming : L → Option (List ℕ)) where
           feeds = subst (λ (j : Joined). Feeds (origin_of old moment) f.taken f.result server served old.connection.progress j.progress audit (device (written outgoing old) (written outgoing new))) (sym g.connection_stays) moved;
         }
 
-    pub gathers_fed : (old new : Standing L) (result : Result Taken SessionFault) (room : Option ℕ) (piece first gathered : List ℕ)
+    pub gathers_fed : (old new : Standing L) (result : Result Taken SessionFault) (room : Option ℕ) (piece first : List ℕ) (reply : Buffered)
         → old.connection.ended ≡ false
         → OnOk result (new.connection.ended ≡ false)
         → OnErr result (new.connection.ended ≡ true)
@@ -215,11 +220,12 @@ module _ {L : Type 0} (outgoing incoming : L → Option (List ℕ)) where
         → new.piece ≡ left_of result old.piece
         → piece ≡ old.piece
         → first ≡ []
-        → FeedsSome (origin_of old moment) piece room result server served old.connection.progress new.connection.progress audit (device (Some first) (Some gathered))
-        → Gathers moment old new server served audit gathered
-    gathers_fed old new result room piece first gathered alive ok err addr limit outlet left whole empty feeds =
-        let emptied = subst (λ b. FeedsSome (origin_of old moment) piece room result server served old.connection.progress new.connection.progress audit (device (Some b) (Some gathered))) empty feeds in
-        let fed = subst (λ p. FeedsSome (origin_of old moment) p room result server served old.connection.progress new.connection.progress audit (device (Some []) (Some gathered))) whole emptied in
+        → FeedsSome (origin_of old moment) piece room result server served old.connection.progress new.connection.progress audit (device (Some first) (Some reply.earlier))
+        → StandsBy (count_taken result) reply new.end
+        → Gathers moment old new server served audit reply
+    gathers_fed old new result room piece first reply alive ok err addr limit outlet left whole empty feeds stands =
+        let emptied = subst (λ b. FeedsSome (origin_of old moment) piece room result server served old.connection.progress new.connection.progress audit (device (Some b) (Some reply.earlier))) empty feeds in
+        let fed = subst (λ p. FeedsSome (origin_of old moment) p room result server served old.connection.progress new.connection.progress audit (device (Some []) (Some reply.earlier))) whole emptied in
         record {
           taken = bytes_taken result old.piece;
           in_order = sym (append-nil old.piece) ∙ all_there result old.piece new.piece left;
@@ -230,16 +236,18 @@ module _ {L : Type 0} (outgoing incoming : L → Option (List ℕ)) where
           limit_stays = limit;
           outlet_stays = outlet;
           feeds = λ past fits text u. (fed past fits text u).0;
+          stands = stands;
         }
 
-    pub gathers_then_sent : (old mid new : Standing L) (gathered : List ℕ) → Gathers moment old mid server served audit gathered
+    pub gathers_then_sent : (old mid new : Standing L) (reply : Buffered) → Gathers moment old mid server served audit reply
         → old.outlet.owed ≡ []
         → new.connection ≡ mid.connection
         → new.piece ≡ mid.piece
         → incoming new.outlet.link ≡ incoming mid.outlet.link
-        → Passes (outgoing mid.outlet.link) gathered (outgoing new.outlet.link) new.outlet.owed
+        → Passes (outgoing mid.outlet.link) reply.earlier (outgoing new.outlet.link) new.outlet.owed
         → Takes outgoing incoming moment [] old new server served audit
-    gathers_then_sent old mid new gathered f none same piece come passed =
+    gathers_then_sent old mid new reply f none same piece come passed =
+        let gathered = reply.earlier in
         let a = outgoing old.outlet.link in
         let b = outgoing new.outlet.link in
         let passes : Passes a gathered b new.outlet.owed = subst (λ (o : Outgoing L). Passes (outgoing o.link) gathered b new.outlet.owed) f.outlet_stays passed in

@@ -1,13 +1,19 @@
 -- The turns of a client.
-use Rattle.std.specs.Prelude.{◌≡◌, ◌≢◌, ◌⊎◌, ℕ, true, false, List, [], ◌++◌, Option, Some, Result, is_err}
+use Rattle.std.specs.Prelude.{◌≡◌, ◌≢◌, ◌⊎◌, ℕ, true, false, List, [], ◌++◌, Option, None, Some, Result, Ok, Err, is_err}
 use Rattle.nfs_attrs.specs.declared.moment.Moment.{Moment}
 use Rattle.nfs_server.specs.Connections.{Joined}
 use Rattle.nfs_server.specs.Feeding.{Device, device, Feeds}
 use Rattle.nfs_server.specs.Fits.{Held}
+use Rattle.nfs_server.specs.ReplyRoom.{Buffered, is_full}
+use Rattle.nfs_server.specs.Streams.{IsToldAs}
+use Rattle.nfs_server.specs.declared.serve_fault.ServeFault.{ServeFault}
+use Rattle.nfs_server.specs.declared.serve_fault.ServeFault.TheVariants.{Memory}
 use Rattle.nfs_server.specs.declared.session_fault.SessionFault.{SessionFault}
+use Rattle.nfs_server.specs.declared.session_fault.SessionFault.TheVariants as session
 use Rattle.nfs_server.specs.declared.taking.Origin.{Origin}
 use Rattle.nfs_serving.specs.Outgoing.{Outgoing, Passes, with_owed}
 use Rattle.nfs_serving.specs.declared.turn.End.{End}
+use Rattle.nfs_serving.specs.declared.turn.End.TheVariants.{Fault}
 use Rattle.nfs_serving.specs.declared.turn.Turn.{Turn}
 use Rattle.nfs_serving.specs.declared.turn.Turn.TheVariants as turn
 use Rattle.nfs_xdr.specs.Known.{Grows, Shrinks}
@@ -49,8 +55,19 @@ pub record Takes {L : Type 0} (outgoing incoming : L → Option (List ℕ))
   pub limit_stays : new.connection.progress.limit ≡ old.connection.progress.limit
   pub feeds : Feeds (origin_of old moment) taken result server served old.connection.progress new.connection.progress audit (device (written outgoing old) (written outgoing new))
 
+-- the fault that ends a client by its records: for replies that don't gather there is no memory
+abbrev pub IsEndedBy : SessionFault → ServeFault → Type 0
+IsEndedBy session.WriteFault fault = fault ≡ Memory
+IsEndedBy other fault = IsToldAs other fault
+
+-- how a client stands by what came of its records: it goes on, or their fault ends it. Replies fail to gather only where there is no room for them.
+abbrev pub StandsBy : Result ℕ SessionFault → Buffered → Option End → Type 0
+StandsBy (Ok n) reply end = end ≡ None
+StandsBy (Err fault) reply end = (told : ServeFault) × (end ≡ Some (Fault told)) × IsEndedBy fault told
+    × (fault ≡ session.WriteFault → is_full reply ≡ true)
+
 -- Some of the bytes that had come were taken, in their order. What the records that they make whole are answered has gathered.
-pub record Gathers {L : Type 0} (moment : Moment) (old new : Standing L) (server served : Held) (audit : Device) (gathered : List ℕ) : Type 0 where
+pub record Gathers {L : Type 0} (moment : Moment) (old new : Standing L) (server served : Held) (audit : Device) (reply : Buffered) : Type 0 where
   pub taken : List ℕ
   pub in_order : old.piece ≡ taken ++ new.piece
   pub result : Result ℕ SessionFault
@@ -59,7 +76,8 @@ pub record Gathers {L : Type 0} (moment : Moment) (old new : Standing L) (server
   pub addr_stays : new.connection.addr ≡ old.connection.addr
   pub limit_stays : new.connection.progress.limit ≡ old.connection.progress.limit
   pub outlet_stays : new.outlet ≡ old.outlet
-  pub feeds : Feeds (origin_of old moment) taken result server served old.connection.progress new.connection.progress audit (device (Some []) (Some gathered))
+  pub feeds : Feeds (origin_of old moment) taken result server served old.connection.progress new.connection.progress audit (device (Some []) (Some reply.earlier))
+  pub stands : StandsBy result reply new.end
 
 -- a turn in which these bytes came; one that takes nothing leaves the server and writes no line
 abbrev pub TurnsBy : {L : Type 0} → (L → Option (List ℕ)) → (L → Option (List ℕ)) → Moment → List ℕ → Standing L → Standing L → Held → Held → Device → Type 0

@@ -2,7 +2,7 @@
 ghost use Rattle.std.specs.Prelude.{◌≡◌, ◌≢◌, ◌≤◌, ◌↔◌, Bool, vec_capacity, ℕ, List, [], None, Some, true, false, IsTrue, IsNone, IfSome, OnErr};
 ghost use Rattle.nfs_server.specs.Connections.{IsAtStart};
 ghost use Rattle.nfs_server.specs.Feeding.{device, EndsWith};
-ghost use Rattle.nfs_serving.specs.Turns.{Gathers, Rests, Takes, Tells, Turns};
+ghost use Rattle.nfs_serving.specs.Turns.{Gathers, IsEndedBy, Rests, Takes, Tells, Turns};
 
 use crate::outlet::Outlet;
 use crate::room::Room;
@@ -241,7 +241,7 @@ impl<L: Link> Client<L> {
     }
 
     // Feeds the connection with what has come. The replies gather in the buffer in which they are
-    // written.
+    // written. Where they have no room there, they end it for want of memory.
     fn answer<A: ByteOut>(
         &mut self,
         server: &mut Server,
@@ -251,11 +251,12 @@ impl<L: Link> Client<L> {
     )
         requires alive { self.old.end ≡ None }
         ensures gathers { Gathers moment self.old self.new server.old server.new
-            (device (A.contents audit.old) (A.contents audit.new)) reply.new.earlier }
+            (device (A.contents audit.old) (A.contents audit.new)) reply.new }
+        ensures most { reply.new.most ≡ reply.old.most }
         ensures setup { server.new.setup ≡ server.old.setup }
     {
         reply.clear_all();
-        let mut gathering = Gathering::new();
+        let mut gathering = Gathering;
         let piece = self.piece.bytes();
         let (most, out) = (Some(MOST_OWED), &mut gathering);
         match self
@@ -289,6 +290,7 @@ impl<L: Link> Client<L> {
 // The fault that a connection ends with. Where replies don't gather, there is no room for them.
 fn fault_of(fault: SessionFault) -> ServeFault
     requires { (audit_failed : Bool) × (replies_failed : Bool) × EndsWith audit_failed replies_failed fault }
+    ensures { IsEndedBy fault result }
 {
     match ServeFault::of_session(fault) {
         ServeFault::WriteFault => ServeFault::Memory,

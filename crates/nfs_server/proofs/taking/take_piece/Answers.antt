@@ -14,6 +14,7 @@ loop-used-init g c =
       between = c.requires;
       limit = refl;
       setup = refl;
+      most = refl;
       feeds = feeds_none _ c.args.origin c.args.server.now c.args.framer.now c.args.framer.now _ _ (room_none c.args.room) [] c.requires moves;
     }
 
@@ -26,6 +27,7 @@ loop-used-preserved g c =
       between = c.in-Ok.ensures.between;
       limit = c.in-Ok.ensures.limit ∙ inv.limit;
       setup = c.in-Ok.ensures.setup ∙ inv.setup;
+      most = c.in-Ok.ensures.most ∙ inv.most;
       feeds = steps_on c.args.origin c.args.piece.now c.args.room c.loop-used.left c.loop-used.used c.loop-used.records c.args.server.now c.loop-used.server c.args.framer.now c.loop-used.framer _ _ _ _ inv.feeds
           c.take_record.new.server c.take_record.new.framer _ _ c.in-Ok.ensures.limit (λ e. absurd (false≢true (c.if-not-is_used_up.ensures.1 e))) c.in-Ok.step c.room_after-left.result c.room_after-left.ensures c.in-Ok.ensures.feeds;
     }

@@ -9,7 +9,7 @@ use Rattle.nfs_server.proofs.taking.take_record.Goals as goal
 pub returns-in_err-replied-clause-feeds : goal.returns-in_err-replied-clause-feeds
 returns-in_err-replied-clause-feeds g c =
     let content = c.in-Some.content.now in
-    let lent = c.in-Some.ensures in
+    let lent = c.in-Some.ensures.lent in
     let mid : Progress = record { limit = c.args.framer.now.limit; stage = Ready; content = content } in
     let audit = device (g.A.ByteOut.contents c.args.audit.now) (g.A.ByteOut.contents c.answer_event.new.audit) in
     let replies = device (g.R.ReplyOut.contents c.args.replies.now c.args.reply.now.earlier) (g.R.ReplyOut.contents c.answer_event.new.replies c.answer_event.new.reply.earlier) in
@@ -19,7 +19,7 @@ returns-in_err-replied-clause-feeds g c =
 pub returns-clause-feeds : goal.returns-clause-feeds
 returns-clause-feeds g c =
     let content = c.in-Some.content.now in
-    let lent = c.in-Some.ensures in
+    let lent = c.in-Some.ensures.lent in
     let mid : Progress = record { limit = c.args.framer.now.limit; stage = Ready; content = content } in
     let audit = device (g.A.ByteOut.contents c.args.audit.now) (g.A.ByteOut.contents c.answer_event.new.audit) in
     let replies = device (g.R.ReplyOut.contents c.args.replies.now c.args.reply.now.earlier) (g.R.ReplyOut.contents c.answer_event.new.replies c.answer_event.new.reply.earlier) in

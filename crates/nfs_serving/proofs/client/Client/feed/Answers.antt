@@ -13,7 +13,7 @@ returns-clause-takes g c =
     let passes = subst (λ bytes. Passes (g.L.Link.outgoing c.self.inside.outlet.link) bytes (g.L.Link.outgoing c.send-sent.new.self.link) c.send-sent.new.self.owed) c.gathered.ensures.all c.send-sent.ensures.passes in
     takes_as g.L.Link.outgoing g.L.Link.incoming c.args.moment c.args.server.now c.answer.new.server audit c.args.self.now sent c.outcome.new.self
     c.outcome.ensures.connection c.outcome.ensures.outlet c.outcome.ensures.piece
-    (gathers_then_sent g.L.Link.outgoing g.L.Link.incoming c.args.moment c.args.server.now c.answer.new.server audit c.args.self.now c.answer.new.self sent c.answer.new.reply.earlier c.answer.ensures.gathers c.requires.owed
+    (gathers_then_sent g.L.Link.outgoing g.L.Link.incoming c.args.moment c.args.server.now c.answer.new.server audit c.args.self.now c.answer.new.self sent c.answer.new.reply c.answer.ensures.gathers c.requires.owed
     (ap (λ (s : Standing g.row.L.Denot). s.connection) c.self.view_is) (ap (λ (s : Standing g.row.L.Denot). s.piece) c.self.view_is)
     (c.send-sent.ensures.incoming ∙ ap (λ (o : Outgoing g.row.L.Denot). g.L.Link.incoming o.link) outlet)
     (subst (λ (o : Outgoing g.row.L.Denot). Passes (g.L.Link.outgoing o.link) c.answer.new.reply.earlier (g.L.Link.outgoing c.send-sent.new.self.link) c.send-sent.new.self.owed) outlet passes))
