@@ -9,6 +9,7 @@ use nfs_advice::warnings::{Warning, warnings};
 use nfs_load::load_error::LoadError;
 use nfs_load::loaded::Loaded;
 use std::alloc::{AllocError, Global};
+use std::mem::forget;
 use std::process::ExitCode;
 use std::rt::Files;
 
@@ -26,7 +27,7 @@ pub(crate) fn check_file<R: Files + Input + Print + Eprint>(
         return check_whole(rt, alloc, name, is_strict);
     }
     let Description { source, loaded } = Description::read(rt, alloc, name)?;
-    tell_loaded(rt, alloc, &source, &loaded, is_strict)
+    tell_loaded(rt, alloc, &source, loaded, is_strict)
 }
 
 // The same with all its faulty lines.
@@ -41,19 +42,21 @@ fn check_whole<R: Files + Input + Print + Eprint>(
         return Ok(ExitCode::from(1));
     }
     let loaded = description.load(alloc)?;
-    tell_loaded(rt, alloc, &description, &loaded, is_strict)
+    tell_loaded(rt, alloc, &description, loaded, is_strict)
 }
 
-// Prints what a description holds, and warns.
+// Prints what a description holds, and warns. What was loaded is not given back file by file, since
+// the process ends.
 fn tell_loaded<R: Print + Eprint>(
     rt: &R,
     alloc: Global,
     description: &Source<'_>,
-    loaded: &Loaded,
+    loaded: Loaded,
     is_strict: bool,
 ) -> Result<ExitCode, Diagnostic> {
     print_totals(rt, alloc, &loaded.tree)?;
-    let warnings = warn(rt, alloc, description, loaded)?;
+    let warnings = warn(rt, alloc, description, &loaded)?;
+    forget(loaded);
     Ok(if is_strict && warnings > 0 {
         ExitCode::from(1)
     } else {

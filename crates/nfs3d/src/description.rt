@@ -7,7 +7,7 @@ use nfs_load::load_error::LoadError;
 use nfs_load::loaded::Loaded;
 use nfs_load::loading::Loading;
 use nfs_text::line::Line;
-use nfs_text::pieces::Pieces;
+use nfs_text::lines::Lines;
 use std::alloc::{AllocError, Global};
 use std::rt::Files;
 
@@ -53,7 +53,7 @@ struct Reader {
     loading: Loading,
     // The lines that were taken, the first faulty one last. Nothing behind that is kept.
     text: Vec<u8>,
-    // The line that has not ended yet.
+    // What was read of the line that has not ended yet.
     line: Vec<u8>,
     fault: Option<LoadError>,
 }
@@ -71,22 +71,19 @@ impl Reader {
     // The last line may lack its LF.
     fn end(&mut self) -> Result<(), AllocError> {
         if self.fault.is_none() && !self.line.is_empty() {
-            self.end_line()?;
+            self.end_line(&[])?;
         }
         Ok(())
     }
 
-    // Loads the line that has ended.
-    fn end_line(&mut self) -> Result<(), AllocError> {
-        let line = self.line.as_slice();
-        match self.loading.take(line) {
-            Ok(()) => keep(&mut self.text, line)?,
-            Err(error) => {
-                self.fault = Some(error);
-                self.text.extend_from_slice(line)?;
-            }
+    // Loads the line that has ended, of which this is the last part; mostly it is the whole line.
+    fn end_line(&mut self, part: &[u8]) -> Result<(), AllocError> {
+        if self.line.is_empty() {
+            self.fault = load_line(&mut self.loading, &mut self.text, part)?;
+            return Ok(());
         }
-        self.text.push(b'\n')?;
+        self.line.extend_from_slice(part)?;
+        self.fault = load_line(&mut self.loading, &mut self.text, self.line.as_slice())?;
         self.line.clear();
         Ok(())
     }
@@ -108,19 +105,43 @@ impl Reader {
 
 impl Sink for Reader {
     fn take(&mut self, piece: &[u8]) -> Result<(), AllocError> {
-        let mut is_first = true;
-        for part in Pieces::new(piece, b'\n') {
-            if !is_first {
-                self.end_line()?;
+        let mut last: Option<&[u8]> = None;
+        for line in Lines::new(piece) {
+            if let Some(ended) = last {
+                self.end_line(ended)?;
             }
             if self.fault.is_some() {
-                break;
+                return Ok(());
             }
-            is_first = false;
-            self.line.extend_from_slice(part)?;
+            last = Some(line);
         }
-        Ok(())
+        let last = last.unwrap_or(&[]);
+        if piece.ends_with(b"\n") {
+            self.end_line(last)
+        } else {
+            self.line.extend_from_slice(last)
+        }
     }
+}
+
+// Loads a line, and puts it at the end of the text. Its fault, if it is faulty.
+fn load_line(
+    loading: &mut Loading,
+    text: &mut Vec<u8>,
+    line: &[u8],
+) -> Result<Option<LoadError>, AllocError> {
+    let fault = match loading.take(line) {
+        Ok(()) => {
+            keep(text, line)?;
+            None
+        }
+        Err(error) => {
+            text.extend_from_slice(line)?;
+            Some(error)
+        }
+    };
+    text.push(b'\n')?;
+    Ok(fault)
 }
 
 fn outcome(loading: Loading, fault: Option<LoadError>) -> Result<Loaded, LoadError> {

@@ -7,6 +7,7 @@ use nfs_load::loaded::Loaded;
 use nfs_why::exports::put_exports;
 use nfs_words::text::Text;
 use std::alloc::{AllocError, Global};
+use std::mem::forget;
 use std::process::ExitCode;
 use std::rt::Files;
 
@@ -18,6 +19,7 @@ pub(crate) fn print_exports<R: Files + Input + Print>(
 ) -> Result<ExitCode, Diagnostic> {
     let loaded = load_tree(rt, alloc, name)?;
     let lines = lines_of(alloc, &loaded)?;
+    forget(loaded);
     print(rt, lines.as_slice())?;
     Ok(ExitCode::SUCCESS)
 }

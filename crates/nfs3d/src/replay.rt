@@ -13,6 +13,7 @@ use nfs_server::sessions::Sessions;
 use nfs_xdr::device::Device;
 use std::alloc::{AllocError, Global};
 use std::io::{self, BufWriter, Write};
+use std::mem::forget;
 use std::process::ExitCode;
 use std::rt::Files;
 
@@ -31,6 +32,7 @@ pub(crate) fn replay_files<R: Files + Input + Print>(
     if let Some(name) = words.save {
         save(rt, alloc, name, sessions.server())?;
     }
+    forget(sessions);
     Ok(ExitCode::SUCCESS)
 }
 

@@ -9,6 +9,7 @@ use nfs_why::question::{BadQuestion, Question};
 use nfs_why::why::put_answer;
 use nfs_words::text::Text;
 use std::alloc::{AllocError, Global};
+use std::mem::forget;
 use std::process::ExitCode;
 use std::rt::Files;
 
@@ -50,6 +51,7 @@ fn print_answer<R: Files + Input + Print>(
 ) -> Result<ExitCode, Diagnostic> {
     let Description { source, loaded } = Description::read(rt, alloc, name)?;
     let answer = answer(alloc, source.text.as_slice(), &loaded, question)?;
+    forget(loaded);
     print(rt, answer.as_slice())?;
     Ok(ExitCode::SUCCESS)
 }

@@ -4,7 +4,7 @@ ghost use Rattle.std.specs.List.{list_any};
 ghost use Rattle.nfs_advice.specs.Open.{is_open_export};
 
 use crate::advice::{Advice, Reason, Remedy};
-use crate::earlier::{export_line, first_word, word_of};
+use crate::earlier::{export_line, first_word};
 use crate::piece::Piece;
 use nfs_exports::addr::Addr;
 use nfs_exports::options::Squash;
@@ -85,15 +85,7 @@ pub fn warnings<'a>(
     };
     for line in Lines::new(text) {
         place.line = place.line.saturating_add(1);
-        let line = Piece::whole(line);
-        for advice in place.advices(line, loaded) {
-            if let Some(advice) = advice {
-                found.push(Warning {
-                    line: place.line,
-                    advice,
-                })?;
-            }
-        }
+        place.look_at(Piece::whole(line), loaded, &mut found)?;
     }
     Ok(found)
 }
@@ -108,31 +100,53 @@ struct Place<'a> {
 }
 
 impl<'a> Place<'a> {
-    // What is said of a line, which is counted then.
-    fn advices(&mut self, line: Piece<'a>, loaded: &Loaded) -> [Option<Advice<'a>>; 2] {
+    // Adds what is said of a line, which is counted then.
+    fn look_at(
+        &mut self,
+        line: Piece<'a>,
+        loaded: &Loaded,
+        found: &mut Vec<Warning<'a>>,
+    ) -> Result<(), AllocError> {
         match first_word(line.bytes()) {
             b"volume" => {
                 let exports = loaded.table.patterns(self.volumes);
                 self.volumes = self.volumes.saturating_add(1);
                 self.exports = 0;
-                [unexported(line, exports), decimal_mode(line, 4)]
+                self.add(unexported(line, exports), found)?;
+                self.add(decimal_mode(line.word(4)), found)
             }
             b"export" => {
                 let exports = loaded.table.patterns(self.volumes.saturating_sub(1));
                 let place = self.exports;
                 self.exports = place.saturating_add(1);
-                [
-                    covered(*self, line, exports, place),
-                    host_bits(line, exports, place),
-                ]
+                self.add(covered(*self, line, exports, place), found)?;
+                self.add(host_bits(line, exports, place), found)
             }
-            b"dir" => [decimal_mode(line, 2), None],
+            b"dir" => self.add(decimal_mode(line.word(2)), found),
             b"file" => {
                 let exports = loaded.table.patterns(self.volumes.saturating_sub(1));
-                [decimal_mode(line, 2), set_id(line, exports)]
+                let mode = line.word(2);
+                self.add(decimal_mode(mode), found)?;
+                self.add(set_id(mode, exports), found)
             }
-            _ => [None, None],
+            _ => Ok(()),
         }
+    }
+
+    // Adds what is said of this line, where something is.
+    fn add(
+        &self,
+        advice: Option<Advice<'a>>,
+        found: &mut Vec<Warning<'a>>,
+    ) -> Result<(), AllocError> {
+        match advice {
+            Some(advice) => found.push(Warning {
+                line: self.line,
+                advice,
+            })?,
+            None => {}
+        }
+        Ok(())
     }
 }
 
@@ -184,9 +198,9 @@ fn has_bits_behind(address: Addr, bits: u32) -> bool {
 // The modes that are often meant where their decimal numbers are written, those of octal digits alone.
 const MODES: [u32; 8] = [0o777, 0o770, 0o664, 0o660, 0o644, 0o640, 0o555, 0o400];
 
-// A mode that looks like a decimal number: the word at this place.
-fn decimal_mode(line: Piece<'_>, place: usize) -> Option<Advice<'_>> {
-    let word = line.word(place)?;
+// A mode that looks like a decimal number.
+fn decimal_mode(mode: Option<Piece<'_>>) -> Option<Advice<'_>> {
+    let word = mode?;
     if word.bytes().len() != 3 {
         return None;
     }
@@ -201,9 +215,9 @@ fn decimal_mode(line: Piece<'_>, place: usize) -> Option<Advice<'_>> {
 }
 
 // A set-id file in a volume in which everybody may be root.
-fn set_id<'a>(line: Piece<'a>, exports: &[Export]) -> Option<Advice<'a>> {
-    let word = line.word(2)?;
-    let Ok(mode) = Fields::new(Words::new(word_of(line.bytes(), 2))).mode() else {
+fn set_id<'a>(mode: Option<Piece<'a>>, exports: &[Export]) -> Option<Advice<'a>> {
+    let word = mode?;
+    let Ok(mode) = Fields::new(Words::new(word.bytes())).mode() else {
         return None;
     };
     if mode & 0o6000 == 0 || !is_open(exports) {

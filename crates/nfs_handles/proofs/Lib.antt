@@ -1,5 +1,6 @@
 pub mod Numbers
-pub mod Places
+pub mod Leading
+pub mod Rising
 pub mod Slotted
 pub mod Lookups
 pub mod Handles

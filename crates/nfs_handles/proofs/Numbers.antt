@@ -1,5 +1,5 @@
 -- What holds of numbered files holds after each change.
-use Rattle.std.proofs.Common.{Less, Greater, ◌≡◌, ℕ, ◌+◌, ◌^◌, ◌<◌, Bool, true, false, cond, List, [], ◌∷◌, ◌++◌, Option, Some, None, All, IfSome, nat_eq, sym, subst, arith}
+use Rattle.std.proofs.Common.{Less, ◌≡◌, ℕ, ◌+◌, ◌^◌, ◌<◌, Bool, true, false, cond, List, [], ◌∷◌, ◌++◌, Option, Some, None, All, IfSome, nat_eq, sym, subst, arith}
 use Rattle.std.specs.Ordering.{nat_cmp}
 use Rattle.std.specs.Cmp.{nat_cmp_is}
 use Rattle.std.specs.Map.{keys_of, values_of, set_value, remove_entry}
@@ -12,9 +12,6 @@ use Rattle.nfs_handles.specs.NumberedFiles.{TaggedFile, NumberedFiles, at, with_
 
 pub less : (x y : ℕ) → x < y → nat_cmp x y ≡ Less
 less x y l = sym (nat_cmp_is x y Less l)
-
-pub greater : (x y : ℕ) → y < x → nat_cmp x y ≡ Greater
-greater x y l = sym (nat_cmp_is x y Greater l)
 
 pub sorted_push : (ks : List ℕ) (n : ℕ) → IsStrictlySortedBy nat_cmp ks → All (λ k. k < n) ks → IsStrictlySortedBy nat_cmp (ks ++ n ∷ [])
 unfolding IsStrictlySortedBy

@@ -1,16 +1,13 @@
 -- What becomes of files as they are kept, as numbered files.
-use Rattle.std.proofs.Common.{inl, inr, Bor, ◌≡◌, ◌≢◌, ℕ, ◌+◌, ◌-◌, ◌%◌, ◌^◌, ◌<◌, Bool, true, false, List, [], ◌∷◌, ◌++◌, length, get_or, append_assoc, w32, w64, Option, Some, None, All, IfSome, IfNone, is_some, option_map, nat_eq, sym, ap, subst, refl, ◌∙◌, arith}
+use Rattle.std.proofs.Common.{inl, inr, Bor, ◌≡◌, ◌≢◌, ℕ, ◌+◌, ◌-◌, ◌%◌, ◌^◌, ◌<◌, List, [], ◌∷◌, ◌++◌, length, get_or, append_assoc, w32, w64, Option, Some, None, IfSome, IfNone, is_some, option_map, nat_eq, sym, ap, subst, refl, ◌∙◌, arith}
 use Rattle.std.specs.Int.{to_be_bytes}
 use Rattle.std.specs.Option.{option_copied}
-use Rattle.std.specs.Ordering.{nat_cmp, match_ordering}
-use Rattle.std.specs.BTreeMap.{insert_entry, is_at}
-use Rattle.std.specs.Cmp.{unsigned_ties}
+use Rattle.std.specs.Ordering.{nat_cmp}
 use Rattle.std.specs.List.{IsDistinct}
 use Rattle.std.specs.Map.{keys_of, lookup, remove_entry}
-use Rattle.std.proofs.lemmas.List.Elements.{All-tail, All-head}
 use Rattle.std.proofs.lemmas.Map.{lookup-remove_entry}
 use Rattle.std.proofs.lemmas.Map.Keys.{IsDistinct-from_sorted}
-use Rattle.std.proofs.lemmas.Bool.{eq-eqb, eqb-true}
+use Rattle.std.proofs.lemmas.Bool.{eq-eqb}
 use Rattle.slab.specs.Slab.{Slab, get}
 use Rattle.slab.specs.Slab as slab
 use Rattle.slab.proofs.SlabLemmas.{Updates-with_value}
@@ -22,33 +19,12 @@ use Rattle.nfs_handles.specs.Lending.{with_value_in}
 use Rattle.nfs_handles.specs.Slotted.{value_in, tagged, filed, slotted, Leads, LeadsOr, AllLead, AllLeadBack, IsKept}
 use Rattle.nfs_handles.specs.Changes.{Adds, Takes}
 use Rattle.nfs_handles.proofs.Lookups.{compared, numbers_equal, one_number, none_is_next}
-use Rattle.nfs_handles.proofs.Numbers.{greater, below_next, numbered_new, numbered_value, numbered_without}
-use Rattle.nfs_handles.proofs.Places.{by_number, same_some, not_both, if_true, if_false, held, keys_filed, lookup_filed, lead_at, none_held, gone, lead_without, valued, lead_valued, filed_more, lead_more, found_more, found_last}
-
-pub not_equal : (a b : ℕ) → (a ≡ b → ⊥) → nat_eq a b ≡ false
-not_equal a b other = by (nat_eq a b) (eqb-true a b)
-  where
-    by : (c : Bool) → (c ≡ true → a ≡ b) → c ≡ false
-    by true f = absurd (other (f refl))
-    by false f = refl
-
--- what is put above all others comes last
-insert_last : {X : Type 0} (es : List (ℕ × X)) (n : ℕ) (v : X) → All (λ k. k < n) (keys_of es) → insert_entry nat_cmp es n v ≡ es ++ (n, v) ∷ []
-insert_last [] n v a = refl
-insert_last (e ∷ es) n v a =
-    subst (λ o. match_ordering o ((n, v) ∷ e ∷ es) ((e.0, v) ∷ es) (e ∷ insert_entry nat_cmp es n v) ≡ e ∷ (es ++ (n, v) ∷ [])) (sym (greater n e.0 (All-head (λ k. k < n) e.0 (keys_of es) a)))
-    (ap (λ l. e ∷ l) (insert_last es n v (All-tail (λ k. k < n) e.0 (keys_of es) a)))
-
--- how the map finds a number
-abbrev pub searched : ℕ → ℕ → Bool
-searched n = is_at (nat_cmp n)
-
-searched_is : (n : ℕ) → nat_eq n ≡ searched n
-searched_is n = λ i m. unsigned_ties n m i
+use Rattle.nfs_handles.proofs.Numbers.{numbered_new, numbered_value, numbered_without}
+use Rattle.nfs_handles.proofs.Leading.{by_number, not_equal, same_some, not_both, if_true, if_false, held, keys_filed, lookup_filed, lead_at, none_held, gone, lead_without, valued, lead_valued, filed_more, lead_more, found_more, found_last}
 
 -- the number of a file that is found in a slot leads there
-pub leads_back : {T : Type 0} (slots : Slab (Stored T)) (places : List (ℕ × ℕ)) → AllLeadBack slots places → (slot n : ℕ) (s : Stored T) → Some s ≡ get slots slot → s.number ≡ n → Some slot ≡ lookup (searched n) places
-leads_back slots places led slot n s there its = sym (ap (λ test. lookup test places) (sym (searched_is n)) ∙ ap (λ m. lookup (nat_eq m) places) (sym its) ∙ led slot s (sym there))
+pub leads_back : {T : Type 0} (slots : Slab (Stored T)) (places : List (ℕ × ℕ)) → AllLeadBack slots places → (slot n : ℕ) (s : Stored T) → Some s ≡ get slots slot → s.number ≡ n → Some slot ≡ lookup (nat_eq n) places
+leads_back slots places led slot n s there its = sym (ap (λ m. lookup (nat_eq m) places) (sym its) ∙ led slot s (sym there))
 
 eight : (key rest : List ℕ) → length key ≡ 8 → get_or key 0 0 ∷ get_or key 1 0 ∷ get_or key 2 0 ∷ get_or key 3 0 ∷ get_or key 4 0 ∷ get_or key 5 0 ∷ get_or key 6 0 ∷ get_or key 7 0 ∷ rest ≡ key ++ rest
 eight (a ∷ b ∷ c ∷ d ∷ e ∷ f ∷ g ∷ h ∷ []) rest l = refl
@@ -93,33 +69,27 @@ module _ {T : Type 0} where
     distinct = subst (λ ks. IsDistinct nat_eq ks) (keys_filed slots places h.lead)
         (subst (λ same. IsDistinct same (keys_of (filed slots places))) (sym compared) (IsDistinct-from_sorted nat_cmp (keys_of (filed slots places)) h.numbered.rising))
 
-    searched_for : (n : ℕ) → lookup (searched n) places ≡ lookup (nat_eq n) places
-    searched_for n = ap (λ test. lookup test places) (sym (searched_is n))
-
     -- what lives at a number is what is in the slot that it leads to
-    pub at_slotted : (n : ℕ) (o : Option ℕ) → o ≡ lookup (searched n) places → at t n ≡ held slots o
-    at_slotted n o found = lookup_filed (nat_eq n) slots places h.lead ∙ ap (held slots) (sym (found ∙ searched_for n))
+    pub at_slotted : (n : ℕ) (o : Option ℕ) → o ≡ lookup (nat_eq n) places → at t n ≡ held slots o
+    at_slotted n o found = lookup_filed (nat_eq n) slots places h.lead ∙ ap (held slots) (sym found)
 
-    pub value_slotted : (n : ℕ) (o : Option ℕ) → o ≡ lookup (searched n) places → value_at t n ≡ option_map (λ (f : TaggedFile T). f.value) (held slots o)
+    pub value_slotted : (n : ℕ) (o : Option ℕ) → o ≡ lookup (nat_eq n) places → value_at t n ≡ option_map (λ (f : TaggedFile T). f.value) (held slots o)
     value_slotted n o found = ap (option_map (λ (f : TaggedFile T). f.value)) (at_slotted n o found)
 
-    pub leads_there : (n slot : ℕ) → Some slot ≡ lookup (searched n) places → Leads slots (n, slot)
-    leads_there n slot found = lead_at slots n slot places h.lead (sym (found ∙ searched_for n))
+    pub leads_there : (n slot : ℕ) → Some slot ≡ lookup (nat_eq n) places → Leads slots (n, slot)
+    leads_there n slot found = lead_at slots n slot places h.lead (sym found)
 
     values : (slot : ℕ) (o : Option (Stored T)) → option_map (λ (f : TaggedFile T). f.value) (option_map (tagged slot) o) ≡ option_map (λ (s : Stored T). s.value) o
     values slot None = refl
     values slot (Some s) = refl
 
-    pub value_there : (n slot : ℕ) → Some slot ≡ lookup (searched n) places → value_at t n ≡ option_map (λ (s : Stored T). s.value) (get slots slot)
+    pub value_there : (n slot : ℕ) → Some slot ≡ lookup (nat_eq n) places → value_at t n ≡ option_map (λ (s : Stored T). s.value) (get slots slot)
     value_there n slot found = value_slotted n (Some slot) found ∙ values slot (get slots slot)
 
     -- ---- a file comes
 
     module _ (slot : ℕ) (v : T) (news : Slab (Stored T)) (more : List (ℕ × ℕ)) (vacant : get slots slot ≡ None) (at_new : get news slot ≡ Some (record { number = next; value = v }))
-        (others : (k : ℕ) → k ≢ slot → get news k ≡ get slots k) (more_are : more ≡ insert_entry nat_cmp places next slot) where
-      more_is : more ≡ places ++ (next, slot) ∷ []
-      more_is = more_are ∙ insert_last places next slot (subst (All (λ k. k < next)) (keys_filed slots places h.lead) (below_next next (keys_of (filed slots places)) h.numbered.given))
-
+        (others : (k : ℕ) → k ≢ slot → get news k ≡ get slots k) (more_is : more ≡ places ++ (next, slot) ∷ []) where
       new_is : slotted news more (next + 1) key ≡ with_new t (slot % 2 ^ 32) v
       new_is = ap (λ es. record { files = es; next = next + 1; key = key }) (ap (filed news) more_is ∙ filed_more slots news slot others next v vacant at_new places h.lead)
 
@@ -145,11 +115,8 @@ module _ {T : Type 0} where
 
     -- ---- a file goes
 
-    module _ (n slot : ℕ) (news : Slab (Stored T)) (fewer : List (ℕ × ℕ)) (found : Some slot ≡ lookup (searched n) places) (at_new : get news slot ≡ None)
-        (others : (k : ℕ) → k ≢ slot → get news k ≡ get slots k) (fewer_are : fewer ≡ remove_entry (searched n) places) where
-      fewer_is : fewer ≡ remove_entry (nat_eq n) places
-      fewer_is = fewer_are ∙ ap (λ test. remove_entry test places) (sym (searched_is n))
-
+    module _ (n slot : ℕ) (news : Slab (Stored T)) (fewer : List (ℕ × ℕ)) (found : Some slot ≡ lookup (nat_eq n) places) (at_new : get news slot ≡ None)
+        (others : (k : ℕ) → k ≢ slot → get news k ≡ get slots k) (fewer_is : fewer ≡ remove_entry (nat_eq n) places) where
       leads : Leads slots (n, slot)
       leads = leads_there n slot found
 
@@ -166,19 +133,19 @@ module _ {T : Type 0} where
             let was : lookup (nat_eq s.number) places ≡ Some k = h.led k s (sym (others k o) ∙ there) in
             lookup-remove_entry numbers_equal (nat_eq n) (one_number n) s.number places distinct
             ∙ by_number n s.number
-            (λ same. absurd (o (same_some (sym was ∙ ap (λ m. lookup (nat_eq m) places) (sym same) ∙ sym (found ∙ searched_for n)))))
+            (λ same. absurd (o (same_some (sym was ∙ ap (λ m. lookup (nat_eq m) places) (sym same) ∙ sym found))))
             (λ other. if_false None (lookup (nat_eq s.number) places) (not_equal n s.number other) ∙ was)));
       }
 
     -- ---- a file has another value
 
-    module _ (n slot : ℕ) (w : T) (news : Slab (Stored T)) (found : Some slot ≡ lookup (searched n) places) (s : Stored T) (at_slot : get slots slot ≡ Some s) (at_new : get news slot ≡ Some (record s { value = w }))
+    module _ (n slot : ℕ) (w : T) (news : Slab (Stored T)) (found : Some slot ≡ lookup (nat_eq n) places) (s : Stored T) (at_slot : get slots slot ≡ Some s) (at_new : get news slot ≡ Some (record s { value = w }))
         (others : (k : ℕ) → k ≢ slot → get news k ≡ get slots k) where
       its : s.number ≡ n
       its = let l = leads_there n slot found in ap (λ (s : Stored T). s.number) (same_some (sym at_slot ∙ l.1)) ∙ l.2
 
       pub value_lent : slotted news places next key ≡ with_value t n w
-      value_lent = ap (λ es. record { files = es; next = next; key = key }) (valued slots news slot others n s at_slot its w at_new places h.lead distinct (sym (found ∙ searched_for n)))
+      value_lent = ap (λ es. record { files = es; next = next; key = key }) (valued slots news slot others n s at_slot its w at_new places h.lead distinct (sym found))
           ∙ sym (ap (revalued t n w) (at_slotted n (Some slot) found ∙ ap (option_map (tagged slot)) at_slot))
 
       pub kept_lent : IsKept news places next key
@@ -215,36 +182,36 @@ module _ {T : Type 0} where
 
     -- ---- a handle's file
 
-    pub gone_from : (tag n : ℕ) → None ≡ lookup (searched n) places → live_with tag n (at t n) ≡ Stale
+    pub gone_from : (tag n : ℕ) → None ≡ lookup (nat_eq n) places → live_with tag n (at t n) ≡ Stale
     gone_from tag n none = ap (live_with tag n) (at_slotted n None none)
 
-    found_in : (n slot : ℕ) (found : Some slot ≡ lookup (searched n) places) → at t n ≡ Some (tagged slot (leads_there n slot found).0)
+    found_in : (n slot : ℕ) (found : Some slot ≡ lookup (nat_eq n) places) → at t n ≡ Some (tagged slot (leads_there n slot found).0)
     found_in n slot found = at_slotted n (Some slot) found ∙ ap (option_map (tagged slot)) (leads_there n slot found).1
 
-    pub of_another : (tag n slot : ℕ) → Some slot ≡ lookup (searched n) places → (slot % 2 ^ 32 ≡ tag → ⊥) → live_with tag n (at t n) ≡ Stale
+    pub of_another : (tag n slot : ℕ) → Some slot ≡ lookup (nat_eq n) places → (slot % 2 ^ 32 ≡ tag → ⊥) → live_with tag n (at t n) ≡ Stale
     of_another tag n slot found other = ap (live_with tag n) (found_in n slot found) ∙ if_false (Live (number n)) Stale (not_equal tag (slot % 2 ^ 32) (λ same. other (sym same)))
 
-    pub lives_in : (tag n slot : ℕ) (r : Option (Bor T)) → Some slot ≡ lookup (searched n) places → slot % 2 ^ 32 ≡ tag → option_copied r ≡ value_in slots slot → IfSome r (λ value. LivesWith t tag n value.now)
+    pub lives_in : (tag n slot : ℕ) (r : Option (Bor T)) → Some slot ≡ lookup (nat_eq n) places → slot % 2 ^ 32 ≡ tag → option_copied r ≡ value_in slots slot → IfSome r (λ value. LivesWith t tag n value.now)
     lives_in tag n slot None found same e = tt
     lives_in tag n slot (Some v) found same e =
         (ap (live_with tag n) (found_in n slot found) ∙ if_true (Live (number n)) Stale (eq-eqb tag (slot % 2 ^ 32) (sym same)), value_there n slot found ∙ sym e)
 
-    pub never_none : (P : Type 0) (n slot : ℕ) (r : Option (Bor T)) → Some slot ≡ lookup (searched n) places → option_copied r ≡ value_in slots slot → IfNone r P
+    pub never_none : (P : Type 0) (n slot : ℕ) (r : Option (Bor T)) → Some slot ≡ lookup (nat_eq n) places → option_copied r ≡ value_in slots slot → IfNone r P
     never_none P n slot None found e = absurd (not_both (sym e) (ap (option_map (λ (s : Stored T). s.value)) (leads_there n slot found).1))
     never_none P n slot (Some v) found e = tt
 
     -- ---- what is taken
 
-    pub takes_slotted : (n slot : ℕ) (r : Option T) (news : Slab (Stored T)) (fewer : List (ℕ × ℕ)) (found : Some slot ≡ lookup (searched n) places) → r ≡ value_in slots slot → get news slot ≡ None
-        → ((k : ℕ) → k ≢ slot → get news k ≡ get slots k) → fewer ≡ remove_entry (searched n) places → Takes t n r (slotted news fewer next key)
-    takes_slotted n slot r news fewer found e at_new others fewer_are =
+    pub takes_slotted : (n slot : ℕ) (r : Option T) (news : Slab (Stored T)) (fewer : List (ℕ × ℕ)) (found : Some slot ≡ lookup (nat_eq n) places) → r ≡ value_in slots slot → get news slot ≡ None
+        → ((k : ℕ) → k ≢ slot → get news k ≡ get slots k) → fewer ≡ remove_entry (nat_eq n) places → Takes t n r (slotted news fewer next key)
+    takes_slotted n slot r news fewer found e at_new others fewer_is =
         let l = leads_there n slot found in
         let is = ap (option_map (λ (s : Stored T). s.value)) l.1 in
-        subst (λ r. Takes t n r (slotted news fewer next key)) (sym (e ∙ is)) (value_there n slot found ∙ is, without_slotted n slot news fewer found at_new others fewer_are)
+        subst (λ r. Takes t n r (slotted news fewer next key)) (sym (e ∙ is)) (value_there n slot found ∙ is, without_slotted n slot news fewer found at_new others fewer_is)
 
     -- ---- handles
 
-    pub handle_slotted : (n slot : ℕ) (text : List ℕ) → Some slot ≡ lookup (searched n) places → text ≡ handle_text key (slot % 2 ^ 32) n → handle_at t n ≡ Some text
+    pub handle_slotted : (n slot : ℕ) (text : List ℕ) → Some slot ≡ lookup (nat_eq n) places → text ≡ handle_text key (slot % 2 ^ 32) n → handle_at t n ≡ Some text
     handle_slotted n slot text found e =
         let l = leads_there n slot found in
         ap (option_map (λ (file : TaggedFile T). handle_text key file.tag n)) (at_slotted n (Some slot) found ∙ ap (option_map (tagged slot)) l.1) ∙ ap Some (sym e)

@@ -1,5 +1,6 @@
 pub mod NumberedFiles
 pub mod Handles
+pub mod Placed
 pub mod Slotted
 pub mod Lending
 pub mod Changes

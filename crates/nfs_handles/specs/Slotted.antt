@@ -2,8 +2,6 @@
 use Rattle.std.specs.Prelude.{◌≡◌, ℕ, ◌%◌, ◌^◌, ◌⊎◌, List, [], ◌∷◌, Option, Some, None, option_map, nat_eq}
 use Rattle.std.specs.List.{filter_map}
 use Rattle.std.specs.Map.{lookup}
-use Rattle.std.specs.BTreeMap.{is_at}
-use Rattle.std.specs.Ordering.{nat_cmp}
 use Rattle.slab.specs.Slab.{Slab, get}
 use Rattle.nfs_handles.specs.NumberedFiles.{TaggedFile, NumberedFiles, IsNumbered}
 use Rattle.nfs_handles.specs.declared.slots.Stored.{Stored}
@@ -37,7 +35,7 @@ module _ {T : Type 0} where
 
   -- a number leads to this slot, or it leads nowhere and this one is vacant
   abbrev pub LeadsOr : Slab (Stored T) → List (ℕ × ℕ) → ℕ → ℕ → Type 0
-  LeadsOr slots places n slot = (lookup (is_at (nat_cmp n)) places ≡ Some slot) ⊎ ((lookup (is_at (nat_cmp n)) places ≡ None) × (get slots slot ≡ None))
+  LeadsOr slots places n slot = (lookup (nat_eq n) places ≡ Some slot) ⊎ ((lookup (nat_eq n) places ≡ None) × (get slots slot ≡ None))
 
   -- the number of the file in each slot leads to it
   abbrev pub AllLeadBack : Slab (Stored T) → List (ℕ × ℕ) → Type 0

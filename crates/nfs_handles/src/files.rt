@@ -1,11 +1,9 @@
-//! Numbered files: slots with their values, and a map from numbers to slots.
+//! Numbered files: slots with their values, and the slots that numbers lead to.
 ghost use Rattle.std.specs.Prelude.{not, ◌||◌, nat_eq, nat_le};
 ghost use Rattle.std.specs.Prelude.{◌≡◌, ℕ, ◌%◌, ◌^◌, ◌<◌, ◌≤◌, ◌≢◌, Some, IsSome, IfSome, IfNone, IfOk};
 ghost use Rattle.std.specs.Prelude.{IfErr, true, length, bytes_eq, option_copied};
-ghost use Rattle.std.specs.BTreeMap.{is_at};
 ghost use Rattle.std.specs.Borrow.{sem};
 ghost use Rattle.std.specs.Map.{lookup};
-ghost use Rattle.std.specs.Ordering.{nat_cmp};
 ghost use Rattle.std.specs.Option.{option_copied_mut};
 ghost use Rattle.nfs_handles.specs.NumberedFiles.{NumberedFiles, at, value_at, unused, IsNumbered};
 ghost use Rattle.nfs_handles.specs.Handles.{handle_at, is_shaped, key_in, live_with, Names};
@@ -16,10 +14,10 @@ ghost use Rattle.nfs_handles.specs.Changes.{Puts, Takes, LendsValue};
 
 use crate::fault::PutFault;
 use crate::number::{Hint, Number};
+use crate::places::Places;
 use crate::reading::{NoFile, Reading};
 use crate::slots::Slots;
 use std::alloc::Global;
-use std::collections::BTreeMap;
 use std::marker::Model;
 
 // The first bytes of each handle.
@@ -30,12 +28,11 @@ const TAGS: usize = 1 << 32;
 
 /// Files that each have a number of their own, beside the number of the next and the key of the
 /// server whose files they are. No number is given twice. A handle's tag is the slot of its file, so
-/// the file that it names is found without the map.
+/// the file that it names is found without a search.
 #[derive(Drop)]
 pub struct Files<T> {
     slots: Slots<T>,
-    places: BTreeMap<u64, usize>,
-    next: u64,
+    places: Places,
     key: [u8; 8],
 }
 
@@ -45,9 +42,9 @@ impl<T> Model for Files<T> {
 
     ghost Value = { NumberedFiles T };
 
-    ghost view = { λ f. slotted f.slots f.places.entries f.next f.key };
+    ghost view = { λ f. slotted f.slots f.places.entries f.places.next f.key };
 
-    ghost invariant = { λ f. IsKept f.slots f.places.entries f.next f.key };
+    ghost invariant = { λ f. IsKept f.slots f.places.entries f.places.next f.key };
 }
 
 impl<T: Drop> Files<T> {
@@ -58,8 +55,7 @@ impl<T: Drop> Files<T> {
     {
         Files {
             slots: Slots::new(alloc),
-            places: BTreeMap::new(alloc),
-            next: first,
+            places: Places::new(alloc, first),
             key,
         }
     }
@@ -68,14 +64,14 @@ impl<T: Drop> Files<T> {
     pub fn law(&self)
         ensures { IsNumbered self.now }
     {
-        let _ = &self.next;
+        let _ = &self.places;
     }
 
     /// The number that the next new file gets, unless it is the last, 2^64 - 1.
     pub fn next(&self) -> u64
         ensures { result ≡ self.now.next }
     {
-        self.next
+        self.places.next()
     }
 
     /// The key of the server whose files these are.
@@ -91,17 +87,16 @@ impl<T: Drop> Files<T> {
     pub fn put(&mut self, value: T) -> Result<Number, PutFault<T>>
         ensures { Puts self.old value result self.new }
     {
-        if self.next == u64::MAX {
+        let number = self.places.next();
+        if number == u64::MAX {
             return Err(PutFault::Spent(value));
         }
-        let number = self.next;
         let Ok(slot) = self.slots.reserve() else {
             return Err(PutFault::Memory(value));
         };
-        match self.places.insert(number, slot) {
-            Ok(_) => {
+        match self.places.push(slot) {
+            Ok(()) => {
                 self.slots.fill(number, value);
-                self.next += 1;
                 Ok(Number(number, Hint(tag_of(slot))))
             }
             Err(_) => Err(PutFault::Memory(value)),
@@ -160,7 +155,7 @@ impl<T: Drop> Files<T> {
     fn was_given(&self, number: u64) -> bool
         ensures { result ≡ not (nat_eq number 0 || nat_le self.now.next number) }
     {
-        number != 0 && number < self.next
+        number != 0 && number < self.places.next()
     }
 
     // The file that lives under a number that was given, where it has this tag.
@@ -227,33 +222,29 @@ impl<T: Drop> Files<T> {
     pub fn take(&mut self, number: Number) -> Option<T>
         ensures { Takes self.old number.0 result self.new }
     {
-        let slot = self.places.remove(&number.0)?;
+        let slot = self.places.remove(number.0)?;
         self.slots.take(slot)
     }
 }
 
-// The slot that a number leads to: the one of its hint, where this number stands there, and else by
-// the map.
+// The slot that a number leads to: the one of its hint, where this number stands there, and else the
+// one of its place.
 #[inline(always)]
-fn slot_at<T: Drop>(
-    slots: &Slots<T>,
-    places: &BTreeMap<u64, usize>,
-    number: Number,
-) -> Option<usize>
+fn slot_at<T: Drop>(slots: &Slots<T>, places: &Places, number: Number) -> Option<usize>
     requires { AllLeadBack slots.now places.now.entries }
-    ensures { result ≡ lookup (is_at (nat_cmp number.0)) places.now.entries }
+    ensures { result ≡ lookup (nat_eq number.0) places.now.entries }
 {
     if let Some(stored) = slots.get(number.1.0 as usize) {
         if stored.number == number.0 {
             return Some(number.1.0 as usize);
         }
     }
-    places.get(&number.0).copied()
+    places.get(number.0)
 }
 
 // The slot that a number leads to, or else a vacant one.
 #[inline(always)]
-fn slot_of<T: Drop>(slots: &Slots<T>, places: &BTreeMap<u64, usize>, number: Number) -> usize
+fn slot_of<T: Drop>(slots: &Slots<T>, places: &Places, number: Number) -> usize
     requires { AllLeadBack slots.now places.now.entries }
     ensures { LeadsOr slots.now places.now.entries number.0 result }
 {

@@ -71,16 +71,23 @@ fn is_comment(line: &[u8]) -> bool
     }
 }
 
-// Whether a line has bytes of text alone.
+// Whether a line has bytes of text alone. All are looked at in any case, which takes less time than a
+// test whether to go on behind each.
 fn is_text(line: &[u8]) -> bool
     ensures { result ≡ spec.is_text line.now }
 {
+    let mut is_text = true;
     for byte in line {
-        if *byte < 0x20 || *byte > 0x7e {
-            return false;
-        }
+        is_text = is_text & is_printable(*byte);
     }
-    true
+    is_text
+}
+
+#[inline(always)]
+fn is_printable(byte: u8) -> bool
+    ensures { result ≡ spec.is_printable byte }
+{
+    byte >= 0x20 && byte <= 0x7e
 }
 
 fn keyword_of(word: &[u8]) -> Option<Keyword>

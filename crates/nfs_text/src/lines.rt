@@ -1,9 +1,21 @@
 //! The lines of a text.
-ghost use Rattle.std.specs.Prelude.{◌≡◌};
+ghost use Rattle.std.specs.Prelude.{◌≡◌, option_map};
 ghost use Rattle.std.specs.Iterator.{YieldsFirstRef, item_count};
 ghost use Rattle.nfs_text.specs.Lines.{lines, lines_left};
+ghost use Rattle.nfs_text.specs.Pieces.{cut};
 
-use crate::pieces::cut;
+use memchr::memchr;
+
+// What stands before the first LF, and what stands behind it. `None` behind a text that has none.
+#[inline(always)]
+fn cut_line(text: &[u8]) -> (&[u8], Option<&[u8]>)
+    ensures { (result.0.now, option_map (λ rest. rest.now) result.1) ≡ cut 10 text.now }
+{
+    match memchr(b'\n', text) {
+        Some(place) => (&text[..place], Some(&text[place + 1..])),
+        None => (text, None),
+    }
+}
 
 /// Gives the lines of a text in turn, each without the LF at its end, which the last may lack. The
 /// empty text has no line.
@@ -32,7 +44,7 @@ impl<'a> Iterator for Lines<'a> {
         if self.rest.is_empty() {
             return None;
         }
-        let (line, rest) = cut(self.rest, b'\n');
+        let (line, rest) = cut_line(self.rest);
         self.rest = rest.unwrap_or(&[]);
         Some(line)
     }

@@ -6,8 +6,8 @@ use Rattle.nfs_text.proofs.lines.LinesIterator.next.Goals as goal
 pub returns-clause-steps : goal.returns-clause-steps
 returns-clause-steps c =
     let some : 0 < length c.args.self.now.rest.now = grind (arith, nat_tests) in
-    lines_step _ _ _ some c.cut.ensures
-    ∙ ap (λ (left : List (List ℕ)). c.cut.result.0.now ∷ left) (lines_behind c.cut.result.1 c.unwrap_or-self.result _ c.unwrap_or-self.ensures refl)
+    lines_step _ _ _ some c.cut_line.ensures
+    ∙ ap (λ (left : List (List ℕ)). c.cut_line.result.0.now ∷ left) (lines_behind c.cut_line.result.1 c.unwrap_or-self.result _ c.unwrap_or-self.ensures refl)
 
 pub returns-clause-goes : goal.returns-clause-goes
 returns-clause-goes c =

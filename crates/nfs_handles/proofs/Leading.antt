@@ -9,7 +9,7 @@ use Rattle.nfs_handles.specs.Slotted.{tagged, file_in, filed, Leads, AllLead}
 use Rattle.nfs_handles.specs.declared.slots.Stored.{Stored}
 use Rattle.nfs_handles.proofs.Lookups.{lookup_last}
 
-by_test : {P : Type 0} (b : Bool) → (b ≡ true → P) → (b ≡ false → P) → P
+pub by_test : {P : Type 0} (b : Bool) → (b ≡ true → P) → (b ≡ false → P) → P
 by_test true p q = p refl
 by_test false p q = q refl
 
@@ -30,6 +30,9 @@ if_false x y e = ap (λ b. cond b x y) e
 
 pub by_number : {P : Type 0} (m n : ℕ) → (m ≡ n → P) → (m ≢ n → P) → P
 by_number m n p q = by_test (nat_eq m n) (λ y. p (eqb-true m n y)) (λ f. q (λ same. true_and_false (eq-eqb m n same) f))
+
+pub not_equal : (a b : ℕ) → (a ≡ b → ⊥) → nat_eq a b ≡ false
+not_equal a b other = by_test (nat_eq a b) (λ y. absurd (other (eqb-true a b y))) (λ f. f)
 
 module _ {T : Type 0} where
   -- the file in a slot, if a number leads to one
