@@ -66,6 +66,10 @@ StandsBy (Ok n) reply end = end ≡ None
 StandsBy (Err fault) reply end = (told : ServeFault) × (end ≡ Some (Fault told)) × IsEndedBy fault told
     × (fault ≡ session.WriteFault → is_full reply ≡ true)
 
+-- the buffer as a device, where nothing had gathered before
+abbrev pub gathered : Buffered → Device
+gathered reply = device (Some []) (Some reply.earlier)
+
 -- Some of the bytes that had come were taken, in their order. What the records that they make whole are answered has gathered.
 pub record Gathers {L : Type 0} (moment : Moment) (old new : Standing L) (server served : Held) (audit : Device) (reply : Buffered) : Type 0 where
   pub taken : List ℕ
@@ -76,7 +80,7 @@ pub record Gathers {L : Type 0} (moment : Moment) (old new : Standing L) (server
   pub addr_stays : new.connection.addr ≡ old.connection.addr
   pub limit_stays : new.connection.progress.limit ≡ old.connection.progress.limit
   pub outlet_stays : new.outlet ≡ old.outlet
-  pub feeds : Feeds (origin_of old moment) taken result server served old.connection.progress new.connection.progress audit (device (Some []) (Some reply.earlier))
+  pub feeds : Feeds (origin_of old moment) taken result server served old.connection.progress new.connection.progress audit (gathered reply)
   pub stands : StandsBy result reply new.end
 
 -- a turn in which these bytes came; one that takes nothing leaves the server and writes no line
