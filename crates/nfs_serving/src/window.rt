@@ -119,7 +119,7 @@ impl Window {
         }
     }
 
-    /// Gives the room back, where there are no bytes.
+    /// Gives the room back, where there are no bytes, and lets a list go that stood in its place.
     pub fn give_back(&mut self, room: &mut Vec<u8>)
         ensures { self.new ≡ self.old }
     {
@@ -127,6 +127,7 @@ impl Window {
             self.from = 0;
             self.to = 0;
             mem::swap(&mut self.bytes, room);
+            self.let_go();
         }
     }
 
