@@ -1,5 +1,6 @@
 /* Answers each SIZE bytes by REPLY bytes, for any number of clients, over epoll: what a server of calls
- * of these sizes costs that does nothing else. It prints its port. */
+ * of these sizes costs that does nothing else. It prints its port. With `keep` it copies what comes twice, as a server of WRITEs
+ * has to that keeps its replies: over the bytes of a file, and into the next of 128 records. */
 #define _GNU_SOURCE
 #include <arpa/inet.h>
 #include <errno.h>
@@ -9,21 +10,39 @@
 #include <stdint.h>
 #include <stdio.h>
 #include <stdlib.h>
+#include <string.h>
 #include <sys/epoll.h>
 #include <sys/socket.h>
 #include <unistd.h>
 
-enum { PEERS = 4096, PIECE = 65536, BATCH = 262144 };
+enum { PEERS = 4096, PIECE = 65536, BATCH = 262144, FILE_BYTES = 65536, KEPT = 128 };
 
 typedef struct {
     size_t in, owed;
 } Client;
 
 static Client all[PEERS];
-static unsigned char piece[PIECE], batch[BATCH];
+static unsigned char piece[PIECE], batch[BATCH], file[FILE_BYTES], *kept[KEPT];
+
+/* Copies some bytes to the file and to the records, each from where the last bytes ended. */
+static void keep(size_t size, const unsigned char *bytes, size_t len) {
+    static size_t written, recorded;
+    while (len > 0) {
+        size_t in_file = FILE_BYTES - written, in_record = size - recorded % size, n = len < in_file ? len : in_file;
+        n = n < in_record ? n : in_record;
+        memcpy(file + written, bytes, n);
+        memcpy(kept[recorded / size] + recorded % size, bytes, n);
+        written = (written + n) % FILE_BYTES;
+        recorded = (recorded + n) % (KEPT * size);
+        bytes += n, len -= n;
+    }
+}
 
 int main(int count, char **w) {
     size_t size = count > 2 ? (size_t)atol(w[1]) : 44, reply = count > 2 ? (size_t)atol(w[2]) : 28;
+    int keeps = count > 3 && strcmp(w[3], "keep") == 0;
+    for (int i = 0; keeps && i < KEPT; i++)
+        if (!(kept[i] = calloc(1, size))) return 1;
     struct sockaddr_in at = {.sin_family = AF_INET};
     socklen_t length = sizeof at;
     int listener = socket(AF_INET, SOCK_STREAM | SOCK_NONBLOCK, 0), poll = epoll_create1(0);
@@ -62,6 +81,7 @@ int main(int count, char **w) {
                     close(peer);
                     break;
                 }
+                if (keeps) keep(size, piece, (size_t)got);
                 c->in += (size_t)got;
                 c->owed += c->in / size * reply;
                 c->in %= size;
