@@ -56,7 +56,8 @@ impl Places {
         self.next
     }
 
-    /// The slot that a number leads to.
+    /// The slot that a number leads to. Out of line, since a hint mostly spares the search.
+    #[inline(never)]
     pub(crate) fn get(&self, number: u64) -> Option<usize>
         ensures { result ≡ lookup (nat_eq number) self.now.entries }
     {
