@@ -68,7 +68,7 @@ impl KeptReplies {
         if self.buckets.is_empty(bucket) {
             return false;
         }
-        match place_of(&self.kept, bucket, addr, bytes) {
+        match position_of(&self.kept, bucket, addr, bytes) {
             Some(place) => {
                 move_first(&mut self.kept, place);
                 true
@@ -146,7 +146,7 @@ impl KeptReplies {
 }
 
 // Where the reply for a record is kept.
-fn place_of(kept: &VecDeque<Kept>, bucket: u16, addr: Addr, bytes: &[u8]) -> Option<usize>
+fn position_of(kept: &VecDeque<Kept>, bucket: u16, addr: Addr, bytes: &[u8]) -> Option<usize>
     requires bucket { bucket ≡ bucket_of (addr, bytes.now) }
     requires bucketed { All IsBucketed kept.now.items }
     requires len { deque_len kept.now ≡ length kept.now.items }

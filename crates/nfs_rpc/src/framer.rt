@@ -196,8 +196,9 @@ impl Framer {
     }
 
     /// The record that stands at the front of the piece, lent from it: where it stands there whole, in
-    /// one fragment, and nothing of it came before; none elsewhere. Who takes it, with its header, takes what `feed`
-    /// would take, and reads what `whole` would lend; the framer stays before the next record.
+    /// one fragment, and nothing of it came before; none elsewhere. Who takes it, with its header,
+    /// takes what `feed` would take, and reads what `whole` would lend; the framer stays before the
+    /// next record.
     pub fn lend<'a>(&self, piece: &'a [u8]) -> Option<&'a [u8]>
         ensures lent { IfSome result (λ content. IsLent self.now content.now piece.entry.now) }
         ensures some { IfSome result (λ content. BeginsWhole self.now content.now piece.entry.now) }

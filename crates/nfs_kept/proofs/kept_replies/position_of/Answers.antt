@@ -3,7 +3,7 @@ use Rattle.nfs_kept.specs.declared.kept.Kept.{Kept}
 use Rattle.nfs_kept.specs.Places.{Key, same}
 use Rattle.nfs_kept.specs.Shown.{key_of}
 use Rattle.nfs_kept.proofs.Shows.{NoneBefore, first_at, none_of_all, one_more}
-use Rattle.nfs_kept.proofs.kept_replies.place_of.Goals as goal
+use Rattle.nfs_kept.proofs.kept_replies.position_of.Goals as goal
 
 pub returns-then-is_for-clause-some : goal.returns-then-is_for-clause-some
 returns-then-is_for-clause-some c =
