@@ -1,33 +1,48 @@
 -- Calls, from their rules of RPC to what they ask for.
 use Rattle.std.proofs.Common.{◌≡◌, ℕ, Bool, true, false, cond, not, ◌&&◌, ◌||◌, List, [], ◌∷◌, ◌++◌, Option, Some, None, is_none, is_some, refl, sym, ap, subst, ◌∙◌, append-nil}
-use Rattle.std.specs.Prelude.{nat_eq}
+use Rattle.std.specs.Prelude.{Result, nat_eq}
 use Rattle.std.specs.List.{find}
 use Rattle.std.specs.Option.{option_or}
 use Rattle.std.proofs.lemmas.List.Folds.{find-append}
 use Rattle.std.specs.Option.{option_map}
 use Rattle.nfs_args.specs.declared.args.NfsArgs.{NfsArgs}
 use Rattle.nfs_args.specs.declared.mount_args.MountArgs.{MountArgs}
-use Rattle.nfs_kept.specs.Places.{kept_reply}
+use Rattle.nfs_kept.specs.Places.{Place, kept_reply}
 use Rattle.nfs_rpc.specs.AuthSys.{Credential, caller, credential_of}
 use Rattle.nfs_rpc.specs.declared.auth_sys.Cred.{Cred}
 use Rattle.nfs_rules.specs.Subjects.{Caller}
 use Rattle.nfs_rpc.specs.Calls.{Call}
 use Rattle.nfs_rpc.specs.Replies.{accepted_text}
+use Rattle.nfs_rpc.specs.declared.call.RpcFault.{RpcFault}
 use Rattle.nfs_rpc.specs.declared.reply.Accept.TheVariants.{Success}
 use Rattle.nfs_server.specs.AuditLines.{line_of}
 use Rattle.nfs_server.specs.Events.{Event, Answer, Choice, granted, denied}
 use Rattle.nfs_server.specs.Fits.{Held}
-use Rattle.nfs_server.specs.OneEvent.{AnswersBy, AnswersChange, AnswersJudged, AnswersKept, AnswersMount, PerformsAnew, scene_for}
-use Rattle.nfs_server.specs.Repeats.{key_of, may_change}
+use Rattle.nfs_server.specs.OneEvent.{AnswersBy, AnswersCalled, AnswersChange, AnswersJudged, AnswersKept, AnswersMount, PerformsAnew, scene_for}
+use Rattle.nfs_server.specs.Repeats.{calls_change, key_of, may_change}
 use Rattle.nfs_server.specs.Requests.{Request, Nothing, OfNfs, OfMount, args_in, asked, is_nfs, is_null, lacks_args, mount_args_in, request_of}
 use Rattle.nfs_server.specs.RpcRules.{AUTH_NONE, AUTH_SYS, caller_rules, fails_rpc, head_rules, rpc_reply}
 use Rattle.nfs_server.specs.InMemory.{told}
-use Rattle.nfs_server.specs.Steps.{MountPerformed, Requested}
+use Rattle.nfs_server.specs.Steps.{Called, MountPerformed, Requested, State}
 use Rattle.nfs_server.specs.declared.audit_line.AuditLine.{AuditLine}
 use Rattle.nfs_server.specs.declared.audit_line.Reason.TheVariants as reason
 use Rattle.nfs_server.specs.declared.rpc_rules.RpcRule.{RpcRule}
 use Rattle.nfs_server.specs.declared.rpc_rules.RpcRule.TheVariants.{Arguments, Flavor, WeakCredential, Credential as RpcCredential}
 use Rattle.nfs_server.proofs.Performed.{no_choice}
+
+-- ---- the line that was held before
+
+any_line_before : (changes : Bool) (reply : Option (List ℕ)) (Anew : Type 0) (old : Held) (line : Option AuditLine) (event : Event) (answer : Answer) (new : State) (kept : List Place)
+    → AnswersKept changes reply Anew (record old { line = line }) event answer new kept → AnswersKept changes reply Anew old event answer new kept
+any_line_before false reply Anew old line event answer new kept a = a
+any_line_before true (Some reply) Anew old line event answer new kept a = a
+any_line_before true None Anew old line event answer new kept a = a
+
+-- what is answered doesn't hang on the line that the server holds
+pub whatever_line : (head : Result (Call × List ℕ) RpcFault) (old : Held) (line : Option AuditLine) (event : Event) (answer : Answer) (new : Held)
+    → AnswersCalled head (record old { line = line }) event answer new → AnswersCalled head old event answer new
+whatever_line head old line event answer new a =
+    (a.0, a.1, any_line_before (calls_change event.addr head) (kept_reply (key_of event) old.kept) (Called head old.setup old.state event a.0 answer new.state) old line event answer new.state new.kept a.2)
 
 -- ---- the first of a list that fails
 
@@ -80,18 +95,20 @@ module _ (old : Held) (event : Event) (call : Call) (bytes : List ℕ) where
   is_kept = is_some (kept_reply (key_of event) old.kept)
 
   -- a rule fails
-  pub denied_by : (rules later : List RpcRule) (rule : RpcRule) (reply : List ℕ) (line : AuditLine) → find (fails_rpc call bytes) rules ≡ Some rule → reply ≡ rpc_reply rule call.xid → line ≡ line_of event.addr call (reason.Rpc rule)
-      → Answered (rules ++ later) (told reply (Some line)) old
-  denied_by rules later rule reply line found reply_is line_is =
-      subst (λ v. AnswersJudged v (request_of event.addr call bytes) old event call (told reply (Some line)) old) (sym (find_before (fails_rpc call bytes) rule rules later found))
-      (no_choice is_kept, refl, ((ap (λ r. denied r line) reply_is ∙ ap (denied (rpc_reply rule call.xid)) line_is, refl), refl))
+  pub denied_by : (rules later : List RpcRule) (rule : RpcRule) (reply : List ℕ) (line : AuditLine) (new : Held) → new.state ≡ old.state → new.kept ≡ old.kept
+      → find (fails_rpc call bytes) rules ≡ Some rule → reply ≡ rpc_reply rule call.xid → line ≡ line_of event.addr call (reason.Rpc rule)
+      → Answered (rules ++ later) (told reply (Some line)) new
+  denied_by rules later rule reply line new state kept found reply_is line_is =
+      subst (λ v. AnswersJudged v (request_of event.addr call bytes) old event call (told reply (Some line)) new) (sym (find_before (fails_rpc call bytes) rule rules later found))
+      (no_choice is_kept, refl, ((ap (λ r. denied r line) reply_is ∙ ap (denied (rpc_reply rule call.xid)) line_is, state), kept))
 
   -- the arguments can't be read
-  pub denied_unread : (reply : List ℕ) (line : AuditLine) → is_null call ≡ false → find (fails_rpc call bytes) caller_rules ≡ None → lacks_args call bytes ≡ true → reply ≡ rpc_reply Arguments call.xid → line ≡ line_of event.addr call (reason.Rpc Arguments)
-      → Answered call_rules (told reply (Some line)) old
-  denied_unread reply line other known lacks reply_is line_is =
-      subst (λ v. AnswersJudged v (request_of event.addr call bytes) old event call (told reply (Some line)) old) (sym (find_behind (fails_rpc call bytes) caller_rules (Arguments ∷ []) known))
-      (denied_by (Arguments ∷ []) [] Arguments reply line (by_arguments call bytes true other lacks) reply_is line_is)
+  pub denied_unread : (reply : List ℕ) (line : AuditLine) (new : Held) → new.state ≡ old.state → new.kept ≡ old.kept
+      → is_null call ≡ false → find (fails_rpc call bytes) caller_rules ≡ None → lacks_args call bytes ≡ true → reply ≡ rpc_reply Arguments call.xid → line ≡ line_of event.addr call (reason.Rpc Arguments)
+      → Answered call_rules (told reply (Some line)) new
+  denied_unread reply line new state kept other known lacks reply_is line_is =
+      subst (λ v. AnswersJudged v (request_of event.addr call bytes) old event call (told reply (Some line)) new) (sym (find_behind (fails_rpc call bytes) caller_rules (Arguments ∷ []) known))
+      (denied_by (Arguments ∷ []) [] Arguments reply line new state kept (by_arguments call bytes true other lacks) reply_is line_is)
 
   -- no rule fails, and this is asked for
   asked_so : (request : Request) (answer : Answer) (new : Held) → is_null call ≡ false → find (fails_rpc call bytes) caller_rules ≡ None → lacks_args call bytes ≡ false → request_of event.addr call bytes ≡ Some request
@@ -152,9 +169,10 @@ module _ (old : Held) (event : Event) (call : Call) (bytes : List ℕ) where
       ∙ ap (λ b. cond (not b && lacks_args call bytes) (Some Arguments) None) null
 
   -- NULL
-  pub null_done : (reply : List ℕ) → find (fails_rpc call bytes) head_rules ≡ None → is_null call ≡ true → reply ≡ accepted_text call.xid Success → Answered (head_rules ++ call_rules) (told reply None) old
-  null_done reply kept null reply_is =
+  pub null_done : (reply : List ℕ) (line : Option AuditLine) → line ≡ None → find (fails_rpc call bytes) head_rules ≡ None → is_null call ≡ true → reply ≡ accepted_text call.xid Success → Answered (head_rules ++ call_rules) (told reply line) old
+  null_done reply line unset kept null reply_is =
       let asks : request_of event.addr call bytes ≡ Some Nothing = ap (λ b. requests b (is_nfs call) event call bytes) null in
       let none = find_behind (fails_rpc call bytes) head_rules call_rules kept ∙ null_passes null in
-      subst (λ v. AnswersJudged v (request_of event.addr call bytes) old event call (told reply None) old) (sym none)
-      (subst (λ r. AnswersJudged None r old event call (told reply None) old) (sym asks) (no_choice is_kept, refl, ((ap granted (reply_is ∙ sym (append-nil (accepted_text call.xid Success))), refl), refl)))
+      subst (λ v. AnswersJudged v (request_of event.addr call bytes) old event call (told reply line) old) (sym none)
+      (subst (λ r. AnswersJudged None r old event call (told reply line) old) (sym asks)
+      (no_choice is_kept, refl, ((ap (told reply) unset ∙ ap granted (reply_is ∙ sym (append-nil (accepted_text call.xid Success))), refl), refl)))

@@ -72,26 +72,26 @@ wanting (nfs.Commit a) one two h = absurd (false≢true h)
 abbrev pub Performs : Option Doing → Scene → Call → Answer → Tree → Type 0
 Performs o c call answer new = (again : Bool) → (choice : Choice) × (choice.again ≡ again) × Performed o c call choice answer new
 
-pub nothing_done : (c : Scene) (o : Option Doing) (came : Option Done) (new : Tree) (before after : Written) (call : Call) (reply : List ℕ) → came ≡ None → PerformsAs c o came new before after
+pub nothing_done : (c : Scene) (o : Option Doing) (came : Option Done) (new : Tree) (before after : Written) (call : Call) (reply : List ℕ) (line : Option AuditLine) → line ≡ None → came ≡ None → PerformsAs c o came new before after
     → ((text : List ℕ) → after.bytes ≡ before.bytes ++ text → reply ≡ success call text)
-    → Performs o c call (told reply None) new
-nothing_done c None came new before after call reply e performs wrote =
+    → Performs o c call (told reply line) new
+nothing_done c None came new before after call reply line unset e performs wrote =
     let p : PerformsAs c None None new before after = subst (λ d. PerformsAs c None d new before after) e performs in
-    λ again. (no_choice again, refl, (ap granted (wrote [] (ap (λ (w : Written). w.bytes) p.1 ∙ sym (append-nil before.bytes))), p.0))
-nothing_done c (Some doing) came new before after call reply e performs wrote = absurd (subst (λ d. PerformsAs c (Some doing) d new before after) e performs)
+    λ again. (no_choice again, refl, (ap (told reply) unset ∙ ap granted (wrote [] (ap (λ (w : Written). w.bytes) p.1 ∙ sym (append-nil before.bytes))), p.0))
+nothing_done c (Some doing) came new before after call reply line unset e performs wrote = absurd (subst (λ d. PerformsAs c (Some doing) d new before after) e performs)
 
-pub granted_done : (c : Scene) (o : Option Doing) (came : Option Done) (new : Tree) (before after : Written) (call : Call) (reply : List ℕ) → came ≡ Some Granted → PerformsAs c o came new before after
+pub granted_done : (c : Scene) (o : Option Doing) (came : Option Done) (new : Tree) (before after : Written) (call : Call) (reply : List ℕ) (line : Option AuditLine) → line ≡ None → came ≡ Some Granted → PerformsAs c o came new before after
     → ((text : List ℕ) → after.bytes ≡ before.bytes ++ text → reply ≡ success call text)
-    → Performs o c call (told reply None) new
-granted_done c None came new before after call reply e performs wrote = absurd (subst (λ d. PerformsAs c None d new before after) e performs)
-granted_done c (Some doing) came new before after call reply e performs wrote =
+    → Performs o c call (told reply line) new
+granted_done c None came new before after call reply line unset e performs wrote = absurd (subst (λ d. PerformsAs c None d new before after) e performs)
+granted_done c (Some doing) came new before after call reply line unset e performs wrote =
     let h : HasEffect c doing new before after = subst (λ d. PerformsAs c (Some doing) d new before after) e performs in
     λ again.
     let choice : Choice = record { tag = h.tag; fits = h.fits; has_memory = true; again = again } in (
       choice,
       refl,
-      subst (λ v. Decided v c doing call h.tag (told reply None) new) (sym h.granted.verdict)
-          (record { one = h.one; two = h.two; subjects = h.granted.subjects; new_is = h.new_is; answer_is = ap granted (wrote _ h.written.text.bytes); spelled = h.written.spelled }),
+      subst (λ v. Decided v c doing call h.tag (told reply line) new) (sym h.granted.verdict)
+          (record { one = h.one; two = h.two; subjects = h.granted.subjects; new_is = h.new_is; answer_is = ap (told reply) unset ∙ ap granted (wrote _ h.written.text.bytes); spelled = h.written.spelled }),
     )
 
 pub denied_done : (c : Scene) (o : Option Doing) (came : Option Done) (new : Tree) (before after : Written) (call : Call) (reply : List ℕ) (line : AuditLine) (rule : Rule) (uid : Option ℕ) → came ≡ Some (Denied rule uid) → PerformsAs c o came new before after

@@ -1,5 +1,5 @@
 //! Calls of NFS other than NULL (RFC 1813, section 3.3): what is done, and the reply.
-ghost use Rattle.std.specs.Prelude.{◌≡◌, ◌+◌, ◌≤◌, true, length};
+ghost use Rattle.std.specs.Prelude.{◌≡◌, ◌+◌, ◌≤◌, true, length, None};
 ghost use Rattle.nfs_procs.specs.Procedures.{PerformsAs, doing_of};
 ghost use Rattle.nfs_procs.specs.Scenes.{scene};
 ghost use Rattle.nfs_rpc.specs.Calls.{call_of};
@@ -40,8 +40,8 @@ pub(crate) fn may_change(args: &NfsArgs<'_>) -> bool
     )
 }
 
-/// The reply to a call: what it asks for is done where no rule fails, and there is memory. Answers the
-/// line of a call that is denied.
+/// The reply to a call: what it asks for is done where no rule fails, and there is memory. A call that
+/// is denied leaves its line.
 #[inline(always)]
 pub(crate) fn answer_call(
     out: &mut Output,
@@ -49,25 +49,28 @@ pub(crate) fn answer_call(
     tree: &mut Tree,
     call: &Call<'_>,
     args: &NfsArgs<'_>,
-) -> Option<AuditLine>
-    requires { HasReplyRoom out.old }
+    line: &mut Option<AuditLine>,
+)
+    requires room { HasReplyRoom out.old }
+    requires line { line.old ≡ None }
     ensures adds { Adds out.old out.new }
     ensures short { repeats.may_change args.now ≡ true → length (behind out.old out.new) ≤ MAX_KEPT_BYTES }
     ensures answers { AnswersCall (scene tree.old call.now args.now) (call_of head.now)
-        (told (behind out.old out.new) result) tree.new }
+        (told (behind out.old out.new) line.new) tree.new }
 {
     let start = out.bytes().len();
     write_accepted(out, head.xid, Accept::Success);
     match write_result(out, tree, call, args) {
         Some(Done::Denied(rule, uid)) => {
-            Some(AuditLine::of(call.caller.addr, head, Reason::Rule(rule, uid)))
+            let reason = Reason::Rule(rule, uid);
+            *line = Some(AuditLine::of(call.caller.addr, head, reason));
         }
         Some(Done::Memory) => {
             give_up(out, start, head.xid);
-            Some(AuditLine::of(call.caller.addr, head, Reason::Memory))
+            *line = Some(AuditLine::of(call.caller.addr, head, Reason::Memory));
         }
-        Some(Done::Granted) => None,
-        None => None,
+        Some(Done::Granted) => {}
+        None => {}
     }
 }
 

@@ -136,32 +136,26 @@ impl Server {
             return Handled::NoReply;
         };
         begin(&mut reply.out, reply.start);
-        let line = self.respond(&head, event, &mut reply.out);
+        self.line = None;
+        self.respond(&head, event, &mut reply.out);
         seal(&mut reply.out, reply.start);
-        keep(&mut self.line, line);
         Handled::Answered
     }
 
-    // The reply to a call, and its line where it is denied.
+    // The reply to a call, and its line where it is denied. The line is left where it is kept, so that
+    // nothing is moved for a call that has none.
     #[inline(always)]
-    fn respond(
-        &mut self,
-        head: &CallHead<'_>,
-        event: Event<'_>,
-        out: &mut Output,
-    ) -> Option<AuditLine>
-        requires { HasReplyRoom out.old }
+    fn respond(&mut self, head: &CallHead<'_>, event: Event<'_>, out: &mut Output)
+        requires room { HasReplyRoom out.old }
+        requires line { self.old.line ≡ None }
         ensures adds { Adds out.old out.new }
         ensures setup { self.new.setup ≡ self.old.setup }
         ensures judged { AnswersBy rpc_rules self.old (event_of event.entry) (call_of head.now) head.now.args
-            (told (behind out.old out.new) result) self.new }
+            (told (behind out.old out.new) self.new.line) self.new }
     {
         match admit(head) {
-            Err(rule) => Some(deny(out, head, event, rule)),
-            Ok(Admitted::Null) => {
-                succeed(out, head.xid);
-                None
-            }
+            Err(rule) => self.line = Some(deny(out, head, event, rule)),
+            Ok(Admitted::Null) => succeed(out, head.xid),
             Ok(Admitted::Nfs) => self.answer_nfs(head, event, out),
             Ok(Admitted::Mount) => self.answer_mount(head, event, out),
         }
@@ -169,23 +163,19 @@ impl Server {
 
     // The reply to a call of NFS other than NULL, and its line where it is denied.
     #[inline(always)]
-    fn answer_nfs(
-        &mut self,
-        head: &CallHead<'_>,
-        event: Event<'_>,
-        out: &mut Output,
-    ) -> Option<AuditLine>
+    fn answer_nfs(&mut self, head: &CallHead<'_>, event: Event<'_>, out: &mut Output)
         requires room { HasReplyRoom out.old }
+        requires line { self.old.line ≡ None }
         requires nfs { is_nfs (call_of head.now) ≡ true }
         requires null { is_null (call_of head.now) ≡ false }
         ensures adds { Adds out.old out.new }
         ensures setup { self.new.setup ≡ self.old.setup }
         ensures judged { AnswersBy (caller_rules ++ Arguments ∷ []) self.old (event_of event.entry) (call_of head.now) head.now.args
-            (told (behind out.old out.new) result) self.new }
+            (told (behind out.old out.new) self.new.line) self.new }
     {
         let mut cred = Cred::nobody();
         match identify(head, &mut cred) {
-            Err(rule) => Some(deny(out, head, event, rule)),
+            Err(rule) => self.line = Some(deny(out, head, event, rule)),
             Ok(()) => self.answer_caller(head, event, &cred, out),
         }
     }
@@ -198,8 +188,9 @@ impl Server {
         event: Event<'_>,
         cred: &Cred,
         out: &mut Output,
-    ) -> Option<AuditLine>
+    )
         requires room { HasReplyRoom out.old }
+        requires line { self.old.line ≡ None }
         requires nfs { is_nfs (call_of head.now) ≡ true }
         requires null { is_null (call_of head.now) ≡ false }
         requires known { find (fails_rpc (call_of head.now) head.now.args) caller_rules ≡ None }
@@ -207,11 +198,11 @@ impl Server {
         ensures adds { Adds out.old out.new }
         ensures setup { self.new.setup ≡ self.old.setup }
         ensures judged { AnswersBy (caller_rules ++ Arguments ∷ []) self.old (event_of event.entry) (call_of head.now) head.now.args
-            (told (behind out.old out.new) result) self.new }
+            (told (behind out.old out.new) self.new.line) self.new }
     {
         let mut args = NfsArgs::Null;
         match read_args(head.proc, Input::new(head.args.rest()), &mut args) {
-            Err(_) => Some(deny(out, head, event, RpcRule::Arguments)),
+            Err(_) => self.line = Some(deny(out, head, event, RpcRule::Arguments)),
             Ok(()) if may_change(&args) => self.answer_change(head, event, cred, &args, out),
             Ok(()) => self.answer_anew(head, event, cred, &args, out),
         }
@@ -227,22 +218,24 @@ impl Server {
         cred: &Cred,
         args: &NfsArgs<'_>,
         out: &mut Output,
-    ) -> Option<AuditLine>
+    )
         requires room { HasReplyRoom out.old }
+        requires line { self.old.line ≡ None }
         requires change { repeats.may_change args.now ≡ true }
         ensures adds { Adds out.old out.new }
         ensures setup { self.new.setup ≡ self.old.setup }
         ensures answers { AnswersChange (scene_for self.old (event_of event.entry) cred.now args.now) (call_of head.now) self.old
-            (event_of event.entry) (told (behind out.old out.new) result) self.new }
+            (event_of event.entry) (told (behind out.old out.new) self.new.line) self.new }
     {
         let start = out.bytes().len();
         if self.kept.find(event.addr, event.bytes) {
             give_again(&self.kept, out);
-            return None;
+            return;
         }
         if self.kept.take_place(event.addr, event.bytes).is_err() {
             give_up(out, start, head.xid);
-            return Some(AuditLine::of(event.addr, head, Reason::Memory));
+            self.line = Some(AuditLine::of(event.addr, head, Reason::Memory));
+            return;
         }
         let call = Call {
             table: &self.table,
@@ -252,13 +245,12 @@ impl Server {
             },
             moment: event.moment,
         };
-        let line = answer_call(out, head, &mut self.tree, &call, args);
-        if wants_memory(&line) {
+        answer_call(out, head, &mut self.tree, &call, args, &mut self.line);
+        if wants_memory(&self.line) {
             self.kept.give_back();
         } else {
             self.kept.keep(written(out, start));
         }
-        line
     }
 
     // The reply to a call that is answered anew.
@@ -270,13 +262,14 @@ impl Server {
         cred: &Cred,
         args: &NfsArgs<'_>,
         out: &mut Output,
-    ) -> Option<AuditLine>
-        requires { HasReplyRoom out.old }
+    )
+        requires room { HasReplyRoom out.old }
+        requires line { self.old.line ≡ None }
         ensures adds { Adds out.old out.new }
         ensures setup { self.new.setup ≡ self.old.setup }
         ensures kept { self.new.kept ≡ self.old.kept }
         ensures answers { PerformsAnew (scene_for self.old (event_of event.entry) cred.now args.now) (call_of head.now)
-            (told (behind out.old out.new) result) self.old self.new }
+            (told (behind out.old out.new) self.new.line) self.old self.new }
     {
         let call = Call {
             table: &self.table,
@@ -286,34 +279,32 @@ impl Server {
             },
             moment: event.moment,
         };
-        answer_call(out, head, &mut self.tree, &call, args)
+        answer_call(out, head, &mut self.tree, &call, args, &mut self.line);
     }
 
     // The reply to a call of MOUNT other than NULL, and its line where it is denied. Out of line, so
     // that calls of NFS pay nothing for it.
     #[inline(never)]
-    fn answer_mount(
-        &mut self,
-        head: &CallHead<'_>,
-        event: Event<'_>,
-        out: &mut Output,
-    ) -> Option<AuditLine>
+    fn answer_mount(&mut self, head: &CallHead<'_>, event: Event<'_>, out: &mut Output)
         requires room { HasReplyRoom out.old }
+        requires line { self.old.line ≡ None }
         requires mount { is_nfs (call_of head.now) ≡ false }
         requires null { is_null (call_of head.now) ≡ false }
         ensures adds { Adds out.old out.new }
         ensures setup { self.new.setup ≡ self.old.setup }
         ensures judged { AnswersBy (caller_rules ++ Arguments ∷ []) self.old (event_of event.entry) (call_of head.now) head.now.args
-            (told (behind out.old out.new) result) self.new }
+            (told (behind out.old out.new) self.new.line) self.new }
     {
         if let Some(rule) = caller_failure(head) {
-            return Some(deny(out, head, event, rule));
+            self.line = Some(deny(out, head, event, rule));
+            return;
         }
         let Ok(args) = read_mount_args(head.proc, Input::new(head.args.rest())) else {
-            return Some(deny(out, head, event, RpcRule::Arguments));
+            self.line = Some(deny(out, head, event, RpcRule::Arguments));
+            return;
         };
         let (tree, table, mounts) = (&self.tree, &self.table, &mut self.mounts);
-        answer_mount(out, head, tree, table, mounts, event.addr, &args)
+        self.line = answer_mount(out, head, tree, table, mounts, event.addr, &args);
     }
 
     /// Takes events one after another, and hands each outcome to the sink, until a take answers
@@ -371,17 +362,6 @@ fn wants_memory(line: &Option<AuditLine>) -> bool
     match line {
         Some(line) => line.reason == Reason::Memory,
         None => false,
-    }
-}
-
-// Keeps the line of a call. Case by case, so that nothing is copied where there is none.
-#[inline(always)]
-fn keep(kept: &mut Option<AuditLine>, line: Option<AuditLine>)
-    ensures { kept.new ≡ line }
-{
-    match line {
-        Some(line) => *kept = Some(line),
-        None => *kept = None,
     }
 }
 

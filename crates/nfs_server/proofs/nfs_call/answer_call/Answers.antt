@@ -15,9 +15,9 @@ returns-in-Some-Memory-clause-answers c = refused_done _ _ _ _ _ _ (call_of c.ar
     (ap length c.bytes-start.ensures) c.give_up.ensures.bytes c.give_up.ensures.room).bytes) c.of-in-Some-Memory.ensures
 
 pub returns-in-Some-Granted-clause-answers : goal.returns-in-Some-Granted-clause-answers
-returns-in-Some-Granted-clause-answers c = granted_done _ _ _ _ _ _ (call_of c.args.head.now) _ (c.in-Some-Granted.is ∙ ap Some c.in-Some-Granted.field-0-is) c.write_result.ensures.performs
+returns-in-Some-Granted-clause-answers c = granted_done _ _ _ _ _ _ (call_of c.args.head.now) _ _ c.requires.line (c.in-Some-Granted.is ∙ ap Some c.in-Some-Granted.field-0-is) c.write_result.ensures.performs
     (λ text written. reply_text c.args.out.now c.write_accepted.new.out c.write_result.new.out _ text c.write_accepted.ensures written)
 
 pub returns-in-None-clause-answers : goal.returns-in-None-clause-answers
-returns-in-None-clause-answers c = nothing_done _ _ _ _ _ _ (call_of c.args.head.now) _ c.in-None.is c.write_result.ensures.performs
+returns-in-None-clause-answers c = nothing_done _ _ _ _ _ _ (call_of c.args.head.now) _ _ c.requires.line c.in-None.is c.write_result.ensures.performs
     (λ text written. reply_text c.args.out.now c.write_accepted.new.out c.write_result.new.out _ text c.write_accepted.ensures written)

@@ -7,6 +7,7 @@ use Rattle.nfs_server.specs.OneEvent.{AnswersRecord, AnswersCalled}
 use Rattle.nfs_server.specs.Repeats.{key_of}
 use Rattle.nfs_server.specs.ReplyRoom.{behind, reply_at}
 use Rattle.nfs_server.specs.InMemory.{event_of, held, told}
+use Rattle.nfs_server.proofs.Judged.{whatever_line}
 use Rattle.nfs_server.proofs.Performed.{no_choice}
 use Rattle.nfs_server.proofs.Room.{reply_is}
 use Rattle.nfs_server.proofs.server.Server.answer.Goals as goal
@@ -21,14 +22,12 @@ returns-in_default-clause-answers c =
 
 pub returns-clause-answers : goal.returns-clause-answers
 returns-clause-answers c =
-    let inside = c.self-2.inside in let event = event_of c.args.event in let old = c.args.self.now in
-    let answer = told (behind c.begin.new.out c.respond-line.new.out) c.respond-line.result in
-    let new : Held = held inside.kept inside.table inside.tree inside.mounts c.keep.new.kept in
+    let inside = c.self.inside in let event = event_of c.args.event in let new = c.respond.new.self in
+    let old : Held = held inside.kept inside.table inside.tree inside.mounts inside.line in
+    let answer = told (behind c.begin.new.out c.respond.new.out) new.line in
     let shown = reply_at _ c.seal.new.out in
-    let told_is : answer ≡ told shown c.keep.new.kept = ap (λ r. told r c.respond-line.result) (reply_is _ c.begin.new.out c.respond-line.new.out c.begin.ensures.mark ∙ sym c.seal.ensures.same) ∙ ap (told shown) (sym c.keep.ensures) in
-    let called : AnswersCalled (head_at c.args.event.bytes.now) old event answer c.respond-line.new.self =
-    subst (λ head. AnswersCalled head old event answer c.respond-line.new.self) (sym c.in-Ok.ensures.exact) c.respond-line.ensures.judged in (
-      ap (λ (h : Held). h.setup) c.self-2.view_is ∙ c.respond-line.ensures.setup,
-      subst (λ (a : Answer). AnswersCalled (head_at c.args.event.bytes.now) old event a new) told_is
-          (subst (λ (h : Held). AnswersCalled (head_at c.args.event.bytes.now) old event answer h) (sym c.self-2.view_is) called),
-    )
+    let told_is : answer ≡ told shown new.line = ap (λ r. told r new.line) (reply_is _ c.begin.new.out c.respond.new.out c.begin.ensures.mark ∙ sym c.seal.ensures.same) in
+    let called : AnswersCalled (head_at c.args.event.bytes.now) old event answer new =
+    whatever_line (head_at c.args.event.bytes.now) old None event answer new (subst (λ head. AnswersCalled head (record old { line = None }) event answer new) (sym c.in-Ok.ensures.exact) c.respond.ensures.judged) in
+    subst (λ (h : Held). AnswersRecord h event (told shown new.line) new) c.self.view_is
+    (c.respond.ensures.setup, subst (λ (a : Answer). AnswersCalled (head_at c.args.event.bytes.now) old event a new) told_is called)

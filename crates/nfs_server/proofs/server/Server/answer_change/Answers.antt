@@ -17,7 +17,7 @@ pub returns-then-is_err-clause-answers : goal.returns-then-is_err-clause-answers
 returns-then-is_err-clause-answers c =
     let inside = c.self.inside in let event = event_of c.args.event in
     let old : Held = held inside.kept inside.table inside.tree inside.mounts inside.line in
-    let new : Held = held c.take_place.new.self inside.table inside.tree inside.mounts inside.line in
+    let new : Held = held c.take_place.new.self inside.table inside.tree inside.mounts (Some c.of.result) in
     let scene = scene_for old event c.args.cred.now c.args.args.now in
     let answer = told (behind c.args.out.now c.give_up.new.out) (Some c.of.result) in
     let none : kept_reply (c.args.event.addr, c.args.event.bytes.now) old.kept ≡ None = none_found (c.args.event.addr, c.args.event.bytes.now) old.kept (sym c.find.ensures.found ∙ c.if-find.false) in
@@ -29,30 +29,30 @@ pub returns-then-wants_memory-clause-answers : goal.returns-then-wants_memory-cl
 returns-then-wants_memory-clause-answers c =
     let inside = c.self.inside in let event = event_of c.args.event in
     let old : Held = held inside.kept inside.table inside.tree inside.mounts inside.line in
-    let new : Held = held c.give_back.new.self inside.table c.answer_call-line.new.tree inside.mounts inside.line in
+    let new : Held = held c.give_back.new.self inside.table c.answer_call.new.tree inside.mounts c.answer_call.new.line in
     let scene = scene_for old event c.args.cred.now c.args.args.now in
-    let answer = told (behind c.args.out.now c.answer_call-line.new.out) c.answer_call-line.result in
+    let answer = told (behind c.args.out.now c.answer_call.new.out) c.answer_call.new.line in
     let none : kept_reply (c.args.event.addr, c.args.event.bytes.now) old.kept ≡ None = none_found (c.args.event.addr, c.args.event.bytes.now) old.kept (sym c.find.ensures.found ∙ c.if-find.false) in
     let taken : c.take_place.new.self.places ≡ with_first (place_for (c.args.event.addr, c.args.event.bytes.now) []) c.find.new.self = search rules in
     let rest : c.give_back.new.self.places ≡ take (inside.kept.most - 1) inside.kept.places =
     c.give_back.ensures.places ∙ ap (drop 1) taken ∙ ap (λ n. take (n - 1) c.find.new.self.places) c.find.ensures.most ∙ ap (take (inside.kept.most - 1)) (c.find.ensures.none c.if-find.false) in
     subst (λ (h : Held). AnswersChange (scene_for h event c.args.cred.now c.args.args.now) (call_of c.args.head.now) h event answer new) c.self.view_is
-    (given_back scene (call_of c.args.head.now) old event answer new none (c.answer_call-line.ensures.answers, refl) (sym c.wants_memory.ensures ∙ c.if-wants_memory.true) rest)
+    (given_back scene (call_of c.args.head.now) old event answer new none (c.answer_call.ensures.answers, refl) (sym c.wants_memory.ensures ∙ c.if-wants_memory.true) rest)
 
 pub returns-else-wants_memory-clause-answers : goal.returns-else-wants_memory-clause-answers
 returns-else-wants_memory-clause-answers c =
     let inside = c.self.inside in let event = event_of c.args.event in
     let key : Key = (c.args.event.addr, c.args.event.bytes.now) in
     let old : Held = held inside.kept inside.table inside.tree inside.mounts inside.line in
-    let new : Held = held c.keep.new.self inside.table c.answer_call-line.new.tree inside.mounts inside.line in
+    let new : Held = held c.keep.new.self inside.table c.answer_call.new.tree inside.mounts c.answer_call.new.line in
     let scene = scene_for old event c.args.cred.now c.args.args.now in
-    let answer = told (behind c.args.out.now c.answer_call-line.new.out) c.answer_call-line.result in
+    let answer = told (behind c.args.out.now c.answer_call.new.out) c.answer_call.new.line in
     let none : kept_reply key old.kept ≡ None = none_found key old.kept (sym c.find.ensures.found ∙ c.if-find.false) in
     let taken : c.take_place.new.self.places ≡ with_first (place_for (c.args.event.addr, c.args.event.bytes.now) []) c.find.new.self = search rules in
     let others = take (c.find.new.self.most - 1) c.find.new.self.places in
-    let kept : c.keep.new.self.places ≡ place_for key (behind c.args.out.now c.answer_call-line.new.out) ∷ take (inside.kept.most - 1) inside.kept.places =
+    let kept : c.keep.new.self.places ≡ place_for key (behind c.args.out.now c.answer_call.new.out) ∷ take (inside.kept.most - 1) inside.kept.places =
     c.keep.ensures.places ∙ ap (with_first_reply c.written.result.now) taken
-    ∙ ap (λ r. place_for key r ∷ others) (c.written.ensures ∙ ap (λ (b : List ℕ). drop (length b) c.answer_call-line.new.out.bytes) c.bytes-start.ensures)
-    ∙ ap (λ n. place_for key (behind c.args.out.now c.answer_call-line.new.out) ∷ take (n - 1) c.find.new.self.places) c.find.ensures.most ∙ ap (λ (ps : List Place). place_for key (behind c.args.out.now c.answer_call-line.new.out) ∷ take (inside.kept.most - 1) ps) (c.find.ensures.none c.if-find.false) in
+    ∙ ap (λ r. place_for key r ∷ others) (c.written.ensures ∙ ap (λ (b : List ℕ). drop (length b) c.answer_call.new.out.bytes) c.bytes-start.ensures)
+    ∙ ap (λ n. place_for key (behind c.args.out.now c.answer_call.new.out) ∷ take (n - 1) c.find.new.self.places) c.find.ensures.most ∙ ap (λ (ps : List Place). place_for key (behind c.args.out.now c.answer_call.new.out) ∷ take (inside.kept.most - 1) ps) (c.find.ensures.none c.if-find.false) in
     subst (λ (h : Held). AnswersChange (scene_for h event c.args.cred.now c.args.args.now) (call_of c.args.head.now) h event answer new) c.self.view_is
-    (reply_kept scene (call_of c.args.head.now) old event answer new none (c.answer_call-line.ensures.answers, refl) (behind c.args.out.now c.answer_call-line.new.out) (sym c.wants_memory.ensures ∙ c.if-wants_memory.false) refl kept)
+    (reply_kept scene (call_of c.args.head.now) old event answer new none (c.answer_call.ensures.answers, refl) (behind c.args.out.now c.answer_call.new.out) (sym c.wants_memory.ensures ∙ c.if-wants_memory.false) refl kept)
