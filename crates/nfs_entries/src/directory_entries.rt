@@ -1,6 +1,6 @@
 //! The entries of a directory: rows with an index of their names, and places by rising cookie that
 //! lead to them. An entry that goes leaves its place behind, dead; where half of them are, they go.
-ghost use Rattle.std.specs.Prelude.{ℕ, IsTrue, ◌↔◌, ◌≡◌, ◌+◌, ◌<◌, ◌≤◌, ◌++◌, ◌∷◌, [], OnOk, OnErr, IfSome, IfNone, ◌⊎◌, None};
+ghost use Rattle.std.specs.Prelude.{ℕ, IsTrue, ◌↔◌, ◌≡◌, ◌+◌, ◌<◌, ◌≤◌, ◌++◌, ◌∷◌, [], false, OnOk, OnErr, IfSome, IfNone, ◌⊎◌, None};
 ghost use Rattle.std.specs.Prelude.{nat_le, nat_lt, option_map, slice_get, filter, vec_len, vec_capacity, ◌^◌};
 ghost use Rattle.std.specs.Iterator.{YieldsFirstBy, item_count};
 ghost use Rattle.nfs_entries.specs.Listing.{entries_behind, entry_named, number_named, without, listed, led, is_live, settled, IsRowOf, HasNo, Rises};
@@ -229,6 +229,40 @@ fn settle(places: &mut Vec<Place>, rows: &IndexMap<Vec<u8>, Kept>, index: usize)
 
 // The place of a cookie leads to this row.
 fn lead(places: &mut Vec<Place>, cookie: u64, index: usize)
+    requires { (next : ℕ) × Rises 0 places.old.items next }
+    ensures items { places.new.items ≡ led cookie index places.old.items }
+    ensures len { vec_len places.new ≡ vec_len places.old }
+    ensures capacity { vec_capacity places.new ≡ vec_capacity places.old }
+{
+    if !lead_at_once(places, cookie, index) {
+        lead_by_halving(places, cookie, index);
+    }
+}
+
+// The same where the place stands as far behind the first as its cookie is above the first's, as it does
+// up to the first place that went. `false` elsewhere, and then nothing changes.
+#[inline(always)]
+fn lead_at_once(places: &mut Vec<Place>, cookie: u64, index: usize) -> bool
+    requires { (next : ℕ) × Rises 0 places.old.items next }
+    ensures items { IsTrue result → places.new.items ≡ led cookie index places.old.items }
+    ensures same { (result ≡ false) → places.new.items ≡ places.old.items }
+    ensures len { vec_len places.new ≡ vec_len places.old }
+    ensures capacity { vec_capacity places.new ≡ vec_capacity places.old }
+{
+    let first = match places.first() {
+        Some(place) => place.cookie,
+        None => return false,
+    };
+    let at = cookie.saturating_sub(first) as usize;
+    if at < places.len() && places[at].cookie == cookie {
+        places[at] = Place { cookie, index };
+        true
+    } else {
+        false
+    }
+}
+
+fn lead_by_halving(places: &mut Vec<Place>, cookie: u64, index: usize)
     requires { (next : ℕ) × Rises 0 places.old.items next }
     ensures items { places.new.items ≡ led cookie index places.old.items }
     ensures len { vec_len places.new ≡ vec_len places.old }

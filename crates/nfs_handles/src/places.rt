@@ -1,6 +1,6 @@
 //! The slots that numbers lead to, by rising number. A number that is taken away leaves its place
 //! behind, dead; where more than half of the places are, they go.
-ghost use Rattle.std.specs.Prelude.{◌≡◌, ◌+◌, ◌<◌, ◌^◌, ◌++◌, ◌∷◌, [], ℕ, IfSome, IfNone, OnErr, OnOk, IfOk, OnSome};
+ghost use Rattle.std.specs.Prelude.{◌≡◌, ◌+◌, ◌<◌, ◌^◌, ◌++◌, ◌∷◌, [], ℕ, IsTrue, IfSome, IfNone, OnErr, OnOk, IfOk, OnSome};
 ghost use Rattle.std.specs.Prelude.{nat_eq, nat_lt};
 ghost use Rattle.std.specs.Map.{lookup, remove_entry};
 ghost use Rattle.nfs_handles.specs.Placed.{Rises, IsPlaceOf, HasNo, is_live, led};
@@ -98,7 +98,8 @@ impl Places {
 }
 
 // Where the place of a number stands. Up to the first place that went, it stands as far behind the first
-// as its number is above the first's; else it is found by halving.
+// as its number is above the first's, and behind the last that went as far before the last as its
+// number is below the last's; else it is found by halving.
 #[inline(always)]
 fn find(places: &[Place], number: u64) -> Option<usize>
     requires { (next : ℕ) × Rises 0 places.now next }
@@ -111,18 +112,29 @@ fn find(places: &[Place], number: u64) -> Option<usize>
     }
 }
 
-// Where the place of a number stands, if no place before it went.
+// Where the place of a number stands, if no place before it went, or none behind it.
 #[inline(always)]
 fn find_at_once(places: &[Place], number: u64) -> Option<usize>
     ensures { IfSome result (λ at. IsPlaceOf places.now number at) }
 {
-    let first = places.first()?.number;
-    let at = number.checked_sub(first)? as usize;
-    if at < places.len() && places[at].number == number {
+    let above = number.checked_sub(places.first()?.number)? as usize;
+    if stands_at(places, number, above) {
+        return Some(above);
+    }
+    let below = places.last()?.number.checked_sub(number)? as usize;
+    let at = places.len().checked_sub(below)?.checked_sub(1)?;
+    if stands_at(places, number, at) {
         Some(at)
     } else {
         None
     }
+}
+
+#[inline(always)]
+fn stands_at(places: &[Place], number: u64, at: usize) -> bool
+    ensures { IsTrue result → IsPlaceOf places.now number at }
+{
+    at < places.len() && places[at].number == number
 }
 
 fn find_by_halving(places: &[Place], number: u64) -> Option<usize>

@@ -4,8 +4,8 @@ use Rattle.std.proofs.lemmas.List.Sorted.{IsPartitionPoint-from_clause}
 use Rattle.nfs_entries.specs.declared.kept.Place.{Place}
 use Rattle.nfs_entries.proofs.Places.{below_first, led_point, led_other, same_read}
 use Rattle.std.specs.List.Sorted.{IsPartitionedBy, IsPartitionPoint}
-use Rattle.nfs_entries.proofs.directory_entries.lead.Goals.{else-at-len-via-then-at-len+else-index-cookie, else-at-len-via-else-at-len}
-use Rattle.nfs_entries.proofs.directory_entries.lead.Goals as goal
+use Rattle.nfs_entries.proofs.directory_entries.lead_by_halving.Goals.{else-at-len-via-then-at-len+else-index-cookie, else-at-len-via-else-at-len}
+use Rattle.nfs_entries.proofs.directory_entries.lead_by_halving.Goals as goal
 
 pub returns-then-index-cookie-clause-items : goal.returns-then-index-cookie-clause-items
 returns-then-index-cookie-clause-items c =
