@@ -84,6 +84,12 @@ mount_lacks call bytes mount = ap (λ b. cond b (is_none (args_in call.proc byte
 by_arguments : (call : Call) (bytes : List ℕ) (b : Bool) → is_null call ≡ false → lacks_args call bytes ≡ b → find (fails_rpc call bytes) (Arguments ∷ []) ≡ cond b (Some Arguments) None
 by_arguments call bytes b other lacks = ap (λ n. cond (not n && lacks_args call bytes) (Some Arguments) None) other ∙ ap (λ l. cond l (Some Arguments) None) lacks
 
+-- the same call, read once more
+pub of_copy : (rules : List RpcRule) (old : Held) (event : Event) (copy call : Call) (again bytes : List ℕ) (answer : Answer) (new : Held) → copy ≡ call → again ≡ bytes
+    → AnswersBy rules old event copy again answer new → AnswersBy rules old event call bytes answer new
+of_copy rules old event copy call again bytes answer new same_call same_bytes answers =
+    subst (λ k. AnswersBy rules old event k bytes answer new) same_call (subst (λ b. AnswersBy rules old event copy b answer new) same_bytes answers)
+
 -- ---- the rules, one part after another
 
 module _ (old : Held) (event : Event) (call : Call) (bytes : List ℕ) where
@@ -95,20 +101,22 @@ module _ (old : Held) (event : Event) (call : Call) (bytes : List ℕ) where
   is_kept = is_some (kept_reply (key_of event) old.kept)
 
   -- a rule fails
-  pub denied_by : (rules later : List RpcRule) (rule : RpcRule) (reply : List ℕ) (line : AuditLine) (new : Held) → new.state ≡ old.state → new.kept ≡ old.kept
-      → find (fails_rpc call bytes) rules ≡ Some rule → reply ≡ rpc_reply rule call.xid → line ≡ line_of event.addr call (reason.Rpc rule)
-      → Answered (rules ++ later) (told reply (Some line)) new
-  denied_by rules later rule reply line new state kept found reply_is line_is =
-      subst (λ v. AnswersJudged v (request_of event.addr call bytes) old event call (told reply (Some line)) new) (sym (find_before (fails_rpc call bytes) rule rules later found))
-      (no_choice is_kept, refl, ((ap (λ r. denied r line) reply_is ∙ ap (denied (rpc_reply rule call.xid)) line_is, state), kept))
+  pub denied_by : (rules later : List RpcRule) (rule : RpcRule) (reply : List ℕ) (new : Held) → find (fails_rpc call bytes) rules ≡ Some rule
+      → reply ≡ rpc_reply rule call.xid → new ≡ record old { line = Some (line_of event.addr call (reason.Rpc rule)) }
+      → Answered (rules ++ later) (told reply new.line) new
+  denied_by rules later rule reply new found reply_is new_is =
+      let line = line_of event.addr call (reason.Rpc rule) in
+      subst (λ n. Answered (rules ++ later) (told reply n.line) n) (sym new_is)
+      (subst (λ v. AnswersJudged v (request_of event.addr call bytes) old event call (told reply (Some line)) (record old { line = Some line })) (sym (find_before (fails_rpc call bytes) rule rules later found))
+      (no_choice is_kept, refl, ((ap (λ r. denied r line) reply_is, refl), refl)))
 
   -- the arguments can't be read
-  pub denied_unread : (reply : List ℕ) (line : AuditLine) (new : Held) → new.state ≡ old.state → new.kept ≡ old.kept
-      → is_null call ≡ false → find (fails_rpc call bytes) caller_rules ≡ None → lacks_args call bytes ≡ true → reply ≡ rpc_reply Arguments call.xid → line ≡ line_of event.addr call (reason.Rpc Arguments)
-      → Answered call_rules (told reply (Some line)) new
-  denied_unread reply line new state kept other known lacks reply_is line_is =
-      subst (λ v. AnswersJudged v (request_of event.addr call bytes) old event call (told reply (Some line)) new) (sym (find_behind (fails_rpc call bytes) caller_rules (Arguments ∷ []) known))
-      (denied_by (Arguments ∷ []) [] Arguments reply line new state kept (by_arguments call bytes true other lacks) reply_is line_is)
+  pub denied_unread : (reply : List ℕ) (new : Held) → is_null call ≡ false → find (fails_rpc call bytes) caller_rules ≡ None → lacks_args call bytes ≡ true
+      → reply ≡ rpc_reply Arguments call.xid → new ≡ record old { line = Some (line_of event.addr call (reason.Rpc Arguments)) }
+      → Answered call_rules (told reply new.line) new
+  denied_unread reply new other known lacks reply_is new_is =
+      subst (λ v. AnswersJudged v (request_of event.addr call bytes) old event call (told reply new.line) new) (sym (find_behind (fails_rpc call bytes) caller_rules (Arguments ∷ []) known))
+      (denied_by (Arguments ∷ []) [] Arguments reply new (by_arguments call bytes true other lacks) reply_is new_is)
 
   -- no rule fails, and this is asked for
   asked_so : (request : Request) (answer : Answer) (new : Held) → is_null call ≡ false → find (fails_rpc call bytes) caller_rules ≡ None → lacks_args call bytes ≡ false → request_of event.addr call bytes ≡ Some request

@@ -136,7 +136,7 @@ impl Server {
             return Handled::NoReply;
         };
         begin(&mut reply.out, reply.start);
-        self.line = None;
+        forget(&mut self.line);
         self.respond(&head, event, &mut reply.out);
         seal(&mut reply.out, reply.start);
         Handled::Answered
@@ -154,10 +154,10 @@ impl Server {
             (told (behind out.old out.new) self.new.line) self.new }
     {
         match admit(head) {
-            Err(rule) => self.line = Some(deny(out, head, event, rule)),
+            Err(rule) => self.deny(&copied(head), event, rule, out),
             Ok(Admitted::Null) => succeed(out, head.xid),
-            Ok(Admitted::Nfs) => self.answer_nfs(head, event, out),
-            Ok(Admitted::Mount) => self.answer_mount(head, event, out),
+            Ok(Admitted::Nfs) => self.answer_nfs(&copied(head), event, out),
+            Ok(Admitted::Mount) => self.answer_mount(&copied(head), event, out),
         }
     }
 
@@ -175,7 +175,7 @@ impl Server {
     {
         let mut cred = Cred::nobody();
         match identify(head, &mut cred) {
-            Err(rule) => self.line = Some(deny(out, head, event, rule)),
+            Err(rule) => self.deny(head, event, rule, out),
             Ok(()) => self.answer_caller(head, event, &cred, out),
         }
     }
@@ -202,7 +202,7 @@ impl Server {
     {
         let mut args = NfsArgs::Null;
         match read_args(head.proc, Input::new(head.args.rest()), &mut args) {
-            Err(_) => self.line = Some(deny(out, head, event, RpcRule::Arguments)),
+            Err(_) => self.deny(head, event, RpcRule::Arguments, out),
             Ok(()) if may_change(&args) => self.answer_change(head, event, cred, &args, out),
             Ok(()) => self.answer_anew(head, event, cred, &args, out),
         }
@@ -296,15 +296,26 @@ impl Server {
             (told (behind out.old out.new) self.new.line) self.new }
     {
         if let Some(rule) = caller_failure(head) {
-            self.line = Some(deny(out, head, event, rule));
-            return;
+            return self.deny(head, event, rule, out);
         }
         let Ok(args) = read_mount_args(head.proc, Input::new(head.args.rest())) else {
-            self.line = Some(deny(out, head, event, RpcRule::Arguments));
-            return;
+            return self.deny(head, event, RpcRule::Arguments, out);
         };
         let (tree, table, mounts) = (&self.tree, &self.table, &mut self.mounts);
         self.line = answer_mount(out, head, tree, table, mounts, event.addr, &args);
+    }
+
+    // The reply to a call that fails a rule of RPC, and its line. Out of line, so that other calls pay
+    // nothing for it.
+    #[inline(never)]
+    fn deny(&mut self, head: &CallHead<'_>, event: Event<'_>, rule: RpcRule, out: &mut Output)
+        requires { HasReplyRoom out.old }
+        ensures adds { Adds out.old out.new }
+        ensures reply { behind out.old out.new ≡ rpc_reply rule head.now.xid }
+        ensures line { self.new ≡ record self.old { line = Some (line_of event.entry.addr (call_of head.now) (Rpc rule)) } }
+    {
+        refuse(out, rule, head.xid);
+        self.line = Some(AuditLine::of(event.addr, head, Reason::Rpc(rule)));
     }
 
     /// Takes events one after another, and hands each outcome to the sink, until a take answers
@@ -332,15 +343,32 @@ impl Server {
     }
 }
 
-// The reply to a call that fails a rule of RPC, and its line.
-fn deny(out: &mut Output, head: &CallHead<'_>, event: Event<'_>, rule: RpcRule) -> AuditLine
-    requires { HasReplyRoom out.old }
-    ensures adds { Adds out.old out.new }
-    ensures reply { behind out.old out.new ≡ rpc_reply rule head.now.xid }
-    ensures line { result ≡ line_of event.entry.addr (call_of head.now) (Rpc rule) }
+// The same head, lent once more: to what stands out of line, so that a call of NULL lays none down.
+#[inline(always)]
+fn copied<'a>(head: &CallHead<'a>) -> CallHead<'a>
+    ensures call { call_of result ≡ call_of head.now }
+    ensures args { result.args ≡ head.now.args }
 {
-    refuse(out, rule, head.xid);
-    AuditLine::of(event.addr, head, Reason::Rpc(rule))
+    CallHead {
+        xid: head.xid,
+        rpcvers: head.rpcvers,
+        prog: head.prog,
+        vers: head.vers,
+        proc: head.proc,
+        flavor: head.flavor,
+        body: head.body,
+        args: Input::new(head.args.rest()),
+    }
+}
+
+// Forgets the line of the call before, which mostly has none: then nothing is written.
+#[inline(always)]
+fn forget(line: &mut Option<AuditLine>)
+    ensures { line.new ≡ None }
+{
+    if line.is_some() {
+        *line = None;
+    }
 }
 
 // The kept reply at the front once more.

@@ -28,6 +28,6 @@ returns-clause-answers c =
     let shown = reply_at _ c.seal.new.out in
     let told_is : answer ≡ told shown new.line = ap (λ r. told r new.line) (reply_is _ c.begin.new.out c.respond.new.out c.begin.ensures.mark ∙ sym c.seal.ensures.same) in
     let called : AnswersCalled (head_at c.args.event.bytes.now) old event answer new =
-    whatever_line (head_at c.args.event.bytes.now) old None event answer new (subst (λ head. AnswersCalled head (record old { line = None }) event answer new) (sym c.in-Ok.ensures.exact) c.respond.ensures.judged) in
+    whatever_line (head_at c.args.event.bytes.now) old c.forget.new.line event answer new (subst (λ head. AnswersCalled head (record old { line = c.forget.new.line }) event answer new) (sym c.in-Ok.ensures.exact) c.respond.ensures.judged) in
     subst (λ (h : Held). AnswersRecord h event (told shown new.line) new) c.self.view_is
     (c.respond.ensures.setup, subst (λ (a : Answer). AnswersCalled (head_at c.args.event.bytes.now) old event a new) told_is called)

@@ -1,14 +1,12 @@
-use Rattle.std.proofs.Common.{Some, is_none, ap, sym, ◌∙◌}
+use Rattle.std.proofs.Common.{is_none, ap, sym, ◌∙◌}
 use Rattle.nfs_rpc.specs.Calls.{call_of}
 use Rattle.nfs_server.specs.Requests.{args_in, args_read}
-use Rattle.nfs_server.specs.InMemory.{event_of, held}
+use Rattle.nfs_server.specs.InMemory.{event_of}
 use Rattle.nfs_server.proofs.Judged.{anew_requested, change_requested, denied_unread, nfs_lacks}
 use Rattle.nfs_server.proofs.server.Server.answer_caller.Goals as goal
 
 pub returns-in-Err-clause-judged : goal.returns-in-Err-clause-judged
-returns-in-Err-clause-judged c =
-    let inside = c.self.inside in
-    denied_unread c.args.self.now (event_of c.args.event) (call_of c.args.head.now) c.args.head.now.args _ _ (held inside.kept inside.table inside.tree inside.mounts (Some c.deny.result)) (ap (λ h. h.state) c.self.view_is) (ap (λ h. h.kept) c.self.view_is) c.requires.null c.requires.known
+returns-in-Err-clause-judged c = denied_unread c.args.self.now (event_of c.args.event) (call_of c.args.head.now) c.args.head.now.args _ _ c.requires.null c.requires.known
     (nfs_lacks (call_of c.args.head.now) c.args.head.now.args c.requires.nfs ∙ ap is_none (sym (c.read_args.ensures ∙ ap (args_in c.args.head.now.proc) (c.new.ensures ∙ c.rest.ensures.all)) ∙ ap (λ r. args_read r c.read_args.new.args) c.in-Err.is)) c.deny.ensures.reply c.deny.ensures.line
 
 pub returns-in-Ok-clause-judged : goal.returns-in-Ok-clause-judged

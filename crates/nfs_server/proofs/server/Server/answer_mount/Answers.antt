@@ -1,4 +1,4 @@
-use Rattle.std.proofs.Common.{◌++◌, Some, is_none, refl, ap, sym, subst, ◌∙◌}
+use Rattle.std.proofs.Common.{◌++◌, is_none, refl, ap, sym, subst, ◌∙◌}
 use Rattle.std.specs.Result.{result_ok}
 use Rattle.nfs_rpc.specs.Calls.{call_of}
 use Rattle.nfs_server.specs.Requests.{mount_args_in}
@@ -13,15 +13,11 @@ use Rattle.nfs_server.proofs.Judged.{denied_by, denied_unread, mount_lacks, moun
 use Rattle.nfs_server.proofs.server.Server.answer_mount.Goals as goal
 
 pub returns-in-Some-clause-judged : goal.returns-in-Some-clause-judged
-returns-in-Some-clause-judged c =
-    let inside = c.self.inside in
-    denied_by c.args.self.now (event_of c.args.event) (call_of c.args.head.now) c.args.head.now.args caller_rules (Arguments ∷ []) c.in-Some.rule _ _ (held inside.kept inside.table inside.tree inside.mounts (Some c.deny.result)) (ap (λ h. h.state) c.self.view_is) (ap (λ h. h.kept) c.self.view_is)
+returns-in-Some-clause-judged c = denied_by c.args.self.now (event_of c.args.event) (call_of c.args.head.now) c.args.head.now.args caller_rules (Arguments ∷ []) c.in-Some.rule _ _
     (sym c.caller_failure.ensures ∙ c.in-Some.is) c.deny.ensures.reply c.deny.ensures.line
 
 pub returns-in_default-read_mount_args-clause-judged : goal.returns-in_default-read_mount_args-clause-judged
-returns-in_default-read_mount_args-clause-judged c =
-    let inside = c.self.inside in
-    denied_unread c.args.self.now (event_of c.args.event) (call_of c.args.head.now) c.args.head.now.args _ _ (held inside.kept inside.table inside.tree inside.mounts (Some c.deny-in_default-read_mount_args.result)) (ap (λ h. h.state) c.self.view_is) (ap (λ h. h.kept) c.self.view_is) c.requires.null (sym c.caller_failure.ensures ∙ c.in_default.is)
+returns-in_default-read_mount_args-clause-judged c = denied_unread c.args.self.now (event_of c.args.event) (call_of c.args.head.now) c.args.head.now.args _ _ c.requires.null (sym c.caller_failure.ensures ∙ c.in_default.is)
     (mount_lacks (call_of c.args.head.now) c.args.head.now.args c.requires.mount ∙ ap is_none (sym (c.read_mount_args.ensures ∙ ap (mount_args_in c.args.head.now.proc) (c.new.ensures ∙ c.rest.ensures.all)) ∙ ap result_ok c.in_default-read_mount_args.is))
     c.deny-in_default-read_mount_args.ensures.reply c.deny-in_default-read_mount_args.ensures.line
 
