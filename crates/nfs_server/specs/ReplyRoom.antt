@@ -1,5 +1,5 @@
 -- The room in which a reply is written, behind its mark, and replies that gather in front of it.
-use Rattle.std.specs.Prelude.{◌≡◌, ℕ, ◌+◌, ◌≤◌, List, ◌++◌, Bool, true, nat_lt, length, drop}
+use Rattle.std.specs.Prelude.{◌≡◌, ℕ, ◌+◌, ◌*◌, ◌≤◌, List, ◌++◌, Bool, true, nat_lt, length, drop}
 use Rattle.nfs_rpc.specs.Records.{fragment, header}
 use Rattle.nfs_server.specs.declared.reply_buf.ReplyBuf.TheInside.{Inside}
 use Rattle.nfs_xdr.specs.Written.{Written, Appends}
@@ -13,7 +13,7 @@ room_bytes = 294912
 
 -- the most bytes of replies that gather
 abbrev pub most_gathered : ℕ
-most_gathered = 557056
+most_gathered = 2 * room_bytes
 
 -- what a buffer holds: the sealed replies that have gathered, and the reply; and how many bytes may gather
 pub record Buffered : Type 0 where

@@ -22,8 +22,8 @@ pub struct ReplyBuf {
 /// How many bytes of room there are, for the mark and the reply.
 pub const ROOM: usize = 294_912;
 
-/// The most bytes of replies that gather: 256 KiB, and one reply more.
-pub const MOST_GATHERED: usize = 262_144 + ROOM;
+/// The most bytes of replies that gather: as many as one may have room for, and one reply more.
+pub const MOST_GATHERED: usize = 2 * ROOM;
 
 impl Model for ReplyBuf {
     ghost use Rattle.std.specs.Prelude.{◌+◌, ◌-◌, length, take};

@@ -9,7 +9,7 @@ use std::marker::Model;
 use std::mem;
 
 /// The most bytes that are received at once.
-pub const MOST_RECEIVED: usize = 196_608;
+pub const MOST_RECEIVED: usize = 262_144;
 
 /// Some of a list's bytes: those that have come on a link and are not taken yet, or those that are
 /// owed on it.
