@@ -3,7 +3,6 @@ use Rattle.std.specs.Prelude.{◌≡◌, ℕ, Bool, true, false, List, Option, N
 use Rattle.std.specs.List.{filter_map}
 use Rattle.std.specs.Prelude.{Vec, suc, [], ◌∷◌, ◌≤◌}
 use Rattle.std.specs.Global.{Global}
-use Rattle.nfs_entries.specs.declared.kept.Kept.{Kept}
 use Rattle.nfs_entries.specs.declared.kept.Place.{Place}
 
 -- an entry as callers see it
@@ -38,12 +37,17 @@ entries_behind cookie es = filter (λ e. nat_lt cookie e.cookie) es
 abbrev pub without : List ℕ → List Entry → List Entry
 without name es = filter (λ e. not (has_name name e)) es
 
+-- what is kept beside a name
+pub record Beside : Type 0 where
+  pub cookie : ℕ
+  pub number : ℕ
+
 -- a name as it is kept, with what is kept beside it
 abbrev pub Row : Type 0
-Row = Vec ℕ Global × Kept
+Row = Vec ℕ Global × Beside
 
 abbrev pub entry_of : Row → Entry
-entry_of r = record { cookie = r.1.cookie; name = r.0.items; number = r.1.number.0 }
+entry_of r = record { cookie = r.1.cookie; name = r.0.items; number = r.1.number }
 
 -- a row, if it has this cookie
 abbrev pub of_cookie : ℕ → Option Row → Option Entry
@@ -78,7 +82,7 @@ pub record IsRowOf (rows : List Row) (name : List ℕ) (index number : ℕ) : Ty
   pub row : Row
   pub at_row : slice_get rows index ≡ Some row
   pub named : bytes_eq row.0.items name ≡ true
-  pub number_is : number ≡ row.1.number.0
+  pub number_is : number ≡ row.1.number
 
 -- no row has this name
 abbrev pub HasNo : List Row → List ℕ → Type 0

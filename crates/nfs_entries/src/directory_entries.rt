@@ -132,7 +132,7 @@ impl DirectoryEntries {
         let cookie = self.next;
         self.next += 1;
         let index = self.rows.len();
-        self.rows.insert(name, Kept { cookie, number }).unwrap();
+        self.rows.insert(name, Kept::new(cookie, number)).unwrap();
         self.places.push(Place { cookie, index }).unwrap();
     }
 
@@ -210,7 +210,7 @@ fn row_named(rows: &IndexMap<Vec<u8>, Kept>, name: &[u8]) -> Option<(usize, Numb
     ensures none { IfNone result (HasNo rows.now.entries name.now) }
 {
     match rows.get_full(name) {
-        Some((index, _, kept)) => Some((index, kept.number)),
+        Some((index, _, kept)) => Some((index, kept.number())),
         None => None,
     }
 }
@@ -223,7 +223,7 @@ fn settle(places: &mut Vec<Place>, rows: &IndexMap<Vec<u8>, Kept>, index: usize)
     ensures capacity { vec_capacity places.new ≡ vec_capacity places.old }
 {
     if let Some((_, kept)) = rows.get_index(index) {
-        lead(places, kept.cookie, index);
+        lead(places, kept.cookie(), index);
     }
 }
 
@@ -308,10 +308,10 @@ fn standing<'a>(rows: &'a IndexMap<Vec<u8>, Kept>, place: &Place) -> Option<Entr
     ensures { option_map entry_seen result ≡ spec.standing rows.now.entries place.now }
 {
     match rows.get_index(place.index) {
-        Some((name, kept)) if kept.cookie == place.cookie => Some(EntryView {
-            cookie: kept.cookie,
+        Some((name, kept)) if kept.cookie() == place.cookie => Some(EntryView {
+            cookie: place.cookie,
             name: name.as_slice(),
-            number: kept.number,
+            number: kept.number(),
         }),
         _ => None,
     }

@@ -1,6 +1,6 @@
 //! The slots that numbers lead to, by rising number. A number that is taken away leaves its place
 //! behind, dead; where more than half of the places are, they go.
-ghost use Rattle.std.specs.Prelude.{◌≡◌, ◌+◌, ◌<◌, ◌^◌, ◌++◌, ◌∷◌, ◌↔◌, [], ℕ, IsTrue, IfSome, IfNone, OnErr, OnOk, IfOk, OnSome};
+ghost use Rattle.std.specs.Prelude.{◌≡◌, ◌+◌, ◌<◌, ◌^◌, ◌++◌, ◌∷◌, ◌↔◌, [], ℕ, IsTrue, IfSome, IfNone, OnErr, OnOk, OnSome};
 ghost use Rattle.std.specs.Prelude.{nat_eq, nat_lt};
 ghost use Rattle.std.specs.Map.{lookup, remove_entry};
 ghost use Rattle.nfs_handles.specs.Placed.{Rises, IsPlaceOf, HasNo, is_live, led};

@@ -1,5 +1,5 @@
 //! A server, which takes one whole record at a time.
-ghost use Rattle.std.specs.Prelude.{◌≡◌, ℕ, ◌≤◌, List, [], ◌∷◌, ◌++◌, true, false, length, IfOk, Bool, None, Some};
+ghost use Rattle.std.specs.Prelude.{◌≡◌, ℕ, ◌≤◌, List, [], ◌∷◌, ◌++◌, true, false, length, IfOk, None, Some};
 ghost use Rattle.std.specs.List.{find};
 ghost use Rattle.nfs_rpc.specs.AuthSys.{caller, credential_of};
 ghost use Rattle.nfs_rpc.specs.Calls.{call_of};
