@@ -14,10 +14,18 @@ mod records;
 mod sizes;
 mod tree;
 
-use crate::sizes::{OF_FILES, OF_NAMES, Size};
+use crate::sizes::{EACH, OF_FILES, OF_NAMES, OF_ONE_NAME, ONE, Size};
 use std::process::ExitCode;
 use std::rt::{Clock, Env};
 use std::{env, io};
+
+// Directories of names.
+const FEW_NAMES: Size = Size { dirs: 1, files: 10 };
+
+const MANY_NAMES: Size = Size {
+    dirs: 1,
+    files: 100_000,
+};
 
 fn main(rt: HostRuntime) -> ExitCode {
     match run(&rt) {
@@ -81,6 +89,7 @@ fn measure<R: Clock + Print + AllocGlobal>(rt: &R, name: &str) -> io::Result<()>
                 files: 1_000,
             },
             &OF_FILES,
+            EACH,
         ),
         // A volume has at most 1,000,000 files, its root and its directories among them.
         "files-1000000" => sizes::measure(
@@ -90,16 +99,12 @@ fn measure<R: Clock + Print + AllocGlobal>(rt: &R, name: &str) -> io::Result<()>
                 files: 1_000,
             },
             &OF_FILES,
+            EACH,
         ),
-        "names-10" => sizes::measure(rt, Size { dirs: 1, files: 10 }, &OF_NAMES),
-        "names-100000" => sizes::measure(
-            rt,
-            Size {
-                dirs: 1,
-                files: 100_000,
-            },
-            &OF_NAMES,
-        ),
+        "names-10" => sizes::measure(rt, FEW_NAMES, &OF_NAMES, EACH),
+        "names-100000" => sizes::measure(rt, MANY_NAMES, &OF_NAMES, EACH),
+        "name-10" => sizes::measure(rt, FEW_NAMES, &OF_ONE_NAME, ONE),
+        "name-100000" => sizes::measure(rt, MANY_NAMES, &OF_ONE_NAME, ONE),
         call if calls::MEASURES.contains(&call) => calls::measure(rt, call),
         _ => println!(rt; "no such measure"),
     }

@@ -15,6 +15,15 @@ pub(crate) const OF_FILES: [&str; 5] = ["getattr", "lookup-x", "read-4096", "acc
 /// The measures of a directory of many names.
 pub(crate) const OF_NAMES: [&str; 4] = ["lookup-x", "create-remove", "remove-create", "rename"];
 
+/// The measures of one name of a directory.
+pub(crate) const OF_ONE_NAME: [&str; 3] = ["lookup-x", "remove-create", "rename"];
+
+/// Each file or name of a tree in turn.
+pub(crate) const EACH: usize = usize::MAX;
+
+/// The same one again and again.
+pub(crate) const ONE: usize = 1;
+
 // The first directory, its first file, and the file's name.
 const FIRST: Target = Target {
     dir: 2,
@@ -78,15 +87,17 @@ fn few<R: Print + AllocGlobal>(rt: &R, size: Size, names: &[&str]) -> io::Result
 }
 
 /// Prints the nanoseconds of each round of calls in a tree of a size, in tenths, the least of five
-/// runs.
+/// runs over so many of its files or names.
 pub(crate) fn measure<R: Clock + Print + AllocGlobal>(
     rt: &R,
     size: Size,
     names: &[&str],
+    most: usize,
 ) -> io::Result<()> {
     let mut asked = Asked::new(rt.alloc(), served_many(rt.alloc(), size.dirs, size.files)?)?;
     for name in names {
-        let places = set(rt.alloc(), &mut asked, size, name)?;
+        let mut places = set(rt.alloc(), &mut asked, size, name)?;
+        places.truncate(most);
         let least = least(rt, &mut asked, spots_of(name), places.as_slice())?;
         println!(rt; "{name} {}.{}", least / 10, least % 10)?;
     }
