@@ -1,5 +1,5 @@
 //! A reply that is kept.
-ghost use Rattle.std.specs.Prelude.{◌≡◌, ◌≤◌, [], true, length, IfOk, OnOk, OnErr};
+ghost use Rattle.std.specs.Prelude.{◌≡◌, ◌+◌, ◌≤◌, [], ◌++◌, true, length, vec_len, vec_capacity, IfOk, OnOk, OnErr};
 ghost use Rattle.nfs_kept.specs.Places.{place_for, same};
 ghost use Rattle.nfs_kept.specs.Shown.{IsBucketed, bucket_of, key_of, place_of};
 
@@ -12,6 +12,10 @@ pub const MAX_KEPT_BYTES: usize = 512;
 
 // The room of a record's list at the least: most calls fit, so that their lists go from one to the next.
 const LEAST_ROOM: usize = 256;
+
+// So many bytes of a record are copied at once. The C library copies more than 8 KiB by one instruction
+// of the processor, which takes half as long again where the two places aren't aligned alike.
+const COPIED: usize = 4096;
 
 /// A reply, with the record that it answered, where that came from, and its bucket.
 #[derive(Drop)]
@@ -37,7 +41,7 @@ impl Kept {
         ensures bucketed { IfOk result IsBucketed }
     {
         let mut record = Vec::with_capacity(alloc, bytes.len().max(LEAST_ROOM))?;
-        record.extend_from_slice(bytes)?;
+        put(&mut record, bytes);
         Ok(Kept {
             addr,
             bucket,
@@ -74,7 +78,7 @@ impl Kept {
         self.addr = addr;
         self.bucket = bucket;
         self.record.clear();
-        self.record.extend_from_slice(bytes).unwrap();
+        put(&mut self.record, bytes);
         self.reply.clear();
         Ok(())
     }
@@ -89,6 +93,21 @@ impl Kept {
         self.reply.clear();
         self.reply.try_extend_from_slice(reply).unwrap();
     }
+}
+
+// Puts a record's bytes behind those of a list that has room for them.
+#[inline(always)]
+fn put(list: &mut Vec<u8>, bytes: &[u8])
+    requires { vec_len list.old + length bytes.now ≤ vec_capacity list.old }
+    ensures { list.new.items ≡ list.old.items ++ bytes.now }
+{
+    let mut left = bytes;
+    while left.len() > COPIED {
+        let (piece, rest) = left.split_at(COPIED);
+        list.extend_from_slice(piece).unwrap();
+        left = rest;
+    }
+    list.extend_from_slice(left).unwrap();
 }
 
 // Whether a list with so much room is taken for so many bytes: where they fit, and take half of it, or
