@@ -14,7 +14,7 @@ use Rattle.nfs_server.specs.declared.session_fault.SessionFault.TheVariants.{Con
 use Rattle.nfs_server.specs.declared.taking.Origin.{Origin}
 use Rattle.nfs_server.specs.declared.taking.Taken.{Taken}
 use Rattle.nfs_serving.specs.Outgoing.{Outgoing, Passes, with_owed}
-use Rattle.nfs_serving.specs.Turns.{Standing, Gathers, StandsBy, Rests, Takes, Turns, origin_of, written}
+use Rattle.nfs_serving.specs.Turns.{Standing, Gathers, StandsBy, Rests, Takes, Turns, calls_behind, origin_of, written}
 use Rattle.nfs_xdr.specs.Known.{Grows, Shrinks}
 use Rattle.nfs_xdr.proofs.Knowing.{Grows-then}
 
@@ -122,34 +122,38 @@ module _ {L : Type 0} (outgoing incoming : L → Option (List ℕ)) where
     comes = shrinks_none (incoming c.outlet.link);
     piece_is = sym (append-nil c.piece);
     connection_stays = refl;
+    calls_stay = refl;
     passes = passes_none (outgoing c.outlet.link) c.outlet.owed;
   }
 
   -- some bytes came
-  pub rests_came : (old new : Standing L) → old.piece ≡ [] → Shrinks (incoming old.outlet.link) new.piece (incoming new.outlet.link) → outgoing new.outlet.link ≡ outgoing old.outlet.link → new.outlet.owed ≡ old.outlet.owed → new.connection ≡ old.connection → Rests outgoing incoming new.piece old new
-  rests_came old new none comes out owed same = record {
+  pub rests_came : (old new : Standing L) → old.piece ≡ [] → Shrinks (incoming old.outlet.link) new.piece (incoming new.outlet.link) → outgoing new.outlet.link ≡ outgoing old.outlet.link → new.outlet.owed ≡ old.outlet.owed → new.connection ≡ old.connection → new.calls ≡ old.calls → Rests outgoing incoming new.piece old new
+  rests_came old new none comes out owed same calls = record {
     comes = comes;
     piece_is = ap (λ t. t ++ new.piece) (sym none);
     connection_stays = same;
+    calls_stay = calls;
     passes = subst (λ o. Passes (outgoing old.outlet.link) old.outlet.owed o new.outlet.owed) (sym out) (subst (λ l. Passes (outgoing old.outlet.link) old.outlet.owed (outgoing old.outlet.link) l) (sym owed) (passes_none (outgoing old.outlet.link) old.outlet.owed));
   }
 
   -- nothing came, and what was owed was passed on, or the link is broken
-  pub rests_by : {X F : Type 0} (r : Result X F) (old new : Standing L) → new.piece ≡ old.piece → new.connection ≡ old.connection → incoming new.outlet.link ≡ incoming old.outlet.link
+  pub rests_by : {X F : Type 0} (r : Result X F) (old new : Standing L) → new.piece ≡ old.piece → new.connection ≡ old.connection → new.calls ≡ old.calls → incoming new.outlet.link ≡ incoming old.outlet.link
       → OnOk r (Passes (outgoing old.outlet.link) old.outlet.owed (outgoing new.outlet.link) new.outlet.owed)
       → OnErr r (outgoing new.outlet.link ≡ outgoing old.outlet.link)
       → OnErr r (new.outlet.owed ≡ old.outlet.owed)
       → Rests outgoing incoming [] old new
-  rests_by (Ok x) old new piece same come passes out owed = record {
+  rests_by (Ok x) old new piece same calls come passes out owed = record {
     comes = subst (λ o. Shrinks (incoming old.outlet.link) [] o) (sym come) (shrinks_none (incoming old.outlet.link));
     piece_is = piece ∙ sym (append-nil old.piece);
     connection_stays = same;
+    calls_stay = calls;
     passes = passes;
   }
-  rests_by (Err fault) old new piece same come passes out owed = record {
+  rests_by (Err fault) old new piece same calls come passes out owed = record {
     comes = subst (λ o. Shrinks (incoming old.outlet.link) [] o) (sym come) (shrinks_none (incoming old.outlet.link));
     piece_is = piece ∙ sym (append-nil old.piece);
     connection_stays = same;
+    calls_stay = calls;
     passes = subst (λ o. Passes (outgoing old.outlet.link) old.outlet.owed o new.outlet.owed) (sym out) (subst (λ l. Passes (outgoing old.outlet.link) old.outlet.owed (outgoing old.outlet.link) l) (sym owed) (passes_none (outgoing old.outlet.link) old.outlet.owed));
   }
 
@@ -158,6 +162,7 @@ module _ {L : Type 0} (outgoing incoming : L → Option (List ℕ)) where
     comes = shrinks_then (incoming old.outlet.link) (incoming mid.outlet.link) (incoming new.outlet.link) came more f.comes g.comes;
     piece_is = g.piece_is ∙ ap (λ t. t ++ more) f.piece_is ∙ append_assoc old.piece came more;
     connection_stays = g.connection_stays ∙ f.connection_stays;
+    calls_stay = g.calls_stay ∙ f.calls_stay;
     passes = passes_on (outgoing old.outlet.link) (outgoing mid.outlet.link) (outgoing new.outlet.link) old.outlet.owed mid.outlet.owed new.outlet.owed f.passes g.passes;
   }
 
@@ -183,6 +188,7 @@ module _ {L : Type 0} (outgoing incoming : L → Option (List ℕ)) where
           ended_is = g.ended_is;
           addr_stays = g.addr_stays ∙ ap (λ (j : Joined). j.addr) f.connection_stays;
           limit_stays = g.limit_stays ∙ ap (λ (j : Joined). j.progress.limit) f.connection_stays;
+          calls_are = g.calls_are ∙ ap (λ n. calls_behind n g.result) f.calls_stay;
           feeds = subst (λ (j : Joined). Feeds (record { addr = j.addr; moment = moment }) g.taken g.result server served j.progress new.connection.progress audit (device (written outgoing old) (written outgoing new))) f.connection_stays moved;
         }
 
@@ -207,6 +213,7 @@ module _ {L : Type 0} (outgoing incoming : L → Option (List ℕ)) where
           ended_is = ap (λ (j : Joined). j.ended) g.connection_stays ∙ f.ended_is;
           addr_stays = ap (λ (j : Joined). j.addr) g.connection_stays ∙ f.addr_stays;
           limit_stays = ap (λ (j : Joined). j.progress.limit) g.connection_stays ∙ f.limit_stays;
+          calls_are = g.calls_stay ∙ f.calls_are;
           feeds = subst (λ (j : Joined). Feeds (origin_of old moment) f.taken f.result server served old.connection.progress j.progress audit (device (written outgoing old) (written outgoing new))) (sym g.connection_stays) moved;
         }
 
@@ -222,8 +229,9 @@ module _ {L : Type 0} (outgoing incoming : L → Option (List ℕ)) where
         → first ≡ []
         → FeedsSome (origin_of old moment) piece room result server served old.connection.progress new.connection.progress audit (device (Some first) (Some reply.earlier))
         → StandsBy (count_taken result) reply new.end
+        → new.calls ≡ calls_behind old.calls (count_taken result)
         → Gathers moment old new server served audit reply
-    gathers_fed old new result room piece first reply alive ok err addr limit outlet left whole empty feeds stands =
+    gathers_fed old new result room piece first reply alive ok err addr limit outlet left whole empty feeds stands calls =
         let emptied = subst (λ b. FeedsSome (origin_of old moment) piece room result server served old.connection.progress new.connection.progress audit (device (Some b) (Some reply.earlier))) empty feeds in
         let fed = subst (λ p. FeedsSome (origin_of old moment) p room result server served old.connection.progress new.connection.progress audit (device (Some []) (Some reply.earlier))) whole emptied in
         record {
@@ -237,16 +245,18 @@ module _ {L : Type 0} (outgoing incoming : L → Option (List ℕ)) where
           outlet_stays = outlet;
           feeds = λ past fits text u. (fed past fits text u).0;
           stands = stands;
+          calls_are = calls;
         }
 
     pub gathers_then_sent : (old mid new : Standing L) (reply : Buffered) → Gathers moment old mid server served audit reply
         → old.outlet.owed ≡ []
         → new.connection ≡ mid.connection
         → new.piece ≡ mid.piece
+        → new.calls ≡ mid.calls
         → incoming new.outlet.link ≡ incoming mid.outlet.link
         → Passes (outgoing mid.outlet.link) reply.earlier (outgoing new.outlet.link) new.outlet.owed
         → Takes outgoing incoming moment [] old new server served audit
-    gathers_then_sent old mid new reply f none same piece come passed =
+    gathers_then_sent old mid new reply f none same piece calls come passed =
         let gathered = reply.earlier in
         let a = outgoing old.outlet.link in
         let b = outgoing new.outlet.link in
@@ -266,6 +276,7 @@ module _ {L : Type 0} (outgoing incoming : L → Option (List ℕ)) where
           ended_is = ap (λ (j : Joined). j.ended) same ∙ f.ended_is;
           addr_stays = ap (λ (j : Joined). j.addr) same ∙ f.addr_stays;
           limit_stays = ap (λ (j : Joined). j.progress.limit) same ∙ f.limit_stays;
+          calls_are = calls ∙ f.calls_are;
           feeds = subst (λ (j : Joined). Feeds (origin_of old moment) f.taken f.result server served old.connection.progress j.progress audit (device (written outgoing old) (written outgoing new))) (sym same) from;
         }
 
@@ -282,8 +293,8 @@ module _ {L : Type 0} (outgoing incoming : L → Option (List ℕ)) where
     came_alone old new rests same quiet = (rests.0, inl (rests.1, same, quiet))
 
     -- what a turn that takes bytes leaves, but for how it ends
-    pub takes_as : (old mid new : Standing L) → new.connection ≡ mid.connection → new.outlet ≡ mid.outlet → new.piece ≡ mid.piece → Takes outgoing incoming moment [] old mid server served audit → Takes outgoing incoming moment [] old new server served audit
-    takes_as old mid new same out piece takes =
+    pub takes_as : (old mid new : Standing L) → new.connection ≡ mid.connection → new.outlet ≡ mid.outlet → new.piece ≡ mid.piece → new.calls ≡ mid.calls → Takes outgoing incoming moment [] old mid server served audit → Takes outgoing incoming moment [] old new server served audit
+    takes_as old mid new same out piece calls takes =
         let whole : Result (Unit {0}) SessionFault = Ok tt in
-        takes_then_rests [] old mid new takes (rests_by whole mid new piece same (ap (λ (o : Outgoing L). incoming o.link) out)
+        takes_then_rests [] old mid new takes (rests_by whole mid new piece same calls (ap (λ (o : Outgoing L). incoming o.link) out)
         (subst (λ (o : Outgoing L). Passes (outgoing mid.outlet.link) mid.outlet.owed (outgoing o.link) o.owed) (sym out) (passes_none (outgoing mid.outlet.link) mid.outlet.owed)) tt tt)

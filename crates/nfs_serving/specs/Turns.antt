@@ -1,5 +1,5 @@
 -- The turns of a client.
-use Rattle.std.specs.Prelude.{◌≡◌, ◌≢◌, ◌⊎◌, ℕ, true, false, List, [], ◌++◌, Option, None, Some, Result, Ok, Err, is_err}
+use Rattle.std.specs.Prelude.{◌≡◌, ◌≢◌, ◌⊎◌, ℕ, ◌+◌, ◌-◌, ◌^◌, min, true, false, List, [], ◌++◌, Option, None, Some, Result, Ok, Err, is_err}
 use Rattle.nfs_attrs.specs.declared.moment.Moment.{Moment}
 use Rattle.nfs_server.specs.Connections.{Joined}
 use Rattle.nfs_server.specs.Feeding.{Device, device, Feeds}
@@ -18,12 +18,18 @@ use Rattle.nfs_serving.specs.declared.turn.Turn.{Turn}
 use Rattle.nfs_serving.specs.declared.turn.Turn.TheVariants as turn
 use Rattle.nfs_xdr.specs.Known.{Grows, Shrinks}
 
--- a client: its connection, the way out, what has come and is not taken, and how it ended, if it did
+-- a client: its connection, the way out, what has come and is not taken, how it ended, if it did, and how many records were answered
 pub record Standing (L : Type 0) : Type 0 where
   pub connection : Joined
   pub outlet : Outgoing L
   pub piece : List ℕ
   pub end : Option End
+  pub calls : ℕ
+
+-- how many were answered, with those of a feed that no fault has ended; at most as many as 64 bits count
+abbrev pub calls_behind : ℕ → Result ℕ SessionFault → ℕ
+calls_behind calls (Ok n) = min (calls + n) (2 ^ 64 - 1)
+calls_behind calls (Err fault) = calls
 
 -- all that was written for a client: what was sent, where that is known, and what is owed
 abbrev pub written : {L : Type 0} → (L → Option (List ℕ)) → Standing L → Option (List ℕ)
@@ -37,6 +43,7 @@ pub record Rests {L : Type 0} (outgoing incoming : L → Option (List ℕ)) (cam
   pub comes : Shrinks (incoming old.outlet.link) came (incoming new.outlet.link)
   pub piece_is : new.piece ≡ old.piece ++ came
   pub connection_stays : new.connection ≡ old.connection
+  pub calls_stay : new.calls ≡ old.calls
   pub passes : Passes (outgoing old.outlet.link) old.outlet.owed (outgoing new.outlet.link) new.outlet.owed
 
 -- These bytes came, and some were taken, in their order. That happens only behind all that was owed. What the
@@ -53,6 +60,7 @@ pub record Takes {L : Type 0} (outgoing incoming : L → Option (List ℕ))
   pub ended_is : new.connection.ended ≡ is_err result
   pub addr_stays : new.connection.addr ≡ old.connection.addr
   pub limit_stays : new.connection.progress.limit ≡ old.connection.progress.limit
+  pub calls_are : new.calls ≡ calls_behind old.calls result
   pub feeds : Feeds (origin_of old moment) taken result server served old.connection.progress new.connection.progress audit (device (written outgoing old) (written outgoing new))
 
 -- the fault that ends a client by its records: for replies that don't gather there is no memory
@@ -79,6 +87,7 @@ pub record Gathers {L : Type 0} (moment : Moment) (old new : Standing L) (server
   pub ended_is : new.connection.ended ≡ is_err result
   pub addr_stays : new.connection.addr ≡ old.connection.addr
   pub limit_stays : new.connection.progress.limit ≡ old.connection.progress.limit
+  pub calls_are : new.calls ≡ calls_behind old.calls result
   pub outlet_stays : new.outlet ≡ old.outlet
   pub feeds : Feeds (origin_of old moment) taken result server served old.connection.progress new.connection.progress audit (gathered reply)
   pub stands : StandsBy result reply new.end

@@ -41,7 +41,7 @@ impl<L> Model for Client<L> {
 
     ghost Value = { Standing L };
 
-    ghost view = { λ c. record { connection = c.connection; outlet = c.outlet; piece = c.piece; end = c.end } };
+    ghost view = { λ c. record { connection = c.connection; outlet = c.outlet; piece = c.piece; end = c.end; calls = c.calls } };
 
     ghost invariant = { λ c. c.end ≡ None → c.connection.ended ≡ false };
 }
@@ -54,6 +54,7 @@ impl<L: Link> Client<L> {
         ensures outlet { result.outlet ≡ record { link = link; owed = []; failed = false } }
         ensures piece { result.piece ≡ [] }
         ensures end { result.end ≡ None }
+        ensures calls { result.calls ≡ 0 }
     {
         Client {
             connection: Connection::new(alloc, addr),
@@ -71,8 +72,10 @@ impl<L: Link> Client<L> {
         self.outlet.link()
     }
 
-    /// How many records were answered without a fault.
-    pub fn calls(&self) -> u64 {
+    /// How many records were answered, but for those of a turn that ended by a fault.
+    pub fn calls(&self) -> u64
+        ensures { result ≡ self.now.calls }
+    {
         self.calls
     }
 
@@ -225,6 +228,7 @@ impl<L: Link> Client<L> {
         ensures connection { self.new.connection ≡ self.old.connection }
         ensures outlet { self.new.outlet ≡ self.old.outlet }
         ensures piece { self.new.piece ≡ self.old.piece }
+        ensures calls { self.new.calls ≡ self.old.calls }
         ensures tells { Tells result self.new }
     {
         if !is_whole {
@@ -281,6 +285,7 @@ impl<L: Link> Client<L> {
         ensures connection { self.new.connection ≡ self.old.connection }
         ensures outlet { self.new.outlet ≡ self.old.outlet }
         ensures piece { self.new.piece ≡ self.old.piece }
+        ensures calls { self.new.calls ≡ self.old.calls }
     {
         self.end = Some(end);
         Turn::Ended(end)
