@@ -13,9 +13,10 @@ pub const MAX_KEPT_BYTES: usize = 512;
 // The room of a record's list at the least: most calls fit, so that their lists go from one to the next.
 const LEAST_ROOM: usize = 256;
 
-// So many bytes of a record are copied at once. The C library copies more than 8 KiB by one instruction
-// of the processor, which takes half as long again where the two places aren't aligned alike.
-const COPIED: usize = 4096;
+// So many bytes of a record are copied at once. The C library copies 8 KiB and more by one instruction
+// of the processor, which takes half as long again where other work shares the caches, and no less
+// where none does.
+const COPIED: usize = 8128;
 
 /// A reply, with the record that it answered, where that came from, and its bucket.
 #[derive(Drop)]
