@@ -269,6 +269,48 @@ static void measure(const char *name, uint32_t proc, const unsigned char *rest, 
     free(places);
 }
 
+/* The files of a directory are removed in the order of its pages: a page is written, and then each file of it is looked for by
+ * its name and taken away. Filling the directory isn't counted. */
+static void measure_removal(uint32_t names) {
+    enum { PAGE = 2000 };
+    static unsigned char page[PAGE * 28];
+    uint64_t least = UINT64_MAX;
+    grow(1, names);
+    struct file *dir = &files[1];
+    for (int run = 0; run < RUNS; run++) {
+        uint64_t time = 0;
+        for (uint32_t pass = 0; pass < 100000 / names; pass++) {
+            uint64_t start = now();
+            for (uint32_t from = 0; from < names; from += PAGE) {
+                uint32_t until = names - from < PAGE ? names : from + PAGE;
+                unsigned char *at = page, wanted[4];
+                for (uint32_t i = from; i < until; i++) {
+                    name_of(i, wanted);
+                    at = put(put64(put(at, 1), files[2 + i].number), 4);
+                    memcpy(at, wanted, 4);
+                    at = put64(at + 4, i + 3);
+                }
+                for (uint32_t i = from; i < until; i++) {
+                    name_of(i, wanted);
+                    struct entry *e = entry_of(dir, wanted, 4);
+                    struct file *f = &files[e->number - 1];
+                    drop(dir, e);
+                    free((void *)f->bytes);
+                    f->number = 0;
+                    dir->mtime = dir->ctime = (struct moment){100, 0};
+                }
+            }
+            time += now() - start;
+            count = 2;
+            for (uint32_t file = 0; file < names; file++)
+                add(1, 2);
+        }
+        time = time * 10 / (100000 / names * names);
+        least = time < least ? time : least;
+    }
+    printf("removed-%u %llu.%llu\n", names, (unsigned long long)(least / 10), (unsigned long long)(least % 10));
+}
+
 int main(void) {
     static const unsigned char name[8] = {0, 0, 0, 4}, named[12] = {[3] = 4, [11] = HANDLE}, bits[4] = {0, 0, 0, 0x3f}, range[12] = {[10] = 16}, mode[32] = {[3] = 1, [6] = 1, [7] = 0xa4};
     static const struct { uint32_t dirs, each; } sizes[] = {{1, 10}, {1, 100000}, {1, 1000}, {999, 1000}};
@@ -284,5 +326,7 @@ int main(void) {
         measure("access", 4, bits, 4);
         measure("setattr", 2, mode, 32);
     }
+    measure_removal(100);
+    measure_removal(100000);
     return 0;
 }
