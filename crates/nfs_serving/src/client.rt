@@ -72,7 +72,8 @@ impl<L: Link> Client<L> {
         self.outlet.link()
     }
 
-    /// How many records were answered, but for those of a turn that ended by a fault.
+    /// How many records were answered, but for those of a turn that a fault of its records, of the audit
+    /// lines or of memory ended.
     pub fn calls(&self) -> u64
         ensures { result ≡ self.now.calls }
     {
