@@ -269,6 +269,15 @@ static void measure(const char *name, uint32_t proc, const unsigned char *rest, 
     free(places);
 }
 
+/* the files of a directory have no bytes from now on */
+static void empty(uint32_t names) {
+    for (struct file *f = &files[2]; f < &files[2 + names]; f++) {
+        free((void *)f->bytes);
+        f->bytes = NULL;
+        f->size = 0;
+    }
+}
+
 /* The files of a directory are removed in the order of its pages: a page is written, and then each file of it is looked for by
  * its name and taken away. Filling the directory isn't counted. */
 static void measure_removal(uint32_t names) {
@@ -276,6 +285,7 @@ static void measure_removal(uint32_t names) {
     static unsigned char page[PAGE * 28];
     uint64_t least = UINT64_MAX;
     grow(1, names);
+    empty(names);
     struct file *dir = &files[1];
     for (int run = 0; run < RUNS; run++) {
         uint64_t time = 0;
@@ -295,7 +305,6 @@ static void measure_removal(uint32_t names) {
                     struct entry *e = entry_of(dir, wanted, 4);
                     struct file *f = &files[e->number - 1];
                     drop(dir, e);
-                    free((void *)f->bytes);
                     f->number = 0;
                     dir->mtime = dir->ctime = (struct moment){100, 0};
                 }
@@ -304,6 +313,7 @@ static void measure_removal(uint32_t names) {
             count = 2;
             for (uint32_t file = 0; file < names; file++)
                 add(1, 2);
+            empty(names);
         }
         time = time * 10 / (100000 / names * names);
         least = time < least ? time : least;
