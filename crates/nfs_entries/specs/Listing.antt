@@ -38,13 +38,13 @@ abbrev pub without : List ℕ → List Entry → List Entry
 without name es = filter (λ e. not (has_name name e)) es
 
 -- what is kept beside a name
-pub record Beside : Type 0 where
+pub record KeptValue : Type 0 where
   pub cookie : ℕ
   pub number : ℕ
 
 -- a name as it is kept, with what is kept beside it
 abbrev pub Row : Type 0
-Row = Vec ℕ Global × Beside
+Row = Vec ℕ Global × KeptValue
 
 abbrev pub entry_of : Row → Entry
 entry_of r = record { cookie = r.1.cookie; name = r.0.items; number = r.1.number }

@@ -3,7 +3,7 @@ use Rattle.std.specs.Prelude.{find, is_ok}
 use Rattle.std.proofs.lemmas.Result.{IfOk-at_ok}
 use Rattle.indexmap.specs.IndexMap.{insert_entry}
 use Rattle.indexmap.proofs.CallerLemmas.{insert_entry-new}
-use Rattle.nfs_entries.specs.Listing.{Listed, Beside, Row, listed, has_name, place_of, IsKept, HasNo}
+use Rattle.nfs_entries.specs.Listing.{Listed, KeptValue, Row, listed, has_name, place_of, IsKept, HasNo}
 use Rattle.nfs_entries.proofs.Cases.{flipped}
 use Rattle.nfs_entries.proofs.Keys.{unlooked}
 use Rattle.nfs_entries.proofs.Rows.{absent_from}
@@ -14,7 +14,7 @@ pub invariant_of-self : goal.invariant_of-self
 invariant_of-self c =
     let rows = c.self.inside.rows.entries in
     let places = c.self.inside.places.items in
-    let kept : Beside = record { cookie = c.self.inside.next; number = c.args.number.0 } in
+    let kept : KeptValue = record { cookie = c.self.inside.next; number = c.args.number.0 } in
     let row : Row = (c.args.name, kept) in
     let absent : HasNo rows c.args.name.items = absent_from c.args.name.items rows places c.self.inside.next c.self.invariant (ap (λ (v : Listed). find (has_name c.args.name.items) v.entries) c.self.view_is ∙ c.requires.absent) in
     let eq = λ (a b : Vec ℕ Global). bytes_eq a.items b.items in
@@ -30,7 +30,7 @@ pub returns-clause-entries : goal.returns-clause-entries
 returns-clause-entries c =
     let rows = c.self.inside.rows.entries in
     let places = c.self.inside.places.items in
-    let kept : Beside = record { cookie = c.self.inside.next; number = c.args.number.0 } in
+    let kept : KeptValue = record { cookie = c.self.inside.next; number = c.args.number.0 } in
     let row : Row = (c.args.name, kept) in
     let absent : HasNo rows c.args.name.items = absent_from c.args.name.items rows places c.self.inside.next c.self.invariant (ap (λ (v : Listed). find (has_name c.args.name.items) v.entries) c.self.view_is ∙ c.requires.absent) in
     let eq = λ (a b : Vec ℕ Global). bytes_eq a.items b.items in
