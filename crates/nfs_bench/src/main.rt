@@ -14,7 +14,7 @@ mod records;
 mod sizes;
 mod tree;
 
-use crate::sizes::{EACH, OF_FILES, OF_NAMES, OF_ONE_NAME, ONE, Size};
+use crate::sizes::{OF_FILES, OF_NAMES, OF_ONE_NAME, Size};
 use std::process::ExitCode;
 use std::rt::{Clock, Env};
 use std::{env, io};
@@ -82,29 +82,27 @@ fn measure<R: Clock + Print + AllocGlobal>(rt: &R, name: &str) -> io::Result<()>
         "hold-sparse" => tree::hold_sparse(rt, 100),
         "removal-100" => pages::measure_removal(rt, 100),
         "removal-100000" => pages::measure_removal(rt, 100_000),
-        "files-1000" => sizes::measure(
+        "files-1000" => sizes::measure_each(
             rt,
             Size {
                 dirs: 1,
                 files: 1_000,
             },
             &OF_FILES,
-            EACH,
         ),
         // A volume has at most 1,000,000 files, its root and its directories among them.
-        "files-1000000" => sizes::measure(
+        "files-1000000" => sizes::measure_each(
             rt,
             Size {
                 dirs: 999,
                 files: 1_000,
             },
             &OF_FILES,
-            EACH,
         ),
-        "names-10" => sizes::measure(rt, FEW_NAMES, &OF_NAMES, EACH),
-        "names-100000" => sizes::measure(rt, MANY_NAMES, &OF_NAMES, EACH),
-        "name-10" => sizes::measure(rt, FEW_NAMES, &OF_ONE_NAME, ONE),
-        "name-100000" => sizes::measure(rt, MANY_NAMES, &OF_ONE_NAME, ONE),
+        "names-10" => sizes::measure_each(rt, FEW_NAMES, &OF_NAMES),
+        "names-100000" => sizes::measure_each(rt, MANY_NAMES, &OF_NAMES),
+        "name-10" => sizes::measure_one(rt, FEW_NAMES, &OF_ONE_NAME),
+        "name-100000" => sizes::measure_one(rt, MANY_NAMES, &OF_ONE_NAME),
         call if calls::MEASURES.contains(&call) => calls::measure(rt, call),
         _ => println!(rt; "no such measure"),
     }

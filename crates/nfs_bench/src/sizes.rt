@@ -18,12 +18,6 @@ pub(crate) const OF_NAMES: [&str; 4] = ["lookup-x", "create-remove", "remove-cre
 /// The measures of one name of a directory.
 pub(crate) const OF_ONE_NAME: [&str; 3] = ["lookup-x", "remove-create", "rename"];
 
-/// Each file or name of a tree in turn.
-pub(crate) const EACH: usize = usize::MAX;
-
-/// The same one again and again.
-pub(crate) const ONE: usize = 1;
-
 // The first directory, its first file, and the file's name.
 const FIRST: Target = Target {
     dir: 2,
@@ -87,17 +81,37 @@ fn few<R: Print + AllocGlobal>(rt: &R, size: Size, names: &[&str]) -> io::Result
 }
 
 /// Prints the nanoseconds of each round of calls in a tree of a size, in tenths, the least of five
-/// runs over so many of its files or names.
-pub(crate) fn measure<R: Clock + Print + AllocGlobal>(
+/// runs over each of its files or names in turn.
+pub(crate) fn measure_each<R: Clock + Print + AllocGlobal>(
     rt: &R,
     size: Size,
     names: &[&str],
-    most: usize,
+) -> io::Result<()> {
+    measure(rt, size, names, None)
+}
+
+/// The same, of one file or name again and again.
+pub(crate) fn measure_one<R: Clock + Print + AllocGlobal>(
+    rt: &R,
+    size: Size,
+    names: &[&str],
+) -> io::Result<()> {
+    measure(rt, size, names, Some(1))
+}
+
+// Of so many of them, or of each.
+fn measure<R: Clock + Print + AllocGlobal>(
+    rt: &R,
+    size: Size,
+    names: &[&str],
+    most: Option<usize>,
 ) -> io::Result<()> {
     let mut asked = Asked::new(rt.alloc(), served_many(rt.alloc(), size.dirs, size.files)?)?;
     for name in names {
         let mut places = set(rt.alloc(), &mut asked, size, name)?;
-        places.truncate(most);
+        if let Some(most) = most {
+            places.truncate(most);
+        }
         let least = least(rt, &mut asked, spots_of(name), places.as_slice())?;
         println!(rt; "{name} {}.{}", least / 10, least % 10)?;
     }
