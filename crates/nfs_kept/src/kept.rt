@@ -5,6 +5,7 @@ ghost use Rattle.nfs_kept.specs.Shown.{IsBucketed, bucket_of, key_of, place_of};
 
 use arrayvec::ArrayVec;
 use nfs_exports::addr::Addr;
+use nfs_xdr::pieces::append;
 use std::alloc::{AllocError, Global};
 
 /// The most bytes of a kept reply. No procedure that changes files has a longer one.
@@ -12,11 +13,6 @@ pub const MAX_KEPT_BYTES: usize = 512;
 
 // The room of a record's list at the least: most calls fit, so that their lists go from one to the next.
 const LEAST_ROOM: usize = 256;
-
-// So many bytes of a record are copied at once. The C library copies 8 KiB and more by one instruction
-// of the processor, which takes half as long again where other work shares the caches, and no less
-// where none does.
-const COPIED: usize = 8128;
 
 /// A reply, with the record that it answered, where that came from, and its bucket.
 #[derive(Drop)]
@@ -42,7 +38,7 @@ impl Kept {
         ensures bucketed { IfOk result IsBucketed }
     {
         let mut record = Vec::with_capacity(alloc, bytes.len().max(LEAST_ROOM))?;
-        put(&mut record, bytes);
+        append(&mut record, bytes);
         Ok(Kept {
             addr,
             bucket,
@@ -79,7 +75,7 @@ impl Kept {
         self.addr = addr;
         self.bucket = bucket;
         self.record.clear();
-        put(&mut self.record, bytes);
+        append(&mut self.record, bytes);
         self.reply.clear();
         Ok(())
     }
@@ -94,21 +90,6 @@ impl Kept {
         self.reply.clear();
         self.reply.try_extend_from_slice(reply).unwrap();
     }
-}
-
-// Puts a record's bytes behind those of a list that has room for them.
-#[inline(always)]
-fn put(list: &mut Vec<u8>, bytes: &[u8])
-    requires { vec_len list.old + length bytes.now ≤ vec_capacity list.old }
-    ensures { list.new.items ≡ list.old.items ++ bytes.now }
-{
-    let mut left = bytes;
-    while left.len() > COPIED {
-        let (piece, rest) = left.split_at(COPIED);
-        list.extend_from_slice(piece).unwrap();
-        left = rest;
-    }
-    list.extend_from_slice(left).unwrap();
 }
 
 // Whether a list with so much room is taken for so many bytes: where they fit, and take half of it, or

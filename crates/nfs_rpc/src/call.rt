@@ -49,6 +49,26 @@ pub struct CallHead<'a> {
     pub args: Input<'a>,
 }
 
+impl<'a> CallHead<'a> {
+    /// The same head, lent once more.
+    #[inline(always)]
+    pub fn copied(&self) -> CallHead<'a>
+        ensures call { call_of result ≡ call_of self.now }
+        ensures args { result.args ≡ self.now.args }
+    {
+        CallHead {
+            xid: self.xid,
+            rpcvers: self.rpcvers,
+            prog: self.prog,
+            vers: self.vers,
+            proc: self.proc,
+            flavor: self.flavor,
+            body: self.body,
+            args: Input::new(self.args.rest()),
+        }
+    }
+}
+
 /// The largest body of a credential or a verifier (RFC 5531, section 8.2).
 const MAX_AUTH_BYTES: u32 = 400;
 

@@ -3,9 +3,10 @@ ghost use Rattle.std.specs.Prelude.{◌≡◌, ◌≢◌, ℕ, ◌+◌, ◌<◌,
 ghost use Rattle.std.specs.Prelude.{IfOk, IfErr, IfSome, OnOk, OnErr, IsTrue, IsNone, IsErr, IsErrOf};
 ghost use Rattle.nfs_rpc.specs.Progress.{Progress, Unfinished, Moves, BringsTooLong, AsksForRoom};
 ghost use Rattle.nfs_rpc.specs.Lent.{BeginsWhole, HasNoneAtFront, IsAtFront, IsBefore, IsLent};
-ghost use Rattle.nfs_rpc.specs.Stages.{stage_of};
+ghost use Rattle.nfs_rpc.specs.Stages.{begun_by, stage_of};
 
 use crate::record::{HEADER_BYTES, read_header};
+use nfs_xdr::pieces::append;
 use std::alloc::{AllocError, Global};
 use std::marker::Model;
 use thiserror::Error;
@@ -31,6 +32,15 @@ pub struct Fed {
     pub used: usize,
     /// Whether a record is whole.
     pub ready: bool,
+}
+
+/// A record of which a fragment has begun.
+#[derive(Clone, Copy, Debug, PartialEq, Eq)]
+pub struct Begun {
+    /// The number of bytes of its content that have come.
+    pub come: usize,
+    /// The number of bytes that are left of the fragment.
+    pub left: usize,
 }
 
 /// Where in a record a framer is.
@@ -190,7 +200,7 @@ impl Framer {
         ensures alive { self.new.stage ≢ Stage.Failed }
     {
         let n = left.min(piece.len());
-        self.content.extend_from_slice(&piece[..n]).unwrap();
+        append(&mut self.content, &piece[..n]);
         self.stage = stage_before(last, left - n);
         n
     }
@@ -208,6 +218,19 @@ impl Framer {
             return None;
         }
         record_at_front(piece, self.limit)
+    }
+
+    /// The record of which a fragment has begun and is not whole yet.
+    pub fn begun(&self) -> Option<Begun>
+        ensures { result ≡ begun_by (length self.now.content) self.now.stage }
+    {
+        match self.stage {
+            Stage::Body { last: _, left } => Some(Begun {
+                come: self.content.len(),
+                left,
+            }),
+            _ => None,
+        }
     }
 
     // Whether nothing of a record came yet, but for fragments without content.

@@ -1,5 +1,5 @@
 -- What became of a call of MOUNT is a step of the server.
-use Rattle.std.proofs.Common.{◌≡◌, ℕ, Bool, true, false, List, ◌++◌, Some, None, refl, sym, ap, subst, ◌∙◌, arith}
+use Rattle.std.proofs.Common.{◌≡◌, ℕ, Bool, true, false, List, ◌++◌, Option, Some, None, refl, sym, ap, subst, ◌∙◌, arith}
 use Rattle.std.proofs.lemmas.Bool.{true≢false}
 use Rattle.std.specs.Prelude.{Result, Ok, Err}
 use Rattle.std.specs.Result.{result_ok}
@@ -79,15 +79,18 @@ module _ (t : Tree) (exports : List (List Export)) (addr : Addr) (call : Call) (
   left : (answer : MountAnswer) (mounts : List Mount) → Leaves answer mounts came new before after → Replies → MountDone call (StateOf old) answer mounts (told reply None) (StateOf new)
   left answer mounts l wrote = (ap granted (wrote (mount_text answer) l.2.bytes), ap StateOf l.1, l.3)
 
-  pub granted_mount : (args : MountArgs) → came ≡ Granted → MountsAs args t exports addr came old new before after → Replies → AnswersMount args exports (StateOf old) addr call (told reply None) new
-  granted_mount asked.Null e m wrote = λ again. (no_choice again, refl, left result.Null old m wrote)
-  granted_mount (asked.Mount path) e m wrote =
+  granted_left : (args : MountArgs) → came ≡ Granted → MountsAs args t exports addr came old new before after → Replies → AnswersMount args exports (StateOf old) addr call (told reply None) new
+  granted_left asked.Null e m wrote = λ again. (no_choice again, refl, left result.Null old m wrote)
+  granted_left (asked.Mount path) e m wrote =
       let g : Mounts t exports addr path Granted old new before after = subst (λ x. Mounts t exports addr path x old new before after) e m in
       λ again. (no_choice again, refl, subst (λ v. MountDecided v true (StateOf old) addr path call (told reply None) (StateOf new)) (sym g.0) (g.2, g.3, (ap granted (wrote (mount_text (granted_answer g.2)) g.4.bytes), ap StateOf g.1, g.5)))
-  granted_mount asked.Dump e m wrote = λ again. (no_choice again, refl, left (dump_answer t old) old m wrote)
-  granted_mount (asked.Unmount path) e m wrote = λ again. (no_choice again, refl, left result.Unmount (after_umnt t addr path old) m wrote)
-  granted_mount asked.UnmountAll e m wrote = λ again. (no_choice again, refl, left result.UnmountAll (without_addr addr old) m wrote)
-  granted_mount asked.Export e m wrote = λ again. (no_choice again, refl, left (export_answer t exports) old m wrote)
+  granted_left asked.Dump e m wrote = λ again. (no_choice again, refl, left (dump_answer t old) old m wrote)
+  granted_left (asked.Unmount path) e m wrote = λ again. (no_choice again, refl, left result.Unmount (after_umnt t addr path old) m wrote)
+  granted_left asked.UnmountAll e m wrote = λ again. (no_choice again, refl, left result.UnmountAll (without_addr addr old) m wrote)
+  granted_left asked.Export e m wrote = λ again. (no_choice again, refl, left (export_answer t exports) old m wrote)
+
+  pub granted_mount : (args : MountArgs) (line : Option AuditLine) → line ≡ None → came ≡ Granted → MountsAs args t exports addr came old new before after → Replies → AnswersMount args exports (StateOf old) addr call (told reply line) new
+  granted_mount args line none e m wrote = subst (λ l. AnswersMount args exports (StateOf old) addr call (told reply l) new) (sym none) (granted_left args e m wrote)
 
   pub denied_mount : (args : MountArgs) (line : AuditLine) (rule : Rule) → came ≡ Denied rule → MountsAs args t exports addr came old new before after → Replies → line ≡ line_of addr call (reason.Rule rule None)
       → AnswersMount args exports (StateOf old) addr call (told reply (Some line)) new

@@ -1,5 +1,6 @@
 //! A connection: a stream of records from one address.
 ghost use Rattle.std.specs.Prelude.{◌≡◌, ◌≤◌, true, false, length, IfOk, IfErr, OnOk, OnErr, IsErrOf, ◌↔◌};
+ghost use Rattle.nfs_rpc.specs.Stages.{begun_by};
 ghost use Rattle.nfs_server.specs.Connections.{IsAtStart};
 ghost use Rattle.nfs_server.specs.Feeding.{device, EndsWith};
 ghost use Rattle.nfs_server.specs.Taking.{FeedsSome};
@@ -12,7 +13,7 @@ use crate::taking::{Origin, Taken, take_piece};
 use nfs_args::limits::MAX_DATA_BYTES;
 use nfs_attrs::moment::Moment;
 use nfs_exports::addr::Addr;
-use nfs_rpc::framer::Framer;
+use nfs_rpc::framer::{Begun, Framer};
 use nfs_xdr::device::ByteOut;
 use std::alloc::Global;
 use std::marker::Model;
@@ -50,6 +51,13 @@ impl Connection {
             framer: Framer::new(alloc, MAX_RECORD_BYTES),
             ended: false,
         }
+    }
+
+    /// The record of which a fragment has begun and is not whole yet.
+    pub fn begun(&self) -> Option<Begun>
+        ensures { result ≡ begun_by (length self.now.progress.content) self.now.progress.stage }
+    {
+        self.framer.begun()
     }
 
     /// Takes a piece of the stream, and answers each record that it makes whole. Where there is room

@@ -1,5 +1,5 @@
 //! Calls of MOUNT (RFC 1813, appendix I, section 5.2): what they ask for, and what is done.
-ghost use Rattle.std.specs.Prelude.{◌≡◌, ◌+◌, ◌≤◌, length};
+ghost use Rattle.std.specs.Prelude.{◌≡◌, ◌+◌, ◌≤◌, length, None};
 ghost use Rattle.std.specs.Result.{result_ok};
 ghost use Rattle.nfs_rpc.specs.Calls.{call_of};
 ghost use Rattle.nfs_server.specs.OneEvent.{AnswersMount, MountsAs};
@@ -36,7 +36,7 @@ pub(crate) fn read_mount_args(proc: u32, input: Input<'_>) -> Result<MountArgs<'
 }
 
 /// The reply to a call other than NULL: what it asks for is done where no rule fails, and there is
-/// memory. Answers the line of a call that is denied.
+/// memory. A call that is denied leaves its line.
 pub(crate) fn answer_mount(
     out: &mut Output,
     head: &CallHead<'_>,
@@ -45,20 +45,25 @@ pub(crate) fn answer_mount(
     mounts: &mut MountList,
     addr: Addr,
     args: &MountArgs<'_>,
-) -> Option<AuditLine>
-    requires { HasReplyRoom out.old }
+    line: &mut Option<AuditLine>,
+)
+    requires room { HasReplyRoom out.old }
+    requires line { line.old ≡ None }
     ensures adds { Adds out.old out.new }
     ensures answers { AnswersMount args.now table.now (record { tree = tree.now; mounts = mounts.old }) addr (call_of head.now)
-        (told (behind out.old out.new) result) mounts.new }
+        (told (behind out.old out.new) line.new) mounts.new }
 {
     let start = out.bytes().len();
     write_accepted(out, head.xid, Accept::Success);
     match mount(tree, table, mounts, addr, args, out) {
-        MountOutcome::Granted => None,
-        MountOutcome::Denied(rule) => Some(AuditLine::of(addr, head, Reason::Rule(rule, None))),
+        MountOutcome::Granted => {}
+        MountOutcome::Denied(rule) => {
+            let reason = Reason::Rule(rule, None);
+            *line = Some(AuditLine::of(addr, head, reason));
+        }
         MountOutcome::Memory => {
             give_up(out, start, head.xid);
-            Some(AuditLine::of(addr, head, Reason::Memory))
+            *line = Some(AuditLine::of(addr, head, Reason::Memory));
         }
     }
 }

@@ -143,7 +143,8 @@ impl Server {
     }
 
     // The reply to a call, and its line where it is denied. The line is left where it is kept, so that
-    // nothing is moved for a call that has none.
+    // nothing is moved for a call that has none. What stands out of line takes a copy of the head, so that
+    // a call of NULL lays none down.
     #[inline(always)]
     fn respond(&mut self, head: &CallHead<'_>, event: Event<'_>, out: &mut Output)
         requires room { HasReplyRoom out.old }
@@ -154,10 +155,10 @@ impl Server {
             (told (behind out.old out.new) self.new.line) self.new }
     {
         match admit(head) {
-            Err(rule) => self.deny(&copied(head), event, rule, out),
+            Err(rule) => self.deny(&head.copied(), event, rule, out),
             Ok(Admitted::Null) => succeed(out, head.xid),
-            Ok(Admitted::Nfs) => self.answer_nfs(&copied(head), event, out),
-            Ok(Admitted::Mount) => self.answer_mount(&copied(head), event, out),
+            Ok(Admitted::Nfs) => self.answer_nfs(&head.copied(), event, out),
+            Ok(Admitted::Mount) => self.answer_mount(&head.copied(), event, out),
         }
     }
 
@@ -302,7 +303,8 @@ impl Server {
             return self.deny(head, event, RpcRule::Arguments, out);
         };
         let (tree, table, mounts) = (&self.tree, &self.table, &mut self.mounts);
-        self.line = answer_mount(out, head, tree, table, mounts, event.addr, &args);
+        let line = &mut self.line;
+        answer_mount(out, head, tree, table, mounts, event.addr, &args, line);
     }
 
     // The reply to a call that fails a rule of RPC, and its line. Out of line, so that other calls pay
@@ -340,24 +342,6 @@ impl Server {
             }
         }
         done
-    }
-}
-
-// The same head, lent once more: to what stands out of line, so that a call of NULL lays none down.
-#[inline(always)]
-fn copied<'a>(head: &CallHead<'a>) -> CallHead<'a>
-    ensures call { call_of result ≡ call_of head.now }
-    ensures args { result.args ≡ head.now.args }
-{
-    CallHead {
-        xid: head.xid,
-        rpcvers: head.rpcvers,
-        prog: head.prog,
-        vers: head.vers,
-        proc: head.proc,
-        flavor: head.flavor,
-        body: head.body,
-        args: Input::new(head.args.rest()),
     }
 }
 

@@ -20,6 +20,12 @@ pub record Passes (before : Option (List ℕ)) (owed : List ℕ) (after : Option
   pub owed_is : owed ≡ sent ++ left
   pub grows : Grows before sent after
 
+-- how many bytes have come
+abbrev pub came_bytes : Came → ℕ
+came_bytes (Bytes n) = n
+came_bytes Nothing = 0
+came_bytes End = 0
+
 -- what has come, and the bytes that it brought
 abbrev pub Brings : Option (List ℕ) → Came → List ℕ → Option (List ℕ) → Type 0
 Brings before (Bytes n) piece after = (piece ≢ []) × Shrinks before piece after

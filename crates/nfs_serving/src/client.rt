@@ -1,9 +1,10 @@
 //! A client of a server.
-ghost use Rattle.std.specs.Prelude.{◌≡◌, ◌≢◌, ◌≤◌, ◌↔◌, Bool, vec_capacity, ℕ, List, [], None, Some, true, false, IsTrue, IsNone, IfSome, OnErr};
+ghost use Rattle.std.specs.Prelude.{◌≡◌, ◌≢◌, ◌≤◌, ◌↔◌, Bool, vec_capacity, ℕ, List, [], None, Some, true, false, IsTrue, IfErr, OnOk, OnErr};
 ghost use Rattle.nfs_server.specs.Connections.{IsAtStart};
 ghost use Rattle.nfs_server.specs.Feeding.{device, EndsWith};
 ghost use Rattle.nfs_serving.specs.Turns.{Gathers, IsEndedBy, Rests, Takes, Tells, Turns};
 
+use crate::intake::Intake;
 use crate::outlet::Outlet;
 use crate::room::Room;
 use crate::turn::{End, Turn};
@@ -33,6 +34,7 @@ pub struct Client<L> {
     piece: Window,
     end: Option<End>,
     calls: u64,
+    intake: Intake,
 }
 
 impl<L> Model for Client<L> {
@@ -62,6 +64,7 @@ impl<L: Link> Client<L> {
             piece: Window::new(alloc),
             end: None,
             calls: 0,
+            intake: Intake::new(),
         }
     }
 
@@ -167,35 +170,35 @@ impl<L: Link> Client<L> {
         ensures setup { server.new.setup ≡ server.old.setup }
     {
         if self.piece.is_empty() {
-            if let Some(turn) = self.receive(&mut room.bytes) {
-                return turn;
-            }
-            let may_be_more = self.piece.is_full();
-            return self.feed(server, room, moment, audit, may_be_more);
+            return match self.receive(&mut room.bytes) {
+                Ok(may_be_more) => self.feed(server, room, moment, audit, may_be_more),
+                Err(turn) => turn,
+            };
         }
         // What came since these bytes were received may have been told of already.
         self.feed(server, room, moment, audit, true)
     }
 
-    // Receives what has come, in place of what was taken. Answers what becomes of the turn where
-    // nothing has.
-    fn receive(&mut self, room: &mut Vec<u8>) -> Option<Turn>
+    // Receives what has come, in place of what was taken: whether there may be more, which is so where
+    // as much came as was asked for. Where nothing has come, what becomes of the turn.
+    fn receive(&mut self, room: &mut Vec<u8>) -> Result<bool, Turn>
         requires piece { self.old.piece ≡ [] }
         requires owed { self.old.outlet.owed ≡ [] }
         requires alive { self.old.end ≡ None }
         ensures rests { (came : List ℕ) × Rests L.outgoing L.incoming came self.old self.new }
-        ensures goes_on { IsNone result → self.new.end ≡ None }
+        ensures goes_on { OnOk result (self.new.end ≡ None) }
         ensures owed { self.new.outlet.owed ≡ [] }
-        ensures tells { IfSome result (λ turn. Tells turn self.new) }
+        ensures tells { IfErr result (λ turn. Tells turn self.new) }
     {
         if self.piece.borrow_room(room).is_err() {
-            return Some(self.ends(End::Fault(ServeFault::Memory)));
+            return Err(self.ends(End::Fault(ServeFault::Memory)));
         }
-        match self.outlet.receive(&mut self.piece) {
-            Ok(Came::Bytes(_)) => None,
-            Ok(Came::Nothing) => Some(Turn::Idle),
-            Ok(Came::End) => Some(self.ends(End::Closed)),
-            Err(_) => Some(self.ends(End::Fault(ServeFault::ReadFault))),
+        let most = self.intake.next(self.connection.begun());
+        match self.outlet.receive(&mut self.piece, most) {
+            Ok(Came::Bytes(n)) => Ok(n == most),
+            Ok(Came::Nothing) => Err(Turn::Idle),
+            Ok(Came::End) => Err(self.ends(End::Closed)),
+            Err(_) => Err(self.ends(End::Fault(ServeFault::ReadFault))),
         }
     }
 

@@ -2,6 +2,7 @@
 #![tactic(auto)]
 
 pub mod client;
+pub mod intake;
 pub mod laws;
 pub mod outlet;
 pub mod room;

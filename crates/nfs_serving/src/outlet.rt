@@ -90,16 +90,17 @@ impl<L: Link> Outlet<L> {
         }
     }
 
-    /// Receives what has come, as much as a piece has room for.
-    pub fn receive(&mut self, piece: &mut Window) -> Result<Came, DeviceFault>
+    /// Receives what has come, as much as a piece has room for and at most so many bytes.
+    pub fn receive(&mut self, piece: &mut Window, most: usize) -> Result<Came, DeviceFault>
         ensures came { IfOk result (λ came. Brings (L.incoming self.old.link) came piece.new (L.incoming self.new.link)) }
+        ensures most { length piece.new ≤ most }
         ensures outgoing { L.outgoing self.new.link ≡ L.outgoing self.old.link }
         ensures same { (self.new.owed ≡ self.old.owed) × (self.new.failed ≡ self.old.failed) }
         ensures fault { OnErr result (L.failed self.new.link ≡ true) }
         ensures incoming { OnErr result (L.incoming self.new.link ≡ L.incoming self.old.link) }
         ensures piece { OnErr result (piece.new ≡ []) }
     {
-        piece.receive(&mut self.link)
+        piece.receive(&mut self.link, most)
     }
 }
 

@@ -1,15 +1,14 @@
 //! Bytes in a list, of which the first may be gone already.
 ghost use Rattle.std.specs.Prelude.{◌≡◌, ◌≤◌, ◌↔◌, [], drop, length, vec_capacity, IsTrue, IfOk, OnErr, true};
-ghost use Rattle.nfs_serving.specs.Outgoing.{Brings};
+ghost use Rattle.nfs_serving.specs.Outgoing.{Brings, came_bytes};
+ghost use Rattle.nfs_xdr.specs.Known.{Receives};
 
+use crate::intake::MOST_RECEIVED;
 use nfs_xdr::device::DeviceFault;
 use nfs_xdr::link::{Came, Link};
 use std::alloc::{AllocError, Global};
 use std::marker::Model;
 use std::mem;
-
-/// The most bytes that are received at once.
-pub const MOST_RECEIVED: usize = 262_144;
 
 /// Some of a list's bytes: those that have come on a link and are not taken yet, or those that are
 /// owed on it.
@@ -54,11 +53,6 @@ impl Window {
         ensures { IsTrue result ↔ (self.now ≡ []) }
     {
         self.from == self.to
-    }
-
-    /// Whether it had as many bytes as are received at once, so that more may have come.
-    pub fn is_full(&self) -> bool {
-        self.to == MOST_RECEIVED
     }
 
     /// Takes some first bytes away.
@@ -131,15 +125,17 @@ impl Window {
         }
     }
 
-    /// Receives what has come on a link, as much as there is room for, in place of what it has.
-    pub fn receive<L: Link>(&mut self, link: &mut L) -> Result<Came, DeviceFault>
+    /// Receives what has come on a link, as much as there is room for and at most so many bytes, in
+    /// place of what it has.
+    pub fn receive<L: Link>(&mut self, link: &mut L, most: usize) -> Result<Came, DeviceFault>
         ensures came { IfOk result (λ came. Brings (L.incoming link.old) came self.new (L.incoming link.new)) }
+        ensures most { length self.new ≤ most }
         ensures outgoing { L.outgoing link.new ≡ L.outgoing link.old }
         ensures fault { OnErr result ((L.failed link.new ≡ true) × (L.incoming link.new ≡ L.incoming link.old) × (self.new ≡ [])) }
     {
         self.from = 0;
         self.to = 0;
-        match link.receive(self.bytes.as_mut_slice()) {
+        match receive_some(link, self.bytes.as_mut_slice(), most) {
             Ok(Came::Bytes(n)) => {
                 self.to = n;
                 Ok(Came::Bytes(n))
@@ -147,4 +143,15 @@ impl Window {
             none => none,
         }
     }
+}
+
+// Receives what has come on a link, as much as there is room for and at most so many bytes.
+fn receive_some<L: Link>(link: &mut L, buffer: &mut [u8], most: usize) -> Result<Came, DeviceFault>
+    ensures came { IfOk result (λ came. Receives (L.incoming link.old) buffer.new came (L.incoming link.new)) }
+    ensures most { IfOk result (λ came. came_bytes came ≤ most) }
+    ensures outgoing { L.outgoing link.new ≡ L.outgoing link.old }
+    ensures fault { OnErr result ((L.failed link.new ≡ true) × (L.incoming link.new ≡ L.incoming link.old)) }
+{
+    let room = most.min(buffer.len());
+    link.receive(&mut buffer[..room])
 }

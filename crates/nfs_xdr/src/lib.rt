@@ -7,5 +7,6 @@ pub mod input;
 pub mod laws;
 pub mod link;
 pub mod output;
+pub mod pieces;
 pub mod stutter;
 pub mod stutter_link;

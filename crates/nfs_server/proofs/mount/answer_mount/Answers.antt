@@ -5,7 +5,7 @@ use Rattle.nfs_server.proofs.Room.{adds, adds_then, behind_is, given_up, reply_t
 use Rattle.nfs_server.proofs.mount.answer_mount.Goals as goal
 
 pub returns-in-Granted-clause-answers : goal.returns-in-Granted-clause-answers
-returns-in-Granted-clause-answers c = granted_mount c.args.tree.now c.args.table.now c.args.addr (call_of c.args.head.now) _ _ _ _ _ _ c.args.args.now c.in-Granted.is c.mount.ensures.mounts
+returns-in-Granted-clause-answers c = granted_mount c.args.tree.now c.args.table.now c.args.addr (call_of c.args.head.now) _ _ _ _ _ _ c.args.args.now _ c.requires.line c.in-Granted.is c.mount.ensures.mounts
     (λ text written. reply_text c.args.out.now c.write_accepted.new.out c.mount.new.out _ text c.write_accepted.ensures written)
 
 pub returns-in-Denied-clause-answers : goal.returns-in-Denied-clause-answers

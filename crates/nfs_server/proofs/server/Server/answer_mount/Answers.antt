@@ -24,8 +24,8 @@ returns-in_default-read_mount_args-clause-judged c = denied_unread c.args.self.n
 pub returns-clause-judged : goal.returns-clause-judged
 returns-clause-judged c =
     let inside = c.self.inside in
-    let new : Held = held inside.kept inside.table inside.tree c.answer_mount-self-inside.new.mounts c.answer_mount-self-inside.result in
+    let new : Held = held inside.kept inside.table inside.tree c.answer_mount.new.mounts c.answer_mount.new.line in
     let bytes = c.args.head.now.args in
-    subst (λ (h : Held). AnswersBy (caller_rules ++ Arguments ∷ []) h (event_of c.args.event) (call_of c.args.head.now) bytes (told (behind c.args.out.now c.answer_mount-self-inside.new.out) c.answer_mount-self-inside.result) new) c.self.view_is
+    subst (λ (h : Held). AnswersBy (caller_rules ++ Arguments ∷ []) h (event_of c.args.event) (call_of c.args.head.now) bytes (told (behind c.args.out.now c.answer_mount.new.out) c.answer_mount.new.line) new) c.self.view_is
     (mount_requested (held inside.kept inside.table inside.tree inside.mounts inside.line) (event_of c.args.event) (call_of c.args.head.now) bytes c.in-Ok.args _ new c.requires.mount c.requires.null (sym c.caller_failure.ensures ∙ c.in_default.is)
-    (sym (c.read_mount_args.ensures ∙ ap (mount_args_in c.args.head.now.proc) (c.new.ensures ∙ c.rest.ensures.all)) ∙ ap result_ok c.in-Ok.is) refl refl c.answer_mount-self-inside.ensures.answers)
+    (sym (c.read_mount_args.ensures ∙ ap (mount_args_in c.args.head.now.proc) (c.new.ensures ∙ c.rest.ensures.all)) ∙ ap result_ok c.in-Ok.is) refl refl c.answer_mount.ensures.answers)
