@@ -1,3 +1,4 @@
+pub mod Asked
 pub mod Outgoing
 pub mod Turns
 pub mod Together

@@ -1,5 +1,5 @@
 //! The way out to a client.
-ghost use Rattle.std.specs.Prelude.{◌≡◌, ◌≤◌, ◌↔◌, [], true, false, length, take, vec_capacity, IsTrue, IfOk, OnOk, OnErr};
+ghost use Rattle.std.specs.Prelude.{◌≡◌, ◌<◌, ◌≤◌, ◌↔◌, [], true, false, length, take, vec_capacity, IsTrue, IfOk, OnOk, OnErr};
 ghost use Rattle.nfs_serving.specs.Outgoing.{Passes, Brings};
 ghost use Rattle.nfs_xdr.specs.Known.{Grows};
 
@@ -92,6 +92,7 @@ impl<L: Link> Outlet<L> {
 
     /// Receives what has come, as much as a piece has room for and at most so many bytes.
     pub fn receive(&mut self, piece: &mut Window, most: usize) -> Result<Came, DeviceFault>
+        requires { 0 < most }
         ensures came { IfOk result (λ came. Brings (L.incoming self.old.link) came piece.new (L.incoming self.new.link)) }
         ensures most { length piece.new ≤ most }
         ensures outgoing { L.outgoing self.new.link ≡ L.outgoing self.old.link }

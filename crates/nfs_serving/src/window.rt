@@ -1,5 +1,5 @@
 //! Bytes in a list, of which the first may be gone already.
-ghost use Rattle.std.specs.Prelude.{◌≡◌, ◌≤◌, ◌↔◌, [], drop, length, vec_capacity, IsTrue, IfOk, OnErr, true};
+ghost use Rattle.std.specs.Prelude.{◌≡◌, ◌<◌, ◌≤◌, ◌↔◌, [], drop, length, vec_capacity, IsTrue, IfOk, OnErr, true};
 ghost use Rattle.nfs_serving.specs.Outgoing.{Brings, came_bytes};
 ghost use Rattle.nfs_xdr.specs.Known.{Receives};
 
@@ -128,6 +128,7 @@ impl Window {
     /// Receives what has come on a link, as much as there is room for and at most so many bytes, in
     /// place of what it has.
     pub fn receive<L: Link>(&mut self, link: &mut L, most: usize) -> Result<Came, DeviceFault>
+        requires { 0 < most }
         ensures came { IfOk result (λ came. Brings (L.incoming link.old) came self.new (L.incoming link.new)) }
         ensures most { length self.new ≤ most }
         ensures outgoing { L.outgoing link.new ≡ L.outgoing link.old }
