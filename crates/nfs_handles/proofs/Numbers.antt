@@ -1,5 +1,5 @@
 -- What holds of numbered files holds after each change.
-use Rattle.std.proofs.Common.{Less, ◌≡◌, ℕ, ◌+◌, ◌^◌, ◌<◌, Bool, true, false, cond, List, [], ◌∷◌, ◌++◌, Option, Some, None, All, IfSome, nat_eq, sym, subst, arith}
+use Rattle.std.proofs.Common.{Less, ◌≡◌, ℕ, ◌+◌, ◌^◌, ◌<◌, ◌≤◌, max, Bool, true, false, cond, List, [], ◌∷◌, ◌++◌, Option, Some, None, All, IfSome, nat_eq, sym, subst, arith}
 use Rattle.std.specs.Ordering.{nat_cmp}
 use Rattle.std.specs.Cmp.{nat_cmp_is}
 use Rattle.std.specs.Map.{keys_of, values_of, set_value, remove_entry}
@@ -8,7 +8,7 @@ use Rattle.std.proofs.lemmas.List.{map-append}
 use Rattle.std.proofs.lemmas.List.Elements.{All-push, All-weaker, All-tail, All-head, recursion_from_All, All-from_recursion}
 use Rattle.std.proofs.lemmas.Map.{keys-set_value}
 use Rattle.std.proofs.lemmas.Map.Views.{All-map-remove_entry, All-values-set_value, IfSome-lookup_from_All}
-use Rattle.nfs_handles.specs.NumberedFiles.{TaggedFile, NumberedFiles, at, with_new, revalued, with_value, without, IsGiven, IsNumbered}
+use Rattle.nfs_handles.specs.NumberedFiles.{TaggedFile, NumberedFiles, at, with_new, revalued, with_value, without, raised, IsGiven, IsNumbered}
 
 pub less : (x y : ℕ) → x < y → nat_cmp x y ≡ Less
 less x y l = sym (nat_cmp_is x y Less l)
@@ -38,6 +38,9 @@ below_next next ks a = All-weaker (IsGiven next) (λ k. k < next) (λ k g. g.bel
 
 later : (next k : ℕ) → IsGiven next k → IsGiven (next + 1) k
 later next k g = record { counted = g.counted; below = omega (arith, g.below) }
+
+raise : (next more k : ℕ) → next ≤ more → IsGiven next k → IsGiven more k
+raise next more k le g = record { counted = g.counted; below = omega (arith, le, g.below) }
 
 module _ {T : Type 0} where
   abbrev HasTag : TaggedFile T → Type 0
@@ -88,3 +91,16 @@ module _ {T : Type 0} where
     key_len = h.key_len;
     key_bytes = h.key_bytes;
   }
+
+  pub numbered_raised : (t : NumberedFiles T) (n : ℕ) → IsNumbered t → n < 2 ^ 64 → IsNumbered (raised t n)
+  numbered_raised t n h fits =
+      let more : t.next ≤ max t.next n = omega arith in
+      record {
+        rising = h.rising;
+        given = All-weaker (IsGiven t.next) (IsGiven (max t.next n)) (λ k. raise t.next (max t.next n) k more) (keys_of t.files) h.given;
+        tags = h.tags;
+        some = omega (arith, h.some, more);
+        last = omega (arith, h.last, fits);
+        key_len = h.key_len;
+        key_bytes = h.key_bytes;
+      }

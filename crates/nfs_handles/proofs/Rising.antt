@@ -54,6 +54,11 @@ pub push_rises : (low next : ℕ) (slot : Option ℕ) (ps : List Place) → Rise
 push_rises low next slot [] rises = (rises, omega arith)
 push_rises low next slot (p ∷ ps) rises = (rises.0, push_rises (suc p.number) next slot ps rises.1)
 
+-- they rise below a greater next number, too
+pub rises_below : (low next more : ℕ) (ps : List Place) → next ≤ more → Rises low ps next → Rises low ps more
+rises_below low next more [] le rises = omega (arith, le, rises)
+rises_below low next more (p ∷ ps) le rises = (rises.0, rises_below (suc p.number) next more ps le rises.1)
+
 -- numbers stay, so they rise as before
 pub set_rises : (low next : ℕ) (ps : List Place) (k n : ℕ) (slot : Option ℕ) (d : Place) → Rises low ps next → k < length ps → (get_or ps k d).number ≡ n → Rises low (slice_set ps k (record { number = n; slot = slot })) next
 set_rises low next [] k n slot d rises within is = absurd (omega (arith, within))

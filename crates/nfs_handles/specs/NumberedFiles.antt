@@ -1,5 +1,5 @@
 -- Files that each have a number of their own.
-use Rattle.std.specs.Prelude.{◌≡◌, ℕ, ◌+◌, ◌^◌, ◌<◌, ◌≤◌, List, [], ◌∷◌, ◌++◌, length, All, Option, Some, None, option_map, nat_eq, slice_index}
+use Rattle.std.specs.Prelude.{◌≡◌, ℕ, ◌+◌, ◌^◌, ◌<◌, ◌≤◌, max, List, [], ◌∷◌, ◌++◌, length, All, Option, Some, None, option_map, nat_eq, slice_index}
 use Rattle.std.specs.Ordering.{nat_cmp}
 use Rattle.std.specs.Map.{keys_of, values_of, lookup, set_value, remove_entry}
 use Rattle.std.specs.List.Sorted.{IsStrictlySortedBy}
@@ -46,6 +46,14 @@ module _ {T : Type 0} where
   -- without the file that lives at n, if one does
   abbrev pub without : NumberedFiles T → ℕ → NumberedFiles T
   without t n = record { files = remove_entry (nat_eq n) t.files; next = t.next; key = t.key }
+
+  -- with a next number of at least n
+  abbrev pub raised : NumberedFiles T → ℕ → NumberedFiles T
+  raised t n = record { files = t.files; next = max t.next n; key = t.key }
+
+  -- with another key
+  abbrev pub with_key : NumberedFiles T → List ℕ → NumberedFiles T
+  with_key t key = record { files = t.files; next = t.next; key = key }
 
 -- a number that was given: 1 or above, and below the next
 pub record IsGiven (next n : ℕ) : Type 0 where

@@ -5,7 +5,8 @@ ghost use Rattle.std.specs.Prelude.{IfErr, true, length, bytes_eq, option_copied
 ghost use Rattle.std.specs.Borrow.{sem};
 ghost use Rattle.std.specs.Map.{lookup};
 ghost use Rattle.std.specs.Option.{option_copied_mut};
-ghost use Rattle.nfs_handles.specs.NumberedFiles.{NumberedFiles, at, value_at, unused, IsNumbered};
+ghost use Rattle.nfs_handles.specs.NumberedFiles.{NumberedFiles, at, value_at, unused, raised, with_key};
+ghost use Rattle.nfs_handles.specs.NumberedFiles.{IsNumbered};
 ghost use Rattle.nfs_handles.specs.Handles.{handle_at, is_shaped, key_in, live_with, Names};
 ghost use Rattle.nfs_handles.specs.Handles.{LivesWith, reading, reading_without};
 ghost use Rattle.nfs_handles.specs.declared.reading.Reading.TheVariants.{Stale};
@@ -79,6 +80,20 @@ impl<T: Drop> Files<T> {
         ensures { result ≡ self.now.key }
     {
         self.key
+    }
+
+    /// Raises the number that the next new file gets to at least this one.
+    pub fn raise_next(&mut self, next: u64)
+        ensures { self.new ≡ raised self.old next }
+    {
+        self.places.raise_next(next);
+    }
+
+    /// Gives the files another key: each handle has it from now on.
+    pub fn set_key(&mut self, key: [u8; 8])
+        ensures { self.new ≡ with_key self.old key }
+    {
+        self.key = key;
     }
 
     /// Adds a file, and answers its number. `Spent` exactly where the next number is 2^64 - 1,

@@ -1,6 +1,6 @@
 //! The slots that numbers lead to, by rising number. A number that is taken away leaves its place
 //! behind, dead; where more than half of the places are, they go.
-ghost use Rattle.std.specs.Prelude.{◌≡◌, ◌+◌, ◌<◌, ◌^◌, ◌++◌, ◌∷◌, ◌↔◌, [], ℕ, IsTrue, IfSome, IfNone, OnErr, OnOk, OnSome};
+ghost use Rattle.std.specs.Prelude.{◌≡◌, ◌+◌, ◌<◌, ◌^◌, ◌++◌, ◌∷◌, ◌↔◌, [], ℕ, max, IsTrue, IfSome, IfNone, OnErr, OnOk, OnSome};
 ghost use Rattle.std.specs.Prelude.{nat_eq, nat_lt};
 ghost use Rattle.std.specs.Map.{lookup, remove_entry};
 ghost use Rattle.nfs_handles.specs.Placed.{Rises, IsPlaceOf, HasNo, is_live, led};
@@ -54,6 +54,14 @@ impl Places {
         ensures { result ≡ self.now.next }
     {
         self.next
+    }
+
+    /// Raises the next number to at least this one.
+    pub(crate) fn raise_next(&mut self, next: u64)
+        ensures entries { self.new.entries ≡ self.old.entries }
+        ensures next { self.new.next ≡ max self.old.next next }
+    {
+        self.next = self.next.max(next);
     }
 
     /// The slot that a number leads to. Out of line, since a hint mostly spares the search.

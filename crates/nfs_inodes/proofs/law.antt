@@ -1,4 +1,5 @@
 pub mod Alike
+pub mod Opened
 pub mod WithEntry
 pub mod WithNewFile
 pub mod Operations

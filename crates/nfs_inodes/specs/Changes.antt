@@ -1,5 +1,5 @@
 -- What operations do to the tree.
-use Rattle.std.specs.Prelude.{◌≡◌, ℕ, ◌+◌, ◌%◌, ◌<◌, ◌^◌, not, nat_eq, List, [], ◌∷◌, ◌++◌, length, filter}
+use Rattle.std.specs.Prelude.{◌≡◌, ℕ, ◌+◌, ◌%◌, ◌<◌, ◌^◌, max, not, nat_eq, List, [], ◌∷◌, ◌++◌, length, filter}
 use Rattle.std.specs.Prelude.{Option, None, if◌then◌else◌}
 pub use Rattle.nfs_content.specs.Bytes.{zeros, put_bytes, sized}
 use Rattle.nfs_attrs.specs.declared.moment.Moment.{Moment}
@@ -181,6 +181,16 @@ abbrev pub after_add_volume : Tree → List ℕ → ℕ → ℕ → NewFile → 
 after_add_volume t path max_bytes max_files given tag now = with_new_volume t
     (record { path = path; max_bytes = max_bytes; max_files = max_files; root = t.next })
     (new_file (length t.volumes) (Directory t.next 3 []) given None tag now)
+
+-- ---- a server's life
+
+-- the next new file takes number n, or a later one
+abbrev pub with_next_from : Tree → ℕ → Tree
+with_next_from t n = record t { next = max t.next n }
+
+-- each handle has this key
+abbrev pub with_key : Tree → List ℕ → Tree
+with_key t key = record t { key = key }
 
 -- the tree after an operation that made a file, whose tag was chosen freely
 pub record Makes (make : ℕ → Tree) (new : Tree) : Type 0 where

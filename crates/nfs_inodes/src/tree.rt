@@ -5,7 +5,7 @@ ghost use Rattle.nfs_inodes.specs.Tree.{File, Regular, Directory, Link};
 ghost use Rattle.nfs_inodes.specs.Law.{Law, Lives};
 ghost use Rattle.nfs_inodes.specs.Changes.{Makes, after_make_file, after_make_dir, after_make_link};
 ghost use Rattle.nfs_inodes.specs.Changes.{after_link, after_write_at, after_resize};
-ghost use Rattle.nfs_inodes.specs.Changes.{after_set, after_add_volume};
+ghost use Rattle.nfs_inodes.specs.Changes.{after_set, after_add_volume, with_next_from, with_key};
 ghost use Rattle.nfs_inodes.specs.Changes.{with_named_file, new_file, volume_index};
 ghost use Rattle.nfs_inodes.specs.Conditions.{MayMake, MayMakeDirectory, MayMakeLink, MayLink};
 ghost use Rattle.nfs_inodes.specs.Conditions.{MayWrite, Grows, MayResize, MayAddVolume};
@@ -71,6 +71,22 @@ impl Tree {
         ensures { result ≡ self.now.next }
     {
         self.files.next()
+    }
+
+    /// Raises the number that the next new file takes to at least this one, so that no file made from
+    /// now on has a number that was given below it, in an earlier life of the server too.
+    pub fn raise_next(&mut self, next: u64)
+        ensures { self.new ≡ with_next_from self.old next }
+    {
+        self.files.raise_next(next);
+    }
+
+    /// Gives the tree another key: a handle with the former one is stale from now on (RFC 1813,
+    /// section 2.6, NFS3ERR_STALE).
+    pub fn set_key(&mut self, key: [u8; 8])
+        ensures { self.new ≡ with_key self.old key }
+    {
+        self.files.set_key(key);
     }
 
     /// Where the tree's memory comes from, and that of contents that become its own.
