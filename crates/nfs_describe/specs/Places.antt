@@ -1,9 +1,10 @@
 -- Where the files of a volume stand, directory by directory.
-use Rattle.std.specs.Prelude.{◌≡◌, ℕ, ◌&&◌, Bool, List, [], ◌∷◌, ◌++◌, length, map, nat_le}
-use Rattle.std.specs.List.{flat_map, list_all}
-use Rattle.nfs_inodes.specs.Tree.{Tree, Entry}
-use Rattle.nfs_inodes.specs.Reading.{entries_at}
+use Rattle.std.specs.Prelude.{◌≡◌, ℕ, ◌&&◌, not, Bool, true, List, [], ◌∷◌, ◌++◌, length, map, nat_le}
+use Rattle.std.specs.List.{filter, flat_map, list_all}
+use Rattle.nfs_inodes.specs.Tree.{Tree, Entry, on_some}
+use Rattle.nfs_inodes.specs.Reading.{entries_at, path_at}
 use Rattle.nfs_load.specs.Listings.{is_plain}
+use Rattle.nfs_describe.specs.Lines.{is_target}
 
 -- a path from the root of a volume on, empty for the root itself, and the file that it names
 pub record Place : Type 0 where
@@ -28,3 +29,31 @@ is_sayable path = nat_le (length path) 1024 && list_all is_plain path
 
 abbrev pub are_sayable : List Place → Bool
 are_sayable places = list_all (λ (p : Place). is_sayable p.path) places
+
+-- ---- what a description has words for
+
+-- whether it has words for a place: for its path, and for what it holds if it is a link
+abbrev pub has_words : Tree → Place → Bool
+has_words t p = is_sayable p.path && on_some (path_at t p.number) true is_target
+
+abbrev pub lacks_words : Tree → Place → Bool
+lacks_words t p = not (has_words t p)
+
+-- what is skipped: the place of its volume, and its path in it
+pub record Skipped : Type 0 where
+  pub volume : ℕ
+  pub path : List ℕ
+
+abbrev pub skipped_at : ℕ → Place → Skipped
+skipped_at volume p = record { volume = volume; path = p.path }
+
+-- of the entries of a directory those that it has words for, and the others
+abbrev pub sayable_below : Tree → Place → List Place
+sayable_below t p = filter (has_words t) (places_below t p)
+
+abbrev pub skipped_below : Tree → ℕ → Place → List Skipped
+skipped_below t volume p = map (skipped_at volume) (filter (lacks_words t) (places_below t p))
+
+-- A walk that leaves out what it has no words for, and so all that is below it.
+abbrev pub IsSayableWalk : Tree → ℕ → List Place → Type 0
+IsSayableWalk t root places = places ≡ record { path = []; number = root } ∷ flat_map (sayable_below t) places

@@ -13,7 +13,7 @@ use Rattle.nfs_inodes.specs.Reading.{attributes_at, attributes_of, is_directory_
 use Rattle.nfs_inodes.specs.Views.{FileView, bytes_seen}
 use Rattle.nfs_load.specs.declared.statement.Given.{Given}
 use Rattle.nfs_describe.specs.Lines.{server_line, volume_line, export_line, dir_line, file_line, link_line, hard_line}
-use Rattle.nfs_describe.specs.Places.{Place, IsWalk, are_sayable}
+use Rattle.nfs_describe.specs.Places.{Place, Skipped, IsSayableWalk, IsWalk, are_sayable, skipped_below}
 
 abbrev pub given_of : Fattr → Given
 given_of a = record { mode = a.mode; uid = a.uid; gid = a.gid }
@@ -82,3 +82,24 @@ SaysTo t table (suc n) text = (before part : List ℕ) × SaysTo t table n befor
 -- The text describes the tree with these exports.
 abbrev pub Says : Tree → List (List Export) → List ℕ → Type 0
 Says t table text = SaysTo t table (length t.volumes) text
+
+-- ---- as far as a description has words for a tree
+
+-- the text of the volume at a place, and what it skips, in the order of the walk
+pub record IsSayableText (t : Tree) (table : List (List Export)) (place : ℕ) (skipped : List Skipped) (text : List ℕ) : Type 0 where
+  pub volume : Volume
+  pub at_place : slice_get t.volumes place ≡ Some volume
+  pub walk : List Place
+  pub walked : IsSayableWalk t volume.root walk
+  pub skipped_are : skipped ≡ flat_map (skipped_below t place) walk
+  pub text_is : text ≡ volume_text t table place volume walk
+
+-- the server's line with a key, and the texts of the first n volumes, with what they skip
+abbrev pub SaysSayableTo : Tree → List (List Export) → List ℕ → ℕ → List Skipped → List ℕ → Type 0
+SaysSayableTo t table key zero skipped text = (text ≡ server_line key) × (skipped ≡ [])
+SaysSayableTo t table key (suc n) skipped text = (before part : List ℕ) × (others more : List Skipped) × SaysSayableTo t table key n others before
+    × IsSayableText t table n more part × (text ≡ before ++ part) × (skipped ≡ others ++ more)
+
+-- The text describes under a key all of the tree that a description has words for, with these exports; the rest is skipped.
+abbrev pub SaysSayable : Tree → List (List Export) → List ℕ → List Skipped → List ℕ → Type 0
+SaysSayable t table key skipped text = SaysSayableTo t table key (length t.volumes) skipped text

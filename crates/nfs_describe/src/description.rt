@@ -1,10 +1,12 @@
 //! The description of a tree with its exports.
-ghost use Rattle.std.specs.Prelude.{◌≡◌, ◌⊎◌, ℕ, List, ◌++◌, ◌<◌, ◌≤◌, IfOk, OnOk, OnErr, length};
+ghost use Rattle.std.specs.Prelude.{◌≡◌, ◌⊎◌, ℕ, List, [], ◌++◌, ◌<◌, ◌≤◌, IfOk, OnOk, OnErr, length};
 ghost use Rattle.std.specs.List.{flat_map};
 ghost use Rattle.nfs_xdr.specs.Known.{Grows, GrowsByPart};
 ghost use Rattle.nfs_exports.specs.Tables.{exports_of};
 ghost use Rattle.nfs_describe.specs.Lines.{export_line};
-ghost use Rattle.nfs_describe.specs.Texts.{IsVolumeText, Says, root_text};
+ghost use Rattle.nfs_describe.specs.Places as spec;
+ghost use Rattle.nfs_describe.specs.Texts.{IsSayableText, Says, SaysSayable, root_text};
+ghost use Rattle.nfs_inodes.specs.Changes.{with_key};
 ghost use Rattle.nfs_inodes.specs.Reading.{attributes_at};
 ghost use Rattle.nfs_inodes.specs.Views.{volume_seen};
 
@@ -12,6 +14,7 @@ use crate::export_line::put_export;
 use crate::fault::DescribeFault;
 use crate::files::{given_of, put_files};
 use crate::lines::{put_server, put_volume_line};
+use crate::skipped::Skipped;
 use crate::walk::walk;
 use nfs_exports::table::{Export, Table};
 use nfs_inodes::tree::Tree;
@@ -23,25 +26,60 @@ use std::alloc::{AllocError, Global};
 /// The most bytes of a description: 1 GiB.
 pub const MAX_DESCRIPTION_BYTES: usize = 1 << 30;
 
+/// What a description says of a tree, and what of it is skipped.
+#[derive(Drop)]
+pub struct Described {
+    /// The description.
+    pub text: Vec<u8>,
+    /// What a description has no words for, volume by volume, in the order in which directories are
+    /// gone through. What is below a directory that is skipped isn't there.
+    pub skipped: Vec<Skipped>,
+}
+
 /// The description of a tree with its exports: the key, and each volume with its limits, its exports
 /// and its files, directory by directory, each by its first name and then `hard` for the others.
 /// Times are not described, and neither are the mode of a link and the numbers of files.
 ///
-/// `Unsayable` for the first path that a description has no words for, or for a link that holds
-/// what no word says; `TooLong`, `Memory`.
+/// `Unsayable` for the first path that a description has no words for, or for the first of a link
+/// that holds what no word says; `TooLong`, `Memory`.
 pub fn describe(alloc: Global, tree: &Tree, table: &Table) -> Result<Vec<u8>, DescribeFault>
     ensures says { IfOk result (λ text. Says tree.now table.now text.items) }
     ensures short { IfOk result (λ text. length text.items ≤ 1073741824) }
 {
-    let mut text = Vec::new(alloc);
-    put_server(alloc, &mut text, tree.key())?;
-    for place in 0..tree.volumes() {
-        put_volume(alloc, tree, table, place, &mut text)?;
+    let Described { text, mut skipped } = describe_sayable(alloc, tree, table, tree.key())?;
+    if skipped.is_empty() {
+        return Ok(text);
     }
-    if text.len() > MAX_DESCRIPTION_BYTES {
+    let first = skipped.remove(0);
+    Err(DescribeFault::Unsayable(first.path))
+}
+
+/// The description of a tree under a key, as `describe` makes it, of all that a description has words
+/// for. A name whose path has none is skipped, and so is one of a link that holds what no word says:
+/// with all that is below it, and alone among the names of its file, whose next one is then its first.
+/// `TooLong`, `Memory`.
+pub fn describe_sayable(
+    alloc: Global,
+    tree: &Tree,
+    table: &Table,
+    key: [u8; 8],
+) -> Result<Described, DescribeFault>
+    ensures sayable { IfOk result (λ d. SaysSayable tree.now table.now key d.skipped.items d.text.items) }
+    ensures whole { IfOk result (λ d. d.skipped.items ≡ [] → Says (with_key tree.now key) table.now d.text.items) }
+    ensures short { IfOk result (λ d. length d.text.items ≤ 1073741824) }
+{
+    let mut described = Described {
+        text: Vec::new(alloc),
+        skipped: Vec::new(alloc),
+    };
+    put_server(alloc, &mut described.text, key)?;
+    for place in 0..tree.volumes() {
+        put_volume(alloc, tree, table, place, &mut described)?;
+    }
+    if described.text.len() > MAX_DESCRIPTION_BYTES {
         return Err(DescribeFault::TooLong);
     }
-    Ok(text)
+    Ok(described)
 }
 
 /// Writes the description of a tree with its exports, once all of it is made. The faults of
@@ -70,19 +108,22 @@ fn put_volume(
     tree: &Tree,
     table: &Table,
     place: usize,
-    text: &mut Vec<u8>,
+    described: &mut Described,
 ) -> Result<(), DescribeFault>
     requires { place < length tree.now.volumes }
-    ensures { OnOk result ((part : List ℕ) × IsVolumeText tree.now table.now place part
-        × (text.new.items ≡ text.old.items ++ part)) }
+    ensures { OnOk result ((part : List ℕ) × (more : List spec.Skipped) × IsSayableText tree.now table.now place more part
+        × (described.new.text.items ≡ described.old.text.items ++ part) × (described.new.skipped.items ≡ described.old.skipped.items ++ more)) }
 {
     let Some(volume) = tree.volume(place) else {
         return Ok(());
     };
-    let places = walk(alloc, tree, volume.root)?;
+    let mut below = walk(alloc, tree, place, volume.root)?;
+    let text = &mut described.text;
     put_root(tree, &volume, text)?;
     put_exports(table.patterns(place), text)?;
-    put_files(alloc, tree, places.as_slice(), text)
+    put_files(alloc, tree, below.places.as_slice(), text)?;
+    described.skipped.append(&mut below.skipped)?;
+    Ok(())
 }
 
 // The line of a volume.

@@ -6,10 +6,9 @@ ghost use Rattle.nfs_inodes.specs.Views.{bytes_seen};
 ghost use Rattle.nfs_describe.specs.Lines.{link_line};
 ghost use Rattle.nfs_describe.specs.Texts.{files_text, given_of, kept_name, named_text, node_line, own_text};
 
-use crate::fault::{DescribeFault, ShownPath};
+use crate::fault::DescribeFault;
 use crate::lines::{put_dir, put_file, put_hard, put_link};
 use crate::place::Place;
-use crate::sayable::is_target;
 use nfs_attrs::fattr::Fattr;
 use nfs_attrs::file_type::FileType;
 use nfs_inodes::tree::Tree;
@@ -19,7 +18,7 @@ use std::alloc::{AllocError, Global};
 use std::collections::BTreeMap;
 
 /// A line for each place behind the root: the file by its first name, and `hard` for each further
-/// one. `Unsayable` for a link that holds what no word says, `Memory`.
+/// one. `Memory`.
 pub(crate) fn put_files(
     alloc: Global,
     tree: &Tree,
@@ -76,28 +75,21 @@ fn put_own(
         return Ok(());
     };
     match tree.link_path(place.number) {
-        Some(target) => put_target(alloc, path, &file.attributes(), target, text),
+        Some(target) => Ok(put_target(path, &file.attributes(), target, text)?),
         None => Ok(put_node(alloc, path, &file, text)?),
     }
 }
 
 // The line of a symbolic link that holds this target.
 fn put_target(
-    alloc: Global,
     path: &[u8],
     attributes: &Fattr,
     target: &[u8],
     text: &mut Vec<u8>,
-) -> Result<(), DescribeFault>
+) -> Result<(), AllocError>
     ensures { OnOk result (text.new.items ≡ text.old.items ++ link_line path.now attributes.now.uid attributes.now.gid target.now) }
 {
-    if !is_target(target) {
-        let mut shown = Vec::new(alloc);
-        shown.extend_from_slice(path)?;
-        return Err(DescribeFault::Unsayable(ShownPath(shown)));
-    }
-    put_link(text, path, attributes.uid, attributes.gid, target)?;
-    Ok(())
+    put_link(text, path, attributes.uid, attributes.gid, target)
 }
 
 // The line of a directory or a regular file.

@@ -9,4 +9,5 @@ mod lines;
 mod numbers;
 pub mod place;
 pub mod sayable;
+pub mod skipped;
 mod walk;

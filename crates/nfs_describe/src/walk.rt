@@ -1,66 +1,129 @@
 //! The places of a volume, directory by directory.
-ghost use Rattle.std.specs.Prelude.{◌≡◌, ◌∷◌, ◌++◌, true, IfOk};
+ghost use Rattle.std.specs.Prelude.{◌≡◌, [], ◌∷◌, ◌++◌, IfOk, OnOk, map, true};
+ghost use Rattle.std.specs.List.{filter, flat_map};
+ghost use Rattle.nfs_inodes.specs.Reading.{path_at};
+ghost use Rattle.nfs_inodes.specs.Tree.{on_some};
+ghost use Rattle.nfs_describe.specs.Lines as lines;
 ghost use Rattle.nfs_describe.specs.Places as spec;
-ghost use Rattle.nfs_describe.specs.Places.{IsWalk, are_sayable, is_sayable};
+ghost use Rattle.nfs_describe.specs.Places.{IsSayableWalk, lacks_words, sayable_below, skipped_at, skipped_below};
 
 use crate::fault::{DescribeFault, ShownPath};
 use crate::place::Place;
-use crate::sayable::is_sayable;
+use crate::sayable::{is_sayable, is_target};
+use crate::skipped::Skipped;
 use nfs_handles::number::Number;
 use nfs_inodes::tree::Tree;
 use std::alloc::Global;
 
-/// The places below a root: the root, then what stands in it, then what stands in each directory of
-/// these, and so on. `Unsayable` for the first path that a description has no words for, `Memory`.
-pub(crate) fn walk(alloc: Global, tree: &Tree, root: Number) -> Result<Vec<Place>, DescribeFault>
-    ensures walk { IfOk result (λ places. IsWalk tree.now root.0 places.items) }
-    ensures sayable { IfOk result (λ places. are_sayable places.items ≡ true) }
+/// What stands below a root or a directory.
+#[derive(Drop)]
+pub(crate) struct Below {
+    /// The places that a description has words for.
+    pub(crate) places: Vec<Place>,
+    /// The first ones without, which hide all that is below them.
+    pub(crate) skipped: Vec<Skipped>,
+}
+
+/// The places below the root of the volume at a place: the root, then what stands in it, then what
+/// stands in each directory of these, and so on, but for what a description has no words for.
+/// `Memory`.
+pub(crate) fn walk(
+    alloc: Global,
+    tree: &Tree,
+    volume: usize,
+    root: Number,
+) -> Result<Below, DescribeFault>
+    ensures walk { IfOk result (λ walk. IsSayableWalk tree.now root.0 walk.places.items) }
+    ensures skipped { IfOk result (λ walk. walk.skipped.items ≡ flat_map (skipped_below tree.now volume) walk.places.items) }
 {
     let mut places = Vec::new(alloc);
+    let mut skipped = Vec::new(alloc);
     places.push(Place {
         path: Vec::new(alloc),
         number: root,
     })?;
     for index in 0..usize::MAX {
         if index >= places.len() {
-            return Ok(places);
+            return Ok(Below { places, skipped });
         }
-        let mut below = places_below(alloc, tree, &places[index])?;
-        places.append(&mut below)?;
+        let mut below = walk_below(alloc, tree, volume, &places[index])?;
+        places.append(&mut below.places)?;
+        skipped.append(&mut below.skipped)?;
     }
     Err(DescribeFault::Memory)
 }
 
-// The places of the entries of a directory, in their order; none of another file.
-fn places_below(alloc: Global, tree: &Tree, place: &Place) -> Result<Vec<Place>, DescribeFault>
-    ensures below { IfOk result (λ below. below.items ≡ spec.places_below tree.now place.now) }
-    ensures sayable { IfOk result (λ below. are_sayable below.items ≡ true) }
+// The entries of a directory, in their order; none of another file.
+fn walk_below(
+    alloc: Global,
+    tree: &Tree,
+    volume: usize,
+    place: &Place,
+) -> Result<Below, DescribeFault>
+    ensures places { IfOk result (λ below. below.places.items ≡ sayable_below tree.now place.now) }
+    ensures skipped { IfOk result (λ below. below.skipped.items ≡ skipped_below tree.now volume place.now) }
 {
-    let mut below = Vec::new(alloc);
+    let mut below = Below {
+        places: Vec::new(alloc),
+        skipped: Vec::new(alloc),
+    };
     let Some(dir) = tree.view(place.number) else {
         return Ok(below);
     };
     let mut entries = dir.entries();
     while let Some(entry) = entries.next() {
-        below.push(Place {
+        let found = Place {
             path: path_below(alloc, place, entry.name)?,
             number: entry.number,
-        })?;
+        };
+        below.put(tree, volume, found)?;
     }
     Ok(below)
 }
 
+impl Below {
+    // Puts a place behind the others that have words, or behind those that are skipped.
+    fn put(&mut self, tree: &Tree, volume: usize, place: Place) -> Result<(), DescribeFault>
+        ensures places { OnOk result (self.new.places.items ≡ self.old.places.items ++ filter (spec.has_words tree.now) (place ∷ [])) }
+        ensures skipped { OnOk result (self.new.skipped.items ≡
+            self.old.skipped.items ++ map (skipped_at volume) (filter (lacks_words tree.now) (place ∷ []))) }
+    {
+        if has_words(tree, &place) {
+            self.places.push(place)?;
+        } else {
+            self.skipped.push(Skipped {
+                volume,
+                path: ShownPath(place.path),
+            })?;
+        }
+        Ok(())
+    }
+}
+
+// Whether a description has words for a place: for its path, and for what it holds if it is a link.
+fn has_words(tree: &Tree, place: &Place) -> bool
+    ensures { result ≡ spec.has_words tree.now place.now }
+{
+    is_sayable(place.path.as_slice()) && is_said(tree, place.number)
+}
+
+// Whether a file is no link, or one that holds a word.
+fn is_said(tree: &Tree, number: Number) -> bool
+    ensures { result ≡ on_some (path_at tree.now number.0) true lines.is_target }
+{
+    match tree.link_path(number) {
+        Some(target) => is_target(target),
+        None => true,
+    }
+}
+
 // The path of a name in the directory at a place.
 fn path_below(alloc: Global, place: &Place, name: &[u8]) -> Result<Vec<u8>, DescribeFault>
-    ensures path { IfOk result (λ path. path.items ≡ place.now.path ++ 47 ∷ name.now) }
-    ensures sayable { IfOk result (λ path. is_sayable path.items ≡ true) }
+    ensures { IfOk result (λ path. path.items ≡ place.now.path ++ 47 ∷ name.now) }
 {
     let mut path = Vec::new(alloc);
     path.extend_from_slice(place.path.as_slice())?;
     path.push(b'/')?;
     path.extend_from_slice(name)?;
-    if !is_sayable(path.as_slice()) {
-        return Err(DescribeFault::Unsayable(ShownPath(path)));
-    }
     Ok(path)
 }

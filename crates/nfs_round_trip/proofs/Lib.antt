@@ -4,6 +4,7 @@ pub mod Changes
 pub mod Directories
 pub mod Files
 pub mod Going
+pub mod Keys
 pub mod Links
 pub mod Loaded
 pub mod LoadedLines

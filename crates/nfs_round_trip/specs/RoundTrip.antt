@@ -1,7 +1,8 @@
 -- A description that is written of a tree loads, and is that tree again.
-use Rattle.std.specs.Prelude.{◌≡◌, ◌⊎◌, ℕ, ◌+◌, ◌≤◌, true, List, length, map, All, Contains, Some, Result, Ok, Err, slice_get}
+use Rattle.std.specs.Prelude.{◌≡◌, ◌⊎◌, ℕ, ◌+◌, ◌≤◌, ◌<◌, true, List, length, map, All, Contains, Some, Result, Ok, Err, slice_get, slice_index}
 use Rattle.nfs_exports.specs.Tables.{exports_of, pattern_count}
 use Rattle.nfs_exports.specs.declared.table.Export.{Export}
+use Rattle.nfs_inodes.specs.Changes.{with_key}
 use Rattle.nfs_inodes.specs.Law.{Law, Lives}
 use Rattle.nfs_inodes.specs.Tree.{Tree, File, Volume, nlink}
 use Rattle.nfs_load.specs.Descriptions.{Describes}
@@ -51,6 +52,11 @@ pub record IsDescribable (t : Tree) (table : List (List Export)) : Type 0 where
   pub lists : length table ≡ length t.volumes
   pub few : pattern_count table ≤ 256
   pub exports : (place : ℕ) (e : Export) → Contains (exports_of table place) e → IsExport e
+
+-- Such a tree is one under each key of 8 bytes.
+abbrev pub KeysStayDescribable : Type 0
+KeysStayDescribable = (t : Tree) (table : List (List Export)) (key : List ℕ) → length key ≡ 8 → ((i : ℕ) → slice_index key i < 256) → IsDescribable t table
+    → IsDescribable (with_key t key) table
 
 -- A text that describes a tree with its exports says, when it is loaded, that tree with these exports; or memory is wanted.
 abbrev pub DescriptionsLoadAgain : Type 0

@@ -1,7 +1,7 @@
 //! Laws over the definitions alone.
 ghost use Rattle.nfs_round_trip.specs.Changes.{ChangesStayDescribable};
 ghost use Rattle.nfs_round_trip.specs.RoundTrip.{DescriptionsAreKept, DescriptionsAreOne, DescriptionsLoadAgain};
-ghost use Rattle.nfs_round_trip.specs.RoundTrip.{LoadedAreDescribable, WalksAreOne};
+ghost use Rattle.nfs_round_trip.specs.RoundTrip.{KeysStayDescribable, LoadedAreDescribable, WalksAreOne};
 
 /// The description that is written of a tree with its exports loads, and is that tree again, with
 /// those exports: for each tree that can be described.
@@ -23,6 +23,11 @@ pub fn loaded_are_describable()
 /// They stay such trees whatever clients do, but for a link that holds what no line says.
 pub fn changes_stay_describable()
     ensures { ChangesStayDescribable }
+{}
+
+/// They stay such trees under another key, so that what is saved under a new one loads again.
+pub fn keys_stay_describable()
+    ensures { KeysStayDescribable }
 {}
 
 /// The order in which the files of a volume are written is the only one.

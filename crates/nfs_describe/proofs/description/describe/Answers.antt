@@ -1,10 +1,9 @@
-use Rattle.std.proofs.Common.{arith}
-use Rattle.nfs_describe.proofs.Volumes.{says_more}
+use Rattle.std.proofs.Common.{◌≡◌, length, rules}
+use Rattle.nfs_describe.proofs.Volumes.{nothing_there, own_said}
 use Rattle.nfs_describe.proofs.description.describe.Goals as goal
 
-pub loop-place-preserved : goal.loop-place-preserved
-loop-place-preserved c = record {
-  within = omega (arith, c.loop-place-test.true, c.loop-place.invariant.end);
-  end = c.loop-place.invariant.end;
-  says = says_more _ _ c.loop-place.place c.loop-place.text.items c.in_ok-put_volume.ensures.0 _ c.loop-place.invariant.says c.in_ok-put_volume.ensures.1 c.in_ok-put_volume.ensures.2;
-}
+pub returns-then-is_empty-clause-says : goal.returns-then-is_empty-clause-says
+returns-then-is_empty-clause-says c =
+    let none : length c.in_ok-text.field-0.skipped.items ≡ 0 = search rules in
+    let own : c.key.result ≡ c.args.tree.now.key = search rules in
+    own_said _ _ _ _ own (c.in_ok-text.ensures.whole (nothing_there _ none))
