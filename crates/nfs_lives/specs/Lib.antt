@@ -1,0 +1,4 @@
+pub mod Paths
+pub mod Rows
+pub mod Opening
+pub mod Tellings

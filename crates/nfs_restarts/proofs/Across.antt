@@ -1,0 +1,162 @@
+-- What handles name from one life to the next.
+use Rattle.std.proofs.Common.{◌≡◌, ℕ, ◌+◌, ◌-◌, ◌<◌, ◌≤◌, max, Bool, true, false, List, [], ◌∷◌, length, Option, Some, None, is_some, option_map, inl, inr, refl, sym, ap, subst, ◌∙◌, arith}
+use Rattle.std.specs.Prelude.{◌≢◌, ◌||◌, bytes_eq, nat_eq, nat_le, if◌then◌else◌}
+use Rattle.std.proofs.lemmas.Slice.Eq.{bytes_eq-Decides}
+use Rattle.std.proofs.lemmas.Bool.{leb-true, leb-false}
+use Rattle.nfs_handles.specs.Handles.{handle_at, is_shaped, key_in, live_with, number, number_in, reading, tag_in}
+use Rattle.nfs_handles.specs.NumberedFiles as numbered
+use Rattle.nfs_handles.specs.NumberedFiles.{TaggedFile, IsGiven}
+use Rattle.nfs_handles.specs.declared.reading.Reading.{Reading}
+use Rattle.nfs_handles.specs.declared.reading.Reading.TheVariants.{Live, Stale}
+use Rattle.nfs_handles.proofs.Handles.{handles_name_one, judged, names, past_checks}
+use Rattle.nfs_handles.proofs.Lookups.{live_is_given}
+use Rattle.nfs_inodes.proofs.Maps.{at_shows}
+use Rattle.nfs_inodes.specs.Law.{Law}
+use Rattle.nfs_inodes.specs.Reading.{numbered_files}
+use Rattle.nfs_inodes.specs.Tree.{Tree, File, at}
+use Rattle.nfs_policy.proofs.Confined.{handles_name_for_good, runs_are_confined}
+use Rattle.nfs_policy.specs.Naming.{NamesOn, Through}
+use Rattle.nfs_server.specs.Events.{Done}
+use Rattle.nfs_server.specs.Steps.{Setup, State, IsRun}
+use Rattle.nfs_restarts.proofs.Made.{AllMade, MadeIn, all_made, making}
+use Rattle.nfs_restarts.specs.Lives.{Follows, HandlesAcrossLives, IsMadeBy, IsMadeInBoth, HandlesOfOthersAreStale, Life, ReadsOn, key_of}
+use Rattle.nfs_lives.specs.Paths.{PathRow, life_key, rows_of}
+
+abbrev tagged : File → TaggedFile File
+tagged f = record { tag = f.tag; value = f }
+
+-- what is so of each state of a run is so of its opening
+at_opening : (setup : Setup) (opening : State) (Holds : State → Type 0) (past : List Done) (state : State) (run : IsRun setup opening past state)
+    → Through setup opening past state run Holds → Holds opening
+at_opening setup opening Holds [] state run h = subst Holds run h
+at_opening setup opening Holds (d ∷ before) state run h = at_opening setup opening Holds before run.0 run.1 h.0
+
+-- ---- one life
+
+module _ (life : Life) where
+  lawful : Law life.state.tree
+  lawful = (runs_are_confined life.setup life.opening life.opens_lawful life.past life.state life.run).0
+
+  names_on : NamesOn life.opening.tree life.state.tree
+  names_on = at_opening life.setup life.opening (λ s. NamesOn s.tree life.state.tree) life.past life.state life.run
+      (handles_name_for_good life.setup life.opening life.opens_lawful life.past life.state life.run).1
+
+  key_is : life.state.tree.key ≡ key_of life
+  key_is = names_on.key ∙ ap (λ (t : Tree). t.key) life.opens
+
+  opens_next : life.opening.tree.next ≡ max life.loaded.tree.next life.next
+  opens_next = ap (λ (t : Tree). t.next) life.opens
+
+  -- numbers from the next one on are above all that are given before
+  begins_above : life.next ≤ life.state.tree.next
+  begins_above = omega (arith, opens_next, names_on.next)
+
+  -- no file lives at a number that the description didn't give
+  no_file : (n : ℕ) → life.loaded.tree.next ≤ n → at n life.loaded.tree.files ≡ None
+  no_file n above = of (at n life.loaded.tree.files) refl
+    where
+      of : (o : Option File) → at n life.loaded.tree.files ≡ o → o ≡ None
+      of None e = refl
+      of (Some f) e =
+          let found : numbered.at (numbered_files life.loaded.tree) n ≡ Some (tagged f) = at_shows tagged n life.loaded.tree.files ∙ ap (option_map tagged) e in
+          let given : IsGiven life.loaded.tree.next n = live_is_given (numbered_files life.loaded.tree) n life.lawful.numbers (ap is_some found) in
+          absurd (omega (arith, above, given.below))
+
+  never_given : (n : ℕ) → life.loaded.tree.next ≤ n → n < life.next → numbered.at (numbered_files life.state.tree) n ≡ None
+  never_given n above below =
+      let none : at n life.opening.tree.files ≡ None = ap (λ (t : Tree). at n t.files) life.opens ∙ no_file n above in
+      at_shows tagged n life.state.tree.files ∙ ap (option_map tagged) (names_on.gone n (omega (arith, opens_next, below)) none)
+
+  made : AllMade None life.lines 1 (making (rows_of life.lines)) life.loaded
+  made = all_made life.lines life.loaded life.described
+
+made_by : (lines : List (List ℕ)) (n m : ℕ) (row : PathRow) → n ≡ m → MadeIn None lines m row → IsMadeBy lines n row
+made_by lines n m row same it = record {
+  before = it.first;
+  line = it.line;
+  behind = it.behind;
+  lines_are = it.lines_are;
+  old = it.old;
+  in_order = it.in_order;
+  new = it.new;
+  done = it.done;
+  numbered = same ∙ it.numbered;
+  row_is = it.row_is;
+  makes = it.makes;
+}
+
+same_row : (row other : PathRow) → Some row ≡ Some other → other ≡ row
+same_row row other e = cc
+
+-- ---- two lives
+
+module _ (earlier later : Life) (follows : Follows earlier later) where
+  same_key : earlier.state.tree.key ≡ later.state.tree.key
+  same_key = key_is earlier ∙ ap (life_key earlier.loaded.tree.key) (sym follows.paths)
+      ∙ ap (λ k. life_key k (rows_of later.lines)) (sym follows.key) ∙ sym (key_is later)
+
+  in_both : (n : ℕ) → 1 ≤ n → n < later.loaded.tree.next → IsMadeInBoth earlier later n
+  in_both n some below =
+      let rows : List PathRow = making (rows_of later.lines) in
+      let old : AllMade None earlier.lines 1 rows earlier.loaded = subst (λ rs. AllMade None earlier.lines 1 (making rs) earlier.loaded) (sym follows.paths) (made earlier) in
+      let new = made later in
+      let i : ℕ = n - 1 in
+      let within : i < length rows = omega (arith, some, below, new.0) in
+      let first = old.1 i within in
+      let second = new.1 i within in
+      let count : n ≡ 1 + i = omega (arith, some) in
+      let one : second.0 ≡ first.0 = same_row first.0 second.0 (sym first.1 ∙ second.1) in
+      (first.0, made_by earlier.lines n (1 + i) first.0 count first.2, subst (IsMadeBy later.lines n) one (made_by later.lines n (1 + i) second.0 count second.2))
+
+  module _ (n : ℕ) (handle : List ℕ) where
+    -- by the file that lives at the number, and whether it has the tag of the handle
+    reads_on : 1 ≤ n → n < later.next → (o : Option (TaggedFile File)) → numbered.at (numbered_files later.state.tree) n ≡ o
+        → reading (numbered_files later.state.tree) handle ≡ live_with (tag_in handle) n o → ReadsOn earlier later n handle
+    reads_on some below None e reads = inl reads
+    reads_on some below (Some file) e reads = of (nat_eq (tag_in handle) file.tag) reads
+      where
+        given_there : (b : Bool) → nat_le later.loaded.tree.next n ≡ b → n < later.loaded.tree.next
+        given_there true le = let none = never_given later n (leb-true later.loaded.tree.next n le) below in cc
+        given_there false le = omega (arith, leb-false later.loaded.tree.next n le)
+
+        of : (b : Bool) → reading (numbered_files later.state.tree) handle ≡ (if b then Live (number n) else Stale) → ReadsOn earlier later n handle
+        of true reads = inr (reads, in_both n some (given_there (nat_le later.loaded.tree.next n) refl))
+        of false reads = inl reads
+
+    handle_lives_on : handle_at (numbered_files earlier.state.tree) n ≡ Some handle → ReadsOn earlier later n handle
+    handle_lives_on is =
+        let t = numbered_files earlier.state.tree in
+        let u = numbered_files later.state.tree in
+        let live : reading t handle ≡ Live (number n) = handles_name_one.read t n handle (lawful earlier).numbers is in
+        let it = names t n handle live in
+        let given : IsGiven t.next n = live_is_given t n (lawful earlier).numbers (ap is_some it.found) in
+        let below : n < later.next = omega (arith, given.below, follows.above) in
+        let here : IsGiven u.next n = record { counted = given.counted; below = omega (arith, below, begins_above later) } in
+        let read = past_checks u handle n it.shaped (it.ours ∙ same_key) it.number here in
+        reads_on given.counted below (numbered.at u n) refl read
+
+pub handles_live_on : HandlesAcrossLives
+handles_live_on = λ earlier later follows n handle is. handle_lives_on earlier later follows n handle is
+
+-- ---- another key
+
+stale_of : (shaped : Bool) (ours : Bool) (given : Bool) (rest : Reading) → shaped ≡ true → ours ≡ false → judged shaped ours given rest ≡ Stale
+stale_of true false given rest s o = refl
+stale_of true true given rest s o = cc
+stale_of false ours given rest s o = cc
+
+bytes_differ : (xs ys : List ℕ) → xs ≢ ys → bytes_eq xs ys ≡ false
+bytes_differ xs ys differ = of (bytes_eq xs ys) (bytes_eq-Decides xs ys).0
+  where
+    of : (b : Bool) → (b ≡ true → xs ≡ ys) → b ≡ false
+    of true same = absurd (differ (same refl))
+    of false same = refl
+
+pub handles_of_others_are_stale : HandlesOfOthersAreStale
+handles_of_others_are_stale one other differ n handle is =
+    let t = numbered_files one.state.tree in
+    let u = numbered_files other.state.tree in
+    let it = names t n handle (handles_name_one.read t n handle (lawful one).numbers is) in
+    let m : ℕ = number_in handle in
+    let ours : bytes_eq (key_in handle) u.key ≡ false = bytes_differ (key_in handle) u.key (λ same. differ (sym (key_is one) ∙ sym it.ours ∙ same ∙ key_is other)) in
+    stale_of (is_shaped handle) (bytes_eq (key_in handle) u.key) (nat_eq m 0 || nat_le u.next m) (live_with (tag_in handle) m (numbered.at u m)) it.shaped ours
