@@ -12,7 +12,7 @@ use nfs_server::server::Server;
 use nfs_server::stream::{Served, serve_stream};
 use nfs_serving::client::Client;
 use nfs_serving::room::Room;
-use nfs_serving::turn::{End, Turn};
+use nfs_serving::turn::{End, Pace, Turn};
 use nfs_xdr::device::Device;
 use nfs_xdr::stutter::Stutter;
 use nfs_xdr::stutter_link::StutterLink;
@@ -194,8 +194,8 @@ fn take_turns(
 ) -> Option<(End, End)> {
     let mut audit = Device::new(std::io::sink());
     for _ in 0..1_000 {
-        let one = first.turn(server, room, NOW, &mut audit);
-        let other = second.turn(server, room, NOW, &mut audit);
+        let one = first.turn(server, room, NOW, Pace::Many, &mut audit);
+        let other = second.turn(server, room, NOW, Pace::Many, &mut audit);
         if let (Turn::Ended(one), Turn::Ended(other)) = (one, other) {
             return Some((one, other));
         }
@@ -254,7 +254,7 @@ fn meets(alloc: Global, server: &mut Server, room: &mut Room) -> Option<bool> {
     let mut client = client(alloc, u32::MAX);
     let mut audit = Device::new(std::io::sink());
     for _ in 0..1_000 {
-        if let Turn::Ended(end) = client.turn(server, room, NOW, &mut audit) {
+        if let Turn::Ended(end) = client.turn(server, room, NOW, Pace::Many, &mut audit) {
             let sent = client.link().sent();
             return match end {
                 End::Closed => (sent == REPLIES).then_some(true),

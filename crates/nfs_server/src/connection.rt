@@ -1,10 +1,12 @@
 //! A connection: a stream of records from one address.
-ghost use Rattle.std.specs.Prelude.{◌≡◌, ◌≤◌, true, false, length, IfOk, IfErr, OnOk, OnErr, IsErrOf, ◌↔◌};
+ghost use Rattle.std.specs.Prelude.{◌≡◌, ◌≤◌, true, false, length, IfOk, IfErr, IsTrue, OnOk, OnErr, IsErrOf, ◌↔◌};
+ghost use Rattle.nfs_rpc.specs.Lent.{IsBefore};
 ghost use Rattle.nfs_rpc.specs.Stages.{begun_by};
 ghost use Rattle.nfs_server.specs.Connections.{IsAtStart};
 ghost use Rattle.nfs_server.specs.Feeding.{device, EndsWith};
 ghost use Rattle.nfs_server.specs.Taking.{FeedsSome};
 
+use crate::audit_out::AuditOut;
 use crate::reply_buf::ReplyBuf;
 use crate::reply_out::ReplyOut;
 use crate::server::Server;
@@ -14,13 +16,16 @@ use nfs_args::limits::MAX_DATA_BYTES;
 use nfs_attrs::moment::Moment;
 use nfs_exports::addr::Addr;
 use nfs_rpc::framer::{Begun, Framer};
-use nfs_xdr::device::ByteOut;
+use nfs_rpc::record::HEADER_BYTES;
 use std::alloc::Global;
 use std::marker::Model;
 
 /// The largest record that a connection takes: twice the data of the largest WRITE that the server
 /// speaks of.
 pub const MAX_RECORD_BYTES: usize = 2 * MAX_DATA_BYTES;
+
+// A record without content (RFC 5531, section 11): it is lent exactly where one may begin.
+const EMPTY_RECORD: [u8; HEADER_BYTES] = [0x80, 0, 0, 0];
 
 /// A stream of records from one address.
 #[derive(Drop)]
@@ -53,6 +58,13 @@ impl Connection {
         }
     }
 
+    /// Whether nothing of a record came since the last whole one, but for fragments without content.
+    pub fn is_before_record(&self) -> bool
+        ensures { IsTrue result ↔ IsBefore self.now.progress }
+    {
+        self.framer.lend(&EMPTY_RECORD).is_some()
+    }
+
     /// The record of which a fragment has begun and is not whole yet.
     pub fn begun(&self) -> Option<Begun>
         ensures { result ≡ begun_by (length self.now.progress.content) self.now.progress.stage }
@@ -65,7 +77,7 @@ impl Connection {
     ///
     /// `Ended` where a fault ended it: then nothing is written, and nothing changes. Any other fault
     /// ends it.
-    pub fn feed<R: ReplyOut, A: ByteOut>(
+    pub fn feed<R: ReplyOut, A: AuditOut>(
         &mut self,
         server: &mut Server,
         reply: &mut ReplyBuf,

@@ -3,6 +3,7 @@
 
 pub mod arguments;
 pub mod audit_line;
+pub mod audit_out;
 pub mod connection;
 pub mod event;
 pub mod laws;

@@ -1,14 +1,12 @@
 //! Bytes of a stream, whose records are answered as they become whole.
 ghost use Rattle.std.specs.Prelude.{◌≡◌, ◌<◌, ◌≤◌, ◌↔◌, length, IfOk, IfErr, OnOk, OnErr, IsTrue, Some, true};
-ghost use Rattle.nfs_server.specs.AuditLines.{line_text};
 ghost use Rattle.nfs_server.specs.Connections.{IsBetween};
 ghost use Rattle.nfs_server.specs.Feeding.{device, event_at, EndsWith};
 ghost use Rattle.nfs_server.specs.InMemory.{event_of, told};
 ghost use Rattle.nfs_server.specs.Taking.{AnswersEvent, BeginsAnew, FeedsOne, FeedsSome, Writes};
 ghost use Rattle.nfs_server.specs.Taking.{room_after as room_behind};
-ghost use Rattle.nfs_xdr.specs.Known.{Grows, GrowsByPart};
 
-use crate::audit_line::AuditLine;
+use crate::audit_out::AuditOut;
 use crate::event::{Event, Handled};
 use crate::reply_buf::ReplyBuf;
 use crate::reply_out::ReplyOut;
@@ -18,8 +16,6 @@ use nfs_attrs::moment::Moment;
 use nfs_exports::addr::Addr;
 use nfs_rpc::framer::{Framer, Stage};
 use nfs_rpc::record::HEADER_BYTES;
-use nfs_text::line::Line;
-use nfs_xdr::device::{ByteOut, write_all};
 
 /// Who sends bytes, and when they come.
 #[derive(Clone, Copy, Debug, PartialEq, Eq)]
@@ -52,7 +48,7 @@ struct Step {
 
 // Takes a piece, and answers each record that it makes whole. Where there is room for so many
 // bytes of replies alone, it stops behind the record whose reply fills it.
-pub(crate) fn take_piece<R: ReplyOut, A: ByteOut>(
+pub(crate) fn take_piece<R: ReplyOut, A: AuditOut>(
     server: &mut Server,
     reply: &mut ReplyBuf,
     framer: &mut Framer,
@@ -122,7 +118,7 @@ fn room_after(room: Option<usize>, len: usize) -> Option<usize>
 // Takes a piece up to the end of the first record, which it answers. One that stands whole in the
 // piece is read there.
 #[inline(always)]
-fn take_record<R: ReplyOut, A: ByteOut>(
+fn take_record<R: ReplyOut, A: AuditOut>(
     server: &mut Server,
     reply: &mut ReplyBuf,
     framer: &mut Framer,
@@ -161,7 +157,7 @@ fn take_record<R: ReplyOut, A: ByteOut>(
 }
 
 // The same, where the record doesn't stand whole in the piece.
-fn take_fed<R: ReplyOut, A: ByteOut>(
+fn take_fed<R: ReplyOut, A: AuditOut>(
     server: &mut Server,
     reply: &mut ReplyBuf,
     framer: &mut Framer,
@@ -202,7 +198,7 @@ fn take_fed<R: ReplyOut, A: ByteOut>(
 // Answers the record that is whole, and goes on to the next. Answers how many bytes of replies were
 // written.
 #[inline(always)]
-pub(crate) fn answer_record<R: ReplyOut, A: ByteOut>(
+pub(crate) fn answer_record<R: ReplyOut, A: AuditOut>(
     server: &mut Server,
     reply: &mut ReplyBuf,
     framer: &mut Framer,
@@ -232,7 +228,7 @@ pub(crate) fn answer_record<R: ReplyOut, A: ByteOut>(
 
 // Answers an event, and how many bytes of replies were written.
 #[inline(always)]
-fn answer_event<R: ReplyOut, A: ByteOut>(
+fn answer_event<R: ReplyOut, A: AuditOut>(
     server: &mut Server,
     reply: &mut ReplyBuf,
     event: Event<'_>,
@@ -247,45 +243,33 @@ fn answer_event<R: ReplyOut, A: ByteOut>(
         (device (R.contents replies.old reply.old.earlier) (R.contents replies.new reply.new.earlier)) }
 {
     match server.handle(event, reply) {
-        Handled::Answered => write_answer(server.last_audit(), reply, replies, audit),
+        Handled::Answered => write_answer(server, event, reply, replies, audit),
         Handled::NoReply => Ok(0),
     }
 }
 
-// Writes the audit line of a call, if it has one, and then its reply, and answers the number of the
-// reply's bytes.
-fn write_answer<R: ReplyOut, A: ByteOut>(
-    denied: Option<AuditLine>,
+// Writes the audit line of the call of an event, if it has one, and then its reply, and answers the
+// number of the reply's bytes.
+fn write_answer<R: ReplyOut, A: AuditOut>(
+    server: &Server,
+    event: Event<'_>,
     reply: &mut ReplyBuf,
     replies: &mut R,
     audit: &mut A,
 ) -> Result<usize, SessionFault>
     ensures fault { IfErr result (EndsWith (A.failed audit.new) (R.failed replies.new reply.new)) }
     ensures most { reply.new.most ≡ reply.old.most }
-    ensures writes { Writes (told reply.old.reply denied) result
+    ensures writes { Writes (told reply.old.reply server.now.line) result
         (device (A.contents audit.old) (A.contents audit.new))
         (device (R.contents replies.old reply.old.earlier) (R.contents replies.new reply.new.earlier)) }
 {
-    if let Some(denied) = denied {
-        write_line(&denied, audit)?;
+    if let Some(denied) = server.last_audit() {
+        if audit.take(&denied, event, server).is_err() {
+            return Err(SessionFault::AuditFault);
+        }
     }
     match replies.take(reply) {
         Ok(len) => Ok(len),
         Err(_) => Err(SessionFault::WriteFault),
-    }
-}
-
-// Writes an audit line.
-fn write_line<A: ByteOut>(denied: &AuditLine, audit: &mut A) -> Result<(), SessionFault>
-    ensures ok { OnOk result (Grows (A.contents audit.old) (line_text denied.now) (A.contents audit.new)) }
-    ensures kind { IfErr result (λ e. e ≡ SessionFault.AuditFault) }
-    ensures part { OnErr result (GrowsByPart (A.contents audit.old) (line_text denied.now) (A.contents audit.new)) }
-    ensures failed { OnErr result (A.failed audit.new ≡ true) }
-{
-    let mut line = Line::new();
-    denied.put(&mut line);
-    match write_all(audit, line.as_slice()) {
-        Ok(()) => Ok(()),
-        Err(_) => Err(SessionFault::AuditFault),
     }
 }

@@ -1,5 +1,6 @@
 //! A client of a server.
 ghost use Rattle.std.specs.Prelude.{◌≡◌, ◌≢◌, ◌≤◌, ◌↔◌, Bool, vec_capacity, ℕ, List, [], None, Some, true, false, IsTrue, IfErr, OnOk, OnErr};
+ghost use Rattle.nfs_rpc.specs.Lent.{IsBefore};
 ghost use Rattle.nfs_server.specs.Connections.{IsAtStart};
 ghost use Rattle.nfs_server.specs.Feeding.{device, EndsWith};
 ghost use Rattle.nfs_serving.specs.Turns.{Gathers, IsEndedBy, Rests, Takes, Tells, Turns};
@@ -7,17 +8,18 @@ ghost use Rattle.nfs_serving.specs.Turns.{Gathers, IsEndedBy, Rests, Takes, Tell
 use crate::intake::Intake;
 use crate::outlet::Outlet;
 use crate::room::Room;
-use crate::turn::{End, Turn};
+use crate::turn::{End, Pace, Turn};
 use crate::window::Window;
 use nfs_attrs::moment::Moment;
 use nfs_exports::addr::Addr;
+use nfs_server::audit_out::AuditOut;
 use nfs_server::connection::Connection;
 use nfs_server::reply_buf::{MOST_GATHERED, ROOM, ReplyBuf};
 use nfs_server::reply_out::Gathering;
 use nfs_server::serve_fault::ServeFault;
 use nfs_server::server::Server;
 use nfs_server::session_fault::SessionFault;
-use nfs_xdr::device::{ByteOut, DeviceFault};
+use nfs_xdr::device::DeviceFault;
 use nfs_xdr::link::{Came, Link};
 use std::alloc::Global;
 use std::marker::Model;
@@ -83,6 +85,16 @@ impl<L: Link> Client<L> {
         self.calls
     }
 
+    /// Whether nothing is on its way: no reply is owed, and no byte of a record has come that is not
+    /// answered.
+    pub fn is_at_rest(&self) -> bool
+        ensures owed { IsTrue result → self.now.outlet.owed ≡ [] }
+        ensures piece { IsTrue result → self.now.piece ≡ [] }
+        ensures before { IsTrue result → IsBefore self.now.connection.progress }
+    {
+        self.outlet.is_settled() && self.piece.is_empty() && self.connection.is_before_record()
+    }
+
     /// Whether replies are owed.
     pub fn owes(&self) -> bool
         ensures { IsTrue result ↔ (self.now.outlet.owed ≢ []) }
@@ -91,17 +103,18 @@ impl<L: Link> Client<L> {
     }
 
     /// Gives the client its turn: what is owed goes out first, as much as the link takes. Only where
-    /// nothing is owed any more, some bytes that have come are taken, each record that they make
-    /// whole is answered, its audit line, where it is denied, written before the next is looked at,
-    /// and the replies go out together, as much as the link takes.
+    /// nothing is owed any more, some bytes that have come are taken, as the pace says, each record that
+    /// they make whole is answered, its audit line, where it is denied, written before the next is looked
+    /// at, and the replies go out together, as much as the link takes.
     ///
     /// A fault of a record, of the audit lines or of memory ends the connection behind the replies
     /// to the records before it; a fault of the link ends it at once.
-    pub fn turn<A: ByteOut>(
+    pub fn turn<A: AuditOut>(
         &mut self,
         server: &mut Server,
         room: &mut Room,
         moment: Moment,
+        pace: Pace,
         audit: &mut A,
     ) -> Turn
         ensures turns { Turns L.outgoing L.incoming moment self.old self.new server.old server.new
@@ -118,7 +131,7 @@ impl<L: Link> Client<L> {
         if let Some(end) = self.end {
             return Turn::Ended(end);
         }
-        self.take(server, room, moment, audit)
+        self.take(server, room, moment, pace, audit)
     }
 
     // Sends what is owed, as much of it as the link takes.
@@ -131,11 +144,12 @@ impl<L: Link> Client<L> {
     }
 
     // Takes some bytes that have come, where nothing is owed.
-    fn take<A: ByteOut>(
+    fn take<A: AuditOut>(
         &mut self,
         server: &mut Server,
         room: &mut Room,
         moment: Moment,
+        pace: Pace,
         audit: &mut A,
     ) -> Turn
         requires owed { self.old.outlet.owed ≡ [] }
@@ -148,17 +162,18 @@ impl<L: Link> Client<L> {
         if room.make().is_err() {
             return self.ends(End::Fault(ServeFault::Memory));
         }
-        let turn = self.take_some(server, room, moment, audit);
+        let turn = self.take_some(server, room, moment, pace, audit);
         self.piece.give_back(&mut room.bytes);
         turn
     }
 
     // The same, where there is room for all replies to be owed, and keeps the room for what came.
-    fn take_some<A: ByteOut>(
+    fn take_some<A: AuditOut>(
         &mut self,
         server: &mut Server,
         room: &mut Room,
         moment: Moment,
+        pace: Pace,
         audit: &mut A,
     ) -> Turn
         requires owed { self.old.outlet.owed ≡ [] }
@@ -171,12 +186,12 @@ impl<L: Link> Client<L> {
     {
         if self.piece.is_empty() {
             return match self.receive(&mut room.bytes) {
-                Ok(may_be_more) => self.feed(server, room, moment, audit, may_be_more),
+                Ok(may_be_more) => self.feed(server, room, moment, pace, audit, may_be_more),
                 Err(turn) => turn,
             };
         }
         // What came since these bytes were received may have been told of already.
-        self.feed(server, room, moment, audit, true)
+        self.feed(server, room, moment, pace, audit, true)
     }
 
     // Receives what has come, in place of what was taken: whether there may be more, which is so where
@@ -204,11 +219,12 @@ impl<L: Link> Client<L> {
 
     // Feeds the connection with what has come, and sends the replies. There may be more to receive
     // behind it, of which nothing will be told.
-    fn feed<A: ByteOut>(
+    fn feed<A: AuditOut>(
         &mut self,
         server: &mut Server,
         room: &mut Room,
         moment: Moment,
+        pace: Pace,
         audit: &mut A,
         may_be_more: bool,
     ) -> Turn
@@ -220,7 +236,7 @@ impl<L: Link> Client<L> {
         ensures tells { Tells result self.new }
         ensures setup { server.new.setup ≡ server.old.setup }
     {
-        self.answer(server, &mut room.reply, moment, audit);
+        self.answer(server, &mut room.reply, moment, pace, audit);
         let sent = self.outlet.send(room.reply.gathered(), &mut room.owed);
         self.outcome(sent.is_ok(), may_be_more)
     }
@@ -250,11 +266,12 @@ impl<L: Link> Client<L> {
 
     // Feeds the connection with what has come. The replies gather in the buffer in which they are
     // written. Where they have no room there, they end it for want of memory.
-    fn answer<A: ByteOut>(
+    fn answer<A: AuditOut>(
         &mut self,
         server: &mut Server,
         reply: &mut ReplyBuf,
         moment: Moment,
+        pace: Pace,
         audit: &mut A,
     )
         requires alive { self.old.end ≡ None }
@@ -266,7 +283,7 @@ impl<L: Link> Client<L> {
         reply.clear_all();
         let mut gathering = Gathering;
         let piece = self.piece.bytes();
-        let (most, out) = (Some(MOST_OWED), &mut gathering);
+        let (most, out) = (Some(most_owed(pace)), &mut gathering);
         match self
             .connection
             .feed(server, reply, moment, piece, most, out, audit)
@@ -293,6 +310,14 @@ impl<L: Link> Client<L> {
     {
         self.end = Some(end);
         Turn::Ended(end)
+    }
+}
+
+// Behind how many bytes of replies no more records are taken.
+fn most_owed(pace: Pace) -> usize {
+    match pace {
+        Pace::Many => MOST_OWED,
+        Pace::One => 1,
     }
 }
 

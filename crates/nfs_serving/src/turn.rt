@@ -10,6 +10,15 @@ pub enum End {
     Fault(ServeFault),
 }
 
+/// How much of what has come a turn takes.
+#[derive(Clone, Copy, Debug, PartialEq, Eq)]
+pub enum Pace {
+    /// As much as there is room for the replies to.
+    Many,
+    /// One record.
+    One,
+}
+
 /// What became of a turn.
 #[derive(Clone, Copy, Debug, PartialEq, Eq)]
 pub enum Turn {

@@ -13,7 +13,7 @@ invariant-loop-used g l = record {
   setup : l.server.setup ≡ l.fn.server.setup;
   most : l.reply.most ≡ l.fn.reply.most;
   feeds : FeedsWith (IsRoomLeft l.fn.room l.left) l.origin (take l.used l.piece) (Ok l.records) l.fn.server l.server l.fn.framer l.framer
-      (device (g.A.ByteOut.contents l.fn.audit) (g.A.ByteOut.contents l.audit))
+      (device (g.A.AuditOut.contents l.fn.audit) (g.A.AuditOut.contents l.audit))
       (device (g.R.ReplyOut.contents l.fn.replies l.fn.reply.earlier) (g.R.ReplyOut.contents l.replies l.reply.earlier));
 }
 

@@ -7,7 +7,7 @@ use Rattle.nfs_serving.proofs.client.Client.feed.Goals as goal
 
 pub returns-clause-takes : goal.returns-clause-takes
 returns-clause-takes g c =
-    let audit = device (g.A.ByteOut.contents c.args.audit.now) (g.A.ByteOut.contents c.answer.new.audit) in
+    let audit = device (g.A.AuditOut.contents c.args.audit.now) (g.A.AuditOut.contents c.answer.new.audit) in
     let sent : Standing g.row.L.Denot = record { connection = c.self.inside.connection; outlet = c.send-sent.new.self; piece = c.self.inside.piece; end = c.self.inside.end; calls = c.self.inside.calls } in
     let outlet = ap (λ (s : Standing g.row.L.Denot). s.outlet) c.self.view_is in
     let passes = subst (λ bytes. Passes (g.L.Link.outgoing c.self.inside.outlet.link) bytes (g.L.Link.outgoing c.send-sent.new.self.link) c.send-sent.new.self.owed) c.gathered.ensures.all c.send-sent.ensures.passes in

@@ -1,0 +1,48 @@
+//! Where the lines of denied calls go.
+ghost use Rattle.std.specs.Prelude.{◌≡◌, ℕ, List, Option, Bool, true, OnOk, OnErr};
+ghost use Rattle.nfs_server.specs.AuditLines.{line_text};
+ghost use Rattle.nfs_xdr.specs.Known.{Grows, GrowsByPart};
+
+use crate::audit_line::AuditLine;
+use crate::event::Event;
+use crate::server::Server;
+use nfs_text::line::Line;
+use nfs_xdr::device::{ByteOut, DeviceFault, write_all};
+
+/// What takes the lines of denied calls: a device, or a log that may say more of each call.
+pub trait AuditOut {
+    /// The lines that were taken, where they are known.
+    ghost contents: { Self → Option (List ℕ) };
+
+    /// Whether the last call answered the fault.
+    ghost failed: { Self → Bool };
+
+    /// Takes the line of a call that was denied, of which this server was told by this event. At a
+    /// fault some first bytes of it were taken.
+    fn take(
+        &mut self,
+        denied: &AuditLine,
+        event: Event<'_>,
+        server: &Server,
+    ) -> Result<(), DeviceFault>
+        ensures ok { OnOk result (Grows (contents self.old) (line_text denied.now) (contents self.new)) }
+        ensures part { OnErr result (GrowsByPart (contents self.old) (line_text denied.now) (contents self.new)) }
+        ensures fault { OnErr result (failed self.new ≡ true) };
+}
+
+impl<W: ByteOut> AuditOut for W {
+    ghost contents = { λ w. W.contents w };
+
+    ghost failed = { λ w. W.failed w };
+
+    fn take(
+        &mut self,
+        denied: &AuditLine,
+        _event: Event<'_>,
+        _server: &Server,
+    ) -> Result<(), DeviceFault> {
+        let mut line = Line::new();
+        denied.put(&mut line);
+        write_all(self, line.as_slice())
+    }
+}
