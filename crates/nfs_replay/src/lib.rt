@@ -6,7 +6,6 @@ mod captured;
 pub mod fault;
 mod heard;
 mod hexadecimal;
-mod names;
 pub mod printing;
 pub mod replay;
 mod script;

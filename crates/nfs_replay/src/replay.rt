@@ -7,7 +7,6 @@ use crate::captured::{Captured, split_record};
 use crate::fault::{LineCause, RunFault, ScriptFault};
 use crate::heard::Heard;
 use crate::hexadecimal::{HexFault, push_bytes};
-use crate::names::{name_in, names_of};
 use crate::printing::{Printer, Replies};
 use crate::script::{Order, order_of};
 use crate::shown::Shown;
@@ -16,6 +15,7 @@ use nfs_ask::fault::{AskFault, Wanted};
 use nfs_attrs::moment::Moment;
 use nfs_exports::addr::Addr;
 use nfs_inodes::tree::Tree;
+use nfs_lines::names::{name_in, names_of};
 use nfs_load::listing::listing;
 use nfs_load::loaded::Loaded;
 use nfs_server::event::Event;
@@ -241,7 +241,7 @@ impl Player {
         if self.shown.is_named {
             self.run_calls(out)?;
             let tree = self.sessions.server().tree();
-            names = names_of(self.alloc, tree, bytes.as_slice())?;
+            names = names_of(self.alloc, tree, bytes.as_slice(), false)?;
         }
         self.calls.push(Call {
             addr,

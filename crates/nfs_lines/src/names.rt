@@ -22,16 +22,28 @@ const MAX_HANDLE_BYTES: u32 = 64;
 
 const MAX_PATH_BYTES: u32 = 1_024;
 
+// The most bytes of a name that is looked at.
+const MAX_NAME_BYTES: u32 = 1_024;
+
 // The version of both whose procedures have these names.
 const VERSION: u32 = 3;
+
+// The name of a directory's parent in it.
+const PARENT: &[u8] = b"..";
 
 // How many names a path is looked for.
 const MOST_NAMES: u32 = 1_024;
 
-/// What stands behind the audit line of a call: ` call=NAME`, and ` path=PATH` where its first handle
-/// names a file that a path of the tree leads to, or a path is what it asks for. Nothing of a record that
-/// is no call of a procedure that there is. Refused without memory.
-pub(crate) fn names_of(alloc: Global, tree: &Tree, record: &[u8]) -> Result<Vec<u8>, AllocError> {
+/// What stands after the audit line of a call: ` call=NAME`, and ` path=PATH` where its first handle
+/// names a file that a path of the tree leads to, or a path is what it asks for. With an entry, the name
+/// that the call gives of one in that directory follows the path, behind a slash. Nothing of a record
+/// that is no call of a procedure that there is. Refused without memory.
+pub fn names_of(
+    alloc: Global,
+    tree: &Tree,
+    record: &[u8],
+    with_entry: bool,
+) -> Result<Vec<u8>, AllocError> {
     let mut names = Text::new(alloc);
     if let Ok(head) = read_call(record)
         && head.vers == VERSION
@@ -39,14 +51,15 @@ pub(crate) fn names_of(alloc: Global, tree: &Tree, record: &[u8]) -> Result<Vec<
     {
         names.put(b" call=");
         names.put(name);
-        put_path(alloc, tree, head.prog, head.args, &mut names)?;
+        let has_entry = with_entry && head.prog == NFS && names_entry(head.proc);
+        put_path(alloc, tree, head.prog, head.args, has_entry, &mut names)?;
     }
     names.into_bytes()
 }
 
 /// The name of the procedure of which an audit line tells, by its words `prog=` and `proc=`, unless the
 /// call was of another version of its program.
-pub(crate) fn name_in(line: &[u8]) -> Option<&'static [u8]> {
+pub fn name_in(line: &[u8]) -> Option<&'static [u8]> {
     if Words::new(line).any(|word| word == b"rule=program-version".as_slice()) {
         return None;
     }
@@ -71,12 +84,32 @@ fn procedure_name(program: u32, procedure: u32) -> Option<&'static [u8]> {
     }
 }
 
-// Puts the path that a call is about, where its arguments begin with one or with a handle.
+// Whether the arguments of a procedure of NFS begin with a directory and a name in it (RFC 1813, section
+// 2.6, diropargs3).
+fn names_entry(procedure: u32) -> bool {
+    matches!(
+        Procedure::of(procedure),
+        Some(
+            Procedure::Lookup
+                | Procedure::Create
+                | Procedure::MakeDir
+                | Procedure::SymLink
+                | Procedure::MakeNode
+                | Procedure::Remove
+                | Procedure::RemoveDir
+                | Procedure::Rename
+        )
+    )
+}
+
+// Puts the path that a call is about, where its arguments begin with one or with a handle, and the name of
+// the entry that follows the handle, if one does.
 fn put_path(
     alloc: Global,
     tree: &Tree,
     program: u32,
     args: Input<'_>,
+    has_entry: bool,
     out: &mut Text,
 ) -> Result<(), AllocError> {
     let mut args = args;
@@ -95,6 +128,10 @@ fn put_path(
     {
         out.put(b" path=");
         out.put_name(path.as_slice());
+        if has_entry && let Ok(name) = args.opaque(MAX_NAME_BYTES) {
+            out.put(b"/");
+            out.put_name(name);
+        }
     }
     Ok(())
 }
@@ -108,7 +145,7 @@ fn path_of(alloc: Global, tree: &Tree, number: Number) -> Result<Option<Vec<u8>>
         if let Some(path) = path_of_root(tree, at) {
             return Ok(Some(joined(alloc, path, names.as_slice())?));
         }
-        let Some((dir, name)) = entry_of(tree, at) else {
+        let Some((dir, name)) = entry_of(alloc, tree, at)? else {
             break;
         };
         names.push(name)?;
@@ -129,14 +166,63 @@ fn path_of_root(tree: &Tree, root: Number) -> Option<&[u8]> {
     None
 }
 
-// The first directory with an entry of a file, and the entry's name.
-fn entry_of(tree: &Tree, file: Number) -> Option<(Number, &[u8])> {
-    for number in 1..tree.next_number() {
-        if let Some(name) = name_within(tree, Number::new(number), file) {
-            return Some((Number::new(number), name));
+// A directory with an entry of a file, and the entry's name: the parent of a directory, and for another
+// file the directory of the lowest number that has one.
+fn entry_of(
+    alloc: Global,
+    tree: &Tree,
+    file: Number,
+) -> Result<Option<(Number, &[u8])>, AllocError> {
+    if let Some(parent) = tree.lookup(file, PARENT) {
+        return Ok(entry_in(tree, parent, file));
+    }
+    let mut found: Option<(Number, &[u8])> = None;
+    for dir in directories(alloc, tree)?.as_slice() {
+        let is_lower = match found {
+            Some((lowest, _)) => dir.0 < lowest.0,
+            None => true,
+        };
+        if is_lower && let Some(entry) = entry_in(tree, *dir, file) {
+            found = Some(entry);
         }
     }
-    None
+    Ok(found)
+}
+
+fn entry_in(tree: &Tree, dir: Number, file: Number) -> Option<(Number, &[u8])> {
+    Some((dir, name_within(tree, dir, file)?))
+}
+
+// All directories.
+fn directories(alloc: Global, tree: &Tree) -> Result<Vec<Number>, AllocError> {
+    let mut dirs = Vec::new(alloc);
+    for index in 0..tree.volumes() {
+        if let Some(volume) = tree.volume(index) {
+            dirs.push(volume.root)?;
+        }
+    }
+    for index in 0..usize::MAX {
+        if index >= dirs.len() {
+            break;
+        }
+        let dir = dirs[index];
+        put_directories(tree, dir, &mut dirs)?;
+    }
+    Ok(dirs)
+}
+
+// Puts the directories that have an entry in this one behind the others.
+fn put_directories(tree: &Tree, dir: Number, dirs: &mut Vec<Number>) -> Result<(), AllocError> {
+    let Some(dir) = tree.view(dir) else {
+        return Ok(());
+    };
+    let mut entries = dir.entries();
+    while let Some(entry) = entries.next() {
+        if tree.lookup(entry.number, PARENT).is_some() {
+            dirs.push(entry.number)?;
+        }
+    }
+    Ok(())
 }
 
 fn name_within(tree: &Tree, dir: Number, file: Number) -> Option<&[u8]> {
