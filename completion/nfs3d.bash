@@ -8,7 +8,8 @@ _nfs3d() {
     case $before in
     --audit | --save) COMPREPLY=($(compgen -f -- "$word")) && return ;;
     --listen) COMPREPLY=($(compgen -W "127.0.0.1 0.0.0.0 ::" -- "$word")) && return ;;
-    --port | --connections | --clients | --idle | --cache | --mount | --export | --bytes | --files | --key) COMPREPLY=() && return ;;
+    --audit-failed) COMPREPLY=($(compgen -W "refuse count" -- "$word")) && return ;;
+    --port | --connections | --clients | --idle | --cache | --mount | --export | --bytes | --files | --key | --save-every | --audit-skip) COMPREPLY=() && return ;;
     esac
     if [ "${COMP_WORDS[1]}" = why ] && [ "$COMP_CWORD" -eq 5 ]; then
         COMPREPLY=($(compgen -W "stat access read write create remove mkdir rmdir rename link symlink readlink mknod lookup list readdirplus chmod chown chgrp truncate touch utime commit df fsinfo pathconf mount" -- "$word"))
@@ -16,9 +17,9 @@ _nfs3d() {
     fi
     case ${COMP_WORDS[1]}:$word in
     check:-*) COMPREPLY=($(compgen -W "--strict --all --help" -- "$word")) ;;
-    serve:-*) COMPREPLY=($(compgen -W "--listen --port --connections --clients --idle --cache --audit --save --verbose --help" -- "$word")) ;;
+    serve:-*) COMPREPLY=($(compgen -W "--listen --port --connections --clients --idle --cache --audit --audit-failed --audit-skip --times --names --save --save-every --key --verbose --help" -- "$word")) ;;
     describe:-*) COMPREPLY=($(compgen -W "--mount --export --bytes --files --key --help" -- "$word")) ;;
-    replay:-*) COMPREPLY=($(compgen -W "--cache --save --decode --names --help" -- "$word")) ;;
+    replay:-*) COMPREPLY=($(compgen -W "--cache --save --key --decode --names --help" -- "$word")) ;;
     *:-*) COMPREPLY=($(compgen -W "--help" -- "$word")) ;;
     *) COMPREPLY=($(compgen -f -- "$word")) ;;
     esac

@@ -3,7 +3,7 @@ use Rattle.std.specs.Prelude.{◌≡◌, ℕ}
 use Rattle.nfs_load.specs.declared.load_error.LoadError.{LoadError}
 use Rattle.nfs_load.specs.declared.load_error.LoadError.TheVariants as error
 use Rattle.nfs3d.specs.declared.fault.Fault.{Fault}
-use Rattle.nfs3d.specs.declared.fault.Fault.TheVariants.{Description, Script, NoText, CannotRead, TooLong, CannotWrite, Undescribed, Network, Write, Closed, Memory}
+use Rattle.nfs3d.specs.declared.fault.Fault.TheVariants.{Description, Script, NoText, CannotRead, TooLong, CannotWrite, Undescribed, Network, NoTime, Write, Closed, Memory}
 
 -- 1 where the description or the script is at fault, 2 where the words are, 3 where the machine is, 141 where nobody reads
 abbrev pub status_of : Fault → ℕ
@@ -12,9 +12,10 @@ status_of (Script line cause) = 1
 status_of NoText = 2
 status_of (CannotRead name error) = 3
 status_of (TooLong name) = 3
-status_of (CannotWrite name) = 3
+status_of (CannotWrite name error) = 3
 status_of (Undescribed fault) = 1
 status_of (Network address error) = 3
+status_of NoTime = 3
 status_of Write = 3
 status_of Closed = 141
 status_of (Memory e) = 3

@@ -6,36 +6,55 @@ use crate::diagnostic::Diagnostic;
 use crate::exports::print_exports;
 use crate::fault::Fault;
 use crate::replay::replay_files;
-use crate::serve::{call_self, serve_tree};
+use crate::self_calling::call_self;
+use crate::serve::serve_tree;
 use crate::why::print_why;
 use log::Log;
 use nfs_command_line::request::Request;
 use nfs_command_line::words::{Told, Words};
 use std::alloc::{AllocError, Global};
+use std::fs::File;
 use std::net::{Net, TcpListener, TcpStream};
 use std::process::ExitCode;
+use std::random::RandomSource;
 use std::rt::Files;
 use std::time::Clock;
 
 /// Does what the words ask for.
 pub(crate) fn run<R>(rt: &R, alloc: Global, words: &[String]) -> Result<ExitCode, Diagnostic>
 where
-    R: Files
+    R: Files<File = File>
         + Input
         + Print
         + Eprint
         + AllocGlobal
         + Net<Listener = TcpListener, Stream = TcpStream>
         + Clock
+        + RandomSource
         + Log,
 {
-    let words = match Words::read(rt, alloc, words) {
-        Ok(words) => words,
-        Err(Told::All(code)) => return Ok(code),
-        Err(Told::Write) => return Err(Fault::Write.into()),
-        Err(Told::Memory) => return Err(AllocError.into()),
-    };
-    match words.request() {
+    match Words::read(rt, alloc, words) {
+        Ok(words) => answer(rt, alloc, words.request()),
+        Err(Told::All(code)) => Ok(code),
+        Err(Told::Write) => Err(Fault::Write.into()),
+        Err(Told::Memory) => Err(AllocError.into()),
+    }
+}
+
+// Does one command; nothing where there is none.
+fn answer<R>(rt: &R, alloc: Global, request: Option<Request<'_>>) -> Result<ExitCode, Diagnostic>
+where
+    R: Files<File = File>
+        + Input
+        + Print
+        + Eprint
+        + AllocGlobal
+        + Net<Listener = TcpListener, Stream = TcpStream>
+        + Clock
+        + RandomSource
+        + Log,
+{
+    match request {
         Some(
             Request::Check {
                 tree,

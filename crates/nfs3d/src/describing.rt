@@ -1,6 +1,7 @@
 //! `nfs3d describe`: a directory on disk, as a description.
 
 use crate::fault::Fault;
+use crate::key::key_of;
 use crate::output::print;
 use nfs_command_line::request::Describe;
 use nfs_describe::description::describe;
@@ -14,12 +15,13 @@ use nfs_load::load_error::LoadError;
 use nfs_load::loaded::Loaded;
 use std::alloc::{AllocError, Global};
 use std::process::ExitCode;
+use std::random::RandomSource;
 use std::rt::Files;
 
 /// Prints the description of the directory that the words name. What is left out of it is told on
-/// standard error. `CannotRead` where there is no such directory, `Undescribed`, `Write`, `Memory`;
-/// the status 2 where a word is faulty.
-pub(crate) fn describe_directory<R: Files + Print + Eprint + AllocGlobal>(
+/// standard error. `CannotRead` where there is no such directory, or the system has no key,
+/// `Undescribed`, `Write`, `Memory`; the status 2 where a word is faulty.
+pub(crate) fn describe_directory<R: Files + Print + Eprint + RandomSource + AllocGlobal>(
     rt: &R,
     alloc: Global,
     words: &Describe<'_>,
@@ -28,7 +30,8 @@ pub(crate) fn describe_directory<R: Files + Print + Eprint + AllocGlobal>(
         Ok(survey) => survey,
         Err(fault) => return Err(fault_of(alloc, words.directory, fault)),
     };
-    match head(alloc, words, &survey) {
+    let key = hex::encode(alloc, key_of(rt, alloc, words.key)?.as_slice())?;
+    match head(alloc, words, key.as_str(), &survey) {
         Ok(loaded) => {
             print_directory(rt, alloc, words.directory, &mut survey, loaded)?;
             Ok(ExitCode::SUCCESS)
@@ -42,9 +45,14 @@ pub(crate) fn describe_directory<R: Files + Print + Eprint + AllocGlobal>(
 }
 
 // The volume with nothing in it but its root.
-fn head(alloc: Global, words: &Describe<'_>, survey: &Survey) -> Result<Loaded, LoadError> {
+fn head(
+    alloc: Global,
+    words: &Describe<'_>,
+    key: &str,
+    survey: &Survey,
+) -> Result<Loaded, LoadError> {
     let head = Head {
-        key: words.key,
+        key,
         mount: words.mount,
         bytes: words.bytes,
         files: words.files,

@@ -3,6 +3,7 @@
 use crate::diagnostic::Diagnostic;
 use crate::source::{Sink, Source, read_text};
 use nfs_advice::left_out::{content_of, put_mark};
+use nfs_lives::path_digest::PathDigest;
 use nfs_load::load_error::LoadError;
 use nfs_load::loaded::Loaded;
 use nfs_load::loading::Loading;
@@ -30,11 +31,48 @@ impl<'a> Description<'a> {
         alloc: Global,
         name: &'a str,
     ) -> Result<Description<'a>, Diagnostic> {
-        let mut reader = Reader::new(alloc);
-        read_text(rt, alloc, name, &mut reader)?;
-        reader.end()?;
-        reader.described(alloc, name)
+        let (description, _) = read_with(rt, alloc, name, None)?;
+        Ok(description)
     }
+}
+
+/// What a server serves that begins its life: what a description says, and the key of its handles.
+#[derive(Drop)]
+pub(crate) struct Life {
+    /// What the description says.
+    pub(crate) loaded: Loaded,
+    /// The key of each life of a server whose description has this key, and names the same paths in the
+    /// same order.
+    pub(crate) key: [u8; 8],
+}
+
+/// The life that begins with a text of this name; the text is let go.
+pub(crate) fn load_life<R: Files + Input>(
+    rt: &R,
+    alloc: Global,
+    name: &str,
+) -> Result<Life, Diagnostic> {
+    let (description, paths) = read_with(rt, alloc, name, Some(PathDigest::new()))?;
+    let Description { loaded, .. } = description;
+    let own = loaded.tree.key();
+    let key = match paths {
+        Some(paths) => paths.finish(own),
+        None => own,
+    };
+    Ok(Life { loaded, key })
+}
+
+// The description of this name, and the digest of its paths where one is to be made.
+fn read_with<'a, R: Files + Input>(
+    rt: &R,
+    alloc: Global,
+    name: &'a str,
+    paths: Option<PathDigest>,
+) -> Result<(Description<'a>, Option<PathDigest>), Diagnostic> {
+    let mut reader = Reader::new(alloc, paths);
+    read_text(rt, alloc, name, &mut reader)?;
+    reader.end()?;
+    reader.described(alloc, name)
 }
 
 /// The tree that a text of this name describes; the text is let go.
@@ -56,15 +94,18 @@ struct Reader {
     // What was read of the line that has not ended yet.
     line: Vec<u8>,
     fault: Option<LoadError>,
+    // The digest of the paths of the lines that were taken, where one is made.
+    paths: Option<PathDigest>,
 }
 
 impl Reader {
-    fn new(alloc: Global) -> Reader {
+    fn new(alloc: Global, paths: Option<PathDigest>) -> Reader {
         Reader {
             loading: Loading::new(alloc),
             text: Vec::new(alloc),
             line: Vec::new(alloc),
             fault: None,
+            paths,
         }
     }
 
@@ -79,25 +120,32 @@ impl Reader {
     // Loads the line that has ended, of which this is the last part; mostly it is the whole line.
     fn end_line(&mut self, part: &[u8]) -> Result<(), AllocError> {
         if self.line.is_empty() {
+            digest_line(&mut self.paths, part);
             self.fault = load_line(&mut self.loading, &mut self.text, part)?;
             return Ok(());
         }
         self.line.extend_from_slice(part)?;
+        digest_line(&mut self.paths, self.line.as_slice());
         self.fault = load_line(&mut self.loading, &mut self.text, self.line.as_slice())?;
         self.line.clear();
         Ok(())
     }
 
-    fn described<'a>(self, alloc: Global, name: &'a str) -> Result<Description<'a>, Diagnostic> {
+    fn described<'a>(
+        self,
+        alloc: Global,
+        name: &'a str,
+    ) -> Result<(Description<'a>, Option<PathDigest>), Diagnostic> {
         let Reader {
             loading,
             text,
             fault,
+            paths,
             ..
         } = self;
         let source = Source { name, text };
         match outcome(loading, fault) {
-            Ok(loaded) => Ok(Description { source, loaded }),
+            Ok(loaded) => Ok((Description { source, loaded }, paths)),
             Err(error) => Err(Diagnostic::of_description(alloc, error, &source)),
         }
     }
@@ -121,6 +169,13 @@ impl Sink for Reader {
         } else {
             self.line.extend_from_slice(last)
         }
+    }
+}
+
+// Takes a line into the digest of paths, where one is made.
+fn digest_line(paths: &mut Option<PathDigest>, line: &[u8]) {
+    if let Some(paths) = paths {
+        paths.take(line);
     }
 }
 

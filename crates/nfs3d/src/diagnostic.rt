@@ -10,6 +10,7 @@ use nfs_load::load_error::LoadError;
 use nfs_replay::fault::{LineCause, ScriptFault};
 use std::alloc::{AllocError, Global};
 use std::fmt;
+use std::io::ErrorKind;
 
 // The words of an `ask` line before the user's: `ask`, the address and the seconds.
 const WORDS_BEFORE_USER: usize = 3;
@@ -42,6 +43,15 @@ impl Diagnostic {
         }
     }
 
+    /// A fault of what is saved, with what to do. Without memory for that there is none.
+    pub(crate) fn of_saving(alloc: Global, fault: Fault) -> Diagnostic {
+        let advice = match &fault {
+            Fault::CannotWrite { error, .. } => saving_advice(alloc, error.kind()),
+            _ => None,
+        };
+        Diagnostic { fault, advice }
+    }
+
     /// Tells it on standard error, unless nobody listens.
     pub(crate) fn tell<R: Eprint>(&self, rt: &R) {
         match self.fault {
@@ -65,6 +75,22 @@ impl Diagnostic {
             advice,
         }
     }
+}
+
+// The line behind that of a file that can't be written.
+fn saving_advice(alloc: Global, kind: ErrorKind) -> Option<String> {
+    let cure = match kind {
+        ErrorKind::NotFound => "make its directory, or name a file elsewhere",
+        ErrorKind::PermissionDenied | ErrorKind::ReadOnlyFilesystem => {
+            "name a file in a directory where you may write"
+        }
+        ErrorKind::StorageFull | ErrorKind::QuotaExceeded | ErrorKind::FileTooLarge => {
+            "make room there, or name a file elsewhere"
+        }
+        ErrorKind::IsADirectory => "name a file, or one that isn't there yet",
+        _ => return None,
+    };
+    format!(in alloc; "\n  {cure}").ok()
 }
 
 // The line behind that of a script's fault.

@@ -45,8 +45,13 @@ pub enum Fault {
     #[error("nfs3d: {0} is longer than 1 GiB")]
     TooLong(String),
     /// A file can't be written.
-    #[error("nfs3d: cannot write {0}")]
-    CannotWrite(String),
+    #[error("nfs3d: cannot write {name}: {error}")]
+    CannotWrite {
+        /// Its name.
+        name: String,
+        /// What the system says.
+        error: io::Error,
+    },
     /// The tree has what a description has no words for.
     #[error("nfs3d: {0}")]
     Undescribed(DescribeFault),
@@ -58,6 +63,9 @@ pub enum Fault {
         /// What the system says.
         error: io::Error,
     },
+    /// The system has no clock.
+    #[error("nfs3d: cannot read the system's clock, by which handles of this life are told from those of earlier ones: set it, and start again")]
+    NoTime,
     /// The output can't be written.
     #[error("nfs3d: write fault")]
     Write,
@@ -80,8 +88,9 @@ impl Fault {
             Fault::NoText => 2,
             Fault::CannotRead { .. }
             | Fault::TooLong(_)
-            | Fault::CannotWrite(_)
+            | Fault::CannotWrite { .. }
             | Fault::Network { .. }
+            | Fault::NoTime
             | Fault::Write
             | Fault::Memory(_) => 3,
             Fault::Closed => 141,

@@ -3,10 +3,11 @@
 use crate::description::load_tree;
 use crate::diagnostic::Diagnostic;
 use crate::output::fault_of;
-use crate::saving::save;
+use crate::saver::Copies;
 use crate::source::Source;
 use nfs_command_line::request::Replay;
 use nfs_load::loaded::Loaded;
+use nfs_replay::fault::ScriptFault;
 use nfs_replay::replay::replay;
 use nfs_replay::shown::Shown;
 use nfs_server::sessions::Sessions;
@@ -15,25 +16,43 @@ use std::alloc::{AllocError, Global};
 use std::io::{self, BufWriter, Write};
 use std::mem::forget;
 use std::process::ExitCode;
+use std::random::RandomSource;
 use std::rt::Files;
 
 // How much output is written at once.
 const RUN_BYTES: usize = 65_536;
 
-/// Runs a script over a description, and saves the tree as it then is where the words ask for it.
-pub(crate) fn replay_files<R: Files + Input + Print>(
+/// Runs a script over a description, and saves the tree as it then is where the words ask for it. The
+/// status is 1 where a description has no words for all of it.
+pub(crate) fn replay_files<R: Files + Input + Print + Eprint + RandomSource>(
     rt: &R,
     alloc: Global,
     words: &Replay<'_>,
 ) -> Result<ExitCode, Diagnostic> {
+    let copies = Copies::of(rt, alloc, words.save, words.key)?;
     let loaded = load_tree(rt, alloc, words.tree)?;
-    let script = Source::read(rt, alloc, words.script)?;
-    let sessions = run(rt, alloc, loaded, &script, words)?;
-    if let Some(name) = words.save {
-        save(rt, alloc, name, sessions.server())?;
+    match Source::read(rt, alloc, words.script) {
+        Ok(script) => replay_script(rt, alloc, loaded, &script, words, &copies),
+        Err(fault) => {
+            forget(loaded);
+            Err(fault.into())
+        }
     }
+}
+
+// Runs a script over what was loaded, which is not given back file by file, since the process ends.
+fn replay_script<R: Files + Print + Eprint + RandomSource>(
+    rt: &R,
+    alloc: Global,
+    loaded: Loaded,
+    script: &Source<'_>,
+    words: &Replay<'_>,
+    copies: &Copies<'_>,
+) -> Result<ExitCode, Diagnostic> {
+    let sessions = run(rt, alloc, loaded, script, words)?;
+    let saved = copies.save_last(rt, alloc, sessions.server(), Ok(()));
     forget(sessions);
-    Ok(ExitCode::SUCCESS)
+    saved
 }
 
 // Runs a script, whose lines are printed up to the first faulty one.
@@ -45,6 +64,7 @@ fn run<R: Print>(
     words: &Replay<'_>,
 ) -> Result<Sessions, Diagnostic> {
     let Ok(lines) = BufWriter::with_capacity(alloc, RUN_BYTES, io::writer(rt)) else {
+        forget(loaded);
         return Err(AllocError.into());
     };
     let mut out = Device::new(lines);
@@ -61,11 +81,25 @@ fn run<R: Print>(
         shown,
         &mut out,
     );
-    if let Err(error) = out.into_inner().flush() {
-        return Err(fault_of(error).into());
-    }
-    match done {
-        Ok(sessions) => Ok(sessions),
-        Err(fault) => Err(Diagnostic::of_script(alloc, fault, script)),
+    let flushed = out.into_inner().flush();
+    ended(alloc, script, done, flushed)
+}
+
+// The sessions of a script that ran to its end and whose output is written.
+fn ended(
+    alloc: Global,
+    script: &Source<'_>,
+    done: Result<Sessions, ScriptFault>,
+    flushed: io::Result<()>,
+) -> Result<Sessions, Diagnostic> {
+    match flushed {
+        Ok(()) => match done {
+            Ok(sessions) => Ok(sessions),
+            Err(fault) => Err(Diagnostic::of_script(alloc, fault, script)),
+        },
+        Err(error) => {
+            forget(done);
+            Err(fault_of(error).into())
+        }
     }
 }

@@ -1,91 +1,108 @@
 //! Serving over TCP.
-use crate::description::load_tree;
+use crate::description::load_life;
 use crate::diagnostic::Diagnostic;
 use crate::exposure::warn_of_open_volumes;
 use crate::fault::Fault;
-use crate::saving::save;
+use crate::life::begin;
+use crate::line_files::{audit_file, output, wording_of};
+use crate::saver::Copies;
 use log::sink::Console;
 use log::{Level, Log, Logged};
 use mio::net::TcpListener;
 use nfs_command_line::request::Serve;
+use nfs_lines::line_out::LineOut;
+use nfs_lines::lines::Lines;
+use nfs_lines::rule_names::first_unknown;
+use nfs_server::moments::Moments;
 use nfs_server::server::Server;
+use nfs_tcp::clock::SystemClock;
 use nfs_tcp::limits::Limits;
-use nfs_tcp::self_call::self_call;
 use nfs_tcp::service::{Service, ServiceFault};
-use nfs_xdr::device::{ByteOut, Device, write_all};
 use std::alloc::{AllocError, Global};
-use std::fs::OpenOptions;
-use std::io;
-use std::net::{
-    IpAddr, Ipv4Addr, Net, SocketAddr, SocketAddrV4, TcpListener as Listener, TcpStream,
-};
+use std::fs::File;
+use std::mem::forget;
+use std::net::{IpAddr, Net, SocketAddr};
 use std::process::ExitCode;
+use std::random::RandomSource;
 use std::rt::Files;
 use std::time::Clock;
 
 /// Serves a description: says where it is listened, and serves clients until as many connections have
-/// ended as there may be; the status is 2 where the address is none.
-pub(crate) fn serve_tree<R: Files + Input + Print + Eprint + Net + Clock>(
+/// ended as there may be. The tree that they leave is saved where the words ask for it, also where a
+/// fault ends the service once it has begun. The status is 2 where a word is faulty.
+pub(crate) fn serve_tree<R>(
     rt: &R,
     alloc: Global,
     words: &Serve<'_>,
-) -> Result<ExitCode, Diagnostic> {
-    let listen = words.listen;
-    let Ok(ip) = listen.parse::<IpAddr>() else {
-        let _ = eprintln!(rt;
-            "error: invalid value '{listen}' for '--listen <ADDRESS>': it is no address of IPv4 or IPv6"
-        );
+) -> Result<ExitCode, Diagnostic>
+where
+    R: Files<File = File> + Input + Print + Eprint + Net + Clock + RandomSource,
+{
+    let Some(ip) = address_of(rt, words) else {
         return Ok(ExitCode::from(2));
     };
-    let loaded = load_tree(rt, alloc, words.tree)?;
-    warn_of_open_volumes(rt, ip, &loaded);
-    let mut server = Server::new(alloc, loaded, words.cache.clamp(1, 1024))?;
+    let copies = Copies::of(rt, alloc, words.save, words.key)?;
+    let mut server = server_for(rt, alloc, words, ip)?;
     let address = SocketAddr::new(ip, words.port);
-    serve(rt, alloc, &mut server, address, words)?;
-    if let Some(name) = words.save {
-        save(rt, alloc, name, &server)?;
-    }
-    Ok(ExitCode::SUCCESS)
+    let done = serve_and_save(rt, alloc, &mut server, address, words, &copies);
+    forget(server);
+    done
 }
 
-// Listens, and serves clients whose denied calls have their lines in the file that the words name.
-fn serve<R: Files + Print + Eprint + Net + Clock>(
+// The server of the description, of whose open volumes it is warned.
+fn server_for<R: Files + Input + Eprint + Clock>(
+    rt: &R,
+    alloc: Global,
+    words: &Serve<'_>,
+    ip: IpAddr,
+) -> Result<Server, Diagnostic> {
+    let life = load_life(rt, alloc, words.tree)?;
+    warn_of_open_volumes(rt, ip, &life.loaded);
+    Ok(begin(rt, alloc, life, words.cache)?)
+}
+
+// Serves, and then saves the tree where the words ask for it.
+fn serve_and_save<R: Files<File = File> + Print + Eprint + Net + Clock + RandomSource>(
     rt: &R,
     alloc: Global,
     server: &mut Server,
     address: SocketAddr,
     words: &Serve<'_>,
-) -> Result<(), Fault> {
-    let level = if words.is_verbose {
-        Level::Info
-    } else {
-        Level::Warn
-    };
-    let logged = Logged::new(rt, level, Console(rt));
-    let listener = match TcpListener::bind(rt, address) {
-        Ok(listener) => listener,
-        Err(error) => return Err(Fault::Network { address, error }),
-    };
-    let limits = Limits {
-        connections: words.connections,
-        clients: words.clients,
-        idle: words.idle,
-    };
-    let served = Served {
-        alloc,
-        address,
-        limits,
-        listener,
-    };
-    let mut out = Device::new(io::writer(rt));
-    match words.audit {
+    copies: &Copies<'_>,
+) -> Result<ExitCode, Diagnostic> {
+    let served = Served::listen(rt, alloc, address, words)?;
+    let out = output(rt, alloc)?;
+    let done = match words.audit {
         Some(name) => {
-            let Ok(file) = OpenOptions::new().append(true).create(true).open(rt, name) else {
-                return Err(Fault::CannotWrite(name.to_string(alloc)?));
-            };
-            served.run(&logged, server, &mut out, &mut Device::new(file))
+            let audit = audit_file(rt, alloc, name)?;
+            let mut lines = Lines::new(alloc, wording_of(words), audit, Some(out));
+            served.run(rt, server, &mut lines, copies)
         }
-        None => served.run(&logged, server, &mut out, &mut Device::new(io::writer(rt))),
+        None => {
+            let mut lines = Lines::alone(alloc, wording_of(words), out);
+            served.run(rt, server, &mut lines, copies)
+        }
+    };
+    copies.save_last(rt, alloc, server, done)
+}
+
+// The address that is listened at; none, which is told, where a word is faulty.
+fn address_of<R: Eprint>(rt: &R, words: &Serve<'_>) -> Option<IpAddr> {
+    if let Some(name) = words.audit_skip.and_then(first_unknown) {
+        let _ = eprintln!(rt;
+            "error: invalid value for '--audit-skip <RULES>': there is no rule '{name}'; docs/PROTOCOL.md names them"
+        );
+        return None;
+    }
+    let listen = words.listen;
+    match listen.parse::<IpAddr>() {
+        Ok(ip) => Some(ip),
+        Err(_) => {
+            let _ = eprintln!(rt;
+                "error: invalid value '{listen}' for '--listen <ADDRESS>': it is no address of IPv4 or IPv6"
+            );
+            None
+        }
     }
 }
 
@@ -96,63 +113,90 @@ struct Served {
     address: SocketAddr,
     limits: Limits,
     listener: TcpListener,
+    level: Level,
 }
 
 impl Served {
+    // Listens at an address.
+    fn listen<R: Net>(
+        rt: &R,
+        alloc: Global,
+        address: SocketAddr,
+        words: &Serve<'_>,
+    ) -> Result<Served, Fault> {
+        let listener = match TcpListener::bind(rt, address) {
+            Ok(listener) => listener,
+            Err(error) => return Err(Fault::Network { address, error }),
+        };
+        let limits = Limits {
+            connections: words.connections,
+            clients: words.clients,
+            idle: words.idle,
+            save_every: words.save_every,
+        };
+        let level = if words.is_verbose {
+            Level::Info
+        } else {
+            Level::Warn
+        };
+        Ok(Served {
+            alloc,
+            address,
+            limits,
+            listener,
+            level,
+        })
+    }
+
     // Says where it is listened, and serves the clients of the listener.
-    fn run<R: Net + Clock + Log, W: ByteOut, A: ByteOut>(
+    fn run<R, A, C>(
         self,
         rt: &R,
         server: &mut Server,
-        out: &mut W,
-        audit: &mut A,
-    ) -> Result<(), Fault> {
+        lines: &mut Lines<'_, A, C>,
+        copies: &Copies<'_>,
+    ) -> Result<(), Fault>
+    where
+        R: Files + Eprint + Net + Clock + RandomSource,
+        A: LineOut,
+        C: LineOut,
+    {
         let address = self.address;
-        announce(self.alloc, &self.listener, address, out)?;
-        let done = match Service::new(rt, self.alloc, server, self.listener, self.limits) {
-            Ok(mut service) => service.run(out, audit),
+        let logged = Logged::new(rt, self.level, Console(rt));
+        announce(&logged, self.alloc, &self.listener, address, lines)?;
+        let mut saver = copies.saver(&logged, self.alloc);
+        let done = match Service::new(&logged, self.alloc, server, self.listener, self.limits) {
+            Ok(mut service) => service.run(lines, &mut saver),
             Err(fault) => Err(fault),
         };
-        done.map_err(|fault| fault_of(address, fault))
-    }
-}
-
-/// Serves NULL of a description over a connection of its own, and prints the reply.
-pub(crate) fn call_self<R>(rt: &R, alloc: Global, name: &str) -> Result<ExitCode, Diagnostic>
-where
-    R: Files + Input + Print + Eprint + Net<Listener = Listener, Stream = TcpStream> + Clock + Log,
-{
-    let loaded = load_tree(rt, alloc, name)?;
-    let mut server = Server::new(alloc, loaded, 1)?;
-    match self_call(rt, alloc, &mut server, &mut Device::new(io::writer(rt))) {
-        Ok(()) => Ok(ExitCode::SUCCESS),
-        Err(fault) => {
-            let address = SocketAddr::V4(SocketAddrV4::new(Ipv4Addr::LOCALHOST, 0));
-            Err(fault_of(address, fault).into())
+        match done {
+            Ok(()) if lines.lost_some() => Err(Fault::Write),
+            Ok(()) => Ok(()),
+            Err(fault) => Err(fault_of(address, fault)),
         }
     }
 }
 
-// Prints where it is listened.
-fn announce<W: ByteOut>(
+// Says where it is listened.
+fn announce<R: Clock + Log, A: LineOut, C: LineOut>(
+    rt: &R,
     alloc: Global,
     listener: &TcpListener,
     address: SocketAddr,
-    out: &mut W,
+    lines: &mut Lines<'_, A, C>,
 ) -> Result<(), Fault> {
     let local = match listener.local_addr() {
         Ok(local) => local,
         Err(error) => return Err(Fault::Network { address, error }),
     };
     let line = format!(in alloc; "listening {local}\n")?;
-    match write_all(out, line.as_bytes()) {
-        Ok(()) => Ok(()),
-        Err(_) => Err(Fault::Write),
-    }
+    let mut clock = SystemClock::new(rt);
+    lines.tell(clock.now(), line.as_bytes());
+    Ok(())
 }
 
-// A fault of a service at this address.
-fn fault_of(address: SocketAddr, fault: ServiceFault) -> Fault {
+/// A fault of a service at this address.
+pub(crate) fn fault_of(address: SocketAddr, fault: ServiceFault) -> Fault {
     match fault {
         ServiceFault::Network(error) => Fault::Network { address, error },
         ServiceFault::Write => Fault::Write,

@@ -55,3 +55,22 @@ pub(crate) fn save<'a>(alloc: Global) -> Arg<'a> {
         "Writes the tree as it is at the end, as a description",
     )
 }
+
+/// The key of a description that is written.
+pub(crate) fn key<'a>(alloc: Global) -> Arg<'a> {
+    option(
+        alloc,
+        "key",
+        "KEY",
+        "The server's key in what is written, 16 hexadecimal digits; a new one each time, where not given",
+    )
+}
+
+/// Whether denied calls are told with names.
+pub(crate) fn names<'a>(alloc: Global) -> Arg<'a> {
+    flag(
+        alloc,
+        "names",
+        "Prints behind a denied call the procedure's name, and the path of the file",
+    )
+}

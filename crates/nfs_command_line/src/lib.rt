@@ -5,4 +5,5 @@ mod arguments;
 mod questions;
 pub mod request;
 mod runs;
+mod usage;
 pub mod words;

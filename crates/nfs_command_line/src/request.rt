@@ -1,5 +1,6 @@
 //! What the words of the command line ask for.
 
+use crate::usage::UsageFault;
 use clap::ArgMatches;
 
 /// A command with its words. A file `-` is standard input.
@@ -62,6 +63,8 @@ pub struct Replay<'a> {
     pub cache: usize,
     /// Where the tree is saved.
     pub save: Option<&'a str>,
+    /// The key of what is saved, in 16 hexadecimal digits; without it a new one.
+    pub key: Option<&'a str>,
     /// Whether replies are printed in words too.
     pub is_decoded: bool,
     /// Whether denied calls are told with names.
@@ -87,10 +90,31 @@ pub struct Serve<'a> {
     pub cache: usize,
     /// The file to which the lines of denied calls go.
     pub audit: Option<&'a str>,
+    /// What to do when the line of a denied call can't be written.
+    pub audit_failed: AuditFailed,
+    /// The rules whose denied calls get no line, with a comma between two.
+    pub audit_skip: Option<&'a str>,
+    /// Whether the line of a denied call begins with the time.
+    pub has_times: bool,
+    /// Whether denied calls are told with names.
+    pub is_named: bool,
     /// Where the tree is saved.
     pub save: Option<&'a str>,
+    /// After how many seconds it is saved again.
+    pub save_every: Option<u64>,
+    /// The key of what is saved, in 16 hexadecimal digits; without it a new one.
+    pub key: Option<&'a str>,
     /// Whether it is told of clients that come and go.
     pub is_verbose: bool,
+}
+
+/// What to do when the line of a denied call can't be written.
+#[derive(Clone, Copy, Debug, PartialEq, Eq)]
+pub enum AuditFailed {
+    /// Calls are refused as long as none can be.
+    Refuse,
+    /// Calls are answered, and the lost lines are counted.
+    Count,
 }
 
 /// The words of `describe`.
@@ -98,8 +122,8 @@ pub struct Serve<'a> {
 pub struct Describe<'a> {
     /// The directory.
     pub directory: &'a str,
-    /// The server's key, in hexadecimal digits.
-    pub key: &'a str,
+    /// The server's key, in 16 hexadecimal digits; without it a new one.
+    pub key: Option<&'a str>,
     /// The path that clients mount it by.
     pub mount: &'a str,
     /// The volume's most bytes.
@@ -132,6 +156,19 @@ impl<'a> Request<'a> {
             _ => None,
         }
     }
+
+    /// What is wrong with words that are each right, if anything.
+    pub(crate) fn fault(&self) -> Option<UsageFault> {
+        match self {
+            Request::Replay(words) => UsageFault::of_key(words.key),
+            Request::Describe(words) => UsageFault::of_key(words.key),
+            Request::Serve(words) => UsageFault::of_saving(words),
+            Request::Check { .. }
+            | Request::Why(_)
+            | Request::Exports { .. }
+            | Request::SelfCall { .. } => None,
+        }
+    }
 }
 
 impl<'a> Why<'a> {
@@ -154,6 +191,7 @@ impl<'a> Replay<'a> {
             script: text(words, "script"),
             cache: cache(words),
             save: words.get_str("save"),
+            key: words.get_str("key"),
             is_decoded: words.get_flag("decode"),
             is_named: words.get_flag("names"),
         }
@@ -171,7 +209,13 @@ impl<'a> Serve<'a> {
             idle: words.get_one::<u64>("idle"),
             cache: cache(words),
             audit: words.get_str("audit"),
+            audit_failed: audit_failed(words),
+            audit_skip: words.get_str("audit-skip"),
+            has_times: words.get_flag("times"),
+            is_named: words.get_flag("names"),
             save: words.get_str("save"),
+            save_every: words.get_one::<u64>("save-every"),
+            key: words.get_str("key"),
             is_verbose: words.get_flag("verbose"),
         }
     }
@@ -181,7 +225,7 @@ impl<'a> Describe<'a> {
     fn of(words: &'a ArgMatches<'_>) -> Describe<'a> {
         Describe {
             directory: text(words, "directory"),
-            key: text(words, "key"),
+            key: words.get_str("key"),
             mount: text(words, "mount"),
             bytes: words.get_one::<u64>("bytes"),
             files: words.get_one::<u64>("files"),
@@ -196,6 +240,13 @@ fn text<'a>(words: &'a ArgMatches<'_>, id: &str) -> &'a str {
     match found {
         Some(text) => text,
         None => "",
+    }
+}
+
+fn audit_failed(words: &ArgMatches<'_>) -> AuditFailed {
+    match words.get_str("audit-failed") {
+        Some("count") => AuditFailed::Count,
+        _ => AuditFailed::Refuse,
     }
 }
 

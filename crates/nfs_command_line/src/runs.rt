@@ -1,10 +1,10 @@
 //! The commands that serve a description, or make one.
 
-use crate::arguments::{cache, flag, option, save, tree, word};
+use crate::arguments::{cache, flag, key, names, option, save, tree, word};
 use clap::{Arg, ArgAction, Command, value_parser};
 use std::alloc::{AllocError, Global};
 
-/// `replay TREE SCRIPT [--cache C] [--save FILE] [--decode] [--names]`.
+/// `replay TREE SCRIPT [--cache C] [--save FILE [--key KEY]] [--decode] [--names]`.
 pub(crate) fn replay<'a>(alloc: Global) -> Result<Command<'a>, AllocError> {
     Command::new(alloc, "replay")
         .about("Runs a script of calls over a description, and prints the replies")
@@ -17,12 +17,9 @@ pub(crate) fn replay<'a>(alloc: Global) -> Result<Command<'a>, AllocError> {
         ))?
         .arg(cache(alloc))?
         .arg(save(alloc))?
+        .arg(key(alloc).requires_arg("save")?)?
         .arg(flag(alloc, "decode", "Prints each reply in words too"))?
-        .arg(flag(
-            alloc,
-            "names",
-            "Prints behind a denied call the procedure's name, and the path of the file",
-        ))
+        .arg(names(alloc))
 }
 
 /// `self TREE`.
@@ -33,9 +30,10 @@ pub(crate) fn self_call<'a>(alloc: Global) -> Result<Command<'a>, AllocError> {
 }
 
 /// `serve TREE [--listen ADDRESS] [--port P] [--connections N] [--clients M] [--idle SECONDS] [--cache C]
-/// [--audit FILE] [--save FILE] [--verbose]`.
+/// [--audit FILE] [--audit-failed refuse|count] [--audit-skip RULES] [--times] [--names]
+/// [--save FILE [--save-every SECONDS] [--key KEY]] [--verbose]`.
 pub(crate) fn serve<'a>(alloc: Global) -> Result<Command<'a>, AllocError> {
-    Command::new(alloc, "serve")
+    let command = Command::new(alloc, "serve")
         .about("Serves a description over TCP to many clients at once")
         .arg(tree(alloc))?
         .arg(listen(alloc))?
@@ -43,19 +41,31 @@ pub(crate) fn serve<'a>(alloc: Global) -> Result<Command<'a>, AllocError> {
         .arg(connections(alloc))?
         .arg(clients(alloc))?
         .arg(idle(alloc))?
-        .arg(cache(alloc))?
-        .arg(option(
-            alloc,
-            "audit",
-            "FILE",
-            "Where the lines of denied calls are appended; without it they are printed",
-        ))?
-        .arg(save(alloc))?
+        .arg(cache(alloc))?;
+    with_saving(alloc, with_lines(alloc, command)?)
+}
+
+// With what is told of calls and clients.
+fn with_lines<'a>(alloc: Global, command: Command<'a>) -> Result<Command<'a>, AllocError> {
+    command
+        .arg(audit(alloc))?
+        .arg(audit_failed(alloc))?
+        .arg(audit_skip(alloc))?
+        .arg(flag(alloc, "times", "Begins each line with the time"))?
+        .arg(names(alloc))?
         .arg(flag(
             alloc,
             "verbose",
             "Tells on standard error of clients that come and go",
         ))
+}
+
+// With where and when the tree is saved.
+fn with_saving<'a>(alloc: Global, command: Command<'a>) -> Result<Command<'a>, AllocError> {
+    command
+        .arg(save(alloc))?
+        .arg(save_every(alloc).requires_arg("save")?)?
+        .arg(key(alloc).requires_arg("save")?)
 }
 
 fn listen<'a>(alloc: Global) -> Arg<'a> {
@@ -110,6 +120,45 @@ fn idle<'a>(alloc: Global) -> Arg<'a> {
     .value_parser(value_parser!(u32).range(1..=1_000_000))
 }
 
+fn audit<'a>(alloc: Global) -> Arg<'a> {
+    option(
+        alloc,
+        "audit",
+        "FILE",
+        "Where the lines of denied calls are appended; without it they are printed",
+    )
+}
+
+fn audit_failed<'a>(alloc: Global) -> Arg<'a> {
+    option(
+        alloc,
+        "audit-failed",
+        "WHAT",
+        "Once lines can't be written any more: refuse ends the connection of a call that would be denied, count answers it and counts the line",
+    )
+    .value_parser(["refuse", "count"].as_slice())
+    .default_value("refuse")
+}
+
+fn audit_skip<'a>(alloc: Global) -> Arg<'a> {
+    option(
+        alloc,
+        "audit-skip",
+        "RULES",
+        "The rules whose denied calls get no line, as such lines name them, with a comma between two",
+    )
+}
+
+fn save_every<'a>(alloc: Global) -> Arg<'a> {
+    option(
+        alloc,
+        "save-every",
+        "SECONDS",
+        "Saves the tree so often too, where it has changed",
+    )
+    .value_parser(value_parser!(u32).range(1..=1_000_000))
+}
+
 /// `describe DIRECTORY --mount PATH [--export PATTERN=OPTIONS].. [--bytes N] [--files N] [--key KEY]`.
 pub(crate) fn describe<'a>(alloc: Global) -> Result<Command<'a>, AllocError> {
     Command::new(alloc, "describe")
@@ -159,14 +208,4 @@ fn files<'a>(alloc: Global) -> Arg<'a> {
         "The most files of the volume; twice what it has, and at least 100000, where not given",
     )
     .value_parser(value_parser!(u64))
-}
-
-fn key<'a>(alloc: Global) -> Arg<'a> {
-    option(
-        alloc,
-        "key",
-        "KEY",
-        "The server's key, 16 hexadecimal digits",
-    )
-    .default_value("6e66733364000001")
 }

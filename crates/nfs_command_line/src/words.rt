@@ -3,6 +3,7 @@
 use crate::questions::{check, exports, why};
 use crate::request::Request;
 use crate::runs::{describe, replay, self_call, serve};
+use crate::usage::UsageFault;
 use clap::error::ErrorKind;
 use clap::{ArgMatches, Command};
 use std::alloc::{AllocError, Global};
@@ -43,12 +44,27 @@ impl<'a> Words<'a> {
         words: &'a [String],
     ) -> Result<Words<'a>, Told> {
         match command(alloc)?.try_get_matches_from(words) {
-            Ok(matches) => Ok(Words { matches }),
+            Ok(matches) => Words { matches }.checked(rt),
             Err(error) if error.kind() == ErrorKind::OutOfMemory => Err(Told::Memory),
             Err(error) if error.print(rt).is_err() => Err(Told::Write),
             Err(error) if error.exit_code() == 0 => Err(Told::All(ExitCode::SUCCESS)),
             Err(_) => Err(Told::All(ExitCode::from(2))),
         }
+    }
+
+    // The words, unless what they say together is at fault.
+    fn checked<R: Eprint>(self, rt: &R) -> Result<Words<'a>, Told> {
+        match self.fault() {
+            None => Ok(self),
+            Some(fault) => {
+                let _ = eprintln!(rt; "error: {fault}");
+                Err(Told::All(ExitCode::from(2)))
+            }
+        }
+    }
+
+    fn fault(&self) -> Option<UsageFault> {
+        self.request()?.fault()
     }
 
     /// What the words ask for, if anything.

@@ -1,17 +1,28 @@
 //! The clients that a service has.
 ghost use Rattle.std.specs.Prelude.{◌≡◌, ◌⊎◌, ◌<◌, ◌≤◌, ◌↔◌, [], ◌∷◌, ◌++◌, nat_lt, option_to_list};
-ghost use Rattle.std.specs.Prelude.{true, false, IfOk, OnOk, Some, IsSome};
+ghost use Rattle.std.specs.Prelude.{true, false, IfOk, OnOk, Some, IsSome, option_and_then};
 ghost use Rattle.std.specs.Option.{option_copied_mut, option_map_or};
 ghost use Rattle.slab.specs.Slab.{get, slab_len};
 ghost use Rattle.std.specs.VecDeque.{deque_len, deque_capacity};
 ghost use Rattle.nfs_tcp.specs.Queues.{is_waiting};
 
 use crate::socket::Socket;
+use nfs_exports::addr::Addr;
 use nfs_serving::client::Client;
 use slab::Slab;
 use std::alloc::{AllocError, Global};
 use std::collections::VecDeque;
 use std::net::SocketAddr;
+
+/// Why a client that has something to say gets no turn for now.
+#[derive(Clone, Copy, Debug, PartialEq, Eq)]
+pub enum Hold {
+    /// As many lines of denied calls wait as may.
+    Lines,
+    /// A denied call from its address was refused lately. It waits until then, in milliseconds since the
+    /// service began.
+    Until(u64),
+}
 
 /// A client, and what the service knows of it.
 #[derive(Drop)]
@@ -22,8 +33,12 @@ pub struct Member {
     pub number: u64,
     /// Where it comes from.
     pub peer: SocketAddr,
+    /// The same, as exports see it.
+    pub addr: Addr,
     /// When something was heard of it last, in seconds since the service began.
     pub heard: u64,
+    /// Why it gets no turn for now, if it gets none.
+    pub hold: Option<Hold>,
     /// Whether it waits for a turn.
     pub is_ready: bool,
     /// Whether its peer is known to have ended its side.
@@ -121,6 +136,13 @@ impl Clients {
             member.is_ready = false;
         }
         Some(key)
+    }
+
+    /// Why the client of a key gets no turn for now, if it gets none.
+    pub fn hold(&self, key: usize) -> Option<Hold>
+        ensures { result ≡ option_and_then (λ member. member.hold) (get self.now.members key) }
+    {
+        self.members.get(key)?.hold
     }
 
     /// Whether the client of a key was not heard of since then.

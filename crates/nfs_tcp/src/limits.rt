@@ -10,4 +10,7 @@ pub struct Limits {
     /// After how many seconds it ends a connection on which nothing comes; never where there is no
     /// number.
     pub idle: Option<u64>,
+    /// After how many seconds a copy of the tree is made again, where something may have changed; never
+    /// where there is no number.
+    pub save_every: Option<u64>,
 }

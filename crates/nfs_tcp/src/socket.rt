@@ -15,6 +15,7 @@ use std::net::{IpAddr, SocketAddr};
 pub struct Socket {
     stream: TcpStream,
     failed: bool,
+    reset: bool,
 }
 
 impl Socket {
@@ -26,7 +27,13 @@ impl Socket {
         Ok(Socket {
             stream,
             failed: false,
+            reset: false,
         })
+    }
+
+    /// Whether its peer has reset the connection, in place of ending its side.
+    pub fn was_reset(&self) -> bool {
+        self.reset
     }
 }
 
@@ -52,11 +59,14 @@ impl Link for Socket {
         match self.stream.read(buffer) {
             Ok(0) => Ok(Came::End),
             Ok(n) => Ok(Came::Bytes(n)),
-            Err(error) if error.kind() == ErrorKind::WouldBlock => Ok(Came::Nothing),
-            Err(_) => {
-                self.failed = true;
-                Err(DeviceFault)
-            }
+            Err(error) => match error.kind() {
+                ErrorKind::WouldBlock => Ok(Came::Nothing),
+                kind => {
+                    self.failed = true;
+                    self.reset = kind == ErrorKind::ConnectionReset;
+                    Err(DeviceFault)
+                }
+            },
         }
     }
 }

@@ -1,0 +1,42 @@
+//! The keys of descriptions that are written.
+
+use crate::fault::Fault;
+use std::alloc::Global;
+use std::random::RandomSource;
+
+/// How many bytes a key has.
+pub(crate) const KEY_BYTES: usize = 8;
+
+/// The key of these hexadecimal digits, or a new one where there are none, or not 16. `CannotRead`
+/// where the system has no random bytes, `Memory`.
+pub(crate) fn key_of<R: RandomSource>(
+    rt: &R,
+    alloc: Global,
+    digits: Option<&str>,
+) -> Result<[u8; KEY_BYTES], Fault> {
+    match digits.and_then(given_key) {
+        Some(key) => Ok(key),
+        None => new_key(rt, alloc),
+    }
+}
+
+/// The key of 16 hexadecimal digits.
+pub(crate) fn given_key(digits: &str) -> Option<[u8; KEY_BYTES]> {
+    let mut key = [0; KEY_BYTES];
+    match hex::decode_to_slice(digits, &mut key) {
+        Ok(()) => Some(key),
+        Err(_) => None,
+    }
+}
+
+/// A key that no other description has. `CannotRead` where the system has no random bytes, `Memory`.
+pub(crate) fn new_key<R: RandomSource>(rt: &R, alloc: Global) -> Result<[u8; KEY_BYTES], Fault> {
+    let mut key = [0; KEY_BYTES];
+    match rt.fill_bytes(&mut key) {
+        Ok(()) => Ok(key),
+        Err(error) => {
+            let name = "the system's random bytes".to_string(alloc)?;
+            Err(Fault::CannotRead { name, error })
+        }
+    }
+}

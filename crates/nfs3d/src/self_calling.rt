@@ -1,0 +1,50 @@
+//! A call that a server sends to itself.
+
+use crate::description::load_tree;
+use crate::diagnostic::Diagnostic;
+use crate::fault::Fault;
+use crate::serve::fault_of;
+use log::Log;
+use nfs_server::server::Server;
+use nfs_tcp::self_call::self_call;
+use nfs_xdr::device::Device;
+use std::alloc::Global;
+use std::io;
+use std::mem::forget;
+use std::net::{Ipv4Addr, Net, SocketAddr, SocketAddrV4, TcpListener, TcpStream};
+use std::process::ExitCode;
+use std::rt::Files;
+use std::time::Clock;
+
+/// Serves NULL of a description over a connection of its own, and prints the reply.
+pub(crate) fn call_self<R>(rt: &R, alloc: Global, name: &str) -> Result<ExitCode, Diagnostic>
+where
+    R: Files
+        + Input
+        + Print
+        + Eprint
+        + Net<Listener = TcpListener, Stream = TcpStream>
+        + Clock
+        + Log,
+{
+    let loaded = load_tree(rt, alloc, name)?;
+    let mut server = Server::new(alloc, loaded, 1)?;
+    let done = call_server(rt, alloc, &mut server);
+    forget(server);
+    done?;
+    Ok(ExitCode::SUCCESS)
+}
+
+// Serves NULL over a connection of its own, and prints the reply.
+fn call_server<R>(rt: &R, alloc: Global, server: &mut Server) -> Result<(), Fault>
+where
+    R: Print + Net<Listener = TcpListener, Stream = TcpStream> + Clock + Log,
+{
+    match self_call(rt, alloc, server, &mut Device::new(io::writer(rt))) {
+        Ok(()) => Ok(()),
+        Err(fault) => {
+            let address = SocketAddr::V4(SocketAddrV4::new(Ipv4Addr::LOCALHOST, 0));
+            Err(fault_of(address, fault))
+        }
+    }
+}
