@@ -1,9 +1,11 @@
 /* Loads a server over TCP: load PORT WORK CLIENTS DEPTH CALLS [echo], where WORK is null, getattr,
- * lookup, read4, read64, read128, write64, write128 or make. Each client has up to DEPTH calls under way. Each reply is
+ * lookup, read4, read64, read128, write64, write128, make, missing or denied. Each client has up to DEPTH calls under way. Each reply is
  * looked at: its length, and that its number is that of the client's oldest call. It prints the
  * microseconds a call, and the 99th of a hundred times of a call. With echo, the sizes alone are
  * asked for. With idle in place of WORK the clients connect and say nothing until standard input ends.
- * The description is that of bench/tree. */
+ * The description is that of bench/tree, and the key in its handles that of NFS3D_KEY (clients/key.h). A call of missing is a
+ * LOOKUP of a name that isn't there, and one of denied a GETATTR of file 6: the root of a volume that isn't exported here,
+ * which stands behind bench/tree's own. */
 #include <arpa/inet.h>
 #include <errno.h>
 #include <fcntl.h>
@@ -17,6 +19,7 @@
 #include <sys/socket.h>
 #include <time.h>
 #include <unistd.h>
+#include "../clients/key.h"
 
 enum { MOST = 1 << 18, TIMES = 1 << 20 };
 
@@ -32,6 +35,7 @@ static unsigned char call[MOST], room[MOST], other[MOST];
 static size_t call_size, reply_size, reply2_size, other_size;
 static double times[TIMES];
 static unsigned long measured;
+static uint32_t key[2];
 
 static double now(void) {
     struct timespec t;
@@ -57,7 +61,7 @@ static size_t words(unsigned char *to, size_t at, const uint32_t *from, size_t n
 static size_t begin(unsigned char *to, uint32_t proc, uint32_t file) {
     uint32_t head[] = {0, 0, 0, 2, 100003, 3, proc};
     uint32_t credential[] = {1, 20, 0, 0, 9, 9, 0, 0, 0};
-    uint32_t handle[] = {24, 0x4e465333, 0x01020304, 0x05060708, file - 1, 0, file};
+    uint32_t handle[] = {24, 0x4e465333, key[0], key[1], file - 1, 0, file};
     size_t at = words(to, 0, head, 7);
     if (proc == 0) {
         uint32_t none[] = {0, 0, 0, 0};
@@ -100,6 +104,11 @@ static void make_calls(const char *work) {
         call_size = words(call, begin(call, 8, 2), made, 9), reply_size = 28 + 4 + 32 + 88 + 28 + 88;
         other_size = words(other, begin(other, 12, 2), gone, 2), reply2_size = 28 + 4 + 28 + 88;
         finish(other, other_size);
+    } else if (strcmp(work, "missing") == 0) {
+        uint32_t name[] = {4, 0x6e6f6e65};
+        call_size = words(call, begin(call, 3, 2), name, 2), reply_size = 28 + 4 + 88;
+    } else if (strcmp(work, "denied") == 0) {
+        call_size = begin(call, 1, 6), reply_size = 28 + 4;
     } else fail("no such work");
     finish(call, call_size);
 }
@@ -178,6 +187,7 @@ int main(int count, char **w) {
     struct sockaddr_in to = {.sin_family = AF_INET, .sin_port = htons((unsigned short)atoi(w[1]))};
     Client *all = calloc((size_t)clients, sizeof *all);
     int idle = strcmp(w[2], "idle") == 0;
+    read_key(key);
     if (!idle) make_calls(w[2]);
     to.sin_addr.s_addr = htonl(INADDR_LOOPBACK);
     for (int i = 0; i < clients; i++) {

@@ -1,6 +1,7 @@
 /* Clients that make a server over bench/tree keep as much as it keeps of a client: greedy PORT CLIENTS. Each sends two records
  * of nearly and of quite the largest size, which are no calls, and then many READs of 128 KiB, whose replies it never takes: so
- * the server has room for a record, replies that it owes, and what came behind their calls. They stay for two seconds. */
+ * the server has room for a record, replies that it owes, and what came behind their calls. They stay for two seconds. The key
+ * in their handles is that of NFS3D_KEY (clients/key.h). */
 #include <arpa/inet.h>
 #include <netinet/in.h>
 #include <poll.h>
@@ -10,8 +11,11 @@
 #include <string.h>
 #include <sys/socket.h>
 #include <unistd.h>
+#include "../clients/key.h"
 
 enum { LARGEST = 262144, LONGEST_READ = 131072, READS = 200 };
+
+static uint32_t key[2];
 
 static void fail(const char *what) {
     fprintf(stderr, "greedy: %s\n", what);
@@ -26,14 +30,15 @@ static size_t put(unsigned char *to, size_t at, uint32_t w) {
 
 /* A READ of 128 KiB of the file 5. */
 static size_t put_read(unsigned char *to, size_t at) {
-    static const uint32_t words[] = {0x80000000u | 100, 7, 0, 2, 100003, 3, 6, 1, 20, 0, 0, 9, 9, 0, 0, 0,
-        24, 0x4e465333, 0x01020304, 0x05060708, 4, 0, 5, 0, 0, LONGEST_READ};
+    const uint32_t words[] = {0x80000000u | 100, 7, 0, 2, 100003, 3, 6, 1, 20, 0, 0, 9, 9, 0, 0, 0,
+        24, 0x4e465333, key[0], key[1], 4, 0, 5, 0, 0, LONGEST_READ};
     for (size_t i = 0; i < sizeof words / sizeof *words; i++) at = put(to, at, words[i]);
     return at;
 }
 
 int main(int argc, char **argv) {
     if (argc < 3) fail("greedy PORT CLIENTS");
+    read_key(key);
     int clients = atoi(argv[2]);
     static unsigned char bytes[2 * LARGEST + 8 + READS * 104];
     memset(bytes, 0xff, sizeof bytes);

@@ -2,7 +2,8 @@
  * answered as ever: storm PORT RECORDS [SEED]. A record is a good call of some procedure, of which bytes are changed, words
  * made large, ends cut or added, pieces of other calls put in, or the marks set in odd places. Where the server ends a
  * connection, another is opened. It prints how many records it sent, how many bytes were answered, how many connections
- * ended, and how long the good calls waited, in microseconds: the half and the last of a thousand. */
+ * ended, and how long the good calls waited, in microseconds: the half and the last of a thousand. The key in its handles is
+ * that of NFS3D_KEY (clients/key.h). */
 #include <arpa/inet.h>
 #include <errno.h>
 #include <fcntl.h>
@@ -16,12 +17,14 @@
 #include <sys/socket.h>
 #include <time.h>
 #include <unistd.h>
+#include "../clients/key.h"
 
 /* The longest record of a connection, and room for it with what is added to it. */
 enum { LONGEST = 262144, MOST = LONGEST + 8192, TOGETHER = 40, TIMES = 1 << 20 };
 
 static uint64_t seed;
 static unsigned short port;
+static uint32_t key[2];
 static unsigned char batch[MOST * 2];
 static size_t filled;
 static unsigned long answered, ended, measured;
@@ -62,11 +65,12 @@ static void opaque(Record *r, const void *bytes, uint32_t len) {
     r->len += (len + 3u) & ~3u;
 }
 
+static void handle_of(Record *r, uint32_t file) {
+    word(r, 24), word(r, 0x4e465333), word(r, key[0]), word(r, key[1]), word(r, file - 1), word(r, 0), word(r, file);
+}
+
 static void handle(Record *r) {
-    unsigned char h[24] = "NFS3\1\2\3\4\5\6\7\10";
-    h[23] = (unsigned char)(1 + any(8));
-    h[15] = h[23] - 1;
-    opaque(r, h, 24);
+    handle_of(r, 1 + any(8));
 }
 
 static void name(Record *r) {
@@ -210,12 +214,10 @@ static int send_batch(int peer) {
 /* A READ of the file that nobody can change, whose reply is known. */
 static void ask(int peer, uint32_t xid, Record *first) {
     static Record r, reply;
-    unsigned char h[24] = "NFS3\1\2\3\4\5\6\7\10";
-    h[15] = 5, h[23] = 6;
     r.len = 0;
     word(&r, 0x80000000u | 100), word(&r, xid), word(&r, 0), word(&r, 2), word(&r, 100003), word(&r, 3), word(&r, 6);
     word(&r, 1), word(&r, 20), word(&r, 0), word(&r, 0), word(&r, 9), word(&r, 9), word(&r, 0), word(&r, 0), word(&r, 0);
-    opaque(&r, h, 24), word(&r, 0), word(&r, 0), word(&r, 100);
+    handle_of(&r, 6), word(&r, 0), word(&r, 0), word(&r, 100);
     double began = now();
     if (send(peer, r.bytes, r.len, MSG_NOSIGNAL) != (ssize_t)r.len) fail("a good call can't be sent");
     for (reply.len = 0; reply.len < 144;) {
@@ -242,6 +244,7 @@ int main(int count, char **w) {
     static Record r, first;
     if (count < 3) fail("storm PORT RECORDS [SEED]");
     port = (unsigned short)atoi(w[1]);
+    read_key(key);
     unsigned long records = strtoul(w[2], 0, 10), sent = 0;
     seed = count > 3 ? strtoull(w[3], 0, 10) : (uint64_t)time(0);
     printf("seed=%llu ", (unsigned long long)seed);
