@@ -1,6 +1,7 @@
 //! The lines of a service.
 ghost use Rattle.std.specs.Prelude.{◌≡◌, List, ℕ, Option, None, [], true, false, length, ◌≤◌, ◌↔◌, IsTrue, OnOk, OnErr};
 ghost use Rattle.nfs_lines.specs.Queued.{put, put_plainly};
+ghost use Rattle.nfs_lines.specs.Wordings.{is_plain};
 ghost use Rattle.nfs_server.specs.AuditLines.{line_text};
 ghost use Rattle.nfs_xdr.specs.Known.{Grows, GrowsByPart};
 
@@ -37,7 +38,10 @@ pub struct Lines<'a, A, C> {
 
 impl<'a, A: LineOut> Lines<'a, A, A> {
     /// No lines, and one device for all of them.
-    pub fn alone(alloc: Global, wording: Wording<'a>, device: A) -> Lines<'a, A, A> {
+    pub fn alone(alloc: Global, wording: Wording<'a>, device: A) -> Lines<'a, A, A>
+        ensures audit { result.audit ≡ record { device = device; pending = []; failed = false } }
+        ensures plain { result.is_plain ≡ is_plain wording.entry }
+    {
         Lines::new(alloc, wording, device, None)
     }
 }
@@ -50,7 +54,10 @@ impl<'a, A: LineOut, C: LineOut> Lines<'a, A, C> {
         wording: Wording<'a>,
         audit: A,
         connections: Option<C>,
-    ) -> Lines<'a, A, C> {
+    ) -> Lines<'a, A, C>
+        ensures audit { result.audit ≡ record { device = audit; pending = []; failed = false } }
+        ensures plain { result.is_plain ≡ is_plain wording.entry }
+    {
         let connections = match connections {
             Some(device) => Some(LineQueue::new(alloc, device)),
             None => None,

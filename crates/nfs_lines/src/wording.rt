@@ -1,5 +1,6 @@
 //! How lines are worded, and which are written.
 ghost use Rattle.std.specs.Prelude.{◌≡◌};
+ghost use Rattle.nfs_lines.specs.Wordings.{is_plain};
 
 use crate::rule_names::{is_named_in, name_of};
 use nfs_server::audit_line::Reason;
@@ -28,11 +29,13 @@ pub struct Wording<'a> {
 
 impl Wording<'_> {
     /// Whether each denied call has its line as it stands.
-    pub fn is_plain(&self) -> bool {
-        !self.has_times
-            && !self.has_names
-            && self.skipped.is_none()
-            && self.when_failed == WhenFailed::Refuse
+    pub fn is_plain(&self) -> bool
+        ensures { result ≡ is_plain self.now }
+    {
+        match self.when_failed {
+            WhenFailed::Refuse => { !self.has_times && !self.has_names && self.skipped.is_none() }
+            WhenFailed::Count => false,
+        }
     }
 
     /// Whether the denials of this rule have no line.
