@@ -1,5 +1,5 @@
 //! Files that lines are written to without waiting for who reads them.
-ghost use Rattle.std.specs.Prelude.{None};
+ghost use Rattle.std.specs.Prelude.{◌≤◌, None, IfOk, length};
 
 use mio::unix::SourceFd;
 use mio::{Events, Interest, Poll, Token};
@@ -71,12 +71,11 @@ impl<W: Write + Drop> LineFile<W> {
         }
         self.ready
     }
-}
 
-impl<W: Write + Drop> LineOut for LineFile<W> {
-    ghost taken = { λ f. None };
-
-    fn send(&mut self, bytes: &[u8]) -> Result<usize, DeviceFault> {
+    // Writes some first bytes, as many as are taken at once without waiting.
+    fn write_some(&mut self, bytes: &[u8]) -> Result<usize, DeviceFault>
+        ensures { IfOk result (λ n. n ≤ length bytes.now) }
+    {
         let most = self.room().min(bytes.len());
         if most == 0 {
             return Ok(0);
@@ -91,5 +90,22 @@ impl<W: Write + Drop> LineOut for LineFile<W> {
                 _ => Err(DeviceFault),
             },
         }
+    }
+}
+
+impl<W: Write + Drop> LineOut for LineFile<W> {
+    ghost taken = { λ f. None };
+
+    fn send(&mut self, bytes: &[u8]) -> Result<usize, DeviceFault> {
+        let mut sent = 0;
+        while sent < bytes.len() {
+            match self.write_some(&bytes[sent..]) {
+                Ok(0) => break,
+                Ok(n) => sent += n,
+                Err(_) if sent > 0 => break,
+                Err(fault) => return Err(fault),
+            }
+        }
+        Ok(sent)
     }
 }

@@ -34,10 +34,10 @@ const EVENTS: usize = 1024;
 const RETRY_MILLIS: u64 = 100;
 
 // How long lines and clients wait for another try where the system doesn't tell, in milliseconds.
-const LINES_MILLIS: u64 = 50;
+const LINES_MILLIS: u64 = 10;
 
 // How often lines that are left at the end are tried: for five seconds.
-const LAST_TRIES: u32 = 100;
+const LAST_TRIES: u32 = 500;
 
 /// Why a service ends before it has served all its connections.
 #[derive(Debug, Drop)]
