@@ -24,7 +24,7 @@ impl Model for Ballast {
 /// How many blocks there may be.
 const MOST: usize = 100_000;
 
-// Up to here each size is tried, since the allocator keeps pieces that were freed for requests of just
+// Up to here each size is tried, since the allocator keeps chunks that were freed for requests of just
 // their size.
 const SMALL: usize = 4_096;
 

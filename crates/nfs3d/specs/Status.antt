@@ -20,7 +20,7 @@ status_of Write = 3
 status_of Closed = 141
 status_of (Memory e) = 3
 
--- a faulty line of a description is told with its number and cause
-abbrev pub IsToldAs : LoadError → Fault → Type 0
-IsToldAs (error.Fault line cause) fault = fault ≡ Description line cause
-IsToldAs error.Memory fault = status_of fault ≡ 3
+-- a faulty line of a description is reported with its number and cause
+abbrev pub IsReportedAs : LoadError → Fault → Type 0
+IsReportedAs (error.Fault line cause) fault = fault ≡ Description line cause
+IsReportedAs error.Memory fault = status_of fault ≡ 3

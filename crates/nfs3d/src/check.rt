@@ -15,7 +15,7 @@ use std::rt::Files;
 
 /// Prints what a description holds, and on standard error what it says that may not be meant; the
 /// status is 1 then where that is strict. Where the whole of it is looked at, its faulty lines are all
-/// told.
+/// reported.
 pub(crate) fn check_file<R: Files + Input + Print + Eprint>(
     rt: &R,
     alloc: Global,
@@ -27,7 +27,7 @@ pub(crate) fn check_file<R: Files + Input + Print + Eprint>(
         return check_whole(rt, alloc, name, is_strict);
     }
     let Description { source, loaded } = Description::read(rt, alloc, name)?;
-    tell_loaded(rt, alloc, &source, loaded, is_strict)
+    report_loaded(rt, alloc, &source, loaded, is_strict)
 }
 
 // The same with all its faulty lines.
@@ -38,16 +38,16 @@ fn check_whole<R: Files + Input + Print + Eprint>(
     is_strict: bool,
 ) -> Result<ExitCode, Diagnostic> {
     let description = Source::read(rt, alloc, name)?;
-    if tell_faults(rt, alloc, &description)? {
+    if report_faults(rt, alloc, &description)? {
         return Ok(ExitCode::from(1));
     }
     let loaded = description.load(alloc)?;
-    tell_loaded(rt, alloc, &description, loaded, is_strict)
+    report_loaded(rt, alloc, &description, loaded, is_strict)
 }
 
 // Prints what a description holds, and warns. What was loaded is not given back file by file, since
 // the process ends.
-fn tell_loaded<R: Print + Eprint>(
+fn report_loaded<R: Print + Eprint>(
     rt: &R,
     alloc: Global,
     description: &Source<'_>,
@@ -65,7 +65,7 @@ fn tell_loaded<R: Print + Eprint>(
 }
 
 // Prints the fault of each faulty line and how many there are, if there is one.
-fn tell_faults<R: Eprint>(
+fn report_faults<R: Eprint>(
     rt: &R,
     alloc: Global,
     description: &Source<'_>,
@@ -73,16 +73,16 @@ fn tell_faults<R: Eprint>(
     let Some(faults) = every_fault(alloc, description.text.as_slice())? else {
         return Ok(false);
     };
-    tell(rt, alloc, description, faults.first);
+    report(rt, alloc, description, faults.first);
     for faulty in &faults.others {
-        tell(rt, alloc, description, *faulty);
+        report(rt, alloc, description, *faulty);
     }
     let count = faults.others.len().saturating_add(1);
     let _ = eprintln!(rt; "faulty lines: {count}");
     Ok(true)
 }
 
-fn tell<R: Eprint>(rt: &R, alloc: Global, description: &Source<'_>, faulty: Faulty) {
+fn report<R: Eprint>(rt: &R, alloc: Global, description: &Source<'_>, faulty: Faulty) {
     let Faulty { line, cause } = faulty;
     let diagnostic = Diagnostic::of_description(
         alloc,
@@ -92,7 +92,7 @@ fn tell<R: Eprint>(rt: &R, alloc: Global, description: &Source<'_>, faulty: Faul
     let _ = eprintln!(rt; "{diagnostic}");
 }
 
-// Prints a line for each warning, and tells how many there are.
+// Prints a line for each warning, and reports how many there are.
 fn warn<R: Eprint>(
     rt: &R,
     alloc: Global,

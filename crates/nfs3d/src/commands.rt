@@ -10,8 +10,8 @@ use crate::self_calling::call_self;
 use crate::serve::serve_tree;
 use crate::why::print_why;
 use log::Log;
-use nfs_command_line::request::Request;
-use nfs_command_line::words::{Told, Words};
+use nfs_command_line::invocation::Invocation;
+use nfs_command_line::words::{Reported, Words};
 use std::alloc::{AllocError, Global};
 use std::fs::File;
 use std::net::{Net, TcpListener, TcpStream};
@@ -35,14 +35,14 @@ where
 {
     match Words::read(rt, alloc, words) {
         Ok(words) => answer(rt, alloc, words.request()),
-        Err(Told::All(code)) => Ok(code),
-        Err(Told::Write) => Err(Fault::Write.into()),
-        Err(Told::Memory) => Err(AllocError.into()),
+        Err(Reported::All(code)) => Ok(code),
+        Err(Reported::Write) => Err(Fault::Write.into()),
+        Err(Reported::Memory) => Err(AllocError.into()),
     }
 }
 
 // Does one command; nothing where there is none.
-fn answer<R>(rt: &R, alloc: Global, request: Option<Request<'_>>) -> Result<ExitCode, Diagnostic>
+fn answer<R>(rt: &R, alloc: Global, request: Option<Invocation<'_>>) -> Result<ExitCode, Diagnostic>
 where
     R: Files<File = File>
         + Input
@@ -56,18 +56,18 @@ where
 {
     match request {
         Some(
-            Request::Check {
+            Invocation::Check {
                 tree,
                 is_strict,
                 is_whole,
             },
         ) => check_file(rt, alloc, tree, is_strict, is_whole),
-        Some(Request::Why(words)) => print_why(rt, alloc, &words),
-        Some(Request::Exports { tree }) => print_exports(rt, alloc, tree),
-        Some(Request::Replay(words)) => replay_files(rt, alloc, &words),
-        Some(Request::Serve(words)) => serve_tree(rt, alloc, &words),
-        Some(Request::Describe(words)) => Ok(describe_directory(rt, alloc, &words)?),
-        Some(Request::SelfCall { tree }) => call_self(rt, alloc, tree),
+        Some(Invocation::Why(words)) => print_why(rt, alloc, &words),
+        Some(Invocation::Exports { tree }) => print_exports(rt, alloc, tree),
+        Some(Invocation::Replay(words)) => replay_files(rt, alloc, &words),
+        Some(Invocation::Serve(words)) => serve_tree(rt, alloc, &words),
+        Some(Invocation::Describe(words)) => Ok(describe_directory(rt, alloc, &words)?),
+        Some(Invocation::SelfCall { tree }) => call_self(rt, alloc, tree),
         None => Ok(ExitCode::SUCCESS),
     }
 }

@@ -3,7 +3,7 @@
 use crate::fault::Fault;
 use crate::key::key_of;
 use crate::output::print;
-use nfs_command_line::request::Describe;
+use nfs_command_line::invocation::Describe;
 use nfs_describe::description::describe;
 use nfs_describe::fault::DescribeFault;
 use nfs_disk::building::build;
@@ -14,11 +14,12 @@ use nfs_load::description::load;
 use nfs_load::load_error::LoadError;
 use nfs_load::loaded::Loaded;
 use std::alloc::{AllocError, Global};
+use std::mem::forget;
 use std::process::ExitCode;
 use std::random::RandomSource;
 use std::rt::Files;
 
-/// Prints the description of the directory that the words name. What is left out of it is told on
+/// Prints the description of the directory that the words name. What is skipped of it is reported on
 /// standard error. `CannotRead` where there is no such directory, or the system has no key,
 /// `Undescribed`, `Write`, `Memory`; the status 2 where a word is faulty.
 pub(crate) fn describe_directory<R: Files + Print + Eprint + RandomSource + AllocGlobal>(
@@ -32,9 +33,10 @@ pub(crate) fn describe_directory<R: Files + Print + Eprint + RandomSource + Allo
     };
     let key = hex::encode(alloc, key_of(rt, alloc, words.key)?.as_slice())?;
     match head(alloc, words, key.as_str(), &survey) {
-        Ok(loaded) => {
-            print_directory(rt, alloc, words.directory, &mut survey, loaded)?;
-            Ok(ExitCode::SUCCESS)
+        Ok(mut loaded) => {
+            let printed = print_directory(rt, alloc, words.directory, &mut survey, &mut loaded);
+            forget(loaded);
+            printed
         }
         Err(LoadError::Memory) => Err(Fault::Memory(AllocError)),
         Err(fault) => {
@@ -70,17 +72,19 @@ fn print_directory<R: Files + Print + Eprint + AllocGlobal>(
     alloc: Global,
     directory: &str,
     survey: &mut Survey,
-    loaded: Loaded,
-) -> Result<(), Fault> {
-    let mut loaded = loaded;
-    if let Err(fault) = fill(rt, survey, &mut loaded) {
+    loaded: &mut Loaded,
+) -> Result<ExitCode, Fault> {
+    if let Err(fault) = fill(rt, survey, loaded) {
         return Err(fault_of(alloc, directory, fault));
     }
     for warning in &survey.warnings {
         let _ = eprintln!(rt; "nfs3d: {warning}");
     }
     match describe(alloc, &loaded.tree, &loaded.table) {
-        Ok(text) => print(rt, text.as_slice()),
+        Ok(text) => {
+            print(rt, text.as_slice())?;
+            Ok(ExitCode::SUCCESS)
+        }
         Err(DescribeFault::Memory) => Err(Fault::Memory(AllocError)),
         Err(fault) => Err(Fault::Undescribed(fault)),
     }

@@ -2,7 +2,7 @@
 
 use crate::diagnostic::Diagnostic;
 use crate::source::{Sink, Source, read_text};
-use nfs_advice::left_out::{content_of, put_mark};
+use nfs_advice::skipped::{content_of, put_mark};
 use nfs_lives::path_digest::PathDigest;
 use nfs_load::load_error::LoadError;
 use nfs_load::loaded::Loaded;
@@ -12,10 +12,10 @@ use nfs_text::lines::Lines;
 use std::alloc::{AllocError, Global};
 use std::rt::Files;
 
-// Of a line with more bytes the content is left out of the text once it is loaded.
+// Of a line with more bytes the content is skipped of the text once it is loaded.
 const LONG_LINE_BYTES: usize = 4_096;
 
-/// A description: what it says, and its text, in which long contents are left out.
+/// A description: what it says, and its text, in which long contents are skipped.
 #[derive(Drop)]
 pub(crate) struct Description<'a> {
     /// Its text.
@@ -89,7 +89,7 @@ pub(crate) fn load_tree<R: Files + Input>(
 #[derive(Drop)]
 struct Reader {
     loading: Loading,
-    // The lines that were taken, the first faulty one last. Nothing behind that is kept.
+    // The lines that were taken, the first faulty one last. Nothing after that is kept.
     text: Vec<u8>,
     // What was read of the line that has not ended yet.
     line: Vec<u8>,
@@ -152,9 +152,9 @@ impl Reader {
 }
 
 impl Sink for Reader {
-    fn take(&mut self, piece: &[u8]) -> Result<(), AllocError> {
+    fn take(&mut self, span: &[u8]) -> Result<(), AllocError> {
         let mut last: Option<&[u8]> = None;
-        for line in Lines::new(piece) {
+        for line in Lines::new(span) {
             if let Some(ended) = last {
                 self.end_line(ended)?;
             }
@@ -164,7 +164,7 @@ impl Sink for Reader {
             last = Some(line);
         }
         let last = last.unwrap_or(&[]);
-        if piece.ends_with(b"\n") {
+        if span.ends_with(b"\n") {
             self.end_line(last)
         } else {
             self.line.extend_from_slice(last)

@@ -1,4 +1,4 @@
-//! A fault with what stands behind its line.
+//! A fault with what stands after its line.
 
 use crate::fault::Fault;
 use crate::source::Source;
@@ -33,7 +33,7 @@ impl Diagnostic {
         let advice = match error {
             LoadError::Fault { line, cause } => {
                 let advice = advise(description.text.as_slice(), line, cause);
-                told(alloc, description.name, line, advice)
+                reported(alloc, description.name, line, advice)
             }
             LoadError::Memory => None,
         };
@@ -52,8 +52,8 @@ impl Diagnostic {
         Diagnostic { fault, advice }
     }
 
-    /// Tells it on standard error, unless nobody listens.
-    pub(crate) fn tell<R: Eprint>(&self, rt: &R) {
+    /// Reports it on standard error, unless nobody listens.
+    pub(crate) fn report<R: Eprint>(&self, rt: &R) {
         match self.fault {
             Fault::Closed => {}
             _ => {
@@ -77,23 +77,23 @@ impl Diagnostic {
     }
 }
 
-// The line behind that of a file that can't be written.
+// The line after that of a file that can't be written.
 fn saving_advice(alloc: Global, kind: ErrorKind) -> Option<String> {
     let cure = match kind {
         ErrorKind::NotFound => "make its directory, or name a file elsewhere",
         ErrorKind::PermissionDenied | ErrorKind::ReadOnlyFilesystem => {
-            "name a file in a directory where you may write"
+            "name a file in a directory that you may write to"
         }
         ErrorKind::StorageFull | ErrorKind::QuotaExceeded | ErrorKind::FileTooLarge => {
             "make room there, or name a file elsewhere"
         }
-        ErrorKind::IsADirectory => "name a file, or one that isn't there yet",
+        ErrorKind::IsADirectory => "name a file, or one that doesn't exist yet",
         _ => return None,
     };
     format!(in alloc; "\n  {cure}").ok()
 }
 
-// The line behind that of a script's fault.
+// The line after that of a script's fault.
 fn script_advice(
     alloc: Global,
     name: &str,
@@ -102,9 +102,9 @@ fn script_advice(
     cause: LineCause,
 ) -> Option<String> {
     match cause {
-        LineCause::BadLine => told(alloc, name, line, advise_line(script, line)),
-        LineCause::BadHex => told(alloc, name, line, advise_bytes(script, line)),
-        LineCause::NoHandle => told(alloc, name, line, advise_file(script, line)),
+        LineCause::BadLine => reported(alloc, name, line, advise_line(script, line)),
+        LineCause::BadHex => reported(alloc, name, line, advise_bytes(script, line)),
+        LineCause::NoHandle => reported(alloc, name, line, advise_file(script, line)),
         LineCause::BadWord(word, wanted) => wanted_at(alloc, name, script, line, word, wanted),
         LineCause::NoFile(word) => wanted_at(alloc, name, script, line, word, Wanted::File),
     }
@@ -123,7 +123,7 @@ fn wanted_at(
     format!(in alloc; "\n  {name}:{line}:{column}: {wanted}").ok()
 }
 
-// The column of a word of a line, from 1; behind the line where it has not so many.
+// The column of a word of a line, from 1; after the line where it has not so many.
 fn column_of(script: &[u8], line: u64, word: usize) -> usize {
     let text = match script
         .split(|b| *b == b'\n')
@@ -133,22 +133,22 @@ fn column_of(script: &[u8], line: u64, word: usize) -> usize {
         None => &[],
     };
     let mut left = word;
-    let mut is_behind_space = true;
+    let mut is_after_space = true;
     for (index, byte) in text.iter().enumerate() {
         let is_space = *byte == b' ';
-        if is_behind_space && !is_space {
+        if is_after_space && !is_space {
             if left == 0 {
                 return index.saturating_add(1);
             }
             left -= 1;
         }
-        is_behind_space = is_space;
+        is_after_space = is_space;
     }
     text.len().saturating_add(1)
 }
 
-// The line behind that of a fault.
-fn told(alloc: Global, name: &str, line: u64, advice: Advice<'_>) -> Option<String> {
+// The line after that of a fault.
+fn reported(alloc: Global, name: &str, line: u64, advice: Advice<'_>) -> Option<String> {
     format!(in alloc; "\n  {name}:{line}:{advice}").ok()
 }
 

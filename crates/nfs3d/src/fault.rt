@@ -31,7 +31,7 @@ pub enum Fault {
         cause: LineCause,
     },
     /// An argument is no text.
-    #[error("error: an argument is no text")]
+    #[error("error: an argument is not UTF-8")]
     NoText,
     /// A file can't be read.
     #[error("nfs3d: cannot read {name}: {error}")]
@@ -64,12 +64,12 @@ pub enum Fault {
         error: io::Error,
     },
     /// The system has no clock.
-    #[error("nfs3d: cannot read the system's clock, by which handles of this life are told from those of earlier ones: set it, and start again")]
+    #[error("nfs3d: cannot read the system's clock, which keeps the handles of this run apart from those of earlier runs: set it, and start again")]
     NoTime,
     /// The output can't be written.
     #[error("nfs3d: write fault")]
     Write,
-    /// Nobody reads the output any more, so that nothing is told either.
+    /// Nobody reads the output any more, so that nothing is reported either.
     #[error("")]
     Closed,
     /// There is no memory.
@@ -99,9 +99,9 @@ impl Fault {
 }
 
 impl From<LoadError> for Fault {
-    ghost use Rattle.nfs3d.specs.Status.{IsToldAs};
+    ghost use Rattle.nfs3d.specs.Status.{IsReportedAs};
 
-    ghost from_gives = { IsToldAs };
+    ghost from_gives = { IsReportedAs };
 
     fn from(error: LoadError) -> Fault {
         match error {

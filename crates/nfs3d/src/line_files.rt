@@ -1,7 +1,7 @@
 //! Where the lines of a service go.
 
 use crate::fault::Fault;
-use nfs_command_line::request::{AuditFailed, Serve};
+use nfs_command_line::invocation::{AuditFailed, Serve};
 use nfs_lines::wording::{WhenFailed, Wording};
 use nfs_tcp::line_file::{LineFile, STANDARD_OUTPUT};
 use std::alloc::Global;

@@ -36,7 +36,7 @@ fn main(rt: HostRuntime) -> ExitCode {
     match done {
         Ok(code) => code,
         Err(diagnostic) => {
-            diagnostic.tell(&rt);
+            diagnostic.report(&rt);
             ExitCode::from(diagnostic.fault.status())
         }
     }

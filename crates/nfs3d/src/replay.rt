@@ -5,7 +5,7 @@ use crate::diagnostic::Diagnostic;
 use crate::output::fault_of;
 use crate::saver::Copies;
 use crate::source::Source;
-use nfs_command_line::request::Replay;
+use nfs_command_line::invocation::Replay;
 use nfs_load::loaded::Loaded;
 use nfs_replay::fault::ScriptFault;
 use nfs_replay::replay::replay;

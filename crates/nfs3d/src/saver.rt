@@ -46,8 +46,8 @@ impl<'a> Copies<'a> {
     }
 
     /// Saves the tree at the end of a service that had begun, also where a fault ended it, which is then
-    /// told. Warns of what is skipped, and the status is 1 then. The fault of the service, or else that
-    /// of `save`; where there are both, that of `save` is told first.
+    /// reported. Warns of what is skipped, and the status is 1 then. The fault of the service, or else that
+    /// of `save`; where there are both, that of `save` is reported first.
     pub(crate) fn save_last<R: Files + RandomSource + Eprint>(
         &self,
         rt: &R,
@@ -60,7 +60,7 @@ impl<'a> Copies<'a> {
             (Ok(()), saved) => saved,
             (Err(fault), Ok(_)) => Err(fault.into()),
             (Err(fault), Err(unsaved)) => {
-                unsaved.tell(rt);
+                unsaved.report(rt);
                 Err(fault.into())
             }
         }
@@ -137,7 +137,7 @@ fn log_time<R: Clock + Log>(rt: &R, name: &str, began: io::Result<Instant>) {
     };
     let millis = took.as_millis();
     if millis > LONG_MILLIS {
-        warn!(rt; "{name}: saved in {millis} ms, in which no client was answered");
+        warn!(rt; "{name}: saved in {millis} ms, during which no client was served");
     } else {
         info!(rt; "{name}: saved in {millis} ms");
     }

@@ -28,10 +28,10 @@ pub(crate) struct Saved {
 #[derive(Debug, Drop, Error)]
 pub(crate) enum Unsaid {
     /// A path.
-    #[error("skipped {0}, for which a description has no words; rename it and save again")]
+    #[error("skipped {0}: a description can't hold this name; rename it and save again")]
     Name(ShownPath),
     /// What the link of a path holds.
-    #[error("skipped the link {0}, which holds what a description has no words for; make it anew and save again")]
+    #[error("skipped the link {0}: a description can't hold what it holds; make it anew and save again")]
     Target(ShownPath),
 }
 
@@ -82,7 +82,7 @@ pub(crate) fn save_changed<R: Files + RandomSource>(
     saved: &mut Option<[u8; 32]>,
 ) -> Result<Option<Saved>, Fault> {
     let described = describe_server(rt, alloc, server, key)?;
-    let digest = digest_behind_key(described.text.as_slice());
+    let digest = digest_after_key(described.text.as_slice());
     if *saved == Some(digest) {
         return Ok(None);
     }
@@ -91,8 +91,8 @@ pub(crate) fn save_changed<R: Files + RandomSource>(
     Ok(Some(written))
 }
 
-// The digest of what stands behind the first line of a description, which has the key.
-fn digest_behind_key(text: &[u8]) -> [u8; 32] {
+// The digest of what stands after the first line of a description, which has the key.
+fn digest_after_key(text: &[u8]) -> [u8; 32] {
     let key_line = match text.iter().position(|byte| *byte == b'\n') {
         Some(end) => end,
         None => 0,
@@ -143,7 +143,7 @@ pub(crate) fn try_place<R: Files>(rt: &R, alloc: Global, name: &str) -> Result<(
 
 fn make_and_remove<R: Files>(rt: &R, part: &str, name: &str) -> io::Result<()> {
     if is_taken(rt, name) {
-        return Err(io::Error::new(ErrorKind::IsADirectory, "it is no regular file"));
+        return Err(io::Error::new(ErrorKind::IsADirectory, "it is not a regular file"));
     }
     let _file = fs::create(rt, part)?;
     fs::remove_file(rt, part)

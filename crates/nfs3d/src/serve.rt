@@ -9,7 +9,7 @@ use crate::saver::Copies;
 use log::sink::Console;
 use log::{Level, Log, Logged};
 use mio::net::TcpListener;
-use nfs_command_line::request::Serve;
+use nfs_command_line::invocation::Serve;
 use nfs_lines::line_out::LineOut;
 use nfs_lines::lines::Lines;
 use nfs_lines::rule_names::first_unknown;
@@ -86,7 +86,7 @@ fn serve_and_save<R: Files<File = File> + Print + Eprint + Net + Clock + RandomS
     copies.save_last(rt, alloc, server, done)
 }
 
-// The address that is listened at; none, which is told, where a word is faulty.
+// The address that is listened at; none, which is reported, where a word is faulty.
 fn address_of<R: Eprint>(rt: &R, words: &Serve<'_>) -> Option<IpAddr> {
     if let Some(name) = words.audit_skip.and_then(first_unknown) {
         let _ = eprintln!(rt;
@@ -99,7 +99,7 @@ fn address_of<R: Eprint>(rt: &R, words: &Serve<'_>) -> Option<IpAddr> {
         Ok(ip) => Some(ip),
         Err(_) => {
             let _ = eprintln!(rt;
-                "error: invalid value '{listen}' for '--listen <ADDRESS>': it is no address of IPv4 or IPv6"
+                "error: invalid value '{listen}' for '--listen <ADDRESS>': it is not an IPv4 or IPv6 address"
             );
             None
         }
@@ -191,7 +191,7 @@ fn announce<R: Clock + Log, A: LineOut, C: LineOut>(
     };
     let line = format!(in alloc; "listening {local}\n")?;
     let mut clock = SystemClock::new(rt);
-    lines.tell(clock.now(), line.as_bytes());
+    lines.report(clock.now(), line.as_bytes());
     Ok(())
 }
 

@@ -13,7 +13,7 @@ use std::rt::Files;
 const MOST_BYTES: usize = 1 << 30;
 
 // How much is read at once.
-const PIECE_BYTES: usize = 1 << 16;
+const CHUNK_BYTES: usize = 1 << 16;
 
 /// A text with its name, `-` for standard input.
 #[derive(Drop)]
@@ -45,15 +45,15 @@ impl<'a> Source<'a> {
     }
 }
 
-/// What takes a text piece by piece.
+/// What takes a text chunk by chunk.
 pub(crate) trait Sink {
-    /// Takes the next piece. Refused without memory.
-    fn take(&mut self, piece: &[u8]) -> Result<(), AllocError>;
+    /// Takes the next chunk. Refused without memory.
+    fn take(&mut self, span: &[u8]) -> Result<(), AllocError>;
 }
 
 impl Sink for Vec<u8> {
-    fn take(&mut self, piece: &[u8]) -> Result<(), AllocError> {
-        self.extend_from_slice(piece)
+    fn take(&mut self, span: &[u8]) -> Result<(), AllocError> {
+        self.extend_from_slice(span)
     }
 }
 
@@ -81,18 +81,18 @@ fn read_all<I: Read, S: Sink>(
     name: &str,
     sink: &mut S,
 ) -> Result<(), Fault> {
-    let mut piece = Vec::new(alloc);
-    piece.resize(PIECE_BYTES, 0)?;
+    let mut span = Vec::new(alloc);
+    span.resize(CHUNK_BYTES, 0)?;
     let mut len = 0usize;
     for _ in 0..u64::MAX {
         if len > MOST_BYTES {
             break;
         }
-        match file.read(piece.as_mut_slice()) {
+        match file.read(span.as_mut_slice()) {
             Ok(0) => return Ok(()),
             Ok(n) => {
                 len = len.saturating_add(n);
-                sink.take(&piece[..n])?;
+                sink.take(&span[..n])?;
             }
             Err(error) if error.kind() == ErrorKind::Interrupted => {}
             Err(error) => return Err(cannot_read(alloc, name, error)),

@@ -3,7 +3,7 @@
 use crate::description::Description;
 use crate::diagnostic::Diagnostic;
 use crate::output::print;
-use nfs_command_line::request::Why;
+use nfs_command_line::invocation::Why;
 use nfs_load::loaded::Loaded;
 use nfs_why::question::{BadQuestion, Question};
 use nfs_why::why::put_answer;
@@ -13,7 +13,7 @@ use std::mem::forget;
 use std::process::ExitCode;
 use std::rt::Files;
 
-/// Prints why the call that the words tell of is granted or denied; the status is 2 where one of them
+/// Prints why the call that the words describe is granted or denied; the status is 2 where one of them
 /// is faulty.
 pub(crate) fn print_why<R: Files + Input + Print + Eprint>(
     rt: &R,

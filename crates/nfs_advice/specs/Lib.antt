@@ -1,4 +1,4 @@
 pub mod Firsts
-pub mod LeftOut
+pub mod Skipped
 pub mod Numbered
 pub mod Open

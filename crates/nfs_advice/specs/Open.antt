@@ -2,7 +2,7 @@
 use Rattle.std.specs.Prelude.{Bool, false, nat_eq}
 use Rattle.nfs_exports.specs.declared.options.Squash.{Squash}
 use Rattle.nfs_exports.specs.declared.options.Squash.TheVariants.{No, Root, All}
-use Rattle.nfs_exports.specs.declared.table.Export.{Export}
+use Rattle.nfs_exports.specs.declared.export_table.Export.{Export}
 
 abbrev pub asks_bits : Squash → Export → Bool
 asks_bits No export = nat_eq export.pattern.bits 0

@@ -14,8 +14,8 @@ use crate::options::OptionReason;
 use crate::order::OrderReason;
 use crate::paths::PathReason;
 use crate::patterns::PatternReason;
-use crate::piece::Piece;
 use crate::script::ScriptReason;
+use crate::span::Span;
 use crate::warnings::WarningReason;
 use std::fmt;
 
@@ -27,16 +27,16 @@ const MAX_SHOWN: usize = 60;
 #[derive(Clone, Copy)]
 pub struct Advice<'a> {
     /// The word; where something is missing, a part without bytes.
-    pub piece: Piece<'a>,
+    pub span: Span<'a>,
     /// What is wrong with it.
-    pub reason: Reason,
+    pub reason: AdviceReason,
     /// What would be right, beyond what the reason says.
     pub remedy: Remedy<'a>,
 }
 
 /// What is wrong with a word, by what is looked at.
 #[derive(Clone, Copy)]
-pub enum Reason {
+pub enum AdviceReason {
     /// A byte.
     Byte(ByteReason),
     /// The first word of a line.
@@ -77,18 +77,18 @@ pub enum Remedy<'a> {
     /// A network of this address and so many bits.
     Network(&'a [u8], u32),
     /// What another part of the line, or a line above, says.
-    Part(Piece<'a>),
+    Part(Span<'a>),
     /// A line above, by its number.
     Line(u64),
 }
 
 impl<'a> Advice<'a> {
     /// A reason that says all.
-    pub fn new(piece: Piece<'a>, reason: Reason) -> Advice<'a>
-        ensures { result ≡ record { piece = piece.entry; reason = reason; remedy = Said } }
+    pub fn new(span: Span<'a>, reason: AdviceReason) -> Advice<'a>
+        ensures { result ≡ record { span = span.entry; reason = reason; remedy = Said } }
     {
         Advice {
-            piece,
+            span,
             reason,
             remedy: Remedy::Said,
         }
@@ -99,7 +99,7 @@ impl<'a> Advice<'a> {
         ensures { result ≡ record self.entry { remedy = remedy.entry } }
     {
         Advice {
-            piece: self.piece,
+            span: self.span,
             reason: self.reason,
             remedy,
         }
@@ -108,9 +108,9 @@ impl<'a> Advice<'a> {
 
 impl fmt::Display for Advice<'_> {
     fn fmt<W: fmt::Write>(&self, f: &mut fmt::Formatter<W>) -> fmt::Result {
-        write!(f, "{}: ", self.piece.column())?;
-        if !self.piece.is_empty() {
-            write_quoted(f, self.piece.bytes())?;
+        write!(f, "{}: ", self.span.column())?;
+        if !self.span.is_empty() {
+            write_quoted(f, self.span.bytes())?;
             f.write_str(" ")?;
         }
         self.reason.fmt(f)?;
@@ -118,23 +118,23 @@ impl fmt::Display for Advice<'_> {
     }
 }
 
-impl fmt::Display for Reason {
+impl fmt::Display for AdviceReason {
     fn fmt<W: fmt::Write>(&self, f: &mut fmt::Formatter<W>) -> fmt::Result {
         match self {
-            Reason::Byte(reason) => f.write_str(reason.text()),
-            Reason::Keyword(reason) => f.write_str(reason.text()),
-            Reason::Count(reason) => reason.fmt(f),
-            Reason::Order(reason) => f.write_str(reason.text()),
-            Reason::Key(reason) => f.write_str(reason.text()),
-            Reason::Path(reason) => f.write_str(reason.text()),
-            Reason::Number(reason) => reason.fmt(f),
-            Reason::Pattern(reason) => f.write_str(reason.text()),
-            Reason::Option(reason) => f.write_str(reason.text()),
-            Reason::Content(reason) => f.write_str(reason.text()),
-            Reason::Earlier(reason) => f.write_str(reason.text()),
-            Reason::Limit(reason) => reason.fmt(f),
-            Reason::Script(reason) => f.write_str(reason.text()),
-            Reason::Warning(reason) => reason.fmt(f),
+            AdviceReason::Byte(reason) => f.write_str(reason.text()),
+            AdviceReason::Keyword(reason) => f.write_str(reason.text()),
+            AdviceReason::Count(reason) => reason.fmt(f),
+            AdviceReason::Order(reason) => f.write_str(reason.text()),
+            AdviceReason::Key(reason) => f.write_str(reason.text()),
+            AdviceReason::Path(reason) => f.write_str(reason.text()),
+            AdviceReason::Number(reason) => reason.fmt(f),
+            AdviceReason::Pattern(reason) => f.write_str(reason.text()),
+            AdviceReason::Option(reason) => f.write_str(reason.text()),
+            AdviceReason::Content(reason) => f.write_str(reason.text()),
+            AdviceReason::Earlier(reason) => f.write_str(reason.text()),
+            AdviceReason::Limit(reason) => reason.fmt(f),
+            AdviceReason::Script(reason) => f.write_str(reason.text()),
+            AdviceReason::Warning(reason) => reason.fmt(f),
         }
     }
 }
@@ -153,9 +153,9 @@ impl fmt::Display for Remedy<'_> {
                 write_bytes(f, address)?;
                 write!(f, "/{bits}")
             }
-            Remedy::Part(piece) => {
+            Remedy::Part(span) => {
                 f.write_str(" ")?;
-                write_quoted(f, piece.bytes())
+                write_quoted(f, span.bytes())
             }
             Remedy::Line(number) => write!(f, "; see line {number}"),
         }

@@ -1,8 +1,8 @@
 //! What files and links can't hold.
 ghost use Rattle.std.specs.Prelude.{◌≡◌};
 
-use crate::advice::{Advice, Reason};
-use crate::piece::Piece;
+use crate::advice::{Advice, AdviceReason};
+use crate::span::Span;
 
 /// Why a word is no content.
 #[derive(Clone, Copy)]
@@ -22,15 +22,15 @@ pub enum ContentReason {
 }
 
 impl ContentReason {
-    /// What is told.
+    /// What is reported.
     pub(crate) fn text(self) -> &'static str {
         match self {
-            ContentReason::Prefix => "is no content; write its digits without 0x",
+            ContentReason::Prefix => "is not a content; write its digits without 0x",
             ContentReason::Quote => {
-                "is no content; write two hexadecimal digits for each byte, or - for an empty file"
+                "is not a content; write two hexadecimal digits for each byte, or - for an empty file"
             }
             ContentReason::NoDigit => {
-                "is no hexadecimal digit; a content has two for each byte, and an empty one is -"
+                "is not a hexadecimal digit; a content has two for each byte, and an empty one is -"
             }
             ContentReason::Odd => "has an odd number of digits; write two for each byte",
             ContentReason::Long => "is too long; a file has at most 16,777,216 bytes",
@@ -40,25 +40,25 @@ impl ContentReason {
 }
 
 /// What a line gives a file or a link to hold, which is none.
-pub(crate) fn bad_content(line: Piece<'_>) -> Advice<'_>
-    ensures { result.piece.line.now ≡ line.entry.line.now }
+pub(crate) fn bad_content(line: Span<'_>) -> Advice<'_>
+    ensures { result.span.line.now ≡ line.entry.line.now }
 {
     if line.word(0).unwrap_or(line).bytes() == b"link".as_slice() {
         let target = line.word(4).unwrap_or(line);
-        return Advice::new(target, Reason::Content(ContentReason::LongTarget));
+        return Advice::new(target, AdviceReason::Content(ContentReason::LongTarget));
     }
     let word = line.word(5).unwrap_or(line);
     let digits = word.bytes();
     if digits.starts_with(b"0x") {
-        return Advice::new(word, Reason::Content(ContentReason::Prefix));
+        return Advice::new(word, AdviceReason::Content(ContentReason::Prefix));
     }
     if digits.starts_with(b"\"") {
-        return Advice::new(word, Reason::Content(ContentReason::Quote));
+        return Advice::new(word, AdviceReason::Content(ContentReason::Quote));
     }
     for place in 0..digits.len() {
         if !digits[place].is_ascii_hexdigit() {
             let byte = word.part(place, place + 1);
-            return Advice::new(byte, Reason::Content(ContentReason::NoDigit));
+            return Advice::new(byte, AdviceReason::Content(ContentReason::NoDigit));
         }
     }
     let reason = if digits.len() % 2 == 1 {
@@ -66,5 +66,5 @@ pub(crate) fn bad_content(line: Piece<'_>) -> Advice<'_>
     } else {
         ContentReason::Long
     };
-    Advice::new(word, Reason::Content(reason))
+    Advice::new(word, AdviceReason::Content(reason))
 }

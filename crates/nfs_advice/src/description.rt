@@ -1,4 +1,4 @@
-//! What stands behind a faulty line of a description.
+//! What stands after a faulty line of a description.
 ghost use Rattle.std.specs.Prelude.{◌≡◌};
 ghost use Rattle.nfs_advice.specs.Numbered.{line_numbered};
 ghost use Rattle.nfs_text.specs.Lines.{lines};
@@ -16,16 +16,16 @@ use crate::options::bad_options;
 use crate::order::out_of_order;
 use crate::paths::{bad_path, bad_volume_path};
 use crate::patterns::bad_pattern;
-use crate::piece::Piece;
+use crate::span::Span;
 use nfs_load::cause::Cause;
 use nfs_load::fields::Fields;
 use nfs_text::lines::Lines;
 use nfs_text::words::Words;
 
 /// What is wrong with the line of a description that is faulty by this cause, and what would be right.
-/// The line's number is counted from 1; that of the line behind the last stands for the end of the text.
+/// The line's number is counted from 1; that of the line after the last stands for the end of the text.
 pub fn advise(text: &[u8], number: u64, cause: Cause) -> Advice<'_>
-    ensures { result.piece.line.now ≡ line_numbered number (lines text.entry.now) }
+    ensures { result.span.line.now ≡ line_numbered number (lines text.entry.now) }
 {
     let line = line_at(text, number);
     let above = Above::new(text, number);
@@ -50,22 +50,22 @@ pub fn advise(text: &[u8], number: u64, cause: Cause) -> Advice<'_>
 }
 
 /// The line of this number, from 1; where there is none, no bytes.
-pub(crate) fn line_at(text: &[u8], number: u64) -> Piece<'_>
+pub(crate) fn line_at(text: &[u8], number: u64) -> Span<'_>
     ensures { result.line.now ≡ line_numbered number (lines text.entry.now) }
 {
     let mut left = number;
     let mut lines = Lines::new(text);
     while let Some(line) = lines.next() {
         if left == 1 {
-            return Piece::whole(line);
+            return Span::whole(line);
         }
         left = left.saturating_sub(1);
     }
-    Piece::whole(&[])
+    Span::whole(&[])
 }
 
 // The first field that is no path, of those that have to be one.
-fn bad_path_of(line: Piece<'_>) -> Piece<'_>
+fn bad_path_of(line: Span<'_>) -> Span<'_>
     ensures { result.line.now ≡ line.entry.line.now }
 {
     let path = line.word(1).unwrap_or(line);

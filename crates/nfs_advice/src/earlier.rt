@@ -1,8 +1,8 @@
 //! What the lines above a line have made.
 ghost use Rattle.std.specs.Prelude.{◌≡◌, IfSome};
 
-use crate::advice::{Advice, Reason, Remedy};
-use crate::piece::Piece;
+use crate::advice::{Advice, AdviceReason, Remedy};
+use crate::span::Span;
 use nfs_text::lines::Lines;
 
 /// What a line above has made, or hasn't.
@@ -18,27 +18,27 @@ pub enum EarlierReason {
     Taken,
     /// So it is, in a line that may have its two paths in the wrong order.
     TakenByHardLink,
-    /// The file that gets a further name is missing.
+    /// The file that gets a hard link is missing.
     NoTarget,
     /// It is a directory.
     TargetIsDirectory,
 }
 
 impl EarlierReason {
-    /// What is told.
+    /// What is reported.
     pub(crate) fn text(self) -> &'static str {
         match self {
             EarlierReason::Volume => "is the path of another volume",
             EarlierReason::NoParent => {
-                "is not there; write a dir line for it above, in the same volume"
+                "does not exist; write a dir line for it above, in the same volume"
             }
             EarlierReason::ParentNotDirectory => "is no directory",
-            EarlierReason::Taken => "is there already",
+            EarlierReason::Taken => "already exists",
             EarlierReason::TakenByHardLink => {
-                "is there already; write the new path first, and then the one that is there"
+                "already exists; write the new path first, and then the existing one"
             }
-            EarlierReason::NoTarget => "is not there; write its line above, in the same volume",
-            EarlierReason::TargetIsDirectory => "is a directory, which has no further names",
+            EarlierReason::NoTarget => "does not exist; write its line above, in the same volume",
+            EarlierReason::TargetIsDirectory => "is a directory, which can have no hard links",
         }
     }
 }
@@ -107,7 +107,7 @@ pub(crate) fn first_line_of(text: &[u8], keyword: &[u8]) -> u64 {
     number
 }
 
-/// The number of the line of an export, which is told by the places of its volume and among the exports of
+/// The number of the line of an export, which is reported by the places of its volume and among the exports of
 /// that, both from 0; of none, the number of lines.
 pub fn export_line(text: &[u8], volume: usize, export: usize) -> u64 {
     let mut volumes = 0usize;
@@ -143,7 +143,7 @@ fn second_word(line: &[u8]) -> &[u8] {
 
 /// A word of a line, where there is none no bytes.
 pub(crate) fn word_of(line: &[u8], place: usize) -> &[u8] {
-    match Piece::whole(line).word(place) {
+    match Span::whole(line).word(place) {
         Some(word) => word.bytes(),
         None => &[],
     }
@@ -157,29 +157,29 @@ fn makes_file(keyword: &[u8]) -> bool {
 }
 
 /// The path of a new volume, which another one has.
-pub(crate) fn volume_twice<'a>(above: Above<'a>, line: Piece<'a>) -> Advice<'a>
-    ensures { result.piece.line.now ≡ line.entry.line.now }
+pub(crate) fn volume_twice<'a>(above: Above<'a>, line: Span<'a>) -> Advice<'a>
+    ensures { result.span.line.now ≡ line.entry.line.now }
 {
     let word = line.word(1).unwrap_or(line);
-    Advice::new(word, Reason::Earlier(EarlierReason::Volume)).with(Remedy::Line(above.volume_line(
-        word.bytes(),
-    )))
+    Advice::new(word, AdviceReason::Earlier(EarlierReason::Volume)).with(Remedy::Line(
+        above.volume_line(word.bytes()),
+    ))
 }
 
 /// The directory on the way of a line's path that is missing, or is none.
-pub(crate) fn no_parent<'a>(above: Above<'a>, line: Piece<'a>) -> Advice<'a>
-    ensures { result.piece.line.now ≡ line.entry.line.now }
+pub(crate) fn no_parent<'a>(above: Above<'a>, line: Span<'a>) -> Advice<'a>
+    ensures { result.span.line.now ≡ line.entry.line.now }
 {
     let word = line.word(1).unwrap_or(line);
     match missing_parent(above, word) {
         Some(advice) => advice,
-        None => Advice::new(word, Reason::Earlier(EarlierReason::NoParent)),
+        None => Advice::new(word, AdviceReason::Earlier(EarlierReason::NoParent)),
     }
 }
 
 // The first directory on the way of a path that is missing, or is none.
-fn missing_parent<'a>(above: Above<'a>, word: Piece<'a>) -> Option<Advice<'a>>
-    ensures { IfSome result (λ advice. advice.piece.line.now ≡ word.entry.line.now) }
+fn missing_parent<'a>(above: Above<'a>, word: Span<'a>) -> Option<Advice<'a>>
+    ensures { IfSome result (λ advice. advice.span.line.now ≡ word.entry.line.now) }
 {
     let path = word.bytes();
     for place in 1..path.len() {
@@ -188,11 +188,11 @@ fn missing_parent<'a>(above: Above<'a>, word: Piece<'a>) -> Option<Advice<'a>>
             match above.maker_of(parent.bytes()) {
                 Some(maker) if maker.keyword == b"dir".as_slice() => {}
                 Some(maker) => {
-                    let reason = Reason::Earlier(EarlierReason::ParentNotDirectory);
+                    let reason = AdviceReason::Earlier(EarlierReason::ParentNotDirectory);
                     return Some(Advice::new(parent, reason).with(Remedy::Line(maker.number)));
                 }
                 None => {
-                    let reason = Reason::Earlier(EarlierReason::NoParent);
+                    let reason = AdviceReason::Earlier(EarlierReason::NoParent);
                     return Some(Advice::new(parent, reason));
                 }
             }
@@ -202,8 +202,8 @@ fn missing_parent<'a>(above: Above<'a>, word: Piece<'a>) -> Option<Advice<'a>>
 }
 
 /// The path of a line, which another line has made.
-pub(crate) fn name_taken<'a>(above: Above<'a>, line: Piece<'a>) -> Advice<'a>
-    ensures { result.piece.line.now ≡ line.entry.line.now }
+pub(crate) fn name_taken<'a>(above: Above<'a>, line: Span<'a>) -> Advice<'a>
+    ensures { result.span.line.now ≡ line.entry.line.now }
 {
     let word = line.word(1).unwrap_or(line);
     let old = line.word(2).unwrap_or(line);
@@ -213,7 +213,7 @@ pub(crate) fn name_taken<'a>(above: Above<'a>, line: Piece<'a>) -> Advice<'a>
     } else {
         EarlierReason::Taken
     };
-    let advice = Advice::new(word, Reason::Earlier(reason));
+    let advice = Advice::new(word, AdviceReason::Earlier(reason));
     match above.maker_of(word.bytes()) {
         Some(maker) => advice.with(Remedy::Line(maker.number)),
         None => advice,
@@ -221,17 +221,19 @@ pub(crate) fn name_taken<'a>(above: Above<'a>, line: Piece<'a>) -> Advice<'a>
 }
 
 /// The second path of a line, which names no file, or a directory.
-pub(crate) fn no_target<'a>(above: Above<'a>, line: Piece<'a>) -> Advice<'a>
-    ensures { result.piece.line.now ≡ line.entry.line.now }
+pub(crate) fn no_target<'a>(above: Above<'a>, line: Span<'a>) -> Advice<'a>
+    ensures { result.span.line.now ≡ line.entry.line.now }
 {
     let word = line.word(2).unwrap_or(line);
     match above.maker_of(word.bytes()) {
-        Some(maker) => Advice::new(word, Reason::Earlier(EarlierReason::TargetIsDirectory)).with(
-            Remedy::Line(maker.number),
-        ),
+        Some(maker) => Advice::new(
+            word,
+            AdviceReason::Earlier(EarlierReason::TargetIsDirectory),
+        )
+        .with(Remedy::Line(maker.number)),
         None => match missing_parent(above, word) {
             Some(advice) => advice,
-            None => Advice::new(word, Reason::Earlier(EarlierReason::NoTarget)),
+            None => Advice::new(word, AdviceReason::Earlier(EarlierReason::NoTarget)),
         },
     }
 }

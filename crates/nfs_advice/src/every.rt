@@ -1,4 +1,4 @@
-//! The faults of a description behind its first.
+//! The faults of a description after its first.
 ghost use Rattle.std.specs.Prelude.{IfOk};
 ghost use Rattle.nfs_advice.specs.Firsts.{HasFirst};
 
@@ -27,14 +27,14 @@ pub struct Faulty {
 pub struct Faults {
     /// The first.
     pub first: Faulty,
-    /// Others behind it, in order.
+    /// Others after it, in order.
     pub others: Vec<Faulty>,
 }
 
-/// The faulty lines of a text, if it has one: the first, and of those behind it each that is faulty
-/// whatever the faulty ones before it should have said. So nothing is told behind a faulty line of the
-/// server, nor behind one of a volume up to the next volume; and what should have been there, and isn't,
-/// is told of the first faulty line alone. At most 100 are looked at. Refused without memory.
+/// The faulty lines of a text, if it has one: the first, and of those after it each that is faulty
+/// whatever the faulty ones before it should have said. So nothing is reported after a faulty line of the
+/// server, nor after one of a volume up to the next volume; and what should have been there, and isn't,
+/// is reported of the first faulty line alone. At most 100 are looked at. Refused without memory.
 pub fn every_fault(alloc: Global, text: &[u8]) -> Result<Option<Faults>, AllocError>
     ensures first { IfOk result (HasFirst text.now) }
 {
@@ -43,14 +43,14 @@ pub fn every_fault(alloc: Global, text: &[u8]) -> Result<Option<Faults>, AllocEr
         Err(LoadError::Memory) => Err(AllocError),
         Err(LoadError::Fault { line, cause }) => {
             let first = Faulty { line, cause };
-            let others = behind(alloc, text, first)?;
+            let others = after(alloc, text, first)?;
             Ok(Some(Faults { first, others }))
         }
     }
 }
 
-// The faulty lines behind the first one.
-fn behind(alloc: Global, text: &[u8], first: Faulty) -> Result<Vec<Faulty>, AllocError> {
+// The faulty lines after the first one.
+fn after(alloc: Global, text: &[u8], first: Faulty) -> Result<Vec<Faulty>, AllocError> {
     let mut others = Vec::new(alloc);
     let mut left = text.to_vec(alloc)?;
     let mut last = first;
@@ -78,7 +78,7 @@ fn is_missed(cause: Cause) -> bool {
     }
 }
 
-// Makes a comment of a faulty line, and of those behind it that belong to it. Not where all lines do.
+// Makes a comment of a faulty line, and of those after it that belong to it. Not where all lines do.
 fn take_away(text: &mut [u8], faulty: Faulty) -> bool {
     let first = Words::new(line_at(text, faulty.line).bytes()).next();
     if first.is_none() || first == Some(b"server") || faulty.cause == Cause::NoServer {
@@ -93,12 +93,12 @@ fn take_away(text: &mut [u8], faulty: Faulty) -> bool {
     true
 }
 
-// The number of the first line of a volume behind a line; where there is none, one beyond all.
-fn next_volume(text: &[u8], behind: u64) -> u64 {
+// The number of the first line of a volume after a line; where there is none, one beyond all.
+fn next_volume(text: &[u8], after: u64) -> u64 {
     let mut number = 0u64;
     for line in Lines::new(text) {
         number = number.saturating_add(1);
-        if number > behind && Words::new(line).next() == Some(b"volume") {
+        if number > after && Words::new(line).next() == Some(b"volume") {
             return number;
         }
     }

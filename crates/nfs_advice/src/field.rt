@@ -79,7 +79,7 @@ const LINK: [Field; 4] = [Field::Path, Field::Uid, Field::Gid, Field::Target];
 const HARD: [Field; 2] = [Field::Path, Field::Old];
 
 /// The fields of the lines that begin with this word, in their order.
-pub(crate) fn fields_behind(keyword: &[u8]) -> &'static [Field] {
+pub(crate) fn fields_after(keyword: &[u8]) -> &'static [Field] {
     match keyword {
         b"server" => &SERVER,
         b"volume" => &VOLUME,

@@ -1,8 +1,8 @@
 //! Keys that are none.
 ghost use Rattle.std.specs.Prelude.{◌≡◌};
 
-use crate::advice::{Advice, Reason};
-use crate::piece::Piece;
+use crate::advice::{Advice, AdviceReason};
+use crate::span::Span;
 
 /// Why a word is no key.
 #[derive(Clone, Copy)]
@@ -18,12 +18,12 @@ pub enum KeyReason {
 }
 
 impl KeyReason {
-    /// What is told.
+    /// What is reported.
     pub(crate) fn text(self) -> &'static str {
         match self {
-            KeyReason::Prefix => "is no key; write 16 hexadecimal digits, without 0x",
+            KeyReason::Prefix => "is not a key; write 16 hexadecimal digits, without 0x",
             KeyReason::NoDigit => {
-                "is no key, since a byte is no hexadecimal digit; write 16 of these"
+                "is not a key, since a byte is not a hexadecimal digit; write 16 hexadecimal digits"
             }
             KeyReason::Short => "is too short for a key; write 16 hexadecimal digits",
             KeyReason::Long => "is too long for a key; write 16 hexadecimal digits",
@@ -32,11 +32,11 @@ impl KeyReason {
 }
 
 /// The key of a line, which is none.
-pub(crate) fn bad_key(line: Piece<'_>) -> Advice<'_>
-    ensures { result.piece.line.now ≡ line.entry.line.now }
+pub(crate) fn bad_key(line: Span<'_>) -> Advice<'_>
+    ensures { result.span.line.now ≡ line.entry.line.now }
 {
     let word = line.word(1).unwrap_or(line);
-    Advice::new(word, Reason::Key(reason_of(word.bytes())))
+    Advice::new(word, AdviceReason::Key(reason_of(word.bytes())))
 }
 
 fn reason_of(key: &[u8]) -> KeyReason {

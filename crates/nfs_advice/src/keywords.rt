@@ -1,39 +1,41 @@
 //! First words of lines that are no keywords.
 ghost use Rattle.std.specs.Prelude.{◌≡◌};
 
-use crate::advice::{Advice, Reason, Remedy};
+use crate::advice::{Advice, AdviceReason, Remedy};
 use crate::nearest::nearest;
-use crate::piece::Piece;
+use crate::span::Span;
 
 /// What stands in place of a keyword.
 #[derive(Clone, Copy)]
 pub enum KeywordReason {
-    /// A `#` behind spaces.
-    CommentBehindSpaces,
+    /// A `#` after spaces.
+    CommentAfterSpaces,
     /// What begins comments elsewhere.
     OtherComment,
     /// A path, as in a line of exports(5).
     ExportsLine,
     /// A word that is like a keyword.
-    Misspelled,
+    Malformed,
     /// Another word.
     Unknown,
 }
 
 impl KeywordReason {
-    /// What is told.
+    /// What is reported.
     pub(crate) fn text(self) -> &'static str {
         match self {
-            KeywordReason::CommentBehindSpaces => {
-                "begins no comment here; # has to be the line's first byte"
+            KeywordReason::CommentAfterSpaces => {
+                "does not begin a comment here; # must be the first byte of a line"
             }
-            KeywordReason::OtherComment => { "begins no comment; write # as the line's first byte" }
+            KeywordReason::OtherComment => {
+                "does not begin a comment; write # as the first byte of the line"
+            }
             KeywordReason::ExportsLine => {
-                "is no first word of a line; in place of a line of exports(5) write volume PATH BYTES FILES MODE UID GID, and below it export PATTERN OPTIONS"
+                "is not a keyword; in place of a line of exports(5) write volume PATH BYTES FILES MODE UID GID, and below it export PATTERN OPTIONS"
             }
-            KeywordReason::Misspelled => "is no first word of a line",
+            KeywordReason::Malformed => "is not a keyword",
             KeywordReason::Unknown => {
-                "is no first word of a line; those are server, volume, export, dir, file, link and hard"
+                "is not a keyword; the keywords are server, volume, export, dir, file, link and hard"
             }
         }
     }
@@ -45,24 +47,27 @@ const KEYWORDS: [&[u8]; 7] = [
 ];
 
 /// The first word of a line, which is no keyword.
-pub(crate) fn unknown_word(line: Piece<'_>) -> Advice<'_>
-    ensures { result.piece.line.now ≡ line.entry.line.now }
+pub(crate) fn unknown_word(line: Span<'_>) -> Advice<'_>
+    ensures { result.span.line.now ≡ line.entry.line.now }
 {
     let word = line.word(0).unwrap_or(line);
     let bytes = word.bytes();
     if bytes.starts_with(b"#") {
-        return Advice::new(word, Reason::Keyword(KeywordReason::CommentBehindSpaces));
+        return Advice::new(
+            word,
+            AdviceReason::Keyword(KeywordReason::CommentAfterSpaces),
+        );
     }
     if bytes.starts_with(b"//") || bytes.starts_with(b";") {
-        return Advice::new(word, Reason::Keyword(KeywordReason::OtherComment));
+        return Advice::new(word, AdviceReason::Keyword(KeywordReason::OtherComment));
     }
     if bytes.starts_with(b"/") {
-        return Advice::new(word, Reason::Keyword(KeywordReason::ExportsLine));
+        return Advice::new(word, AdviceReason::Keyword(KeywordReason::ExportsLine));
     }
     match nearest(bytes, &KEYWORDS) {
-        Some(keyword) => Advice::new(word, Reason::Keyword(KeywordReason::Misspelled)).with(
+        Some(keyword) => Advice::new(word, AdviceReason::Keyword(KeywordReason::Malformed)).with(
             Remedy::Meant(keyword),
         ),
-        None => Advice::new(word, Reason::Keyword(KeywordReason::Unknown)),
+        None => Advice::new(word, AdviceReason::Keyword(KeywordReason::Unknown)),
     }
 }

@@ -1,4 +1,4 @@
-//! What stands behind a faulty line of a description or a script: where it is faulty, and what would be
+//! What stands after a faulty line of a description or a script: where it is faulty, and what would be
 //! right; and what a description in order says that its writer may not have meant.
 #![tactic(auto)]
 
@@ -12,7 +12,6 @@ pub mod every;
 pub mod field;
 pub mod keys;
 pub mod keywords;
-pub mod left_out;
 pub mod limits;
 pub mod nearest;
 pub mod numbers;
@@ -20,6 +19,7 @@ pub mod options;
 pub mod order;
 pub mod paths;
 pub mod patterns;
-pub mod piece;
 pub mod script;
+pub mod skipped;
+pub mod span;
 pub mod warnings;

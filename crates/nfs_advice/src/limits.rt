@@ -1,10 +1,10 @@
 //! Limits that are reached.
 ghost use Rattle.std.specs.Prelude.{◌≡◌};
 
-use crate::advice::{Advice, Reason, Remedy};
+use crate::advice::{Advice, AdviceReason, Remedy};
 use crate::earlier::{first_word, word_of};
-use crate::left_out::bytes_of;
-use crate::piece::Piece;
+use crate::skipped::bytes_of;
+use crate::span::Span;
 use nfs_text::lines::Lines;
 use nfs_text::number::decimal;
 use std::fmt;
@@ -30,22 +30,24 @@ impl fmt::Display for LimitReason {
     fn fmt<W: fmt::Write>(&self, f: &mut fmt::Formatter<W>) -> fmt::Result {
         match self {
             LimitReason::Volumes => {
-                f.write_str("is a volume too many; a description has at most 64")
+                f.write_str("is one volume too many; a description has at most 64")
             }
             LimitReason::Patterns => f.write_str(
-                "is a pattern too many; a description has at most 256, of all volumes together",
+                "is one pattern too many; a description has at most 256, in all volumes together",
             ),
             LimitReason::Files(limit) => write!(
                 f,
-                "is a file too many; the volume has at most {limit}, its root among them"
+                "is one file too many; the volume has at most {limit}, with its root"
             ),
             LimitReason::Bytes(limit, left) => write!(
                 f,
-                "has too many bytes; of the volume's {limit} there are {left} left"
+                "has too many bytes; the volume has {left} of its {limit} bytes left"
             ),
-            LimitReason::Names => f.write_str("has 1,000 names already, and may have no more"),
+            LimitReason::Names => f.write_str(
+                "already has 1,000 names, the most that a file may have",
+            ),
             LimitReason::Directories => f.write_str(
-                "is a directory too many; a directory has at most 998 others in it",
+                "is one directory too many; a directory has at most 998 subdirectories",
             ),
         }
     }
@@ -118,21 +120,21 @@ fn number_of(word: &[u8]) -> u64 {
 }
 
 /// The word of a line that goes beyond a limit, and which it is.
-pub(crate) fn full<'a>(text: &'a [u8], number: u64, line: Piece<'a>) -> Advice<'a>
-    ensures { result.piece.line.now ≡ line.entry.line.now }
+pub(crate) fn full<'a>(text: &'a [u8], number: u64, line: Span<'a>) -> Advice<'a>
+    ensures { result.span.line.now ≡ line.entry.line.now }
 {
     let word = line.word(1).unwrap_or(line);
     match line.word(0).unwrap_or(line).bytes() {
-        b"volume" => Advice::new(word, Reason::Limit(LimitReason::Volumes)),
-        b"export" => Advice::new(word, Reason::Limit(LimitReason::Patterns)),
+        b"volume" => Advice::new(word, AdviceReason::Limit(LimitReason::Volumes)),
+        b"export" => Advice::new(word, AdviceReason::Limit(LimitReason::Patterns)),
         b"hard" => {
             let old = line.word(2).unwrap_or(line);
-            Advice::new(old, Reason::Limit(LimitReason::Names))
+            Advice::new(old, AdviceReason::Limit(LimitReason::Names))
         }
         keyword => {
             let held = Held::above(text, number);
             let reason = reason_of(&held, keyword == b"dir".as_slice());
-            let advice = Advice::new(word, Reason::Limit(reason));
+            let advice = Advice::new(word, AdviceReason::Limit(reason));
             match reason {
                 LimitReason::Directories => advice,
                 _ => advice.with(Remedy::Line(held.line)),

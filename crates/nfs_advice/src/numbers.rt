@@ -1,9 +1,9 @@
 //! Numbers that are none of their field.
 ghost use Rattle.std.specs.Prelude.{◌≤◌, length, ◌≡◌};
 
-use crate::advice::{Advice, Reason};
-use crate::field::{Field, fields_behind};
-use crate::piece::Piece;
+use crate::advice::{Advice, AdviceReason};
+use crate::field::{Field, fields_after};
+use crate::span::Span;
 use nfs_load::fields::Fields;
 use nfs_load::limits::{MAX_FILES, MAX_MODE_DIGITS, MAX_VOLUME_BYTES};
 use nfs_text::words::Words;
@@ -31,9 +31,9 @@ pub enum NumberFault {
     Prefix,
     /// It has a sign.
     Sign,
-    /// It has a unit behind its digits.
+    /// It has a unit after its digits.
     Unit,
-    /// A user or a group is told by its name.
+    /// A user or a group is named.
     Name,
     /// It has another byte that is no digit.
     NoDigit,
@@ -49,12 +49,12 @@ impl NumberFault {
             NumberFault::NotOctal => "the digits of a mode are 0 to 7",
             NumberFault::LongMode =>
                 "a mode has at most four octal digits, without the kind of file",
-            NumberFault::SymbolicMode => "write a mode in octal digits, as 0755",
-            NumberFault::Prefix => "write the digits alone",
+            NumberFault::SymbolicMode => "write a mode in octal digits, such as 0755",
+            NumberFault::Prefix => "write only the digits",
             NumberFault::Sign => "a number has no sign",
             NumberFault::Unit => "write all digits, without a unit",
-            NumberFault::Name => "write the number, as id prints it, not the name",
-            NumberFault::NoDigit => "write decimal digits alone",
+            NumberFault::Name => "write the number that id prints, not the name",
+            NumberFault::NoDigit => "write only decimal digits",
             NumberFault::NoFile => "a volume has at least one file, its root",
             NumberFault::Large => "it is too large",
         }
@@ -77,23 +77,23 @@ impl fmt::Display for NumberReason {
 }
 
 /// The first number of a line that is none of its field.
-pub(crate) fn bad_number(line: Piece<'_>) -> Advice<'_>
-    ensures { result.piece.line.now ≡ line.entry.line.now }
+pub(crate) fn bad_number(line: Span<'_>) -> Advice<'_>
+    ensures { result.span.line.now ≡ line.entry.line.now }
 {
-    let fields = fields_behind(line.word(0).unwrap_or(line).bytes());
+    let fields = fields_after(line.word(0).unwrap_or(line).bytes());
     for place in 0..fields.len() {
         let field = fields[place];
         let word = line.word(place + 1).unwrap_or(line);
         if is_refused(field, word.bytes()) {
             let fault = fault_of(field, word.bytes());
-            return Advice::new(word, Reason::Number(NumberReason { field, fault }));
+            return Advice::new(word, AdviceReason::Number(NumberReason { field, fault }));
         }
     }
     let reason = NumberReason {
         field: Field::Mode,
         fault: NumberFault::NoDigit,
     };
-    Advice::new(line, Reason::Number(reason))
+    Advice::new(line, AdviceReason::Number(reason))
 }
 
 // Whether a word is refused as a number of a field.

@@ -1,11 +1,11 @@
 //! Options that are none, or contradict one another.
 ghost use Rattle.std.specs.Prelude.{◌≡◌};
 
-use crate::advice::{Advice, Reason, Remedy};
+use crate::advice::{Advice, AdviceReason, Remedy};
 use crate::nearest::nearest;
-use crate::piece::Piece;
+use crate::span::Span;
 use nfs_exports::options::{OptionsFault, parse_options};
-use nfs_text::pieces::{Pieces, cut};
+use nfs_text::chunks::{Chunks, cut};
 
 /// What is wrong with an option.
 #[derive(Clone, Copy)]
@@ -19,7 +19,7 @@ pub enum OptionReason {
     /// It takes no value.
     NoValue,
     /// It is like an option.
-    Misspelled,
+    Malformed,
     /// It is another word.
     Unknown,
     /// Its value is no number.
@@ -43,21 +43,21 @@ pub enum OptionReason {
 }
 
 impl OptionReason {
-    /// What is told.
+    /// What is reported.
     pub(crate) fn text(self) -> &'static str {
         match self {
             OptionReason::Empty => "an option is missing beside this comma",
-            OptionReason::Bracket => "has a bracket; write options without",
-            OptionReason::ValueMissing => "lacks its number; write it behind =",
-            OptionReason::NoValue => "takes no value; leave out the = and what is behind it",
-            OptionReason::Misspelled => "is no option",
-            OptionReason::Unknown => "is no option; docs/DESCRIPTION.md has those that there are",
+            OptionReason::Bracket => "has a parenthesis; write options without it",
+            OptionReason::ValueMissing => "lacks its number; write it after =",
+            OptionReason::NoValue => "takes no value; leave out the = and what follows it",
+            OptionReason::Malformed => "is not an option",
+            OptionReason::Unknown => "is not an option; docs/DESCRIPTION.md lists the options",
             OptionReason::BadNumber => {
-                "has no number behind its =; write decimal digits, to 4294967295"
+                "has no number after its =; write decimal digits, up to 4294967295"
             }
             OptionReason::Contradiction => "contradicts",
             OptionReason::Secure => {
-                "is not supported, since a client's port is not looked at; leave it out"
+                "is not supported, since client ports are not checked; leave it out"
             }
             OptionReason::SubtreeCheck => {
                 "is not supported, since a volume is exported whole; leave it out"
@@ -69,7 +69,7 @@ impl OptionReason {
                 "is not supported, since no volume lies below another; leave it out"
             }
             OptionReason::MountPoint => {
-                "is not supported, since a volume is no mounted disk; leave it out"
+                "is not supported, since a volume is not a mounted disk; leave it out"
             }
             OptionReason::FileSystemId => {
                 "is not supported, since handles have the server's key; leave it out"
@@ -100,12 +100,12 @@ const FLAGS: [&[u8]; 12] = [
 const VALUED: [&[u8]; 3] = [b"anonuid", b"anongid", b"sec"];
 
 /// The first option of a line that is none, or contradicts an earlier one.
-pub(crate) fn bad_options(line: Piece<'_>) -> Advice<'_>
-    ensures { result.piece.line.now ≡ line.entry.line.now }
+pub(crate) fn bad_options(line: Span<'_>) -> Advice<'_>
+    ensures { result.span.line.now ≡ line.entry.line.now }
 {
     let field = line.word(2).unwrap_or(line);
     let mut start = 0usize;
-    for text in Pieces::new(field.bytes(), b',') {
+    for text in Chunks::new(field.bytes(), b',') {
         let end = start.saturating_add(text.len());
         let word = field.part(start, end);
         if let Err(fault) = parse_options(text) {
@@ -116,12 +116,12 @@ pub(crate) fn bad_options(line: Piece<'_>) -> Advice<'_>
         }
         start = end.saturating_add(1);
     }
-    Advice::new(field, Reason::Option(OptionReason::Unknown))
+    Advice::new(field, AdviceReason::Option(OptionReason::Unknown))
 }
 
 // An option that is none by itself.
-fn bad_option(word: Piece<'_>, fault: OptionsFault) -> Advice<'_>
-    ensures { result.piece.line.now ≡ word.entry.line.now }
+fn bad_option(word: Span<'_>, fault: OptionsFault) -> Advice<'_>
+    ensures { result.span.line.now ≡ word.entry.line.now }
 {
     let (name, value) = cut(word.bytes(), b'=');
     let reason = match fault {
@@ -131,10 +131,12 @@ fn bad_option(word: Piece<'_>, fault: OptionsFault) -> Advice<'_>
             unknown(word.bytes(), name, value.is_some())
         }
     };
-    let advice = Advice::new(word, Reason::Option(reason));
+    let advice = Advice::new(word, AdviceReason::Option(reason));
     match (reason, likely(name)) {
         (OptionReason::Unknown, Some(option)) => {
-            Advice::new(word, Reason::Option(OptionReason::Misspelled)).with(Remedy::Meant(option))
+            Advice::new(word, AdviceReason::Option(OptionReason::Malformed)).with(Remedy::Meant(
+                option,
+            ))
         }
         _ => advice,
     }
@@ -177,12 +179,12 @@ fn unsupported(name: &[u8]) -> OptionReason {
 }
 
 // An option that says otherwise than one of those before it.
-fn contradiction<'a>(before: Piece<'a>, word: Piece<'a>) -> Advice<'a>
-    ensures { result.piece.line.now ≡ word.entry.line.now }
+fn contradiction<'a>(before: Span<'a>, word: Span<'a>) -> Advice<'a>
+    ensures { result.span.line.now ≡ word.entry.line.now }
 {
-    let advice = Advice::new(word, Reason::Option(OptionReason::Contradiction));
+    let advice = Advice::new(word, AdviceReason::Option(OptionReason::Contradiction));
     let mut start = 0usize;
-    for text in Pieces::new(before.bytes(), b',') {
+    for text in Chunks::new(before.bytes(), b',') {
         let end = start.saturating_add(text.len());
         if subject_of(text) == subject_of(word.bytes()) && text != word.bytes() {
             return advice.with(Remedy::Part(before.part(start, end)));

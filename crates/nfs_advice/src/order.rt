@@ -1,9 +1,9 @@
 //! Lines that lack one above them, or have one too many.
 ghost use Rattle.std.specs.Prelude.{◌≡◌};
 
-use crate::advice::{Advice, Reason, Remedy};
+use crate::advice::{Advice, AdviceReason, Remedy};
 use crate::earlier::first_line_of;
-use crate::piece::Piece;
+use crate::span::Span;
 use nfs_load::cause::Cause;
 
 /// What is wrong with the order of lines.
@@ -22,7 +22,7 @@ pub enum OrderReason {
 }
 
 impl OrderReason {
-    /// What is told.
+    /// What is reported.
     pub(crate) fn text(self) -> &'static str {
         match self {
             OrderReason::BeforeServer => {
@@ -43,21 +43,21 @@ impl OrderReason {
 }
 
 /// What a line lacks above it, or a text at its end, where `line` has no word.
-pub(crate) fn out_of_order<'a>(text: &'a [u8], line: Piece<'a>, cause: Cause) -> Advice<'a>
-    ensures { result.piece.line.now ≡ line.entry.line.now }
+pub(crate) fn out_of_order<'a>(text: &'a [u8], line: Span<'a>, cause: Cause) -> Advice<'a>
+    ensures { result.span.line.now ≡ line.entry.line.now }
 {
     match (line.word(0), cause) {
         (Some(word), Cause::NoServer) => {
-            Advice::new(word, Reason::Order(OrderReason::BeforeServer))
+            Advice::new(word, AdviceReason::Order(OrderReason::BeforeServer))
         }
-        (None, Cause::NoServer) => Advice::new(line, Reason::Order(OrderReason::NoServer)),
+        (None, Cause::NoServer) => Advice::new(line, AdviceReason::Order(OrderReason::NoServer)),
         (Some(word), Cause::NoVolume) => {
-            Advice::new(word, Reason::Order(OrderReason::BeforeVolume))
+            Advice::new(word, AdviceReason::Order(OrderReason::BeforeVolume))
         }
-        (None, Cause::NoVolume) => Advice::new(line, Reason::Order(OrderReason::NoVolume)),
+        (None, Cause::NoVolume) => Advice::new(line, AdviceReason::Order(OrderReason::NoVolume)),
         (word, _) => Advice::new(
             word.unwrap_or(line),
-            Reason::Order(OrderReason::SecondServer),
+            AdviceReason::Order(OrderReason::SecondServer),
         )
         .with(Remedy::Line(first_line_of(text, b"server"))),
     }

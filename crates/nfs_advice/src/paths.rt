@@ -1,10 +1,10 @@
 //! Paths that are none.
 ghost use Rattle.std.specs.Prelude.{◌≡◌};
 
-use crate::advice::{Advice, Reason};
-use crate::piece::Piece;
+use crate::advice::{Advice, AdviceReason};
+use crate::span::Span;
 use nfs_inodes::limits::MAX_NAME_BYTES;
-use nfs_text::pieces::Pieces;
+use nfs_text::chunks::Chunks;
 
 /// Why a word is no path.
 #[derive(Clone, Copy)]
@@ -30,16 +30,16 @@ pub enum PathReason {
 }
 
 impl PathReason {
-    /// What is told.
+    /// What is reported.
     pub(crate) fn text(self) -> &'static str {
         match self {
-            PathReason::NoSlash => "is no path; begin it with a slash, at the volume's root",
-            PathReason::Root => "is the volume's root, which the line of the volume makes",
-            PathReason::SlashAtEnd => "is no path; leave out the slash at its end",
-            PathReason::TwoSlashes => "is no path; write one slash between two names",
-            PathReason::Dots => "is no path; no name is . or ..",
-            PathReason::Percent => "is no path; no name has a %",
-            PathReason::LongName => "is no path; a name has at most 255 bytes",
+            PathReason::NoSlash => "is not a path; begin it with a slash, at the volume's root",
+            PathReason::Root => "is the volume's root, which the volume line makes",
+            PathReason::SlashAtEnd => "is not a path; leave out the slash at its end",
+            PathReason::TwoSlashes => "is not a path; write one slash between two names",
+            PathReason::Dots => "is not a path; no name is . or ..",
+            PathReason::Percent => "is not a path; no name has a %",
+            PathReason::LongName => "is not a path; a name has at most 255 bytes",
             PathReason::Long => "is too long; a path has at most 1,024 bytes",
             PathReason::LongVolume => "is too long; a volume's path has at most 255 bytes",
         }
@@ -47,8 +47,8 @@ impl PathReason {
 }
 
 /// A word that is no path in a volume.
-pub(crate) fn bad_path(word: Piece<'_>) -> Advice<'_>
-    ensures { result.piece.line.now ≡ word.entry.line.now }
+pub(crate) fn bad_path(word: Span<'_>) -> Advice<'_>
+    ensures { result.span.line.now ≡ word.entry.line.now }
 {
     let path = word.bytes();
     let reason = if path == b"/".as_slice() {
@@ -56,16 +56,16 @@ pub(crate) fn bad_path(word: Piece<'_>) -> Advice<'_>
     } else {
         reason_of(path, PathReason::Long)
     };
-    Advice::new(word, Reason::Path(reason))
+    Advice::new(word, AdviceReason::Path(reason))
 }
 
 /// A word that is no path of a volume.
-pub(crate) fn bad_volume_path(line: Piece<'_>) -> Advice<'_>
-    ensures { result.piece.line.now ≡ line.entry.line.now }
+pub(crate) fn bad_volume_path(line: Span<'_>) -> Advice<'_>
+    ensures { result.span.line.now ≡ line.entry.line.now }
 {
     let word = line.word(1).unwrap_or(line);
     let reason = reason_of(word.bytes(), PathReason::LongVolume);
-    Advice::new(word, Reason::Path(reason))
+    Advice::new(word, AdviceReason::Path(reason))
 }
 
 // Why bytes are no path: they are too long, where nothing else is wrong.
@@ -76,7 +76,7 @@ fn reason_of(path: &[u8], long: PathReason) -> PathReason {
     if names.ends_with(b"/") {
         return PathReason::SlashAtEnd;
     }
-    for name in Pieces::new(names, b'/') {
+    for name in Chunks::new(names, b'/') {
         if name.is_empty() {
             return PathReason::TwoSlashes;
         }

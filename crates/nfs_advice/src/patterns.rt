@@ -1,15 +1,15 @@
 //! Patterns of addresses that are none.
 ghost use Rattle.std.specs.Prelude.{◌≡◌};
 
-use crate::advice::{Advice, Reason, Remedy};
-use crate::piece::Piece;
+use crate::advice::{Advice, AdviceReason, Remedy};
+use crate::span::Span;
 use nfs_exports::addr::{Addr, parse_addr};
-use nfs_text::pieces::{Pieces, cut};
+use nfs_text::chunks::{Chunks, cut};
 
 /// Why a word is no pattern.
 #[derive(Clone, Copy)]
 pub enum PatternReason {
-    /// The options stand in brackets behind it.
+    /// The options stand in brackets after it.
     Brackets,
     /// It is a netgroup.
     Netgroup,
@@ -32,50 +32,51 @@ pub enum PatternReason {
 }
 
 impl PatternReason {
-    /// What is told.
+    /// What is reported.
     pub(crate) fn text(self) -> &'static str {
         match self {
             PatternReason::Brackets => {
-                "has options in brackets; write export PATTERN OPTIONS, with a space between them"
+                "has options in parentheses; write export PATTERN OPTIONS, with a space between them"
             }
             PatternReason::Netgroup => {
-                "is a netgroup; write addresses and networks, as 10.1.0.0/16"
+                "is a netgroup; write addresses and networks, such as 10.1.0.0/16"
             }
             PatternReason::Several => "is more than one pattern; write a line for each",
             PatternReason::Ipv6 => {
-                "is of IPv6; write an address or a network of IPv4, as 10.1.0.0/16"
+                "is IPv6; write an IPv4 address or network, such as 10.1.0.0/16"
             }
             PatternReason::HostName => {
-                "is a name, and names are not looked up; write the host's address"
+                "is a name, and names are not looked up; write the address of the host"
             }
-            PatternReason::Wildcard => "is no pattern; write a network, as 10.1.0.0/16, or * alone",
-            PatternReason::Parts => "is no address; write four numbers with a dot between each two",
+            PatternReason::Wildcard =>
+                "is not a pattern; write a network, such as 10.1.0.0/16, or * alone",
+            PatternReason::Parts => "is not an address; write four numbers, separated by dots",
             PatternReason::Part =>
-                "is no address; each part is a number to 255, of at most three digits",
-            PatternReason::DottedMask => "has a mask in dots",
-            PatternReason::Bits => "has no number of bits behind its slash; write 0 to 32",
+                "is not an address; each part is a number up to 255, of at most three digits",
+            PatternReason::DottedMask => "has a mask with dots",
+            PatternReason::Bits => "has no number of bits after its slash; write 0 to 32",
         }
     }
 }
 
 /// The pattern of a line, which is none.
-pub(crate) fn bad_pattern(line: Piece<'_>) -> Advice<'_>
-    ensures { result.piece.line.now ≡ line.entry.line.now }
+pub(crate) fn bad_pattern(line: Span<'_>) -> Advice<'_>
+    ensures { result.span.line.now ≡ line.entry.line.now }
 {
     let word = line.word(1).unwrap_or(line);
     let text = word.bytes();
     if let Some(reason) = look_of(text) {
-        return Advice::new(word, Reason::Pattern(reason));
+        return Advice::new(word, AdviceReason::Pattern(reason));
     }
     let (address, bits) = cut(text, b'/');
     if parse_addr(address).is_err() {
-        return Advice::new(word, Reason::Pattern(fault_of(address)));
+        return Advice::new(word, AdviceReason::Pattern(fault_of(address)));
     }
     match parse_addr(bits.unwrap_or(&[])) {
-        Ok(mask) => Advice::new(word, Reason::Pattern(PatternReason::DottedMask)).with(network_of(
-            address, mask,
-        )),
-        Err(_) => Advice::new(word, Reason::Pattern(PatternReason::Bits)),
+        Ok(mask) => Advice::new(word, AdviceReason::Pattern(PatternReason::DottedMask)).with(
+            network_of(address, mask),
+        ),
+        Err(_) => Advice::new(word, AdviceReason::Pattern(PatternReason::Bits)),
     }
 }
 
@@ -110,7 +111,7 @@ fn has_letter(text: &[u8]) -> bool {
 // Why a text is no address.
 fn fault_of(address: &[u8]) -> PatternReason {
     let mut parts = 0usize;
-    for part in Pieces::new(address, b'.') {
+    for part in Chunks::new(address, b'.') {
         if !part.is_empty() {
             parts = parts.saturating_add(1);
         }

@@ -1,14 +1,14 @@
-//! What stands behind a faulty line of a script.
+//! What stands after a faulty line of a script.
 ghost use Rattle.std.specs.Prelude.{◌≡◌, IfSome};
 ghost use Rattle.nfs_advice.specs.Numbered.{line_numbered};
-ghost use Rattle.nfs_text.specs.Pieces.{pieces};
+ghost use Rattle.nfs_text.specs.Chunks.{chunks};
 
-use crate::advice::{Advice, Reason, Remedy};
+use crate::advice::{Advice, AdviceReason, Remedy};
 use crate::nearest::nearest;
-use crate::piece::Piece;
+use crate::span::Span;
 use nfs_exports::addr::parse_addr;
+use nfs_text::chunks::Chunks;
 use nfs_text::number::decimal;
-use nfs_text::pieces::Pieces;
 
 /// What is wrong with a line of a script.
 #[derive(Clone, Copy)]
@@ -17,10 +17,10 @@ pub enum ScriptReason {
     Tab,
     /// A carriage return.
     CarriageReturn,
-    /// A `#` behind spaces.
-    CommentBehindSpaces,
+    /// A `#` after spaces.
+    CommentAfterSpaces,
     /// A word that is like a first word.
-    Misspelled,
+    Malformed,
     /// Another first word.
     Unknown,
     /// No number of a connection.
@@ -41,7 +41,7 @@ pub enum ScriptReason {
     Odd,
     /// A byte that is no hexadecimal digit.
     NoDigit,
-    /// No number of a file behind `@`.
+    /// No number of a file after `@`.
     FileNumber,
     /// No file has this number.
     NoFile,
@@ -50,47 +50,47 @@ pub enum ScriptReason {
 }
 
 impl ScriptReason {
-    /// What is told.
+    /// What is reported.
     pub(crate) fn text(self) -> &'static str {
         match self {
-            ScriptReason::Tab => "a tab stands here; part words by spaces",
+            ScriptReason::Tab => "a tab stands here; separate words with spaces",
             ScriptReason::CarriageReturn => {
-                "a carriage return stands here; end lines by LF alone, not by CR and LF"
+                "a carriage return stands here; end lines with LF alone, not with CR and LF"
             }
-            ScriptReason::CommentBehindSpaces => {
-                "begins no comment here; # has to be the line's first byte"
+            ScriptReason::CommentAfterSpaces => {
+                "does not begin a comment here; # must be the first byte of a line"
             }
-            ScriptReason::Misspelled => "is no first word of a line",
+            ScriptReason::Malformed => "is not a keyword",
             ScriptReason::Unknown => {
-                "is no first word of a line; those are attach, feed, detach, call, ask and show"
+                "is not a keyword; the keywords are attach, feed, detach, call, ask and show"
             }
             ScriptReason::Connection => {
-                "is no connection; write a number of decimal digits, to 4294967295"
+                "is not a connection; write a number in decimal digits, up to 4294967295"
             }
             ScriptReason::Seconds => {
-                "is no moment; write whole seconds in decimal digits, to 4294967295"
+                "is not a time; write whole seconds in decimal digits, up to 4294967295"
             }
             ScriptReason::Address => {
-                "is no address; write four numbers to 255 with a dot between each two"
+                "is not an address; write four numbers up to 255, separated by dots"
             }
             ScriptReason::Missing =>
-                "a word is missing; docs/PROTOCOL.md has the lines of a script",
+                "a word is missing; docs/PROTOCOL.md lists the lines of a script",
             ScriptReason::NoBytes => "the bytes are missing; write them in hexadecimal digits",
             ScriptReason::NoQuestion => {
                 "nothing is asked for; write UID:GID, an operation and a path"
             }
             ScriptReason::TooMany =>
-                "is a word too many; docs/PROTOCOL.md has the lines of a script",
+                "is one word too many; docs/PROTOCOL.md lists the lines of a script",
             ScriptReason::Odd => "has an odd number of digits; write two for each byte",
             ScriptReason::NoDigit => {
-                "is no hexadecimal digit; write two for each byte, or @ and the number of a file"
+                "is not a hexadecimal digit; write two for each byte, or @ and the number of a file"
             }
             ScriptReason::FileNumber => {
-                "names no file; write its number in decimal digits behind the @"
+                "names no file; write its number in decimal digits after the @"
             }
-            ScriptReason::NoFile => "names a file that is not there; show lists those that are",
+            ScriptReason::NoFile => "names a file that does not exist; show lists the files",
             ScriptReason::NoFileAmong => {
-                "or a later @ of the line names a file that is not there; show lists those that are"
+                "or a later @ of the line names a file that does not exist; show lists the files"
             }
         }
     }
@@ -106,9 +106,9 @@ enum Wanted {
     Address,
 }
 
-/// What stands behind the words of a line that are looked at.
+/// What stands after the words of a line that are looked at.
 #[derive(Clone, Copy)]
-enum Behind {
+enum After {
     Nothing,
     Bytes,
     Question,
@@ -116,7 +116,7 @@ enum Behind {
 
 /// What is wrong with a line that is none of a script. The line's number is counted from 1.
 pub fn advise_line(script: &[u8], number: u64) -> Advice<'_>
-    ensures { result.piece.line.now ≡ line_numbered number (pieces 10 script.entry.now) }
+    ensures { result.span.line.now ≡ line_numbered number (chunks 10 script.entry.now) }
 {
     let line = line_at(script, number);
     if let Some(advice) = bad_byte(line) {
@@ -124,38 +124,34 @@ pub fn advise_line(script: &[u8], number: u64) -> Advice<'_>
     }
     let word = line.word(0).unwrap_or(line);
     match word.bytes() {
-        b"attach" => fields(
-            line,
-            &[Wanted::Connection, Wanted::Address],
-            Behind::Nothing,
-        ),
-        b"detach" => fields(line, &[Wanted::Connection], Behind::Nothing),
-        b"feed" => fields(line, &[Wanted::Connection, Wanted::Seconds], Behind::Bytes),
-        b"call" => fields(line, &[Wanted::Address, Wanted::Seconds], Behind::Bytes),
-        b"ask" => fields(line, &[Wanted::Address, Wanted::Seconds], Behind::Question),
-        b"show" => fields(line, &[], Behind::Nothing),
+        b"attach" => fields(line, &[Wanted::Connection, Wanted::Address], After::Nothing),
+        b"detach" => fields(line, &[Wanted::Connection], After::Nothing),
+        b"feed" => fields(line, &[Wanted::Connection, Wanted::Seconds], After::Bytes),
+        b"call" => fields(line, &[Wanted::Address, Wanted::Seconds], After::Bytes),
+        b"ask" => fields(line, &[Wanted::Address, Wanted::Seconds], After::Question),
+        b"show" => fields(line, &[], After::Nothing),
         verb => unknown_verb(word, verb),
     }
 }
 
 // The line of this number, from 1.
-fn line_at(script: &[u8], number: u64) -> Piece<'_>
-    ensures { result.line.now ≡ line_numbered number (pieces 10 script.entry.now) }
+fn line_at(script: &[u8], number: u64) -> Span<'_>
+    ensures { result.line.now ≡ line_numbered number (chunks 10 script.entry.now) }
 {
     let mut left = number;
-    let mut lines = Pieces::new(script, b'\n');
+    let mut lines = Chunks::new(script, b'\n');
     while let Some(line) = lines.next() {
         if left == 1 {
-            return Piece::whole(line);
+            return Span::whole(line);
         }
         left = left.saturating_sub(1);
     }
-    Piece::whole(&[])
+    Span::whole(&[])
 }
 
 // A tab or a carriage return.
-fn bad_byte(line: Piece<'_>) -> Option<Advice<'_>>
-    ensures { IfSome result (λ advice. advice.piece.line.now ≡ line.entry.line.now) }
+fn bad_byte(line: Span<'_>) -> Option<Advice<'_>>
+    ensures { IfSome result (λ advice. advice.span.line.now ≡ line.entry.line.now) }
 {
     let bytes = line.bytes();
     for place in 0..bytes.len() {
@@ -164,42 +160,45 @@ fn bad_byte(line: Piece<'_>) -> Option<Advice<'_>>
             b'\r' => ScriptReason::CarriageReturn,
             _ => continue,
         };
-        return Some(Advice::new(line.part(place, place), Reason::Script(reason)));
+        return Some(Advice::new(line.part(place, place), AdviceReason::Script(reason)));
     }
     None
 }
 
-fn unknown_verb<'a>(word: Piece<'a>, verb: &[u8]) -> Advice<'a>
-    ensures { result.piece.line.now ≡ word.entry.line.now }
+fn unknown_verb<'a>(word: Span<'a>, verb: &[u8]) -> Advice<'a>
+    ensures { result.span.line.now ≡ word.entry.line.now }
 {
     if verb.starts_with(b"#") {
-        return Advice::new(word, Reason::Script(ScriptReason::CommentBehindSpaces));
+        return Advice::new(word, AdviceReason::Script(ScriptReason::CommentAfterSpaces));
     }
     match nearest(verb, &VERBS) {
-        Some(known) => Advice::new(word, Reason::Script(ScriptReason::Misspelled)).with(
+        Some(known) => Advice::new(word, AdviceReason::Script(ScriptReason::Malformed)).with(
             Remedy::Meant(known),
         ),
-        None => Advice::new(word, Reason::Script(ScriptReason::Unknown)),
+        None => Advice::new(word, AdviceReason::Script(ScriptReason::Unknown)),
     }
 }
 
 // The first word of a line that isn't what is wanted there, or is missing, or is one too many.
-fn fields<'a>(line: Piece<'a>, wanted: &[Wanted], behind: Behind) -> Advice<'a>
-    ensures { result.piece.line.now ≡ line.entry.line.now }
+fn fields<'a>(line: Span<'a>, wanted: &[Wanted], after: After) -> Advice<'a>
+    ensures { result.span.line.now ≡ line.entry.line.now }
 {
-    let end = line.behind(line.len());
+    let end = line.after(line.len());
     for place in 0..wanted.len() {
         let Some(word) = line.word(place + 1) else {
-            return Advice::new(end, Reason::Script(ScriptReason::Missing));
+            return Advice::new(end, AdviceReason::Script(ScriptReason::Missing));
         };
         if let Some(reason) = refusal(wanted[place], word.bytes()) {
-            return Advice::new(word, Reason::Script(reason));
+            return Advice::new(word, AdviceReason::Script(reason));
         }
     }
-    match (behind, line.word(wanted.len() + 1)) {
-        (Behind::Nothing, Some(word)) => Advice::new(word, Reason::Script(ScriptReason::TooMany)),
-        (Behind::Question, _) => Advice::new(end, Reason::Script(ScriptReason::NoQuestion)),
-        _ => Advice::new(end, Reason::Script(ScriptReason::NoBytes)),
+    match (after, line.word(wanted.len() + 1)) {
+        (After::Nothing, Some(word)) => Advice::new(
+            word,
+            AdviceReason::Script(ScriptReason::TooMany),
+        ),
+        (After::Question, _) => Advice::new(end, AdviceReason::Script(ScriptReason::NoQuestion)),
+        _ => Advice::new(end, AdviceReason::Script(ScriptReason::NoBytes)),
     }
 }
 
@@ -219,7 +218,7 @@ fn is_number(word: &[u8]) -> bool {
 
 /// What is wrong with the first word of a line that says no bytes. The line's number is counted from 1.
 pub fn advise_bytes(script: &[u8], number: u64) -> Advice<'_>
-    ensures { result.piece.line.now ≡ line_numbered number (pieces 10 script.entry.now) }
+    ensures { result.span.line.now ≡ line_numbered number (chunks 10 script.entry.now) }
 {
     let line = line_at(script, number);
     if let Some(advice) = bad_byte(line) {
@@ -227,45 +226,45 @@ pub fn advise_bytes(script: &[u8], number: u64) -> Advice<'_>
     }
     let words = words_of_bytes(line);
     let mut start = 0usize;
-    for text in Pieces::new(words.bytes(), b' ') {
+    for text in Chunks::new(words.bytes(), b' ') {
         let end = start.saturating_add(text.len());
         if let Some(advice) = bad_bytes(words.part(start, end)) {
             return advice;
         }
         start = end.saturating_add(1);
     }
-    Advice::new(line, Reason::Script(ScriptReason::NoBytes))
+    Advice::new(line, AdviceReason::Script(ScriptReason::NoBytes))
 }
 
 // The part of a line that has to say bytes: what begins with its fourth word.
-fn words_of_bytes(line: Piece<'_>) -> Piece<'_>
+fn words_of_bytes(line: Span<'_>) -> Span<'_>
     ensures { result.line.now ≡ line.entry.line.now }
 {
     let Some(first) = line.word(3) else {
-        return line.behind(line.len());
+        return line.after(line.len());
     };
-    line.behind(first.column().saturating_sub(line.column()))
+    line.after(first.column().saturating_sub(line.column()))
 }
 
 // What is wrong with a word that has to say bytes.
-fn bad_bytes(word: Piece<'_>) -> Option<Advice<'_>>
-    ensures { IfSome result (λ advice. advice.piece.line.now ≡ word.entry.line.now) }
+fn bad_bytes(word: Span<'_>) -> Option<Advice<'_>>
+    ensures { IfSome result (λ advice. advice.span.line.now ≡ word.entry.line.now) }
 {
     let bytes = word.bytes();
     if let Some(digits) = bytes.strip_prefix(b"@") {
         if decimal(digits, u64::MAX).is_none() {
-            return Some(Advice::new(word, Reason::Script(ScriptReason::FileNumber)));
+            return Some(Advice::new(word, AdviceReason::Script(ScriptReason::FileNumber)));
         }
         return None;
     }
     for place in 0..bytes.len() {
         if !bytes[place].is_ascii_hexdigit() {
             let byte = word.part(place, place + 1);
-            return Some(Advice::new(byte, Reason::Script(ScriptReason::NoDigit)));
+            return Some(Advice::new(byte, AdviceReason::Script(ScriptReason::NoDigit)));
         }
     }
     if bytes.len() % 2 == 1 {
-        return Some(Advice::new(word, Reason::Script(ScriptReason::Odd)));
+        return Some(Advice::new(word, AdviceReason::Script(ScriptReason::Odd)));
     }
     None
 }
@@ -273,30 +272,30 @@ fn bad_bytes(word: Piece<'_>) -> Option<Advice<'_>>
 /// The word of a line that names a file that is not there; where it names several, the first. The
 /// line's number is counted from 1.
 pub fn advise_file(script: &[u8], number: u64) -> Advice<'_>
-    ensures { result.piece.line.now ≡ line_numbered number (pieces 10 script.entry.now) }
+    ensures { result.span.line.now ≡ line_numbered number (chunks 10 script.entry.now) }
 {
     let line = line_at(script, number);
     let words = words_of_bytes(line);
     let Some(first) = first_file(words) else {
-        return Advice::new(line, Reason::Script(ScriptReason::NoFile));
+        return Advice::new(line, AdviceReason::Script(ScriptReason::NoFile));
     };
-    let behind = first
+    let after = first
         .column()
         .saturating_sub(words.column())
         .saturating_add(first.len());
-    let reason = match first_file(words.behind(behind)) {
+    let reason = match first_file(words.after(after)) {
         Some(_) => ScriptReason::NoFileAmong,
         None => ScriptReason::NoFile,
     };
-    Advice::new(first, Reason::Script(reason))
+    Advice::new(first, AdviceReason::Script(reason))
 }
 
 // The first word that names a file.
-fn first_file(words: Piece<'_>) -> Option<Piece<'_>>
+fn first_file(words: Span<'_>) -> Option<Span<'_>>
     ensures { IfSome result (λ word. word.line.now ≡ words.entry.line.now) }
 {
     let mut start = 0usize;
-    for text in Pieces::new(words.bytes(), b' ') {
+    for text in Chunks::new(words.bytes(), b' ') {
         let end = start.saturating_add(text.len());
         if text.starts_with(b"@") {
             return Some(words.part(start, end));

@@ -3,13 +3,13 @@ ghost use Rattle.std.specs.Prelude.{◌≡◌};
 ghost use Rattle.std.specs.List.{list_any};
 ghost use Rattle.nfs_advice.specs.Open.{is_open_export};
 
-use crate::advice::{Advice, Reason, Remedy};
+use crate::advice::{Advice, AdviceReason, Remedy};
 use crate::earlier::{export_line, first_word};
-use crate::piece::Piece;
+use crate::span::Span;
 use nfs_exports::addr::Addr;
+use nfs_exports::export_table::Export;
 use nfs_exports::options::Squash;
 use nfs_exports::pattern::{Pattern, put_pattern};
-use nfs_exports::table::Export;
 use nfs_load::fields::Fields;
 use nfs_load::loaded::Loaded;
 use nfs_text::line::Line;
@@ -26,7 +26,7 @@ pub enum WarningReason {
     Unexported,
     /// An earlier pattern covers all that this one does.
     Covered,
-    /// A network has bits behind those that decide; this is the network.
+    /// A network has bits after those that decide; this is the network.
     HostBits(Pattern),
     /// A mode looks like a decimal number for this one.
     DecimalMode(u32),
@@ -55,7 +55,7 @@ impl fmt::Display for WarningReason {
             WarningReason::HostBits(network) => {
                 let mut line = Line::new();
                 put_pattern(&mut line, *network);
-                f.write_str("has bits behind its mask; it is the network ")?;
+                f.write_str("has bits after its mask; the network is ")?;
                 f.write_str(str::from_utf8(line.as_slice()).unwrap_or(""))
             }
             WarningReason::DecimalMode(meant) => write!(
@@ -63,7 +63,7 @@ impl fmt::Display for WarningReason {
                 "is read as octal digits; as a decimal number it would be {meant:04o}"
             ),
             WarningReason::SetId => f.write_str(
-                "has a set-id bit, and the volume is exported to * with no_root_squash, where anybody may be root",
+                "has a set-id bit, and the volume is exported to * with no_root_squash, where anybody can be root",
             ),
         }
     }
@@ -77,7 +77,7 @@ pub fn warnings<'a>(
     loaded: &Loaded,
 ) -> Result<Vec<Warning<'a>>, AllocError> {
     let mut found = Vec::new(alloc);
-    let mut place = Place {
+    let mut place = Location {
         text,
         line: 0,
         volumes: 0,
@@ -85,25 +85,25 @@ pub fn warnings<'a>(
     };
     for line in Lines::new(text) {
         place.line = place.line.saturating_add(1);
-        place.look_at(Piece::whole(line), loaded, &mut found)?;
+        place.look_at(Span::whole(line), loaded, &mut found)?;
     }
     Ok(found)
 }
 
-// Where in a description a line stands: behind so many volumes, and so many exports of the last.
+// Where in a description a line stands: after so many volumes, and so many exports of the last.
 #[derive(Clone, Copy)]
-struct Place<'a> {
+struct Location<'a> {
     text: &'a [u8],
     line: u64,
     volumes: usize,
     exports: usize,
 }
 
-impl<'a> Place<'a> {
+impl<'a> Location<'a> {
     // Adds what is said of a line, which is counted then.
     fn look_at(
         &mut self,
-        line: Piece<'a>,
+        line: Span<'a>,
         loaded: &Loaded,
         found: &mut Vec<Warning<'a>>,
     ) -> Result<(), AllocError> {
@@ -150,18 +150,18 @@ impl<'a> Place<'a> {
     }
 }
 
-fn unexported<'a>(line: Piece<'a>, exports: &[Export]) -> Option<Advice<'a>> {
+fn unexported<'a>(line: Span<'a>, exports: &[Export]) -> Option<Advice<'a>> {
     if !exports.is_empty() {
         return None;
     }
     let path = line.word(1)?;
-    Some(Advice::new(path, Reason::Warning(WarningReason::Unexported)))
+    Some(Advice::new(path, AdviceReason::Warning(WarningReason::Unexported)))
 }
 
 // A pattern that an earlier one covers whole.
 fn covered<'a>(
-    above: Place<'a>,
-    line: Piece<'a>,
+    above: Location<'a>,
+    line: Span<'a>,
     exports: &[Export],
     place: usize,
 ) -> Option<Advice<'a>> {
@@ -169,7 +169,7 @@ fn covered<'a>(
     let word = line.word(1)?;
     for earlier in 0..place.min(exports.len()) {
         if covers_whole(exports[earlier].pattern, pattern) {
-            return Some(Advice::new(word, Reason::Warning(WarningReason::Covered)).with(
+            return Some(Advice::new(word, AdviceReason::Warning(WarningReason::Covered)).with(
                 Remedy::Line(export_line(above.text, above.volumes.saturating_sub(1), earlier)),
             ));
         }
@@ -181,17 +181,20 @@ fn covers_whole(one: Pattern, other: Pattern) -> bool {
     one.bits <= other.bits && one.covers(other.address)
 }
 
-// A network of an address with bits behind those that decide.
-fn host_bits<'a>(line: Piece<'a>, exports: &[Export], place: usize) -> Option<Advice<'a>> {
+// A network of an address with bits after those that decide.
+fn host_bits<'a>(line: Span<'a>, exports: &[Export], place: usize) -> Option<Advice<'a>> {
     let pattern = exports.get(place)?.pattern;
     let word = line.word(1)?;
-    if pattern.bits >= 32 || !has_bits_behind(pattern.address, pattern.bits) {
+    if pattern.bits >= 32 || !has_bits_after(pattern.address, pattern.bits) {
         return None;
     }
-    Some(Advice::new(word, Reason::Warning(WarningReason::HostBits(pattern))))
+    Some(Advice::new(
+        word,
+        AdviceReason::Warning(WarningReason::HostBits(pattern)),
+    ))
 }
 
-fn has_bits_behind(address: Addr, bits: u32) -> bool {
+fn has_bits_after(address: Addr, bits: u32) -> bool {
     u64::from(address.0) % (1u64 << (32 - bits.min(32))) != 0
 }
 
@@ -199,7 +202,7 @@ fn has_bits_behind(address: Addr, bits: u32) -> bool {
 const MODES: [u32; 8] = [0o777, 0o770, 0o664, 0o660, 0o644, 0o640, 0o555, 0o400];
 
 // A mode that looks like a decimal number.
-fn decimal_mode(mode: Option<Piece<'_>>) -> Option<Advice<'_>> {
+fn decimal_mode(mode: Option<Span<'_>>) -> Option<Advice<'_>> {
     let word = mode?;
     if word.bytes().len() != 3 {
         return None;
@@ -208,14 +211,14 @@ fn decimal_mode(mode: Option<Piece<'_>>) -> Option<Advice<'_>> {
     for mode in &MODES {
         if u64::from(*mode) == number {
             let reason = WarningReason::DecimalMode(*mode);
-            return Some(Advice::new(word, Reason::Warning(reason)));
+            return Some(Advice::new(word, AdviceReason::Warning(reason)));
         }
     }
     None
 }
 
 // A set-id file in a volume in which everybody may be root.
-fn set_id<'a>(mode: Option<Piece<'a>>, exports: &[Export]) -> Option<Advice<'a>> {
+fn set_id<'a>(mode: Option<Span<'a>>, exports: &[Export]) -> Option<Advice<'a>> {
     let word = mode?;
     let Ok(mode) = Fields::new(Words::new(word.bytes())).mode() else {
         return None;
@@ -223,7 +226,7 @@ fn set_id<'a>(mode: Option<Piece<'a>>, exports: &[Export]) -> Option<Advice<'a>>
     if mode & 0o6000 == 0 || !is_open(exports) {
         return None;
     }
-    Some(Advice::new(word, Reason::Warning(WarningReason::SetId)))
+    Some(Advice::new(word, AdviceReason::Warning(WarningReason::SetId)))
 }
 
 /// Whether a volume is exported to every address with `no_root_squash`.

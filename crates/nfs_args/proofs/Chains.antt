@@ -5,25 +5,25 @@ use Rattle.std.proofs.Math.ListN.{get_or}
 use Rattle.std.proofs.lemmas.Bool.{true≢false}
 use Rattle.std.proofs.lemmas.List.{length-append, take_more, take-append-drop}
 use Rattle.std.proofs.lemmas.Grind.{flat_map-append}
-use Rattle.nfs_xdr.specs.Spelling.{IsNumber, IsBoolean, IsOptional, ◌⨾◌, SpellsOnce, opaque_text}
+use Rattle.nfs_xdr.specs.Encoding.{IsNumber, IsBoolean, IsOptional, ◌⨾◌, EncodesOnce, opaque_text}
 use Rattle.nfs_xdr.specs.Written.{Written, Appends}
 use Rattle.nfs_xdr.proofs.Items.{boolean_written}
 use Rattle.nfs_xdr.proofs.Writing.{appends_then, followed}
 use Rattle.nfs_attrs.specs.declared.fattr.Fattr.{Fattr}
-use Rattle.nfs_attrs.specs.Spelling.{IsPostOpAttr, post_op_attr_text}
-use Rattle.nfs_args.specs.Spelling.{IsHandle, IsString}
-use Rattle.nfs_args.specs.Chains.{IsChain, chained_text, links_text, chain_text, Each, AreSpelled}
+use Rattle.nfs_attrs.specs.Encoding.{IsPostOpAttr, post_op_attr_text}
+use Rattle.nfs_args.specs.Encoding.{IsHandle, IsString}
+use Rattle.nfs_args.specs.Chains.{IsChain, chained_text, links_text, chain_text, Each, AreEncoded}
 use Rattle.nfs_args.specs.Results.{boolean_text}
 use Rattle.nfs_args.specs.Pages.{IsEntry, IsEntryPlus, IsPageOf, page_end_text, BeginsPage, IsPage, IsPagePlus}
 use Rattle.nfs_args.specs.declared.entry.Entry.{Entry}
 use Rattle.nfs_args.specs.declared.entry_plus.EntryPlus.{EntryPlus}
-use Rattle.nfs_args.specs.declared.page.Page.{Page}
+use Rattle.nfs_args.specs.declared.dir_page.DirPage.{DirPage}
 use Rattle.nfs_args.proofs.Once.{cut_off, field, fields, by_fields, attributes_once, hyper_once, boolean_once, string_once, post_op_handle_once}
 
--- ---- a chain is spelled once
+-- ---- a chain is encoded once
 
 -- a first text, and what follows it
-peel : {A : Type 0} (S : A → List ℕ → Type 0) (First Second : List ℕ → Type 0) (v w : A) (a b x y : List ℕ) → SpellsOnce S → (p : (S v ⨾ First) a) → (q : (S w ⨾ Second) b) → a ++ x ≡ b ++ y
+peel : {A : Type 0} (S : A → List ℕ → Type 0) (First Second : List ℕ → Type 0) (v w : A) (a b x y : List ℕ) → EncodesOnce S → (p : (S v ⨾ First) a) → (q : (S w ⨾ Second) b) → a ++ x ≡ b ++ y
     → (v ≡ w) × (p.front ≡ q.front) × (p.back ++ x ≡ q.back ++ y)
 peel S First Second v w a b x y one p q e =
     let whole : p.front ++ (p.back ++ x) ≡ q.front ++ (q.back ++ y) =
@@ -39,7 +39,7 @@ no_item First a b x y p q e =
 joined : (a b s t u v : List ℕ) → a ≡ s ++ t → b ≡ u ++ v → s ≡ u → t ≡ v → a ≡ b
 joined a b s t u v left right front back = left ∙ ap (λ k. k ++ t) front ∙ ap (λ k. u ++ k) back ∙ sym right
 
-pub chain_once : {A : Type 0} (S : A → List ℕ → Type 0) → SpellsOnce S → SpellsOnce (IsChain S)
+pub chain_once : {A : Type 0} (S : A → List ℕ → Type 0) → EncodesOnce S → EncodesOnce (IsChain S)
 chain_once S one [] [] a b x y p q e = (refl, (boolean_once false false a b x y p q e).1)
 chain_once S one [] (w ∷ ws) a b x y p q e = absurd (no_item (S w ⨾ IsChain S ws) a b x y p q e)
 chain_once S one (v ∷ vs) [] a b x y p q e = absurd (no_item (S v ⨾ IsChain S vs) b a y x q p (sym e))
@@ -52,9 +52,9 @@ chain_once S one (v ∷ vs) (w ∷ ws) a b x y p q e =
           (joined p.back q.back p.second.front p.second.back q.second.front q.second.back p.second.text_is q.second.text_is item.1 others.1),
     )
 
--- ---- a chain that is written is spelled
+-- ---- a chain that is written is encoded
 
-pub chain_written : {A : Type 0} (S : A → List ℕ → Type 0) (text : A → List ℕ) (items : List A) → AreSpelled S text items → IsChain S items (chain_text text items)
+pub chain_written : {A : Type 0} (S : A → List ℕ → Type 0) (text : A → List ℕ) (items : List A) → AreEncoded S text items → IsChain S items (chain_text text items)
 chain_written S text [] each = boolean_written false
 chain_written S text (item ∷ items) each = record {
   front = to_be_bytes w32 1;
@@ -109,7 +109,7 @@ items_each P items i item below is each one = subst (Each P) (sym (take_one item
 
 -- ---- pages
 
-entry_once : SpellsOnce IsEntry
+entry_once : EncodesOnce IsEntry
 entry_once =
     by_fields _ IsEntry
     (fields (IsNumber w64) (λ (e : Entry). e.fileid) _ _ hyper_once
@@ -117,7 +117,7 @@ entry_once =
     (field (IsNumber w64) (λ (e : Entry). e.cookie) hyper_once)))
     (λ v w r i. record { fileid = r.0 i; name = r.1.0 i; cookie = r.1.1 i })
 
-entry_plus_once : SpellsOnce IsEntryPlus
+entry_plus_once : EncodesOnce IsEntryPlus
 entry_plus_once =
     by_fields _ IsEntryPlus
     (fields (IsNumber w64) (λ (e : EntryPlus). e.fileid) _ _ hyper_once
@@ -127,19 +127,19 @@ entry_plus_once =
     (field (IsOptional IsHandle) (λ (e : EntryPlus). e.file) post_op_handle_once)))))
     (λ v w r i. record { fileid = r.0 i; name = r.1.0 i; cookie = r.1.1.0 i; attributes = r.1.1.1.0 i; file = r.1.1.1.1 i })
 
-page_of_once : {A : Type 0} (S : A → List ℕ → Type 0) → SpellsOnce S → SpellsOnce (IsPageOf S)
+page_of_once : {A : Type 0} (S : A → List ℕ → Type 0) → EncodesOnce S → EncodesOnce (IsPageOf S)
 page_of_once {A} S one =
     by_fields _ (IsPageOf S)
-    (fields IsPostOpAttr (λ (p : Page (List A)). p.attributes) _ _ attributes_once
-    (fields (IsNumber w64) (λ (p : Page (List A)). p.verifier) _ _ hyper_once
-    (fields (IsChain S) (λ (p : Page (List A)). p.entries) _ _ (chain_once S one)
-    (field IsBoolean (λ (p : Page (List A)). p.eof) boolean_once))))
+    (fields IsPostOpAttr (λ (p : DirPage (List A)). p.attributes) _ _ attributes_once
+    (fields (IsNumber w64) (λ (p : DirPage (List A)). p.verifier) _ _ hyper_once
+    (fields (IsChain S) (λ (p : DirPage (List A)). p.entries) _ _ (chain_once S one)
+    (field IsBoolean (λ (p : DirPage (List A)). p.eof) boolean_once))))
     (λ v w r i. record { attributes = r.0 i; verifier = r.1.0 i; entries = r.1.1.0 i; eof = r.1.1.1 i })
 
-pub page_once : SpellsOnce IsPage
+pub page_once : EncodesOnce IsPage
 page_once = page_of_once IsEntry entry_once
 
-pub page_plus_once : SpellsOnce IsPagePlus
+pub page_plus_once : EncodesOnce IsPagePlus
 page_plus_once = page_of_once IsEntryPlus entry_plus_once
 
 pub page_head_written : {A : Type 0} (S : A → List ℕ → Type 0) (text : A → List ℕ) (attributes : Option Fattr) (verifier : ℕ) → IsPostOpAttr attributes (post_op_attr_text attributes) → IsNumber w64 verifier (to_be_bytes w64 verifier)
@@ -156,5 +156,5 @@ page_head_written S text attributes verifier shown number entries eof each = rec
 
 -- ---- groups that were lent
 
-pub groups_written : (groups lent : List (List ℕ)) → lent ≡ groups → AreSpelled IsString opaque_text lent → IsChain IsString groups (chain_text opaque_text groups)
-groups_written groups lent same each = chain_written IsString opaque_text groups (subst (AreSpelled IsString opaque_text) same each)
+pub groups_written : (groups lent : List (List ℕ)) → lent ≡ groups → AreEncoded IsString opaque_text lent → IsChain IsString groups (chain_text opaque_text groups)
+groups_written groups lent same each = chain_written IsString opaque_text groups (subst (AreEncoded IsString opaque_text) same each)

@@ -1,18 +1,18 @@
--- The pieces in which an entry of a directory is written.
+-- The chunks in which an entry of a directory is written.
 use Rattle.std.proofs.Common.{◌≡◌, ℕ, List, ◌++◌, ap, subst, ◌∙◌, append_assoc, arith}
 use Rattle.std.specs.Int.{w32, w64, to_be_bytes}
-use Rattle.nfs_xdr.specs.Spelling.{IsNumber, IsOptional, ◌⨾◌, opaque_text, optional_text}
+use Rattle.nfs_xdr.specs.Encoding.{IsNumber, IsOptional, ◌⨾◌, opaque_text, optional_text}
 use Rattle.nfs_xdr.specs.Written.{Written, Appends}
 use Rattle.nfs_xdr.proofs.Items.{opaque_written}
 use Rattle.nfs_xdr.proofs.Writing.{appends_then, followed}
-use Rattle.nfs_attrs.specs.Spelling.{IsPostOpAttr, post_op_attr_text}
-use Rattle.nfs_args.specs.Spelling.{IsHandle}
+use Rattle.nfs_attrs.specs.Encoding.{IsPostOpAttr, post_op_attr_text}
+use Rattle.nfs_args.specs.Encoding.{IsHandle}
 use Rattle.nfs_args.specs.declared.entry.Entry.{Entry}
 use Rattle.nfs_args.specs.declared.entry_plus.EntryPlus.{EntryPlus}
 use Rattle.nfs_args.specs.Chains.{chained_text}
 use Rattle.nfs_args.specs.Pages.{IsEntry, EntryFits, entry_text, IsEntryPlus, EntryPlusFits, entry_plus_text}
 
--- an entry, in its pieces
+-- an entry, in its chunks
 pub entry_parts : (e : Entry) (name : List ℕ) (a b c d f : Written) → name ≡ e.name
     → Appends (to_be_bytes w32 1) a b → Appends (to_be_bytes w64 e.fileid) b c → Appends (opaque_text name) c d → Appends (to_be_bytes w64 e.cookie) d f
     → Appends (chained_text entry_text e) a f
@@ -27,7 +27,7 @@ joined_then one file name cookie rest =
     append_assoc one (file ++ (name ++ cookie)) rest
     ∙ ap (λ t. one ++ t) (append_assoc file (name ++ cookie) rest ∙ ap (λ t. file ++ t) (append_assoc name cookie rest))
 
--- an entry, and behind it what its file is
+-- an entry, and after it what its file is
 pub entry_plus_parts : (e : EntryPlus) (head : Entry) (a b c : Written) → head.fileid ≡ e.fileid → head.name ≡ e.name → head.cookie ≡ e.cookie
     → Appends (chained_text entry_text head) a b → Appends (post_op_attr_text e.attributes ++ optional_text opaque_text e.file) b c
     → Appends (chained_text entry_plus_text e) a c

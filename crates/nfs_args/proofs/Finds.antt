@@ -1,16 +1,16 @@
--- Reading arguments finds their spelling.
+-- Reading arguments finds their encoding.
 use Rattle.std.proofs.Common.{◌≡◌, ℕ, true, eqb, List, length, Some, Ok, Err, refl, sym, ap, ◌∙◌}
 use Rattle.std.specs.Int.{w32, w64}
 use Rattle.std.proofs.lemmas.Bool.{eqb-true, eq-eqb}
 use Rattle.nfs_xdr.specs.declared.fault.XdrFault.{XdrFault}
 use Rattle.nfs_xdr.specs.declared.fault.XdrFault.TheVariants.{TooLong}
-use Rattle.nfs_xdr.specs.Spelling.{IsNumber, IsEnum, IsOptional, Begins, BeginsNone}
+use Rattle.nfs_xdr.specs.Encoding.{IsNumber, IsEnum, IsOptional, Begins, BeginsNone}
 use Rattle.nfs_xdr.specs.Reading.{Read, AreBytes, Finds, numbered}
 use Rattle.nfs_xdr.proofs.Finding.{finds_image, finds_field, finds_last, finds_all, finds_none}
 use Rattle.nfs_xdr.proofs.Items.{finds_u32, finds_u64, finds_fixed, finds_opaque, finds_enum, finds_optional}
 use Rattle.nfs_attrs.specs.declared.file_type.FileType.{FileType}
 use Rattle.nfs_attrs.specs.declared.file_type.FileType.TheVariants.{Regular, Directory, BlockDevice, CharacterDevice, SymbolicLink, Socket, Fifo}
-use Rattle.nfs_attrs.specs.Spelling.{IsMoment, type_number, IsSpecData, IsSattr}
+use Rattle.nfs_attrs.specs.Encoding.{IsMoment, type_number, IsSpecData, IsSattr}
 use Rattle.nfs_attrs.specs.Reading.{moment_at, file_types, sattr_at}
 use Rattle.nfs_attrs.proofs.Finds.{finds_moment, finds_spec_data, finds_sattr}
 use Rattle.nfs_args.specs.declared.procedure.Procedure.{Procedure}
@@ -25,20 +25,20 @@ use Rattle.nfs_args.specs.declared.create.Create.{Create}
 use Rattle.nfs_args.specs.declared.create.CreateHow.TheVariants as how
 use Rattle.nfs_args.specs.declared.dir_op.DirOp.{DirOp}
 use Rattle.nfs_args.specs.declared.link.Link.{Link}
-use Rattle.nfs_args.specs.declared.make_dir.MakeDir.{MakeDir}
-use Rattle.nfs_args.specs.declared.make_node.DeviceData.{DeviceData}
-use Rattle.nfs_args.specs.declared.make_node.MakeNode.{MakeNode}
-use Rattle.nfs_args.specs.declared.make_node.NodeData.TheVariants as node
-use Rattle.nfs_args.specs.declared.read_dir.ReadDir.{ReadDir}
-use Rattle.nfs_args.specs.declared.read_dir.ReadDirPlus.{ReadDirPlus}
+use Rattle.nfs_args.specs.declared.mkdir.Mkdir.{Mkdir}
+use Rattle.nfs_args.specs.declared.mknod.DeviceData.{DeviceData}
+use Rattle.nfs_args.specs.declared.mknod.Mknod.{Mknod}
+use Rattle.nfs_args.specs.declared.mknod.NodeData.TheVariants as node
+use Rattle.nfs_args.specs.declared.readdir.Readdir.{Readdir}
+use Rattle.nfs_args.specs.declared.readdir.Readdirplus.{Readdirplus}
 use Rattle.nfs_args.specs.declared.rename.Rename.{Rename}
-use Rattle.nfs_args.specs.declared.set_attr.SetAttr.{SetAttr}
-use Rattle.nfs_args.specs.declared.sym_link.SymLink.{SymLink}
+use Rattle.nfs_args.specs.declared.setattr.Setattr.{Setattr}
+use Rattle.nfs_args.specs.declared.symlink.Symlink.{Symlink}
 use Rattle.nfs_args.specs.declared.write.Stability.{Stability}
 use Rattle.nfs_args.specs.declared.write.Stability.TheVariants.{Unstable, DataSync, FileSync}
 use Rattle.nfs_args.specs.declared.write.Write.{Write}
-use Rattle.nfs_args.specs.Spelling.{IsHandle, IsString, IsVerifier, IsDirOp, IsByteRange, IsSetAttr, stability_number, IsWrite, CreateMode, Unchecked, Guarded, Exclusive, mode_number, IsCreateArm, IsCreateHow, IsCreate, IsAccess, IsMakeDir, IsSymLink, IsDeviceData, IsNodeArm, IsNodeData, IsMakeNode, IsRename, IsLink, IsReadDir, IsReadDirPlus, IsArgsOf, IsMountArgsOf}
-use Rattle.nfs_args.specs.Reading.{handle_at, string_at, verifier_at, dir_op_at, byte_range_at, guard_at, set_attr_at, stabilities, stability_at, write_at, create_modes, create_arm_at, create_how_at, create_at, access_at, make_dir_at, sym_link_at, device_data_at, node_arm_at, node_data_at, make_node_at, rename_at, link_at, read_dir_at, read_dir_plus_at, args_at, mount_args_at}
+use Rattle.nfs_args.specs.Encoding.{IsHandle, IsString, IsVerifier, IsDirOp, IsByteRange, IsSetattr, stability_number, IsWrite, CreateMode, Unchecked, Guarded, Exclusive, mode_number, IsCreateArm, IsCreateHow, IsCreate, IsAccess, IsMkdir, IsSymlink, IsDeviceData, IsNodeArm, IsNodeData, IsMknod, IsRename, IsLink, IsReaddir, IsReaddirplus, IsArgsOf, IsMountArgsOf}
+use Rattle.nfs_args.specs.Reading.{handle_at, string_at, verifier_at, dir_op_at, byte_range_at, guard_at, setattr_at, stabilities, stability_at, write_at, create_modes, create_arm_at, create_how_at, create_at, access_at, mkdir_at, symlink_at, device_data_at, node_arm_at, node_data_at, mknod_at, rename_at, link_at, readdir_at, readdirplus_at, args_at, mount_args_at}
 use Rattle.nfs_args.proofs.Unions.{finds_bare, finds_union, finds_last_if}
 
 pub finds_handle : Finds IsHandle handle_at
@@ -66,12 +66,12 @@ finds_byte_range =
 finds_guard : Finds (IsOptional IsMoment) guard_at
 finds_guard = finds_optional IsMoment moment_at finds_moment
 
-finds_set_attr : Finds IsSetAttr set_attr_at
-finds_set_attr =
-    finds_all IsSetAttr set_attr_at
-    (finds_field (λ _. Unit {0}) IsHandle (λ (a : SetAttr). a.file) _ _ _ finds_handle (λ file.
-    finds_field _ IsSattr (λ (a : SetAttr). a.attributes) _ _ _ finds_sattr (λ attributes.
-    finds_last _ (IsOptional IsMoment) (λ (a : SetAttr). a.guard) _ (λ guard. record { file = file; attributes = attributes; guard = guard }) finds_guard (λ guard. (((tt, refl), refl), refl)) (λ a guard known e i. record { file = known.0.1 i; attributes = known.1 i; guard = e i }))))
+finds_setattr : Finds IsSetattr setattr_at
+finds_setattr =
+    finds_all IsSetattr setattr_at
+    (finds_field (λ _. Unit {0}) IsHandle (λ (a : Setattr). a.file) _ _ _ finds_handle (λ file.
+    finds_field _ IsSattr (λ (a : Setattr). a.attributes) _ _ _ finds_sattr (λ attributes.
+    finds_last _ (IsOptional IsMoment) (λ (a : Setattr). a.guard) _ (λ guard. record { file = file; attributes = attributes; guard = guard }) finds_guard (λ guard. (((tt, refl), refl), refl)) (λ a guard known e i. record { file = known.0.1 i; attributes = known.1 i; guard = e i }))))
 
 -- ---- WRITE
 
@@ -126,18 +126,18 @@ finds_access =
     (finds_field (λ _. Unit {0}) IsHandle (λ (a : Access). a.file) _ _ _ finds_handle (λ file.
     finds_last _ (IsNumber w32) (λ (a : Access). a.rights) _ (λ rights. record { file = file; rights = rights }) finds_u32 (λ rights. ((tt, refl), refl)) (λ a rights known e i. record { file = known.1 i; rights = e i })))
 
-finds_make_dir : Finds IsMakeDir make_dir_at
-finds_make_dir =
-    finds_all IsMakeDir make_dir_at
-    (finds_field (λ _. Unit {0}) IsDirOp (λ (a : MakeDir). a.place) _ _ _ finds_dir_op (λ place.
-    finds_last _ IsSattr (λ (a : MakeDir). a.attributes) _ (λ attributes. record { place = place; attributes = attributes }) finds_sattr (λ attributes. ((tt, refl), refl)) (λ a attributes known e i. record { place = known.1 i; attributes = e i })))
+finds_mkdir : Finds IsMkdir mkdir_at
+finds_mkdir =
+    finds_all IsMkdir mkdir_at
+    (finds_field (λ _. Unit {0}) IsDirOp (λ (a : Mkdir). a.place) _ _ _ finds_dir_op (λ place.
+    finds_last _ IsSattr (λ (a : Mkdir). a.attributes) _ (λ attributes. record { place = place; attributes = attributes }) finds_sattr (λ attributes. ((tt, refl), refl)) (λ a attributes known e i. record { place = known.1 i; attributes = e i })))
 
-finds_sym_link : Finds IsSymLink sym_link_at
-finds_sym_link =
-    finds_all IsSymLink sym_link_at
-    (finds_field (λ _. Unit {0}) IsDirOp (λ (a : SymLink). a.place) _ _ _ finds_dir_op (λ place.
-    finds_field _ IsSattr (λ (a : SymLink). a.attributes) _ _ _ finds_sattr (λ attributes.
-    finds_last _ IsString (λ (a : SymLink). a.path) _ (λ path. record { place = place; attributes = attributes; path = path }) finds_string (λ path. (((tt, refl), refl), refl)) (λ a path known e i. record { place = known.0.1 i; attributes = known.1 i; path = e i }))))
+finds_symlink : Finds IsSymlink symlink_at
+finds_symlink =
+    finds_all IsSymlink symlink_at
+    (finds_field (λ _. Unit {0}) IsDirOp (λ (a : Symlink). a.place) _ _ _ finds_dir_op (λ place.
+    finds_field _ IsSattr (λ (a : Symlink). a.attributes) _ _ _ finds_sattr (λ attributes.
+    finds_last _ IsString (λ (a : Symlink). a.path) _ (λ path. record { place = place; attributes = attributes; path = path }) finds_string (λ path. (((tt, refl), refl), refl)) (λ a path known e i. record { place = known.0.1 i; attributes = known.1 i; path = e i }))))
 
 finds_device_data : Finds IsDeviceData device_data_at
 finds_device_data =
@@ -166,11 +166,11 @@ finds_node_arm Fifo = finds_image IsSattr node.Fifo sattr_at finds_sattr
 finds_node_data : Finds IsNodeData node_data_at
 finds_node_data = finds_union type_number file_types IsNodeArm node_arm_at type_numbered finds_node_arm
 
-finds_make_node : Finds IsMakeNode make_node_at
-finds_make_node =
-    finds_all IsMakeNode make_node_at
-    (finds_field (λ _. Unit {0}) IsDirOp (λ (a : MakeNode). a.place) _ _ _ finds_dir_op (λ place.
-    finds_last _ IsNodeData (λ (a : MakeNode). a.node) _ (λ node. record { place = place; node = node }) finds_node_data (λ node. ((tt, refl), refl)) (λ a node known e i. record { place = known.1 i; node = e i })))
+finds_mknod : Finds IsMknod mknod_at
+finds_mknod =
+    finds_all IsMknod mknod_at
+    (finds_field (λ _. Unit {0}) IsDirOp (λ (a : Mknod). a.place) _ _ _ finds_dir_op (λ place.
+    finds_last _ IsNodeData (λ (a : Mknod). a.node) _ (λ node. record { place = place; node = node }) finds_node_data (λ node. ((tt, refl), refl)) (λ a node known e i. record { place = known.1 i; node = e i })))
 
 finds_rename : Finds IsRename rename_at
 finds_rename =
@@ -184,47 +184,47 @@ finds_link =
     (finds_field (λ _. Unit {0}) IsHandle (λ (a : Link). a.file) _ _ _ finds_handle (λ file.
     finds_last _ IsDirOp (λ (a : Link). a.place) _ (λ place. record { file = file; place = place }) finds_dir_op (λ place. ((tt, refl), refl)) (λ a place known e i. record { file = known.1 i; place = e i })))
 
-finds_read_dir : Finds IsReadDir read_dir_at
-finds_read_dir =
-    finds_all IsReadDir read_dir_at
-    (finds_field (λ _. Unit {0}) IsHandle (λ (a : ReadDir). a.dir) _ _ _ finds_handle (λ dir.
-    finds_field _ (IsNumber w64) (λ (a : ReadDir). a.cookie) _ _ _ finds_u64 (λ cookie.
-    finds_field _ IsVerifier (λ (a : ReadDir). a.verifier) _ _ _ finds_verifier (λ verifier.
-    finds_last _ (IsNumber w32) (λ (a : ReadDir). a.count) _ (λ count. record { dir = dir; cookie = cookie; verifier = verifier; count = count }) finds_u32 (λ count. ((((tt, refl), refl), refl), refl)) (λ a count known e i. record { dir = known.0.0.1 i; cookie = known.0.1 i; verifier = known.1 i; count = e i })))))
+finds_readdir : Finds IsReaddir readdir_at
+finds_readdir =
+    finds_all IsReaddir readdir_at
+    (finds_field (λ _. Unit {0}) IsHandle (λ (a : Readdir). a.dir) _ _ _ finds_handle (λ dir.
+    finds_field _ (IsNumber w64) (λ (a : Readdir). a.cookie) _ _ _ finds_u64 (λ cookie.
+    finds_field _ IsVerifier (λ (a : Readdir). a.verifier) _ _ _ finds_verifier (λ verifier.
+    finds_last _ (IsNumber w32) (λ (a : Readdir). a.count) _ (λ count. record { dir = dir; cookie = cookie; verifier = verifier; count = count }) finds_u32 (λ count. ((((tt, refl), refl), refl), refl)) (λ a count known e i. record { dir = known.0.0.1 i; cookie = known.0.1 i; verifier = known.1 i; count = e i })))))
 
-finds_read_dir_plus : Finds IsReadDirPlus read_dir_plus_at
-finds_read_dir_plus =
-    finds_all IsReadDirPlus read_dir_plus_at
-    (finds_field (λ _. Unit {0}) IsHandle (λ (a : ReadDirPlus). a.dir) _ _ _ finds_handle (λ dir.
-    finds_field _ (IsNumber w64) (λ (a : ReadDirPlus). a.cookie) _ _ _ finds_u64 (λ cookie.
-    finds_field _ IsVerifier (λ (a : ReadDirPlus). a.verifier) _ _ _ finds_verifier (λ verifier.
-    finds_field _ (IsNumber w32) (λ (a : ReadDirPlus). a.dircount) _ _ _ finds_u32 (λ dircount.
-    finds_last _ (IsNumber w32) (λ (a : ReadDirPlus). a.maxcount) _ (λ maxcount. record { dir = dir; cookie = cookie; verifier = verifier; dircount = dircount; maxcount = maxcount }) finds_u32 (λ maxcount. (((((tt, refl), refl), refl), refl), refl)) (λ a maxcount known e i. record { dir = known.0.0.0.1 i; cookie = known.0.0.1 i; verifier = known.0.1 i; dircount = known.1 i; maxcount = e i }))))))
+finds_readdirplus : Finds IsReaddirplus readdirplus_at
+finds_readdirplus =
+    finds_all IsReaddirplus readdirplus_at
+    (finds_field (λ _. Unit {0}) IsHandle (λ (a : Readdirplus). a.dir) _ _ _ finds_handle (λ dir.
+    finds_field _ (IsNumber w64) (λ (a : Readdirplus). a.cookie) _ _ _ finds_u64 (λ cookie.
+    finds_field _ IsVerifier (λ (a : Readdirplus). a.verifier) _ _ _ finds_verifier (λ verifier.
+    finds_field _ (IsNumber w32) (λ (a : Readdirplus). a.dircount) _ _ _ finds_u32 (λ dircount.
+    finds_last _ (IsNumber w32) (λ (a : Readdirplus). a.maxcount) _ (λ maxcount. record { dir = dir; cookie = cookie; verifier = verifier; dircount = dircount; maxcount = maxcount }) finds_u32 (λ maxcount. (((((tt, refl), refl), refl), refl), refl)) (λ a maxcount known e i. record { dir = known.0.0.0.1 i; cookie = known.0.0.1 i; verifier = known.0.1 i; dircount = known.1 i; maxcount = e i }))))))
 
 -- ---- by the procedure
 
 pub finds_args : (p : Procedure) → Finds (IsArgsOf p) (args_at p)
 finds_args proc.Null = finds_bare asked.Null
-finds_args proc.GetAttr = finds_image IsHandle asked.GetAttr handle_at finds_handle
-finds_args proc.SetAttr = finds_image IsSetAttr asked.SetAttr set_attr_at finds_set_attr
+finds_args proc.Getattr = finds_image IsHandle asked.Getattr handle_at finds_handle
+finds_args proc.Setattr = finds_image IsSetattr asked.Setattr setattr_at finds_setattr
 finds_args proc.Lookup = finds_image IsDirOp asked.Lookup dir_op_at finds_dir_op
 finds_args proc.Access = finds_image IsAccess asked.Access access_at finds_access
-finds_args proc.ReadLink = finds_image IsHandle asked.ReadLink handle_at finds_handle
+finds_args proc.Readlink = finds_image IsHandle asked.Readlink handle_at finds_handle
 finds_args proc.Read = finds_image IsByteRange asked.Read byte_range_at finds_byte_range
 finds_args proc.Write = finds_image IsWrite asked.Write write_at finds_write
 finds_args proc.Create = finds_image IsCreate asked.Create create_at finds_create
-finds_args proc.MakeDir = finds_image IsMakeDir asked.MakeDir make_dir_at finds_make_dir
-finds_args proc.SymLink = finds_image IsSymLink asked.SymLink sym_link_at finds_sym_link
-finds_args proc.MakeNode = finds_image IsMakeNode asked.MakeNode make_node_at finds_make_node
+finds_args proc.Mkdir = finds_image IsMkdir asked.Mkdir mkdir_at finds_mkdir
+finds_args proc.Symlink = finds_image IsSymlink asked.Symlink symlink_at finds_symlink
+finds_args proc.Mknod = finds_image IsMknod asked.Mknod mknod_at finds_mknod
 finds_args proc.Remove = finds_image IsDirOp asked.Remove dir_op_at finds_dir_op
-finds_args proc.RemoveDir = finds_image IsDirOp asked.RemoveDir dir_op_at finds_dir_op
+finds_args proc.Rmdir = finds_image IsDirOp asked.Rmdir dir_op_at finds_dir_op
 finds_args proc.Rename = finds_image IsRename asked.Rename rename_at finds_rename
 finds_args proc.Link = finds_image IsLink asked.Link link_at finds_link
-finds_args proc.ReadDir = finds_image IsReadDir asked.ReadDir read_dir_at finds_read_dir
-finds_args proc.ReadDirPlus = finds_image IsReadDirPlus asked.ReadDirPlus read_dir_plus_at finds_read_dir_plus
-finds_args proc.FsStat = finds_image IsHandle asked.FsStat handle_at finds_handle
-finds_args proc.FsInfo = finds_image IsHandle asked.FsInfo handle_at finds_handle
-finds_args proc.PathConf = finds_image IsHandle asked.PathConf handle_at finds_handle
+finds_args proc.Readdir = finds_image IsReaddir asked.Readdir readdir_at finds_readdir
+finds_args proc.Readdirplus = finds_image IsReaddirplus asked.Readdirplus readdirplus_at finds_readdirplus
+finds_args proc.Fsstat = finds_image IsHandle asked.Fsstat handle_at finds_handle
+finds_args proc.Fsinfo = finds_image IsHandle asked.Fsinfo handle_at finds_handle
+finds_args proc.Pathconf = finds_image IsHandle asked.Pathconf handle_at finds_handle
 finds_args proc.Commit = finds_image IsByteRange asked.Commit byte_range_at finds_byte_range
 
 pub finds_mount_args : (p : MountProcedure) → Finds (IsMountArgsOf p) (mount_args_at p)

@@ -1,11 +1,11 @@
--- Reading a union, or a value whose last field has to agree with those before it, finds its spelling.
+-- Reading a union, or a value whose last field has to agree with those before it, finds its encoding.
 use Rattle.std.proofs.Common.{◌≡◌, ℕ, Bool, true, false, List, [], Some, Ok, Err, cond, append-nil, refl, sym, ap, subst, ◌∙◌, ◌++◌}
 use Rattle.nfs_xdr.specs.declared.fault.XdrFault.{XdrFault}
-use Rattle.nfs_xdr.specs.Spelling.{IsEnum}
+use Rattle.nfs_xdr.specs.Encoding.{IsEnum}
 use Rattle.nfs_xdr.specs.Reading.{Read, ◌>>=◌, Finds, numbered, enum_at}
 use Rattle.nfs_xdr.proofs.Finding.{finds_as, Then, finds_then, IsDone, finds_done, IsNothing, IsEither, finds_either, finds_fault}
 use Rattle.nfs_xdr.proofs.Items.{finds_enum}
-use Rattle.nfs_args.specs.Spelling.{IsBare, IsUnion}
+use Rattle.nfs_args.specs.Encoding.{IsBare, IsUnion}
 use Rattle.nfs_args.specs.Reading.{bare_at, union_at}
 
 pub finds_bare : {A : Type 0} (made : A) → Finds (IsBare made) (bare_at made)
@@ -18,8 +18,8 @@ pub finds_union : {K A : Type 0} (number : K → ℕ) (kinds : List K) (arm : K 
     → ((kind : K) → numbered number kinds (number kind) ≡ Some kind) → ((kind : K) → Finds (arm kind) (read kind)) → Finds (IsUnion number arm) (union_at number kinds read)
 finds_union number kinds arm read known arms =
     finds_as (Then (IsEnum number) arm) (IsUnion number arm) (union_at number kinds read)
-    (λ value text s. record { kind = s.first; spelled = record { front = s.front; first = s.front_is; back = s.back; second = s.back_is; text_is = s.text_is } })
-    (λ value text s. record { first = s.kind; front = s.spelled.front; front_is = s.spelled.first; back = s.spelled.back; back_is = s.spelled.second; text_is = s.spelled.text_is })
+    (λ value text s. record { kind = s.first; encoded = record { front = s.front; first = s.front_is; back = s.back; second = s.back_is; text_is = s.text_is } })
+    (λ value text s. record { first = s.kind; front = s.encoded.front; front_is = s.encoded.first; back = s.encoded.back; back_is = s.encoded.second; text_is = s.encoded.text_is })
     (finds_then (IsEnum number) arm (enum_at number kinds) read (finds_enum number kinds known) arms)
 
 -- ---- a last field that is judged by a test

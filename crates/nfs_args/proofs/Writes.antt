@@ -1,11 +1,11 @@
--- What is written of results is their spelling.
+-- What is written of results is their encoding.
 use Rattle.std.proofs.Common.{◌≡◌, ℕ, ◌^◌, ◌<◌, Bool, List, ◌++◌, length, Option, refl, sym, subst, append_assoc, arith}
 use Rattle.std.specs.Int.{w32, to_be_bytes}
-use Rattle.nfs_xdr.specs.Spelling.{IsNumber, IsBoolean, opaque_text, fixed_text}
+use Rattle.nfs_xdr.specs.Encoding.{IsNumber, IsBoolean, opaque_text, fixed_text}
 use Rattle.nfs_xdr.proofs.Items.{opaque_written}
 use Rattle.nfs_xdr.proofs.Writing.{number_written, followed}
 use Rattle.nfs_attrs.specs.declared.fattr.Fattr.{Fattr}
-use Rattle.nfs_attrs.specs.Spelling.{IsPostOpAttr, post_op_attr_text}
+use Rattle.nfs_attrs.specs.Encoding.{IsPostOpAttr, post_op_attr_text}
 use Rattle.nfs_args.specs.declared.read_data.ReadData.{ReadData}
 use Rattle.nfs_args.specs.declared.mount_answer.MountAnswer.{MountAnswer}
 use Rattle.nfs_args.specs.declared.mount_answer.MountAnswer.TheVariants as answer

@@ -1,5 +1,6 @@
+pub mod Programs
 pub mod Procedures
-pub mod Spelling
+pub mod Encoding
 pub mod Reading
 pub mod Results
 pub mod Chains

@@ -1,14 +1,14 @@
 -- The results of the procedures of MOUNT (RFC 1813, appendix I, section 5.2).
 use Rattle.std.specs.Prelude.{ℕ, ◌≤◌, List, [], ◌++◌, length}
 use Rattle.std.specs.Int.{w32, to_be_bytes}
-use Rattle.nfs_xdr.specs.Spelling.{IsNumber, ◌⨾◌, opaque_text}
+use Rattle.nfs_xdr.specs.Encoding.{IsNumber, ◌⨾◌, opaque_text}
 use Rattle.nfs_args.specs.declared.procedure.MountProcedure.{MountProcedure}
 use Rattle.nfs_args.specs.declared.procedure.MountProcedure.TheVariants as mount
 use Rattle.nfs_args.specs.declared.mount_answer.MountAnswer.{MountAnswer}
 use Rattle.nfs_args.specs.declared.mount_answer.MountAnswer.TheVariants as answer
 use Rattle.nfs_args.specs.declared.mounted.Mounted.{Mounted}
 use Rattle.nfs_args.specs.declared.exported.Exported.{Exported}
-use Rattle.nfs_args.specs.Spelling.{Arm, IsBare, IsHandle, IsString}
+use Rattle.nfs_args.specs.Encoding.{Arm, IsBare, IsHandle, IsString}
 use Rattle.nfs_args.specs.Chains.{IsChain, chain_text, Each}
 use Rattle.nfs_args.specs.Results.{IsResult, result_text, ResultFits, IsEmpty, empty_text, StringFits}
 
@@ -42,7 +42,7 @@ exported_text e = opaque_text e.path ++ chain_text opaque_text e.groups
 abbrev pub ExportedFits : Exported → Type 0
 ExportedFits e = StringFits e.path × Each StringFits e.groups
 
--- Which bytes spell which result of a procedure.
+-- Which bytes encode which result of a procedure.
 abbrev pub IsMountAnswerOf : MountProcedure → MountAnswer → List ℕ → Type 0
 IsMountAnswerOf mount.Null = IsBare answer.Null
 IsMountAnswerOf mount.Mount = Arm answer.Mount (IsResult IsVolume IsEmpty)

@@ -1,15 +1,15 @@
--- Which bytes spell entries of a directory (RFC 1813, sections 3.3.16 and 3.3.17), and what is written.
+-- Which bytes encode entries of a directory (RFC 1813, sections 3.3.16 and 3.3.17), and what is written.
 use Rattle.std.specs.Prelude.{ℕ, Bool, List, ◌++◌, Option}
 use Rattle.std.specs.Int.{w32, w64, to_be_bytes}
-use Rattle.nfs_xdr.specs.Spelling.{IsNumber, IsBoolean, IsOptional, ◌⨾◌, opaque_text, optional_text}
+use Rattle.nfs_xdr.specs.Encoding.{IsNumber, IsBoolean, IsOptional, ◌⨾◌, opaque_text, optional_text}
 use Rattle.nfs_attrs.specs.declared.fattr.Fattr.{Fattr}
-use Rattle.nfs_attrs.specs.Spelling.{IsPostOpAttr, post_op_attr_text}
-use Rattle.nfs_args.specs.Spelling.{IsHandle, IsString}
-use Rattle.nfs_args.specs.Chains.{IsChain, links_text, Each, AreSpelled}
+use Rattle.nfs_attrs.specs.Encoding.{IsPostOpAttr, post_op_attr_text}
+use Rattle.nfs_args.specs.Encoding.{IsHandle, IsString}
+use Rattle.nfs_args.specs.Chains.{IsChain, links_text, Each, AreEncoded}
 use Rattle.nfs_args.specs.Results.{boolean_text, StringFits, HandleFits}
 use Rattle.nfs_args.specs.declared.entry.Entry.{Entry}
 use Rattle.nfs_args.specs.declared.entry_plus.EntryPlus.{EntryPlus}
-use Rattle.nfs_args.specs.declared.page.Page.{Page}
+use Rattle.nfs_args.specs.declared.dir_page.DirPage.{DirPage}
 
 -- entry3
 abbrev pub IsEntry : Entry → List ℕ → Type 0
@@ -41,8 +41,8 @@ EntryPlusFits e = StringFits e.name × HandleFits e.file
 
 -- ---- READDIR3resok and READDIRPLUS3resok, which differ in their entries
 
-abbrev pub IsPageOf : {A : Type 0} → (A → List ℕ → Type 0) → Page (List A) → List ℕ → Type 0
-IsPageOf Spells p = IsPostOpAttr p.attributes ⨾ IsNumber w64 p.verifier ⨾ IsChain Spells p.entries ⨾ IsBoolean p.eof
+abbrev pub IsPageOf : {A : Type 0} → (A → List ℕ → Type 0) → DirPage (List A) → List ℕ → Type 0
+IsPageOf Encodes p = IsPostOpAttr p.attributes ⨾ IsNumber w64 p.verifier ⨾ IsChain Encodes p.entries ⨾ IsBoolean p.eof
 
 abbrev pub page_head_text : Option Fattr → ℕ → List ℕ
 page_head_text attributes verifier = post_op_attr_text attributes ++ to_be_bytes w64 verifier
@@ -50,34 +50,34 @@ page_head_text attributes verifier = post_op_attr_text attributes ++ to_be_bytes
 abbrev pub page_end_text : Bool → List ℕ
 page_end_text eof = to_be_bytes w32 0 ++ boolean_text eof
 
-abbrev pub page_of_text : {A : Type 0} → (A → List ℕ) → Page (List A) → List ℕ
+abbrev pub page_of_text : {A : Type 0} → (A → List ℕ) → DirPage (List A) → List ℕ
 page_of_text text p = page_head_text p.attributes p.verifier ++ (links_text text p.entries ++ page_end_text p.eof)
 
--- the head, then any entries, each of them spelled, and then an end are a page
+-- the head, then any entries, each of them encoded, and then an end are a page
 abbrev pub BeginsPage : {A : Type 0} → (A → List ℕ → Type 0) → (A → List ℕ) → Option Fattr → ℕ → Type 0
-BeginsPage {A} Spells text attributes verifier =
-    (entries : List A) (eof : Bool) → AreSpelled Spells text entries
-    → IsPageOf Spells (record {
+BeginsPage {A} Encodes text attributes verifier =
+    (entries : List A) (eof : Bool) → AreEncoded Encodes text entries
+    → IsPageOf Encodes (record {
       attributes = attributes;
       verifier = verifier;
       entries = entries;
       eof = eof;
     }) (page_head_text attributes verifier ++ (links_text text entries ++ page_end_text eof))
 
-abbrev pub IsPage : Page (List Entry) → List ℕ → Type 0
+abbrev pub IsPage : DirPage (List Entry) → List ℕ → Type 0
 IsPage = IsPageOf IsEntry
 
-abbrev pub page_text : Page (List Entry) → List ℕ
+abbrev pub page_text : DirPage (List Entry) → List ℕ
 page_text = page_of_text entry_text
 
-abbrev pub PageFits : Page (List Entry) → Type 0
+abbrev pub PageFits : DirPage (List Entry) → Type 0
 PageFits p = Each EntryFits p.entries
 
-abbrev pub IsPagePlus : Page (List EntryPlus) → List ℕ → Type 0
+abbrev pub IsPagePlus : DirPage (List EntryPlus) → List ℕ → Type 0
 IsPagePlus = IsPageOf IsEntryPlus
 
-abbrev pub page_plus_text : Page (List EntryPlus) → List ℕ
+abbrev pub page_plus_text : DirPage (List EntryPlus) → List ℕ
 page_plus_text = page_of_text entry_plus_text
 
-abbrev pub PagePlusFits : Page (List EntryPlus) → Type 0
+abbrev pub PagePlusFits : DirPage (List EntryPlus) → Type 0
 PagePlusFits p = Each EntryPlusFits p.entries

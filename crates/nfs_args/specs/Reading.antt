@@ -7,7 +7,7 @@ use Rattle.nfs_xdr.specs.Reading.{Read, ◌>>=◌, number_at, enum_at, optional_
 use Rattle.nfs_attrs.specs.declared.moment.Moment.{Moment}
 use Rattle.nfs_attrs.specs.declared.file_type.FileType.{FileType}
 use Rattle.nfs_attrs.specs.declared.file_type.FileType.TheVariants.{Regular, Directory, BlockDevice, CharacterDevice, SymbolicLink, Socket, Fifo}
-use Rattle.nfs_attrs.specs.Spelling.{type_number}
+use Rattle.nfs_attrs.specs.Encoding.{type_number}
 use Rattle.nfs_attrs.specs.Reading.{moment_at, file_types, spec_data_at, sattr_at}
 use Rattle.nfs_args.specs.declared.unreadable.Unreadable.{Unreadable}
 use Rattle.nfs_args.specs.declared.procedure.Procedure.{Procedure}
@@ -25,20 +25,20 @@ use Rattle.nfs_args.specs.declared.create.CreateHow.{CreateHow}
 use Rattle.nfs_args.specs.declared.create.CreateHow.TheVariants as how
 use Rattle.nfs_args.specs.declared.dir_op.DirOp.{DirOp}
 use Rattle.nfs_args.specs.declared.link.Link.{Link}
-use Rattle.nfs_args.specs.declared.make_dir.MakeDir.{MakeDir}
-use Rattle.nfs_args.specs.declared.make_node.DeviceData.{DeviceData}
-use Rattle.nfs_args.specs.declared.make_node.MakeNode.{MakeNode}
-use Rattle.nfs_args.specs.declared.make_node.NodeData.{NodeData}
-use Rattle.nfs_args.specs.declared.make_node.NodeData.TheVariants as node
-use Rattle.nfs_args.specs.declared.read_dir.ReadDir.{ReadDir}
-use Rattle.nfs_args.specs.declared.read_dir.ReadDirPlus.{ReadDirPlus}
+use Rattle.nfs_args.specs.declared.mkdir.Mkdir.{Mkdir}
+use Rattle.nfs_args.specs.declared.mknod.DeviceData.{DeviceData}
+use Rattle.nfs_args.specs.declared.mknod.Mknod.{Mknod}
+use Rattle.nfs_args.specs.declared.mknod.NodeData.{NodeData}
+use Rattle.nfs_args.specs.declared.mknod.NodeData.TheVariants as node
+use Rattle.nfs_args.specs.declared.readdir.Readdir.{Readdir}
+use Rattle.nfs_args.specs.declared.readdir.Readdirplus.{Readdirplus}
 use Rattle.nfs_args.specs.declared.rename.Rename.{Rename}
-use Rattle.nfs_args.specs.declared.set_attr.SetAttr.{SetAttr}
-use Rattle.nfs_args.specs.declared.sym_link.SymLink.{SymLink}
+use Rattle.nfs_args.specs.declared.setattr.Setattr.{Setattr}
+use Rattle.nfs_args.specs.declared.symlink.Symlink.{Symlink}
 use Rattle.nfs_args.specs.declared.write.Stability.{Stability}
 use Rattle.nfs_args.specs.declared.write.Stability.TheVariants.{Unstable, DataSync, FileSync}
 use Rattle.nfs_args.specs.declared.write.Write.{Write}
-use Rattle.nfs_args.specs.Spelling.{CreateMode, Unchecked, Guarded, Exclusive, mode_number, stability_number}
+use Rattle.nfs_args.specs.Encoding.{CreateMode, Unchecked, Guarded, Exclusive, mode_number, stability_number}
 
 -- what an arm holds, and the union's value that is made of it
 abbrev pub arm_at : {A B : Type 0} → (A → B) → (List ℕ → Read A) → List ℕ → Read B
@@ -85,8 +85,8 @@ byte_range_at bytes = do
 abbrev pub guard_at : List ℕ → Read (Option Moment)
 guard_at = optional_at moment_at
 
-abbrev pub set_attr_at : List ℕ → Read SetAttr
-set_attr_at bytes = do
+abbrev pub setattr_at : List ℕ → Read Setattr
+setattr_at bytes = do
   file ← handle_at bytes
   attributes ← sattr_at file.1
   guard ← guard_at attributes.1
@@ -130,14 +130,14 @@ access_at bytes = do
   rights ← number_at w32 file.1
   Ok (record { file = file.0; rights = rights.0 }, rights.1)
 
-abbrev pub make_dir_at : List ℕ → Read MakeDir
-make_dir_at bytes = do
+abbrev pub mkdir_at : List ℕ → Read Mkdir
+mkdir_at bytes = do
   place ← dir_op_at bytes
   attributes ← sattr_at place.1
   Ok (record { place = place.0; attributes = attributes.0 }, attributes.1)
 
-abbrev pub sym_link_at : List ℕ → Read SymLink
-sym_link_at bytes = do
+abbrev pub symlink_at : List ℕ → Read Symlink
+symlink_at bytes = do
   place ← dir_op_at bytes
   attributes ← sattr_at place.1
   path ← string_at attributes.1
@@ -161,8 +161,8 @@ node_arm_at Fifo = arm_at node.Fifo sattr_at
 abbrev pub node_data_at : List ℕ → Read NodeData
 node_data_at = union_at type_number file_types node_arm_at
 
-abbrev pub make_node_at : List ℕ → Read MakeNode
-make_node_at bytes = do
+abbrev pub mknod_at : List ℕ → Read Mknod
+mknod_at bytes = do
   place ← dir_op_at bytes
   node ← node_data_at place.1
   Ok (record { place = place.0; node = node.0 }, node.1)
@@ -179,16 +179,16 @@ link_at bytes = do
   place ← dir_op_at file.1
   Ok (record { file = file.0; place = place.0 }, place.1)
 
-abbrev pub read_dir_at : List ℕ → Read ReadDir
-read_dir_at bytes = do
+abbrev pub readdir_at : List ℕ → Read Readdir
+readdir_at bytes = do
   dir ← handle_at bytes
   cookie ← number_at w64 dir.1
   verifier ← verifier_at cookie.1
   count ← number_at w32 verifier.1
   Ok (record { dir = dir.0; cookie = cookie.0; verifier = verifier.0; count = count.0 }, count.1)
 
-abbrev pub read_dir_plus_at : List ℕ → Read ReadDirPlus
-read_dir_plus_at bytes = do
+abbrev pub readdirplus_at : List ℕ → Read Readdirplus
+readdirplus_at bytes = do
   dir ← handle_at bytes
   cookie ← number_at w64 dir.1
   verifier ← verifier_at cookie.1
@@ -200,26 +200,26 @@ read_dir_plus_at bytes = do
 
 abbrev pub args_at : Procedure → List ℕ → Read NfsArgs
 args_at proc.Null = bare_at asked.Null
-args_at proc.GetAttr = arm_at asked.GetAttr handle_at
-args_at proc.SetAttr = arm_at asked.SetAttr set_attr_at
+args_at proc.Getattr = arm_at asked.Getattr handle_at
+args_at proc.Setattr = arm_at asked.Setattr setattr_at
 args_at proc.Lookup = arm_at asked.Lookup dir_op_at
 args_at proc.Access = arm_at asked.Access access_at
-args_at proc.ReadLink = arm_at asked.ReadLink handle_at
+args_at proc.Readlink = arm_at asked.Readlink handle_at
 args_at proc.Read = arm_at asked.Read byte_range_at
 args_at proc.Write = arm_at asked.Write write_at
 args_at proc.Create = arm_at asked.Create create_at
-args_at proc.MakeDir = arm_at asked.MakeDir make_dir_at
-args_at proc.SymLink = arm_at asked.SymLink sym_link_at
-args_at proc.MakeNode = arm_at asked.MakeNode make_node_at
+args_at proc.Mkdir = arm_at asked.Mkdir mkdir_at
+args_at proc.Symlink = arm_at asked.Symlink symlink_at
+args_at proc.Mknod = arm_at asked.Mknod mknod_at
 args_at proc.Remove = arm_at asked.Remove dir_op_at
-args_at proc.RemoveDir = arm_at asked.RemoveDir dir_op_at
+args_at proc.Rmdir = arm_at asked.Rmdir dir_op_at
 args_at proc.Rename = arm_at asked.Rename rename_at
 args_at proc.Link = arm_at asked.Link link_at
-args_at proc.ReadDir = arm_at asked.ReadDir read_dir_at
-args_at proc.ReadDirPlus = arm_at asked.ReadDirPlus read_dir_plus_at
-args_at proc.FsStat = arm_at asked.FsStat handle_at
-args_at proc.FsInfo = arm_at asked.FsInfo handle_at
-args_at proc.PathConf = arm_at asked.PathConf handle_at
+args_at proc.Readdir = arm_at asked.Readdir readdir_at
+args_at proc.Readdirplus = arm_at asked.Readdirplus readdirplus_at
+args_at proc.Fsstat = arm_at asked.Fsstat handle_at
+args_at proc.Fsinfo = arm_at asked.Fsinfo handle_at
+args_at proc.Pathconf = arm_at asked.Pathconf handle_at
 args_at proc.Commit = arm_at asked.Commit byte_range_at
 
 abbrev pub mount_args_at : MountProcedure → List ℕ → Read MountArgs
@@ -232,7 +232,7 @@ mount_args_at mount.Export = bare_at mount_asked.Export
 
 -- ---- readers
 
--- What a reader answered is what reading gives; it has moved on behind it. Where it refused, it may stand anywhere.
+-- What a reader answered is what reading gives; it has moved on after it. Where it refused, it may stand anywhere.
 abbrev pub Takes : {A : Type 0} → List ℕ → List ℕ → Result A XdrFault → Read A → Type 0
 Takes old new (Ok value) read = read ≡ Ok (value, new)
 Takes old new (Err fault) read = read ≡ Err fault

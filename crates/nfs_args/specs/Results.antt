@@ -1,10 +1,10 @@
--- Which bytes spell which results (RFC 1813, section 3.3), and what is written.
+-- Which bytes encode which results (RFC 1813, section 3.3), and what is written.
 use Rattle.std.specs.Prelude.{◌≡◌, ℕ, ◌^◌, ◌<◌, ◌≤◌, Bool, List, [], ◌++◌, length, Option, Some, None, Result, Ok, Err}
 use Rattle.std.specs.Int.{w32, w64, to_be_bytes}
-use Rattle.nfs_xdr.specs.Spelling.{IsNumber, IsBoolean, IsEnum, IsOptional, ◌⨾◌, number_of, opaque_text, fixed_text, optional_text}
+use Rattle.nfs_xdr.specs.Encoding.{IsNumber, IsBoolean, IsEnum, IsOptional, ◌⨾◌, number_of, opaque_text, fixed_text, optional_text}
 use Rattle.nfs_attrs.specs.declared.fattr.Fattr.{Fattr}
-use Rattle.nfs_attrs.specs.Spelling.{IsMoment, IsPostOpAttr, IsWcc, moment_text, post_op_attr_text, wcc_text}
-use Rattle.nfs_args.specs.Spelling.{IsHandle, IsString, stability_number}
+use Rattle.nfs_attrs.specs.Encoding.{IsMoment, IsPostOpAttr, IsWcc, moment_text, post_op_attr_text, wcc_text}
+use Rattle.nfs_args.specs.Encoding.{IsHandle, IsString, stability_number}
 use Rattle.nfs_args.specs.declared.failed.Failed.{Failed}
 use Rattle.nfs_args.specs.declared.found.Found.{Found}
 use Rattle.nfs_args.specs.declared.rights.Rights.{Rights}
@@ -15,8 +15,8 @@ use Rattle.nfs_args.specs.declared.committed.Committed.{Committed}
 use Rattle.nfs_args.specs.declared.made.Made.{Made}
 use Rattle.nfs_args.specs.declared.renamed.Renamed.{Renamed}
 use Rattle.nfs_args.specs.declared.linked.Linked.{Linked}
-use Rattle.nfs_args.specs.declared.room.Space.{Space}
-use Rattle.nfs_args.specs.declared.room.Room.{Room}
+use Rattle.nfs_args.specs.declared.volume_space.Space.{Space}
+use Rattle.nfs_args.specs.declared.volume_space.VolumeSpace.{VolumeSpace}
 use Rattle.nfs_args.specs.declared.server_limits.Transfer.{Transfer}
 use Rattle.nfs_args.specs.declared.server_limits.ServerLimits.{ServerLimits}
 use Rattle.nfs_args.specs.declared.path_limits.PathLimits.{PathLimits}
@@ -33,15 +33,15 @@ empty_text value = []
 -- a status other than 0, and what is shown all the same
 pub record IsFailed {B : Type 0} (Shows : B → List ℕ → Type 0) (failed : Failed B) (text : List ℕ) : Type 0 where
   pub status : 0 < failed.status
-  pub spelled : (IsNumber w32 failed.status ⨾ Shows failed.shown) text
+  pub encoded : (IsNumber w32 failed.status ⨾ Shows failed.shown) text
 
 abbrev pub failed_text : {B : Type 0} → (B → List ℕ) → Failed B → List ℕ
 failed_text shown failed = to_be_bytes w32 failed.status ++ shown failed.shown
 
 -- the status 0 and what was asked for, or a failure
 abbrev pub IsResult : {A B : Type 0} → (A → List ℕ → Type 0) → (B → List ℕ → Type 0) → Result A (Failed B) → List ℕ → Type 0
-IsResult Spells Shows (Ok value) text = (IsNumber w32 0 ⨾ Spells value) text
-IsResult Spells Shows (Err failed) text = IsFailed Shows failed text
+IsResult Encodes Shows (Ok value) text = (IsNumber w32 0 ⨾ Encodes value) text
+IsResult Encodes Shows (Err failed) text = IsFailed Shows failed text
 
 abbrev pub result_text : {A B : Type 0} → (A → List ℕ) → (B → List ℕ) → Result A (Failed B) → List ℕ
 result_text answer shown (Ok value) = to_be_bytes w32 0 ++ answer value
@@ -140,14 +140,14 @@ made_text a = optional_text opaque_text a.file ++ post_op_attr_text a.attributes
 abbrev pub MadeFits : Made → Type 0
 MadeFits a = HandleFits a.file
 
--- what RENAME3res has behind its status
+-- what RENAME3res has after its status
 abbrev pub IsRenamed : Renamed → List ℕ → Type 0
 IsRenamed a = IsWcc a.from ⨾ IsWcc a.to
 
 abbrev pub renamed_text : Renamed → List ℕ
 renamed_text a = wcc_text a.from ++ wcc_text a.to
 
--- what LINK3res has behind its status
+-- what LINK3res has after its status
 abbrev pub IsLinked : Linked → List ℕ → Type 0
 IsLinked a = IsPostOpAttr a.attributes ⨾ IsWcc a.dir
 
@@ -161,10 +161,10 @@ IsSpace a = IsNumber w64 a.total ⨾ IsNumber w64 a.free ⨾ IsNumber w64 a.avai
 abbrev pub space_text : Space → List ℕ
 space_text a = to_be_bytes w64 a.total ++ to_be_bytes w64 a.free ++ to_be_bytes w64 a.available
 
-abbrev pub IsRoom : Room → List ℕ → Type 0
+abbrev pub IsRoom : VolumeSpace → List ℕ → Type 0
 IsRoom a = IsPostOpAttr a.attributes ⨾ IsSpace a.bytes ⨾ IsSpace a.files ⨾ IsNumber w32 a.invarsec
 
-abbrev pub room_text : Room → List ℕ
+abbrev pub room_text : VolumeSpace → List ℕ
 room_text a = post_op_attr_text a.attributes ++ (space_text a.bytes ++ space_text a.files ++ to_be_bytes w32 a.invarsec)
 
 -- FSINFO3resok
@@ -175,12 +175,12 @@ abbrev pub transfer_text : Transfer → List ℕ
 transfer_text a = to_be_bytes w32 a.max ++ to_be_bytes w32 a.preferred ++ to_be_bytes w32 a.multiple
 
 abbrev pub IsServerLimits : ServerLimits → List ℕ → Type 0
-IsServerLimits a = IsPostOpAttr a.attributes ⨾ IsTransfer a.read ⨾ IsTransfer a.write ⨾ IsNumber w32 a.read_dir
+IsServerLimits a = IsPostOpAttr a.attributes ⨾ IsTransfer a.read ⨾ IsTransfer a.write ⨾ IsNumber w32 a.readdir
     ⨾ IsNumber w64 a.max_file_size ⨾ IsMoment a.time_delta ⨾ IsNumber w32 a.properties
 
 abbrev pub server_limits_text : ServerLimits → List ℕ
 server_limits_text a = post_op_attr_text a.attributes
-    ++ (transfer_text a.read ++ transfer_text a.write ++ to_be_bytes w32 a.read_dir ++ to_be_bytes w64 a.max_file_size
+    ++ (transfer_text a.read ++ transfer_text a.write ++ to_be_bytes w32 a.readdir ++ to_be_bytes w64 a.max_file_size
     ++ moment_text a.time_delta ++ to_be_bytes w32 a.properties)
 
 -- PATHCONF3resok

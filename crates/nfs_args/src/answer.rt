@@ -3,23 +3,23 @@ ghost use Rattle.std.specs.Prelude.{◌≡◌, ◌≤◌, length};
 ghost use Rattle.nfs_xdr.specs.Written.{Appends};
 ghost use Rattle.nfs_args.specs.Answers.{IsAnswerOf, answered, nfs_text, NfsFits};
 
-use crate::attributes::{write_change_result, write_get_attr_result};
+use crate::attributes::{write_change_result, write_getattr_result};
 use crate::committed::{Committed, write_commit_result};
+use crate::dir_page::{DirPage, write_readdir_result, write_readdirplus_result};
 use crate::entry::Entry;
 use crate::entry_plus::EntryPlus;
 use crate::failed::Failed;
 use crate::found::{Found, write_lookup_result};
 use crate::items::Items;
-use crate::link_path::{LinkPath, write_read_link_result};
+use crate::link_path::{LinkPath, write_readlink_result};
 use crate::linked::{Linked, write_link_result};
 use crate::made::{Made, write_make_result};
-use crate::page::{Page, write_read_dir_plus_result, write_read_dir_result};
-use crate::path_limits::{PathLimits, write_path_conf_result};
+use crate::path_limits::{PathLimits, write_pathconf_result};
 use crate::read_data::{ReadData, write_read_result};
 use crate::renamed::{Renamed, write_rename_result};
 use crate::rights::{Rights, write_access_result};
-use crate::room::{Room, write_fs_stat_result};
-use crate::server_limits::{ServerLimits, write_fs_info_result};
+use crate::server_limits::{ServerLimits, write_fsinfo_result};
+use crate::volume_space::{VolumeSpace, write_fsstat_result};
 use crate::written::{Written, write_write_result};
 use nfs_attrs::fattr::Fattr;
 use nfs_attrs::wcc::Wcc;
@@ -30,15 +30,15 @@ use nfs_xdr::output::Output;
 #[derive(Drop)]
 pub enum NfsAnswer<'a> {
     /// The attributes of a file.
-    GetAttr(Result<Fattr, Failed<()>>),
+    Getattr(Result<Fattr, Failed<()>>),
     /// The file whose attributes were set.
-    SetAttr(Result<Wcc, Failed<Wcc>>),
+    Setattr(Result<Wcc, Failed<Wcc>>),
     /// The file that was found.
     Lookup(Result<Found<'a>, Failed<Option<Fattr>>>),
     /// The rights that a caller has.
     Access(Result<Rights, Failed<Option<Fattr>>>),
     /// The path that a symbolic link stands for.
-    ReadLink(Result<LinkPath<'a>, Failed<Option<Fattr>>>),
+    Readlink(Result<LinkPath<'a>, Failed<Option<Fattr>>>),
     /// The bytes that were read.
     Read(Result<ReadData<'a>, Failed<Option<Fattr>>>),
     /// The bytes that were written.
@@ -46,29 +46,29 @@ pub enum NfsAnswer<'a> {
     /// The regular file that was made.
     Create(Result<Made<'a>, Failed<Wcc>>),
     /// The directory that was made.
-    MakeDir(Result<Made<'a>, Failed<Wcc>>),
+    Mkdir(Result<Made<'a>, Failed<Wcc>>),
     /// The symbolic link that was made.
-    SymLink(Result<Made<'a>, Failed<Wcc>>),
+    Symlink(Result<Made<'a>, Failed<Wcc>>),
     /// The special file that was made.
-    MakeNode(Result<Made<'a>, Failed<Wcc>>),
+    Mknod(Result<Made<'a>, Failed<Wcc>>),
     /// The directory of the name that was taken away.
     Remove(Result<Wcc, Failed<Wcc>>),
     /// The directory of the name that was taken away.
-    RemoveDir(Result<Wcc, Failed<Wcc>>),
+    Rmdir(Result<Wcc, Failed<Wcc>>),
     /// Both directories of the name that was changed.
     Rename(Result<Renamed, Failed<Renamed>>),
-    /// The file that got a further name.
+    /// The file that got a hard link.
     Link(Result<Linked, Failed<Linked>>),
     /// Entries of a directory.
-    ReadDir(Result<Page<Items<'a, Entry<'a>>>, Failed<Option<Fattr>>>),
+    Readdir(Result<DirPage<Items<'a, Entry<'a>>>, Failed<Option<Fattr>>>),
     /// Entries of a directory with what their files are.
-    ReadDirPlus(Result<Page<Items<'a, EntryPlus<'a>>>, Failed<Option<Fattr>>>),
+    Readdirplus(Result<DirPage<Items<'a, EntryPlus<'a>>>, Failed<Option<Fattr>>>),
     /// How much room a volume has.
-    FsStat(Result<Room, Failed<Option<Fattr>>>),
+    Fsstat(Result<VolumeSpace, Failed<Option<Fattr>>>),
     /// What the server bears.
-    FsInfo(Result<ServerLimits, Failed<Option<Fattr>>>),
+    Fsinfo(Result<ServerLimits, Failed<Option<Fattr>>>),
     /// What names may be.
-    PathConf(Result<PathLimits, Failed<Option<Fattr>>>),
+    Pathconf(Result<PathLimits, Failed<Option<Fattr>>>),
     /// The bytes that were made safe.
     Commit(Result<Committed, Failed<Wcc>>),
 }
@@ -78,29 +78,29 @@ pub fn write_nfs(out: &mut Output, answer: &NfsAnswer<'_>)
     requires fits { NfsFits answer.now }
     requires room { length (nfs_text answer.now) ≤ out.old.room }
     ensures text { Appends (nfs_text answer.now) out.old out.new }
-    ensures spelled { IsAnswerOf (answered answer.now) answer.now (nfs_text answer.now) }
+    ensures encoded { IsAnswerOf (answered answer.now) answer.now (nfs_text answer.now) }
 {
     match answer {
-        NfsAnswer::GetAttr(answer) => write_get_attr_result(out, answer),
-        NfsAnswer::SetAttr(answer) => write_change_result(out, answer),
+        NfsAnswer::Getattr(answer) => write_getattr_result(out, answer),
+        NfsAnswer::Setattr(answer) => write_change_result(out, answer),
         NfsAnswer::Lookup(answer) => write_lookup_result(out, answer),
         NfsAnswer::Access(answer) => write_access_result(out, answer),
-        NfsAnswer::ReadLink(answer) => write_read_link_result(out, answer),
+        NfsAnswer::Readlink(answer) => write_readlink_result(out, answer),
         NfsAnswer::Read(answer) => write_read_result(out, answer),
         NfsAnswer::Write(answer) => write_write_result(out, answer),
         NfsAnswer::Create(answer) => write_make_result(out, answer),
-        NfsAnswer::MakeDir(answer) => write_make_result(out, answer),
-        NfsAnswer::SymLink(answer) => write_make_result(out, answer),
-        NfsAnswer::MakeNode(answer) => write_make_result(out, answer),
+        NfsAnswer::Mkdir(answer) => write_make_result(out, answer),
+        NfsAnswer::Symlink(answer) => write_make_result(out, answer),
+        NfsAnswer::Mknod(answer) => write_make_result(out, answer),
         NfsAnswer::Remove(answer) => write_change_result(out, answer),
-        NfsAnswer::RemoveDir(answer) => write_change_result(out, answer),
+        NfsAnswer::Rmdir(answer) => write_change_result(out, answer),
         NfsAnswer::Rename(answer) => write_rename_result(out, answer),
         NfsAnswer::Link(answer) => write_link_result(out, answer),
-        NfsAnswer::ReadDir(answer) => write_read_dir_result(out, answer),
-        NfsAnswer::ReadDirPlus(answer) => write_read_dir_plus_result(out, answer),
-        NfsAnswer::FsStat(answer) => write_fs_stat_result(out, answer),
-        NfsAnswer::FsInfo(answer) => write_fs_info_result(out, answer),
-        NfsAnswer::PathConf(answer) => write_path_conf_result(out, answer),
+        NfsAnswer::Readdir(answer) => write_readdir_result(out, answer),
+        NfsAnswer::Readdirplus(answer) => write_readdirplus_result(out, answer),
+        NfsAnswer::Fsstat(answer) => write_fsstat_result(out, answer),
+        NfsAnswer::Fsinfo(answer) => write_fsinfo_result(out, answer),
+        NfsAnswer::Pathconf(answer) => write_pathconf_result(out, answer),
         NfsAnswer::Commit(answer) => write_commit_result(out, answer),
     }
 }

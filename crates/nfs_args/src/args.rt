@@ -1,7 +1,7 @@
 //! The arguments of the procedures of NFS (RFC 1813, section 3.3).
 ghost use Rattle.std.specs.Prelude.{◌≡◌, ℕ, List, IfOk, OnOk, IsErr};
-ghost use Rattle.nfs_xdr.specs.Spelling.{Begins, BeginsNone};
-ghost use Rattle.nfs_args.specs.Spelling.{IsArgsOf};
+ghost use Rattle.nfs_xdr.specs.Encoding.{Begins, BeginsNone};
+ghost use Rattle.nfs_args.specs.Encoding.{IsArgsOf, procedure_of};
 ghost use Rattle.nfs_args.specs.Reading.{Answers, Fills, TakesInto, args_at};
 
 use crate::access::{Access, access_of};
@@ -9,14 +9,14 @@ use crate::byte_range::{ByteRange, byte_range_of};
 use crate::create::{Create, create_of};
 use crate::dir_op::{DirOp, dir_op_of};
 use crate::link::{Link, link_of};
-use crate::make_dir::{MakeDir, make_dir_of};
-use crate::make_node::{MakeNode, make_node_of};
+use crate::mkdir::{Mkdir, mkdir_of};
+use crate::mknod::{Mknod, mknod_of};
 use crate::opaque::{Opaque, handle_of};
 use crate::procedure::Procedure;
-use crate::read_dir::{ReadDir, ReadDirPlus, read_dir_of, read_dir_plus_of};
+use crate::readdir::{Readdir, Readdirplus, readdir_of, readdirplus_of};
 use crate::rename::{Rename, rename_of};
-use crate::set_attr::{SetAttr, set_attr_of};
-use crate::sym_link::{SymLink, sym_link_of};
+use crate::setattr::{Setattr, setattr_of};
+use crate::symlink::{Symlink, symlink_of};
 use crate::unreadable::Unreadable;
 use crate::write::{Write, write_of};
 use nfs_xdr::fault::XdrFault;
@@ -29,15 +29,15 @@ pub enum NfsArgs<'a> {
     /// Nothing.
     Null,
     /// The file whose attributes are asked for.
-    GetAttr(Opaque<'a>),
+    Getattr(Opaque<'a>),
     /// The attributes to be set.
-    SetAttr(SetAttr<'a>),
+    Setattr(Setattr<'a>),
     /// The name to be looked up.
     Lookup(DirOp<'a>),
     /// The rights to be tested.
     Access(Access<'a>),
     /// The symbolic link to be read.
-    ReadLink(Opaque<'a>),
+    Readlink(Opaque<'a>),
     /// The bytes to be read.
     Read(ByteRange<'a>),
     /// The bytes to be written.
@@ -45,29 +45,29 @@ pub enum NfsArgs<'a> {
     /// The regular file to be made.
     Create(Create<'a>),
     /// The directory to be made.
-    MakeDir(MakeDir<'a>),
+    Mkdir(Mkdir<'a>),
     /// The symbolic link to be made.
-    SymLink(SymLink<'a>),
+    Symlink(Symlink<'a>),
     /// The special file to be made.
-    MakeNode(MakeNode<'a>),
+    Mknod(Mknod<'a>),
     /// The name to be taken away.
     Remove(DirOp<'a>),
     /// The name of the directory to be taken away.
-    RemoveDir(DirOp<'a>),
+    Rmdir(DirOp<'a>),
     /// The name to be changed.
     Rename(Rename<'a>),
-    /// The further name.
+    /// The hard link.
     Link(Link<'a>),
     /// The entries to be read.
-    ReadDir(ReadDir<'a>),
+    Readdir(Readdir<'a>),
     /// The entries to be read with what their files are.
-    ReadDirPlus(ReadDirPlus<'a>),
+    Readdirplus(Readdirplus<'a>),
     /// A file of the volume whose room is asked for.
-    FsStat(Opaque<'a>),
+    Fsstat(Opaque<'a>),
     /// A file of the volume that is asked about.
-    FsInfo(Opaque<'a>),
+    Fsinfo(Opaque<'a>),
     /// The file whose names are asked about.
-    PathConf(Opaque<'a>),
+    Pathconf(Opaque<'a>),
     /// The bytes to be made safe.
     Commit(ByteRange<'a>),
 }
@@ -87,6 +87,37 @@ pub fn read_nfs(proc: Procedure, input: Input<'_>) -> Result<NfsArgs<'_>, Unread
 }
 
 impl<'a> NfsArgs<'a> {
+    /// The procedure whose arguments these are.
+    #[inline(always)]
+    pub fn procedure(&self) -> Procedure
+        ensures { result ≡ procedure_of self.now }
+    {
+        match self {
+            NfsArgs::Null => Procedure::Null,
+            NfsArgs::Getattr(_) => Procedure::Getattr,
+            NfsArgs::Setattr(_) => Procedure::Setattr,
+            NfsArgs::Lookup(_) => Procedure::Lookup,
+            NfsArgs::Access(_) => Procedure::Access,
+            NfsArgs::Readlink(_) => Procedure::Readlink,
+            NfsArgs::Read(_) => Procedure::Read,
+            NfsArgs::Write(_) => Procedure::Write,
+            NfsArgs::Create(_) => Procedure::Create,
+            NfsArgs::Mkdir(_) => Procedure::Mkdir,
+            NfsArgs::Symlink(_) => Procedure::Symlink,
+            NfsArgs::Mknod(_) => Procedure::Mknod,
+            NfsArgs::Remove(_) => Procedure::Remove,
+            NfsArgs::Rmdir(_) => Procedure::Rmdir,
+            NfsArgs::Rename(_) => Procedure::Rename,
+            NfsArgs::Link(_) => Procedure::Link,
+            NfsArgs::Readdir(_) => Procedure::Readdir,
+            NfsArgs::Readdirplus(_) => Procedure::Readdirplus,
+            NfsArgs::Fsstat(_) => Procedure::Fsstat,
+            NfsArgs::Fsinfo(_) => Procedure::Fsinfo,
+            NfsArgs::Pathconf(_) => Procedure::Pathconf,
+            NfsArgs::Commit(_) => Procedure::Commit,
+        }
+    }
+
     /// Reads the arguments of a procedure in the place of these, as `read_nfs` does. `Unreadable` where
     /// none stand there; then these stay as they were.
     pub fn read(&mut self, proc: Procedure, input: Input<'a>) -> Result<(), Unreadable>
@@ -108,26 +139,26 @@ impl<'a> NfsArgs<'a> {
     {
         match proc {
             Procedure::Null => *self = NfsArgs::Null,
-            Procedure::GetAttr => *self = NfsArgs::GetAttr(handle_of(input)?),
-            Procedure::SetAttr => *self = NfsArgs::SetAttr(set_attr_of(input)?),
+            Procedure::Getattr => *self = NfsArgs::Getattr(handle_of(input)?),
+            Procedure::Setattr => *self = NfsArgs::Setattr(setattr_of(input)?),
             Procedure::Lookup => *self = NfsArgs::Lookup(dir_op_of(input)?),
             Procedure::Access => *self = NfsArgs::Access(access_of(input)?),
-            Procedure::ReadLink => *self = NfsArgs::ReadLink(handle_of(input)?),
+            Procedure::Readlink => *self = NfsArgs::Readlink(handle_of(input)?),
             Procedure::Read => *self = NfsArgs::Read(byte_range_of(input)?),
             Procedure::Write => *self = NfsArgs::Write(write_of(input)?),
             Procedure::Create => *self = NfsArgs::Create(create_of(input)?),
-            Procedure::MakeDir => *self = NfsArgs::MakeDir(make_dir_of(input)?),
-            Procedure::SymLink => *self = NfsArgs::SymLink(sym_link_of(input)?),
-            Procedure::MakeNode => *self = NfsArgs::MakeNode(make_node_of(input)?),
+            Procedure::Mkdir => *self = NfsArgs::Mkdir(mkdir_of(input)?),
+            Procedure::Symlink => *self = NfsArgs::Symlink(symlink_of(input)?),
+            Procedure::Mknod => *self = NfsArgs::Mknod(mknod_of(input)?),
             Procedure::Remove => *self = NfsArgs::Remove(dir_op_of(input)?),
-            Procedure::RemoveDir => *self = NfsArgs::RemoveDir(dir_op_of(input)?),
+            Procedure::Rmdir => *self = NfsArgs::Rmdir(dir_op_of(input)?),
             Procedure::Rename => *self = NfsArgs::Rename(rename_of(input)?),
             Procedure::Link => *self = NfsArgs::Link(link_of(input)?),
-            Procedure::ReadDir => *self = NfsArgs::ReadDir(read_dir_of(input)?),
-            Procedure::ReadDirPlus => *self = NfsArgs::ReadDirPlus(read_dir_plus_of(input)?),
-            Procedure::FsStat => *self = NfsArgs::FsStat(handle_of(input)?),
-            Procedure::FsInfo => *self = NfsArgs::FsInfo(handle_of(input)?),
-            Procedure::PathConf => *self = NfsArgs::PathConf(handle_of(input)?),
+            Procedure::Readdir => *self = NfsArgs::Readdir(readdir_of(input)?),
+            Procedure::Readdirplus => *self = NfsArgs::Readdirplus(readdirplus_of(input)?),
+            Procedure::Fsstat => *self = NfsArgs::Fsstat(handle_of(input)?),
+            Procedure::Fsinfo => *self = NfsArgs::Fsinfo(handle_of(input)?),
+            Procedure::Pathconf => *self = NfsArgs::Pathconf(handle_of(input)?),
             Procedure::Commit => *self = NfsArgs::Commit(byte_range_of(input)?),
         }
         Ok(())

@@ -1,7 +1,7 @@
 //! Bytes that were made safe.
 ghost use Rattle.std.specs.Prelude.{◌≡◌, ◌≤◌, length};
 ghost use Rattle.nfs_xdr.specs.Written.{Appends};
-ghost use Rattle.nfs_attrs.specs.Spelling.{IsWcc, wcc_text};
+ghost use Rattle.nfs_attrs.specs.Encoding.{IsWcc, wcc_text};
 ghost use Rattle.nfs_args.specs.Results.{IsCommitted, committed_text, AlwaysFits, ResultFits, IsResult, result_text};
 
 use crate::failed::{Failed, write_failed_change};
@@ -21,7 +21,7 @@ pub struct Committed {
 pub fn write_committed(out: &mut Output, answer: &Committed)
     requires { length (committed_text answer.now) ≤ out.old.room }
     ensures text { Appends (committed_text answer.now) out.old out.new }
-    ensures spelled { IsCommitted answer.now (committed_text answer.now) }
+    ensures encoded { IsCommitted answer.now (committed_text answer.now) }
 {
     write_wcc(out, &answer.file);
     out.u64(answer.verifier);
@@ -32,7 +32,7 @@ pub(crate) fn write_commit_result(out: &mut Output, answer: &Result<Committed, F
     requires fits { ResultFits AlwaysFits answer.now }
     requires room { length (result_text committed_text wcc_text answer.now) ≤ out.old.room }
     ensures text { Appends (result_text committed_text wcc_text answer.now) out.old out.new }
-    ensures spelled { IsResult IsCommitted IsWcc answer.now (result_text committed_text wcc_text answer.now) }
+    ensures encoded { IsResult IsCommitted IsWcc answer.now (result_text committed_text wcc_text answer.now) }
 {
     match answer {
         Ok(value) => {

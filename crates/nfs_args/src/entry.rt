@@ -1,7 +1,7 @@
 //! Entries of a directory.
 ghost use Rattle.std.specs.Prelude.{◌≡◌, ◌≤◌, length};
 ghost use Rattle.nfs_xdr.specs.Written.{Appends};
-ghost use Rattle.nfs_args.specs.Chains.{Each, AreSpelled, chained_text, links_text};
+ghost use Rattle.nfs_args.specs.Chains.{Each, AreEncoded, chained_text, links_text};
 ghost use Rattle.nfs_args.specs.Pages.{IsEntry, entry_text, EntryFits};
 
 use crate::opaque::Opaque;
@@ -14,7 +14,7 @@ pub struct Entry<'a> {
     pub fileid: u64,
     /// Its name, of fewer than 2^32 bytes.
     pub name: Opaque<'a>,
-    /// What a client sends to go on behind this entry.
+    /// What a client sends to go on after this entry.
     pub cookie: u64,
 }
 
@@ -24,7 +24,7 @@ pub fn write_entry(out: &mut Output, entry: &Entry<'_>)
     requires fits { EntryFits entry.now }
     requires room { length (chained_text entry_text entry.now) ≤ out.old.room }
     ensures text { Appends (chained_text entry_text entry.now) out.old out.new }
-    ensures spelled { IsEntry entry.now (entry_text entry.now) }
+    ensures encoded { IsEntry entry.now (entry_text entry.now) }
 {
     out.u32(1);
     out.u64(entry.fileid);
@@ -37,7 +37,7 @@ pub(crate) fn write_entries(out: &mut Output, entries: &[Entry<'_>])
     requires fits { Each EntryFits entries.now }
     requires room { length (links_text entry_text entries.now) ≤ out.old.room }
     ensures text { Appends (links_text entry_text entries.now) out.old out.new }
-    ensures spelled { AreSpelled IsEntry entry_text entries.now }
+    ensures encoded { AreEncoded IsEntry entry_text entries.now }
 {
     for entry in entries {
         write_entry(out, entry);

@@ -1,11 +1,11 @@
 //! Entries of a directory with what their files are.
 ghost use Rattle.std.specs.Prelude.{◌≡◌, ◌≤◌, ◌++◌, length, option_copied};
-ghost use Rattle.nfs_xdr.specs.Spelling.{IsOptional, ◌⨾◌, opaque_text, optional_text};
+ghost use Rattle.nfs_xdr.specs.Encoding.{IsOptional, ◌⨾◌, opaque_text, optional_text};
 ghost use Rattle.nfs_xdr.specs.Written.{Appends};
-ghost use Rattle.nfs_attrs.specs.Spelling.{IsPostOpAttr, post_op_attr_text};
-ghost use Rattle.nfs_args.specs.Spelling.{IsHandle};
+ghost use Rattle.nfs_attrs.specs.Encoding.{IsPostOpAttr, post_op_attr_text};
+ghost use Rattle.nfs_args.specs.Encoding.{IsHandle};
 ghost use Rattle.nfs_args.specs.Results.{HandleFits};
-ghost use Rattle.nfs_args.specs.Chains.{Each, AreSpelled, chained_text, links_text};
+ghost use Rattle.nfs_args.specs.Chains.{Each, AreEncoded, chained_text, links_text};
 ghost use Rattle.nfs_args.specs.Pages.{IsEntryPlus, entry_plus_text, IsEntryFile, entry_file_text, EntryPlusFits};
 
 use crate::entry::{Entry, write_entry};
@@ -20,7 +20,7 @@ pub struct EntryPlus<'a> {
     pub fileid: u64,
     /// Its name, of fewer than 2^32 bytes.
     pub name: Opaque<'a>,
-    /// What a client sends to go on behind this entry.
+    /// What a client sends to go on after this entry.
     pub cookie: u64,
     /// The file's attributes.
     pub attributes: Option<Fattr>,
@@ -34,7 +34,7 @@ pub fn write_entry_plus(out: &mut Output, entry: &EntryPlus<'_>)
     requires fits { EntryPlusFits entry.now }
     requires room { length (chained_text entry_plus_text entry.now) ≤ out.old.room }
     ensures text { Appends (chained_text entry_plus_text entry.now) out.old out.new }
-    ensures spelled { IsEntryPlus entry.now (entry_plus_text entry.now) }
+    ensures encoded { IsEntryPlus entry.now (entry_plus_text entry.now) }
 {
     let head = Entry {
         fileid: entry.fileid,
@@ -45,14 +45,14 @@ pub fn write_entry_plus(out: &mut Output, entry: &EntryPlus<'_>)
     write_entry_file(out, entry.attributes.as_ref(), &entry.file);
 }
 
-/// Writes what an entry says of its file, of which the handle has at most 64 bytes. Behind what
+/// Writes what an entry says of its file, of which the handle has at most 64 bytes. After what
 /// `write_entry` writes, that is what `write_entry_plus` writes.
 #[inline(always)]
 pub fn write_entry_file(out: &mut Output, attributes: Option<&Fattr>, file: &Option<Opaque<'_>>)
     requires bound { HandleFits file.now }
     requires room { length (entry_file_text (option_copied attributes) file.now) ≤ out.old.room }
     ensures text { Appends (entry_file_text (option_copied attributes.entry) file.now) out.old out.new }
-    ensures spelled { IsEntryFile (option_copied attributes.entry) file.now (entry_file_text (option_copied attributes.entry) file.now) }
+    ensures encoded { IsEntryFile (option_copied attributes.entry) file.now (entry_file_text (option_copied attributes.entry) file.now) }
 {
     write_post_op_attr(out, attributes);
     write_post_op_handle(out, file);
@@ -63,7 +63,7 @@ pub(crate) fn write_entries_plus(out: &mut Output, entries: &[EntryPlus<'_>])
     requires fits { Each EntryPlusFits entries.now }
     requires room { length (links_text entry_plus_text entries.now) ≤ out.old.room }
     ensures text { Appends (links_text entry_plus_text entries.now) out.old out.new }
-    ensures spelled { AreSpelled IsEntryPlus entry_plus_text entries.now }
+    ensures encoded { AreEncoded IsEntryPlus entry_plus_text entries.now }
 {
     for entry in entries {
         write_entry_plus(out, entry);

@@ -1,7 +1,7 @@
 //! The arms of results whose status is not that of success.
 ghost use Rattle.std.specs.Prelude.{◌≡◌, ◌+◌, ◌<◌, ◌≤◌, length};
 ghost use Rattle.nfs_xdr.specs.Written.{Appends};
-ghost use Rattle.nfs_attrs.specs.Spelling.{IsPostOpAttr, IsWcc, post_op_attr_text, wcc_text};
+ghost use Rattle.nfs_attrs.specs.Encoding.{IsPostOpAttr, IsWcc, post_op_attr_text, wcc_text};
 ghost use Rattle.nfs_args.specs.Results.{IsEmpty, empty_text, IsRenamed, renamed_text, IsLinked, linked_text, IsFailed, failed_text};
 
 use crate::linked::{Linked, write_linked};
@@ -25,7 +25,7 @@ pub(crate) fn write_failed(out: &mut Output, failed: &Failed<()>)
     requires status { 0 < failed.now.status }
     requires room { length (failed_text empty_text failed.now) ≤ out.old.room }
     ensures text { Appends (failed_text empty_text failed.now) out.old out.new }
-    ensures spelled { IsFailed IsEmpty failed.now (failed_text empty_text failed.now) }
+    ensures encoded { IsFailed IsEmpty failed.now (failed_text empty_text failed.now) }
 {
     out.u32(failed.status);
 }
@@ -35,7 +35,7 @@ pub(crate) fn write_failed_attributes(out: &mut Output, failed: &Failed<Option<F
     requires status { 0 < failed.now.status }
     requires room { length (failed_text post_op_attr_text failed.now) ≤ out.old.room }
     ensures text { Appends (failed_text post_op_attr_text failed.now) out.old out.new }
-    ensures spelled { IsFailed IsPostOpAttr failed.now (failed_text post_op_attr_text failed.now) }
+    ensures encoded { IsFailed IsPostOpAttr failed.now (failed_text post_op_attr_text failed.now) }
 {
     out.u32(failed.status);
     write_post_op_attr(out, failed.shown.as_ref());
@@ -46,7 +46,7 @@ pub(crate) fn write_failed_change(out: &mut Output, failed: &Failed<Wcc>)
     requires status { 0 < failed.now.status }
     requires room { length (failed_text wcc_text failed.now) ≤ out.old.room }
     ensures text { Appends (failed_text wcc_text failed.now) out.old out.new }
-    ensures spelled { IsFailed IsWcc failed.now (failed_text wcc_text failed.now) }
+    ensures encoded { IsFailed IsWcc failed.now (failed_text wcc_text failed.now) }
 {
     out.u32(failed.status);
     write_wcc(out, &failed.shown);
@@ -57,7 +57,7 @@ pub(crate) fn write_failed_rename(out: &mut Output, failed: &Failed<Renamed>)
     requires status { 0 < failed.now.status }
     requires room { length (failed_text renamed_text failed.now) ≤ out.old.room }
     ensures text { Appends (failed_text renamed_text failed.now) out.old out.new }
-    ensures spelled { IsFailed IsRenamed failed.now (failed_text renamed_text failed.now) }
+    ensures encoded { IsFailed IsRenamed failed.now (failed_text renamed_text failed.now) }
 {
     out.u32(failed.status);
     write_renamed(out, &failed.shown);
@@ -68,7 +68,7 @@ pub(crate) fn write_failed_link(out: &mut Output, failed: &Failed<Linked>)
     requires status { 0 < failed.now.status }
     requires room { length (failed_text linked_text failed.now) ≤ out.old.room }
     ensures text { Appends (failed_text linked_text failed.now) out.old out.new }
-    ensures spelled { IsFailed IsLinked failed.now (failed_text linked_text failed.now) }
+    ensures encoded { IsFailed IsLinked failed.now (failed_text linked_text failed.now) }
 {
     out.u32(failed.status);
     write_linked(out, &failed.shown);

@@ -1,7 +1,7 @@
 //! A file that was found.
 ghost use Rattle.std.specs.Prelude.{◌≡◌, ◌≤◌, length};
 ghost use Rattle.nfs_xdr.specs.Written.{Appends};
-ghost use Rattle.nfs_attrs.specs.Spelling.{IsPostOpAttr, post_op_attr_text};
+ghost use Rattle.nfs_attrs.specs.Encoding.{IsPostOpAttr, post_op_attr_text};
 ghost use Rattle.nfs_args.specs.Results.{IsFound, found_text, FoundFits, ResultFits, IsResult, result_text};
 
 use crate::failed::{Failed, write_failed_attributes};
@@ -26,7 +26,7 @@ pub fn write_found(out: &mut Output, answer: &Found<'_>)
     requires fits { FoundFits answer.now }
     requires room { length (found_text answer.now) ≤ out.old.room }
     ensures text { Appends (found_text answer.now) out.old out.new }
-    ensures spelled { IsFound answer.now (found_text answer.now) }
+    ensures encoded { IsFound answer.now (found_text answer.now) }
 {
     write_handle(out, &answer.file);
     write_post_op_attr(out, answer.attributes.as_ref());
@@ -41,7 +41,7 @@ pub(crate) fn write_lookup_result(
     requires fits { ResultFits FoundFits answer.now }
     requires room { length (result_text found_text post_op_attr_text answer.now) ≤ out.old.room }
     ensures text { Appends (result_text found_text post_op_attr_text answer.now) out.old out.new }
-    ensures spelled { IsResult IsFound IsPostOpAttr answer.now (result_text found_text post_op_attr_text answer.now) }
+    ensures encoded { IsResult IsFound IsPostOpAttr answer.now (result_text found_text post_op_attr_text answer.now) }
 {
     match answer {
         Ok(value) => {

@@ -1,5 +1,5 @@
 //! The arguments of the procedures of NFS version 3 and of MOUNT version 3 (RFC 1813), read from
-//! records, and their results, written as it spells them.
+//! records, and their results, written as it encodes them.
 #![tactic(auto)]
 
 pub mod access;
@@ -11,6 +11,7 @@ pub mod chain;
 pub mod committed;
 pub mod create;
 pub mod dir_op;
+pub mod dir_page;
 pub mod entry;
 pub mod entry_plus;
 pub mod exported;
@@ -24,24 +25,24 @@ pub mod link;
 pub mod link_path;
 pub mod linked;
 pub mod made;
-pub mod make_dir;
-pub mod make_node;
+pub mod mkdir;
+pub mod mknod;
 pub mod mount_answer;
 pub mod mount_args;
 pub mod mounted;
 pub mod opaque;
-pub mod page;
 pub mod path_limits;
 pub mod procedure;
+pub mod program;
 pub mod read_data;
-pub mod read_dir;
+pub mod readdir;
 pub mod rename;
 pub mod renamed;
 pub mod rights;
-pub mod room;
 pub mod server_limits;
-pub mod set_attr;
-pub mod sym_link;
+pub mod setattr;
+pub mod symlink;
 pub mod unreadable;
+pub mod volume_space;
 pub mod write;
 pub mod written;

@@ -10,6 +10,6 @@ pub const MAX_DATA_BYTES: usize = 131_072;
 /// The most bytes of the path of a symbolic link.
 pub const MAX_PATH_BYTES: usize = 1_024;
 
-/// The most bytes of what READDIR and READDIRPLUS answer behind their status: attributes, verifier,
+/// The most bytes of what READDIR and READDIRPLUS answer after their status: attributes, verifier,
 /// entries and what follows them (RFC 1813, section 3.3.16, `count`).
 pub const MAX_PAGE_BYTES: usize = 65_536;

@@ -1,4 +1,4 @@
-//! A further name of a file.
+//! A hard link of a file.
 ghost use Rattle.nfs_args.specs.Reading.{Takes, link_at};
 
 use crate::dir_op::{DirOp, dir_op_of};
@@ -6,7 +6,7 @@ use crate::opaque::{Opaque, handle_of};
 use nfs_xdr::fault::XdrFault;
 use nfs_xdr::input::Input;
 
-/// A further name of a file (RFC 1813, section 3.3.15, LINK3args).
+/// A hard link of a file (RFC 1813, section 3.3.15, LINK3args).
 #[derive(Drop)]
 pub struct Link<'a> {
     /// The file's handle.

@@ -1,7 +1,7 @@
 //! A file that was made.
 ghost use Rattle.std.specs.Prelude.{◌≡◌, ◌≤◌, length};
 ghost use Rattle.nfs_xdr.specs.Written.{Appends};
-ghost use Rattle.nfs_attrs.specs.Spelling.{IsWcc, wcc_text};
+ghost use Rattle.nfs_attrs.specs.Encoding.{IsWcc, wcc_text};
 ghost use Rattle.nfs_args.specs.Results.{IsMade, made_text, MadeFits, ResultFits, IsResult, result_text};
 
 use crate::failed::{Failed, write_failed_change};
@@ -28,7 +28,7 @@ pub fn write_made(out: &mut Output, answer: &Made<'_>)
     requires fits { MadeFits answer.now }
     requires room { length (made_text answer.now) ≤ out.old.room }
     ensures text { Appends (made_text answer.now) out.old out.new }
-    ensures spelled { IsMade answer.now (made_text answer.now) }
+    ensures encoded { IsMade answer.now (made_text answer.now) }
 {
     write_post_op_handle(out, &answer.file);
     write_post_op_attr(out, answer.attributes.as_ref());
@@ -40,7 +40,7 @@ pub(crate) fn write_make_result(out: &mut Output, answer: &Result<Made<'_>, Fail
     requires fits { ResultFits MadeFits answer.now }
     requires room { length (result_text made_text wcc_text answer.now) ≤ out.old.room }
     ensures text { Appends (result_text made_text wcc_text answer.now) out.old out.new }
-    ensures spelled { IsResult IsMade IsWcc answer.now (result_text made_text wcc_text answer.now) }
+    ensures encoded { IsResult IsMade IsWcc answer.now (result_text made_text wcc_text answer.now) }
 {
     match answer {
         Ok(value) => {

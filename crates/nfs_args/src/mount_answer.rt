@@ -16,7 +16,7 @@ const AUTH_SYS: u32 = 1;
 
 /// What a procedure of MOUNT answers, in the order of their numbers. Handles, names and paths are
 /// lent; where clients or volumes are made one by one, a caller writes each by `write_mounted` or
-/// `write_exported`, and `write_chain_end` behind them.
+/// `write_exported`, and `write_chain_end` after them.
 #[derive(Drop)]
 pub enum MountAnswer<'a> {
     /// Nothing, for NULL.
@@ -38,7 +38,7 @@ pub fn write_mount(out: &mut Output, answer: &MountAnswer<'_>)
     requires fits { MountFits answer.now }
     requires room { length (mount_text answer.now) ≤ out.old.room }
     ensures text { Appends (mount_text answer.now) out.old out.new }
-    ensures spelled { IsMountAnswerOf (mount_answered answer.now) answer.now (mount_text answer.now) }
+    ensures encoded { IsMountAnswerOf (mount_answered answer.now) answer.now (mount_text answer.now) }
 {
     match answer {
         MountAnswer::Null => {}
@@ -54,7 +54,7 @@ fn write_mount_result(out: &mut Output, answer: &Result<Opaque<'_>, Failed<()>>)
     requires fits { ResultFits VolumeFits answer.now }
     requires room { length (result_text volume_text empty_text answer.now) ≤ out.old.room }
     ensures text { Appends (result_text volume_text empty_text answer.now) out.old out.new }
-    ensures spelled { IsResult IsVolume IsEmpty answer.now (result_text volume_text empty_text answer.now) }
+    ensures encoded { IsResult IsVolume IsEmpty answer.now (result_text volume_text empty_text answer.now) }
 {
     match answer {
         Ok(handle) => {
@@ -71,7 +71,7 @@ fn write_volume(out: &mut Output, handle: &Opaque<'_>)
     requires fits { VolumeFits handle.now }
     requires room { length (volume_text handle.now) ≤ out.old.room }
     ensures text { Appends (volume_text handle.now) out.old out.new }
-    ensures spelled { IsVolume handle.now (volume_text handle.now) }
+    ensures encoded { IsVolume handle.now (volume_text handle.now) }
 {
     write_handle(out, handle);
     out.numbers([1, AUTH_SYS]);

@@ -1,7 +1,7 @@
 //! The arguments of the procedures of MOUNT (RFC 1813, appendix I, section 5.2).
 ghost use Rattle.std.specs.Prelude.{◌≡◌, ℕ, List, IfOk, IsErr};
-ghost use Rattle.nfs_xdr.specs.Spelling.{Begins, BeginsNone};
-ghost use Rattle.nfs_args.specs.Spelling.{IsMountArgsOf};
+ghost use Rattle.nfs_xdr.specs.Encoding.{Begins, BeginsNone};
+ghost use Rattle.nfs_args.specs.Encoding.{IsMountArgsOf};
 ghost use Rattle.nfs_args.specs.Reading.{Takes, mount_args_at, Answers};
 
 use crate::opaque::{Opaque, string_of};

@@ -1,7 +1,7 @@
 //! Clients that asked for a volume.
 ghost use Rattle.std.specs.Prelude.{◌≡◌, ◌≤◌, length};
 ghost use Rattle.nfs_xdr.specs.Written.{Appends};
-ghost use Rattle.nfs_args.specs.Chains.{Each, AreSpelled, IsChain, chained_text, links_text, chain_text};
+ghost use Rattle.nfs_args.specs.Chains.{Each, AreEncoded, IsChain, chained_text, links_text, chain_text};
 ghost use Rattle.nfs_args.specs.MountAnswers.{IsMounted, mounted_text, MountedFits};
 
 use crate::chain::write_chain_end;
@@ -22,7 +22,7 @@ pub fn write_mounted(out: &mut Output, mounted: &Mounted<'_>)
     requires fits { MountedFits mounted.now }
     requires room { length (chained_text mounted_text mounted.now) ≤ out.old.room }
     ensures text { Appends (chained_text mounted_text mounted.now) out.old out.new }
-    ensures spelled { IsMounted mounted.now (mounted_text mounted.now) }
+    ensures encoded { IsMounted mounted.now (mounted_text mounted.now) }
 {
     out.boolean(true);
     write_string(out, &mounted.host);
@@ -33,7 +33,7 @@ fn write_all_mounted(out: &mut Output, clients: &[Mounted<'_>])
     requires fits { Each MountedFits clients.now }
     requires room { length (links_text mounted_text clients.now) ≤ out.old.room }
     ensures text { Appends (links_text mounted_text clients.now) out.old out.new }
-    ensures spelled { AreSpelled IsMounted mounted_text clients.now }
+    ensures encoded { AreEncoded IsMounted mounted_text clients.now }
 {
     for mounted in clients {
         write_mounted(out, mounted);
@@ -45,7 +45,7 @@ pub(crate) fn write_dump(out: &mut Output, clients: &[Mounted<'_>])
     requires fits { Each MountedFits clients.now }
     requires room { length (chain_text mounted_text clients.now) ≤ out.old.room }
     ensures text { Appends (chain_text mounted_text clients.now) out.old out.new }
-    ensures spelled { IsChain IsMounted clients.now (chain_text mounted_text clients.now) }
+    ensures encoded { IsChain IsMounted clients.now (chain_text mounted_text clients.now) }
 {
     write_all_mounted(out, clients);
     write_chain_end(out);

@@ -1,8 +1,8 @@
 //! Bytes that are lent from a record: handles, names, paths and data.
 ghost use Rattle.std.specs.Prelude.{◌≡◌, ◌≤◌, length};
-ghost use Rattle.nfs_xdr.specs.Spelling.{IsOptional, opaque_text, optional_text};
+ghost use Rattle.nfs_xdr.specs.Encoding.{IsOptional, opaque_text, optional_text};
 ghost use Rattle.nfs_xdr.specs.Written.{Appends};
-ghost use Rattle.nfs_args.specs.Spelling.{IsHandle, IsString};
+ghost use Rattle.nfs_args.specs.Encoding.{IsHandle, IsString};
 ghost use Rattle.nfs_args.specs.Results.{StringFits, HandleFits};
 ghost use Rattle.nfs_args.specs.Reading.{Takes, handle_at, string_at, verifier_at};
 
@@ -77,7 +77,7 @@ pub(crate) fn write_handle(out: &mut Output, handle: &Opaque<'_>)
     requires bound { length handle.now ≤ 64 }
     requires room { length (opaque_text handle.now) ≤ out.old.room }
     ensures text { Appends (opaque_text handle.now) out.old out.new }
-    ensures spelled { IsHandle handle.now (opaque_text handle.now) }
+    ensures encoded { IsHandle handle.now (opaque_text handle.now) }
 {
     out.opaque(handle.bytes());
 }
@@ -88,7 +88,7 @@ pub(crate) fn write_post_op_handle(out: &mut Output, handle: &Option<Opaque<'_>>
     requires bound { HandleFits handle.now }
     requires room { length (optional_text opaque_text handle.now) ≤ out.old.room }
     ensures text { Appends (optional_text opaque_text handle.now) out.old out.new }
-    ensures spelled { IsOptional IsHandle handle.now (optional_text opaque_text handle.now) }
+    ensures encoded { IsOptional IsHandle handle.now (optional_text opaque_text handle.now) }
 {
     match handle {
         None => out.u32(0),
@@ -105,7 +105,7 @@ pub(crate) fn write_string(out: &mut Output, string: &Opaque<'_>)
     requires fits { StringFits string.now }
     requires room { length (opaque_text string.now) ≤ out.old.room }
     ensures text { Appends (opaque_text string.now) out.old out.new }
-    ensures spelled { IsString string.now (opaque_text string.now) }
+    ensures encoded { IsString string.now (opaque_text string.now) }
 {
     out.opaque(string.bytes());
 }

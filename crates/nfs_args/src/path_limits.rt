@@ -1,7 +1,7 @@
 //! What names may be.
 ghost use Rattle.std.specs.Prelude.{◌≡◌, ◌≤◌, length};
 ghost use Rattle.nfs_xdr.specs.Written.{Appends};
-ghost use Rattle.nfs_attrs.specs.Spelling.{IsPostOpAttr, post_op_attr_text};
+ghost use Rattle.nfs_attrs.specs.Encoding.{IsPostOpAttr, post_op_attr_text};
 ghost use Rattle.nfs_args.specs.Results.{IsPathLimits, path_limits_text, AlwaysFits, ResultFits, IsResult, result_text};
 
 use crate::failed::{Failed, write_failed_attributes};
@@ -31,7 +31,7 @@ pub struct PathLimits {
 pub fn write_path_limits(out: &mut Output, answer: &PathLimits)
     requires { length (path_limits_text answer.now) ≤ out.old.room }
     ensures text { Appends (path_limits_text answer.now) out.old out.new }
-    ensures spelled { IsPathLimits answer.now (path_limits_text answer.now) }
+    ensures encoded { IsPathLimits answer.now (path_limits_text answer.now) }
 {
     write_post_op_attr(out, answer.attributes.as_ref());
     out.u32(answer.linkmax);
@@ -43,14 +43,14 @@ pub fn write_path_limits(out: &mut Output, answer: &PathLimits)
 }
 
 // The result of PATHCONF.
-pub(crate) fn write_path_conf_result(
+pub(crate) fn write_pathconf_result(
     out: &mut Output,
     answer: &Result<PathLimits, Failed<Option<Fattr>>>,
 )
     requires fits { ResultFits AlwaysFits answer.now }
     requires room { length (result_text path_limits_text post_op_attr_text answer.now) ≤ out.old.room }
     ensures text { Appends (result_text path_limits_text post_op_attr_text answer.now) out.old out.new }
-    ensures spelled { IsResult IsPathLimits IsPostOpAttr answer.now (result_text path_limits_text post_op_attr_text answer.now) }
+    ensures encoded { IsResult IsPathLimits IsPostOpAttr answer.now (result_text path_limits_text post_op_attr_text answer.now) }
 {
     match answer {
         Ok(value) => {

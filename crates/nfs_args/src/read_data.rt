@@ -1,7 +1,7 @@
 //! Bytes that were read.
 ghost use Rattle.std.specs.Prelude.{◌≡◌, ◌≤◌, length, option_copied};
 ghost use Rattle.nfs_xdr.specs.Written.{Appends};
-ghost use Rattle.nfs_attrs.specs.Spelling.{IsPostOpAttr, post_op_attr_text};
+ghost use Rattle.nfs_attrs.specs.Encoding.{IsPostOpAttr, post_op_attr_text};
 ghost use Rattle.nfs_args.specs.Results.{IsReadData, BeginsReadData, read_head_text, read_data_text, ReadDataFits, ResultFits, IsResult, result_text};
 
 use crate::failed::{Failed, write_failed_attributes};
@@ -10,13 +10,13 @@ use nfs_attrs::fattr::{Fattr, write_post_op_attr};
 use nfs_xdr::output::Output;
 
 /// Bytes that were read (RFC 1813, section 3.3.6, READ3resok). They are lent; where they lie in
-/// pieces, or are long, a caller writes the status 0, `write_read_head`, the bytes by
+/// chunks, or are long, a caller writes the status 0, `write_read_head`, the bytes by
 /// `Output::part` and their padding by `Output::pad`, and makes no copy of them.
 #[derive(Drop)]
 pub struct ReadData<'a> {
     /// The file's attributes.
     pub attributes: Option<Fattr>,
-    /// Whether the file ends behind these bytes.
+    /// Whether the file ends after these bytes.
     pub eof: bool,
     /// The bytes, fewer than 2^32.
     pub content: Opaque<'a>,
@@ -27,7 +27,7 @@ pub(crate) fn write_read_data(out: &mut Output, answer: &ReadData<'_>)
     requires fits { ReadDataFits answer.now }
     requires room { length (read_data_text answer.now) ≤ out.old.room }
     ensures text { Appends (read_data_text answer.now) out.old out.new }
-    ensures spelled { IsReadData answer.now (read_data_text answer.now) }
+    ensures encoded { IsReadData answer.now (read_data_text answer.now) }
 {
     let content = answer.content.bytes();
     write_read_head(
@@ -39,12 +39,12 @@ pub(crate) fn write_read_data(out: &mut Output, answer: &ReadData<'_>)
     out.fixed(content);
 }
 
-/// Writes what stands in front of so many bytes that were read: with them and their padding behind
+/// Writes what stands in front of so many bytes that were read: with them and their padding after
 /// it, that is the answer.
 pub fn write_read_head(out: &mut Output, attributes: Option<&Fattr>, count: u32, eof: bool)
     requires { length (read_head_text (option_copied attributes) count eof) ≤ out.old.room }
     ensures text { Appends (read_head_text (option_copied attributes.entry) count eof) out.old out.new }
-    ensures spelled { BeginsReadData (option_copied attributes.entry) count eof }
+    ensures encoded { BeginsReadData (option_copied attributes.entry) count eof }
 {
     write_post_op_attr(out, attributes);
     out.u32(count);
@@ -60,7 +60,7 @@ pub(crate) fn write_read_result(
     requires fits { ResultFits ReadDataFits answer.now }
     requires room { length (result_text read_data_text post_op_attr_text answer.now) ≤ out.old.room }
     ensures text { Appends (result_text read_data_text post_op_attr_text answer.now) out.old out.new }
-    ensures spelled { IsResult IsReadData IsPostOpAttr answer.now (result_text read_data_text post_op_attr_text answer.now) }
+    ensures encoded { IsResult IsReadData IsPostOpAttr answer.now (result_text read_data_text post_op_attr_text answer.now) }
 {
     match answer {
         Ok(value) => {

@@ -20,7 +20,7 @@ pub struct Renamed {
 pub fn write_renamed(out: &mut Output, answer: &Renamed)
     requires { length (renamed_text answer.now) ≤ out.old.room }
     ensures text { Appends (renamed_text answer.now) out.old out.new }
-    ensures spelled { IsRenamed answer.now (renamed_text answer.now) }
+    ensures encoded { IsRenamed answer.now (renamed_text answer.now) }
 {
     write_wcc(out, &answer.from);
     write_wcc(out, &answer.to);
@@ -31,7 +31,7 @@ pub(crate) fn write_rename_result(out: &mut Output, answer: &Result<Renamed, Fai
     requires fits { ResultFits AlwaysFits answer.now }
     requires room { length (result_text renamed_text renamed_text answer.now) ≤ out.old.room }
     ensures text { Appends (result_text renamed_text renamed_text answer.now) out.old out.new }
-    ensures spelled { IsResult IsRenamed IsRenamed answer.now (result_text renamed_text renamed_text answer.now) }
+    ensures encoded { IsResult IsRenamed IsRenamed answer.now (result_text renamed_text renamed_text answer.now) }
 {
     match answer {
         Ok(value) => {

@@ -1,7 +1,7 @@
 //! The rights that a caller has.
 ghost use Rattle.std.specs.Prelude.{◌≡◌, ◌≤◌, length};
 ghost use Rattle.nfs_xdr.specs.Written.{Appends};
-ghost use Rattle.nfs_attrs.specs.Spelling.{IsPostOpAttr, post_op_attr_text};
+ghost use Rattle.nfs_attrs.specs.Encoding.{IsPostOpAttr, post_op_attr_text};
 ghost use Rattle.nfs_args.specs.Results.{IsRights, rights_text, AlwaysFits, ResultFits, IsResult, result_text};
 
 use crate::failed::{Failed, write_failed_attributes};
@@ -21,7 +21,7 @@ pub struct Rights {
 pub fn write_rights(out: &mut Output, answer: &Rights)
     requires { length (rights_text answer.now) ≤ out.old.room }
     ensures text { Appends (rights_text answer.now) out.old out.new }
-    ensures spelled { IsRights answer.now (rights_text answer.now) }
+    ensures encoded { IsRights answer.now (rights_text answer.now) }
 {
     write_post_op_attr(out, answer.attributes.as_ref());
     out.u32(answer.rights);
@@ -32,7 +32,7 @@ pub(crate) fn write_access_result(out: &mut Output, answer: &Result<Rights, Fail
     requires fits { ResultFits AlwaysFits answer.now }
     requires room { length (result_text rights_text post_op_attr_text answer.now) ≤ out.old.room }
     ensures text { Appends (result_text rights_text post_op_attr_text answer.now) out.old out.new }
-    ensures spelled { IsResult IsRights IsPostOpAttr answer.now (result_text rights_text post_op_attr_text answer.now) }
+    ensures encoded { IsResult IsRights IsPostOpAttr answer.now (result_text rights_text post_op_attr_text answer.now) }
 {
     match answer {
         Ok(value) => {

@@ -1,7 +1,7 @@
 //! What the server bears.
 ghost use Rattle.std.specs.Prelude.{◌≡◌, ◌≤◌, length};
 ghost use Rattle.nfs_xdr.specs.Written.{Appends};
-ghost use Rattle.nfs_attrs.specs.Spelling.{IsPostOpAttr, post_op_attr_text};
+ghost use Rattle.nfs_attrs.specs.Encoding.{IsPostOpAttr, post_op_attr_text};
 ghost use Rattle.nfs_args.specs.Results.{IsTransfer, transfer_text, IsServerLimits, server_limits_text, AlwaysFits, ResultFits, IsResult, result_text};
 
 use crate::failed::{Failed, write_failed_attributes};
@@ -30,7 +30,7 @@ pub struct ServerLimits {
     /// The bytes of a WRITE.
     pub write: Transfer,
     /// The best number of bytes of a READDIR.
-    pub read_dir: u32,
+    pub readdir: u32,
     /// The most bytes of a file.
     pub max_file_size: u64,
     /// How exact the server's times are.
@@ -43,12 +43,12 @@ pub struct ServerLimits {
 pub fn write_server_limits(out: &mut Output, answer: &ServerLimits)
     requires { length (server_limits_text answer.now) ≤ out.old.room }
     ensures text { Appends (server_limits_text answer.now) out.old out.new }
-    ensures spelled { IsServerLimits answer.now (server_limits_text answer.now) }
+    ensures encoded { IsServerLimits answer.now (server_limits_text answer.now) }
 {
     write_post_op_attr(out, answer.attributes.as_ref());
     write_transfer(out, &answer.read);
     write_transfer(out, &answer.write);
-    out.u32(answer.read_dir);
+    out.u32(answer.readdir);
     out.u64(answer.max_file_size);
     write_moment(out, answer.time_delta);
     out.u32(answer.properties);
@@ -57,7 +57,7 @@ pub fn write_server_limits(out: &mut Output, answer: &ServerLimits)
 fn write_transfer(out: &mut Output, transfer: &Transfer)
     requires { 12 ≤ out.old.room }
     ensures text { Appends (transfer_text transfer.now) out.old out.new }
-    ensures spelled { IsTransfer transfer.now (transfer_text transfer.now) }
+    ensures encoded { IsTransfer transfer.now (transfer_text transfer.now) }
 {
     out.u32(transfer.max);
     out.u32(transfer.preferred);
@@ -65,14 +65,14 @@ fn write_transfer(out: &mut Output, transfer: &Transfer)
 }
 
 // The result of FSINFO.
-pub(crate) fn write_fs_info_result(
+pub(crate) fn write_fsinfo_result(
     out: &mut Output,
     answer: &Result<ServerLimits, Failed<Option<Fattr>>>,
 )
     requires fits { ResultFits AlwaysFits answer.now }
     requires room { length (result_text server_limits_text post_op_attr_text answer.now) ≤ out.old.room }
     ensures text { Appends (result_text server_limits_text post_op_attr_text answer.now) out.old out.new }
-    ensures spelled { IsResult IsServerLimits IsPostOpAttr answer.now (result_text server_limits_text post_op_attr_text answer.now) }
+    ensures encoded { IsResult IsServerLimits IsPostOpAttr answer.now (result_text server_limits_text post_op_attr_text answer.now) }
 {
     match answer {
         Ok(value) => {

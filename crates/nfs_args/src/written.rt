@@ -1,8 +1,8 @@
 //! Bytes that were written.
 ghost use Rattle.std.specs.Prelude.{◌≡◌, ◌≤◌, length};
 ghost use Rattle.nfs_xdr.specs.Written.{Appends};
-ghost use Rattle.nfs_attrs.specs.Spelling.{IsWcc, wcc_text};
-ghost use Rattle.nfs_args.specs.Spelling.{stability_number};
+ghost use Rattle.nfs_attrs.specs.Encoding.{IsWcc, wcc_text};
+ghost use Rattle.nfs_args.specs.Encoding.{stability_number};
 ghost use Rattle.nfs_args.specs.Results.{IsWritten, written_text, AlwaysFits, ResultFits, IsResult, result_text};
 
 use crate::failed::{Failed, write_failed_change};
@@ -28,7 +28,7 @@ pub struct Written {
 pub fn write_written(out: &mut Output, answer: &Written)
     requires { length (written_text answer.now) ≤ out.old.room }
     ensures text { Appends (written_text answer.now) out.old out.new }
-    ensures spelled { IsWritten answer.now (written_text answer.now) }
+    ensures encoded { IsWritten answer.now (written_text answer.now) }
 {
     write_wcc(out, &answer.file);
     out.u32(answer.count);
@@ -51,7 +51,7 @@ pub(crate) fn write_write_result(out: &mut Output, answer: &Result<Written, Fail
     requires fits { ResultFits AlwaysFits answer.now }
     requires room { length (result_text written_text wcc_text answer.now) ≤ out.old.room }
     ensures text { Appends (result_text written_text wcc_text answer.now) out.old out.new }
-    ensures spelled { IsResult IsWritten IsWcc answer.now (result_text written_text wcc_text answer.now) }
+    ensures encoded { IsResult IsWritten IsWcc answer.now (result_text written_text wcc_text answer.now) }
 {
     match answer {
         Ok(value) => {

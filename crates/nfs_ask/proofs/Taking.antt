@@ -35,10 +35,10 @@ end_taken : (ws left : List (List ℕ)) → end_at ws ≡ Ok (tt, left) → ws �
 end_taken [] left e = refl
 end_taken (w ∷ ws) left e = absurd cc
 
-pub asks_by : (ws begun behind_user behind_word behind_path left end : List (List ℕ)) (ask : Ask) (word : List ℕ) (operation : Operation)
-    → begun ≡ ws → value_at wanted.User user_of begun ≡ Ok (credential_of ask.cred, behind_user) → word_at wanted.Operation behind_user ≡ Ok (word, behind_word)
-    → operation_of word ≡ Some operation → word_at wanted.Path behind_word ≡ Ok (ask.path.now, behind_path)
-    → Asks operation behind_path ask.request left → end_at left ≡ Ok (tt, end) → AsksBy ws ask
+pub asks_by : (ws begun after_user after_word after_path left end : List (List ℕ)) (ask : Ask) (word : List ℕ) (operation : Operation)
+    → begun ≡ ws → value_at wanted.User user_of begun ≡ Ok (credential_of ask.cred, after_user) → word_at wanted.Operation after_user ≡ Ok (word, after_word)
+    → operation_of word ≡ Some operation → word_at wanted.Path after_word ≡ Ok (ask.path.now, after_path)
+    → Asks operation after_path ask.request left → end_at left ≡ Ok (tt, end) → AsksBy ws ask
 asks_by ws begun a b d left end ask word operation same user first known path asks ends =
     let u = user_taken ws a (credential_of ask.cred) (subst (λ t. value_at wanted.User user_of t ≡ Ok (credential_of ask.cred, a)) same user) in
     let whole : u.user ∷ word ∷ ask.path.now ∷ d ≡ ws =

@@ -24,15 +24,15 @@ use Rattle.nfs_ask.specs.declared.operation.Operation.TheVariants as op
 use Rattle.nfs_ask.specs.Operations.{operation_of}
 use Rattle.nfs_ask.specs.Words.{Taken, word_at, number_at, long_number_at, mode_at, or_else, user_of, value_at, end_at}
 
--- ---- what stands behind a path
+-- ---- what stands after a path
 
--- whole seconds, 0 where none are told
+-- whole seconds, 0 where none are given
 abbrev pub moment_at : List (List ℕ) → Taken Moment
 moment_at words = do
   seconds ← or_else 0 number_at words
   Ok (record { seconds = seconds.0; nanos = 0 }, seconds.1)
 
--- what a new file is given: a mode, where one is told
+-- what a new file is given: a mode, where one is given
 abbrev pub mode_given_at : List (List ℕ) → Taken Sattr
 mode_given_at words = do
   mode ← mode_at words
@@ -62,7 +62,7 @@ setting_at op.SetTimes words = do
   Ok (with_times (ClientTime moment.0), moment.1)
 setting_at other words = Err wanted.Nothing
 
--- from which byte on, 0 where it isn't told, and how many, the most of a READ where that isn't
+-- from which byte on, 0 where it isn't given, and how many, the most of a READ where that isn't
 abbrev pub range_at : List (List ℕ) → Taken (ℕ × ℕ)
 range_at words = do
   offset ← or_else 0 long_number_at words
@@ -79,13 +79,13 @@ write_at words = do
 abbrev pub cookie_at : List (List ℕ) → Taken ℕ
 cookie_at words = or_else 0 long_number_at words
 
--- ---- by the operation: with these words behind its path it asks for this, and these are left
+-- ---- by the operation: with these words after its path it asks for this, and these are left
 
 abbrev pub AsksOfFile : Operation → List (List ℕ) → FileRequest → List (List ℕ) → Type 0
 AsksOfFile operation words of_file.Stat left = (operation ≡ op.Stat) × (left ≡ words)
 AsksOfFile operation words (of_file.Set attributes) left = setting_at operation words ≡ Ok (attributes, left)
 AsksOfFile operation words of_file.Access left = (operation ≡ op.Access) × (left ≡ words)
-AsksOfFile operation words of_file.ReadLink left = (operation ≡ op.ReadLink) × (left ≡ words)
+AsksOfFile operation words of_file.Readlink left = (operation ≡ op.Readlink) × (left ≡ words)
 AsksOfFile operation words (of_file.Read offset count) left = (operation ≡ op.Read) × (range_at words ≡ Ok ((offset, count), left))
 AsksOfFile operation words (of_file.Write offset digits) left = (operation ≡ op.Write) × (write_at words ≡ Ok ((offset, digits.now), left))
 AsksOfFile operation words (of_file.List cookie) left = (operation ≡ op.List) × (cookie_at words ≡ Ok (cookie, left))
@@ -98,11 +98,11 @@ AsksOfFile operation words of_file.Commit left = (operation ≡ op.Commit) × (l
 abbrev pub AsksOfName : Operation → List (List ℕ) → NameRequest → List (List ℕ) → Type 0
 AsksOfName operation words of_name.Lookup left = (operation ≡ op.Lookup) × (left ≡ words)
 AsksOfName operation words (of_name.Create attributes) left = (operation ≡ op.Create) × (new_file_at words ≡ Ok (attributes, left))
-AsksOfName operation words (of_name.MakeDir attributes) left = (operation ≡ op.MakeDir) × (new_file_at words ≡ Ok (attributes, left))
-AsksOfName operation words (of_name.SymLink path) left = (operation ≡ op.SymLink) × (word_at wanted.Target words ≡ Ok (path.now, left))
-AsksOfName operation words of_name.MakeNode left = (operation ≡ op.MakeNode) × (left ≡ words)
+AsksOfName operation words (of_name.Mkdir attributes) left = (operation ≡ op.Mkdir) × (new_file_at words ≡ Ok (attributes, left))
+AsksOfName operation words (of_name.Symlink path) left = (operation ≡ op.Symlink) × (word_at wanted.Target words ≡ Ok (path.now, left))
+AsksOfName operation words of_name.Mknod left = (operation ≡ op.Mknod) × (left ≡ words)
 AsksOfName operation words of_name.Remove left = (operation ≡ op.Remove) × (left ≡ words)
-AsksOfName operation words of_name.RemoveDir left = (operation ≡ op.RemoveDir) × (left ≡ words)
+AsksOfName operation words of_name.Rmdir left = (operation ≡ op.Rmdir) × (left ≡ words)
 
 abbrev pub Asks : Operation → List (List ℕ) → Request → List (List ℕ) → Type 0
 Asks operation words (request.File r) left = AsksOfFile operation words r left
@@ -133,23 +133,23 @@ passed taken = do
   value ← taken
   Ok (tt, value.1)
 
--- the words behind a path, by the operation
-abbrev pub behind_path : Operation → List (List ℕ) → Taken (Unit {0})
-behind_path op.SetMode words = passed (mode_at words)
-behind_path op.SetOwner words = passed (number_at words)
-behind_path op.SetGroup words = passed (number_at words)
-behind_path op.Truncate words = passed (long_number_at words)
-behind_path op.SetTimes words = passed (moment_at words)
-behind_path op.Read words = passed (range_at words)
-behind_path op.Write words = passed (write_at words)
-behind_path op.List words = passed (cookie_at words)
-behind_path op.ListPlus words = passed (cookie_at words)
-behind_path op.Create words = passed (new_file_at words)
-behind_path op.MakeDir words = passed (new_file_at words)
-behind_path op.SymLink words = passed (word_at wanted.Target words)
-behind_path op.Rename words = passed (word_at wanted.Path words)
-behind_path op.Link words = passed (word_at wanted.Path words)
-behind_path other words = Ok (tt, words)
+-- the words after a path, by the operation
+abbrev pub after_path : Operation → List (List ℕ) → Taken (Unit {0})
+after_path op.SetMode words = passed (mode_at words)
+after_path op.SetOwner words = passed (number_at words)
+after_path op.SetGroup words = passed (number_at words)
+after_path op.Truncate words = passed (long_number_at words)
+after_path op.SetTimes words = passed (moment_at words)
+after_path op.Read words = passed (range_at words)
+after_path op.Write words = passed (write_at words)
+after_path op.List words = passed (cookie_at words)
+after_path op.ListPlus words = passed (cookie_at words)
+after_path op.Create words = passed (new_file_at words)
+after_path op.Mkdir words = passed (new_file_at words)
+after_path op.Symlink words = passed (word_at wanted.Target words)
+after_path op.Rename words = passed (word_at wanted.Path words)
+after_path op.Link words = passed (word_at wanted.Path words)
+after_path other words = Ok (tt, words)
 
 -- all of them
 abbrev pub passed_by : List (List ℕ) → Taken (Unit {0})
@@ -157,10 +157,10 @@ passed_by words = do
   user ← value_at wanted.User user_of words
   operation ← value_at wanted.Operation operation_of user.1
   path ← word_at wanted.Path operation.1
-  behind ← behind_path operation.0 path.1
-  end_at behind.1
+  after ← after_path operation.0 path.1
+  end_at after.1
 
--- a fault tells what is wanted
+-- a fault reports what is wanted
 abbrev pub IsWanted : Taken (Unit {0}) → AskFault → Type 0
 IsWanted taken (fault.Word place wanted) = taken ≡ Err wanted
 IsWanted taken fault.Memory = ⊥

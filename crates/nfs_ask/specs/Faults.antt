@@ -3,7 +3,7 @@ use Rattle.std.specs.Prelude.{◌≡◌, ℕ, Bool, true, List, Option, None}
 use Rattle.nfs_client.specs.declared.fault.CallFault.{CallFault}
 use Rattle.nfs_client.specs.declared.fault.CallFault.TheVariants.{NoFile, TooLong, BadDigits, Memory}
 use Rattle.nfs_client.specs.declared.fault.Part.{Part}
-use Rattle.nfs_client.specs.declared.fault.Part.TheVariants.{Path, BehindPath, Bytes}
+use Rattle.nfs_client.specs.declared.fault.Part.TheVariants.{Path, AfterPath, Bytes}
 use Rattle.nfs_ask.specs.declared.fault.AskFault.{AskFault}
 use Rattle.nfs_ask.specs.declared.fault.AskFault.TheVariants as fault
 use Rattle.nfs_ask.specs.declared.fault.Wanted.TheVariants as wanted
@@ -11,7 +11,7 @@ use Rattle.nfs_ask.specs.declared.fault.Wanted.TheVariants as wanted
 -- the place of a word, from that of the user on
 abbrev pub place_of : Part → ℕ
 place_of Path = 2
-place_of BehindPath = 3
+place_of AfterPath = 3
 place_of Bytes = 4
 
 abbrev pub fault_of : CallFault → AskFault

@@ -3,7 +3,7 @@ use Rattle.std.specs.Prelude.{◌≡◌, ℕ, ◌+◌, ◌-◌, ◌*◌, Bool, t
 use Rattle.std.specs.Prelude.{if◌then◌else◌, nat_le, nat_lt}
 use Rattle.nfs_xdr.specs.Reading.{◌>>=◌}
 use Rattle.nfs_text.specs.Numbers.{decimal_of}
-use Rattle.nfs_text.specs.Pieces.{cut, pieces}
+use Rattle.nfs_text.specs.Chunks.{cut, chunks}
 use Rattle.nfs_rpc.specs.AuthSys.{Credential}
 use Rattle.nfs_inodes.specs.Tree.{on_some}
 use Rattle.nfs_ask.specs.declared.fault.AskFault.{AskFault}
@@ -25,25 +25,25 @@ abbrev pub octal_more : ℕ → ℕ → Option ℕ
 octal_more n byte = if nat_le 48 byte && (nat_le byte 55 && nat_lt (n * 8 + (byte - 48)) 4294967296) then Some (n * 8 + (byte - 48)) else None
 
 -- with more digits
-abbrev pub octal_behind : ℕ → List ℕ → Option ℕ
-octal_behind n [] = Some n
-octal_behind n (byte ∷ bytes) = on_some (octal_more n byte) None (λ m. octal_behind m bytes)
+abbrev pub octal_after : ℕ → List ℕ → Option ℕ
+octal_after n [] = Some n
+octal_after n (byte ∷ bytes) = on_some (octal_more n byte) None (λ m. octal_after m bytes)
 
 -- one or more octal digits
 abbrev pub octal_of : List ℕ → Option ℕ
 octal_of [] = None
-octal_of (byte ∷ bytes) = octal_behind 0 (byte ∷ bytes)
+octal_of (byte ∷ bytes) = octal_after 0 (byte ∷ bytes)
 
 -- ---- users
 
 -- more groups, at most 16
-abbrev pub gids_behind : List ℕ → List (List ℕ) → Option (List ℕ)
-gids_behind gids [] = Some gids
-gids_behind gids (word ∷ words) = on_some (number_of word) None (λ gid. if nat_lt (length gids) 16 then gids_behind (gids ++ gid ∷ []) words else None)
+abbrev pub gids_after : List ℕ → List (List ℕ) → Option (List ℕ)
+gids_after gids [] = Some gids
+gids_after gids (word ∷ words) = on_some (number_of word) None (λ gid. if nat_lt (length gids) 16 then gids_after (gids ++ gid ∷ []) words else None)
 
 abbrev pub gids_of : Option (List ℕ) → Option (List ℕ)
 gids_of None = Some []
-gids_of (Some text) = gids_behind [] (pieces 44 text)
+gids_of (Some text) = gids_after [] (chunks 44 text)
 
 abbrev pub groups_of : ℕ → Option (List ℕ) → Option Credential
 groups_of uid None = Some (record { uid = uid; gid = uid; gids = [] })
@@ -56,7 +56,7 @@ user_of word = on_some (number_of (cut 58 word).0) None (λ uid. groups_of uid (
 
 -- ---- words that are taken from the front
 
--- what they say, and the words behind them; or what is wanted in the place of the first that is wrong
+-- what they say, and the words after them; or what is wanted in the place of the first that is wrong
 abbrev pub Taken : Type 0 → Type 0
 Taken A = Result (A × List (List ℕ)) Wanted
 

@@ -56,7 +56,7 @@ impl<'a> Ask<'a> {
 
     /// The record of the call with this number, without a mark, by AUTH_SYS with the stamp 0 and a machine
     /// without a name, and with the handles that the paths have in this tree. Calls of other numbers are no
-    /// repeats of each other. A fault where a path names no file, digits are none or a word is too long, and
+    /// retransmissions of each other. A fault where a path names no file, digits are none or a word is too long, and
     /// where there is no memory; nothing is changed in any case.
     pub fn record(&self, alloc: Global, tree: &Tree, xid: u32) -> Result<Vec<u8>, AskFault>
         ensures text { IfOk result (λ bytes. record_of tree.now self.now xid ≡ Some bytes.items) }

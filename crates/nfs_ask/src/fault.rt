@@ -9,37 +9,37 @@ use thiserror::Error;
 #[derive(Clone, Copy, Debug, PartialEq, Eq, Error)]
 pub enum Wanted {
     /// A user.
-    #[error("UID:GID[,GID..] is wanted, a user's number, its group's, and those of at most 16 more groups")]
+    #[error("expected UID:GID[,GID..]: the numbers of a user, of its group, and of at most 16 more groups")]
     User,
     /// An operation.
-    #[error("OPERATION is wanted, one of stat, access, read, write, create, remove, mkdir, rmdir, rename, link, symlink, readlink, mknod, lookup, list, readdirplus, chmod, chown, chgrp, truncate, touch, utime, commit, df, fsinfo, pathconf, mount and umount")]
+    #[error("expected OPERATION: one of stat, access, read, write, create, remove, mkdir, rmdir, rename, link, symlink, readlink, mknod, lookup, list, readdirplus, chmod, chown, chgrp, truncate, touch, utime, commit, df, fsinfo, pathconf, mount and umount")]
     Operation,
     /// A path.
-    #[error("PATH is wanted, the path of a volume and what stands behind it")]
+    #[error("expected PATH: the path of a volume, and what follows it")]
     Path,
     /// A path that a symbolic link is to hold.
-    #[error("TARGET is wanted, the path that the link holds")]
+    #[error("expected TARGET: the path that the link holds")]
     Target,
     /// A mode.
-    #[error("MODE is wanted, octal digits as 644")]
+    #[error("expected MODE: octal digits, such as 644")]
     Mode,
     /// A word of 32 bits.
-    #[error("a number is wanted, decimal digits to 4294967295")]
+    #[error("expected a number: decimal digits, up to 4294967295")]
     Word,
     /// A word of 64 bits.
-    #[error("a number is wanted, decimal digits to 18446744073709551615")]
+    #[error("expected a number: decimal digits, up to 18446744073709551615")]
     LongWord,
     /// Bytes.
-    #[error("HEX is wanted, two hexadecimal digits for each byte")]
+    #[error("expected HEX: two hexadecimal digits for each byte")]
     Bytes,
     /// Nothing more.
-    #[error("no further word is wanted")]
+    #[error("expected no more words")]
     Nothing,
     /// A shorter word.
-    #[error("a word of at most 262144 bytes is wanted")]
+    #[error("expected a word of at most 262144 bytes")]
     Shorter,
     /// A file that is there.
-    #[error("the path of a file that is there is wanted")]
+    #[error("no such file")]
     File,
 }
 
@@ -57,7 +57,7 @@ pub enum AskFault {
 // The places of words, from the user's.
 const PATH: usize = 2;
 
-const BEHIND_PATH: usize = 3;
+const AFTER_PATH: usize = 3;
 
 const BYTES: usize = 4;
 
@@ -78,7 +78,7 @@ fn place_of(part: Part) -> usize
 {
     match part {
         Part::Path => PATH,
-        Part::BehindPath => BEHIND_PATH,
+        Part::AfterPath => AFTER_PATH,
         Part::Bytes => BYTES,
     }
 }

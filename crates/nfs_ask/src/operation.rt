@@ -24,7 +24,7 @@ pub enum Operation {
     /// ACCESS.
     Access,
     /// READLINK.
-    ReadLink,
+    Readlink,
     /// READ.
     Read,
     /// WRITE.
@@ -32,15 +32,15 @@ pub enum Operation {
     /// CREATE.
     Create,
     /// MKDIR.
-    MakeDir,
+    Mkdir,
     /// SYMLINK.
-    SymLink,
+    Symlink,
     /// MKNOD.
-    MakeNode,
+    Mknod,
     /// REMOVE.
     Remove,
     /// RMDIR.
-    RemoveDir,
+    Rmdir,
     /// RENAME.
     Rename,
     /// LINK.
@@ -74,17 +74,17 @@ const WORDS: [(&[u8], Operation); 34] = [
     (b"utime", Operation::SetTimes),
     (b"lookup", Operation::Lookup),
     (b"access", Operation::Access),
-    (b"readlink", Operation::ReadLink),
+    (b"readlink", Operation::Readlink),
     (b"read", Operation::Read),
     (b"write", Operation::Write),
     (b"create", Operation::Create),
-    (b"mkdir", Operation::MakeDir),
-    (b"symlink", Operation::SymLink),
-    (b"mknod", Operation::MakeNode),
+    (b"mkdir", Operation::Mkdir),
+    (b"symlink", Operation::Symlink),
+    (b"mknod", Operation::Mknod),
     (b"remove", Operation::Remove),
     (b"rm", Operation::Remove),
     (b"unlink", Operation::Remove),
-    (b"rmdir", Operation::RemoveDir),
+    (b"rmdir", Operation::Rmdir),
     (b"rename", Operation::Rename),
     (b"mv", Operation::Rename),
     (b"link", Operation::Link),

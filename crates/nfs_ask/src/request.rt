@@ -5,7 +5,7 @@ ghost use Rattle.nfs_client.specs.declared.file_request.FileRequest.TheVariants 
 ghost use Rattle.nfs_ask.specs.declared.operation.Operation.TheVariants as op;
 ghost use Rattle.nfs_ask.specs.Words.{Takes, or_else, long_number_at};
 ghost use Rattle.nfs_ask.specs.Asks as spec;
-ghost use Rattle.nfs_ask.specs.Asks.{Asks, AsksOfFile, IsWanted, behind_path, moment_at, new_file_at};
+ghost use Rattle.nfs_ask.specs.Asks.{Asks, AsksOfFile, IsWanted, after_path, moment_at, new_file_at};
 
 use crate::fault::{AskFault, Wanted};
 use crate::fields::Fields;
@@ -28,14 +28,14 @@ const NOTHING: Sattr = Sattr {
     mtime: TimeSetting::Leave,
 };
 
-/// What an operation asks for, with the words behind its path.
+/// What an operation asks for, with the words after its path.
 pub(crate) fn read_request<'a>(
     operation: Operation,
     fields: &mut Fields<'a>,
 ) -> Result<Request<'a>, AskFault>
     ensures asks { IfOk result (λ request. Asks operation fields.old request fields.new) }
-    ensures passed { OnOk result (behind_path operation fields.old ≡ Ok (tt, fields.new)) }
-    ensures fault { IfErr result (IsWanted (behind_path operation fields.old)) }
+    ensures passed { OnOk result (after_path operation fields.old ≡ Ok (tt, fields.new)) }
+    ensures fault { IfErr result (IsWanted (after_path operation fields.old)) }
 {
     Ok(match operation {
         Operation::Stat => Request::File(FileRequest::Stat),
@@ -58,7 +58,7 @@ pub(crate) fn read_request<'a>(
         Operation::Touch => set(with_times(TimeSetting::ServerTime)),
         Operation::SetTimes => set(with_times(TimeSetting::ClientTime(moment(fields)?))),
         Operation::Access => Request::File(FileRequest::Access),
-        Operation::ReadLink => Request::File(FileRequest::ReadLink),
+        Operation::Readlink => Request::File(FileRequest::Readlink),
         Operation::Read => Request::File(read(fields)?),
         Operation::Write => Request::File(write(fields)?),
         Operation::List => Request::File(FileRequest::List(number_or(fields, 0)?)),
@@ -69,11 +69,11 @@ pub(crate) fn read_request<'a>(
         Operation::Commit => Request::File(FileRequest::Commit),
         Operation::Lookup => Request::Name(NameRequest::Lookup),
         Operation::Create => Request::Name(NameRequest::Create(new_file(fields)?)),
-        Operation::MakeDir => Request::Name(NameRequest::MakeDir(new_file(fields)?)),
-        Operation::SymLink => Request::Name(NameRequest::SymLink(fields.word(Wanted::Target)?)),
-        Operation::MakeNode => Request::Name(NameRequest::MakeNode),
+        Operation::Mkdir => Request::Name(NameRequest::Mkdir(new_file(fields)?)),
+        Operation::Symlink => Request::Name(NameRequest::Symlink(fields.word(Wanted::Target)?)),
+        Operation::Mknod => Request::Name(NameRequest::Mknod),
         Operation::Remove => Request::Name(NameRequest::Remove),
-        Operation::RemoveDir => Request::Name(NameRequest::RemoveDir),
+        Operation::Rmdir => Request::Name(NameRequest::Rmdir),
         Operation::Rename => Request::Rename(fields.word(Wanted::Path)?),
         Operation::Link => Request::Link(fields.word(Wanted::Path)?),
         Operation::Mount => Request::Mount,
@@ -101,7 +101,7 @@ fn with_times(time: TimeSetting) -> Sattr
 // From which byte on, and which ones.
 fn write<'a>(fields: &mut Fields<'a>) -> Result<FileRequest<'a>, AskFault>
     ensures asks { IfOk result (λ request. AsksOfFile op.Write fields.old request fields.new) }
-    ensures fault { IfErr result (IsWanted (behind_path op.Write fields.old)) }
+    ensures fault { IfErr result (IsWanted (after_path op.Write fields.old)) }
 {
     let offset = fields.long_number()?;
     let digits = fields.word(Wanted::Bytes)?;
@@ -111,7 +111,7 @@ fn write<'a>(fields: &mut Fields<'a>) -> Result<FileRequest<'a>, AskFault>
 // From which byte on, and how many.
 fn read<'a>(fields: &mut Fields<'a>) -> Result<FileRequest<'a>, AskFault>
     ensures asks { IfOk result (λ request. AsksOfFile op.Read fields.old request fields.new) }
-    ensures fault { IfErr result (IsWanted (behind_path op.Read fields.old)) }
+    ensures fault { IfErr result (IsWanted (after_path op.Read fields.old)) }
 {
     let offset = number_or(fields, 0)?;
     let count = if fields.is_at_end() {
@@ -122,7 +122,7 @@ fn read<'a>(fields: &mut Fields<'a>) -> Result<FileRequest<'a>, AskFault>
     Ok(FileRequest::Read { offset, count })
 }
 
-// Whole seconds, 0 where none are told.
+// Whole seconds, 0 where none are given.
 fn moment(fields: &mut Fields<'_>) -> Result<Moment, AskFault>
     ensures { Takes (λ m. m) fields.new result (moment_at fields.old) }
 {
@@ -134,7 +134,7 @@ fn moment(fields: &mut Fields<'_>) -> Result<Moment, AskFault>
     Ok(Moment { seconds, nanos: 0 })
 }
 
-// What a new file is to be like: a mode, where one is told.
+// What a new file is to be like: a mode, where one is given.
 fn new_file(fields: &mut Fields<'_>) -> Result<Sattr, AskFault>
     ensures { Takes (λ s. s) fields.new result (new_file_at fields.old) }
 {
@@ -145,7 +145,7 @@ fn new_file(fields: &mut Fields<'_>) -> Result<Sattr, AskFault>
     Ok(given)
 }
 
-// A number, where one is told.
+// A number, where one is given.
 fn number_or(fields: &mut Fields<'_>, other: u64) -> Result<u64, AskFault>
     ensures { Takes (λ n. n) fields.new result (or_else other long_number_at fields.old) }
 {

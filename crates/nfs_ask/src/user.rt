@@ -1,4 +1,4 @@
-//! Users as words tell them.
+//! Users, as words name them.
 ghost use Rattle.std.specs.Prelude.{◌≡◌, option_map};
 ghost use Rattle.nfs_rpc.specs.AuthSys.{credential_of};
 ghost use Rattle.nfs_ask.specs.Words as spec;
@@ -6,11 +6,11 @@ ghost use Rattle.nfs_ask.specs.Words.{gids_of, number_of};
 
 use arrayvec::ArrayVec;
 use nfs_rpc::auth_sys::Cred;
+use nfs_text::chunks::{Chunks, cut};
 use nfs_text::number::decimal;
-use nfs_text::pieces::{Pieces, cut};
 
-/// The credential that a word `UID[:GID[,GID..]]` tells: a user, its group, and at most 16 more that it is
-/// in. The group is of the user's number where none is told. `None` where the word is another one.
+/// The credential that a word `UID[:GID[,GID..]]` names: a user, its group, and at most 16 more that it is
+/// in. The group has the user's number where none is given. `None` where the word is another one.
 pub fn user_of(word: &[u8]) -> Option<Cred>
     ensures { option_map credential_of result ≡ spec.user_of word.now }
 {
@@ -36,7 +36,7 @@ fn groups_of(others: Option<&[u8]>) -> Option<ArrayVec<u32, 16>>
     let Some(text) = others else {
         return Some(gids);
     };
-    let mut words = Pieces::new(text, b',');
+    let mut words = Chunks::new(text, b',');
     while let Some(word) = words.next() {
         let gid = id(word)?;
         if gids.try_push(gid).is_err() {

@@ -1,11 +1,11 @@
--- Reading attributes finds their spelling.
+-- Reading attributes finds their encoding.
 use Rattle.std.proofs.Common.{◌≡◌, ℕ, Bool, true, false, eqb, List, [], ◌++◌, Some, Result, Ok, Err, if◌then◌else◌, append-nil, refl, sym, ap, subst, ◌∙◌}
 use Rattle.std.specs.Prelude.{IsErr}
 use Rattle.std.specs.Int.{w32, w64}
 use Rattle.std.proofs.lemmas.Bool.{eqb-true}
 use Rattle.nfs_xdr.specs.declared.fault.XdrFault.{XdrFault}
 use Rattle.nfs_xdr.specs.declared.fault.XdrFault.TheVariants.{BadEnum}
-use Rattle.nfs_xdr.specs.Spelling.{IsNumber, IsOptional, Begins}
+use Rattle.nfs_xdr.specs.Encoding.{IsNumber, IsOptional, Begins}
 use Rattle.nfs_xdr.specs.Reading.{Read, Reads, Gives, AreBytes, Finds, numbered, number_at, optional_at}
 use Rattle.nfs_xdr.proofs.Finding.{finds_as, Then, finds_then, IsDone, finds_done, IsEither, finds_either, IsNothing, finds_fault, finds_image, finds_field, finds_last, finds_all, finds_none}
 use Rattle.nfs_xdr.proofs.Items.{finds_u32, finds_u64, finds_enum, finds_optional}
@@ -19,7 +19,7 @@ use Rattle.nfs_attrs.specs.declared.time_setting.TimeSetting.{TimeSetting}
 use Rattle.nfs_attrs.specs.declared.time_setting.TimeSetting.TheVariants.{Leave, ServerTime, ClientTime}
 use Rattle.nfs_attrs.specs.declared.file_type.FileType.{FileType}
 use Rattle.nfs_attrs.specs.declared.file_type.FileType.TheVariants.{Regular, Directory, BlockDevice, CharacterDevice, SymbolicLink, Socket, Fifo}
-use Rattle.nfs_attrs.specs.Spelling.{IsMoment, type_number, IsFileType, IsSpecData, IsFattr, IsPostOpAttr, IsPreAttr, IsPreOpAttr, IsWcc, IsTimeSetting, IsSattr}
+use Rattle.nfs_attrs.specs.Encoding.{IsMoment, type_number, IsFileType, IsSpecData, IsFattr, IsPostOpAttr, IsPreAttr, IsPreOpAttr, IsWcc, IsTimeSetting, IsSattr}
 use Rattle.nfs_attrs.specs.Reading.{moment_at, file_types, file_type_at, spec_data_at, fattr_at, post_op_attr_at, pre_attr_at, pre_op_attr_at, wcc_at, client_time_at, time_setting_of, time_setting_at, sattr_at}
 
 -- ---- a reader that moves on where it found a value
@@ -113,7 +113,7 @@ finds_time_setting_of n =
     (finds_either (eqb n 1) (IsDone ServerTime) (IsEither (eqb n 2) IsClientTime IsNothing) (λ bytes. Ok (ServerTime, bytes)) (λ bytes. if eqb n 2 then client_time_at bytes else Err BadEnum) (finds_done ServerTime)
     (finds_either (eqb n 2) IsClientTime IsNothing client_time_at (λ bytes. Err BadEnum) (finds_image IsMoment ClientTime moment_at finds_moment) (finds_fault BadEnum)))
 
--- a number with nothing behind it
+-- a number with nothing after it
 alone : (n k : ℕ) (v s : TimeSetting) (front back text : List ℕ) → ((t : List ℕ) → IsNumber w32 k t → IsTimeSetting v t) → n ≡ k → IsNumber w32 n front → IsDone v s back → text ≡ front ++ back → IsTimeSetting s text
 alone n k v s front back text means is number d e =
     let whole : text ≡ front = e ∙ ap (λ t. front ++ t) d.text_is ∙ append-nil front in

@@ -1,13 +1,13 @@
--- What is written of attributes is their spelling.
+-- What is written of attributes is their encoding.
 use Rattle.std.proofs.Common.{◌≡◌, ℕ, List, [], ◌∷◌, ◌++◌, sym, ap, subst, ◌∙◌, append_assoc, append-nil}
 use Rattle.std.specs.Int.{w32, w64, to_be_bytes}
 use Rattle.std.proofs.lemmas.Grind.{flat_map-append}
-use Rattle.nfs_xdr.specs.Spelling.{IsNumber, numbers_text}
+use Rattle.nfs_xdr.specs.Encoding.{IsNumber, numbers_text}
 use Rattle.nfs_xdr.proofs.Writing.{followed}
 use Rattle.nfs_attrs.specs.declared.fattr.Fattr.{Fattr}
 use Rattle.nfs_attrs.specs.declared.moment.Moment.{Moment}
 use Rattle.nfs_attrs.specs.declared.pre_attr.PreAttr.{PreAttr}
-use Rattle.nfs_attrs.specs.Spelling.{IsMoment, IsFileType, IsFattr, type_number, moment_text, file_type_text, fattr_text, pre_attr_text}
+use Rattle.nfs_attrs.specs.Encoding.{IsMoment, IsFileType, IsFattr, type_number, moment_text, file_type_text, fattr_text, pre_attr_text}
 
 -- a text is that of numbers, one after another
 record AreNumbers (ns text : List ℕ) : Type 0 where

@@ -13,7 +13,7 @@ use Rattle.nfs_attrs.specs.declared.time_setting.TimeSetting.{TimeSetting}
 use Rattle.nfs_attrs.specs.declared.time_setting.TimeSetting.TheVariants.{Leave, ServerTime, ClientTime}
 use Rattle.nfs_attrs.specs.declared.file_type.FileType.{FileType}
 use Rattle.nfs_attrs.specs.declared.file_type.FileType.TheVariants.{Regular, Directory, BlockDevice, CharacterDevice, SymbolicLink, Socket, Fifo}
-use Rattle.nfs_attrs.specs.Spelling.{type_number}
+use Rattle.nfs_attrs.specs.Encoding.{type_number}
 
 abbrev pub moment_at : List ℕ → Read Moment
 moment_at bytes = do

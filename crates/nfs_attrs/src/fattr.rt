@@ -2,7 +2,7 @@
 ghost use Rattle.std.specs.Prelude.{◌≡◌, ◌≤◌, length, option_copied};
 ghost use Rattle.nfs_xdr.specs.Reading.{Gives, Reads};
 ghost use Rattle.nfs_xdr.specs.Written.{Appends};
-ghost use Rattle.nfs_attrs.specs.Spelling.{IsFattr, IsPostOpAttr, fattr_text, post_op_attr_text};
+ghost use Rattle.nfs_attrs.specs.Encoding.{IsFattr, IsPostOpAttr, fattr_text, post_op_attr_text};
 ghost use Rattle.nfs_attrs.specs.Reading.{fattr_at, post_op_attr_at};
 
 use crate::file_type::{FileType, number_of, read_file_type};
@@ -107,7 +107,7 @@ fn fattr_of(bytes: &[u8]) -> Result<(Fattr, Input<'_>), XdrFault>
 pub fn write_fattr(out: &mut Output, attributes: &Fattr)
     requires { 84 ≤ out.old.room }
     ensures text { Appends (fattr_text attributes.now) out.old out.new }
-    ensures spelled { IsFattr attributes.now (fattr_text attributes.now) }
+    ensures encoded { IsFattr attributes.now (fattr_text attributes.now) }
 {
     let (size_high, size_low) = halves(attributes.size);
     let (used_high, used_low) = halves(attributes.used);
@@ -138,13 +138,6 @@ pub fn write_fattr(out: &mut Output, attributes: &Fattr)
     ]);
 }
 
-/// How many bytes the attributes of a file have.
-pub fn size_fattr() -> usize
-    ensures { result ≡ 84 }
-{
-    84
-}
-
 /// Reads the attributes of a file, or that there are none (RFC 1813, section 2.6, post_op_attr).
 /// The first fault from left to right: `Short` where the bytes end, `BadBool` where it is not
 /// said whether they are there, `BadEnum` at a number of no kind of file.
@@ -173,7 +166,7 @@ fn post_op_attr_of(bytes: &[u8]) -> Result<(Option<Fattr>, Input<'_>), XdrFault>
 pub fn write_post_op_attr(out: &mut Output, attributes: Option<&Fattr>)
     requires { length (post_op_attr_text (option_copied attributes)) ≤ out.old.room }
     ensures text { Appends (post_op_attr_text (option_copied attributes.entry)) out.old out.new }
-    ensures spelled { IsPostOpAttr (option_copied attributes.entry) (post_op_attr_text (option_copied attributes.entry)) }
+    ensures encoded { IsPostOpAttr (option_copied attributes.entry) (post_op_attr_text (option_copied attributes.entry)) }
 {
     match attributes {
         None => out.u32(0),
@@ -181,16 +174,5 @@ pub fn write_post_op_attr(out: &mut Output, attributes: Option<&Fattr>)
             out.u32(1);
             write_fattr(out, attributes);
         }
-    }
-}
-
-/// How many bytes the attributes of a file have, or that there are none: 88 or 4.
-pub fn size_post_op_attr(attributes: Option<Fattr>) -> usize
-    ensures text { result ≡ length (post_op_attr_text attributes) }
-    ensures bound { (4 ≤ result) × (result ≤ 88) }
-{
-    match attributes {
-        None => 4,
-        Some(_) => 88,
     }
 }

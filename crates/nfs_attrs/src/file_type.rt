@@ -1,8 +1,7 @@
 //! Kinds of files.
-ghost use Rattle.std.specs.Prelude.{◌≡◌, ◌≤◌, length};
+ghost use Rattle.std.specs.Prelude.{◌≡◌};
 ghost use Rattle.nfs_xdr.specs.Reading.{Gives, Reads};
-ghost use Rattle.nfs_xdr.specs.Written.{Appends};
-ghost use Rattle.nfs_attrs.specs.Spelling.{IsFileType, file_type_text, type_number};
+ghost use Rattle.nfs_attrs.specs.Encoding.{IsFileType, type_number};
 ghost use Rattle.nfs_attrs.specs.Reading.{file_type_at};
 
 use nfs_xdr::fault::XdrFault;
@@ -49,19 +48,9 @@ pub fn read_file_type(input: &mut Input<'_>) -> Result<FileType, XdrFault>
     Ok(kind)
 }
 
-/// Writes a kind of file.
-#[inline(always)]
-pub fn write_file_type(out: &mut Output, kind: FileType)
-    requires { 4 ≤ out.old.room }
-    ensures text { Appends (file_type_text kind) out.old out.new }
-    ensures spelled { IsFileType kind (file_type_text kind) }
-{
-    out.u32(number_of(kind));
-}
-
 /// The number of a kind of file.
 #[inline(always)]
-pub(crate) fn number_of(kind: FileType) -> u32
+pub fn number_of(kind: FileType) -> u32
     ensures { result ≡ type_number kind }
 {
     match kind {

@@ -1,29 +1,29 @@
 //! Laws over the definitions alone.
 ghost use Rattle.std.specs.Prelude.{◌≡◌, ℕ, List, length};
-ghost use Rattle.nfs_xdr.specs.Spelling.{SpellsOnce};
+ghost use Rattle.nfs_xdr.specs.Encoding.{EncodesOnce};
 ghost use Rattle.nfs_xdr.specs.Reading.{Finds};
 ghost use Rattle.nfs_attrs.specs.declared.moment.Moment.{Moment};
 ghost use Rattle.nfs_attrs.specs.declared.fattr.Fattr.{Fattr};
 ghost use Rattle.nfs_attrs.specs.declared.pre_attr.PreAttr.{PreAttr};
-ghost use Rattle.nfs_attrs.specs.Spelling.{IsMoment, IsFileType, IsFattr, IsPostOpAttr, IsPreAttr, IsPreOpAttr, IsWcc, IsTimeSetting};
-ghost use Rattle.nfs_attrs.specs.Spelling.{IsSattr, moment_text, fattr_text, pre_attr_text};
+ghost use Rattle.nfs_attrs.specs.Encoding.{IsMoment, IsFileType, IsFattr, IsPostOpAttr, IsPreAttr, IsPreOpAttr, IsWcc, IsTimeSetting};
+ghost use Rattle.nfs_attrs.specs.Encoding.{IsSattr, moment_text, fattr_text, pre_attr_text};
 ghost use Rattle.nfs_attrs.specs.Reading.{moment_at, file_type_at, fattr_at, post_op_attr_at, pre_attr_at, pre_op_attr_at, wcc_at, time_setting_at, sattr_at};
 
-/// Where two spellings of attributes stand at the front of the same bytes, they are one and have
-/// one value: no spelling of a value begins a spelling of another.
-pub fn attributes_are_spelled_once()
-    ensures moment { SpellsOnce IsMoment }
-    ensures file_type { SpellsOnce IsFileType }
-    ensures fattr { SpellsOnce IsFattr }
-    ensures post_op_attr { SpellsOnce IsPostOpAttr }
-    ensures pre_attr { SpellsOnce IsPreAttr }
-    ensures pre_op_attr { SpellsOnce IsPreOpAttr }
-    ensures wcc { SpellsOnce IsWcc }
-    ensures time_setting { SpellsOnce IsTimeSetting }
-    ensures sattr { SpellsOnce IsSattr }
+/// Where two encodings of attributes stand at the front of the same bytes, they are one and have
+/// one value: no encoding of a value begins an encoding of another.
+pub fn attributes_are_encoded_once()
+    ensures moment { EncodesOnce IsMoment }
+    ensures file_type { EncodesOnce IsFileType }
+    ensures fattr { EncodesOnce IsFattr }
+    ensures post_op_attr { EncodesOnce IsPostOpAttr }
+    ensures pre_attr { EncodesOnce IsPreAttr }
+    ensures pre_op_attr { EncodesOnce IsPreOpAttr }
+    ensures wcc { EncodesOnce IsWcc }
+    ensures time_setting { EncodesOnce IsTimeSetting }
+    ensures sattr { EncodesOnce IsSattr }
 {}
 
-/// The functions of `specs/Reading` find what is spelled, all of it and nothing else.
+/// The functions of `specs/Reading` find what is encoded, all of it and nothing else.
 pub fn attributes_are_found()
     ensures moment { Finds IsMoment moment_at }
     ensures file_type { Finds IsFileType file_type_at }

@@ -2,7 +2,7 @@
 ghost use Rattle.std.specs.Prelude.{◌≡◌, ◌≤◌};
 ghost use Rattle.nfs_xdr.specs.Reading.{Gives, Reads};
 ghost use Rattle.nfs_xdr.specs.Written.{Appends};
-ghost use Rattle.nfs_attrs.specs.Spelling.{IsMoment, moment_text};
+ghost use Rattle.nfs_attrs.specs.Encoding.{IsMoment, moment_text};
 ghost use Rattle.nfs_attrs.specs.Reading.{moment_at};
 
 use nfs_xdr::fault::XdrFault;
@@ -42,14 +42,7 @@ fn moment_of(bytes: &[u8]) -> Result<(Moment, Input<'_>), XdrFault>
 pub fn write_moment(out: &mut Output, moment: Moment)
     requires { 8 ≤ out.old.room }
     ensures text { Appends (moment_text moment) out.old out.new }
-    ensures spelled { IsMoment moment (moment_text moment) }
+    ensures encoded { IsMoment moment (moment_text moment) }
 {
     out.numbers([moment.seconds, moment.nanos]);
-}
-
-/// How many bytes a time has.
-pub fn size_moment() -> usize
-    ensures { result ≡ 8 }
-{
-    8
 }

@@ -2,7 +2,7 @@
 ghost use Rattle.std.specs.Prelude.{◌≡◌, ◌≤◌, length};
 ghost use Rattle.nfs_xdr.specs.Reading.{Gives, Reads};
 ghost use Rattle.nfs_xdr.specs.Written.{Appends};
-ghost use Rattle.nfs_attrs.specs.Spelling.{IsPreAttr, IsPreOpAttr, pre_attr_text, pre_op_attr_text};
+ghost use Rattle.nfs_attrs.specs.Encoding.{IsPreAttr, IsPreOpAttr, pre_attr_text, pre_op_attr_text};
 ghost use Rattle.nfs_attrs.specs.Reading.{pre_attr_at, pre_op_attr_at};
 
 use crate::moment::{Moment, read_moment};
@@ -46,7 +46,7 @@ fn pre_attr_of(bytes: &[u8]) -> Result<(PreAttr, Input<'_>), XdrFault>
 pub fn write_pre_attr(out: &mut Output, attributes: &PreAttr)
     requires { 24 ≤ out.old.room }
     ensures text { Appends (pre_attr_text attributes.now) out.old out.new }
-    ensures spelled { IsPreAttr attributes.now (pre_attr_text attributes.now) }
+    ensures encoded { IsPreAttr attributes.now (pre_attr_text attributes.now) }
 {
     let (size_high, size_low) = halves(attributes.size);
     out.numbers([
@@ -57,13 +57,6 @@ pub fn write_pre_attr(out: &mut Output, attributes: &PreAttr)
         attributes.ctime.seconds,
         attributes.ctime.nanos,
     ]);
-}
-
-/// How many bytes a file's size and times have.
-pub fn size_pre_attr() -> usize
-    ensures { result ≡ 24 }
-{
-    24
 }
 
 /// Reads a file's size and times, or that there are none (RFC 1813, section 2.6, pre_op_attr).
@@ -94,7 +87,7 @@ fn pre_op_attr_of(bytes: &[u8]) -> Result<(Option<PreAttr>, Input<'_>), XdrFault
 pub fn write_pre_op_attr(out: &mut Output, attributes: Option<PreAttr>)
     requires { length (pre_op_attr_text attributes) ≤ out.old.room }
     ensures text { Appends (pre_op_attr_text attributes) out.old out.new }
-    ensures spelled { IsPreOpAttr attributes (pre_op_attr_text attributes) }
+    ensures encoded { IsPreOpAttr attributes (pre_op_attr_text attributes) }
 {
     match attributes {
         None => out.u32(0),
@@ -102,16 +95,5 @@ pub fn write_pre_op_attr(out: &mut Output, attributes: Option<PreAttr>)
             out.u32(1);
             write_pre_attr(out, &attributes);
         }
-    }
-}
-
-/// How many bytes a file's size and times have, or that there are none: 28 or 4.
-pub fn size_pre_op_attr(attributes: Option<PreAttr>) -> usize
-    ensures text { result ≡ length (pre_op_attr_text attributes) }
-    ensures bound { (4 ≤ result) × (result ≤ 28) }
-{
-    match attributes {
-        None => 4,
-        Some(_) => 28,
     }
 }

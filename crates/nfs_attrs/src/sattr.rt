@@ -1,13 +1,13 @@
 //! The attributes that a client sets.
-ghost use Rattle.std.specs.Prelude.{◌≡◌, ◌≤◌, ℕ, length};
+ghost use Rattle.std.specs.Prelude.{◌≡◌, ◌≤◌, length};
 ghost use Rattle.std.specs.Int.{w32, w64, to_be_bytes};
-ghost use Rattle.nfs_xdr.specs.Spelling.{IsNumber, IsOptional, optional_text};
+ghost use Rattle.nfs_xdr.specs.Encoding.{IsNumber, IsOptional, optional_text};
 ghost use Rattle.nfs_xdr.specs.Reading.{Gives, Reads, number_at, optional_at};
 ghost use Rattle.nfs_xdr.specs.Written.{Appends};
-ghost use Rattle.nfs_attrs.specs.Spelling.{IsSattr, sattr_text};
+ghost use Rattle.nfs_attrs.specs.Encoding.{IsSattr, sattr_text};
 ghost use Rattle.nfs_attrs.specs.Reading.{sattr_at};
 
-use crate::time_setting::{TimeSetting, read_time_setting, size_time_setting, write_time_setting};
+use crate::time_setting::{TimeSetting, read_time_setting, write_time_setting};
 use nfs_xdr::fault::XdrFault;
 use nfs_xdr::input::Input;
 use nfs_xdr::output::Output;
@@ -98,7 +98,7 @@ fn read_hyper(input: &mut Input<'_>) -> Result<Option<u64>, XdrFault>
 pub fn write_sattr(out: &mut Output, settings: &Sattr)
     requires { length (sattr_text settings.now) ≤ out.old.room }
     ensures text { Appends (sattr_text settings.now) out.old out.new }
-    ensures spelled { IsSattr settings.now (sattr_text settings.now) }
+    ensures encoded { IsSattr settings.now (sattr_text settings.now) }
 {
     write_word(out, settings.mode);
     write_word(out, settings.uid);
@@ -111,7 +111,7 @@ pub fn write_sattr(out: &mut Output, settings: &Sattr)
 fn write_word(out: &mut Output, value: Option<u32>)
     requires { length (optional_text (to_be_bytes w32) value) ≤ out.old.room }
     ensures text { Appends (optional_text (to_be_bytes w32) value) out.old out.new }
-    ensures spelled { IsOptional (IsNumber w32) value (optional_text (to_be_bytes w32) value) }
+    ensures encoded { IsOptional (IsNumber w32) value (optional_text (to_be_bytes w32) value) }
 {
     match value {
         None => out.u32(0),
@@ -125,7 +125,7 @@ fn write_word(out: &mut Output, value: Option<u32>)
 fn write_hyper(out: &mut Output, value: Option<u64>)
     requires { length (optional_text (to_be_bytes w64) value) ≤ out.old.room }
     ensures text { Appends (optional_text (to_be_bytes w64) value) out.old out.new }
-    ensures spelled { IsOptional (IsNumber w64) value (optional_text (to_be_bytes w64) value) }
+    ensures encoded { IsOptional (IsNumber w64) value (optional_text (to_be_bytes w64) value) }
 {
     match value {
         None => out.u32(0),
@@ -133,37 +133,5 @@ fn write_hyper(out: &mut Output, value: Option<u64>)
             out.u32(1);
             out.u64(n);
         }
-    }
-}
-
-/// How many bytes these settings have: from 24 to 60.
-pub fn size_sattr(settings: &Sattr) -> usize
-    ensures text { result ≡ length (sattr_text settings.now) }
-    ensures bound { (24 ≤ result) × (result ≤ 60) }
-{
-    let numbers = size_word(settings.mode)
-        + size_word(settings.uid)
-        + size_word(settings.gid)
-        + size_hyper(settings.size);
-    numbers + size_time_setting(settings.atime) + size_time_setting(settings.mtime)
-}
-
-fn size_word(value: Option<u32>) -> usize
-    ensures text { result ≡ length (optional_text (to_be_bytes w32) value) }
-    ensures bound { (4 ≤ result) × (result ≤ 8) }
-{
-    match value {
-        None => 4,
-        Some(_) => 8,
-    }
-}
-
-fn size_hyper(value: Option<u64>) -> usize
-    ensures text { result ≡ length (optional_text (to_be_bytes w64) value) }
-    ensures bound { (4 ≤ result) × (result ≤ 12) }
-{
-    match value {
-        None => 4,
-        Some(_) => 12,
     }
 }

@@ -2,7 +2,7 @@
 ghost use Rattle.std.specs.Prelude.{◌≡◌, ◌≤◌, length};
 ghost use Rattle.nfs_xdr.specs.Reading.{Gives, Reads};
 ghost use Rattle.nfs_xdr.specs.Written.{Appends};
-ghost use Rattle.nfs_attrs.specs.Spelling.{IsTimeSetting, time_setting_text};
+ghost use Rattle.nfs_attrs.specs.Encoding.{IsTimeSetting, time_setting_text};
 ghost use Rattle.nfs_attrs.specs.Reading.{time_setting_at};
 
 use crate::moment::{Moment, read_moment, write_moment};
@@ -53,7 +53,7 @@ fn time_setting_of(bytes: &[u8]) -> Result<(TimeSetting, Input<'_>), XdrFault>
 pub fn write_time_setting(out: &mut Output, setting: TimeSetting)
     requires { length (time_setting_text setting) ≤ out.old.room }
     ensures text { Appends (time_setting_text setting) out.old out.new }
-    ensures spelled { IsTimeSetting setting (time_setting_text setting) }
+    ensures encoded { IsTimeSetting setting (time_setting_text setting) }
 {
     match setting {
         TimeSetting::Leave => out.u32(0),
@@ -62,16 +62,5 @@ pub fn write_time_setting(out: &mut Output, setting: TimeSetting)
             out.u32(2);
             write_moment(out, moment);
         }
-    }
-}
-
-/// How many bytes the setting of a time has: 12 with a time of the client's, else 4.
-pub fn size_time_setting(setting: TimeSetting) -> usize
-    ensures text { result ≡ length (time_setting_text setting) }
-    ensures bound { (4 ≤ result) × (result ≤ 12) }
-{
-    match setting {
-        TimeSetting::Leave | TimeSetting::ServerTime => 4,
-        TimeSetting::ClientTime(_) => 12,
     }
 }

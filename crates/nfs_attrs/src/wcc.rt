@@ -2,11 +2,11 @@
 ghost use Rattle.std.specs.Prelude.{◌≡◌, ◌≤◌, length};
 ghost use Rattle.nfs_xdr.specs.Reading.{Gives, Reads};
 ghost use Rattle.nfs_xdr.specs.Written.{Appends};
-ghost use Rattle.nfs_attrs.specs.Spelling.{IsWcc, wcc_text};
+ghost use Rattle.nfs_attrs.specs.Encoding.{IsWcc, wcc_text};
 ghost use Rattle.nfs_attrs.specs.Reading.{wcc_at};
 
-use crate::fattr::{Fattr, read_post_op_attr, size_post_op_attr, write_post_op_attr};
-use crate::pre_attr::{PreAttr, read_pre_op_attr, size_pre_op_attr, write_pre_op_attr};
+use crate::fattr::{Fattr, read_post_op_attr, write_post_op_attr};
+use crate::pre_attr::{PreAttr, read_pre_op_attr, write_pre_op_attr};
 use nfs_xdr::fault::XdrFault;
 use nfs_xdr::input::Input;
 use nfs_xdr::output::Output;
@@ -47,16 +47,8 @@ fn wcc_of(bytes: &[u8]) -> Result<(Wcc, Input<'_>), XdrFault>
 pub fn write_wcc(out: &mut Output, wcc: &Wcc)
     requires { length (wcc_text wcc.now) ≤ out.old.room }
     ensures text { Appends (wcc_text wcc.now) out.old out.new }
-    ensures spelled { IsWcc wcc.now (wcc_text wcc.now) }
+    ensures encoded { IsWcc wcc.now (wcc_text wcc.now) }
 {
     write_pre_op_attr(out, wcc.before);
     write_post_op_attr(out, wcc.after.as_ref());
-}
-
-/// How many bytes the attributes before and after an operation have: from 8 to 116.
-pub fn size_wcc(wcc: &Wcc) -> usize
-    ensures text { result ≡ length (wcc_text wcc.now) }
-    ensures bound { (8 ≤ result) × (result ≤ 116) }
-{
-    size_pre_op_attr(wcc.before) + size_post_op_attr(wcc.after)
 }

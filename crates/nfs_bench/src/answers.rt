@@ -14,7 +14,7 @@ use nfs_args::opaque::Opaque;
 use nfs_args::procedure::Procedure;
 use nfs_args::read_data::ReadData;
 use nfs_args::rights::Rights;
-use nfs_args::room::{Room, Space};
+use nfs_args::volume_space::{Space, VolumeSpace};
 use nfs_args::write::Stability;
 use nfs_args::written::Written;
 use nfs_attrs::fattr::{Fattr, SpecData};
@@ -74,7 +74,7 @@ pub(crate) fn each<R: Clock + Print + AllocGlobal>(rt: &R, timed: bool) -> io::R
 
 // Of procedures that change nothing.
 fn shown<R: Clock + Print>(rt: &R, out: &mut Output, timed: bool) -> io::Result<()> {
-    row(rt, out, timed, "getattr", Procedure::GetAttr, &get_attr())?;
+    row(rt, out, timed, "getattr", Procedure::Getattr, &getattr())?;
     row(
         rt,
         out,
@@ -85,7 +85,7 @@ fn shown<R: Clock + Print>(rt: &R, out: &mut Output, timed: bool) -> io::Result<
     )?;
     row(rt, out, timed, "access", Procedure::Access, &access())?;
     row(rt, out, timed, "read", Procedure::Read, &read(&[7; 4096]))?;
-    row(rt, out, timed, "fsstat", Procedure::FsStat, &fs_stat())
+    row(rt, out, timed, "fsstat", Procedure::Fsstat, &fsstat())
 }
 
 // Of procedures that change a file or a directory.
@@ -154,12 +154,12 @@ fn put(out: &mut Output, answer: &NfsAnswer<'_>)
     write_nfs(out, answer);
 }
 
-fn get_attr<'a>() -> NfsAnswer<'a>
-    ensures answered { answered result ≡ proc.GetAttr }
+fn getattr<'a>() -> NfsAnswer<'a>
+    ensures answered { answered result ≡ proc.Getattr }
     ensures fits { NfsFits result }
     ensures within { IsWithin result }
 {
-    NfsAnswer::GetAttr(Ok(ATTRIBUTES))
+    NfsAnswer::Getattr(Ok(ATTRIBUTES))
 }
 
 fn lookup(handle: &[u8; 24]) -> NfsAnswer<'_>
@@ -197,12 +197,12 @@ fn read(content: &[u8; 4096]) -> NfsAnswer<'_>
     }))
 }
 
-fn fs_stat<'a>() -> NfsAnswer<'a>
-    ensures answered { answered result ≡ proc.FsStat }
+fn fsstat<'a>() -> NfsAnswer<'a>
+    ensures answered { answered result ≡ proc.Fsstat }
     ensures fits { NfsFits result }
     ensures within { IsWithin result }
 {
-    NfsAnswer::FsStat(Ok(Room {
+    NfsAnswer::Fsstat(Ok(VolumeSpace {
         attributes: Some(ATTRIBUTES),
         bytes: space(1_000_000),
         files: space(1_000),

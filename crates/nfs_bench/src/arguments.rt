@@ -151,7 +151,7 @@ fn mark(record: &mut [u8], round: u32) {
     }
 }
 
-// Reads the arguments of NFS behind the number of their procedure, and answers whether they are
+// Reads the arguments of NFS after the number of their procedure, and answers whether they are
 // there. Not inlined, since what isn't looked at would not be read then.
 #[inline(never)]
 fn is_nfs<'a>(record: &'a [u8], args: &mut NfsArgs<'a>) -> bool {

@@ -97,7 +97,7 @@ pub(crate) struct Asked {
     reply: ReplyBuf,
     line: Line,
     addr: Addr,
-    is_repeated: bool,
+    is_retransmitted: bool,
     pub(crate) first: Vec<u8>,
     pub(crate) second: Option<Vec<u8>>,
 }
@@ -111,7 +111,7 @@ impl Asked {
             reply,
             line: Line::new(),
             addr: GRANTED,
-            is_repeated: false,
+            is_retransmitted: false,
             first: Vec::new(alloc),
             second: None,
         })
@@ -120,7 +120,7 @@ impl Asked {
     /// Sets the calls of a round.
     pub(crate) fn set(&mut self, alloc: Global, target: &Target, name: &str) -> io::Result<()> {
         self.addr = if name == "denied" { DENIED } else { GRANTED };
-        self.is_repeated = name == "setattr-again";
+        self.is_retransmitted = name == "setattr-again";
         self.first = first_of(alloc, self.server.tree(), target, name)?;
         self.second = second_of(alloc, self.server.tree(), target, name)?;
         Ok(())
@@ -129,7 +129,7 @@ impl Asked {
     /// The calls of a round, each of a number of its own, as a client gives them, unless they are
     /// repeated.
     pub(crate) fn round(&mut self, round: u32, counted: &mut Counted) {
-        let xid = if self.is_repeated {
+        let xid = if self.is_retransmitted {
             0
         } else {
             round.wrapping_mul(2)

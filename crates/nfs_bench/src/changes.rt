@@ -7,6 +7,7 @@ use nfs_conditions::moves::may_rename;
 use nfs_content::pages::Pages;
 use nfs_handles::number::Number;
 use nfs_inodes::given_attributes::GivenAttributes;
+use nfs_inodes::new_file::NewContent;
 use nfs_inodes::tree::Tree;
 use std::alloc::{AllocError, Global};
 use std::io;
@@ -82,10 +83,10 @@ fn time<R: Clock + Print>(
 
 // A directory of ten files in the root.
 fn add_dir(alloc: Global, tree: &mut Tree, name: &[u8]) -> Result<Number, AllocError> {
-    if !tree.may_make_dir(ROOT, name) {
+    if !tree.may_mkdir(ROOT, name) {
         return Ok(ROOT);
     }
-    let dir = tree.make_dir(ROOT, name, &GIVEN, START)?;
+    let dir = tree.mkdir(ROOT, name, &GIVEN, START)?;
     for file in 0..10 {
         make(alloc, tree, dir, &letters(file));
     }
@@ -94,7 +95,11 @@ fn add_dir(alloc: Global, tree: &mut Tree, name: &[u8]) -> Result<Number, AllocE
 
 fn make(alloc: Global, tree: &mut Tree, dir: Number, name: &[u8]) {
     if tree.may_make(dir, name, 0) {
-        let _ = tree.make_file(dir, name, Pages::zeros(alloc, 0), &GIVEN, None, START);
+        let content = NewContent {
+            pages: Pages::zeros(alloc, 0),
+            verifier: None,
+        };
+        let _ = tree.make_file(dir, name, content, &GIVEN, START);
     }
 }
 

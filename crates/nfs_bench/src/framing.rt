@@ -1,14 +1,14 @@
-//! Records of 64 KiB, fed to a framer in pieces of 8 KiB.
+//! Records of 64 KiB, fed to a framer in chunks of 8 KiB.
 
 use nfs_rpc::framer::Framer;
-use nfs_rpc::record::seal_record;
+use nfs_rpc::record::frame_record;
 use std::io;
 use std::rt::Clock;
 use std::time::Instant;
 
 const RECORD: usize = 65_536;
 
-const PIECE: usize = 8_192;
+const CHUNK: usize = 8_192;
 
 const ROUNDS: u32 = 20_000;
 
@@ -37,7 +37,7 @@ pub(crate) fn measure<R: Clock + Print + AllocGlobal>(rt: &R) -> io::Result<()> 
 // A record as it stands on a stream.
 fn stream<R: AllocGlobal>(rt: &R) -> io::Result<Vec<u8>> {
     let mut stream = Vec::with_capacity(rt.alloc(), RECORD + 4)?;
-    stream.extend_from_slice(&seal_record(RECORD as u32))?;
+    stream.extend_from_slice(&frame_record(RECORD as u32))?;
     for i in 0..RECORD {
         stream.push((i % 251) as u8)?;
     }
@@ -49,8 +49,8 @@ fn frame(framer: &mut Framer, stream: &[u8], rounds: u32) -> (u64, u64) {
     let mut records = 0u64;
     let mut sum = 0u64;
     for _ in 0..rounds {
-        for piece in stream.chunks(PIECE) {
-            let Ok(fed) = framer.feed(piece) else {
+        for chunk in stream.chunks(CHUNK) {
+            let Ok(fed) = framer.feed(chunk) else {
                 return (records, sum);
             };
             if fed.ready {

@@ -8,9 +8,9 @@ mod calls;
 mod changes;
 mod described;
 mod framing;
-mod kept;
 mod pages;
 mod records;
+mod reply_cache;
 mod sizes;
 mod tree;
 
@@ -53,7 +53,7 @@ fn fixed<R: Clock + Print + AllocGlobal>(rt: &R) -> io::Result<()> {
     pages::fixed_removal(rt)?;
     sizes::fixed(rt)?;
     changes::fixed(rt)?;
-    kept::fixed(rt)
+    reply_cache::fixed(rt)
 }
 
 // The measure of a name.
@@ -71,10 +71,10 @@ fn measure<R: Clock + Print + AllocGlobal>(rt: &R, name: &str) -> io::Result<()>
         "pages-100" => pages::measure_whole(rt, 100),
         "pages-10000" => pages::measure_whole(rt, 10_000),
         "write" => tree::measure_write(rt),
-        "kept-136" => kept::measure(rt, 136),
-        "kept-4196" => kept::measure(rt, 4_196),
-        "kept-65636" => kept::measure(rt, 65_636),
-        "kept-131172" => kept::measure(rt, 131_172),
+        "kept-136" => reply_cache::measure(rt, 136),
+        "kept-4196" => reply_cache::measure(rt, 4_196),
+        "kept-65636" => reply_cache::measure(rt, 65_636),
+        "kept-131172" => reply_cache::measure(rt, 131_172),
         "hold-0" => tree::hold(rt, 0),
         "hold-100000" => tree::hold(rt, 100),
         "hold-names-1000" => tree::hold_names(rt, 100, 1_000),

@@ -3,10 +3,10 @@
 use crate::changes::unlink;
 use crate::tree::{ROOT, fill, grown, letters};
 use nfs_args::limits::MAX_PAGE_BYTES;
-use nfs_dirs::answer::Page;
+use nfs_dirs::answer::WrittenPage;
 use nfs_dirs::limits::{PAGE_HEAD_BYTES, entry_bytes, plus_bytes};
-use nfs_dirs::read_dir::page;
-use nfs_dirs::read_dir_plus::page_plus;
+use nfs_dirs::readdir::page;
+use nfs_dirs::readdirplus::page_plus;
 use nfs_handles::number::{Hint, Number};
 use nfs_inodes::tree::Tree;
 use nfs_inodes::volumes::Totals;
@@ -31,8 +31,11 @@ const SHOWN: usize = 200;
 pub(crate) fn fixed<R: Print + AllocGlobal>(rt: &R) -> io::Result<()> {
     let tree = directory(rt.alloc(), 1_000)?;
     let mut out = Output::new(rt.alloc(), MAX_PAGE_BYTES)?;
-    let entries = plain(&tree, DIR, 0, u32::MAX, &mut out).map_or(0, |page: Page| page.given);
-    let shown = plus(&tree, &mut out).map_or(0, |page: Page| page.given);
+    let entries = plain(&tree, DIR, 0, u32::MAX, &mut out).map_or(
+        0,
+        |page: WrittenPage| page.given,
+    );
+    let shown = plus(&tree, &mut out).map_or(0, |page: WrittenPage| page.given);
     let read = whole(&tree, &mut out);
     println!(rt; "pages of {entries} and of {shown} entries, {read} read by pages")
 }
@@ -146,7 +149,7 @@ fn remove(tree: &mut Tree, dir: Number, out: &mut Output) -> u32 {
     listed.saturating_sub(2)
 }
 
-// Removes what is listed behind the first so many entries, up to so many; the first two are no files.
+// Removes what is listed after the first so many entries, up to so many; the first two are no files.
 fn remove_listed(tree: &mut Tree, dir: Number, from: u32, until: u32) {
     for place in from.max(2)..until {
         unlink(tree, dir, &letters(place.saturating_sub(2)));
@@ -160,8 +163,14 @@ fn directory(alloc: Global, files: u32) -> io::Result<Tree> {
     Ok(tree)
 }
 
-// A page of READDIR behind a cookie.
-fn plain(tree: &Tree, dir: Number, cookie: u64, count: u32, out: &mut Output) -> Option<Page> {
+// A page of READDIR after a cookie.
+fn plain(
+    tree: &Tree,
+    dir: Number,
+    cookie: u64,
+    count: u32,
+    out: &mut Output,
+) -> Option<WrittenPage> {
     let dir = tree.view(dir)?;
     out.clear();
     if out.room() < MAX_PAGE_BYTES {
@@ -171,7 +180,7 @@ fn plain(tree: &Tree, dir: Number, cookie: u64, count: u32, out: &mut Output) ->
 }
 
 // A page of READDIRPLUS from the first entry on.
-fn plus(tree: &Tree, out: &mut Output) -> Option<Page> {
+fn plus(tree: &Tree, out: &mut Output) -> Option<WrittenPage> {
     let dir = tree.view(DIR)?;
     out.clear();
     if out.room() < MAX_PAGE_BYTES {

@@ -6,7 +6,7 @@ use nfs_args::limits::MAX_DATA_BYTES;
 use nfs_attrs::moment::Moment;
 use nfs_content::pages::Pages;
 use nfs_handles::number::Number;
-use nfs_inodes::new_file::NewFile;
+use nfs_inodes::new_file::{NewContent, NewFile};
 use nfs_inodes::tree::Tree;
 use nfs_load::loaded::Loaded;
 use nfs_server::server::Server;
@@ -48,7 +48,7 @@ const PUB: u64 = 2;
 
 const LARGE: u64 = 9;
 
-// Names behind their lengths.
+// Names after their lengths.
 const X: [u8; 8] = [0, 0, 0, 1, b'x', 0, 0, 0];
 
 const Y: [u8; 8] = [0, 0, 0, 1, b'y', 0, 0, 0];
@@ -57,7 +57,7 @@ const NOTHING: [u8; 24] = [0; 24];
 
 const MODE: [u8; 8] = [0, 0, 0, 1, 0, 0, 1, 0xa4];
 
-/// What the calls of a round name: a directory, a file, and a name in the directory behind its length.
+/// What the calls of a round name: a directory, a file, and a name in the directory after its length.
 #[derive(Clone, Copy)]
 pub(crate) struct Target {
     pub(crate) dir: u64,
@@ -90,13 +90,16 @@ pub(crate) fn served_many(alloc: Global, dirs: u32, files: u32) -> io::Result<Se
 
 fn make(tree: &mut Tree, bytes: Vec<u8>) -> Result<(), AllocError> {
     if tree.may_make(Number::new(PUB), b"large", bytes.len()) {
-        let content = Pages::of(tree.allocator(), bytes)?;
-        tree.make_file(Number::new(PUB), b"large", content, &GIVEN, None, START)?;
+        let content = NewContent {
+            pages: Pages::of(tree.allocator(), bytes)?,
+            verifier: None,
+        };
+        tree.make_file(Number::new(PUB), b"large", content, &GIVEN, START)?;
     }
     Ok(())
 }
 
-// A call by the handle of a file, with what stands behind it.
+// A call by the handle of a file, with what stands after it.
 fn record(
     alloc: Global,
     tree: &Tree,
@@ -199,7 +202,7 @@ fn written(alloc: Global, tree: &Tree, file: u64, count: u32) -> io::Result<Vec<
     Ok(call)
 }
 
-// A call with more bytes behind it.
+// A call with more bytes after it.
 fn with(mut call: Vec<u8>, parts: &[&[u8]]) -> io::Result<Vec<u8>> {
     for part in parts {
         call.extend_from_slice(part)?;

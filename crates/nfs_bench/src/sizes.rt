@@ -25,7 +25,7 @@ const FIRST: Target = Target {
     name: [0, 0, 0, 4, b'A', b'A', b'A', b'A'],
 };
 
-// How far apart are two files that are named one after the other: a prime, so that none is left out.
+// How far apart are two files that are named one after the other: a prime, so that none is skipped.
 const STRIDE: u64 = 618_041;
 
 // Where a call has its handle, the bytes of its name, and those of the name that it gives.

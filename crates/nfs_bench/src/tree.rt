@@ -5,7 +5,7 @@ use nfs_conditions::bytes::may_write;
 use nfs_content::pages::Pages;
 use nfs_handles::number::{Hint, Number};
 use nfs_inodes::limits::MAX_FILE_BYTES;
-use nfs_inodes::new_file::NewFile;
+use nfs_inodes::new_file::{NewContent, NewFile};
 use nfs_inodes::tree::Tree;
 use nfs_inodes::volumes::Totals;
 use std::alloc::{AllocError, Global};
@@ -142,10 +142,10 @@ pub(crate) fn fill(
     bytes: &[u8],
 ) -> Result<Number, AllocError> {
     let name = letters(place);
-    if !tree.may_make_dir(ROOT, &name) {
+    if !tree.may_mkdir(ROOT, &name) {
         return Ok(ROOT);
     }
-    let dir = tree.make_dir(ROOT, &name, &GIVEN, START)?;
+    let dir = tree.mkdir(ROOT, &name, &GIVEN, START)?;
     for file in 0..files {
         add(tree, dir, &letters(file), offset, bytes)?;
     }
@@ -161,14 +161,17 @@ fn add(
     bytes: &[u8],
 ) -> Result<(), AllocError> {
     if tree.may_make(dir, name, 0) {
-        let content = Pages::zeros(tree.allocator(), 0);
-        let file = tree.make_file(dir, name, content, &GIVEN, None, START)?;
+        let content = NewContent {
+            pages: Pages::zeros(tree.allocator(), 0),
+            verifier: None,
+        };
+        let file = tree.make_file(dir, name, content, &GIVEN, START)?;
         put(tree, file, offset, bytes);
     }
     Ok(())
 }
 
-// One name more for each of so many files behind the first that have one, in a directory of their
+// One name more for each of so many files after the first that have one, in a directory of their
 // own: how many have one then.
 fn name_again(tree: &mut Tree, named: u32, names: u32) -> Result<u32, AllocError> {
     let dir = fill(tree, named.saturating_add(FILES), 0, 0, &[])?;

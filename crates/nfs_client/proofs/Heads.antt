@@ -1,13 +1,13 @@
--- What is written for the head of a call spells it, and who calls.
+-- What is written for the head of a call encodes it, and who calls.
 use Rattle.std.proofs.Common.{ℕ, ◌^◌, ◌<◌, ◌≤◌, List, [], ◌∷◌, length, refl, arith}
 use Rattle.std.specs.Int.{w32, to_be_bytes}
 use Rattle.std.specs.List.{AllByRecursion}
-use Rattle.nfs_xdr.specs.Spelling.{IsNumber, IsOpaque, AreItems, numbers_text}
+use Rattle.nfs_xdr.specs.Encoding.{IsNumber, IsOpaque, AreItems, numbers_text}
 use Rattle.nfs_xdr.proofs.Items.{opaque_written}
 use Rattle.nfs_xdr.proofs.Writing.{number_written, followed}
 use Rattle.nfs_rpc.specs.AuthSys.{Credential, IsAuthSys}
 use Rattle.nfs_rpc.specs.Calls.{IsCallHead}
-use Rattle.nfs_client.specs.declared.call.Call.{Call}
+use Rattle.nfs_client.specs.declared.call_header.CallHeader.{CallHeader}
 use Rattle.nfs_client.specs.Calls.{head_text, call_said, auth_sys_text}
 use Rattle.nfs_client.specs.ReadBack.{IsWord, CallFits, CredentialFits}
 
@@ -24,8 +24,8 @@ no_bytes = opaque_written 400 [] (omega arith) (omega arith)
 no_name : IsOpaque 255 [] (to_be_bytes w32 0)
 no_name = opaque_written 255 [] (omega arith) (omega arith)
 
-pub head_spelled : (call : Call) (body : List ℕ) → CallFits call → length body ≤ 400 → IsCallHead (call_said call body) (head_text call body)
-head_spelled call body fits few = (
+pub head_encoded : (call : CallHeader) (body : List ℕ) → CallFits call → length body ≤ 400 → IsCallHead (call_said call body) (head_text call body)
+head_encoded call body fits few = (
   record { flavor = 0; body = [] },
   followed _ _ _ _ (word call.xid fits.xid)
       (followed _ _ _ _ (word 0 (omega arith))
@@ -37,12 +37,12 @@ head_spelled call body fits few = (
       (followed _ _ _ _ (word 0 (omega arith)) no_bytes))))))),
 )
 
-pub credential_spelled : (cred : Credential) → CredentialFits cred → IsAuthSys cred (auth_sys_text cred)
-credential_spelled cred fits = (
+pub credential_encoded : (cred : Credential) → CredentialFits cred → IsAuthSys cred (auth_sys_text cred)
+credential_encoded cred fits = (
   record { stamp = 0; machine = [] },
   followed _ _ _ _ (word 0 (omega arith))
       (followed _ _ _ _ no_name
       (followed _ _ _ _ (word cred.uid fits.uid)
       (followed _ _ _ _ (word cred.gid fits.gid)
-      (record { bound = fits.few; spelled = followed _ _ _ _ (word (length cred.gids) (omega (arith, fits.few))) (are_words cred.gids fits.gids) })))),
+      (record { bound = fits.few; encoded = followed _ _ _ _ (word (length cred.gids) (omega (arith, fits.few))) (are_words cred.gids fits.gids) })))),
 )

@@ -1,5 +1,5 @@
 pub mod Numbers
 pub mod Ways
 pub mod Rooms
-pub mod Spelled
+pub mod Encoded
 pub mod Heads

@@ -3,7 +3,7 @@ use Rattle.std.proofs.Common.{◌≡◌, ℕ, ◌+◌, ◌*◌, ◌<◌, ◌≤�
 use Rattle.std.proofs.lemmas.List.{take_more}
 use Rattle.std.specs.Int.{w32, to_be_bytes}
 use Rattle.std.proofs.lemmas.Grind.{common_steps}
-use Rattle.nfs_xdr.specs.Spelling.{numbers_text}
+use Rattle.nfs_xdr.specs.Encoding.{numbers_text}
 use Rattle.nfs_xdr.specs.Written.{Written, Appends}
 use Rattle.nfs_xdr.proofs.Writing.{appends_then}
 
@@ -18,7 +18,7 @@ numbers_more ns i d inside = ap numbers_text (take_more ns i d inside) ∙ numbe
     numbers-append [] n = refl
     numbers-append (x ∷ xs) n = ap (λ t. to_be_bytes w32 x ++ t) (numbers-append xs n)
 
--- so many numbers behind a head
+-- so many numbers after a head
 pub room_left : (head ns : List ℕ) (i : ℕ) (x y : Written) → length head ≡ 20 → 84 ≤ x.room → length ns ≤ 16 → i < length ns → Appends (head ++ numbers_text (take i ns)) x y → 4 ≤ y.room
 room_left head ns i x y h room few inside written =
     omega (arith, h, room, few, inside, written.room, length-append head (numbers_text (take i ns)), length-numbers (take i ns), length_taken ns i (omega (arith, inside)))

@@ -2,11 +2,11 @@
 use Rattle.std.proofs.Common.{◌≡◌, ℕ, ◌+◌, ◌≤◌, List, length, Option, Some, None, arith, length-append}
 use Rattle.std.proofs.lemmas.Grind.{common_steps}
 use Rattle.std.specs.Int.{w32, w64, to_be_bytes}
-use Rattle.nfs_xdr.specs.Spelling.{opaque_text, optional_text}
+use Rattle.nfs_xdr.specs.Encoding.{opaque_text, optional_text}
 use Rattle.nfs_attrs.specs.declared.sattr.Sattr.{Sattr}
 use Rattle.nfs_attrs.specs.declared.time_setting.TimeSetting.{TimeSetting}
 use Rattle.nfs_attrs.specs.declared.time_setting.TimeSetting.TheVariants.{Leave, ServerTime, ClientTime}
-use Rattle.nfs_attrs.specs.Spelling.{sattr_text, time_setting_text}
+use Rattle.nfs_attrs.specs.Encoding.{sattr_text, time_setting_text}
 use Rattle.nfs_client.specs.declared.file_request.FileRequest.{FileRequest}
 use Rattle.nfs_client.specs.declared.file_request.FileRequest.TheVariants as of_file
 use Rattle.nfs_client.specs.Requests.{file_text, file_rest}
@@ -34,7 +34,7 @@ pub rest_room : (r : FileRequest) (content : List ℕ) → length (file_rest r c
 rest_room of_file.Stat content = omega arith
 rest_room (of_file.Set attributes) content = omega (arith, length-append (sattr_text attributes) (to_be_bytes w32 0), sattr_room attributes)
 rest_room of_file.Access content = omega arith
-rest_room of_file.ReadLink content = omega arith
+rest_room of_file.Readlink content = omega arith
 rest_room (of_file.Read offset count) content = omega arith
 rest_room (of_file.Write offset digits) content = omega (arith, opaque_room content)
 rest_room (of_file.List cookie) content = omega arith
@@ -44,6 +44,6 @@ rest_room of_file.Limits content = omega arith
 rest_room of_file.PathLimits content = omega arith
 rest_room of_file.Commit content = omega arith
 
--- behind a handle of 24 bytes
+-- after a handle of 24 bytes
 pub file_room : (r : FileRequest) (file content : List ℕ) → length file ≡ 24 → length (file_text r file content) ≤ 100 + length content
 file_room r file content sized = omega (arith, sized, length-append (opaque_text file) (file_rest r content), opaque_room file, rest_room r content)

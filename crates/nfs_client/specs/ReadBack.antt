@@ -10,7 +10,7 @@ use Rattle.nfs_args.specs.declared.procedure.Procedure.{Procedure}
 use Rattle.nfs_args.specs.declared.args.NfsArgs.{NfsArgs}
 use Rattle.nfs_args.specs.Reading.{args_at}
 use Rattle.nfs_client.specs.Calls.{head_text, call_said, auth_sys_text}
-use Rattle.nfs_client.specs.declared.call.Call.{Call}
+use Rattle.nfs_client.specs.declared.call_header.CallHeader.{CallHeader}
 use Rattle.nfs_client.specs.declared.file_request.FileRequest.{FileRequest}
 use Rattle.nfs_client.specs.declared.file_request.FileRequest.TheVariants as of_file
 use Rattle.nfs_client.specs.declared.name_request.NameRequest.{NameRequest}
@@ -46,7 +46,7 @@ abbrev pub FileFits : FileRequest → Type 0
 FileFits of_file.Stat = Unit {0}
 FileFits (of_file.Set attributes) = SattrFits attributes
 FileFits of_file.Access = Unit {0}
-FileFits of_file.ReadLink = Unit {0}
+FileFits of_file.Readlink = Unit {0}
 FileFits (of_file.Read offset count) = IsHyper offset × IsWord count
 FileFits (of_file.Write offset digits) = IsHyper offset
 FileFits (of_file.List cookie) = IsHyper cookie
@@ -59,11 +59,11 @@ FileFits of_file.Commit = Unit {0}
 abbrev pub NameFits : NameRequest → Type 0
 NameFits of_name.Lookup = Unit {0}
 NameFits (of_name.Create attributes) = SattrFits attributes
-NameFits (of_name.MakeDir attributes) = SattrFits attributes
-NameFits (of_name.SymLink path) = length path.now < 2 ^ 32
-NameFits of_name.MakeNode = Unit {0}
+NameFits (of_name.Mkdir attributes) = SattrFits attributes
+NameFits (of_name.Symlink path) = length path.now < 2 ^ 32
+NameFits of_name.Mknod = Unit {0}
 NameFits of_name.Remove = Unit {0}
-NameFits of_name.RemoveDir = Unit {0}
+NameFits of_name.Rmdir = Unit {0}
 
 -- ---- what is read back, whatever follows it
 
@@ -78,13 +78,13 @@ abbrev pub NamesAreReadBack : Type 0
 NamesAreReadBack = (r : NameRequest) (dir name : List ℕ) → NameFits r → length dir ≤ 64 → length name < 2 ^ 32
     → AreReadBack (name_procedure r) (name_args r dir name) (name_text r dir name)
 
-pub record CallFits (call : Call) : Type 0 where
+pub record CallFits (call : CallHeader) : Type 0 where
   pub xid : IsWord call.xid
   pub program : IsWord call.program
   pub procedure : IsWord call.procedure
 
 abbrev pub HeadsAreReadBack : Type 0
-HeadsAreReadBack = (call : Call) (body rest : List ℕ) → CallFits call → length body ≤ 400 → head_at (head_text call body ++ rest) ≡ Ok (call_said call body, rest)
+HeadsAreReadBack = (call : CallHeader) (body rest : List ℕ) → CallFits call → length body ≤ 400 → head_at (head_text call body ++ rest) ≡ Ok (call_said call body, rest)
 
 pub record CredentialFits (cred : Credential) : Type 0 where
   pub uid : IsWord cred.uid

@@ -1,9 +1,10 @@
 -- The record of a call that is asked for, over a tree.
 use Rattle.std.specs.Prelude.{◌≡◌, ℕ, Bool, true, false, ◌||◌, nat_lt, length, List, ◌++◌, Option, Some, None, Result, Ok, Err}
-use Rattle.nfs_xdr.specs.Spelling.{opaque_text}
+use Rattle.nfs_xdr.specs.Encoding.{opaque_text}
 use Rattle.hex.specs.Hex.{decode_of}
 use Rattle.nfs_rpc.specs.AuthSys.{Credential, credential_of}
 use Rattle.nfs_args.specs.Procedures.{procedure_number, mount_number}
+use Rattle.nfs_args.specs.Programs.{NFS, MOUNT}
 use Rattle.nfs_args.specs.declared.procedure.Procedure.{Procedure}
 use Rattle.nfs_args.specs.declared.procedure.Procedure.TheVariants as proc
 use Rattle.nfs_args.specs.declared.procedure.MountProcedure.{MountProcedure}
@@ -18,7 +19,7 @@ use Rattle.nfs_client.specs.declared.request.Request.TheVariants as request
 use Rattle.nfs_client.specs.declared.file_request.FileRequest.{FileRequest}
 use Rattle.nfs_client.specs.declared.name_request.NameRequest.{NameRequest}
 use Rattle.nfs_client.specs.Calls.{head_text, auth_sys_text}
-use Rattle.nfs_client.specs.Places.{Place, place_at, file_at, handle_in}
+use Rattle.nfs_client.specs.Places.{ResolvedPath, place_at, file_at, handle_in}
 use Rattle.nfs_client.specs.Requests.{digits_of, target_of, file_procedure, file_text, name_procedure, name_text, dir_op_text}
 
 -- a call's number, and who calls
@@ -35,10 +36,10 @@ head_of s program procedure = head_text (record { xid = s.xid; program = program
 
 -- a call of NFS, and one of MOUNT
 abbrev pub nfs_text : Sent → Procedure → List ℕ → List ℕ
-nfs_text s p args = head_of s 100003 (procedure_number p) ++ args
+nfs_text s p args = head_of s NFS (procedure_number p) ++ args
 
 abbrev pub mount_text : Sent → MountProcedure → List ℕ → List ℕ
-mount_text s p args = head_of s 100005 (mount_number p) ++ args
+mount_text s p args = head_of s MOUNT (mount_number p) ++ args
 
 -- the handle of the file that a path names
 abbrev pub handle_of_path : Tree → List ℕ → Option (List ℕ)
@@ -52,7 +53,7 @@ pub record Named : Type 0 where
 abbrev pub named_seen : kept_named.Named → Named
 named_seen named = record { handle = named.handle; name = named.name.now }
 
-abbrev pub named_at : Tree → Place → Option Named
+abbrev pub named_at : Tree → ResolvedPath → Option Named
 named_at t place = on_some (handle_in t place.dir) None (λ handle. Some (record { handle = handle; name = place.name }))
 
 -- the directory that a path ends in, and the name that it ends with

@@ -9,7 +9,7 @@ pub enum Part {
     /// The path that it is asked of.
     Path,
     /// A second path, or what a link is to hold.
-    BehindPath,
+    AfterPath,
     /// The bytes that are to be written.
     Bytes,
 }

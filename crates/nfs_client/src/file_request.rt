@@ -17,7 +17,7 @@ pub enum FileRequest<'a> {
     /// ACCESS, for all rights.
     Access,
     /// READLINK.
-    ReadLink,
+    Readlink,
     /// READ.
     Read {
         /// Where the bytes begin.
@@ -32,9 +32,9 @@ pub enum FileRequest<'a> {
         /// The bytes, in hexadecimal digits.
         digits: &'a [u8],
     },
-    /// READDIR, of the entries behind this cookie.
+    /// READDIR, of the entries after this cookie.
     List(u64),
-    /// READDIRPLUS, of the entries behind this cookie.
+    /// READDIRPLUS, of the entries after this cookie.
     ListPlus(u64),
     /// FSSTAT.
     Room,
@@ -58,17 +58,17 @@ impl<'a> FileRequest<'a> {
         ensures { result ≡ file_procedure self.entry }
     {
         match self {
-            FileRequest::Stat => Procedure::GetAttr,
-            FileRequest::Set(_) => Procedure::SetAttr,
+            FileRequest::Stat => Procedure::Getattr,
+            FileRequest::Set(_) => Procedure::Setattr,
             FileRequest::Access => Procedure::Access,
-            FileRequest::ReadLink => Procedure::ReadLink,
+            FileRequest::Readlink => Procedure::Readlink,
             FileRequest::Read { .. } => Procedure::Read,
             FileRequest::Write { .. } => Procedure::Write,
-            FileRequest::List(_) => Procedure::ReadDir,
-            FileRequest::ListPlus(_) => Procedure::ReadDirPlus,
-            FileRequest::Room => Procedure::FsStat,
-            FileRequest::Limits => Procedure::FsInfo,
-            FileRequest::PathLimits => Procedure::PathConf,
+            FileRequest::List(_) => Procedure::Readdir,
+            FileRequest::ListPlus(_) => Procedure::Readdirplus,
+            FileRequest::Room => Procedure::Fsstat,
+            FileRequest::Limits => Procedure::Fsinfo,
+            FileRequest::PathLimits => Procedure::Pathconf,
             FileRequest::Commit => Procedure::Commit,
         }
     }
@@ -93,7 +93,7 @@ impl<'a> FileRequest<'a> {
         out.opaque(file);
         match self {
             FileRequest::Stat
-            | FileRequest::ReadLink
+            | FileRequest::Readlink
             | FileRequest::Room
             | FileRequest::Limits
             | FileRequest::PathLimits => {}

@@ -15,15 +15,15 @@ pub enum NameRequest<'a> {
     /// CREATE, unchecked.
     Create(Sattr),
     /// MKDIR.
-    MakeDir(Sattr),
+    Mkdir(Sattr),
     /// SYMLINK, of a link that holds this path.
-    SymLink(&'a [u8]),
+    Symlink(&'a [u8]),
     /// MKNOD, of a named pipe.
-    MakeNode,
+    Mknod,
     /// REMOVE.
     Remove,
     /// RMDIR.
-    RemoveDir,
+    Rmdir,
 }
 
 // The type of a named pipe.
@@ -37,11 +37,11 @@ impl<'a> NameRequest<'a> {
         match self {
             NameRequest::Lookup => Procedure::Lookup,
             NameRequest::Create(_) => Procedure::Create,
-            NameRequest::MakeDir(_) => Procedure::MakeDir,
-            NameRequest::SymLink(_) => Procedure::SymLink,
-            NameRequest::MakeNode => Procedure::MakeNode,
+            NameRequest::Mkdir(_) => Procedure::Mkdir,
+            NameRequest::Symlink(_) => Procedure::Symlink,
+            NameRequest::Mknod => Procedure::Mknod,
             NameRequest::Remove => Procedure::Remove,
-            NameRequest::RemoveDir => Procedure::RemoveDir,
+            NameRequest::Rmdir => Procedure::Rmdir,
         }
     }
 
@@ -50,7 +50,7 @@ impl<'a> NameRequest<'a> {
         ensures { result.now ≡ target_of self.entry }
     {
         match self {
-            NameRequest::SymLink(path) => path,
+            NameRequest::Symlink(path) => path,
             _ => &[],
         }
     }
@@ -66,17 +66,17 @@ impl<'a> NameRequest<'a> {
         out.opaque(dir);
         out.opaque(name);
         match self {
-            NameRequest::Lookup | NameRequest::Remove | NameRequest::RemoveDir => {}
+            NameRequest::Lookup | NameRequest::Remove | NameRequest::Rmdir => {}
             NameRequest::Create(attributes) => {
                 out.u32(0);
                 write_sattr(out, &attributes);
             }
-            NameRequest::MakeDir(attributes) => write_sattr(out, &attributes),
-            NameRequest::SymLink(path) => {
+            NameRequest::Mkdir(attributes) => write_sattr(out, &attributes),
+            NameRequest::Symlink(path) => {
                 out.numbers([0, 0, 0, 0, 0, 0]);
                 out.opaque(path);
             }
-            NameRequest::MakeNode => {
+            NameRequest::Mknod => {
                 out.u32(FIFO);
                 out.numbers([0, 0, 0, 0, 0, 0]);
             }

@@ -7,14 +7,15 @@ ghost use Rattle.nfs_client.specs.Records.{file_record, name_record, rename_reco
 ghost use Rattle.nfs_client.specs.Records.{OnlyWithout, IsFileFault, IsNameFault, IsRenameFault, IsLinkFault, IsNamedFault, IsRecordFault};
 ghost use Rattle.nfs_client.specs.Records.{is_long, is_long_content, ok_of};
 
-use crate::call::{Call, MAX_HEAD_BYTES, write_head};
+use crate::call_header::{CallHeader, MAX_HEAD_BYTES, write_head};
 use crate::credential::{MAX_AUTH_SYS_BYTES, write_auth_sys};
 use crate::fault::{CallFault, Part};
 use crate::file_request::FileRequest;
 use crate::name_request::NameRequest;
-use crate::place::{find_file, find_place};
 use crate::request::Request;
+use crate::resolved_path::{find_file, find_place};
 use nfs_args::procedure::{MountProcedure, Procedure};
+use nfs_args::program::{MOUNT_PROGRAM, NFS_PROGRAM};
 use nfs_inodes::tree::Tree;
 use nfs_rpc::auth_sys::Cred;
 use nfs_xdr::output::Output;
@@ -43,7 +44,7 @@ struct Named<'a> {
 // The longest path, link or content that is asked for.
 const MAX_WORD_BYTES: usize = 262_144;
 
-// The most bytes of what stands beside some opaque data (its length and its padding), of a handle behind its
+// The most bytes of what stands beside some opaque data (its length and its padding), of a handle after its
 // length, and of sattr3 with the words beside it.
 const OPAQUE_BYTES: usize = 8;
 
@@ -58,14 +59,9 @@ const NAME_BYTES: usize = HANDLE_BYTES + OPAQUE_BYTES + ATTRIBUTES_BYTES + OPAQU
 
 const TWO_PLACES_BYTES: usize = 2 * (HANDLE_BYTES + OPAQUE_BYTES);
 
-// The programs (RFC 1813, sections 3 and 5).
-const NFS: u32 = 100_003;
-
-const MOUNT: u32 = 100_005;
-
 impl<'a> Sender<'a> {
     /// The record of a call, without a mark, by AUTH_SYS with the stamp 0 and a machine without a name, and
-    /// with the handles that the paths have in the tree. Calls of other numbers are no repeats of each other.
+    /// with the handles that the paths have in the tree. Calls of other numbers are no retransmissions of each other.
     /// `NoFile` where a path leads to none, `BadDigits` and `TooLong` as they say, and `Memory` where there is
     /// none; nothing is changed in any case.
     pub fn record(self, path: &[u8], request: Request<'_>) -> Result<Vec<u8>, CallFault>
@@ -100,7 +96,7 @@ impl<'a> Sender<'a> {
         let file = self.handle_of(path)?;
         let content = self.content_of(request.digits())?;
         let room = FILE_BYTES + content.len();
-        let mut out = self.begin(NFS, request.procedure().number(), room)?;
+        let mut out = self.begin(NFS_PROGRAM, request.procedure().number(), room)?;
         request.write(&mut out, &file, content.as_slice());
         Ok(out)
     }
@@ -113,10 +109,10 @@ impl<'a> Sender<'a> {
         let named = self.named(path, Part::Path)?;
         let target = request.target();
         if target.len() > MAX_WORD_BYTES {
-            return Err(CallFault::TooLong(Part::BehindPath));
+            return Err(CallFault::TooLong(Part::AfterPath));
         }
         let room = NAME_BYTES + named.name.len() + target.len();
-        let mut out = self.begin(NFS, request.procedure().number(), room)?;
+        let mut out = self.begin(NFS_PROGRAM, request.procedure().number(), room)?;
         request.write(&mut out, &named.handle, named.name);
         Ok(out)
     }
@@ -127,9 +123,9 @@ impl<'a> Sender<'a> {
         ensures fault { IfErr result (IsRenameFault self.entry.tree.now (sent_by self.entry) path.now to.now) }
     {
         let from = self.named(path, Part::Path)?;
-        let to = self.named(to, Part::BehindPath)?;
+        let to = self.named(to, Part::AfterPath)?;
         let room = TWO_PLACES_BYTES + from.name.len() + to.name.len();
-        let mut out = self.begin(NFS, Procedure::Rename.number(), room)?;
+        let mut out = self.begin(NFS_PROGRAM, Procedure::Rename.number(), room)?;
         out.opaque(&from.handle);
         out.opaque(from.name);
         out.opaque(&to.handle);
@@ -143,9 +139,9 @@ impl<'a> Sender<'a> {
         ensures fault { IfErr result (IsLinkFault self.entry.tree.now (sent_by self.entry) path.now name.now) }
     {
         let file = self.handle_of(path)?;
-        let to = self.named(name, Part::BehindPath)?;
+        let to = self.named(name, Part::AfterPath)?;
         let mut out = self.begin(
-            NFS,
+            NFS_PROGRAM,
             Procedure::Link.number(),
             TWO_PLACES_BYTES + to.name.len(),
         )?;
@@ -163,12 +159,12 @@ impl<'a> Sender<'a> {
         if path.len() > MAX_WORD_BYTES {
             return Err(CallFault::TooLong(Part::Path));
         }
-        let mut out = self.begin(MOUNT, procedure.number(), OPAQUE_BYTES + path.len())?;
+        let mut out = self.begin(MOUNT_PROGRAM, procedure.number(), OPAQUE_BYTES + path.len())?;
         out.opaque(path);
         Ok(out)
     }
 
-    // An output with the head of a call, and with this room behind it.
+    // An output with the head of a call, and with this room after it.
     fn begin(self, program: u32, procedure: u32, room: usize) -> Result<Output, CallFault>
         requires { room < 2 ^ 32 }
         ensures text { IfOk result (λ out. out.bytes ≡ head_of (sent_by self.entry) program procedure) }
@@ -177,7 +173,7 @@ impl<'a> Sender<'a> {
     {
         let mut credential = Output::new(self.alloc, MAX_AUTH_SYS_BYTES)?;
         write_auth_sys(&mut credential, self.cred);
-        let call = Call {
+        let call = CallHeader {
             xid: self.xid,
             program,
             procedure,

@@ -40,7 +40,7 @@ pub(crate) fn cache<'a>(alloc: Global) -> Arg<'a> {
         alloc,
         "cache",
         "C",
-        "How many replies are kept for repeated calls, 1 to 1024",
+        "How many replies the reply cache holds for retransmissions, 1 to 1024",
     )
     .value_parser(value_parser!(u32).range(1..=1024))
     .default_value("128")
@@ -52,7 +52,7 @@ pub(crate) fn save<'a>(alloc: Global) -> Arg<'a> {
         alloc,
         "save",
         "FILE",
-        "Writes the tree as it is at the end, as a description",
+        "Writes the tree at the end to FILE, as a description",
     )
 }
 
@@ -62,15 +62,15 @@ pub(crate) fn key<'a>(alloc: Global) -> Arg<'a> {
         alloc,
         "key",
         "KEY",
-        "The server's key in what is written, 16 hexadecimal digits; a new one each time, where not given",
+        "The server's key in what is written, 16 hexadecimal digits [default: a new one each time]",
     )
 }
 
-/// Whether denied calls are told with names.
+/// Whether denied calls are reported with names.
 pub(crate) fn names<'a>(alloc: Global) -> Arg<'a> {
     flag(
         alloc,
         "names",
-        "Prints behind a denied call the procedure's name, and the path of the file",
+        "Adds the procedure's name and the file's path to the line of a denied call",
     )
 }

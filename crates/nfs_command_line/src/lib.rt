@@ -2,8 +2,8 @@
 #![tactic(auto)]
 
 mod arguments;
+pub mod invocation;
 mod questions;
-pub mod request;
 mod runs;
 mod usage;
 pub mod words;

@@ -7,43 +7,39 @@ use std::alloc::{AllocError, Global};
 /// `check TREE [--strict] [--all]`.
 pub(crate) fn check<'a>(alloc: Global) -> Result<Command<'a>, AllocError> {
     Command::new(alloc, "check")
-        .about("Reads a description, and says how many volumes, files and bytes it has")
+        .about("Checks a description, and prints how many volumes, files and bytes it has")
         .arg(tree(alloc))?
-        .arg(flag(
-            alloc,
-            "strict",
-            "Ends with the status 1 where there is a warning",
-        ))?
+        .arg(flag(alloc, "strict", "Exits with status 1 if there is a warning"))?
         .arg(flag(
             alloc,
             "all",
-            "Goes on behind the first faulty line, and tells the others too",
+            "Goes on after the first faulty line, and reports the others too",
         ))
 }
 
 /// `why TREE ADDRESS USER OPERATION PATH [PATH2]`.
 pub(crate) fn why<'a>(alloc: Global) -> Result<Command<'a>, AllocError> {
     Command::new(alloc, "why")
-        .about("Says rule by rule why a call is granted or denied, without a client")
+        .about("Explains rule by rule why a call is granted or denied, without a client")
         .arg(tree(alloc))?
         .arg(word(alloc, "address", "ADDRESS", "The client's address"))?
         .arg(word(
             alloc,
             "user",
             "UID[:GID[,GID..]]",
-            "The user, in the client's words: its number, its group's and those of more groups",
+            "The user that the client names: the numbers of the user, its group and more groups",
         ))?
         .arg(word(
             alloc,
             "operation",
             "OPERATION",
-            "What is done: read, write, create, remove, mkdir, rename, list, chmod, mount and others",
+            "What the call does: read, write, create, remove, mkdir, rename, list, chmod, mount and others",
         ))?
         .arg(word(
             alloc,
             "path",
             "PATH",
-            "With what: a path that goes on from a volume's, as clients see it",
+            "Which file: a path that begins with that of a volume, as clients see it",
         ))?
         .arg(second(alloc))
 }
@@ -57,6 +53,6 @@ fn second<'a>(alloc: Global) -> Arg<'a> {
 /// `exports TREE`.
 pub(crate) fn exports<'a>(alloc: Global) -> Result<Command<'a>, AllocError> {
     Command::new(alloc, "exports")
-        .about("Says who may reach which volume under which options, as exportfs -v prints it")
+        .about("Prints who may reach which volume with which options, as exportfs -v does")
         .arg(tree(alloc))
 }

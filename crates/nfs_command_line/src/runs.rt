@@ -7,18 +7,18 @@ use std::alloc::{AllocError, Global};
 /// `replay TREE SCRIPT [--cache C] [--save FILE [--key KEY]] [--decode] [--names]`.
 pub(crate) fn replay<'a>(alloc: Global) -> Result<Command<'a>, AllocError> {
     Command::new(alloc, "replay")
-        .about("Runs a script of calls over a description, and prints the replies")
+        .about("Runs a script of calls against a description, and prints the replies")
         .arg(tree(alloc))?
         .arg(word(
             alloc,
             "script",
             "SCRIPT",
-            "The script to run (its lines are told in docs/PROTOCOL.md); - is standard input",
+            "The script to run (docs/PROTOCOL.md lists its lines); - is standard input",
         ))?
         .arg(cache(alloc))?
         .arg(save(alloc))?
         .arg(key(alloc).requires_arg("save")?)?
-        .arg(flag(alloc, "decode", "Prints each reply in words too"))?
+        .arg(flag(alloc, "decode", "Also prints each reply in words"))?
         .arg(names(alloc))
 }
 
@@ -45,7 +45,7 @@ pub(crate) fn serve<'a>(alloc: Global) -> Result<Command<'a>, AllocError> {
     with_saving(alloc, with_lines(alloc, command)?)
 }
 
-// With what is told of calls and clients.
+// With what is reported of calls and clients.
 fn with_lines<'a>(alloc: Global, command: Command<'a>) -> Result<Command<'a>, AllocError> {
     command
         .arg(audit(alloc))?
@@ -56,7 +56,7 @@ fn with_lines<'a>(alloc: Global, command: Command<'a>) -> Result<Command<'a>, Al
         .arg(flag(
             alloc,
             "verbose",
-            "Tells on standard error of clients that come and go",
+            "Reports clients that come and go on standard error",
         ))
 }
 
@@ -73,7 +73,7 @@ fn listen<'a>(alloc: Global) -> Arg<'a> {
         alloc,
         "listen",
         "ADDRESS",
-        "The address to listen at, of IPv4 or IPv6",
+        "The IPv4 or IPv6 address to listen on",
     )
     .default_value("127.0.0.1")
 }
@@ -83,7 +83,7 @@ fn port<'a>(alloc: Global) -> Arg<'a> {
         alloc,
         "port",
         "P",
-        "The port to listen at; 0 has the system choose one",
+        "The port to listen on; 0 lets the system choose one",
     )
     .value_parser(value_parser!(u32).range(0..=65_535))
     .default_value("2049")
@@ -94,7 +94,7 @@ fn connections<'a>(alloc: Global) -> Arg<'a> {
         alloc,
         "connections",
         "N",
-        "Ends when so many connections have come and gone; without it, when it is stopped",
+        "Exits after this many connections have ended; without it, the server runs until it is stopped",
     )
     .value_parser(value_parser!(u32).range(0..=1_000_000))
 }
@@ -104,7 +104,7 @@ fn clients<'a>(alloc: Global) -> Arg<'a> {
         alloc,
         "clients",
         "M",
-        "How many clients are served at once; the next is closed",
+        "How many clients are served at once; further connections are closed",
     )
     .value_parser(value_parser!(u32).range(1..=65_536))
     .default_value("1024")
@@ -115,7 +115,7 @@ fn idle<'a>(alloc: Global) -> Arg<'a> {
         alloc,
         "idle",
         "SECONDS",
-        "Ends a connection on which nothing comes for so long",
+        "Closes a connection that has been silent for so long",
     )
     .value_parser(value_parser!(u32).range(1..=1_000_000))
 }
@@ -125,7 +125,7 @@ fn audit<'a>(alloc: Global) -> Arg<'a> {
         alloc,
         "audit",
         "FILE",
-        "Where the lines of denied calls are appended; without it they are printed",
+        "Appends the lines of denied calls to this file; without it they are printed",
     )
 }
 
@@ -134,7 +134,7 @@ fn audit_failed<'a>(alloc: Global) -> Arg<'a> {
         alloc,
         "audit-failed",
         "WHAT",
-        "Once lines can't be written any more: refuse ends the connection of a call that would be denied, count answers it and counts the line",
+        "What to do once lines can no longer be written: refuse closes the connection of a call that would be denied, count answers it and counts the line",
     )
     .value_parser(["refuse", "count"].as_slice())
     .default_value("refuse")
@@ -145,7 +145,7 @@ fn audit_skip<'a>(alloc: Global) -> Arg<'a> {
         alloc,
         "audit-skip",
         "RULES",
-        "The rules whose denied calls get no line, as such lines name them, with a comma between two",
+        "Writes no line for calls denied by these rules: their names as lines have them, separated by commas",
     )
 }
 
@@ -154,7 +154,7 @@ fn save_every<'a>(alloc: Global) -> Arg<'a> {
         alloc,
         "save-every",
         "SECONDS",
-        "Saves the tree so often too, where it has changed",
+        "Also saves the tree this often, if it has changed",
     )
     .value_parser(value_parser!(u32).range(1..=1_000_000))
 }
@@ -162,12 +162,12 @@ fn save_every<'a>(alloc: Global) -> Arg<'a> {
 /// `describe DIRECTORY --mount PATH [--export PATTERN=OPTIONS].. [--bytes N] [--files N] [--key KEY]`.
 pub(crate) fn describe<'a>(alloc: Global) -> Result<Command<'a>, AllocError> {
     Command::new(alloc, "describe")
-        .about("Prints the description of a directory as it is on disk, with its modes and owners")
+        .about("Prints the description of a directory on disk, with its modes and owners")
         .arg(word(
             alloc,
             "directory",
             "DIRECTORY",
-            "The directory, whose links are not followed",
+            "The directory; symbolic links are not followed",
         ))?
         .arg(mount(alloc))?
         .arg(export(alloc))?
@@ -177,7 +177,7 @@ pub(crate) fn describe<'a>(alloc: Global) -> Result<Command<'a>, AllocError> {
 }
 
 fn mount<'a>(alloc: Global) -> Arg<'a> {
-    option(alloc, "mount", "PATH", "The path that clients mount it by").required(true)
+    option(alloc, "mount", "PATH", "The path that clients mount").required(true)
 }
 
 fn export<'a>(alloc: Global) -> Arg<'a> {
@@ -185,7 +185,7 @@ fn export<'a>(alloc: Global) -> Arg<'a> {
         alloc,
         "export",
         "PATTERN=OPTIONS",
-        "To whom it is exported, as 10.1.0.0/16=ro; may be given more than once",
+        "Exports it to PATTERN, for example 10.1.0.0/16=ro; may be given more than once",
     )
     .action(ArgAction::Append)
 }
@@ -195,7 +195,7 @@ fn bytes<'a>(alloc: Global) -> Arg<'a> {
         alloc,
         "bytes",
         "N",
-        "The most bytes of the volume; twice what it has, and at least 1000000000, where not given",
+        "The most bytes that the volume may have [default: twice what it has, at least 1000000000]",
     )
     .value_parser(value_parser!(u64))
 }
@@ -205,7 +205,7 @@ fn files<'a>(alloc: Global) -> Arg<'a> {
         alloc,
         "files",
         "N",
-        "The most files of the volume; twice what it has, and at least 100000, where not given",
+        "The most files that the volume may have [default: twice what it has, at least 100000]",
     )
     .value_parser(value_parser!(u64))
 }

@@ -1,13 +1,13 @@
 //! What is wrong with words that the commands take.
 
-use crate::request::Serve;
+use crate::invocation::Serve;
 use thiserror::Error;
 
 /// What is wrong with words, and what to do.
 #[derive(Clone, Copy, Debug, PartialEq, Eq, Error)]
 pub(crate) enum UsageFault {
     /// A key isn't 16 hexadecimal digits.
-    #[error("invalid value for '--key <KEY>': it has to be 16 hexadecimal digits, as 0123456789abcdef")]
+    #[error("invalid value for '--key <KEY>': it must be 16 hexadecimal digits, such as 0123456789abcdef")]
     Key,
     /// A service is never saved, since it doesn't end.
     #[error("--save FILE writes when the service ends: add --connections N, or --save-every SECONDS")]

@@ -1,7 +1,7 @@
 //! The words that the program was started with, once they are understood.
 
+use crate::invocation::Invocation;
 use crate::questions::{check, exports, why};
-use crate::request::Request;
 use crate::runs::{describe, replay, self_call, serve};
 use crate::usage::UsageFault;
 use clap::error::ErrorKind;
@@ -9,7 +9,7 @@ use clap::{ArgMatches, Command};
 use std::alloc::{AllocError, Global};
 use std::process::ExitCode;
 
-// What `--version` prints behind the program's name.
+// What `--version` prints after the program's name.
 const VERSION: &str = "1.0.0";
 
 /// Words that ask for something.
@@ -20,7 +20,7 @@ pub struct Words<'a> {
 
 /// Why words ask for nothing more.
 #[derive(Clone, Copy)]
-pub enum Told {
+pub enum Reported {
     /// They ask for help or the version, or one is faulty; that is printed, and the program ends.
     All(ExitCode),
     /// It can't be printed.
@@ -29,9 +29,9 @@ pub enum Told {
     Memory,
 }
 
-impl From<AllocError> for Told {
-    fn from(_error: AllocError) -> Told {
-        Told::Memory
+impl From<AllocError> for Reported {
+    fn from(_error: AllocError) -> Reported {
+        Reported::Memory
     }
 }
 
@@ -42,23 +42,23 @@ impl<'a> Words<'a> {
         rt: &R,
         alloc: Global,
         words: &'a [String],
-    ) -> Result<Words<'a>, Told> {
+    ) -> Result<Words<'a>, Reported> {
         match command(alloc)?.try_get_matches_from(words) {
             Ok(matches) => Words { matches }.checked(rt),
-            Err(error) if error.kind() == ErrorKind::OutOfMemory => Err(Told::Memory),
-            Err(error) if error.print(rt).is_err() => Err(Told::Write),
-            Err(error) if error.exit_code() == 0 => Err(Told::All(ExitCode::SUCCESS)),
-            Err(_) => Err(Told::All(ExitCode::from(2))),
+            Err(error) if error.kind() == ErrorKind::OutOfMemory => Err(Reported::Memory),
+            Err(error) if error.print(rt).is_err() => Err(Reported::Write),
+            Err(error) if error.exit_code() == 0 => Err(Reported::All(ExitCode::SUCCESS)),
+            Err(_) => Err(Reported::All(ExitCode::from(2))),
         }
     }
 
     // The words, unless what they say together is at fault.
-    fn checked<R: Eprint>(self, rt: &R) -> Result<Words<'a>, Told> {
+    fn checked<R: Eprint>(self, rt: &R) -> Result<Words<'a>, Reported> {
         match self.fault() {
             None => Ok(self),
             Some(fault) => {
                 let _ = eprintln!(rt; "error: {fault}");
-                Err(Told::All(ExitCode::from(2)))
+                Err(Reported::All(ExitCode::from(2)))
             }
         }
     }
@@ -68,9 +68,9 @@ impl<'a> Words<'a> {
     }
 
     /// What the words ask for, if anything.
-    pub fn request(&self) -> Option<Request<'_>> {
+    pub fn request(&self) -> Option<Invocation<'_>> {
         let (name, words) = self.matches.subcommand()?;
-        Request::of(name, words)
+        Invocation::of(name, words)
     }
 }
 
@@ -82,7 +82,7 @@ fn command<'a>(alloc: Global) -> Result<Command<'a>, AllocError> {
             "An NFS version 3 server with its MOUNT service, in memory, with access rules proved",
         )
         .after_help(
-            "A first try, beside the folder examples: nfs3d replay examples/e.tree examples/read.script",
+            "Try first, in the repository: nfs3d replay examples/e.tree examples/read.script",
         )
         .subcommand_required(true)
         .arg_required_else_help(true);

@@ -1,4 +1,4 @@
--- What names and entries tell: what a name names, that a directory is empty, that an entry may go.
+-- What names and entries report: what a name names, that a directory is empty, that an entry may go.
 use Rattle.std.proofs.Common.{◌≡◌, ◌≢◌, ℕ, ◌<◌, ◌≤◌, Bool, true, false, cond, List, [], ◌∷◌, bytes_eq, Option, Some, None, option_map, refl, sym, ap, subst, ◌∙◌, arith}
 use Rattle.std.specs.Prelude.{All, is_some, not}
 use Rattle.std.specs.Bool.{Decides}
@@ -51,14 +51,14 @@ module _ (d : ℕ) (name : List ℕ) (is : IsName name) where
   other : (name' : List ℕ) → name ≢ name' → bytes_eq name' name ≡ false
   other name' apart = by_test (bytes_eq name' name) (λ y. absurd (apart (sym ((bytes_eq-Decides name' name).0 y)))) (λ n. n)
 
-  behind : (one two : Bool) (x y : Entry) (o : Option Entry) → one ≡ false → two ≡ false → option_map number (cond one (Some x) (cond two (Some y) o)) ≡ option_map number o
-  behind true two x y o e g = cc
-  behind false true x y o e g = cc
-  behind false false x y o e g = refl
+  after : (one two : Bool) (x y : Entry) (o : Option Entry) → one ≡ false → two ≡ false → option_map number (cond one (Some x) (cond two (Some y) o)) ≡ option_map number o
+  after true two x y o e g = cc
+  after false true x y o e g = cc
+  after false false x y o e g = refl
 
   in_kind : (k : Kind) → number_named name (listing d k) ≡ number_named name (entries_in k)
   in_kind (Regular bytes) = refl
-  in_kind (Directory parent next_cookie entries) = behind (bytes_eq dot name) (bytes_eq dot_dot name) (record { cookie = 1; name = dot; number = d }) (record { cookie = 2; name = dot_dot; number = parent }) (entry_named name entries)
+  in_kind (Directory parent next_cookie entries) = after (bytes_eq dot name) (bytes_eq dot_dot name) (record { cookie = 1; name = dot; number = d }) (record { cookie = 2; name = dot_dot; number = parent }) (entry_named name entries)
       (other dot is.no_dot) (other dot_dot is.no_dot_dot)
   in_kind (Link path) = refl
 
@@ -85,8 +85,8 @@ none_listed next (e ∷ es) all none =
 pub entries_are : (t : Tree) (n : ℕ) (f : File) → Lives t n f → entries_at t n ≡ entries_in f.kind
 entries_are t n f e = ap (λ o. on_some o [] (λ f. entries_in f.kind)) e
 
-none_behind : (t : Tree) → Law t → (n : ℕ) → entry_after t n 2 ≡ None → entries_at t n ≡ []
-none_behind t law n none = by_option (at n t.files)
+none_after : (t : Tree) → Law t → (n : ℕ) → entry_after t n 2 ≡ None → entries_at t n ≡ []
+none_after t law n none = by_option (at n t.files)
     (λ gone. ap (λ o. on_some o [] (λ (f : File). entries_in f.kind)) gone)
     (λ f some. entries_are t n f some ∙ none_listed (next_cookie_in f.kind) (entries_in f.kind) (law.sound n f some).cookies
     (sym (after_dots n f.kind) ∙ sym (ap (λ o. first_after 2 (on_some o [] (λ (f : File). listing n f.kind))) some) ∙ none))
@@ -96,11 +96,11 @@ none_without t n empty = by_option (at n t.files)
     (λ gone. ap (λ o. first_after 2 (on_some o [] (λ (f : File). listing n f.kind))) gone)
     (λ f some. ap (λ o. first_after 2 (on_some o [] (λ (f : File). listing n f.kind))) some ∙ after_dots n f.kind ∙ ap (first_after 2) (sym (entries_are t n f some) ∙ empty))
 
-pub empty_tells : {X : Type 0} (shown : X → Entry) (t : Tree) → Law t → (n : ℕ) (o : Option X) (b : Bool) → option_map shown o ≡ entry_after t n 2 → is_some o ≡ not b → Decides b (entries_at t n ≡ [])
-empty_tells shown t law n None true is e = always (none_behind t law n (sym is))
-empty_tells shown t law n None false is e = cc
-empty_tells shown t law n (Some x) true is e = cc
-empty_tells shown t law n (Some x) false is e = never (λ empty. not_both (none_without t n empty) (sym is))
+pub empty_reports : {X : Type 0} (shown : X → Entry) (t : Tree) → Law t → (n : ℕ) (o : Option X) (b : Bool) → option_map shown o ≡ entry_after t n 2 → is_some o ≡ not b → Decides b (entries_at t n ≡ [])
+empty_reports shown t law n None true is e = always (none_after t law n (sym is))
+empty_reports shown t law n None false is e = cc
+empty_reports shown t law n (Some x) true is e = cc
+empty_reports shown t law n (Some x) false is e = never (λ empty. not_both (none_without t n empty) (sym is))
 
 -- ---- an entry that goes
 

@@ -1,4 +1,4 @@
--- What the tests of an entry that goes to another name tell: each is true just where its condition holds.
+-- What the tests of an entry that goes to another name report: each is true just where its condition holds.
 use Rattle.std.proofs.Common.{inl, inr, ◌≡◌, ◌≢◌, ℕ, ◌+◌, ◌<◌, Bool, true, false, List, [], Some, None, option_map, refl, sym, ap, subst, ◌∙◌, arith}
 use Rattle.std.specs.Prelude.{nat_eq, nat_lt, not}
 use Rattle.std.proofs.Math.Bool.{beq}

@@ -1,4 +1,4 @@
--- What the tests of bytes and sizes tell: each is true just where its condition holds.
+-- What the tests of bytes and sizes report: each is true just where its condition holds.
 use Rattle.std.proofs.Common.{◌≡◌, ℕ, ◌+◌, ◌-◌, ◌<◌, ◌≤◌, Bool, true, false, length, Option, Some, None, option_map, refl, sym, ap, subst, ◌∙◌, arith}
 use Rattle.std.specs.Prelude.{nat_le, slice_get}
 use Rattle.std.specs.Bool.{Decides}
@@ -15,8 +15,8 @@ use Rattle.nfs_conditions.specs.Parts.{TakesBytes, HasSpace, has_space}
 use Rattle.nfs_inodes.proofs.Tests.{never}
 use Rattle.nfs_conditions.proofs.Files.{lives, regular, size, index}
 
-space_tells : (t : Tree) (at bytes : ℕ) → Decides (has_space t at bytes) (HasSpace t at bytes)
-space_tells t at bytes = of (slice_get t.volumes at) refl
+space_reports : (t : Tree) (at bytes : ℕ) → Decides (has_space t at bytes) (HasSpace t at bytes)
+space_reports t at bytes = of (slice_get t.volumes at) refl
   where
     of : (o : Option Volume) → slice_get t.volumes at ≡ o
         → Decides (on_some o false (λ v. on_some (option_map (λ (w : Volume). make_totals (bytes_of at t.files) (files_of at t.files)) o) false (λ totals. nat_le (totals.bytes + bytes) v.max_bytes))) (HasSpace t at bytes)
@@ -27,10 +27,10 @@ space_tells t at bytes = of (slice_get t.volumes at) refl
     )
 
 pub space_by : (t : Tree) (at bytes : ℕ) (b : Bool) → b ≡ has_space t at bytes → Decides b (HasSpace t at bytes)
-space_by t at bytes b is = Decides-at b (has_space t at bytes) is (space_tells t at bytes)
+space_by t at bytes b is = Decides-at b (has_space t at bytes) is (space_reports t at bytes)
 
 module _ (t : Tree) (n : ℕ) (a : Fattr) (e : Some a ≡ attributes_at t n) where
-  -- so many bytes behind the end of a file, which the volume takes
+  -- so many bytes after the end of a file, which the volume takes
   fits_there : (f : File) (at_f : Lives t n f) → is_regular f.kind ≡ true → (end more limit : ℕ) → more ≡ end - a.size → bytes_of (a.fsid - 1) t.files + more ≤ limit → bytes_of f.volume t.files + (end - length (bytes_in f.kind)) ≤ limit
   fits_there f at_f y end more limit is fits =
       let long = size t n a e f at_f y in

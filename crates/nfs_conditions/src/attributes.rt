@@ -1,4 +1,4 @@
-//! What attributes tell of a file.
+//! What attributes report of a file.
 ghost use Rattle.std.specs.Prelude.{◌≡◌, ◌-◌};
 ghost use Rattle.nfs_inodes.specs.Reading.{is_directory_type};
 

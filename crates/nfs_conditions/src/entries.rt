@@ -7,7 +7,7 @@ use nfs_handles::number::Number;
 use nfs_inodes::name::is_name;
 use nfs_inodes::tree::Tree;
 
-// The cookie of `..`, behind which the entries of a directory stand.
+// The cookie of `..`, after which the entries of a directory stand.
 const LAST_DOT_COOKIE: u64 = 2;
 
 /// Whether directory `dir` has an entry of this name that may go: for a file, or for a directory

@@ -9,18 +9,18 @@ module _ (old : ℕ → List ℕ) (count : ℕ) (kept : ℕ → List ℕ) (keeps
   kept_byte i less = ap (λ (p : List ℕ). get_or p (i % 4096) 0) (keeps.before (i / 4096) less)
 
   gone_byte : (i : ℕ) → count ≤ i / 4096 → byte_at kept i ≡ 0
-  gone_byte i from = ap (λ (p : List ℕ). get_or p (i % 4096) 0) (keeps.behind (i / 4096) from) ∙ get_or_past [] (i % 4096) 0 (omega arith)
+  gone_byte i from = ap (λ (p : List ℕ). get_or p (i % 4096) 0) (keeps.after (i / 4096) from) ∙ get_or_past [] (i % 4096) 0 (omega arith)
 
   pub kept_short : AreShort old → AreShort kept
   kept_short short k = by_less k count
       (λ less. subst (λ (p : List ℕ). length p ≤ 4096) (sym (keeps.before k less)) (short k))
-      (λ from. subst (λ (p : List ℕ). length p ≤ 4096) (sym (keeps.behind k from)) (omega arith))
+      (λ from. subst (λ (p : List ℕ). length p ≤ 4096) (sym (keeps.after k from)) (omega arith))
 
 -- at the end of a page
 pub cut_between : (old : ℕ → List ℕ) (len : ℕ) (kept : ℕ → List ℕ) → len % 4096 ≡ 0 → Keeps old (len / 4096) kept → Cuts old len kept
 cut_between old len kept whole keeps = record {
   before = λ i to. kept_byte old (len / 4096) kept keeps i (omega (arith, to, whole));
-  behind = λ i from. gone_byte old (len / 4096) kept keeps i (omega (arith, from, whole));
+  after = λ i from. gone_byte old (len / 4096) kept keeps i (omega (arith, from, whole));
 }
 
 -- in a page
@@ -38,7 +38,7 @@ module _ (old : ℕ → List ℕ) (len : ℕ) (kept now : ℕ → List ℕ) (kee
         (λ is. here_byte i is ∙ get_or-take (len % 4096) (kept (len / 4096)) (i % 4096) 0 (omega (arith, to, is)) ∙ ap (λ j. get_or (kept j) (i % 4096) 0) (sym is)
         ∙ kept_byte old (len / 4096 + 1) kept keeps i (omega (arith, is)))
         (λ other. other_byte i other ∙ kept_byte old (len / 4096 + 1) kept keeps i (omega (arith, to)));
-    behind = λ i from. by_number (i / 4096) (len / 4096)
+    after = λ i from. by_number (i / 4096) (len / 4096)
         (λ is. here_byte i is ∙ (let n = length-take (len % 4096) (kept (len / 4096)) in get_or_past (take (len % 4096) (kept (len / 4096))) (i % 4096) 0 (omega (arith, from, is, n))))
         (λ other. other_byte i other ∙ gone_byte old (len / 4096 + 1) kept keeps i (omega (arith, from, other)));
   }

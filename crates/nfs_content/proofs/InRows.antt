@@ -2,7 +2,7 @@
 use Rattle.std.proofs.Common.{◌≡◌, ◌≢◌, ℕ, zero, suc, ◌+◌, ◌/◌, ◌%◌, ◌<◌, ◌≤◌, List, [], length, take, set, get_or, Vec, refl, sym, ap, subst, ◌∙◌, arith}
 use Rattle.std.specs.Global.{Global}
 use Rattle.nfs_content.specs.Paged.{items_at, kept, room, room_at, MoreRoom, SameElsewhere, SamePages, Widens, Keeps}
-use Rattle.nfs_content.proofs.Lists.{by_number, by_less, was_items, now_items, else_items, first_items, behind_items, past_items}
+use Rattle.nfs_content.proofs.Lists.{by_number, by_less, was_items, now_items, else_items, first_items, after_items, history_items}
 
 abbrev pub Row : Type 0
 Row = Vec (Vec ℕ Global) Global
@@ -16,7 +16,7 @@ same_room old new widens = λ k. let same = ap (λ (ps : List (Vec ℕ Global)).
 -- a page has room where its row is
 pub row_there : (rows : List Row) (k : ℕ) → 0 < room rows k → k / 64 < length rows
 row_there rows k some = by_less (k / 64) (length rows) (λ less. less)
-    (λ past. let none : room rows k ≡ 0 = ap (λ (ps : List (Vec ℕ Global)). room_at ps (k % 64)) (past_items rows (k / 64) past) ∙ no_room (k % 64) in absurd (omega (arith, none, some)))
+    (λ history. let none : room rows k ≡ 0 = ap (λ (ps : List (Vec ℕ Global)). room_at ps (k % 64)) (history_items rows (k / 64) history) ∙ no_room (k % 64) in absurd (omega (arith, none, some)))
   where
     no_room : (j : ℕ) → room_at {A = ℕ} [] j ≡ 0
     no_room zero = refl
@@ -78,21 +78,21 @@ module _ (rows : List Row) (n : ℕ) where
   pub page_first : (k : ℕ) → k / 64 < n → kept (take n rows) k ≡ kept rows k
   page_first k less = ap (λ (ps : List (Vec ℕ Global)). items_at ps (k % 64)) (first_items n rows (k / 64) less)
 
-  pub page_behind : (k : ℕ) → n ≤ k / 64 → kept (take n rows) k ≡ []
-  page_behind k from = ap (λ (ps : List (Vec ℕ Global)). items_at ps (k % 64)) (behind_items n rows (k / 64) from) ∙ no_place (k % 64)
+  pub page_after : (k : ℕ) → n ≤ k / 64 → kept (take n rows) k ≡ []
+  page_after k from = ap (λ (ps : List (Vec ℕ Global)). items_at ps (k % 64)) (after_items n rows (k / 64) from) ∙ no_place (k % 64)
 
 -- at the end of a row
 pub keeps_rows : (rows : List Row) (count : ℕ) → count % 64 ≡ 0 → Keeps (kept rows) count (kept (take (count / 64) rows))
 keeps_rows rows count whole = record {
   before = λ k to. page_first rows (count / 64) k (omega (arith, to, whole));
-  behind = λ k from. page_behind rows (count / 64) k (omega (arith, from, whole));
+  after = λ k from. page_after rows (count / 64) k (omega (arith, from, whole));
 }
 
 -- in a row that isn't there
 pub keeps_beyond : (rows : List Row) (count : ℕ) → length (take (count / 64 + 1) rows) ≤ count / 64 → Keeps (kept rows) count (kept (take (count / 64 + 1) rows))
 keeps_beyond rows count none = record {
   before = λ k to. page_first rows (count / 64 + 1) k (omega (arith, to));
-  behind = λ k from. ap (λ (ps : List (Vec ℕ Global)). items_at ps (k % 64)) (past_items (take (count / 64 + 1) rows) (k / 64) (omega (arith, from, none))) ∙ no_place (k % 64);
+  after = λ k from. ap (λ (ps : List (Vec ℕ Global)). items_at ps (k % 64)) (history_items (take (count / 64 + 1) rows) (k / 64) (omega (arith, from, none))) ∙ no_place (k % 64);
 }
 
 -- in a row that is there
@@ -109,9 +109,9 @@ module _ (rows : List Row) (count : ℕ) (v w : Row) where
         ∙ sym (page_was first (count / 64) v w there e k is)
         ∙ page_first rows (count / 64 + 1) k (omega (arith, to)))
         (λ other. page_else first (count / 64) v w there e k other ∙ page_first rows (count / 64 + 1) k (omega (arith, to)));
-    behind = λ k from. by_number (k / 64) (count / 64)
+    after = λ k from. by_number (k / 64) (count / 64)
         (λ is. page_now first (count / 64) v w there e k is
         ∙ ap (λ (ps : List (Vec ℕ Global)). items_at ps (k % 64)) cut
-        ∙ behind_items (count % 64) v.items (k % 64) (omega (arith, from, is)))
-        (λ other. page_else first (count / 64) v w there e k other ∙ page_behind rows (count / 64 + 1) k (omega (arith, from, other)));
+        ∙ after_items (count % 64) v.items (k % 64) (omega (arith, from, is)))
+        (λ other. page_else first (count / 64) v w there e k other ∙ page_after rows (count / 64 + 1) k (omega (arith, from, other)));
   }

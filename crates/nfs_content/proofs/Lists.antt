@@ -106,11 +106,11 @@ module _ {A : Type 0} (n : ℕ) (vs : List (Vec A Global)) where
   pub first_items : (k : ℕ) → k < n → items_at (take n vs) k ≡ items_at vs k
   first_items k less = ap (λ ls. get_or ls k []) (sym (take-map (λ (v : Vec A Global). v.items) n vs)) ∙ get_or-take n (lists_of vs) k [] less
 
-  pub behind_items : (k : ℕ) → n ≤ k → items_at (take n vs) k ≡ []
-  behind_items k from = let size = length-map (take n vs) (λ (v : Vec A Global). v.items) in let len = length-take n vs in get_or_past (lists_of (take n vs)) k [] (omega (arith, size, len, from))
+  pub after_items : (k : ℕ) → n ≤ k → items_at (take n vs) k ≡ []
+  after_items k from = let size = length-map (take n vs) (λ (v : Vec A Global). v.items) in let len = length-take n vs in get_or_past (lists_of (take n vs)) k [] (omega (arith, size, len, from))
 
-pub past_items : {A : Type 0} (vs : List (Vec A Global)) (k : ℕ) → length vs ≤ k → items_at vs k ≡ []
-past_items {A} vs k from = let size = length-map vs (λ (v : Vec A Global). v.items) in get_or_past (lists_of vs) k [] (omega (arith, size, from))
+pub history_items : {A : Type 0} (vs : List (Vec A Global)) (k : ℕ) → length vs ≤ k → items_at vs k ≡ []
+history_items {A} vs k from = let size = length-map vs (λ (v : Vec A Global). v.items) in get_or_past (lists_of vs) k [] (omega (arith, size, from))
 
 -- a place that has room is there
 pub room_there : {A : Type 0} (vs : List (Vec A Global)) (k : ℕ) → 0 < room_at vs k → k < length vs
@@ -125,9 +125,9 @@ room_there {A} vs k some = let size = length-map vs (λ (v : Vec A Global). vec_
 -- ---- one list alone
 
 pub one_items : {A : Type 0} (v : Vec A Global) (k : ℕ) → 0 < k → items_at (v ∷ []) k ≡ []
-one_items v zero past = absurd (omega (arith, past))
-one_items v (suc k) past = past_items [] k (omega arith)
+one_items v zero history = absurd (omega (arith, history))
+one_items v (suc k) history = history_items [] k (omega arith)
 
 pub no_items : {A : Type 0} (v : Vec A Global) → v.items ≡ [] → (k : ℕ) → items_at (v ∷ []) k ≡ []
 no_items v none zero = none
-no_items v none (suc k) = past_items [] k (omega arith)
+no_items v none (suc k) = history_items [] k (omega arith)

@@ -14,12 +14,12 @@ pub puts_alike : (a : List ℕ) (at : ℕ) (bytes b p q : List ℕ) → a ≡ p 
 puts_alike a at bytes b p q e f puts = record {
   inside = λ i from to. ap (λ (l : List ℕ). get_or l i 0) f ∙ puts.inside i from to;
   before = λ i to. ap (λ (l : List ℕ). get_or l i 0) f ∙ puts.before i to ∙ sym (ap (λ (l : List ℕ). get_or l i 0) e);
-  behind = λ i from. ap (λ (l : List ℕ). get_or l i 0) f ∙ puts.behind i from ∙ sym (ap (λ (l : List ℕ). get_or l i 0) e);
+  after = λ i from. ap (λ (l : List ℕ). get_or l i 0) f ∙ puts.after i from ∙ sym (ap (λ (l : List ℕ). get_or l i 0) e);
   short = λ small room. let la = ap (λ (l : List ℕ). length l) e in let lb = ap (λ (l : List ℕ). length l) f in
       let low = puts.short (omega (arith, la, small)) room in omega (arith, lb, low);
 }
 
--- bytes over others, and the rest of them behind the last
+-- bytes over others, and the rest of them after the last
 module _ (old reached mid : List ℕ) (at over : ℕ) (bytes : List ℕ)
     (same : (i : ℕ) → get_or reached i 0 ≡ get_or old i 0) (len : length reached ≡ max (length old) at) (over_is : over ≡ min (length bytes) (length reached - at))
     (puts : Puts reached at (take over bytes) mid) (as_long : length mid ≡ length reached) where
@@ -39,17 +39,17 @@ module _ (old reached mid : List ℕ) (at over : ℕ) (bytes : List ℕ)
   puts_whole = record {
     inside = λ i from to. by_less i (length mid)
         (λ less. let n = first_len in front i less ∙ puts.inside i from (omega (arith, less, from, to, n, over_is, as_long)) ∙ get_or-take over bytes (i - at) 0 (omega (arith, less, from, to, over_is, as_long)))
-        (λ past. get_or-append_right mid (drop over bytes) (length mid) i 0 refl past ∙ get_or-drop over bytes (i - length mid) 0
-        ∙ ap (λ n. get_or bytes n 0) (let n : over + (i - length mid) ≡ i - at = omega (arith, past, from, to, over_is, as_long, len) in n));
+        (λ history. get_or-append_right mid (drop over bytes) (length mid) i 0 refl history ∙ get_or-drop over bytes (i - length mid) 0
+        ∙ ap (λ n. get_or bytes n 0) (let n : over + (i - length mid) ≡ i - at = omega (arith, history, from, to, over_is, as_long, len) in n));
     before = λ i to. front i (omega (arith, to, as_long, len)) ∙ puts.before i to ∙ same i;
-    behind = λ i from. by_less i (length mid)
-        (λ less. let n = first_len in front i less ∙ puts.behind i (omega (arith, from, n, over_is)) ∙ same i)
-        (λ past. let n = now_len in get_or_past now i 0 (omega (arith, n, from, past, as_long)) ∙ get_or_past_is i past);
+    after = λ i from. by_less i (length mid)
+        (λ less. let n = first_len in front i less ∙ puts.after i (omega (arith, from, n, over_is)) ∙ same i)
+        (λ history. let n = now_len in get_or_past now i 0 (omega (arith, n, from, history, as_long)) ∙ get_or_past_is i history);
     short = λ small room. let n = now_len in omega (arith, n, small, room, len);
   }
     where
       get_or_past_is : (i : ℕ) → length mid ≤ i → 0 ≡ get_or old i 0
-      get_or_past_is i past = sym (get_or_past old i 0 (omega (arith, past, as_long, len)))
+      get_or_past_is i history = sym (get_or_past old i 0 (omega (arith, history, as_long, len)))
 
 -- ---- pages up to a place
 
@@ -57,7 +57,7 @@ module _ (old reached mid : List ℕ) (at over : ℕ) (bytes : List ℕ)
 pub record HasPut (old : ℕ → List ℕ) (sizes : ℕ → ℕ) (offset : ℕ) (bytes : List ℕ) (place : ℕ) (now : ℕ → List ℕ) (now_sizes : ℕ → ℕ) : Type 0 where
   pub inside : (i : ℕ) → offset ≤ i → i < offset + length bytes → i / 4096 < place → byte_at now i ≡ get_or bytes (i - offset) 0
   pub before : (i : ℕ) → i < offset → byte_at now i ≡ byte_at old i
-  pub behind : (i : ℕ) → offset + length bytes ≤ i → byte_at now i ≡ byte_at old i
+  pub after : (i : ℕ) → offset + length bytes ≤ i → byte_at now i ≡ byte_at old i
   pub later : (i : ℕ) → place ≤ i / 4096 → byte_at now i ≡ byte_at old i
   pub short : AreShort now
   pub room : MoreRoom sizes now_sizes
@@ -67,7 +67,7 @@ pub nothing_put : (old : ℕ → List ℕ) (sizes : ℕ → ℕ) (offset : ℕ) 
 nothing_put old sizes offset bytes short = record {
   inside = λ i from to below. absurd (omega (arith, from, below));
   before = λ i to. refl;
-  behind = λ i from. refl;
+  after = λ i from. refl;
   later = λ i from. refl;
   short = short;
   room = λ k. omega arith;
@@ -79,7 +79,7 @@ pub all_put : (old : ℕ → List ℕ) (sizes : ℕ → ℕ) (offset : ℕ) (byt
 all_put old sizes offset bytes place now now_sizes h all = record {
   inside = λ i from to. h.inside i from to (omega (arith, to, all));
   before = h.before;
-  behind = h.behind;
+  after = h.after;
 }
 
 -- ---- the bytes of one place
@@ -93,29 +93,29 @@ module _ (old : ℕ → List ℕ) (sizes : ℕ → ℕ) (offset : ℕ) (bytes : 
   pub ordered : (offset ≤ start) × (start < stop) × (stop ≤ offset + length bytes) × (k * 4096 ≤ start) × (stop ≤ k * 4096 + 4096)
   ordered = (omega (arith, start_is), omega (arith, start_is, stop_is, low, last, some), omega (arith, stop_is), omega (arith, start_is), omega (arith, stop_is))
 
-  abbrev pub piece : List ℕ
-  piece = take (stop - offset - (start - offset)) (drop (start - offset) bytes)
+  abbrev pub chunk : List ℕ
+  chunk = take (stop - offset - (start - offset)) (drop (start - offset) bytes)
 
-  pub piece_len : length piece ≡ stop - start
-  piece_len =
+  pub chunk_len : length chunk ≡ stop - start
+  chunk_len =
       let o = ordered in let a = o.0 in let b = o.1 in let d = o.2 in
       let one = length-take (stop - offset - (start - offset)) (drop (start - offset) bytes) in
       let two = length-drop (start - offset) bytes in
       omega (arith, one, two, a, b, d)
 
-  pub place_room : Holds sizes offset (offset + length bytes) → start - k * 4096 + length piece ≤ was_sizes k
+  pub place_room : Holds sizes offset (offset + length bytes) → start - k * 4096 + length chunk ≤ was_sizes k
   place_room held =
       let o = ordered in let a = o.0 in let b = o.1 in let d = o.2 in let e = o.3 in let f = o.4 in
       let there : (stop - 1) / 4096 ≡ k = omega (arith, a, b, d, e, f) in
       let first = held (stop - 1) (omega (arith, a, b)) (omega (arith, b, d)) in
       let here : (stop - 1) % 4096 < sizes k = subst (λ j. (stop - 1) % 4096 < sizes j) there first in
-      let more = h.room k in let len = piece_len in
+      let more = h.room k in let len = chunk_len in
       omega (arith, here, more, len, a, b, d, e, f)
 
-  pub piece_some : 0 < length piece
-  piece_some = let len = piece_len in let o = ordered in let b = o.1 in omega (arith, len, b)
+  pub chunk_some : 0 < length chunk
+  chunk_some = let len = chunk_len in let o = ordered in let b = o.1 in omega (arith, len, b)
 
-  module _ (now : ℕ → List ℕ) (now_sizes : ℕ → ℕ) (puts : Puts (was k) (start - k * 4096) piece (now k)) (elsewhere : SameElsewhere was k now) (more : MoreRoom was_sizes now_sizes) where
+  module _ (now : ℕ → List ℕ) (now_sizes : ℕ → ℕ) (puts : Puts (was k) (start - k * 4096) chunk (now k)) (elsewhere : SameElsewhere was k now) (more : MoreRoom was_sizes now_sizes) where
     other_byte : (i : ℕ) → i / 4096 ≢ k → byte_at now i ≡ byte_at was i
     other_byte i other = ap (λ (p : List ℕ). get_or p (i % 4096) 0) (elsewhere (i / 4096) other)
 
@@ -130,7 +130,7 @@ module _ (old : ℕ → List ℕ) (sizes : ℕ → ℕ) (offset : ℕ) (bytes : 
 
     written_byte : (i : ℕ) → start ≤ i → i < stop → i / 4096 ≡ k → byte_at now i ≡ get_or bytes (i - offset) 0
     written_byte i from to is =
-        let o = ordered in let a = o.0 in let d = o.3 in let len = piece_len in
+        let o = ordered in let a = o.0 in let d = o.3 in let len = chunk_len in
         let j : ℕ = i % 4096 - (start - k * 4096) in
         let at : start - offset + j ≡ i - offset = omega (arith, from, is, a, d) in
         now_byte i is
@@ -141,12 +141,12 @@ module _ (old : ℕ → List ℕ) (sizes : ℕ → ℕ) (offset : ℕ) (bytes : 
 
     pub put_more : HasPut old sizes offset bytes (k + 1) now now_sizes
     put_more =
-        let o = ordered in let a = o.0 in let b = o.1 in let d = o.2 in let f = o.3 in let g = o.4 in let len = piece_len in record {
+        let o = ordered in let a = o.0 in let b = o.1 in let d = o.2 in let f = o.3 in let g = o.4 in let len = chunk_len in record {
           inside = λ i from to below. by_number (i / 4096) k
               (λ is. written_byte i (omega (arith, start_is, from, is)) (omega (arith, stop_is, to, is)) is)
               (λ other. other_byte i other ∙ h.inside i from to (omega (arith, below, other)));
           before = λ i to. same_byte i (λ is. puts.before (i % 4096) (omega (arith, to, is, a, f))) ∙ h.before i to;
-          behind = λ i from. same_byte i (λ is. puts.behind (i % 4096) (omega (arith, from, is, d, f, b, len))) ∙ h.behind i from;
+          after = λ i from. same_byte i (λ is. puts.after (i % 4096) (omega (arith, from, is, d, f, b, len))) ∙ h.after i from;
           later = λ i from. other_byte i (λ is. omega (arith, from, is)) ∙ h.later i (omega (arith, from));
           short = λ j. by_number j k
               (λ same. subst (λ n. length (now n) ≤ 4096) (sym same) (puts.short (h.short k) (omega (arith, len, f, g, b))))

@@ -43,15 +43,15 @@ module _ (old : List ℕ) (offset : ℕ) (new : List ℕ) where
       ∙ get_or_append_left (take offset old ++ zeros (offset - length old)) new 0 i (omega (arith, to, first))
       ∙ by_less i (length old)
       (λ less. let len = length-take offset old in get_or_append_left (take offset old) (zeros (offset - length old)) 0 i (omega (arith, less, to, len)) ∙ get_or-take offset old i 0 to)
-      (λ past. let len = length-take offset old in
-      get_or-append_right (take offset old) (zeros (offset - length old)) (length old) i 0 (omega (arith, past, to, len)) past
-      ∙ get_or-replicate (offset - length old) (i - length old) 0 0 (omega (arith, past, to)) ∙ sym (get_or_past old i 0 past))
+      (λ history. let len = length-take offset old in
+      get_or-append_right (take offset old) (zeros (offset - length old)) (length old) i 0 (omega (arith, history, to, len)) history
+      ∙ get_or-replicate (offset - length old) (i - length old) 0 0 (omega (arith, history, to)) ∙ sym (get_or_past old i 0 history))
 
   pub put_inside : (i : ℕ) → offset ≤ i → i < offset + length new → get_or (put_bytes old offset new) i 0 ≡ get_or new (i - offset) 0
   put_inside i from to = in_front i to ∙ get_or-append_right (take offset old ++ zeros (offset - length old)) new offset i 0 gap_len from
 
-  pub put_behind : (i : ℕ) → offset + length new ≤ i → get_or (put_bytes old offset new) i 0 ≡ get_or old i 0
-  put_behind i from =
+  pub put_after : (i : ℕ) → offset + length new ≤ i → get_or (put_bytes old offset new) i 0 ≡ get_or old i 0
+  put_after i from =
       get_or-append_right (take offset old ++ zeros (offset - length old) ++ new) (drop (offset + length new) old) (offset + length new) i 0 front_len from
       ∙ get_or-drop (offset + length new) old (i - (offset + length new)) 0
       ∙ ap (λ n. get_or old n 0) (let n : offset + length new + (i - (offset + length new)) ≡ i = omega (arith, from) in n)
@@ -69,8 +69,8 @@ module _ (old : List ℕ) (size : ℕ) where
   pub sized_at : (i : ℕ) → i < size → get_or (sized old size) i 0 ≡ get_or old i 0
   sized_at i to = let len = length-take size old in by_less i (length old)
       (λ less. get_or_append_left (take size old) (zeros (size - length old)) 0 i (omega (arith, less, to, len)) ∙ get_or-take size old i 0 to)
-      (λ past. get_or-append_right (take size old) (zeros (size - length old)) (length old) i 0 (omega (arith, past, to, len)) past
-      ∙ get_or-replicate (size - length old) (i - length old) 0 0 (omega (arith, past, to)) ∙ sym (get_or_past old i 0 past))
+      (λ history. get_or-append_right (take size old) (zeros (size - length old)) (length old) i 0 (omega (arith, history, to, len)) history
+      ∙ get_or-replicate (size - length old) (i - length old) 0 0 (omega (arith, history, to)) ∙ sym (get_or_past old i 0 history))
 
 pub sized_none : (old : List ℕ) (size : ℕ) → size ≡ 0 → [] ≡ sized old size
 sized_none old size none = nothing (sized old size) (sized_len old size ∙ none)
@@ -89,7 +89,7 @@ module _ (ps : ℕ → List ℕ) (len : ℕ) where
   shown_at i to = get_or-map-range_with_len (byte_at ps) 0 len i i 0 to (omega arith)
 
   pub shown_any : IsPaged ps len → (i : ℕ) → get_or (shown ps len) i 0 ≡ byte_at ps i
-  shown_any h i = by_less i len (shown_at i) (λ past. let n = shown_len in get_or_past (shown ps len) i 0 (omega (arith, n, past)) ∙ sym (h.zero i past))
+  shown_any h i = by_less i len (shown_at i) (λ history. let n = shown_len in get_or_past (shown ps len) i 0 (omega (arith, n, history)) ∙ sym (h.zero i history))
 
 -- a list is shown where its bytes are those
 pub shown_as : (ps : ℕ → List ℕ) (len : ℕ) (xs : List ℕ) → length xs ≡ len → ((i : ℕ) → i < len → byte_at ps i ≡ get_or xs i 0) → shown ps len ≡ xs
@@ -105,16 +105,16 @@ module _ (old new : ℕ → List ℕ) (len : ℕ) (h : IsPaged old len) where
       (λ less. writes.before i less ∙ sym (shown_any old len h i) ∙ sym (put_before (shown old len) offset bytes i less))
       (λ from. by_less i (offset + length bytes)
       (λ within. writes.inside i from within ∙ sym (put_inside (shown old len) offset bytes i from within))
-      (λ past. writes.behind i past ∙ sym (shown_any old len h i) ∙ sym (put_behind (shown old len) offset bytes i past))))
+      (λ history. writes.after i history ∙ sym (shown_any old len h i) ∙ sym (put_after (shown old len) offset bytes i history))))
 
   pub put_paged : (offset : ℕ) (bytes : List ℕ) (size : ℕ) → size ≡ max len (offset + length bytes) → Writes old offset bytes new → AreShort new → IsPaged new size
-  put_paged offset bytes size is writes short = record { short = short; zero = λ i past. writes.behind i (omega (arith, past, is)) ∙ h.zero i (omega (arith, past, is)) }
+  put_paged offset bytes size is writes short = record { short = short; zero = λ i history. writes.after i (omega (arith, history, is)) ∙ h.zero i (omega (arith, history, is)) }
 
   pub cut_shown : (size : ℕ) → Cuts old size new → shown new size ≡ sized (shown old len) size
   cut_shown size cuts = shown_as new size (sized (shown old len) size) (sized_len (shown old len) size) (λ i to. cuts.before i to ∙ sym (shown_any old len h i) ∙ sym (sized_at (shown old len) size i to))
 
   pub cut_paged : (size : ℕ) → Cuts old size new → AreShort new → IsPaged new size
-  cut_paged size cuts short = record { short = short; zero = cuts.behind }
+  cut_paged size cuts short = record { short = short; zero = cuts.after }
 
 -- room alone changes nothing
 module _ (old new : ℕ → List ℕ) (same : SamePages old new) where
@@ -128,13 +128,13 @@ module _ (old new : ℕ → List ℕ) (same : SamePages old new) where
   same_short short = λ k. subst (λ (p : List ℕ). length p ≤ 4096) (sym (same k)) (short k)
 
   pub same_paged : (len : ℕ) → IsPaged old len → IsPaged new len
-  same_paged len h = record { short = same_short h.short; zero = λ i past. same_bytes i ∙ h.zero i past }
+  same_paged len h = record { short = same_short h.short; zero = λ i history. same_bytes i ∙ h.zero i history }
 
 pub grown_shown : (old : ℕ → List ℕ) (len size : ℕ) → IsPaged old len → shown old size ≡ sized (shown old len) size
 grown_shown old len size h = shown_as old size (sized (shown old len) size) (sized_len (shown old len) size) (λ i to. sym (shown_any old len h i) ∙ sym (sized_at (shown old len) size i to))
 
 pub grown_paged : (old : ℕ → List ℕ) (len size : ℕ) → IsPaged old len → len ≤ size → IsPaged old size
-grown_paged old len size h more = record { short = h.short; zero = λ i past. h.zero i (omega (arith, past, more)) }
+grown_paged old len size h more = record { short = h.short; zero = λ i history. h.zero i (omega (arith, history, more)) }
 
 -- ---- no page
 
@@ -146,7 +146,7 @@ module _ (ps : ℕ → List ℕ) (none : (k : ℕ) → ps k ≡ []) where
   zeros_shown len = shown_as ps len (zeros len) (length-replicate {A = ℕ} len 0) (λ i to. no_byte i ∙ sym (get_or-replicate len i 0 0 to))
 
   pub none_paged : (len : ℕ) → IsPaged ps len
-  none_paged len = record { short = λ k. subst (λ (p : List ℕ). length p ≤ 4096) (sym (none k)) (omega arith); zero = λ i past. no_byte i }
+  none_paged len = record { short = λ k. subst (λ (p : List ℕ). length p ≤ 4096) (sym (none k)) (omega arith); zero = λ i history. no_byte i }
 
 -- ---- a first run
 
@@ -164,7 +164,7 @@ is_chunk xs run offset some within each = record {
         get_or-take (length run) (drop offset xs) j 0 less ∙ get_or-drop offset xs j 0 ∙ each j less)
 
 pub no_chunk : (xs : List ℕ) (offset : ℕ) → length xs ≤ offset → IsFirstChunk [] (drop offset xs)
-no_chunk xs offset past = record { rest = drop offset xs; bytes_are = refl; some = λ none. nothing (drop offset xs) (let n = length-drop offset xs in omega (arith, n, past)) }
+no_chunk xs offset history = record { rest = drop offset xs; bytes_are = refl; some = λ none. nothing (drop offset xs) (let n = length-drop offset xs in omega (arith, n, history)) }
   where
     nothing : (ys : List ℕ) → length ys ≡ 0 → ys ≡ []
     nothing [] e = refl
@@ -211,9 +211,9 @@ module _ (ps : ℕ → List ℕ) (p : List ℕ) (first : ps 0 ≡ p) (rest : (k 
 
   pub one_paged : IsPaged ps (length p)
   one_paged = record {
-    short = λ k. by_less 0 k (λ past. subst (λ (q : List ℕ). length q ≤ 4096) (sym (rest k past)) (omega arith))
+    short = λ k. by_less 0 k (λ history. subst (λ (q : List ℕ). length q ≤ 4096) (sym (rest k history)) (omega arith))
         (λ none. subst (λ j. length (ps j) ≤ 4096) (let e : 0 ≡ k = omega (arith, none) in e) (subst (λ (q : List ℕ). length q ≤ 4096) (sym first) small));
-    zero = λ i past. by_less i 4096
-        (λ low. first_byte i low ∙ get_or_past p i 0 past)
+    zero = λ i history. by_less i 4096
+        (λ low. first_byte i low ∙ get_or_past p i 0 history)
         (λ high. ap (λ (q : List ℕ). get_or q (i % 4096) 0) (rest (i / 4096) (omega (arith, high))) ∙ get_or_past [] (i % 4096) 0 (omega arith));
   }

@@ -48,7 +48,7 @@ shown pages len = map (byte_at pages) (range_with_len 0 len)
 abbrev pub AreShort : (ℕ → List ℕ) → Type 0
 AreShort pages = (k : ℕ) → length (pages k) ≤ page_bytes
 
--- so many bytes, and zeros behind them
+-- so many bytes, and zeros after them
 pub record IsPaged (pages : ℕ → List ℕ) (len : ℕ) : Type 0 where
   pub short : AreShort pages
   pub zero : (i : ℕ) → len ≤ i → byte_at pages i ≡ 0
@@ -69,21 +69,21 @@ Holds sizes start end = (i : ℕ) → start ≤ i → i < end → i % page_bytes
 pub record Writes (old : ℕ → List ℕ) (offset : ℕ) (bytes : List ℕ) (new : ℕ → List ℕ) : Type 0 where
   pub inside : (i : ℕ) → offset ≤ i → i < offset + length bytes → byte_at new i ≡ slice_index_or bytes (i - offset) 0
   pub before : (i : ℕ) → i < offset → byte_at new i ≡ byte_at old i
-  pub behind : (i : ℕ) → offset + length bytes ≤ i → byte_at new i ≡ byte_at old i
+  pub after : (i : ℕ) → offset + length bytes ≤ i → byte_at new i ≡ byte_at old i
 
--- the first so many bytes, and zeros behind them
+-- the first so many bytes, and zeros after them
 pub record Cuts (old : ℕ → List ℕ) (len : ℕ) (new : ℕ → List ℕ) : Type 0 where
   pub before : (i : ℕ) → i < len → byte_at new i ≡ byte_at old i
-  pub behind : (i : ℕ) → len ≤ i → byte_at new i ≡ 0
+  pub after : (i : ℕ) → len ≤ i → byte_at new i ≡ 0
 
--- the first so many pages, and none behind them
+-- the first so many pages, and none after them
 pub record Keeps (old : ℕ → List ℕ) (count : ℕ) (new : ℕ → List ℕ) : Type 0 where
   pub before : (k : ℕ) → k < count → new k ≡ old k
-  pub behind : (k : ℕ) → count ≤ k → new k ≡ []
+  pub after : (k : ℕ) → count ≤ k → new k ≡ []
 
 -- a page with some bytes from a place on, zeros in a gap before them
 pub record Puts (old : List ℕ) (at : ℕ) (bytes new : List ℕ) : Type 0 where
   pub inside : (i : ℕ) → at ≤ i → i < at + length bytes → slice_index_or new i 0 ≡ slice_index_or bytes (i - at) 0
   pub before : (i : ℕ) → i < at → slice_index_or new i 0 ≡ slice_index_or old i 0
-  pub behind : (i : ℕ) → at + length bytes ≤ i → slice_index_or new i 0 ≡ slice_index_or old i 0
+  pub after : (i : ℕ) → at + length bytes ≤ i → slice_index_or new i 0 ≡ slice_index_or old i 0
   pub short : length old ≤ page_bytes → at + length bytes ≤ page_bytes → length new ≤ page_bytes

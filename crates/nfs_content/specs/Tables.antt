@@ -1,15 +1,15 @@
 -- The pages of a content, the first alone or any in rows.
 use Rattle.std.specs.Prelude.{ℕ, List, [], ◌∷◌}
 use Rattle.nfs_content.specs.Paged.{items_at, kept, room, room_at}
-use Rattle.nfs_content.specs.declared.table.Table.{Table}
-use Rattle.nfs_content.specs.declared.table.Table.TheVariants.{One, Rows}
+use Rattle.nfs_content.specs.declared.page_table.PageTable.{PageTable}
+use Rattle.nfs_content.specs.declared.page_table.PageTable.TheVariants.{One, Rows}
 
 -- the bytes that are kept of each page
-abbrev pub pages_of : Table → ℕ → List ℕ
+abbrev pub pages_of : PageTable → ℕ → List ℕ
 pages_of (One page) = items_at (page ∷ [])
 pages_of (Rows rows) = kept rows.items
 
 -- how many bytes each page has room for
-abbrev pub room_of : Table → ℕ → ℕ
+abbrev pub room_of : PageTable → ℕ → ℕ
 room_of (One page) = room_at (page ∷ [])
 room_of (Rows rows) = room rows.items

@@ -1,10 +1,10 @@
 //! The content of a regular file: bytes, whole or in pages.
 #![tactic(auto)]
 
+mod chunks;
 pub mod content;
 pub mod limits;
 mod page;
+mod page_table;
 pub mod pages;
-mod pieces;
 mod rows;
-mod table;

@@ -6,7 +6,7 @@ ghost use Rattle.nfs_content.specs.Paged.{Puts};
 use crate::limits::PAGE_BYTES;
 use std::alloc::AllocError;
 
-/// Room for so many bytes: twice as much as there was, so that small pieces don't move a page each
+/// Room for so many bytes: twice as much as there was, so that small chunks don't move a page each
 /// time, but never more than for a whole page. Refused without memory.
 pub(crate) fn widen(page: &mut Vec<u8>, size: usize) -> Result<(), AllocError>
     requires { size ≤ page_bytes }

@@ -3,10 +3,10 @@ ghost use Rattle.std.specs.Prelude.{◌≡◌, ◌≤◌, IfOk, length};
 ghost use Rattle.nfs_content.specs.Bytes.{zeros};
 ghost use Rattle.nfs_content.specs.Limits.{max_content, page_bytes};
 
+use crate::chunks::{cut, hold, put};
 use crate::content::Content;
 use crate::limits::PAGE_BYTES;
-use crate::pieces::{cut, hold, put};
-use crate::table::Table;
+use crate::page_table::PageTable;
 use std::alloc::{AllocError, Global};
 use std::marker::Model;
 
@@ -18,7 +18,7 @@ static ZEROS: [u8; PAGE_BYTES] = [0; PAGE_BYTES];
 #[derive(Drop)]
 pub struct Pages {
     alloc: Global,
-    table: Table,
+    table: PageTable,
     len: usize,
 }
 
@@ -41,7 +41,7 @@ impl Pages {
     {
         Pages {
             alloc,
-            table: Table::One(Vec::new(alloc)),
+            table: PageTable::One(Vec::new(alloc)),
             len,
         }
     }
@@ -58,7 +58,7 @@ impl Pages {
         }
         bytes.shrink_to_fit();
         let len = bytes.len();
-        let table = Table::One(bytes);
+        let table = PageTable::One(bytes);
         Ok(Pages { alloc, table, len })
     }
 

@@ -1,4 +1,4 @@
-//! Pages by their places, in rows of 64, so that a place far behind takes little memory.
+//! Pages by their places, in rows of 64, so that a place far after takes little memory.
 ghost use Rattle.std.specs.Prelude.{◌≡◌, ◌+◌, ◌<◌, ◌≤◌, OnOk, length, take, vec_len};
 ghost use Rattle.nfs_content.specs.Limits.{page_bytes, row_pages};
 ghost use Rattle.nfs_content.specs.Paged.{items_at, kept, room, room_at, Keeps, MoreRoom, Puts, SameElsewhere, SamePages, Widens};
@@ -56,7 +56,7 @@ fn make_room_in(row: &mut Row, alloc: Global, at: usize, size: usize) -> Result<
     widen(&mut row[at], size)
 }
 
-// There are so many lists, empty ones behind those that were there.
+// There are so many lists, empty ones after those that were there.
 fn lengthen<T: Drop>(lists: &mut Vec<Vec<T>>, alloc: Global, count: usize) -> Result<(), AllocError>
     ensures ok { OnOk result (count ≤ vec_len lists.new) }
     ensures same { Widens lists.old.items lists.new.items }
@@ -92,7 +92,7 @@ fn put_in_row(row: &mut Row, place: usize, at: usize, bytes: &[u8])
     put_into(&mut row[place], at, bytes);
 }
 
-/// The first so many pages are kept, and none behind them.
+/// The first so many pages are kept, and none after them.
 pub(crate) fn keep(rows: &mut Vec<Row>, count: usize)
     ensures { Keeps (kept rows.old.items) count (kept rows.new.items) }
 {

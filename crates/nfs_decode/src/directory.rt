@@ -6,7 +6,7 @@ use nfs_xdr::fault::XdrFault;
 use nfs_xdr::input::Input;
 
 /// What READDIR answers, or READDIRPLUS: the directory's attributes, the verifier, a line for each entry,
-/// behind which READDIRPLUS has what its file is, and whether these are the last ones.
+/// after which READDIRPLUS has what its file is, and whether these are the last ones.
 pub(crate) fn put_page(
     input: &mut Input<'_>,
     out: &mut Text,

@@ -21,24 +21,24 @@ pub(crate) fn put_granted(
 ) -> Result<(), XdrFault> {
     match procedure {
         Procedure::Null => Ok(()),
-        Procedure::GetAttr => put_fattr(input, out),
-        Procedure::SetAttr => put_wcc(input, out, b"file"),
+        Procedure::Getattr => put_fattr(input, out),
+        Procedure::Setattr => put_wcc(input, out, b"file"),
         Procedure::Lookup => put_found(input, out),
         Procedure::Access => put_access(input, out),
-        Procedure::ReadLink => put_link_path(input, out),
+        Procedure::Readlink => put_link_path(input, out),
         Procedure::Read => put_read(input, out),
         Procedure::Write => put_written(input, out),
-        Procedure::Create | Procedure::MakeDir | Procedure::SymLink | Procedure::MakeNode => {
+        Procedure::Create | Procedure::Mkdir | Procedure::Symlink | Procedure::Mknod => {
             put_made(input, out)
         }
-        Procedure::Remove | Procedure::RemoveDir => put_wcc(input, out, b"directory"),
+        Procedure::Remove | Procedure::Rmdir => put_wcc(input, out, b"directory"),
         Procedure::Rename => put_renamed(input, out),
         Procedure::Link => put_linked(input, out),
-        Procedure::ReadDir => put_page(input, out, false),
-        Procedure::ReadDirPlus => put_page(input, out, true),
-        Procedure::FsStat => put_room(input, out),
-        Procedure::FsInfo => put_server_limits(input, out),
-        Procedure::PathConf => put_path_limits(input, out),
+        Procedure::Readdir => put_page(input, out, false),
+        Procedure::Readdirplus => put_page(input, out, true),
+        Procedure::Fsstat => put_room(input, out),
+        Procedure::Fsinfo => put_server_limits(input, out),
+        Procedure::Pathconf => put_path_limits(input, out),
         Procedure::Commit => put_committed(input, out),
     }
 }

@@ -7,22 +7,14 @@ ghost use Rattle.nfs_decode.specs.Called as spec;
 use crate::mounting::put_mount_results;
 use crate::results::put_results;
 use nfs_args::procedure::{MountProcedure, Procedure};
+use nfs_args::program::{MOUNT_PROGRAM, NFS_PROGRAM, PROGRAM_VERSION};
 use nfs_rpc::call::read_call;
-use nfs_words::names::{mount_name, nfs_name};
 use nfs_words::text::Text;
 use nfs_xdr::fault::XdrFault;
 use nfs_xdr::input::Input;
 
 // The largest verifier (RFC 5531, section 8.2).
 const MAX_AUTH_BYTES: u32 = 400;
-
-// The programs (RFC 1813, sections 3 and 5).
-const NFS: u32 = 100_003;
-
-const MOUNT: u32 = 100_005;
-
-// The version of both.
-const VERSION: u32 = 3;
 
 // Which procedure was called, as far as it is known.
 #[derive(Clone, Copy)]
@@ -33,8 +25,8 @@ enum Called {
 }
 
 /// Puts what a reply says, each without its record mark, to the call that it answers: a line of the
-/// procedure's name and the status, and a line for each item behind it. Where the reply ends early, or a
-/// number in it is none, a line tells so.
+/// procedure's name and the status, and a line for each item after it. Where the reply ends early, or a
+/// number in it is none, a line says so.
 pub fn put_reply(call: &[u8], reply: &[u8], out: &mut Text) {
     let called = called_by(call);
     put_name(called, out);
@@ -50,7 +42,7 @@ fn called_by(message: &[u8]) -> Called
     ensures { result ≡ spec.called_by message.now }
 {
     match read_call(message) {
-        Ok(head) if head.vers == VERSION => procedure_of(head.prog, head.proc),
+        Ok(head) if head.vers == PROGRAM_VERSION => procedure_of(head.prog, head.proc),
         _ => Called::Other,
     }
 }
@@ -59,11 +51,11 @@ fn procedure_of(program: u32, procedure: u32) -> Called
     ensures { result ≡ spec.procedure_of program procedure }
 {
     match program {
-        NFS => match Procedure::of(procedure) {
+        NFS_PROGRAM => match Procedure::of(procedure) {
             Some(procedure) => Called::Nfs(procedure),
             None => Called::Other,
         },
-        MOUNT => match MountProcedure::of(procedure) {
+        MOUNT_PROGRAM => match MountProcedure::of(procedure) {
             Some(procedure) => Called::Mount(procedure),
             None => Called::Other,
         },
@@ -84,8 +76,8 @@ fn name_of(called: Called) -> &'static [u8]
     ensures { result.now ≡ called_name called }
 {
     match called {
-        Called::Nfs(procedure) => nfs_name(procedure),
-        Called::Mount(procedure) => mount_name(procedure),
+        Called::Nfs(procedure) => procedure.name(),
+        Called::Mount(procedure) => procedure.name(),
         Called::Other => b"call",
     }
 }
@@ -163,7 +155,7 @@ fn put_word(out: &mut Text, word: &[u8]) -> Result<(), XdrFault> {
 // What follows the reply's last item.
 fn put_rest(rest: &[u8], out: &mut Text) {
     if !rest.is_empty() {
-        out.put_field(b"    bytes behind its end: ", rest.len() as u64);
+        out.put_field(b"    bytes after its end: ", rest.len() as u64);
         out.put(b"\n");
     }
 }

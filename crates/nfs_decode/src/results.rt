@@ -34,17 +34,17 @@ pub(crate) fn put_results(
 // What follows another status.
 fn put_denied(procedure: Procedure, input: &mut Input<'_>, out: &mut Text) -> Result<(), XdrFault> {
     match procedure {
-        Procedure::Null | Procedure::GetAttr => Ok(()),
-        Procedure::SetAttr | Procedure::Write | Procedure::Commit => put_wcc(input, out, b"file"),
+        Procedure::Null | Procedure::Getattr => Ok(()),
+        Procedure::Setattr | Procedure::Write | Procedure::Commit => put_wcc(input, out, b"file"),
         Procedure::Create
-        | Procedure::MakeDir
-        | Procedure::SymLink
-        | Procedure::MakeNode
+        | Procedure::Mkdir
+        | Procedure::Symlink
+        | Procedure::Mknod
         | Procedure::Remove
-        | Procedure::RemoveDir => put_wcc(input, out, b"directory"),
+        | Procedure::Rmdir => put_wcc(input, out, b"directory"),
         Procedure::Rename => put_renamed(input, out),
         Procedure::Link => put_linked(input, out),
-        Procedure::Lookup | Procedure::ReadDir | Procedure::ReadDirPlus => {
+        Procedure::Lookup | Procedure::Readdir | Procedure::Readdirplus => {
             put_post_op_attr(input, out, b"directory: ")
         }
         _ => put_post_op_attr(input, out, b"attributes: "),

@@ -9,7 +9,7 @@ use Rattle.nfs_inodes.specs.Reading.{attributes_at, attributes_of, is_directory_
 use Rattle.nfs_inodes.specs.Tree.{Tree, File, Kind, Regular, Directory, Link, at, bytes_in, nlink, on_some}
 use Rattle.nfs_inodes.specs.Views.{FileView, IsSeen, bytes_seen, kind_seen}
 use Rattle.nfs_describe.specs.Lines.{dir_line, file_line, link_line}
-use Rattle.nfs_describe.specs.Places.{Place}
+use Rattle.nfs_describe.specs.Places.{FilePath}
 use Rattle.nfs_describe.specs.Texts.{given_of, node_line, own_line, own_text}
 
 same : {X : Type 0} (a b : X) → Some a ≡ Some b → a ≡ b
@@ -70,18 +70,18 @@ text_of_none t n path (Some f) none = absurd (none_is _ (sym none))
 
 -- ---- the line of a place
 
-pub root_has_none : (t : Tree) (p : Place) → p.path ≡ [] → own_text t p ≡ []
+pub root_has_none : (t : Tree) (p : FilePath) → p.path ≡ [] → own_text t p ≡ []
 root_has_none t p none = ap (λ path. text_of t p.number path (at p.number t.files)) none ∙ text_of_root t p.number (at p.number t.files)
 
-pub nothing_lives : (t : Tree) (p : Place) → attributes_at t p.number ≡ None → own_text t p ≡ []
+pub nothing_lives : (t : Tree) (p : FilePath) → attributes_at t p.number ≡ None → own_text t p ≡ []
 nothing_lives t p none = text_of_none t p.number p.path (at p.number t.files) none
 
-pub link_seen : (t : Tree) (p : Place) (v : FileView) (target : List ℕ) → (p.path ≡ [] → ⊥) → v.attributes.fileid ≡ p.number → IsSeen t v → path_at t p.number ≡ Some target
+pub link_seen : (t : Tree) (p : FilePath) (v : FileView) (target : List ℕ) → (p.path ≡ [] → ⊥) → v.attributes.fileid ≡ p.number → IsSeen t v → path_at t p.number ≡ Some target
     → own_text t p ≡ link_line p.path v.attributes.uid v.attributes.gid target
 link_seen t p v target some number seen is =
     text_of_link t p.number p.path target (at p.number t.files) v.attributes some (subst (λ n. attributes_at t n ≡ Some v.attributes) number seen.0) is
 
-pub node_seen : (t : Tree) (p : Place) (v : FileView) → (p.path ≡ [] → ⊥) → v.attributes.fileid ≡ p.number → IsSeen t v → path_at t p.number ≡ None
+pub node_seen : (t : Tree) (p : FilePath) (v : FileView) → (p.path ≡ [] → ⊥) → v.attributes.fileid ≡ p.number → IsSeen t v → path_at t p.number ≡ None
     → own_text t p ≡ node_line p.path v
 node_seen t p v some number seen none = text_of_node t p.number p.path (at p.number t.files) v.attributes (kind_seen v) some
     (subst (λ n. attributes_at t n ≡ Some v.attributes) number seen.0)

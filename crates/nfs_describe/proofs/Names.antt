@@ -5,23 +5,23 @@ use Rattle.std.proofs.lemmas.List.{take_more, drop_more}
 use Rattle.std.proofs.lemmas.List.Folds.{find-append}
 use Rattle.nfs_inodes.specs.Tree.{Tree, on_some}
 use Rattle.nfs_describe.specs.Lines.{hard_line}
-use Rattle.nfs_describe.specs.Places.{Place}
+use Rattle.nfs_describe.specs.Places.{FilePath}
 use Rattle.nfs_describe.specs.Texts.{files_text, first_name, named_text, own_text, place_text}
 
-abbrev path_of : Option Place → Option (List ℕ)
-path_of o = option_map (λ (p : Place). p.path) o
+abbrev path_of : Option FilePath → Option (List ℕ)
+path_of o = option_map (λ (p : FilePath). p.path) o
 
 -- ---- texts
 
-named : (t : Tree) (p : Place) (o : Option Place) → named_text t p (path_of o) ≡ on_some o (own_text t p) (λ first. hard_line p.path first.path)
+named : (t : Tree) (p : FilePath) (o : Option FilePath) → named_text t p (path_of o) ≡ on_some o (own_text t p) (λ first. hard_line p.path first.path)
 named t p None = refl
 named t p (Some first) = refl
 
-goes_on : (text here behind rest old new : List ℕ) → text ++ rest ≡ old → new ≡ text ++ here → here ++ behind ≡ rest → new ++ behind ≡ old
-goes_on text here behind rest old new before is step = ap (λ l. l ++ behind) is ∙ append_assoc text here behind ∙ ap (λ l. text ++ l) step ∙ before
+goes_on : (text here after rest old new : List ℕ) → text ++ rest ≡ old → new ≡ text ++ here → here ++ after ≡ rest → new ++ after ≡ old
+goes_on text here after rest old new before is step = ap (λ l. l ++ after) is ∙ append_assoc text here after ∙ ap (λ l. text ++ l) step ∙ before
 
 -- the text of one place more
-files_more : (t : Tree) (places : List Place) (i : ℕ) (d : Place) (kept : Option (List ℕ)) (text old new : List ℕ) → i < length places
+files_more : (t : Tree) (places : List FilePath) (i : ℕ) (d : FilePath) (kept : Option (List ℕ)) (text old new : List ℕ) → i < length places
     → text ++ files_text t (take i places) (drop i places) ≡ old
     → new ≡ text ++ named_text t (get_or places i d) kept → kept ≡ path_of (first_name (get_or places i d).number (take i places))
     → new ++ files_text t (take (i + 1) places) (drop (i + 1) places) ≡ old
@@ -32,31 +32,31 @@ files_more t places i d kept text old new inside before is name =
 
 -- ---- names
 
-path_or : (o : Option Place) (b : Bool) (p : Place) → path_of (option_or o (cond b (Some p) None)) ≡ option_or (path_of o) (cond b (Some p.path) None)
+path_or : (o : Option FilePath) (b : Bool) (p : FilePath) → path_of (option_or o (cond b (Some p) None)) ≡ option_or (path_of o) (cond b (Some p.path) None)
 path_or None true p = refl
 path_or None false p = refl
 path_or (Some q) b p = refl
 
 -- the first names among one place more
-names_more : (places : List Place) (i n : ℕ) (d : Place) (kept more : Option (List ℕ)) → i < length places → kept ≡ path_of (first_name n (take i places))
+names_more : (places : List FilePath) (i n : ℕ) (d : FilePath) (kept more : Option (List ℕ)) → i < length places → kept ≡ path_of (first_name n (take i places))
     → more ≡ option_or kept (cond (nat_eq (get_or places i d).number n) (Some (get_or places i d).path) None)
     → more ≡ path_of (first_name n (take (i + 1) places))
 names_more places i n d kept more inside is grows = grows
     ∙ ap (λ o. option_or o (cond (nat_eq (get_or places i d).number n) (Some (get_or places i d).path) None)) is
     ∙ sym (path_or (first_name n (take i places)) (nat_eq (get_or places i d).number n) (get_or places i d))
-    ∙ sym (ap path_of (ap (first_name n) (take_more places i d inside) ∙ find-append (λ (p : Place). nat_eq p.number n) (take i places) (get_or places i d ∷ [])))
+    ∙ sym (ap path_of (ap (first_name n) (take_more places i d inside) ∙ find-append (λ (p : FilePath). nat_eq p.number n) (take i places) (get_or places i d ∷ [])))
 
 -- ---- the same, where a place is the one at an index
 
-pub files_at : (t : Tree) (places : List Place) (i : ℕ) (p : Place) (kept : Option (List ℕ)) (text old new : List ℕ) → i < length places → p ≡ get_or places i p
+pub files_at : (t : Tree) (places : List FilePath) (i : ℕ) (p : FilePath) (kept : Option (List ℕ)) (text old new : List ℕ) → i < length places → p ≡ get_or places i p
     → text ++ files_text t (take i places) (drop i places) ≡ old
     → new ≡ text ++ named_text t p kept → kept ≡ path_of (first_name p.number (take i places))
     → new ++ files_text t (take (i + 1) places) (drop (i + 1) places) ≡ old
 files_at t places i p kept text old new inside item before is name = files_more t places i p kept text old new inside before
-    (is ∙ ap (λ (q : Place). text ++ named_text t q kept) item) (name ∙ ap (λ (q : Place). path_of (first_name q.number (take i places))) item)
+    (is ∙ ap (λ (q : FilePath). text ++ named_text t q kept) item) (name ∙ ap (λ (q : FilePath). path_of (first_name q.number (take i places))) item)
 
-pub names_at : (places : List Place) (i n : ℕ) (p : Place) (kept more : Option (List ℕ)) → i < length places → p ≡ get_or places i p → kept ≡ path_of (first_name n (take i places))
+pub names_at : (places : List FilePath) (i n : ℕ) (p : FilePath) (kept more : Option (List ℕ)) → i < length places → p ≡ get_or places i p → kept ≡ path_of (first_name n (take i places))
     → more ≡ option_or kept (cond (nat_eq p.number n) (Some p.path) None)
     → more ≡ path_of (first_name n (take (i + 1) places))
 names_at places i n p kept more inside item is grows =
-    names_more places i n p kept more inside is (grows ∙ ap (λ (q : Place). option_or kept (cond (nat_eq q.number n) (Some q.path) None)) item)
+    names_more places i n p kept more inside is (grows ∙ ap (λ (q : FilePath). option_or kept (cond (nat_eq q.number n) (Some q.path) None)) item)

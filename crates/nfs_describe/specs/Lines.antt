@@ -7,7 +7,7 @@ use Rattle.nfs_exports.specs.declared.options.Options.{Options}
 use Rattle.nfs_exports.specs.declared.options.Squash.{Squash}
 use Rattle.nfs_exports.specs.declared.options.Squash.TheVariants.{No, Root, All}
 use Rattle.nfs_exports.specs.declared.pattern.Pattern.{Pattern}
-use Rattle.nfs_exports.specs.declared.table.Export.{Export}
+use Rattle.nfs_exports.specs.declared.export_table.Export.{Export}
 use Rattle.nfs_load.specs.Listings.{octal}
 use Rattle.nfs_load.specs.declared.statement.Given.{Given}
 

@@ -7,13 +7,13 @@ use Rattle.std.specs.Map.{lookup}
 use Rattle.std.specs.Ordering.{nat_cmp}
 use Rattle.nfs_attrs.specs.declared.fattr.Fattr.{Fattr}
 use Rattle.nfs_exports.specs.Tables.{exports_of}
-use Rattle.nfs_exports.specs.declared.table.Export.{Export}
+use Rattle.nfs_exports.specs.declared.export_table.Export.{Export}
 use Rattle.nfs_inodes.specs.Tree.{Tree, Kind, Volume, Regular, Directory, Link, at, nlink, on_some}
 use Rattle.nfs_inodes.specs.Reading.{attributes_at, attributes_of, is_directory_type}
 use Rattle.nfs_inodes.specs.Views.{FileView, bytes_seen}
 use Rattle.nfs_load.specs.declared.statement.Given.{Given}
 use Rattle.nfs_describe.specs.Lines.{server_line, volume_line, export_line, dir_line, file_line, link_line, hard_line}
-use Rattle.nfs_describe.specs.Places.{Place, Skipped, IsSayableWalk, IsWalk, are_sayable, skipped_below}
+use Rattle.nfs_describe.specs.Places.{FilePath, Skipped, IsSayableWalk, IsWalk, are_sayable, skipped_below}
 
 abbrev pub given_of : Fattr → Given
 given_of a = record { mode = a.mode; uid = a.uid; gid = a.gid }
@@ -31,29 +31,29 @@ own_line (byte ∷ path) a (Link target) = link_line (byte ∷ path) a.uid a.gid
 abbrev pub node_line : List ℕ → FileView → List ℕ
 node_line path v = if is_directory_type v.attributes.file_type then dir_line path (given_of v.attributes) else file_line path (given_of v.attributes) (bytes_seen v)
 
-abbrev pub own_text : Tree → Place → List ℕ
+abbrev pub own_text : Tree → FilePath → List ℕ
 own_text t p = on_some (at p.number t.files) [] (λ f. own_line p.path (attributes_of p.number f (nlink t.files p.number f)) f.kind)
 
 -- the first of some places that a file has
-abbrev pub first_name : ℕ → List Place → Option Place
-first_name n places = find (λ (p : Place). nat_eq p.number n) places
+abbrev pub first_name : ℕ → List FilePath → Option FilePath
+first_name n places = find (λ (p : FilePath). nat_eq p.number n) places
 
 -- the path that is kept for a number
 abbrev pub kept_name : List (ℕ × Bor (List ℕ)) → ℕ → Option (List ℕ)
 kept_name entries n = option_map (λ name. name.now) (lookup (is_at (nat_cmp n)) entries)
 
 -- a file by a name, where this one of its names is kept
-abbrev pub named_text : Tree → Place → Option (List ℕ) → List ℕ
+abbrev pub named_text : Tree → FilePath → Option (List ℕ) → List ℕ
 named_text t p None = own_text t p
 named_text t p (Some first) = hard_line p.path first
 
--- a place behind others: a further name where one of them is the same file's
-abbrev pub place_text : Tree → List Place → Place → List ℕ
+-- a place after others: a hard link where one of them is the same file's
+abbrev pub place_text : Tree → List FilePath → FilePath → List ℕ
 place_text t before p = on_some (first_name p.number before) (own_text t p) (λ first. hard_line p.path first.path)
 
-abbrev pub files_text : Tree → List Place → List Place → List ℕ
+abbrev pub files_text : Tree → List FilePath → List FilePath → List ℕ
 files_text t before [] = []
-files_text t before (p ∷ behind) = place_text t before p ++ files_text t (before ++ p ∷ []) behind
+files_text t before (p ∷ after) = place_text t before p ++ files_text t (before ++ p ∷ []) after
 
 -- ---- volumes
 
@@ -62,14 +62,14 @@ root_text v None = []
 root_text v (Some a) = volume_line v.path v.max_bytes v.max_files (given_of a)
 
 -- a volume, to whom it is exported, and its files in the order of a walk
-abbrev pub volume_text : Tree → List (List Export) → ℕ → Volume → List Place → List ℕ
+abbrev pub volume_text : Tree → List (List Export) → ℕ → Volume → List FilePath → List ℕ
 volume_text t table place v walk = root_text v (attributes_at t v.root) ++ flat_map export_line (exports_of table place) ++ files_text t [] walk
 
 -- the text of the volume at a place, of whose walk a description has words for each path
 pub record IsVolumeText (t : Tree) (table : List (List Export)) (place : ℕ) (text : List ℕ) : Type 0 where
   pub volume : Volume
   pub at_place : slice_get t.volumes place ≡ Some volume
-  pub walk : List Place
+  pub walk : List FilePath
   pub walked : IsWalk t volume.root walk
   pub sayable : are_sayable walk ≡ true
   pub text_is : text ≡ volume_text t table place volume walk
@@ -89,7 +89,7 @@ Says t table text = SaysTo t table (length t.volumes) text
 pub record IsSayableText (t : Tree) (table : List (List Export)) (place : ℕ) (skipped : List Skipped) (text : List ℕ) : Type 0 where
   pub volume : Volume
   pub at_place : slice_get t.volumes place ≡ Some volume
-  pub walk : List Place
+  pub walk : List FilePath
   pub walked : IsSayableWalk t volume.root walk
   pub skipped_are : skipped ≡ flat_map (skipped_below t place) walk
   pub text_is : text ≡ volume_text t table place volume walk

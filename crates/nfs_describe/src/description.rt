@@ -1,8 +1,6 @@
 //! The description of a tree with its exports.
-ghost use Rattle.std.specs.Prelude.{◌≡◌, ◌⊎◌, ℕ, List, [], ◌++◌, ◌<◌, ◌≤◌, IfOk, OnOk, OnErr, length};
+ghost use Rattle.std.specs.Prelude.{◌≡◌, ℕ, List, [], ◌++◌, ◌<◌, ◌≤◌, IfOk, OnOk, length};
 ghost use Rattle.std.specs.List.{flat_map};
-ghost use Rattle.nfs_xdr.specs.Known.{Grows, GrowsByPart};
-ghost use Rattle.nfs_exports.specs.Tables.{exports_of};
 ghost use Rattle.nfs_describe.specs.Lines.{export_line};
 ghost use Rattle.nfs_describe.specs.Places as spec;
 ghost use Rattle.nfs_describe.specs.Texts.{IsSayableText, Says, SaysSayable, root_text};
@@ -16,11 +14,10 @@ use crate::files::{given_of, put_files};
 use crate::lines::{put_server, put_volume_line};
 use crate::skipped::Skipped;
 use crate::walk::walk;
-use nfs_exports::table::{Export, Table};
+use nfs_exports::export_table::{Export, ExportTable};
 use nfs_inodes::tree::Tree;
 use nfs_inodes::volumes::VolumeView;
 use nfs_text::line::Line;
-use nfs_xdr::device::{ByteOut, write_all};
 use std::alloc::{AllocError, Global};
 
 /// The most bytes of a description: 1 GiB.
@@ -42,7 +39,7 @@ pub struct Described {
 ///
 /// `Unsayable` for the first path that a description has no words for, or for the first of a link
 /// that holds what no word says; `TooLong`, `Memory`.
-pub fn describe(alloc: Global, tree: &Tree, table: &Table) -> Result<Vec<u8>, DescribeFault>
+pub fn describe(alloc: Global, tree: &Tree, table: &ExportTable) -> Result<Vec<u8>, DescribeFault>
     ensures says { IfOk result (λ text. Says tree.now table.now text.items) }
     ensures short { IfOk result (λ text. length text.items ≤ 1073741824) }
 {
@@ -61,7 +58,7 @@ pub fn describe(alloc: Global, tree: &Tree, table: &Table) -> Result<Vec<u8>, De
 pub fn describe_sayable(
     alloc: Global,
     tree: &Tree,
-    table: &Table,
+    table: &ExportTable,
     key: [u8; 8],
 ) -> Result<Described, DescribeFault>
     ensures sayable { IfOk result (λ d. SaysSayable tree.now table.now key d.skipped.items d.text.items) }
@@ -82,31 +79,11 @@ pub fn describe_sayable(
     Ok(described)
 }
 
-/// Writes the description of a tree with its exports, once all of it is made. The faults of
-/// `describe`, and then nothing is written; `Write` where the writer fails, and then a first part of
-/// the text was written.
-pub fn write_description<W: ByteOut>(
-    alloc: Global,
-    tree: &Tree,
-    table: &Table,
-    out: &mut W,
-) -> Result<(), DescribeFault>
-    ensures ok { OnOk result ((text : List ℕ) × Says tree.now table.now text × Grows (W.contents out.old) text (W.contents out.new)) }
-    ensures part { OnErr result ((out.new ≡ out.old) ⊎
-        ((text : List ℕ) × Says tree.now table.now text × GrowsByPart (W.contents out.old) text (W.contents out.new))) }
-{
-    let text = describe(alloc, tree, table)?;
-    match write_all(out, text.as_slice()) {
-        Ok(()) => Ok(()),
-        Err(_) => Err(DescribeFault::Write),
-    }
-}
-
 // The lines of the volume at a place.
 fn put_volume(
     alloc: Global,
     tree: &Tree,
-    table: &Table,
+    table: &ExportTable,
     place: usize,
     described: &mut Described,
 ) -> Result<(), DescribeFault>

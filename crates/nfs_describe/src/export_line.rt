@@ -5,9 +5,9 @@ ghost use Rattle.nfs_describe.specs.Lines.{anonymous_text, export_line, options_
 ghost use Rattle.nfs_describe.specs.Lines as spec;
 
 use nfs_exports::addr::put_addr;
+use nfs_exports::export_table::Export;
 use nfs_exports::options::{NOBODY, Options, Squash};
 use nfs_exports::pattern::Pattern;
-use nfs_exports::table::Export;
 use nfs_text::line::{Line, put, put_number};
 
 /// Makes the line of an export.

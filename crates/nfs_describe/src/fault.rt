@@ -8,14 +8,11 @@ use thiserror::Error;
 #[derive(Debug, Drop, Error)]
 pub enum DescribeFault {
     /// A description has no words for a path, or for what the link of this path holds.
-    #[error("no description has words for {0}")]
+    #[error("a description can't hold {0}")]
     Unsayable(ShownPath),
     /// The text would be longer than a description may be.
     #[error("the description is longer than 1 GiB")]
     TooLong,
-    /// The output can't be written.
-    #[error("the description can't be written")]
-    Write,
     /// There is no memory.
     #[error("out of memory")]
     Memory,

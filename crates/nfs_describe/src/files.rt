@@ -7,8 +7,8 @@ ghost use Rattle.nfs_describe.specs.Lines.{link_line};
 ghost use Rattle.nfs_describe.specs.Texts.{files_text, given_of, kept_name, named_text, node_line, own_text};
 
 use crate::fault::DescribeFault;
+use crate::file_path::FilePath;
 use crate::lines::{put_dir, put_file, put_hard, put_link};
-use crate::place::Place;
 use nfs_attrs::fattr::Fattr;
 use nfs_attrs::file_type::FileType;
 use nfs_inodes::tree::Tree;
@@ -17,12 +17,12 @@ use nfs_load::statement::Given;
 use std::alloc::{AllocError, Global};
 use std::collections::BTreeMap;
 
-/// A line for each place behind the root: the file by its first name, and `hard` for each further
-/// one. `Memory`.
+/// A line for each place after the root: the file by its first name, and a `hard` line for each
+/// other name. `Memory`.
 pub(crate) fn put_files(
     alloc: Global,
     tree: &Tree,
-    places: &[Place],
+    places: &[FilePath],
     text: &mut Vec<u8>,
 ) -> Result<(), DescribeFault>
     ensures { OnOk result (text.new.items ≡ text.old.items ++ files_text tree.now [] places.now) }
@@ -38,7 +38,7 @@ pub(crate) fn put_files(
 fn put_place<'a>(
     alloc: Global,
     tree: &Tree,
-    place: &'a Place,
+    place: &'a FilePath,
     first_names: &mut BTreeMap<u64, &'a [u8]>,
     text: &mut Vec<u8>,
 ) -> Result<(), DescribeFault>
@@ -61,7 +61,7 @@ fn put_place<'a>(
 fn put_own(
     alloc: Global,
     tree: &Tree,
-    place: &Place,
+    place: &FilePath,
     text: &mut Vec<u8>,
 ) -> Result<(), DescribeFault>
     ensures { OnOk result (text.new.items ≡ text.old.items ++ own_text tree.now place.now) }

@@ -4,10 +4,10 @@
 pub mod description;
 mod export_line;
 pub mod fault;
+pub mod file_path;
 mod files;
 mod lines;
 mod numbers;
-pub mod place;
 pub mod sayable;
 pub mod skipped;
 mod walk;

@@ -89,7 +89,7 @@ pub(crate) fn put_link(
     Ok(())
 }
 
-/// The line of a further name of a file, beside its first one.
+/// The line of a hard link of a file, beside its first one.
 pub(crate) fn put_hard(text: &mut Vec<u8>, path: &[u8], first: &[u8]) -> Result<(), AllocError>
     ensures { OnOk result (text.new.items ≡ text.old.items ++ hard_line path.now first.now) }
 {
@@ -99,18 +99,18 @@ pub(crate) fn put_hard(text: &mut Vec<u8>, path: &[u8], first: &[u8]) -> Result<
     Ok(())
 }
 
-// A keyword, a path, and what stands behind it.
+// A keyword, a path, and what stands after it.
 fn put_words(
     text: &mut Vec<u8>,
     keyword: &[u8],
     path: &[u8],
-    behind: &[u8],
+    after: &[u8],
 ) -> Result<(), AllocError>
-    ensures { OnOk result (text.new.items ≡ text.old.items ++ keyword.now ++ path.now ++ behind.now) }
+    ensures { OnOk result (text.new.items ≡ text.old.items ++ keyword.now ++ path.now ++ after.now) }
 {
     text.extend_from_slice(keyword)?;
     text.extend_from_slice(path)?;
-    text.extend_from_slice(behind)
+    text.extend_from_slice(after)
 }
 
 // The bytes of a regular file, run by run: two digits each, or `-` for none.

@@ -8,7 +8,7 @@ ghost use Rattle.nfs_describe.specs.Places as spec;
 ghost use Rattle.nfs_describe.specs.Places.{IsSayableWalk, lacks_words, sayable_below, skipped_at, skipped_below};
 
 use crate::fault::{DescribeFault, ShownPath};
-use crate::place::Place;
+use crate::file_path::FilePath;
 use crate::sayable::{is_sayable, is_target};
 use crate::skipped::Skipped;
 use nfs_handles::number::Number;
@@ -19,7 +19,7 @@ use std::alloc::Global;
 #[derive(Drop)]
 pub(crate) struct Below {
     /// The places that a description has words for.
-    pub(crate) places: Vec<Place>,
+    pub(crate) places: Vec<FilePath>,
     /// The first ones without, which hide all that is below them.
     pub(crate) skipped: Vec<Skipped>,
 }
@@ -38,7 +38,7 @@ pub(crate) fn walk(
 {
     let mut places = Vec::new(alloc);
     let mut skipped = Vec::new(alloc);
-    places.push(Place {
+    places.push(FilePath {
         path: Vec::new(alloc),
         number: root,
     })?;
@@ -58,7 +58,7 @@ fn walk_below(
     alloc: Global,
     tree: &Tree,
     volume: usize,
-    place: &Place,
+    place: &FilePath,
 ) -> Result<Below, DescribeFault>
     ensures places { IfOk result (λ below. below.places.items ≡ sayable_below tree.now place.now) }
     ensures skipped { IfOk result (λ below. below.skipped.items ≡ skipped_below tree.now volume place.now) }
@@ -72,7 +72,7 @@ fn walk_below(
     };
     let mut entries = dir.entries();
     while let Some(entry) = entries.next() {
-        let found = Place {
+        let found = FilePath {
             path: path_below(alloc, place, entry.name)?,
             number: entry.number,
         };
@@ -82,8 +82,8 @@ fn walk_below(
 }
 
 impl Below {
-    // Puts a place behind the others that have words, or behind those that are skipped.
-    fn put(&mut self, tree: &Tree, volume: usize, place: Place) -> Result<(), DescribeFault>
+    // Puts a place after the others that have words, or after those that are skipped.
+    fn put(&mut self, tree: &Tree, volume: usize, place: FilePath) -> Result<(), DescribeFault>
         ensures places { OnOk result (self.new.places.items ≡ self.old.places.items ++ filter (spec.has_words tree.now) (place ∷ [])) }
         ensures skipped { OnOk result (self.new.skipped.items ≡
             self.old.skipped.items ++ map (skipped_at volume) (filter (lacks_words tree.now) (place ∷ []))) }
@@ -101,7 +101,7 @@ impl Below {
 }
 
 // Whether a description has words for a place: for its path, and for what it holds if it is a link.
-fn has_words(tree: &Tree, place: &Place) -> bool
+fn has_words(tree: &Tree, place: &FilePath) -> bool
     ensures { result ≡ spec.has_words tree.now place.now }
 {
     is_sayable(place.path.as_slice()) && is_said(tree, place.number)
@@ -118,7 +118,7 @@ fn is_said(tree: &Tree, number: Number) -> bool
 }
 
 // The path of a name in the directory at a place.
-fn path_below(alloc: Global, place: &Place, name: &[u8]) -> Result<Vec<u8>, DescribeFault>
+fn path_below(alloc: Global, place: &FilePath, name: &[u8]) -> Result<Vec<u8>, DescribeFault>
     ensures { IfOk result (λ path. path.items ≡ place.now.path ++ 47 ∷ name.now) }
 {
     let mut path = Vec::new(alloc);

@@ -10,10 +10,10 @@ use Rattle.nfs_inodes.specs.Tree.{Tree, File, Kind, Entry, Regular, Directory, L
 use Rattle.nfs_inodes.specs.Law.{Law, IsSound}
 use Rattle.nfs_inodes.specs.Reading.{dot, dot_dot, listing, listing_at}
 use Rattle.nfs_dirs.specs.Pages.{most, count_of, chosen, left_after}
-use Rattle.nfs_dirs.specs.Laws.{last_cookie, entries_of, cookie_behind, PagesJoin, AllAreLeft, EndsAreTold}
+use Rattle.nfs_dirs.specs.Laws.{last_cookie, entries_of, cookie_after, PagesJoin, AllAreLeft, EndsAreReported}
 
-abbrev behind : ℕ → List Entry → List Entry
-behind cookie es = filter (λ e. nat_lt cookie e.cookie) es
+abbrev after : ℕ → List Entry → List Entry
+after cookie es = filter (λ e. nat_lt cookie e.cookie) es
 
 -- all have greater cookies
 abbrev Above : ℕ → List Entry → Type 0
@@ -32,47 +32,47 @@ same_first x y xs ys e = cc
 same_rest : {X : Type 0} (x y : X) (xs ys : List X) → x ∷ xs ≡ y ∷ ys → xs ≡ ys
 same_rest x y xs ys e = cc
 
-pub kept : (cookie : ℕ) (es : List Entry) → Above cookie es → behind cookie es ≡ es
+pub kept : (cookie : ℕ) (es : List Entry) → Above cookie es → after cookie es ≡ es
 kept cookie [] above = refl
 kept cookie (x ∷ xs) above =
-    ap (λ b. cond b (x ∷ behind cookie xs) (behind cookie xs)) (lt-ltb cookie x.cookie (All-head (λ (e : Entry). cookie < e.cookie) x xs above))
+    ap (λ b. cond b (x ∷ after cookie xs) (after cookie xs)) (lt-ltb cookie x.cookie (All-head (λ (e : Entry). cookie < e.cookie) x xs above))
     ∙ ap (λ l. x ∷ l) (kept cookie xs (All-tail (λ (e : Entry). cookie < e.cookie) x xs above))
 
 -- the first that is left has a greater cookie
-first_above : (cookie : ℕ) (es : List Entry) (x : Entry) (rest : List Entry) → behind cookie es ≡ x ∷ rest → cookie < x.cookie
+first_above : (cookie : ℕ) (es : List Entry) (x : Entry) (rest : List Entry) → after cookie es ≡ x ∷ rest → cookie < x.cookie
 first_above cookie [] x rest e = absurd (not_nothing x rest e)
 first_above cookie (y ∷ ys) x rest e = by_test (λ f. first_above cookie ys x rest f) (nat_lt cookie y.cookie) refl
   where
-    by_test : (behind cookie ys ≡ x ∷ rest → cookie < x.cookie) → (b : Bool) → nat_lt cookie y.cookie ≡ b → cookie < x.cookie
-    by_test later true t = let same = same_first y x (behind cookie ys) rest (sym (ap (λ b. cond b (y ∷ behind cookie ys) (behind cookie ys)) t) ∙ e) in
+    by_test : (after cookie ys ≡ x ∷ rest → cookie < x.cookie) → (b : Bool) → nat_lt cookie y.cookie ≡ b → cookie < x.cookie
+    by_test later true t = let same = same_first y x (after cookie ys) rest (sym (ap (λ b. cond b (y ∷ after cookie ys) (after cookie ys)) t) ∙ e) in
         subst (λ (e : Entry). cookie < e.cookie) same (ltb-true cookie y.cookie t)
-    by_test later false t = later (sym (ap (λ b. cond b (y ∷ behind cookie ys) (behind cookie ys)) t) ∙ e)
+    by_test later false t = later (sym (ap (λ b. cond b (y ∷ after cookie ys) (after cookie ys)) t) ∙ e)
 
--- behind the first that is left, the others are
-next_behind : (cookie : ℕ) (es : List Entry) → Rise es → (x : Entry) (rest : List Entry) → behind cookie es ≡ x ∷ rest → behind x.cookie es ≡ rest
-next_behind cookie [] rise x rest e = absurd (not_nothing x rest e)
-next_behind cookie (y ∷ ys) rise x rest e = by_test (λ f. next_behind cookie ys rise.1 x rest f) (nat_lt cookie y.cookie) refl
+-- after the first that is left, the others are
+next_after : (cookie : ℕ) (es : List Entry) → Rise es → (x : Entry) (rest : List Entry) → after cookie es ≡ x ∷ rest → after x.cookie es ≡ rest
+next_after cookie [] rise x rest e = absurd (not_nothing x rest e)
+next_after cookie (y ∷ ys) rise x rest e = by_test (λ f. next_after cookie ys rise.1 x rest f) (nat_lt cookie y.cookie) refl
   where
-    skip : y.cookie ≤ x.cookie → behind x.cookie (y ∷ ys) ≡ behind x.cookie ys
-    skip le = ap (λ b. cond b (y ∷ behind x.cookie ys) (behind x.cookie ys)) (le-ltb x.cookie y.cookie le)
+    skip : y.cookie ≤ x.cookie → after x.cookie (y ∷ ys) ≡ after x.cookie ys
+    skip le = ap (λ b. cond b (y ∷ after x.cookie ys) (after x.cookie ys)) (le-ltb x.cookie y.cookie le)
 
-    by_test : (behind cookie ys ≡ x ∷ rest → behind x.cookie ys ≡ rest) → (b : Bool) → nat_lt cookie y.cookie ≡ b → behind x.cookie (y ∷ ys) ≡ rest
+    by_test : (after cookie ys ≡ x ∷ rest → after x.cookie ys ≡ rest) → (b : Bool) → nat_lt cookie y.cookie ≡ b → after x.cookie (y ∷ ys) ≡ rest
     by_test later true t =
-        let whole : y ∷ behind cookie ys ≡ x ∷ rest = sym (ap (λ b. cond b (y ∷ behind cookie ys) (behind cookie ys)) t) ∙ e in
-        let same = same_first y x (behind cookie ys) rest whole in
+        let whole : y ∷ after cookie ys ≡ x ∷ rest = sym (ap (λ b. cond b (y ∷ after cookie ys) (after cookie ys)) t) ∙ e in
+        let same = same_first y x (after cookie ys) rest whole in
         let cookies : y.cookie ≡ x.cookie = ap (λ (e : Entry). e.cookie) same in
         let less = ltb-true cookie y.cookie t in
         let lower = All-weaker (λ (e : Entry). y.cookie < e.cookie) (λ (e : Entry). cookie < e.cookie) (λ e above. omega (arith, less, above)) ys rise.0 in
-        skip (omega (arith, cookies)) ∙ kept x.cookie ys (subst (λ c. Above c ys) cookies rise.0) ∙ sym (kept cookie ys lower) ∙ same_rest y x (behind cookie ys) rest whole
+        skip (omega (arith, cookies)) ∙ kept x.cookie ys (subst (λ c. Above c ys) cookies rise.0) ∙ sym (kept cookie ys lower) ∙ same_rest y x (after cookie ys) rest whole
     by_test later false t =
-        let others : behind cookie ys ≡ x ∷ rest = sym (ap (λ b. cond b (y ∷ behind cookie ys) (behind cookie ys)) t) ∙ e in
+        let others : after cookie ys ≡ x ∷ rest = sym (ap (λ b. cond b (y ∷ after cookie ys) (after cookie ys)) t) ∙ e in
         let above = first_above cookie ys x rest others in
         let low = ltb-false cookie y.cookie t in
         skip (omega (arith, above, low)) ∙ later others
 
-behind_last : (es : List Entry) → Rise es → (given rest : List Entry) (cookie : ℕ) → behind cookie es ≡ given ++ rest → behind (last_cookie cookie given) es ≡ rest
-behind_last es rise [] rest cookie e = e
-behind_last es rise (x ∷ given) rest cookie e = behind_last es rise given rest x.cookie (next_behind cookie es rise x (given ++ rest) e)
+after_last : (es : List Entry) → Rise es → (given rest : List Entry) (cookie : ℕ) → after cookie es ≡ given ++ rest → after (last_cookie cookie given) es ≡ rest
+after_last es rise [] rest cookie e = e
+after_last es rise (x ∷ given) rest cookie e = after_last es rise given rest x.cookie (next_after cookie es rise x (given ++ rest) e)
 
 -- ---- directories
 
@@ -109,9 +109,9 @@ above_at t law d = listed t law d (Above 0) (All-nil (λ (e : Entry). 0 < e.cook
 -- ---- pages
 
 -- what is left behind a page
-left_behind : (t : Tree) → Law t → (d cookie : ℕ) (passes : List Entry → Bool) → left_after t d (last_cookie cookie (chosen passes (left_after t d cookie))) ≡ drop (count_of passes (left_after t d cookie)) (left_after t d cookie)
-left_behind t law d cookie passes = let left = left_after t d cookie in
-    behind_last (listing_at t d) (rise_at t law d) (chosen passes left) (drop (count_of passes left) left) cookie (sym (take-append-drop (count_of passes left) left))
+left_after_last : (t : Tree) → Law t → (d cookie : ℕ) (passes : List Entry → Bool) → left_after t d (last_cookie cookie (chosen passes (left_after t d cookie))) ≡ drop (count_of passes (left_after t d cookie)) (left_after t d cookie)
+left_after_last t law d cookie passes = let left = left_after t d cookie in
+    after_last (listing_at t d) (rise_at t law d) (chosen passes left) (drop (count_of passes left) left) cookie (sym (take-append-drop (count_of passes left) left))
 
 pub pages_join : PagesJoin
 pages_join t law d cookie [] = refl
@@ -119,9 +119,9 @@ pages_join t law d cookie (passes ∷ pages) =
     let left = left_after t d cookie in
     let page = chosen passes left in
     let last = last_cookie cookie page in
-    append_assoc page (entries_of t d last pages) (left_after t d (cookie_behind t d last pages))
+    append_assoc page (entries_of t d last pages) (left_after t d (cookie_after t d last pages))
     ∙ ap (λ l. page ++ l) (pages_join t law d last pages)
-    ∙ ap (λ l. page ++ l) (left_behind t law d cookie passes)
+    ∙ ap (λ l. page ++ l) (left_after_last t law d cookie passes)
     ∙ take-append-drop (count_of passes left) left
 
 pub all_are_left : AllAreLeft
@@ -135,10 +135,10 @@ most_within p (suc n) = by_test (most_within p n) (p (suc n)) refl
     by_test less true e = let is = ap (λ b. if b then suc n else most p n) e in omega (arith, is)
     by_test less false e = let is = ap (λ b. if b then suc n else most p n) e in omega (arith, is, less)
 
-pub ends_are_told : EndsAreTold
-ends_are_told t law d cookie passes = let left = left_after t d cookie in let n = count_of passes left in (
-  (λ end. left_behind t law d cookie passes ∙ ap (λ k. drop k left) (eqb-true n (length left) end) ∙ drop-length left),
-  (λ none. let rest : drop n left ≡ [] = sym (left_behind t law d cookie passes) ∙ none in
+pub ends_are_reported : EndsAreReported
+ends_are_reported t law d cookie passes = let left = left_after t d cookie in let n = count_of passes left in (
+  (λ end. left_after_last t law d cookie passes ∙ ap (λ k. drop k left) (eqb-true n (length left) end) ∙ drop-length left),
+  (λ none. let rest : drop n left ≡ [] = sym (left_after_last t law d cookie passes) ∙ none in
       let count = ap length rest in let some = length-drop n left in let within = most_within (λ k. passes (take k left)) (length left) in
       eq-eqb n (length left) (omega (arith, count, some, within))),
 )

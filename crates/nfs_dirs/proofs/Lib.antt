@@ -4,3 +4,4 @@ pub mod Sizes
 pub mod Joins
 pub mod Firsts
 pub mod Shown
+pub mod Opened

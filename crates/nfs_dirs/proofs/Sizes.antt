@@ -11,11 +11,11 @@ use Rattle.nfs_args.specs.Sizes.{max_page}
 use Rattle.nfs_dirs.specs.Pages.{page_head_bytes, entry_bytes, fits, plus_bytes, fits_plus}
 use Rattle.nfs_dirs.proofs.Prefixes.{Narrows}
 
-pub links_push : {A : Type 0} (text : A → List ℕ) (told : Entry → A) (es : List Entry) (x : Entry) → links_text text (map told (es ++ x ∷ [])) ≡ links_text text (map told es) ++ chained_text text (told x)
-links_push text told es x =
-    ap (links_text text) (map-append told es (x ∷ []))
-    ∙ flat_map-append (chained_text text) (map told es) (told x ∷ [])
-    ∙ ap (λ t. links_text text (map told es) ++ t) (append-nil (chained_text text (told x)))
+pub links_push : {A : Type 0} (text : A → List ℕ) (reported : Entry → A) (es : List Entry) (x : Entry) → links_text text (map reported (es ++ x ∷ [])) ≡ links_text text (map reported es) ++ chained_text text (reported x)
+links_push text reported es x =
+    ap (links_text text) (map-append reported es (x ∷ []))
+    ∙ flat_map-append (chained_text text) (map reported es) (reported x ∷ [])
+    ∙ ap (λ t. links_text text (map reported es) ++ t) (append-nil (chained_text text (reported x)))
 
 -- each entry has a byte, if not more
 pub few_entries : (es : List Entry) → length es ≤ sum_by entry_bytes es
@@ -93,9 +93,6 @@ pub narrows_fits_plus : (dircount maxcount : ℕ) (searchable : Bool) → Narrow
 narrows_fits_plus dircount maxcount searchable es more e =
     let parts = and_parts (nat_le (page_head_bytes + sum_by (all_bytes searchable) (es ++ more)) (min maxcount max_page)) (few_named dircount (es ++ more)) e in
     with_both (nat_le (page_head_bytes + sum_by (all_bytes searchable) es) (min maxcount max_page)) (few_named dircount es) (narrows_room maxcount searchable es more parts.0) (narrows_named dircount es more parts.1)
-
-pub fits_none : (dircount maxcount : ℕ) (searchable : Bool) → page_head_bytes ≤ min maxcount max_page → fits_plus dircount maxcount searchable [] ≡ true
-fits_none dircount maxcount searchable le = with_both (nat_le (page_head_bytes + sum_by (all_bytes searchable) []) (min maxcount max_page)) (few_named dircount []) (le-leb (page_head_bytes + sum_by (all_bytes searchable) []) (min maxcount max_page) le) refl
 
 pub few_entries_plus : (searchable : Bool) (es : List Entry) → length es ≤ sum_by (all_bytes searchable) es
 few_entries_plus searchable [] = omega arith

@@ -17,20 +17,20 @@ entries_of t d cookie (passes ∷ pages) = chosen passes (left_after t d cookie)
     ++ entries_of t d (last_cookie cookie (chosen passes (left_after t d cookie))) pages
 
 -- the cookie of the last of them
-abbrev pub cookie_behind : Tree → ℕ → ℕ → List (List Entry → Bool) → ℕ
-cookie_behind t d cookie [] = cookie
-cookie_behind t d cookie (passes ∷ pages) = cookie_behind t d (last_cookie cookie (chosen passes (left_after t d cookie))) pages
+abbrev pub cookie_after : Tree → ℕ → ℕ → List (List Entry → Bool) → ℕ
+cookie_after t d cookie [] = cookie
+cookie_after t d cookie (passes ∷ pages) = cookie_after t d (last_cookie cookie (chosen passes (left_after t d cookie))) pages
 
 -- their entries, one after another, and what is left behind them are what was left before them: no entry is missing, and none is there twice
 abbrev pub PagesJoin : Type 0
 PagesJoin = (t : Tree) → Law t → (d cookie : ℕ) (pages : List (List Entry → Bool))
-    → entries_of t d cookie pages ++ left_after t d (cookie_behind t d cookie pages) ≡ left_after t d cookie
+    → entries_of t d cookie pages ++ left_after t d (cookie_after t d cookie pages) ≡ left_after t d cookie
 
 -- from cookie 0 on all is left
 abbrev pub AllAreLeft : Type 0
 AllAreLeft = (t : Tree) → Law t → (d : ℕ) → left_after t d 0 ≡ listing_at t d
 
--- a page tells the end exactly where nothing is left behind its last entry
-abbrev pub EndsAreTold : Type 0
-EndsAreTold = (t : Tree) → Law t → (d cookie : ℕ) (passes : List Entry → Bool)
+-- a page reports the end exactly where nothing is left behind its last entry
+abbrev pub EndsAreReported : Type 0
+EndsAreReported = (t : Tree) → Law t → (d cookie : ℕ) (passes : List Entry → Bool)
     → (is_end passes (left_after t d cookie) ≡ true) ↔ (left_after t d (last_cookie cookie (chosen passes (left_after t d cookie))) ≡ [])

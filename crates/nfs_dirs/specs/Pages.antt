@@ -1,23 +1,23 @@
 -- Pages of a directory: which entries READDIR and READDIRPLUS answer (RFC 1813, sections 3.3.16 and 3.3.17), and how.
 use Rattle.std.specs.Prelude.{◌≡◌, ℕ, zero, suc, ◌+◌, Bool, not, ◌&&◌, ◌||◌, true, false, List, ◌++◌, map, length, sum_by, take, min}
 use Rattle.std.specs.Prelude.{nat_eq, nat_le, Option, None, Result, Ok, Err, if◌then◌else◌}
-use Rattle.nfs_xdr.specs.Spelling.{padding}
+use Rattle.nfs_xdr.specs.Encoding.{padding}
 use Rattle.nfs_xdr.specs.Written.{Written, Appends}
 use Rattle.nfs_attrs.specs.declared.fattr.Fattr.{Fattr}
 use Rattle.nfs_handles.specs.Handles.{handle_at}
 use Rattle.nfs_inodes.specs.Tree.{Tree, Entry}
-use Rattle.nfs_inodes.specs.Reading.{listing_at, entries_behind, attributes_at, numbered_files}
-use Rattle.nfs_args.specs.Chains.{AreSpelled, links_text}
+use Rattle.nfs_inodes.specs.Reading.{listing_at, entries_beyond, attributes_at, numbered_files}
+use Rattle.nfs_args.specs.Chains.{AreEncoded, links_text}
 use Rattle.nfs_args.specs.Sizes.{max_page}
 use Rattle.nfs_args.specs.Pages.{IsEntry, IsEntryPlus, entry_text, entry_plus_text, page_end_text}
-use Rattle.nfs_args.specs.declared.entry.Entry as told
-use Rattle.nfs_args.specs.declared.entry_plus.EntryPlus as told_plus
-use Rattle.nfs_dirs.specs.declared.answer.Page.{Page}
+use Rattle.nfs_args.specs.declared.entry.Entry as reported
+use Rattle.nfs_args.specs.declared.entry_plus.EntryPlus as reported_plus
+use Rattle.nfs_dirs.specs.declared.answer.WrittenPage.{WrittenPage}
 use Rattle.nfs_dirs.specs.declared.answer.TooSmall.{TooSmall}
 
 -- ---- sizes
 
--- the bytes of a page beside its entries: the directory's attributes, a verifier, and two words behind the entries
+-- the bytes of a page beside its entries: the directory's attributes, a verifier, and two words after the entries
 abbrev pub page_head_bytes : ℕ
 page_head_bytes = 104
 
@@ -68,43 +68,43 @@ is_too_small passes left = not (passes (take 1 left))
 
 -- ---- pages
 
--- what is left of a directory behind a cookie: `.`, `..` and its entries, those with greater cookies
+-- what is left of a directory after a cookie: `.`, `..` and its entries, those with greater cookies
 abbrev pub left_after : Tree → ℕ → ℕ → List Entry
-left_after t d cookie = entries_behind cookie (listing_at t d)
+left_after t d cookie = entries_beyond cookie (listing_at t d)
 
 -- entry3
-abbrev pub entry_told : Entry → told.Entry
-entry_told e = record { fileid = e.number; name = e.name; cookie = e.cookie }
+abbrev pub entry_reported : Entry → reported.Entry
+entry_reported e = record { fileid = e.number; name = e.name; cookie = e.cookie }
 
 -- entryplus3 with what the file is
-abbrev pub entry_plus_with : Entry → Option Fattr → Option (List ℕ) → told_plus.EntryPlus
+abbrev pub entry_plus_with : Entry → Option Fattr → Option (List ℕ) → reported_plus.EntryPlus
 entry_plus_with e attributes handle = record { fileid = e.number; name = e.name; cookie = e.cookie; attributes = attributes; file = handle }
 
 -- what the file is, where the caller may search the directory
-abbrev pub entry_plus_told : Tree → Bool → Entry → told_plus.EntryPlus
-entry_plus_told t searchable e = entry_plus_with e
+abbrev pub entry_plus_reported : Tree → Bool → Entry → reported_plus.EntryPlus
+entry_plus_reported t searchable e = entry_plus_with e
     (if searchable then attributes_at t e.number else None)
     (if searchable then handle_at (numbered_files t) e.number else None)
 
--- A page of what is left is appended: the longest prefix that passes, each entry of it as it is spelled, and
+-- A page of what is left is appended: the longest prefix that passes, each entry of it as it is encoded, and
 -- whether that is all. Or nothing is, where not even the first entry passes.
-abbrev pub AnswersPage : (List Entry → Bool) → (List Entry → List ℕ) → (List Entry → Type 0) → List Entry → Result Page TooSmall
+abbrev pub AnswersPage : (List Entry → Bool) → (List Entry → List ℕ) → (List Entry → Type 0) → List Entry → Result WrittenPage TooSmall
     → Written → Written → Type 0
-AnswersPage passes text Spelled left (Ok page) old new =
+AnswersPage passes text Encoded left (Ok page) old new =
     (is_too_small passes left ≡ false) × (page ≡ record { given = count_of passes left; eof = is_end passes left })
-    × Appends (text (chosen passes left) ++ page_end_text (is_end passes left)) old new × Spelled (chosen passes left)
-AnswersPage passes text Spelled left (Err refusal) old new = (is_too_small passes left ≡ true) × (new ≡ old)
+    × Appends (text (chosen passes left) ++ page_end_text (is_end passes left)) old new × Encoded (chosen passes left)
+AnswersPage passes text Encoded left (Err refusal) old new = (is_too_small passes left ≡ true) × (new ≡ old)
 
 -- the chains of READDIR and READDIRPLUS, without their ends
 abbrev pub entries_text : List Entry → List ℕ
-entries_text es = links_text entry_text (map entry_told es)
+entries_text es = links_text entry_text (map entry_reported es)
 
 abbrev pub entries_plus_text : Tree → Bool → List Entry → List ℕ
-entries_plus_text t searchable es = links_text entry_plus_text (map (entry_plus_told t searchable) es)
+entries_plus_text t searchable es = links_text entry_plus_text (map (entry_plus_reported t searchable) es)
 
--- their texts are spellings
-abbrev pub EntriesSpelled : List Entry → Type 0
-EntriesSpelled es = AreSpelled IsEntry entry_text (map entry_told es)
+-- their texts are encodings
+abbrev pub EntriesEncoded : List Entry → Type 0
+EntriesEncoded es = AreEncoded IsEntry entry_text (map entry_reported es)
 
-abbrev pub EntriesPlusSpelled : Tree → Bool → List Entry → Type 0
-EntriesPlusSpelled t searchable es = AreSpelled IsEntryPlus entry_plus_text (map (entry_plus_told t searchable) es)
+abbrev pub EntriesPlusEncoded : Tree → Bool → List Entry → Type 0
+EntriesPlusEncoded t searchable es = AreEncoded IsEntryPlus entry_plus_text (map (entry_plus_reported t searchable) es)

@@ -2,15 +2,15 @@
 ghost use Rattle.std.specs.Prelude.{◌≤◌};
 ghost use Rattle.nfs_dirs.specs.Walk.{IsCutOff};
 
-use nfs_args::page::write_page_end;
+use nfs_args::dir_page::write_page_end;
 use nfs_xdr::output::Output;
 
 /// A page that was written.
 #[derive(Clone, Copy, Debug)]
-pub struct Page {
+pub struct WrittenPage {
     /// How many entries it has.
     pub given: usize,
-    /// Whether the directory ends behind them.
+    /// Whether the directory ends after them.
     pub eof: bool,
 }
 
@@ -18,14 +18,11 @@ pub struct Page {
 #[derive(Clone, Copy, Debug)]
 pub struct TooSmall;
 
-// The page ends behind so many entries, and more are left.
-pub(crate) fn cut_off(given: usize, out: &mut Output) -> Result<Page, TooSmall>
+// The page ends after so many entries, and more are left.
+pub(crate) fn cut_off(given: usize, out: &mut Output) -> WrittenPage
     requires { 8 ≤ out.old.room }
     ensures { IsCutOff given result out.old out.new }
 {
-    if given == 0 {
-        return Err(TooSmall);
-    }
     write_page_end(out, false);
-    Ok(Page { given, eof: false })
+    WrittenPage { given, eof: false }
 }

@@ -7,5 +7,6 @@ pub mod examples;
 pub mod laws;
 pub mod limits;
 mod listed;
-pub mod read_dir;
-pub mod read_dir_plus;
+pub mod open_page;
+pub mod readdir;
+pub mod readdirplus;

@@ -1,9 +1,9 @@
 //! The sizes of a page and of its parts.
 ghost use Rattle.std.specs.Prelude.{◌≡◌, ◌+◌, ◌≤◌, length};
-ghost use Rattle.nfs_xdr.specs.Spelling.{padding};
+ghost use Rattle.nfs_xdr.specs.Encoding.{padding};
 ghost use Rattle.nfs_dirs.specs.Pages.{plus_bytes};
 
-/// What a page has beside its entries: the directory's attributes, a verifier, and two words behind
+/// What a page has beside its entries: the directory's attributes, a verifier, and two words after
 /// the entries.
 pub const PAGE_HEAD_BYTES: usize = 104;
 

@@ -8,7 +8,7 @@ use nfs_inodes::directory::{Entries, EntryView};
 use nfs_inodes::tree::Tree;
 use nfs_inodes::view::FileView;
 
-/// What a directory lists behind a cookie, in turn: `.`, `..` and its entries.
+/// What a directory lists after a cookie, in turn: `.`, `..` and its entries.
 #[derive(Drop)]
 pub(crate) struct Listed<'a> {
     dot: Option<EntryView<'a>>,

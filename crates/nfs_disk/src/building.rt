@@ -3,13 +3,13 @@
 use crate::fault::DiskFault;
 use crate::found::{Found, Kind};
 use crate::survey::Survey;
-use crate::warning::{Reason, Warning};
+use crate::warning::{SkipReason, Warning};
 use nfs_attrs::moment::Moment;
 use nfs_content::pages::Pages;
 use nfs_describe::sayable::is_target;
 use nfs_handles::number::Number;
 use nfs_inodes::limits::MAX_FILE_BYTES;
-use nfs_inodes::new_file::NewFile;
+use nfs_inodes::new_file::{NewContent, NewFile};
 use nfs_inodes::tree::Tree;
 use nfs_load::statement::Given;
 use std::alloc::Global;
@@ -24,7 +24,7 @@ const START: Moment = Moment {
 };
 
 /// Makes below a root what was found on disk, each file by its first name and then its others.
-/// What can't be made is left out, with a warning, and so is what stands below it.
+/// What can't be made is skipped, with a warning, and so is what stands below it.
 pub fn build<R: Files + AllocGlobal>(
     rt: &R,
     survey: &mut Survey,
@@ -55,7 +55,7 @@ struct Builder<'a> {
     tree: &'a mut Tree,
     // The number of each that was found, where it was made.
     made: Vec<Option<Number>>,
-    // The number of each file that has further names, by its device and number on disk.
+    // The number of each file that has hard links, by its device and number on disk.
     first_names: BTreeMap<(u64, u64), Number>,
     warnings: Vec<Warning>,
 }
@@ -86,10 +86,10 @@ impl Builder<'_> {
         rt: &R,
         dir: Number,
         found: &Found,
-    ) -> Result<Result<Number, Reason>, DiskFault> {
+    ) -> Result<Result<Number, SkipReason>, DiskFault> {
         let name = last_name(found.path.as_bytes());
         if found.kind == Kind::Directory {
-            return self.make_dir(dir, name, found.given);
+            return self.mkdir(dir, name, found.given);
         }
         if let Some(first) = self.first_names.get(&found.identity).copied() {
             return self.add_name(dir, name, first);
@@ -107,27 +107,27 @@ impl Builder<'_> {
         Ok(made)
     }
 
-    fn make_dir(
+    fn mkdir(
         &mut self,
         dir: Number,
         name: &[u8],
         given: Given,
-    ) -> Result<Result<Number, Reason>, DiskFault> {
-        if !self.tree.may_make_dir(dir, name) {
-            return Ok(Err(Reason::Full));
+    ) -> Result<Result<Number, SkipReason>, DiskFault> {
+        if !self.tree.may_mkdir(dir, name) {
+            return Ok(Err(SkipReason::Full));
         }
-        Ok(Ok(self.tree.make_dir(dir, name, &new_file(given), START)?))
+        Ok(Ok(self.tree.mkdir(dir, name, &new_file(given), START)?))
     }
 
-    // A further name of a file that was made.
+    // A hard link of a file that was made.
     fn add_name(
         &mut self,
         dir: Number,
         name: &[u8],
         file: Number,
-    ) -> Result<Result<Number, Reason>, DiskFault> {
+    ) -> Result<Result<Number, SkipReason>, DiskFault> {
         if !self.tree.may_link(file, dir, name) {
-            return Ok(Err(Reason::Full));
+            return Ok(Err(SkipReason::Full));
         }
         self.tree.link(file, dir, name, START)?;
         Ok(Ok(file))
@@ -139,21 +139,22 @@ impl Builder<'_> {
         dir: Number,
         name: &[u8],
         found: &Found,
-    ) -> Result<Result<Number, Reason>, DiskFault> {
+    ) -> Result<Result<Number, SkipReason>, DiskFault> {
         let Ok(content) = fs::read(rt, found.disk_path.as_str()) else {
-            return Ok(Err(Reason::Unreadable));
+            return Ok(Err(SkipReason::Unreadable));
         };
         if content.len() > MAX_FILE_BYTES {
-            return Ok(Err(Reason::TooLarge));
+            return Ok(Err(SkipReason::TooLarge));
         }
         if !self.tree.may_make(dir, name, content.len()) {
-            return Ok(Err(Reason::Full));
+            return Ok(Err(SkipReason::Full));
         }
-        let content = Pages::of(self.alloc, content)?;
+        let content = NewContent {
+            pages: Pages::of(self.alloc, content)?,
+            verifier: None,
+        };
         let given = new_file(found.given);
-        let number = self
-            .tree
-            .make_file(dir, name, content, &given, None, START)?;
+        let number = self.tree.make_file(dir, name, content, &given, START)?;
         if found.names > 1 {
             self.first_names.insert(found.identity, number)?;
         }
@@ -166,23 +167,23 @@ impl Builder<'_> {
         dir: Number,
         name: &[u8],
         found: &Found,
-    ) -> Result<Result<Number, Reason>, DiskFault> {
+    ) -> Result<Result<Number, SkipReason>, DiskFault> {
         let Ok(target) = fs::read_link(rt, found.disk_path.as_str()) else {
-            return Ok(Err(Reason::Unreadable));
+            return Ok(Err(SkipReason::Unreadable));
         };
         let target = target.to_string_lossy().as_bytes();
         if !is_target(target) {
-            return Ok(Err(Reason::Target));
+            return Ok(Err(SkipReason::Target));
         }
         if !self.tree.may_make_link(dir, name, target) {
-            return Ok(Err(Reason::Full));
+            return Ok(Err(SkipReason::Full));
         }
         let given = new_file(found.given);
         Ok(Ok(self.tree.make_link(dir, name, target, &given, START)?))
     }
 }
 
-// What stands behind a path's last slash.
+// What stands after a path's last slash.
 fn last_name(path: &[u8]) -> &[u8] {
     match path.rsplit(|byte| *byte == b'/').next() {
         Some(name) => name,

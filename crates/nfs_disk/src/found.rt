@@ -30,7 +30,7 @@ pub struct Found {
     pub given: Given,
     /// How many bytes it has.
     pub size: u64,
-    /// The device and the number that tell it from all other files.
+    /// The device and the number that distinguish it from all other files.
     pub identity: (u64, u64),
     /// How many names it has.
     pub names: u64,

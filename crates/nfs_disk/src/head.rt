@@ -3,7 +3,7 @@
 use crate::survey::Survey;
 use nfs_load::limits::{MAX_FILES, MAX_VOLUME_BYTES};
 use nfs_load::statement::Given;
-use nfs_text::pieces::cut;
+use nfs_text::chunks::cut;
 use std::alloc::{AllocError, Global};
 
 // The least limits of a volume where none are given, so that clients have room to write.
@@ -22,7 +22,7 @@ pub struct Head<'a> {
     pub bytes: Option<u64>,
     /// The most files, if not twice those that were found.
     pub files: Option<u64>,
-    /// Patterns, each with its options behind `=`.
+    /// Patterns, each with its options after `=`.
     pub exports: &'a [&'a str],
 }
 

@@ -2,7 +2,7 @@
 
 use crate::fault::DiskFault;
 use crate::found::{Found, Kind, given_of, kind_of};
-use crate::warning::{Reason, Warning};
+use crate::warning::{SkipReason, Warning};
 use nfs_describe::sayable::is_sayable;
 use nfs_inodes::limits::MAX_FILE_BYTES;
 use std::alloc::Global;
@@ -11,13 +11,13 @@ use std::io;
 use std::os::unix::fs::MetadataExt;
 use std::rt::Files;
 
-/// What a directory on disk holds, with what is left out of it.
+/// What a directory on disk holds, with what is skipped of it.
 #[derive(Drop)]
 pub struct Survey {
     /// The directory itself, then what stands in it, then what stands in each directory of these,
     /// and so on, each time in the order of names.
     pub found: Vec<Found>,
-    /// What is left out.
+    /// What is skipped.
     pub warnings: Vec<Warning>,
 }
 
@@ -92,7 +92,7 @@ impl Survey {
     ) -> Result<(), DiskFault> {
         let alloc = rt.alloc();
         let Some(names) = names_in(rt, disk_path)? else {
-            return self.leave_out(alloc, disk_path, Reason::Unreadable);
+            return self.leave_out(alloc, disk_path, SkipReason::Unreadable);
         };
         for name in &names.texts {
             self.take(rt, place, disk_path, path, name.as_str())?;
@@ -100,7 +100,7 @@ impl Survey {
         if names.are_all {
             return Ok(());
         }
-        self.leave_out(alloc, disk_path, Reason::NotText)
+        self.leave_out(alloc, disk_path, SkipReason::NotText)
     }
 
     // A name in a directory.
@@ -116,7 +116,7 @@ impl Survey {
         let disk_path = format!(in alloc; "{directory}/{name}")?;
         let path = format!(in alloc; "{above}/{name}")?;
         let Ok(metadata) = fs::symlink_metadata(rt, disk_path.as_str()) else {
-            return self.leave_out(alloc, disk_path.as_str(), Reason::Unreadable);
+            return self.leave_out(alloc, disk_path.as_str(), SkipReason::Unreadable);
         };
         match kind_to_say(&metadata, path.as_str()) {
             Ok(kind) => {
@@ -128,8 +128,13 @@ impl Survey {
         }
     }
 
-    // Something is left out.
-    fn leave_out(&mut self, alloc: Global, path: &str, reason: Reason) -> Result<(), DiskFault> {
+    // Something is skipped.
+    fn leave_out(
+        &mut self,
+        alloc: Global,
+        path: &str,
+        reason: SkipReason,
+    ) -> Result<(), DiskFault> {
         self.warnings.push(Warning {
             path: String::from_str(alloc, path)?,
             reason,
@@ -138,16 +143,16 @@ impl Survey {
     }
 }
 
-// What kind of file stands at a path, or why it is left out.
-fn kind_to_say(metadata: &Metadata, path: &str) -> Result<Kind, Reason> {
+// What kind of file stands at a path, or why it is skipped.
+fn kind_to_say(metadata: &Metadata, path: &str) -> Result<Kind, SkipReason> {
     let Some(kind) = kind_of(metadata) else {
-        return Err(Reason::OtherKind);
+        return Err(SkipReason::OtherKind);
     };
     if !is_sayable(path.as_bytes()) {
-        return Err(Reason::Unsayable);
+        return Err(SkipReason::Unsayable);
     }
     if kind == Kind::Regular && metadata.len() > MAX_FILE_BYTES as u64 {
-        return Err(Reason::TooLarge);
+        return Err(SkipReason::TooLarge);
     }
     Ok(kind)
 }

@@ -1,10 +1,10 @@
-//! What is left out of a description, and why.
+//! What is skipped of a description, and why.
 
 use std::fmt;
 
-/// Why something on disk is left out.
+/// Why something on disk is skipped.
 #[derive(Clone, Copy, Debug)]
-pub enum Reason {
+pub enum SkipReason {
     /// It is no directory, no regular file and no symbolic link.
     OtherKind,
     /// Its name has a space, a `%` or a byte outside `!` to `~`, or its path is too long.
@@ -21,32 +21,32 @@ pub enum Reason {
     NotText,
 }
 
-impl fmt::Display for Reason {
+impl fmt::Display for SkipReason {
     fn fmt<W: fmt::Write>(&self, f: &mut fmt::Formatter<W>) -> fmt::Result {
         f.write_str(match self {
-            Reason::OtherKind => "a device, a socket or a pipe",
-            Reason::Unsayable => "a description has no words for the name, or the path is too long",
-            Reason::TooLarge => "more than 16777216 bytes",
-            Reason::Unreadable => "it can't be read",
-            Reason::Target => "a description has no words for what the link holds",
-            Reason::Full => "a limit of the directory, of the volume or of the file is reached",
-            Reason::NotText => "a name in it is no text",
+            SkipReason::OtherKind => "a device, a socket or a pipe",
+            SkipReason::Unsayable => "a description can't hold the name, or the path is too long",
+            SkipReason::TooLarge => "more than 16777216 bytes",
+            SkipReason::Unreadable => "it can't be read",
+            SkipReason::Target => "a description can't hold what the link holds",
+            SkipReason::Full => "a limit of the directory, of the volume or of the file is reached",
+            SkipReason::NotText => "a name in it is not UTF-8",
         })
     }
 }
 
-/// Something on disk that is left out, and why.
+/// Something on disk that is skipped, and why.
 #[derive(Debug, Drop)]
 pub struct Warning {
     /// Its path on disk.
     pub path: String,
-    /// Why it is left out.
-    pub reason: Reason,
+    /// Why it is skipped.
+    pub reason: SkipReason,
 }
 
 impl fmt::Display for Warning {
     fn fmt<W: fmt::Write>(&self, f: &mut fmt::Formatter<W>) -> fmt::Result {
         let (path, reason) = (self.path.as_str(), self.reason);
-        write!(f, "left out: {path}: {reason}")
+        write!(f, "skipped: {path}: {reason}")
     }
 }

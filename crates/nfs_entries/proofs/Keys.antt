@@ -32,12 +32,12 @@ take_get (suc n) [] j less = refl
 take_get (suc n) (x ∷ xs) zero less = refl
 take_get (suc n) (x ∷ xs) (suc j) less = take_get n xs j (omega (arith, less))
 
-pub take_past : {X : Type 0} (n : ℕ) (xs : List X) (j : ℕ) → n ≤ j → slice_get (take n xs) j ≡ None
-take_past zero [] j less = refl
-take_past zero (x ∷ xs) j less = refl
-take_past (suc n) [] j less = refl
-take_past (suc n) (x ∷ xs) zero less = absurd (omega (arith, less))
-take_past (suc n) (x ∷ xs) (suc j) less = take_past n xs j (omega (arith, less))
+pub take_history : {X : Type 0} (n : ℕ) (xs : List X) (j : ℕ) → n ≤ j → slice_get (take n xs) j ≡ None
+take_history zero [] j less = refl
+take_history zero (x ∷ xs) j less = refl
+take_history (suc n) [] j less = refl
+take_history (suc n) (x ∷ xs) zero less = absurd (omega (arith, less))
+take_history (suc n) (x ∷ xs) (suc j) less = take_history n xs j (omega (arith, less))
 
 pub set_get : {X : Type 0} (xs : List X) (i : ℕ) (y : X) → i < length xs → slice_get (slice_set xs i y) i ≡ Some y
 set_get [] i y within = absurd (omega (arith, within))

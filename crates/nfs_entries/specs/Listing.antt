@@ -3,7 +3,7 @@ use Rattle.std.specs.Prelude.{◌≡◌, ℕ, Bool, true, false, List, Option, N
 use Rattle.std.specs.List.{filter_map}
 use Rattle.std.specs.Prelude.{Vec, suc, [], ◌∷◌, ◌≤◌}
 use Rattle.std.specs.Global.{Global}
-use Rattle.nfs_entries.specs.declared.kept.Place.{Place}
+use Rattle.nfs_entries.specs.declared.entry_data.EntryPosition.{EntryPosition}
 
 -- an entry as callers see it
 pub record Entry : Type 0 where
@@ -30,8 +30,8 @@ abbrev pub number_named : List ℕ → List Entry → Option ℕ
 number_named name es = option_map (λ (e : Entry). e.number) (entry_named name es)
 
 -- those of some entries with cookies above this one
-abbrev pub entries_behind : ℕ → List Entry → List Entry
-entries_behind cookie es = filter (λ e. nat_lt cookie e.cookie) es
+abbrev pub entries_beyond : ℕ → List Entry → List Entry
+entries_beyond cookie es = filter (λ e. nat_lt cookie e.cookie) es
 
 -- the entries of other names
 abbrev pub without : List ℕ → List Entry → List Entry
@@ -55,25 +55,25 @@ of_cookie cookie None = None
 of_cookie cookie (Some r) = cond (nat_eq r.1.cookie cookie) (Some (entry_of r)) None
 
 -- the entry that stands at a place: none where the row there is another's by now
-abbrev pub standing : List Row → Place → Option Entry
+abbrev pub standing : List Row → EntryPosition → Option Entry
 standing rows p = of_cookie p.cookie (slice_get rows p.index)
 
-abbrev pub listed : List Row → List Place → List Entry
+abbrev pub listed : List Row → List EntryPosition → List Entry
 listed rows places = filter_map (standing rows) places
 
-abbrev pub place_of : Row → ℕ → Place
+abbrev pub place_of : Row → ℕ → EntryPosition
 place_of r i = record { cookie = r.1.cookie; index = i }
 
 -- whether the entry of a place is still there
-abbrev pub is_live : List Row → Place → Bool
+abbrev pub is_live : List Row → EntryPosition → Bool
 is_live rows p = is_some (standing rows p)
 
 -- the places, where that of a cookie leads to this row
-abbrev pub led : ℕ → ℕ → List Place → List Place
+abbrev pub led : ℕ → ℕ → List EntryPosition → List EntryPosition
 led cookie index places = map (λ p. cond (nat_eq p.cookie cookie) (record { cookie = cookie; index = index }) p) places
 
 -- the places, where that of the row at an index leads to it
-abbrev pub settled : ℕ → Option Row → List Place → List Place
+abbrev pub settled : ℕ → Option Row → List EntryPosition → List EntryPosition
 settled index None places = places
 settled index (Some r) places = led r.1.cookie index places
 
@@ -89,12 +89,12 @@ abbrev pub HasNo : List Row → List ℕ → Type 0
 HasNo rows name = (i : ℕ) (r : Row) → slice_get rows i ≡ Some r → bytes_eq r.0.items name ≡ false
 
 -- places stand by rising cookie, from the low one on and below the next one
-abbrev pub Rises : ℕ → List Place → ℕ → Type 0
+abbrev pub Rises : ℕ → List EntryPosition → ℕ → Type 0
 Rises low [] next = low ≤ next
 Rises low (p ∷ ps) next = (low ≤ p.cookie) × Rises (suc p.cookie) ps next
 
 -- places stand by rising cookie, each row has its place, and no two have one name
-pub record IsKept (rows : List Row) (places : List Place) (next : ℕ) : Type 0 where
+pub record IsKept (rows : List Row) (places : List EntryPosition) (next : ℕ) : Type 0 where
   pub rises : Rises 0 places next
   pub placed : (i : ℕ) (r : Row) → slice_get rows i ≡ Some r → Contains places (place_of r i)
   pub apart : (i j : ℕ) (r s : Row) → slice_get rows i ≡ Some r → slice_get rows j ≡ Some s → r.0.items ≡ s.0.items → i ≡ j

@@ -3,11 +3,11 @@
 ghost use Rattle.std.specs.Prelude.{ℕ, IsTrue, ◌↔◌, ◌≡◌, ◌+◌, ◌<◌, ◌≤◌, ◌++◌, ◌∷◌, [], false, OnOk, OnErr, IfSome, IfNone, ◌⊎◌, None};
 ghost use Rattle.std.specs.Prelude.{nat_le, nat_lt, option_map, slice_get, filter, vec_len, vec_capacity, ◌^◌};
 ghost use Rattle.std.specs.Iterator.{YieldsFirstBy, item_count};
-ghost use Rattle.nfs_entries.specs.Listing.{entries_behind, entry_named, number_named, without, listed, led, is_live, settled, IsRowOf, HasNo, Rises};
+ghost use Rattle.nfs_entries.specs.Listing.{entries_beyond, entry_named, number_named, without, listed, led, is_live, settled, IsRowOf, HasNo, Rises};
 ghost use Rattle.nfs_entries.specs.Listing as spec;
 ghost use Rattle.nfs_entries.specs.Seen.{entry_seen, entries_left};
 
-use crate::kept::{Kept, Place};
+use crate::entry_data::{EntryData, EntryPosition};
 use indexmap::IndexMap;
 use nfs_handles::number::Number;
 use std::alloc::{AllocError, Global};
@@ -30,8 +30,8 @@ pub struct EntryView<'a> {
 /// The entries of a directory, by rising cookie. A name is found by the index.
 #[derive(Drop)]
 pub struct DirectoryEntries {
-    rows: IndexMap<Vec<u8>, Kept>,
-    places: Vec<Place>,
+    rows: IndexMap<Vec<u8>, EntryData>,
+    places: Vec<EntryPosition>,
     next: u64,
 }
 
@@ -101,11 +101,11 @@ impl DirectoryEntries {
 
     /// Those with cookies above this one. The first of them is found by halving.
     pub fn after(&self, cookie: u64) -> Entries<'_>
-        ensures { entries_left result ≡ entries_behind cookie self.now.entries }
+        ensures { entries_left result ≡ entries_beyond cookie self.now.entries }
     {
         Entries {
             rows: &self.rows,
-            places: behind(self.places.as_slice(), cookie),
+            places: places_after(self.places.as_slice(), cookie),
         }
     }
 
@@ -132,8 +132,10 @@ impl DirectoryEntries {
         let cookie = self.next;
         self.next += 1;
         let index = self.rows.len();
-        self.rows.insert(name, Kept::new(cookie, number)).unwrap();
-        self.places.push(Place { cookie, index }).unwrap();
+        self.rows
+            .insert(name, EntryData::new(cookie, number))
+            .unwrap();
+        self.places.push(EntryPosition { cookie, index }).unwrap();
     }
 
     /// Takes the entry of a name out, if there is one. It takes no memory, and leaves room for an
@@ -155,8 +157,8 @@ impl DirectoryEntries {
 /// Gives entries in turn, by rising cookie.
 #[derive(Drop)]
 pub struct Entries<'a> {
-    rows: &'a IndexMap<Vec<u8>, Kept>,
-    places: &'a [Place],
+    rows: &'a IndexMap<Vec<u8>, EntryData>,
+    places: &'a [EntryPosition],
 }
 
 impl<'a> Iterator for Entries<'a> {
@@ -175,24 +177,24 @@ impl<'a> Iterator for Entries<'a> {
 }
 
 // Those with cookies above this one, which come last.
-fn behind(places: &[Place], cookie: u64) -> &[Place]
+fn places_after(places: &[EntryPosition], cookie: u64) -> &[EntryPosition]
     requires { (next : ℕ) × Rises 0 places.now next }
     ensures { result.now ≡ filter (λ p. nat_lt cookie p.cookie) places.now }
 {
     let first = places.partition_point(
-        |place: &Place| -> bool
+        |place: &EntryPosition| -> bool
             ensures { result ≡ nat_le place.now.cookie cookie }
         { place.cookie <= cookie },
     );
     &places[first..]
 }
 
-// The first of the entries that still stand at some places, and the places behind it.
+// The first of the entries that still stand at some places, and the places after it.
 #[inline(always)]
 fn first_live<'a>(
-    rows: &'a IndexMap<Vec<u8>, Kept>,
-    places: &'a [Place],
-) -> Option<(EntryView<'a>, &'a [Place])>
+    rows: &'a IndexMap<Vec<u8>, EntryData>,
+    places: &'a [EntryPosition],
+) -> Option<(EntryView<'a>, &'a [EntryPosition])>
     ensures some { IfSome result (λ f. listed rows.now.entries places.now ≡ entry_seen f.0 ∷ listed rows.now.entries f.1.now) }
     ensures none { IfNone result (listed rows.now.entries places.now ≡ []) }
 {
@@ -205,7 +207,7 @@ fn first_live<'a>(
 }
 
 // The index of the row of a name, and the number there.
-fn row_named(rows: &IndexMap<Vec<u8>, Kept>, name: &[u8]) -> Option<(usize, Number)>
+fn row_named(rows: &IndexMap<Vec<u8>, EntryData>, name: &[u8]) -> Option<(usize, Number)>
     ensures found { IfSome result (λ f. IsRowOf rows.now.entries name.now f.0 f.1.0) }
     ensures none { IfNone result (HasNo rows.now.entries name.now) }
 {
@@ -216,7 +218,7 @@ fn row_named(rows: &IndexMap<Vec<u8>, Kept>, name: &[u8]) -> Option<(usize, Numb
 }
 
 // The place of the row that came to an index, if one did, leads there.
-fn settle(places: &mut Vec<Place>, rows: &IndexMap<Vec<u8>, Kept>, index: usize)
+fn settle(places: &mut Vec<EntryPosition>, rows: &IndexMap<Vec<u8>, EntryData>, index: usize)
     requires { (next : ℕ) × Rises 0 places.old.items next }
     ensures items { places.new.items ≡ settled index (slice_get rows.now.entries index) places.old.items }
     ensures len { vec_len places.new ≡ vec_len places.old }
@@ -228,7 +230,7 @@ fn settle(places: &mut Vec<Place>, rows: &IndexMap<Vec<u8>, Kept>, index: usize)
 }
 
 // The place of a cookie leads to this row.
-fn lead(places: &mut Vec<Place>, cookie: u64, index: usize)
+fn lead(places: &mut Vec<EntryPosition>, cookie: u64, index: usize)
     requires { (next : ℕ) × Rises 0 places.old.items next }
     ensures items { places.new.items ≡ led cookie index places.old.items }
     ensures len { vec_len places.new ≡ vec_len places.old }
@@ -239,10 +241,10 @@ fn lead(places: &mut Vec<Place>, cookie: u64, index: usize)
     }
 }
 
-// The same where the place stands as far behind the first as its cookie is above the first's, as it does
+// The same where the place stands as far after the first as its cookie is above the first's, as it does
 // up to the first place that went. `false` elsewhere, and then nothing changes.
 #[inline(always)]
-fn lead_at_once(places: &mut Vec<Place>, cookie: u64, index: usize) -> bool
+fn lead_at_once(places: &mut Vec<EntryPosition>, cookie: u64, index: usize) -> bool
     requires { (next : ℕ) × Rises 0 places.old.items next }
     ensures items { IsTrue result → places.new.items ≡ led cookie index places.old.items }
     ensures same { (result ≡ false) → places.new.items ≡ places.old.items }
@@ -255,31 +257,31 @@ fn lead_at_once(places: &mut Vec<Place>, cookie: u64, index: usize) -> bool
     };
     let at = cookie.saturating_sub(first) as usize;
     if at < places.len() && places[at].cookie == cookie {
-        places[at] = Place { cookie, index };
+        places[at] = EntryPosition { cookie, index };
         true
     } else {
         false
     }
 }
 
-fn lead_by_halving(places: &mut Vec<Place>, cookie: u64, index: usize)
+fn lead_by_halving(places: &mut Vec<EntryPosition>, cookie: u64, index: usize)
     requires { (next : ℕ) × Rises 0 places.old.items next }
     ensures items { places.new.items ≡ led cookie index places.old.items }
     ensures len { vec_len places.new ≡ vec_len places.old }
     ensures capacity { vec_capacity places.new ≡ vec_capacity places.old }
 {
     let at = places.as_slice().partition_point(
-        |place: &Place| -> bool
+        |place: &EntryPosition| -> bool
             ensures { result ≡ nat_lt place.now.cookie cookie }
         { place.cookie < cookie },
     );
     if at < places.len() && places[at].cookie == cookie {
-        places[at] = Place { cookie, index };
+        places[at] = EntryPosition { cookie, index };
     }
 }
 
 // Takes the dead places out where they are more than half, in no memory.
-fn thin(places: &mut Vec<Place>, rows: &IndexMap<Vec<u8>, Kept>)
+fn thin(places: &mut Vec<EntryPosition>, rows: &IndexMap<Vec<u8>, EntryData>)
     ensures items { places.new.items ≡ places.old.items ⊎ places.new.items ≡ filter (is_live rows.now.entries) places.old.items }
     ensures len { vec_len places.new ≤ vec_len places.old }
     ensures capacity { vec_capacity places.new ≡ vec_capacity places.old }
@@ -290,13 +292,13 @@ fn thin(places: &mut Vec<Place>, rows: &IndexMap<Vec<u8>, Kept>)
 }
 
 // Takes the dead places out, in no memory.
-fn close_up(places: &mut Vec<Place>, rows: &IndexMap<Vec<u8>, Kept>)
+fn close_up(places: &mut Vec<EntryPosition>, rows: &IndexMap<Vec<u8>, EntryData>)
     ensures items { places.new.items ≡ filter (is_live rows.now.entries) places.old.items }
     ensures len { vec_len places.new ≤ vec_len places.old }
     ensures capacity { vec_capacity places.new ≡ vec_capacity places.old }
 {
     places.retain(
-        |place: &Place| -> bool
+        |place: &EntryPosition| -> bool
             ensures { result ≡ is_live rows.entry.now.entries place.now }
         { standing(rows, place).is_some() },
     );
@@ -304,7 +306,10 @@ fn close_up(places: &mut Vec<Place>, rows: &IndexMap<Vec<u8>, Kept>)
 
 // The entry that still stands at a place.
 #[inline(always)]
-fn standing<'a>(rows: &'a IndexMap<Vec<u8>, Kept>, place: &Place) -> Option<EntryView<'a>>
+fn standing<'a>(
+    rows: &'a IndexMap<Vec<u8>, EntryData>,
+    place: &EntryPosition,
+) -> Option<EntryView<'a>>
     ensures { option_map entry_seen result ≡ spec.standing rows.now.entries place.now }
 {
     match rows.get_index(place.index) {

@@ -2,4 +2,4 @@
 #![tactic(auto)]
 
 pub mod directory_entries;
-pub mod kept;
+pub mod entry_data;

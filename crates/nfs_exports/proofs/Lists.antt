@@ -1,7 +1,7 @@
 -- The lists of a table, one for each volume.
 use Rattle.std.proofs.Common.{◌≡◌, ℕ, zero, suc, ◌+◌, ◌<◌, ◌≤◌, List, [], ◌∷◌, ◌++◌, length, get_or, slice_set, Result, Ok, Err, OnErr, refl, ap, ◌∙◌, arith, Vec}
 use Rattle.std.proofs.lemmas.List.{length-append}
-use Rattle.nfs_exports.specs.declared.table.Export.{Export}
+use Rattle.nfs_exports.specs.declared.export_table.Export.{Export}
 use Rattle.nfs_exports.specs.Tables.{added, exports_of, lists, pattern_count}
 
 pub pattern_count-added : (ls : List (List Export)) (volume : ℕ) (e : Export) → volume < length ls → pattern_count (added ls volume e) ≡ pattern_count ls + 1
@@ -19,10 +19,10 @@ module _ {Z : Type 0} where
   exports_of_at (x ∷ vs) zero v h e = ap (λ (w : Vec Export Z). w.items) e
   exports_of_at (x ∷ vs) (suc i) v h e = exports_of_at vs i v (omega arith) e
 
-  pub exports_of_past : (vs : List (Vec Export Z)) (i : ℕ) → length vs ≤ i → [] ≡ exports_of (lists vs) i
-  exports_of_past [] i h = refl
-  exports_of_past (x ∷ vs) zero h = absurd (omega arith)
-  exports_of_past (x ∷ vs) (suc i) h = exports_of_past vs i (omega arith)
+  pub exports_of_history : (vs : List (Vec Export Z)) (i : ℕ) → length vs ≤ i → [] ≡ exports_of (lists vs) i
+  exports_of_history [] i h = refl
+  exports_of_history (x ∷ vs) zero h = absurd (omega arith)
+  exports_of_history (x ∷ vs) (suc i) h = exports_of_history vs i (omega arith)
 
   pub lists_pushed : (vs : List (Vec Export Z)) (i : ℕ) (v w : Vec Export Z) (e : Export) → i < length vs → v ≡ get_or vs i v → w.items ≡ v.items ++ e ∷ [] → lists (slice_set vs i w) ≡ added (lists vs) i e
   lists_pushed [] i v w e l g h = absurd (omega arith)

@@ -2,7 +2,7 @@
 use Rattle.std.specs.Prelude.{ℕ, ◌/◌, ◌%◌, List, [], ◌∷◌, ◌++◌, Option, Some, None, option_map, if◌then◌else◌, length, nat_lt, codes, decimal}
 use Rattle.std.specs.Int.{w32, from_be_bytes}
 use Rattle.nfs_text.specs.Numbers.{decimal_of}
-use Rattle.nfs_text.specs.Pieces.{pieces}
+use Rattle.nfs_text.specs.Chunks.{chunks}
 use Rattle.nfs_exports.specs.declared.addr.Addr.{Addr}
 
 infixl 20 ◌>>=◌
@@ -24,13 +24,13 @@ number_of_parts a b c d = do
   Some (from_be_bytes w32 (a ∷ b ∷ c ∷ d ∷ []))
 
 -- there are four parts
-abbrev pub number_of_pieces : List (List ℕ) → Option ℕ
-number_of_pieces (a ∷ b ∷ c ∷ d ∷ []) = number_of_parts a b c d
-number_of_pieces parts = None
+abbrev pub number_of_chunks : List (List ℕ) → Option ℕ
+number_of_chunks (a ∷ b ∷ c ∷ d ∷ []) = number_of_parts a b c d
+number_of_chunks parts = None
 
 -- the address that a text says, parts with a dot between each two
 abbrev pub address_of : List ℕ → Option Addr
-address_of text = option_map (λ n. record { 0 = n }) (number_of_pieces (pieces 46 text))
+address_of text = option_map (λ n. record { 0 = n }) (number_of_chunks (chunks 46 text))
 
 -- an address as text, without leading zeros
 abbrev pub addr_text : Addr → List ℕ

@@ -3,7 +3,7 @@ use Rattle.std.specs.Prelude.{ℕ, ◌-◌, ◌/◌, ◌%◌, ◌^◌, Bool, Lis
 use Rattle.std.specs.Prelude.{nat_eq, nat_lt, bytes_eq, codes, decimal}
 use Rattle.std.specs.Borrow.{Bor}
 use Rattle.nfs_text.specs.Numbers.{decimal_of}
-use Rattle.nfs_text.specs.Pieces.{cut}
+use Rattle.nfs_text.specs.Chunks.{cut}
 use Rattle.nfs_exports.specs.Addresses.{◌>>=◌, addr_text, address_of}
 use Rattle.nfs_exports.specs.declared.addr.Addr.{Addr}
 use Rattle.nfs_exports.specs.declared.pattern.Pattern.{Pattern}
@@ -24,7 +24,7 @@ abbrev pub bits_or_all : Option (List ℕ) → Option ℕ
 bits_or_all (Some text) = bits text
 bits_or_all None = Some 32
 
--- an address, and a number of bits behind `/`
+-- an address, and a number of bits after `/`
 abbrev pub network_of : List ℕ × Option (List ℕ) → Option Pattern
 network_of parts = do
   address ← address_of parts.0
@@ -50,5 +50,5 @@ pattern_text pattern =
     else (if nat_lt pattern.bits 32 then addr_text (network pattern) ++ codes "/" ++ decimal pattern.bits else addr_text pattern.address)
 
 -- a text as clauses see it
-abbrev pub text_behind : Option (Bor (List ℕ)) → Option (List ℕ)
-text_behind text = option_map (λ t. t.now) text
+abbrev pub text_after : Option (Bor (List ℕ)) → Option (List ℕ)
+text_after text = option_map (λ t. t.now) text

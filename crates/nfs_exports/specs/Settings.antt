@@ -1,7 +1,7 @@
 -- What a text of options says: what its words say together, or the first fault.
 use Rattle.std.specs.Prelude.{ℕ, Bool, true, false, not, List, [], ◌∷◌, Option, Some, None, Result, Ok, Err, if◌then◌else◌, nat_eq}
 use Rattle.std.specs.Option.{unwrap_or}
-use Rattle.nfs_text.specs.Pieces.{pieces}
+use Rattle.nfs_text.specs.Chunks.{chunks}
 use Rattle.nfs_exports.specs.Words.{◌>>=◌, setting_of}
 use Rattle.nfs_exports.specs.declared.options.Options.{Options}
 use Rattle.nfs_exports.specs.declared.options.Squash.{Squash}
@@ -68,5 +68,5 @@ options_of settings = record {
 -- the words of a text have a comma between each two
 abbrev pub parse_options : List ℕ → Result Options OptionsFault
 parse_options text = do
-  settings ← with_words nothing (pieces 44 text)
+  settings ← with_words nothing (chunks 44 text)
   Ok (options_of settings)

@@ -3,10 +3,10 @@ use Rattle.std.specs.Prelude.{ℕ, zero, suc, ◌+◌, List, [], ◌∷◌, ◌+
 use Rattle.std.specs.List.{find}
 use Rattle.nfs_exports.specs.declared.addr.Addr.{Addr}
 use Rattle.nfs_exports.specs.declared.options.Options.{Options}
-use Rattle.nfs_exports.specs.declared.table.Export.{Export}
+use Rattle.nfs_exports.specs.declared.export_table.Export.{Export}
 use Rattle.nfs_exports.specs.Patterns.{covers}
 
--- the volume's list, by its index; behind the last there are none
+-- the volume's list, by its index; after the last there are none
 abbrev pub exports_of : List (List Export) → ℕ → List Export
 exports_of [] volume = []
 exports_of (exports ∷ others) zero = exports
@@ -21,7 +21,7 @@ abbrev pub pattern_count : List (List Export) → ℕ
 pattern_count [] = 0
 pattern_count (exports ∷ others) = length exports + pattern_count others
 
--- with an export more, behind those of its volume
+-- with an export more, after those of its volume
 abbrev pub added : List (List Export) → ℕ → Export → List (List Export)
 added [] volume export = []
 added (exports ∷ others) zero export = (exports ++ export ∷ []) ∷ others

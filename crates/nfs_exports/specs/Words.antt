@@ -3,7 +3,7 @@ use Rattle.std.specs.Prelude.{ℕ, Bool, true, false, List, [], ◌∷◌, Optio
 use Rattle.std.specs.Option.{ok_or}
 use Rattle.std.specs.List.{list_any}
 use Rattle.nfs_text.specs.Numbers.{decimal_of}
-use Rattle.nfs_text.specs.Pieces.{cut}
+use Rattle.nfs_text.specs.Chunks.{cut}
 use Rattle.nfs_exports.specs.declared.options.OptionsFault.{OptionsFault}
 use Rattle.nfs_exports.specs.declared.options.OptionsFault.TheVariants.{UnknownOption, UnsupportedOption, BadNumber}
 use Rattle.nfs_exports.specs.declared.setting.Setting.{Setting}
@@ -58,7 +58,7 @@ value_of name value =
     else (if bytes_eq name (codes "sec") then (if bytes_eq value (codes "sys") then Ok Nothing else Err UnsupportedOption)
     else Err UnknownOption))
 
--- a name, and a value behind `=` where there is one
+-- a name, and a value after `=` where there is one
 abbrev pub parts_of : List ℕ × Option (List ℕ) → Result Setting OptionsFault
 parts_of (name, None) = if is_unsupported name then Err UnsupportedOption else flag_of name
 parts_of (name, Some value) = if is_unsupported name then Err UnsupportedOption else value_of name value

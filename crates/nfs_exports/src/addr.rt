@@ -5,9 +5,9 @@ ghost use Rattle.nfs_exports.specs.Addresses as spec;
 ghost use Rattle.arrayvec.specs.ArrayVec.{array_vec_len};
 ghost use Rattle.nfs_exports.specs.Addresses.{addr_text, address_of, number_of_parts};
 
+use nfs_text::chunks::Chunks;
 use nfs_text::line::{Line, put_number};
 use nfs_text::number::decimal;
-use nfs_text::pieces::Pieces;
 use thiserror::Error;
 
 /// An IPv4 address, the first of its four bytes the most significant.
@@ -29,7 +29,7 @@ const MAX_PART_DIGITS: usize = 3;
 pub fn parse_addr(text: &[u8]) -> Result<Addr, BadAddr>
     ensures { result_ok result ≡ address_of text.now }
 {
-    let mut parts = Pieces::new(text, b'.');
+    let mut parts = Chunks::new(text, b'.');
     match (
         parts.next(),
         parts.next(),

@@ -6,7 +6,7 @@ ghost use Rattle.nfs_exports.specs.Settings as spec;
 
 use crate::setting::Setting;
 use crate::settings::Settings;
-use nfs_text::pieces::Pieces;
+use nfs_text::chunks::Chunks;
 use thiserror::Error;
 
 /// Whose ids are mapped to the anonymous ones.
@@ -77,7 +77,7 @@ pub fn parse_options(text: &[u8]) -> Result<Options, OptionsFault>
     ensures { result ≡ spec.parse_options text.now }
 {
     let mut settings = Settings::nothing();
-    for word in Pieces::new(text, b',') {
+    for word in Chunks::new(text, b',') {
         settings = settings.with(Setting::of_word(word)?)?;
     }
     Ok(settings.options())

@@ -6,9 +6,9 @@ ghost use Rattle.arrayvec.specs.ArrayVec.{array_vec_len};
 ghost use Rattle.nfs_exports.specs.Patterns.{covers, network, pattern_of, pattern_text};
 
 use crate::addr::{Addr, parse_addr, put_addr};
+use nfs_text::chunks::cut;
 use nfs_text::line::{Line, put, put_number};
 use nfs_text::number::decimal;
-use nfs_text::pieces::cut;
 use thiserror::Error;
 
 /// A network of addresses: those whose first bits are the address's.
@@ -64,7 +64,7 @@ pub fn parse_pattern(text: &[u8]) -> Result<Pattern, BadPattern>
 
 // The number of bits that a text says, or all where there is none.
 fn bits_or_all(text: Option<&[u8]>) -> Option<u32>
-    ensures { result ≡ spec.bits_or_all (spec.text_behind text.entry) }
+    ensures { result ≡ spec.bits_or_all (spec.text_after text.entry) }
 {
     match text {
         Some(text) => bits(text),

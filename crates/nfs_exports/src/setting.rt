@@ -3,8 +3,8 @@ ghost use Rattle.std.specs.Prelude.{◌≡◌};
 ghost use Rattle.nfs_exports.specs.Words as spec;
 
 use crate::options::OptionsFault;
+use nfs_text::chunks::cut;
 use nfs_text::number::decimal;
-use nfs_text::pieces::cut;
 
 /// What a word says.
 #[derive(Clone, Copy, Debug, PartialEq, Eq)]

@@ -14,7 +14,7 @@ fn is_hello<C: Content>(content: &C) -> bool {
     content.len() == 5 && content.run_at(0) == b"hello".as_slice()
 }
 
-// How often bytes over the end of a page, behind a gap, were refused until they were put; none where
+// How often bytes over the end of a page, after a gap, were refused until they were put; none where
 // they never were, or a refusal changed something.
 fn refusals<C: Content>(alloc: Global, content: &mut C) -> Result<Option<u32>, AllocError> {
     content.put_at(0, b"hello")?;

@@ -63,8 +63,8 @@ pub is_given : (next n : ℕ) → IsGiven next n → (nat_eq n 0 || nat_le next 
 is_given next n g = ap (λ b. b || nat_le next n) (no_zero n g.counted) ∙ no_le next n g.below
 
 module _ {T : Type 0} (t : NumberedFiles T) where
-  pub past_checks : (bytes : List ℕ) (n : ℕ) → is_shaped bytes ≡ true → key_in bytes ≡ t.key → number_in bytes ≡ n → IsGiven t.next n → reading t bytes ≡ live_with (tag_in bytes) n (at t n)
-  past_checks bytes n shaped ours names g =
+  pub history_checks : (bytes : List ℕ) (n : ℕ) → is_shaped bytes ≡ true → key_in bytes ≡ t.key → number_in bytes ≡ n → IsGiven t.next n → reading t bytes ≡ live_with (tag_in bytes) n (at t n)
+  history_checks bytes n shaped ours names g =
       let m : ℕ = number_in bytes in
       let rest : Reading = live_with (tag_in bytes) m (at t m) in
       let given : (nat_eq m 0 || nat_le t.next m) ≡ false = subst (λ k. (nat_eq k 0 || nat_le t.next k) ≡ false) (sym names) (is_given t.next n g) in
@@ -79,7 +79,7 @@ module _ {T : Type 0} (t : NumberedFiles T) where
       let fits : file.tag < 2 ^ 32 = subst (λ o. IfSome o (λ (f : TaggedFile T). f.tag < 2 ^ 32)) found (IfSome-lookup_from_All (λ (f : TaggedFile T). f.tag < 2 ^ 32) (nat_eq n) t.files h.tags) in
       let whole : n < 2 ^ 64 = omega (arith, given.below, h.last) in
       let parts : AreParts (handle_text t.key file.tag n) t.key file.tag n = parts_are t.key file.tag n h.key_len fits whole in
-      past_checks (handle_text t.key file.tag n) n parts.shaped parts.ours parts.named given
+      history_checks (handle_text t.key file.tag n) n parts.shaped parts.ours parts.named given
       ∙ ap (live_with (tag_in (handle_text t.key file.tag n)) n) found
       ∙ ap (λ b. cond b (Live (number n)) Stale) (eq-eqb (tag_in (handle_text t.key file.tag n)) file.tag parts.tagged)
 

@@ -112,9 +112,9 @@ module _ {T : Type 0} (old new : Slab (Stored T)) (slot : ℕ) (others : (k : �
     apart_number [] a d = tt
     apart_number (e ∷ es) a d = (apart_one e a.0 d.0, apart_number es a.1 d.1)
 
-    behind : (e : ℕ × ℕ) (es : List (ℕ × ℕ)) → nat_eq n e.0 ≡ true → IsDistinct nat_eq (keys_of (e ∷ es)) → AllByRecursion (λ k. nat_eq n k ≡ false) (keys_of es)
+    after : (e : ℕ × ℕ) (es : List (ℕ × ℕ)) → nat_eq n e.0 ≡ true → IsDistinct nat_eq (keys_of (e ∷ es)) → AllByRecursion (λ k. nat_eq n k ≡ false) (keys_of es)
     unfolding IsDistinct
-    behind e es y d = subst (λ m. AllByRecursion (λ k. nat_eq m k ≡ false) (keys_of es)) (sym (eqb-true n e.0 y)) d.0
+    after e es y d = subst (λ m. AllByRecursion (λ k. nat_eq m k ≡ false) (keys_of es)) (sym (eqb-true n e.0 y)) d.0
 
     -- ---- the file goes
 
@@ -122,7 +122,7 @@ module _ {T : Type 0} (old new : Slab (Stored T)) (slot : ℕ) (others : (k : �
     unfolding IsDistinct leads_still
     gone [] a d = refl
     gone (e ∷ es) a d = by_test (nat_eq n e.0)
-        (λ y. ap (filed new) (if_true es (e ∷ remove_entry (nat_eq n) es) y) ∙ same_filed es (apart_number es a.1 (behind e es y d)) ∙ sym (if_true (filed old es) (file ∷ remove_entry (nat_eq n) (filed old es)) y) ∙ whole)
+        (λ y. ap (filed new) (if_true es (e ∷ remove_entry (nat_eq n) es) y) ∙ same_filed es (apart_number es a.1 (after e es y d)) ∙ sym (if_true (filed old es) (file ∷ remove_entry (nat_eq n) (filed old es)) y) ∙ whole)
         (λ f. ap (filed new) (if_false es (e ∷ remove_entry (nat_eq n) es) f)
         ∙ filed_cons new e (remove_entry (nat_eq n) es) (leads_still e (apart_one e a.0 f) a.0)
         ∙ ap (λ l. file ∷ l) (gone es a.1 d.1)
@@ -138,7 +138,7 @@ module _ {T : Type 0} (old new : Slab (Stored T)) (slot : ℕ) (others : (k : �
     unfolding IsDistinct
     lead_without [] a d = tt
     lead_without (e ∷ es) a d = by_test (nat_eq n e.0)
-        (λ y. subst (AllLead new) (sym (if_true es (e ∷ remove_entry (nat_eq n) es) y)) (lead_still es (apart_number es a.1 (behind e es y d)) a.1))
+        (λ y. subst (AllLead new) (sym (if_true es (e ∷ remove_entry (nat_eq n) es) y)) (lead_still es (apart_number es a.1 (after e es y d)) a.1))
         (λ f. subst (AllLead new) (sym (if_false es (e ∷ remove_entry (nat_eq n) es) f)) (leads_still e (apart_one e a.0 f) a.0, lead_without es a.1 d.1))
 
     -- ---- the file has another value
@@ -154,7 +154,7 @@ module _ {T : Type 0} (old new : Slab (Stored T)) (slot : ℕ) (others : (k : �
           (λ y.
           let there : e.1 ≡ slot = same_some (sym (if_true (Some e.1) (lookup (nat_eq n) es) y) ∙ found) in
           ap (λ o. cons_option (option_map (λ (s : Stored T). (e.0, tagged e.1 s)) o) (filed new es)) (ap (get new) there ∙ at_new)
-          ∙ (λ i. (e.0, record { tag = there i % 2 ^ 32; value = w }) ∷ same_filed es (apart_number es a.1 (behind e es y d)) i)
+          ∙ (λ i. (e.0, record { tag = there i % 2 ^ 32; value = w }) ∷ same_filed es (apart_number es a.1 (after e es y d)) i)
           ∙ sym (if_true ((e.0, revalued_file) ∷ filed old es) (file ∷ set_value (nat_eq n) (filed old es) revalued_file) y) ∙ whole)
           (λ f. filed_cons new e es (leads_still e (apart_one e a.0 f) a.0)
           ∙ ap (λ l. file ∷ l) (valued es a.1 d.1 (sym (if_false (Some e.1) (lookup (nat_eq n) es) f) ∙ found))

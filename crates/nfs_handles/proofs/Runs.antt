@@ -11,7 +11,7 @@ use Rattle.nfs_handles.specs.declared.reading.Reading.TheVariants.{Live, Stale}
 use Rattle.nfs_handles.specs.Runs.{Change, Nothing, Put, Changed, Taken, changed, CanChange, Goes, Runs, CallsGo, RunsKeep, NumbersAreForGood}
 use Rattle.nfs_handles.proofs.Numbers.{numbered_new, numbered_value, numbered_without}
 use Rattle.nfs_handles.proofs.Lookups.{live_is_given, at_new, at_value, at_without}
-use Rattle.nfs_handles.proofs.Handles.{Names, names, past_checks}
+use Rattle.nfs_handles.proofs.Handles.{Names, names, history_checks}
 
 -- the tag that a number had, or none
 abbrev Keeps : Option ℕ → Option ℕ → Type 0
@@ -144,7 +144,7 @@ module _ {T : Type 0} where
       let old : IsGiven t.next n = live_is_given t n h (ap is_some it.found) in
       let rise : t.next ≤ u.next = run_next t u changes r in
       let given : IsGiven u.next n = record { counted = old.counted; below = omega (arith, old.below) } in
-      past_checks u handle n it.shaped (it.ours ∙ sym (run_key t u changes r)) it.number given
+      history_checks u handle n it.shaped (it.ours ∙ sym (run_key t u changes r)) it.number given
       ∙ by it.file it.found it.tag (at u n) (run_tag t u changes n h r old.below)
     where
       by : (file : TaggedFile T) → at t n ≡ Some file → tag_in handle ≡ file.tag → (o : Option (TaggedFile T)) → Keeps (tag_at t n) (tag_of o) → live_with (tag_in handle) n o ≡ cond (is_some o) (Live (number n)) Stale

@@ -39,14 +39,14 @@ eight (a ∷ b ∷ c ∷ d ∷ e ∷ f ∷ g ∷ []) rest l = absurd (omega (ari
 eight (a ∷ b ∷ c ∷ d ∷ e ∷ f ∷ g ∷ h ∷ i ∷ more) rest l = absurd (omega (arith, l))
 
 -- the bytes of a tag and of a number, one by one
-abbrev pub behind : List ℕ → List ℕ → List ℕ
-behind ts ns = get_or ts 0 0 ∷ get_or ts 1 0 ∷ get_or ts 2 0 ∷ get_or ts 3 0 ∷ get_or ns 0 0 ∷ get_or ns 1 0 ∷ get_or ns 2 0 ∷ get_or ns 3 0 ∷ get_or ns 4 0 ∷ get_or ns 5 0 ∷ get_or ns 6 0 ∷ get_or ns 7 0 ∷ []
+abbrev pub after : List ℕ → List ℕ → List ℕ
+after ts ns = get_or ts 0 0 ∷ get_or ts 1 0 ∷ get_or ts 2 0 ∷ get_or ts 3 0 ∷ get_or ns 0 0 ∷ get_or ns 1 0 ∷ get_or ns 2 0 ∷ get_or ns 3 0 ∷ get_or ns 4 0 ∷ get_or ns 5 0 ∷ get_or ns 6 0 ∷ get_or ns 7 0 ∷ []
 
-pub handle_spelled : (key ts ns : List ℕ) (tag n : ℕ) → length key ≡ 8 → ts ≡ to_be_bytes w32 tag → ns ≡ to_be_bytes w64 n
-    → 78 ∷ 70 ∷ 83 ∷ 51 ∷ get_or key 0 0 ∷ get_or key 1 0 ∷ get_or key 2 0 ∷ get_or key 3 0 ∷ get_or key 4 0 ∷ get_or key 5 0 ∷ get_or key 6 0 ∷ get_or key 7 0 ∷ behind ts ns ≡ handle_text key tag n
-handle_spelled key ts ns tag n l tag_is number_is =
-    (λ i. 78 ∷ 70 ∷ 83 ∷ 51 ∷ get_or key 0 0 ∷ get_or key 1 0 ∷ get_or key 2 0 ∷ get_or key 3 0 ∷ get_or key 4 0 ∷ get_or key 5 0 ∷ get_or key 6 0 ∷ get_or key 7 0 ∷ behind (tag_is i) (number_is i))
-    ∙ ap (λ r. 78 ∷ 70 ∷ 83 ∷ 51 ∷ r) (eight key (behind (to_be_bytes w32 tag) (to_be_bytes w64 n)) l)
+pub handle_encoded : (key ts ns : List ℕ) (tag n : ℕ) → length key ≡ 8 → ts ≡ to_be_bytes w32 tag → ns ≡ to_be_bytes w64 n
+    → 78 ∷ 70 ∷ 83 ∷ 51 ∷ get_or key 0 0 ∷ get_or key 1 0 ∷ get_or key 2 0 ∷ get_or key 3 0 ∷ get_or key 4 0 ∷ get_or key 5 0 ∷ get_or key 6 0 ∷ get_or key 7 0 ∷ after ts ns ≡ handle_text key tag n
+handle_encoded key ts ns tag n l tag_is number_is =
+    (λ i. 78 ∷ 70 ∷ 83 ∷ 51 ∷ get_or key 0 0 ∷ get_or key 1 0 ∷ get_or key 2 0 ∷ get_or key 3 0 ∷ get_or key 4 0 ∷ get_or key 5 0 ∷ get_or key 6 0 ∷ get_or key 7 0 ∷ after (tag_is i) (number_is i))
+    ∙ ap (λ r. 78 ∷ 70 ∷ 83 ∷ 51 ∷ r) (eight key (after (to_be_bytes w32 tag) (to_be_bytes w64 n)) l)
     ∙ ap (λ r. 78 ∷ 70 ∷ 83 ∷ 51 ∷ r) (sym (append_assoc key (to_be_bytes w32 tag) (to_be_bytes w64 n)))
 
 -- a function of two things, at two that are the same

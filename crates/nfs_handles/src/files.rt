@@ -15,7 +15,7 @@ ghost use Rattle.nfs_handles.specs.Changes.{Puts, Takes, LendsValue};
 
 use crate::fault::PutFault;
 use crate::number::{Hint, Number};
-use crate::places::Places;
+use crate::number_slots::NumberSlots;
 use crate::reading::{NoFile, Reading};
 use crate::slots::Slots;
 use std::alloc::Global;
@@ -33,7 +33,7 @@ const TAGS: usize = 1 << 32;
 #[derive(Drop)]
 pub struct Files<T> {
     slots: Slots<T>,
-    places: Places,
+    places: NumberSlots,
     key: [u8; 8],
 }
 
@@ -56,7 +56,7 @@ impl<T: Drop> Files<T> {
     {
         Files {
             slots: Slots::new(alloc),
-            places: Places::new(alloc, first),
+            places: NumberSlots::new(alloc, first),
             key,
         }
     }
@@ -245,7 +245,7 @@ impl<T: Drop> Files<T> {
 // The slot that a number leads to: the one of its hint, where this number stands there, and else the
 // one of its place.
 #[inline(always)]
-fn slot_at<T: Drop>(slots: &Slots<T>, places: &Places, number: Number) -> Option<usize>
+fn slot_at<T: Drop>(slots: &Slots<T>, places: &NumberSlots, number: Number) -> Option<usize>
     requires { AllLeadBack slots.now places.now.entries }
     ensures { result ≡ lookup (nat_eq number.0) places.now.entries }
 {
@@ -259,7 +259,7 @@ fn slot_at<T: Drop>(slots: &Slots<T>, places: &Places, number: Number) -> Option
 
 // The slot that a number leads to, or else a vacant one.
 #[inline(always)]
-fn slot_of<T: Drop>(slots: &Slots<T>, places: &Places, number: Number) -> usize
+fn slot_of<T: Drop>(slots: &Slots<T>, places: &NumberSlots, number: Number) -> usize
     requires { AllLeadBack slots.now places.now.entries }
     ensures { LeadsOr slots.now places.now.entries number.0 result }
 {

@@ -9,7 +9,7 @@ pub fn calls_are_changes<T>()
 
 /// Where each file is after a change: a new one is at the next number, a change or a removal
 /// touches one number alone, and each file that lives is at a number that was given.
-pub fn files_are_told<T>()
+pub fn files_are_reported<T>()
     ensures { FilesAre T }
 {}
 

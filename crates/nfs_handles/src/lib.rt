@@ -5,6 +5,6 @@ pub mod fault;
 pub mod files;
 pub mod laws;
 pub mod number;
-pub mod places;
+pub mod number_slots;
 pub mod reading;
 pub mod slots;

@@ -114,8 +114,8 @@ module _ (a : NumberedFiles StoredFile) (olds : List StoredVolume) (d : ℕ) (na
     is_there_still = record { file = kept_file.0; at_file = at_1 }
 
     pub names_1 : names_of n t1.files + 1 ≡ names_of n t.files
-    names_1 = let told = (one_less t d now name names.dir names.entry agree.law.rising names.at_dir.0 (names_apart names.dir (agree.law.sound d names.dir names.at_dir.0)) names.found).names n in
-        let one = one_same n names.entry names.number in omega (arith, told, one)
+    names_1 = let reported = (one_less t d now name names.dir names.entry agree.law.rising names.at_dir.0 (names_apart names.dir (agree.law.sound d names.dir names.at_dir.0)) names.found).names n in
+        let one = one_same n names.entry names.number in omega (arith, reported, one)
 
     pub at_t1 : Lives t1 n names.file
     at_t1 = at_with_other d n (left names.dir name now) t.files other ∙ at_file

@@ -94,15 +94,15 @@ module _ (a : NumberedFiles StoredFile) (olds : List StoredVolume) (d : ℕ) (na
   abbrev kept_file : (f : TaggedFile StoredFile) × (numbered.at a n ≡ Some f) × (file_of f.tag f.value ≡ may.file)
   kept_file = leavings.kept_file a olds d name n removes.agree names
 
-  told_last : (is_directory may.file.kind || nat_le (nlink t.files n may.file) 1) ≡ is_last kept_file.0.value
-  told_last = ap (λ (f : File). is_directory f.kind || nat_le (nlink t.files n may.file) 1) (sym kept_file.2)
+  reported_last : (is_directory may.file.kind || nat_le (nlink t.files n may.file) 1) ≡ is_last kept_file.0.value
+  reported_last = ap (λ (f : File). is_directory f.kind || nat_le (nlink t.files n may.file) 1) (sym kept_file.2)
       ∙ ap (λ l. is_directory (kind_of kept_file.0.value.node) || nat_le l 1) (sym (leavings.links_of_file a olds d name n removes.agree names))
 
   -- what is known of the file is so of what is kept of it
   pub stands : (file : Standing) → file.directory ≡ is_directory may.file.kind → file.last ≡ (is_directory may.file.kind || nat_le (nlink t.files n may.file) 1) → Stands a n file
   stands file directory last = record {
     directory = directory ∙ ap (λ (f : File). is_directory f.kind) (sym kept_file.2) ∙ sym (ap (λ o. on_some (option_map (λ (f : TaggedFile StoredFile). f.value) o) false (λ f. is_directory (kind_of f.node))) kept_file.1);
-    last = last ∙ told_last ∙ sym (ap (λ o. on_some (option_map (λ (f : TaggedFile StoredFile). f.value) o) true is_last) kept_file.1);
+    last = last ∙ reported_last ∙ sym (ap (λ o. on_some (option_map (λ (f : TaggedFile StoredFile). f.value) o) true is_last) kept_file.1);
   }
 
   pub other : n ≢ d
@@ -127,7 +127,7 @@ module _ (a : NumberedFiles StoredFile) (olds : List StoredVolume) (d : ℕ) (na
     at_1 : numbered.at b n ≡ Some kept_file.0
     at_1 = leavings.at_1 a olds d name n removes.agree names other now b sub is_sub leaves
 
-    -- what was told of the file before its entry went
+    -- what was reported of the file before its entry went
     pub has_entries : (last : Bool) → last ≡ on_some (value_at a n) true is_last → HasEntries last b n
     has_entries last is = (kept_file.0, at_1, sym (is ∙ ap (λ o. on_some (option_map (λ (f : TaggedFile StoredFile). f.value) o) true is_last) kept_file.1))
 
@@ -239,14 +239,14 @@ module _ (a : NumberedFiles StoredFile) (olds : List StoredVolume) (d : ℕ) (na
           was_file : file_of s.loses.was.tag s.loses.was.value ≡ may.file
           was_file = ap (λ (f : TaggedFile StoredFile). file_of f.tag f.value) (kept_was s) ∙ kept_file.2
 
-          tells : (is_directory (kind_of s.loses.was.value.node) ≡ false) × (nat_le s.loses.was.value.nlink 1 ≡ false)
-          tells = or_false (is_directory (kind_of s.loses.was.value.node)) (nat_le s.loses.was.value.nlink 1) s.more
+          reports : (is_directory (kind_of s.loses.was.value.node) ≡ false) × (nat_le s.loses.was.value.nlink 1 ≡ false)
+          reports = or_false (is_directory (kind_of s.loses.was.value.node)) (nat_le s.loses.was.value.nlink 1) s.more
 
           is_file : is_directory may.file.kind ≡ false
-          is_file = sym (ap (λ (f : File). is_directory f.kind) was_file) ∙ tells.0
+          is_file = sym (ap (λ (f : File). is_directory f.kind) was_file) ∙ reports.0
 
           many : 1 < s.loses.was.value.nlink
-          many = leb-false s.loses.was.value.nlink 1 tells.1
+          many = leb-false s.loses.was.value.nlink 1 reports.1
 
           links_1 : s.loses.value.nlink ≡ names_of n t1.files
           links_1 =

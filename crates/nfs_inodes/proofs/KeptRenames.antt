@@ -9,7 +9,7 @@ use Rattle.nfs_inodes.specs.declared.stored_volume.StoredVolume.{StoredVolume}
 use Rattle.nfs_inodes.specs.declared.renaming.Route.{Route}
 use Rattle.nfs_inodes.specs.Tree.{Tree, Entry, at, entries_in, next_cookie_in}
 use Rattle.nfs_inodes.specs.Changes.{after_unlink, after_rename, carried}
-use Rattle.nfs_inodes.specs.Conditions.{MayUnlink, MayRename, NamesOther}
+use Rattle.nfs_inodes.specs.Conditions.{MayUnlink, MayRename, MayRenameSeen, NamesOther}
 use Rattle.nfs_inodes.specs.Counts.{Agrees, tree_in}
 use Rattle.nfs_inodes.specs.Reading.{entry_named, entry_at}
 use Rattle.nfs_inodes.specs.Storage.{counted_tree_of}
@@ -24,7 +24,10 @@ use Rattle.nfs_inodes.proofs.Steps.{same_counted, takes_entry_at}
 
 -- ---- the steps
 
-module _ (a : NumberedFiles StoredFile) (olds : List StoredVolume) (route : Route) (name new_name : List ℕ) (replaced : Option Number) (r : Renames a olds route name new_name replaced) (now : Moment) where
+module _ (a : NumberedFiles StoredFile) (olds : List StoredVolume) (route : Route) (name new_name : List ℕ) (r : Renames a olds route name new_name) (now : Moment) where
+  abbrev replaced : Option Number
+  replaced = route.replaced
+
   abbrev t : Tree
   t = tree_in (counted_tree_of a olds)
 
@@ -99,11 +102,10 @@ takes_target a olds t from to name new_name view agree may other =
     let low = subst (λ (u : Tree). (at to u.files ≡ Some may.target) × (next_cookie_in may.target.kind < 2 ^ 64 - 1)) (sym view) (may.at_target.0, may.cookie other) in
     takes_entry_at a olds to may.target agree (low.0, may.at_target.1) low.1
 
-pub renames_found : (a b : NumberedFiles StoredFile) (olds : List StoredVolume) (t : Tree) (from to : Number) (name given new_name : List ℕ) (now : Moment) → tree_in (counted_tree_of a olds) ≡ t → Agrees (counted_tree_of a olds) → (may : MayRename t from.0 name to.0 given) → (n : Number) → Some n.0 ≡ option_map (λ (e : Entry). e.number) (entry_at t from.0 name) →
-    (replaced : Option Number) → option_map (λ (m : Number). m.0) replaced ≡ option_map (λ (e : Entry). e.number) (entry_at t to.0 given) → option_map (λ (m : Number). m.0) replaced ≢ Some n.0 → new_name ≡ given → SameFiles a b → HasRoomAt b to.0 →
-    Renames b olds (record { number = n; from = from; to = to }) name new_name replaced
-renames_found a b olds t from to name given new_name now view agree may n found replaced names other copy same room =
+pub renames_found : (a b : NumberedFiles StoredFile) (olds : List StoredVolume) (t : Tree) (route : Route) (name given new_name : List ℕ) (now : Moment) → tree_in (counted_tree_of a olds) ≡ t → Agrees (counted_tree_of a olds) → MayRenameSeen t route name given
+    → option_map (λ (m : Number). m.0) route.replaced ≢ Some route.number.0 → new_name ≡ given → SameFiles a b → HasRoomAt b route.to.0 → Renames b olds route name new_name
+renames_found a b olds t route name given new_name now view agree seen other copy same room =
     let counted = same_counted a b olds same in
-    let route = subst (λ new. IsRoute t from.0 name to.0 given now may n found replaced names (tree_in (counted_tree_of b olds)) new) (sym copy)
-    (subst (λ u. IsRoute t from.0 name to.0 given now may n found replaced names u given) (sym (ap tree_in counted ∙ view)) (is_route t from.0 name to.0 given now may n found replaced names)) in
-    record { agree = subst Agrees (sym counted) agree; may = route.0; number = route.1; names = route.2; other = other; room = room }
+    let it = subst (λ new. IsRoute t route.from.0 name route.to.0 given now seen.may route.number seen.found route.replaced seen.names (tree_in (counted_tree_of b olds)) new) (sym copy)
+    (subst (λ u. IsRoute t route.from.0 name route.to.0 given now seen.may route.number seen.found route.replaced seen.names u given) (sym (ap tree_in counted ∙ view)) (is_route t route.from.0 name route.to.0 given now seen.may route.number seen.found route.replaced seen.names)) in
+    record { agree = subst Agrees (sym counted) agree; may = it.0; number = it.1; names = it.2; other = other; room = room }

@@ -26,7 +26,7 @@ use Rattle.nfs_inodes.proofs.Views.{filed, lives_there, none_there, kept_at, sto
 -- ---- files
 
 module _ (a : NumberedFiles StoredFile) (stored_volumes : List StoredVolume) (t : Tree) (view : tree_in (counted_tree_of a stored_volumes) ≡ t) {X : Type 0} (y : X) (g : File → X) where
-  -- what is told of a file, where its tag doesn't matter
+  -- what is reported of a file, where its tag doesn't matter
   pub seen : (n : ℕ) (i : StoredFile) (x : X) → Some i ≡ value_at a n → ((tag : ℕ) → x ≡ g (file_of tag i)) → x ≡ on_some (tree.at n t.files) y g
   seen n i x e h = let f = filed a n i e in
       h f.0.tag ∙ ap (λ (i : StoredFile). g (file_of f.0.tag i)) (sym f.2) ∙ sym (ap (λ o. on_some o y g) (lives_there a stored_volumes t view n f.0 f.1))
@@ -65,7 +65,7 @@ seen_there a stored_volumes t view keeps n i v at_number e k = let same : v.attr
   ap (kind_at t) same ∙ sym (seen a stored_volumes t view None (λ (f : File). Some f.kind) n i (Some (kind_of i.node)) at_number (λ tag. refl)) ∙ ap Some (sym k),
 )
 
--- what is told of a file by its kind alone
+-- what is reported of a file by its kind alone
 of_kind : {X : Type 0} (y : X) (g : Kind → X) (o : Option File) (k : Kind) → on_some o None (λ (f : File). Some f.kind) ≡ Some k → g k ≡ on_some o y (λ (f : File). g f.kind)
 of_kind y g None k e = absurd (not_both refl e)
 of_kind y g (Some f) k e = ap g (sym (same_some e))

@@ -165,7 +165,7 @@ module _ (a : NumberedFiles StoredFile) (stored_volumes : List StoredVolume) (t 
   is_place : (index : ℕ) → option_map (λ (i : StoredFile). i.volume) (value_at a d) ≡ Some index → index ≡ changes.volume_index t d
   is_place index e = let i = mapped (λ (i : StoredFile). i.volume) (value_at a d) index e in sym i.2 ∙ place_there a stored_volumes t view d i.0 (sym i.1)
 
-  -- room for an entry changes nothing that is told
+  -- room for an entry changes nothing that is reported
   module _ (b : NumberedFiles StoredFile) (reserved : Revalues a d SameFile b) where
     counted_still : counted_tree_of b stored_volumes ≡ counted_tree_of a stored_volumes
     counted_still = same_counted a b stored_volumes (same_files a b d reserved)

@@ -1,4 +1,4 @@
--- What the tests of conditions tell: each is true just where its condition holds.
+-- What the tests of conditions report: each is true just where its condition holds.
 use Rattle.std.proofs.Common.{◌≡◌, ◌≢◌, ℕ, ◌+◌, ◌<◌, ◌≤◌, Bool, true, false, true≢false, List, [], ◌∷◌, map, Option, Some, None, option_map, refl, sym, ap, subst, ◌∙◌, arith}
 use Rattle.std.specs.Prelude.{◌&&◌, bytes_eq, cond, slice_get, All, not, is_some, is_none}
 use Rattle.std.specs.Bool.{Decides}
@@ -28,7 +28,7 @@ never refuted = (λ e. absurd (true≢false (sym e)), λ p. absurd (refuted p))
 
 -- ---- searches that find nothing
 
--- f tells that p passes nowhere
+-- f says that p passes nowhere
 unfound : {X : Type 0} (p : X → Bool) (P : X → Type 0) (f : List X → Bool) → ((x : X) → Decides (p x) (P x)) → f [] ≡ true → ((x : X) (xs : List X) → f (x ∷ xs) ≡ (not (p x) && f xs)) → (xs : List X) → Decides (f xs) (All (λ x. P x → ⊥) xs)
 unfound p P f each none more = Decides-by_and (λ x. not (p x)) (λ x. P x → ⊥) f (λ x. Decides-not (p x) (each x)) none more
 
@@ -51,11 +51,11 @@ unnamed path = unfound (λ (v : Volume). bytes_eq v.path path) (λ v. v.path ≡
     first false None = refl
     first false (Some n) = refl
 
-pub none_told : {X : Type 0} (o : Option X) (b : Bool) → is_some o ≡ not b → b ≡ is_none o
-none_told None true e = refl
-none_told None false e = cc
-none_told (Some x) true e = cc
-none_told (Some x) false e = refl
+pub none_reported : {X : Type 0} (o : Option X) (b : Bool) → is_some o ≡ not b → b ≡ is_none o
+none_reported None true e = refl
+none_reported None false e = cc
+none_reported (Some x) true e = cc
+none_reported (Some x) false e = refl
 
 none_alike : {X Y Z : Type 0} (f : X → Z) (g : Y → Z) (o : Option X) (p : Option Y) → option_map f o ≡ option_map g p → is_none o ≡ is_none p
 none_alike f g None None e = refl
@@ -77,7 +77,7 @@ no_entry_named name es fresh = is_none_of (entry_named name es) ((unlisted name 
 pub takes_name : (i : StoredFile) (parent : ℕ) (entries : Listed) (name : List ℕ) (o : Option Number) (b : Bool) → kind_of i.node ≡ Directory parent entries.next entries.entries → entries.next < 18446744073709551615 → IsName name →
     option_map (λ (n : Number). n.0) o ≡ number_named name entries.entries → is_some o ≡ not b → Decides b (TakesName i name)
 takes_name i parent entries name o b kind below is_name search none =
-    Decides-at b (is_none (entry_named name entries.entries)) (none_told o b none ∙ none_alike (λ (n : Number). n.0) (λ (e : Entry). e.number) o (entry_named name entries.entries) search)
+    Decides-at b (is_none (entry_named name entries.entries)) (none_reported o b none ∙ none_alike (λ (n : Number). n.0) (λ (e : Entry). e.number) o (entry_named name entries.entries) search)
     (Decides-like (is_none (entry_named name entries.entries))
     (λ all. record {
       directory = ap is_directory kind;
@@ -153,8 +153,8 @@ module _ (a : NumberedFiles StoredFile) (stored_volumes : List StoredVolume) (t 
         let kept = keeps.links n (counted_file k.0) (at_counted_file a n k.0 k.1) in
         ap (λ (i : StoredFile). i.nlink) (sym k.2) ∙ kept ∙ ap (λ (t : Tree). nlink t.files n (file_of k.0.tag k.0.value)) view ∙ ap (nlink t.files n) (same_some (sym (lives_there a stored_volumes t view n k.0 k.1) ∙ at_n))
 
-    pub may_make_dir_there : (d : ℕ) (i : StoredFile) (name : List ℕ) (b : Bool) → Some i ≡ value_at a d → i.nlink < 1000 → Decides b (TakesFile t i name 0) → Decides b (MayMakeDirectory t d name)
-    may_make_dir_there d i name b e few takes = Decides-like b
+    pub may_mkdir_there : (d : ℕ) (i : StoredFile) (name : List ℕ) (b : Bool) → Some i ≡ value_at a d → i.nlink < 1000 → Decides b (TakesFile t i name 0) → Decides b (MayMakeDirectory t d name)
+    may_mkdir_there d i name b e few takes = Decides-like b
         (λ takes. let make = makes d 0 i name e takes in record { make = make; links = subst (λ n. n < 1000) (links_there d i e make.enter.dir make.enter.at_dir.0) few })
         (λ (may : MayMakeDirectory t d name). with_named_file d 0 i name e may.make)
         takes

@@ -107,8 +107,8 @@ abbrev pub after_make_file : Tree → ℕ → List ℕ → List ℕ → NewFile 
 after_make_file t d name bytes given verifier tag now = with_named_file t d name (new_file (volume_index t d) (Regular bytes) given verifier tag now) now
 
 -- a directory without entries
-abbrev pub after_make_dir : Tree → ℕ → List ℕ → NewFile → ℕ → Moment → Tree
-after_make_dir t d name given tag now = with_named_file t d name (new_file (volume_index t d) (Directory d 3 []) given None tag now) now
+abbrev pub after_mkdir : Tree → ℕ → List ℕ → NewFile → ℕ → Moment → Tree
+after_mkdir t d name given tag now = with_named_file t d name (new_file (volume_index t d) (Directory d 3 []) given None tag now) now
 
 -- a link with this path
 abbrev pub after_make_link : Tree → ℕ → List ℕ → List ℕ → NewFile → ℕ → Moment → Tree

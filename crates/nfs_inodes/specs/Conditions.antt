@@ -1,6 +1,8 @@
 -- What has to hold before an operation, beside memory.
-use Rattle.std.specs.Prelude.{◌≡◌, ◌≢◌, ◌⊎◌, ℕ, ◌+◌, ◌-◌, ◌<◌, ◌≤◌, ◌^◌, ◌||◌, nat_le, true, false, List, [], length, Some, None, All, slice_get}
+use Rattle.std.specs.Prelude.{◌≡◌, ◌≢◌, ◌⊎◌, ℕ, ◌+◌, ◌-◌, ◌<◌, ◌≤◌, ◌^◌, ◌||◌, nat_le, true, false, List, [], length, Some, None, option_map, All, slice_get}
+use Rattle.nfs_handles.specs.declared.number.Number.{Number}
 use Rattle.nfs_inodes.specs.declared.removal.Standing.{Standing}
+use Rattle.nfs_inodes.specs.declared.renaming.Route.{Route}
 use Rattle.nfs_inodes.specs.Limits.{max_file_bytes, max_path_bytes, max_links, max_volumes, max_volume_path_bytes}
 use Rattle.nfs_inodes.specs.Reading.{entry_named, entry_at}
 use Rattle.nfs_inodes.specs.Tree.{Tree, File, Entry, Volume, is_directory, is_regular, parent_in, entries_in, next_cookie_in, bytes_in}
@@ -142,6 +144,12 @@ pub record MayRename (t : Tree) (from : ℕ) (name : List ℕ) (to : ℕ) (new_n
   pub replaced : (old : Entry) → entry_named new_name (entries_in target.kind) ≡ Some old → old.number ≢ entry.number → MayReplace t old.number file
   pub off : NamesOther t to new_name entry.number → is_directory file.kind ≡ true → IsOff t to entry.number
   pub links : entry_named new_name (entries_in target.kind) ≡ None → is_directory file.kind ≡ true → (to ≡ from) ⊎ (nlink t.files to target < max_links)
+
+-- the same, where the file that the old name names, and that which the new one names, if it names one, are known
+pub record MayRenameSeen (t : Tree) (route : Route) (name new_name : List ℕ) : Type 0 where
+  pub may : MayRename t route.from.0 name route.to.0 new_name
+  pub found : Some route.number.0 ≡ option_map (λ (e : Entry). e.number) (entry_at t route.from.0 name)
+  pub names : option_map (λ (n : Number). n.0) route.replaced ≡ option_map (λ (e : Entry). e.number) (entry_at t route.to.0 new_name)
 
 -- a volume more, of a path that no volume has
 pub record MayAddVolume (t : Tree) (path : List ℕ) (max_files : ℕ) : Type 0 where

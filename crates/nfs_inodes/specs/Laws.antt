@@ -8,7 +8,7 @@ use Rattle.nfs_inodes.specs.declared.given_attributes.GivenAttributes.{GivenAttr
 use Rattle.nfs_inodes.specs.declared.new_file.NewFile.{NewFile}
 use Rattle.nfs_inodes.specs.Tree.{Tree, File, at}
 use Rattle.nfs_inodes.specs.Law.{Law, Lives, LivesAsDirectory, IsReached}
-use Rattle.nfs_inodes.specs.Changes.{after_make_file, after_make_dir, after_make_link, after_link, after_write_at, after_resize, after_set}
+use Rattle.nfs_inodes.specs.Changes.{after_make_file, after_mkdir, after_make_link, after_link, after_write_at, after_resize, after_set}
 use Rattle.nfs_inodes.specs.Changes.{after_unlink, after_rename, after_add_volume}
 use Rattle.nfs_inodes.specs.Conditions.{MayMake, MayMakeDirectory, MayMakeLink, MayLink, MayWrite, MayResize, MayUnlink, MayRename, MayAddVolume}
 use Rattle.nfs_inodes.specs.Reading.{number_under, numbered_files}
@@ -21,7 +21,7 @@ pub record Leads (To : Tree → Tree → Type 0) : Type 0 where
   pub files : (t : Tree) (d tag : ℕ) (name bytes : List ℕ) (given : NewFile) (verifier : Option (List ℕ)) (now : Moment)
       → MayMake t d name (length bytes) → tag < 2 ^ 32 → Law t → To t (after_make_file t d name bytes given verifier tag now)
   pub directories : (t : Tree) (d tag : ℕ) (name : List ℕ) (given : NewFile) (now : Moment)
-      → MayMakeDirectory t d name → tag < 2 ^ 32 → Law t → To t (after_make_dir t d name given tag now)
+      → MayMakeDirectory t d name → tag < 2 ^ 32 → Law t → To t (after_mkdir t d name given tag now)
   pub links : (t : Tree) (d tag : ℕ) (name path : List ℕ) (given : NewFile) (now : Moment)
       → MayMakeLink t d name path → tag < 2 ^ 32 → Law t → To t (after_make_link t d name path given tag now)
   pub names : (t : Tree) (n d : ℕ) (name : List ℕ) (now : Moment)

@@ -6,7 +6,7 @@ use Rattle.nfs_attrs.specs.declared.fattr.Fattr.{Fattr}
 use Rattle.nfs_attrs.specs.declared.file_type.FileType.{FileType}
 use Rattle.nfs_attrs.specs.declared.file_type.FileType.TheVariants as file_type
 pub use Rattle.nfs_content.specs.Bytes.{IsFirstChunk}
-pub use Rattle.nfs_entries.specs.Listing.{has_name, entry_named, number_named, entries_behind}
+pub use Rattle.nfs_entries.specs.Listing.{has_name, entry_named, number_named, entries_beyond}
 use Rattle.nfs_handles.specs.NumberedFiles.{NumberedFiles}
 use Rattle.nfs_inodes.specs.declared.volumes.Totals.{Totals}
 use Rattle.nfs_inodes.specs.Tree.{Tree, File, Kind, Entry, Volume, Regular, Directory, Link, at, on_some, entries_in, bytes_in, nlink, bytes_of, files_of}

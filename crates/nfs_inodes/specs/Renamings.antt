@@ -1,5 +1,5 @@
 -- What is done to the kept files where an entry goes to another name, and what it needs.
-use Rattle.std.specs.Prelude.{◌≡◌, ◌≢◌, ℕ, List, Option, Some, option_map}
+use Rattle.std.specs.Prelude.{◌≡◌, ◌≢◌, ℕ, List, Some, option_map}
 use Rattle.nfs_attrs.specs.declared.moment.Moment.{Moment}
 use Rattle.nfs_handles.specs.NumberedFiles.{NumberedFiles}
 use Rattle.nfs_handles.specs.declared.number.Number.{Number}
@@ -34,10 +34,10 @@ pub record HasCarried (old new : NumberedFiles StoredFile) (stored_volumes : Lis
       ≡ carried (tree_in (counted_tree_of old stored_volumes)) route.from.0 name route.number.0 route.to.0 new_name now
 
 -- what is kept agrees with the tree, where the entry of a name may go to another, which is free or names the file to be replaced; and there is room for it
-pub record Renames (files : NumberedFiles StoredFile) (stored_volumes : List StoredVolume) (route : Route) (name new_name : List ℕ) (replaced : Option Number) : Type 0 where
+pub record Renames (files : NumberedFiles StoredFile) (stored_volumes : List StoredVolume) (route : Route) (name new_name : List ℕ) : Type 0 where
   pub agree : Agrees (counted_tree_of files stored_volumes)
   pub may : MayRename (tree_in (counted_tree_of files stored_volumes)) route.from.0 name route.to.0 new_name
   pub number : route.number.0 ≡ may.entry.number
-  pub names : option_map (λ (n : Number). n.0) replaced ≡ option_map (λ (e : Entry). e.number) (entry_named new_name (entries_in may.target.kind))
-  pub other : option_map (λ (n : Number). n.0) replaced ≢ Some route.number.0
+  pub names : option_map (λ (n : Number). n.0) route.replaced ≡ option_map (λ (e : Entry). e.number) (entry_named new_name (entries_in may.target.kind))
+  pub other : option_map (λ (n : Number). n.0) route.replaced ≢ Some route.number.0
   pub room : HasRoomAt files route.to.0

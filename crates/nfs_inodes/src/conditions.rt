@@ -41,7 +41,7 @@ impl Tree {
     }
 
     /// Whether a directory may be made under this name in directory `dir`.
-    pub fn may_make_dir(&self, dir: Number, name: &[u8]) -> bool
+    pub fn may_mkdir(&self, dir: Number, name: &[u8]) -> bool
         ensures { IsTrue result ↔ MayMakeDirectory self.now dir.0 name.now }
     {
         match self.files.get(dir) {

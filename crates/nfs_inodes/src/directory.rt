@@ -4,7 +4,7 @@ ghost use Rattle.std.specs.Iterator.{YieldsFirstBy, item_count};
 ghost use Rattle.nfs_entries.specs.Seen as directory;
 ghost use Rattle.nfs_inodes.specs.Tree.{entries_in};
 ghost use Rattle.nfs_inodes.specs.Storage.{kind_of};
-ghost use Rattle.nfs_inodes.specs.Reading.{listing, number_named, first_after, entries_behind, number_under};
+ghost use Rattle.nfs_inodes.specs.Reading.{listing, number_named, first_after, entries_beyond, number_under};
 ghost use Rattle.nfs_inodes.specs.Reading.{entry_at, entry_after, next_cookie_at};
 ghost use Rattle.nfs_inodes.specs.Reading as spec;
 ghost use Rattle.nfs_inodes.specs.Views.{entries_left, entry_seen, kind_seen, IsSeen};
@@ -112,7 +112,7 @@ impl Tree {
     /// The first of them is found by halving, since cookies rise.
     pub fn entries_after<'a>(&self, dir: &FileView<'a>, cookie: u64) -> Entries<'a>
         requires { IsSeen self.now dir.now }
-        ensures { entries_left result ≡ entries_behind cookie (entries_in (kind_seen dir.now)) }
+        ensures { entries_left result ≡ entries_beyond cookie (entries_in (kind_seen dir.now)) }
     {
         match dir.node() {
             Node::Directory { entries, .. } => Entries {

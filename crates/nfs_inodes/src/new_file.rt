@@ -1,5 +1,6 @@
 //! What is given of a new file.
 use nfs_attrs::moment::Moment;
+use nfs_content::pages::Pages;
 
 /// The attributes that a new file begins with (RFC 1813, section 2.6, sattr3); of the mode the
 /// low 12 bits.
@@ -15,4 +16,13 @@ pub struct NewFile {
     pub atime: Moment,
     /// When it was written last.
     pub mtime: Moment,
+}
+
+/// What a new regular file holds.
+#[derive(Drop)]
+pub struct NewContent {
+    /// Its bytes.
+    pub pages: Pages,
+    /// The verifier of an exclusive CREATE that makes it (RFC 1813, section 3.3.8).
+    pub verifier: Option<[u8; 8]>,
 }

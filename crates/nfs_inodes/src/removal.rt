@@ -7,7 +7,7 @@ ghost use Rattle.nfs_inodes.specs.Conditions.{MayUnlink, MayUnlinkSeen};
 ghost use Rattle.nfs_inodes.specs.Counts.{Agrees, tree_in, with_totals};
 ghost use Rattle.nfs_inodes.specs.Storage.{kind_of, counted_tree_of, counted_volume_of};
 ghost use Rattle.nfs_inodes.specs.StoredFiles.{Revalues};
-ghost use Rattle.nfs_inodes.specs.Removals.{HasRoomAt, LosesEntry, Leaves, LosesLink, Goes, Stays};
+ghost use Rattle.nfs_inodes.specs.Removals.{HasRoomAt, LosesEntry, Leaves, Goes, Stays};
 ghost use Rattle.nfs_inodes.specs.Removals.{HasEntries, HasTotals, Removes, Stands};
 ghost use Rattle.nfs_handles.specs.NumberedFiles.{value_at};
 
@@ -32,15 +32,8 @@ impl Tree {
             None => unreachable!(),
         };
         let file = standing_of(&self.files, number);
-        take_out(
-            &mut self.files,
-            &mut self.volumes,
-            dir,
-            name,
-            number,
-            file,
-            now,
-        );
+        let removal = Removal { dir, number, file };
+        take_out(&mut self.files, &mut self.volumes, removal, name, now);
     }
 
     /// The same where the file that the entry names was seen, without a search for it.
@@ -56,15 +49,8 @@ impl Tree {
         requires { MayUnlinkSeen self.old dir.0 name.now number.0 file }
         ensures { self.new ≡ after_unlink self.old dir.0 name.now now }
     {
-        take_out(
-            &mut self.files,
-            &mut self.volumes,
-            dir,
-            name,
-            number,
-            file,
-            now,
-        );
+        let removal = Removal { dir, number, file };
+        take_out(&mut self.files, &mut self.volumes, removal, name, now);
     }
 }
 
@@ -100,26 +86,32 @@ pub(crate) struct Freed {
     pub(crate) files: u64,
 }
 
-/// The entry of a name, which names file `number`, leaves a directory, and the file with its last.
+/// An entry that goes: its directory, the file that it names, and what is known of that.
+#[derive(Clone, Copy)]
+pub(crate) struct Removal {
+    pub(crate) dir: Number,
+    pub(crate) number: Number,
+    pub(crate) file: Standing,
+}
+
+/// The entry of a name leaves its directory, and the file that it names with its last.
 #[inline(always)]
 pub(crate) fn take_out(
     files: &mut Files<StoredFile>,
     volumes: &mut Vec<StoredVolume>,
-    dir: Number,
+    removal: Removal,
     name: &[u8],
-    number: Number,
-    file: Standing,
     now: Moment,
 )
-    requires removes { Removes files.old volumes.old.items dir.0 name.now number.0 }
-    requires stands { Stands files.old number.0 file }
+    requires removes { Removes files.old volumes.old.items removal.dir.0 name.now removal.number.0 }
+    requires stands { Stands files.old removal.number.0 removal.file }
     ensures agree { Agrees (counted_tree_of files.new volumes.new.items) }
     ensures done { tree_in (counted_tree_of files.new volumes.new.items)
-        ≡ after_unlink (tree_in (counted_tree_of files.old volumes.old.items)) dir.0 name.now now }
-    ensures room { (d : ℕ) → d ≢ number.0 → HasRoomAt files.old d → HasRoomAt files.new d }
+        ≡ after_unlink (tree_in (counted_tree_of files.old volumes.old.items)) removal.dir.0 name.now now }
+    ensures room { (d : ℕ) → d ≢ removal.number.0 → HasRoomAt files.old d → HasRoomAt files.new d }
 {
-    leave(files, dir, name, file.directory, now);
-    let freed = release(files, number, file.last, now);
+    leave(files, removal.dir, name, removal.file.directory, now);
+    let freed = release(files, removal.number, removal.file.last, now);
     discount(volumes, freed.volume, freed.bytes, freed.files);
 }
 

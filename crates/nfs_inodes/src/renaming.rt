@@ -1,15 +1,15 @@
 //! Entries that go from one name to another.
 ghost use Rattle.std.specs.Prelude.{◌≡◌, ◌↔◌, IsTrue, List, OnOk, OnErr, Some, option_map};
 ghost use Rattle.nfs_inodes.specs.declared.stored_volume.StoredVolume.{StoredVolume};
-ghost use Rattle.nfs_inodes.specs.Changes.{after_rename, carried};
-ghost use Rattle.nfs_inodes.specs.Conditions.{MayRename, NameApart};
+ghost use Rattle.nfs_inodes.specs.Changes.{after_rename};
+ghost use Rattle.nfs_inodes.specs.Conditions.{MayRename, MayRenameSeen, NameApart};
 ghost use Rattle.nfs_inodes.specs.Counts.{Agrees, tree_in};
 ghost use Rattle.nfs_inodes.specs.Storage.{counted_tree_of};
 ghost use Rattle.nfs_inodes.specs.StoredFiles.{Revalues, IsThere};
 ghost use Rattle.nfs_inodes.specs.Renamings.{MovesTo, Carries, HasCarried, Renames};
 
 use crate::copied::copied;
-use crate::removal::{is_directory, leave, standing_of, take_out};
+use crate::removal::{Removal, is_directory, leave, standing_of, take_out};
 use crate::stored_file::{StoredFile, set_parent};
 use crate::stored_files::{enter, reserve};
 use crate::stored_volume::StoredVolume;
@@ -41,31 +41,56 @@ impl Tree {
             None => unreachable!(),
         };
         let replaced = self.entry(to, new_name);
-        if is_number(replaced, number) {
+        let route = Route {
+            number,
+            from,
+            to,
+            replaced,
+        };
+        self.rename_seen(route, name, new_name, now)
+    }
+
+    /// The same where the files that both names name were seen, without a search for them.
+    pub fn rename_seen(
+        &mut self,
+        route: Route,
+        name: &[u8],
+        new_name: &[u8],
+        now: Moment,
+    ) -> Result<(), AllocError>
+        requires { MayRenameSeen self.old route name.now new_name.now }
+        ensures ok { OnOk result (self.new ≡ after_rename self.old route.from.0 name.now route.to.0 new_name.now now) }
+        ensures err { OnErr result (self.new ≡ self.old) }
+        ensures apart { OnErr result (NameApart self.old route.from.0 name.now route.to.0 new_name.now) }
+    {
+        if is_number(route.replaced, route.number) {
             return Ok(());
         }
         let new_name = copied(self.alloc, new_name)?;
-        reserve(&mut self.files, to)?;
-        let route = Route { number, from, to };
+        reserve(&mut self.files, route.to)?;
         move_entry(
             &mut self.files,
             &mut self.volumes,
             route,
             name,
             new_name,
-            replaced,
             now,
         );
         Ok(())
     }
 }
 
-/// A file, the directory that its entry leaves, and the one that it comes into.
+/// Where an entry goes.
 #[derive(Clone, Copy)]
-pub(crate) struct Route {
-    pub(crate) number: Number,
-    pub(crate) from: Number,
-    pub(crate) to: Number,
+pub struct Route {
+    /// The file that it names.
+    pub number: Number,
+    /// The directory that it leaves.
+    pub from: Number,
+    /// The directory that it comes into.
+    pub to: Number,
+    /// The file that the new name names there, if it names one.
+    pub replaced: Option<Number>,
 }
 
 // Whether a file was found, and it is this one.
@@ -78,33 +103,28 @@ fn is_number(found: Option<Number>, number: Number) -> bool
     }
 }
 
-// The entry of a name goes to another, in place of that of the file `replaced`, for which there is
-// room.
+// The entry of a name goes to another, in place of that of the file that is replaced, if one is; there
+// is room for it.
 fn move_entry(
     files: &mut Files<StoredFile>,
     volumes: &mut Vec<StoredVolume>,
     route: Route,
     name: &[u8],
     new_name: Vec<u8>,
-    replaced: Option<Number>,
     now: Moment,
 )
-    requires { Renames files.old volumes.old.items route name.now new_name.items replaced }
+    requires { Renames files.old volumes.old.items route name.now new_name.items }
     ensures agree { Agrees (counted_tree_of files.new volumes.new.items) }
     ensures done { tree_in (counted_tree_of files.new volumes.new.items)
         ≡ after_rename (tree_in (counted_tree_of files.old volumes.old.items)) route.from.0 name.now route.to.0 new_name.items now }
 {
-    if let Some(old) = replaced {
-        let file = standing_of(files, old);
-        take_out(
-            files,
-            volumes,
-            route.to,
-            new_name.as_slice(),
-            old,
-            file,
-            now,
-        );
+    if let Some(old) = route.replaced {
+        let removal = Removal {
+            dir: route.to,
+            number: old,
+            file: standing_of(files, old),
+        };
+        take_out(files, volumes, removal, new_name.as_slice(), now);
         carry(files, route, name, new_name, now);
         return;
     }

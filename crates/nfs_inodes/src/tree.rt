@@ -3,7 +3,7 @@ ghost use Rattle.std.specs.Prelude.{◌≡◌, ◌+◌, ◌<◌, Option, Some, N
 ghost use Rattle.std.specs.Prelude.{[], ◌∷◌, ◌++◌, vec_len, vec_capacity, map};
 ghost use Rattle.nfs_inodes.specs.Tree.{File, Regular, Directory, Link};
 ghost use Rattle.nfs_inodes.specs.Law.{Law, Lives};
-ghost use Rattle.nfs_inodes.specs.Changes.{Makes, after_make_file, after_make_dir, after_make_link};
+ghost use Rattle.nfs_inodes.specs.Changes.{Makes, after_make_file, after_mkdir, after_make_link};
 ghost use Rattle.nfs_inodes.specs.Changes.{after_link, after_write_at, after_resize};
 ghost use Rattle.nfs_inodes.specs.Changes.{after_set, after_add_volume, with_next_from, with_key};
 ghost use Rattle.nfs_inodes.specs.Changes.{with_named_file, new_file, volume_index};
@@ -15,12 +15,11 @@ ghost use Rattle.nfs_inodes.specs.Counts.{with_totals};
 
 use crate::copied::copied;
 use crate::given_attributes::GivenAttributes;
-use crate::new_file::NewFile;
+use crate::new_file::{NewContent, NewFile};
 use crate::stored_file::{Node, StoredFile};
 use crate::stored_files::{add, link, reserve, resize, set, write};
 use crate::stored_volume::StoredVolume;
 use nfs_attrs::moment::Moment;
-use nfs_content::pages::Pages;
 use nfs_handles::files::Files;
 use nfs_handles::number::Number;
 use std::alloc::{AllocError, Global};
@@ -101,24 +100,28 @@ impl Tree {
         &mut self,
         dir: Number,
         name: &[u8],
-        content: Pages,
+        content: NewContent,
         given: &NewFile,
-        verifier: Option<[u8; 8]>,
         now: Moment,
     ) -> Result<Number, AllocError>
-        requires { MayMake self.old dir.0 name.now (length content) }
-        ensures ok { OnOk result (Makes (λ tag. after_make_file self.old dir.0 name.now content given.now verifier tag now)
+        requires { MayMake self.old dir.0 name.now (length content.pages) }
+        ensures ok { OnOk result (Makes (λ tag. after_make_file self.old dir.0 name.now content.pages given.now content.verifier tag now)
             self.new) }
         ensures number { IfOk result (λ n. n.0 ≡ self.old.next) }
         ensures err { OnErr result (self.new ≡ self.old) }
     {
         let name = copied(self.alloc, name)?;
-        self.make(dir, name, Node::Regular(content), given, verifier, now)
+        let NewContent { pages, verifier } = content;
+        let made = NewNode {
+            node: Node::Regular(pages),
+            verifier,
+        };
+        self.make(dir, name, made, given, now)
     }
 
     /// A new directory, with an entry in directory `dir`, which has a link more by it. Refused
     /// without memory, and then the tree is as before.
-    pub fn make_dir(
+    pub fn mkdir(
         &mut self,
         dir: Number,
         name: &[u8],
@@ -126,13 +129,17 @@ impl Tree {
         now: Moment,
     ) -> Result<Number, AllocError>
         requires { MayMakeDirectory self.old dir.0 name.now }
-        ensures ok { OnOk result (Makes (λ tag. after_make_dir self.old dir.0 name.now given.now tag now) self.new) }
+        ensures ok { OnOk result (Makes (λ tag. after_mkdir self.old dir.0 name.now given.now tag now) self.new) }
         ensures number { IfOk result (λ n. n.0 ≡ self.old.next) }
         ensures err { OnErr result (self.new ≡ self.old) }
     {
         let name = copied(self.alloc, name)?;
         let node = Node::directory(self.alloc, dir)?;
-        self.make(dir, name, node, given, None, now)
+        let made = NewNode {
+            node,
+            verifier: None,
+        };
+        self.make(dir, name, made, given, now)
     }
 
     /// A new link with this path, with an entry in directory `dir`. Refused without memory, and
@@ -152,7 +159,11 @@ impl Tree {
     {
         let path = copied(self.alloc, path)?;
         let name = copied(self.alloc, name)?;
-        self.make(dir, name, Node::Link(path), given, None, now)
+        let made = NewNode {
+            node: Node::Link(path),
+            verifier: None,
+        };
+        self.make(dir, name, made, given, now)
     }
 
     /// An entry in directory `dir` for a file that has one already (RFC 1813, section 3.3.15).
@@ -273,24 +284,31 @@ impl Tree {
         &mut self,
         dir: Number,
         name: Vec<u8>,
-        node: Node,
+        made: NewNode,
         given: &NewFile,
-        verifier: Option<[u8; 8]>,
         now: Moment,
     ) -> Result<Number, AllocError>
-        requires { MayAddKind self.old dir.0 name.items (kind_of node) }
+        requires { MayAddKind self.old dir.0 name.items (kind_of made.node) }
         ensures ok { OnOk result (Makes (λ tag. with_named_file self.old dir.0 name.items
-            (new_file (volume_index self.old dir.0) (kind_of node) given.now verifier tag now) now) self.new) }
+            (new_file (volume_index self.old dir.0) (kind_of made.node) given.now made.verifier tag now) now) self.new) }
         ensures number { IfOk result (λ n. n.0 ≡ self.old.next) }
         ensures err { OnErr result (self.new ≡ self.old) }
     {
         let index = reserve(&mut self.files, dir)?;
+        let NewNode { node, verifier } = made;
         let stored_file = StoredFile::new(index, node, given, verifier, now);
         let size = stored_file.size();
         let number = add(&mut self.files, dir, name, stored_file, now)?;
         count(&mut self.volumes, index, size, 1);
         Ok(number)
     }
+}
+
+// What is made, and the verifier of an exclusive CREATE that makes it.
+#[derive(Drop)]
+struct NewNode {
+    node: Node,
+    verifier: Option<[u8; 8]>,
 }
 
 // One volume more, for which there is room.

@@ -6,15 +6,15 @@ use nfs_args::byte_range::ByteRange;
 use nfs_args::create::{Create, CreateHow};
 use nfs_args::dir_op::DirOp;
 use nfs_args::link::Link;
-use nfs_args::make_dir::MakeDir;
-use nfs_args::make_node::{DeviceData, MakeNode, NodeData};
+use nfs_args::mkdir::Mkdir;
+use nfs_args::mknod::{DeviceData, Mknod, NodeData};
 use nfs_args::mount_args::{MountArgs, read_mount};
 use nfs_args::opaque::Opaque;
 use nfs_args::procedure::{MountProcedure, Procedure};
-use nfs_args::read_dir::{ReadDir, ReadDirPlus};
+use nfs_args::readdir::{Readdir, Readdirplus};
 use nfs_args::rename::Rename;
-use nfs_args::set_attr::SetAttr;
-use nfs_args::sym_link::SymLink;
+use nfs_args::setattr::Setattr;
+use nfs_args::symlink::Symlink;
 use nfs_args::write::{Stability, Write};
 use nfs_xdr::input::Input;
 use rows::answers::{debug_text, digits, text, then, with};
@@ -122,26 +122,26 @@ fn gives(alloc: Global, called: Called, bytes: &[u8], want: &str) -> Option<bool
 fn fields_of_nfs(alloc: Global, args: &NfsArgs<'_>) -> Option<String> {
     match args {
         NfsArgs::Null => text(alloc, "NULL"),
-        NfsArgs::GetAttr(file) => by_file(alloc, "GETATTR", file),
-        NfsArgs::SetAttr(args) => set_attr(alloc, args),
+        NfsArgs::Getattr(file) => by_file(alloc, "GETATTR", file),
+        NfsArgs::Setattr(args) => setattr(alloc, args),
         NfsArgs::Lookup(args) => by_name(alloc, "LOOKUP", args),
         NfsArgs::Access(args) => access(alloc, args),
-        NfsArgs::ReadLink(file) => by_file(alloc, "READLINK", file),
+        NfsArgs::Readlink(file) => by_file(alloc, "READLINK", file),
         NfsArgs::Read(args) => byte_range(alloc, "READ", args),
         NfsArgs::Write(args) => write(alloc, args),
         NfsArgs::Create(args) => create(alloc, args),
-        NfsArgs::MakeDir(args) => make_dir(alloc, args),
-        NfsArgs::SymLink(args) => sym_link(alloc, args),
-        NfsArgs::MakeNode(args) => make_node(alloc, args),
+        NfsArgs::Mkdir(args) => mkdir(alloc, args),
+        NfsArgs::Symlink(args) => symlink(alloc, args),
+        NfsArgs::Mknod(args) => mknod(alloc, args),
         NfsArgs::Remove(args) => by_name(alloc, "REMOVE", args),
-        NfsArgs::RemoveDir(args) => by_name(alloc, "RMDIR", args),
+        NfsArgs::Rmdir(args) => by_name(alloc, "RMDIR", args),
         NfsArgs::Rename(args) => rename(alloc, args),
         NfsArgs::Link(args) => link(alloc, args),
-        NfsArgs::ReadDir(args) => read_dir(alloc, args),
-        NfsArgs::ReadDirPlus(args) => read_dir_plus(alloc, args),
-        NfsArgs::FsStat(file) => by_file(alloc, "FSSTAT", file),
-        NfsArgs::FsInfo(file) => by_file(alloc, "FSINFO", file),
-        NfsArgs::PathConf(file) => by_file(alloc, "PATHCONF", file),
+        NfsArgs::Readdir(args) => readdir(alloc, args),
+        NfsArgs::Readdirplus(args) => readdirplus(alloc, args),
+        NfsArgs::Fsstat(file) => by_file(alloc, "FSSTAT", file),
+        NfsArgs::Fsinfo(file) => by_file(alloc, "FSINFO", file),
+        NfsArgs::Pathconf(file) => by_file(alloc, "PATHCONF", file),
         NfsArgs::Commit(args) => byte_range(alloc, "COMMIT", args),
     }
 }
@@ -169,7 +169,7 @@ fn by_name(alloc: Global, procedure: &str, place: &DirOp<'_>) -> Option<String> 
     with_name(alloc, text(alloc, procedure)?, place)
 }
 
-fn set_attr(alloc: Global, args: &SetAttr<'_>) -> Option<String> {
+fn setattr(alloc: Global, args: &Setattr<'_>) -> Option<String> {
     let file = by_file(alloc, "SETATTR", &args.file)?;
     let attributes = with(alloc, file, "set", args.attributes)?;
     with(alloc, attributes, "guard", args.guard)
@@ -212,18 +212,18 @@ fn create(alloc: Global, args: &Create<'_>) -> Option<String> {
     }
 }
 
-fn make_dir(alloc: Global, args: &MakeDir<'_>) -> Option<String> {
+fn mkdir(alloc: Global, args: &Mkdir<'_>) -> Option<String> {
     let place = by_name(alloc, "MKDIR", &args.place)?;
     with(alloc, place, "set", args.attributes)
 }
 
-fn sym_link(alloc: Global, args: &SymLink<'_>) -> Option<String> {
+fn symlink(alloc: Global, args: &Symlink<'_>) -> Option<String> {
     let place = by_name(alloc, "SYMLINK", &args.place)?;
     let attributes = with(alloc, place, "set", args.attributes)?;
     with_bytes(alloc, attributes, "path", &args.path)
 }
 
-fn make_node(alloc: Global, args: &MakeNode<'_>) -> Option<String> {
+fn mknod(alloc: Global, args: &Mknod<'_>) -> Option<String> {
     let place = by_name(alloc, "MKNOD", &args.place)?;
     match &args.node {
         NodeData::Regular => then(place, "REG"),
@@ -246,14 +246,14 @@ fn link(alloc: Global, args: &Link<'_>) -> Option<String> {
     with_name(alloc, file, &args.place)
 }
 
-fn read_dir(alloc: Global, args: &ReadDir<'_>) -> Option<String> {
+fn readdir(alloc: Global, args: &Readdir<'_>) -> Option<String> {
     let dir = with_bytes(alloc, text(alloc, "READDIR")?, "dir", &args.dir)?;
     let cookie = with(alloc, dir, "cookie", args.cookie)?;
     let verifier = with_bytes(alloc, cookie, "verifier", &args.verifier)?;
     with(alloc, verifier, "count", args.count)
 }
 
-fn read_dir_plus(alloc: Global, args: &ReadDirPlus<'_>) -> Option<String> {
+fn readdirplus(alloc: Global, args: &Readdirplus<'_>) -> Option<String> {
     let dir = with_bytes(alloc, text(alloc, "READDIRPLUS")?, "dir", &args.dir)?;
     let cookie = with(alloc, dir, "cookie", args.cookie)?;
     let verifier = with_bytes(alloc, cookie, "verifier", &args.verifier)?;
@@ -261,19 +261,19 @@ fn read_dir_plus(alloc: Global, args: &ReadDirPlus<'_>) -> Option<String> {
     with(alloc, dircount, "maxcount", args.maxcount)
 }
 
-// An answer with the name in a directory behind it.
+// An answer with the name in a directory after it.
 fn with_name(alloc: Global, answer: String, place: &DirOp<'_>) -> Option<String> {
     let dir = with_bytes(alloc, answer, "dir", &place.dir)?;
     with_bytes(alloc, dir, "name", &place.name)
 }
 
-// An answer with a kind and what is known of a device behind it.
+// An answer with a kind and what is known of a device after it.
 fn with_device(alloc: Global, answer: String, kind: &str, data: &DeviceData) -> Option<String> {
     let attributes = with(alloc, answer, kind, data.attributes)?;
     with(alloc, attributes, "device", data.device)
 }
 
-// An answer with a word and bytes behind it.
+// An answer with a word and bytes after it.
 fn with_bytes(alloc: Global, answer: String, word: &str, bytes: &Opaque<'_>) -> Option<String> {
     let said = digits(alloc, bytes.bytes())?;
     then(then(answer, word)?, said.as_str())

@@ -1,17 +1,16 @@
 //! File attributes, read and written.
 
-use nfs_attrs::fattr::{
-    read_fattr, read_post_op_attr, size_fattr, size_post_op_attr, write_fattr, write_post_op_attr,
+use crate::attribute_sizes::{
+    size_fattr, size_moment, size_post_op_attr, size_pre_attr, size_pre_op_attr, size_sattr,
+    size_time_setting, size_wcc,
 };
-use nfs_attrs::file_type::{read_file_type, write_file_type};
-use nfs_attrs::moment::{read_moment, size_moment, write_moment};
-use nfs_attrs::pre_attr::{
-    read_pre_attr, read_pre_op_attr, size_pre_attr, size_pre_op_attr, write_pre_attr,
-    write_pre_op_attr,
-};
-use nfs_attrs::sattr::{read_sattr, size_sattr, write_sattr};
-use nfs_attrs::time_setting::{read_time_setting, size_time_setting, write_time_setting};
-use nfs_attrs::wcc::{read_wcc, size_wcc, write_wcc};
+use nfs_attrs::fattr::{read_fattr, read_post_op_attr, write_fattr, write_post_op_attr};
+use nfs_attrs::file_type::{number_of, read_file_type};
+use nfs_attrs::moment::{read_moment, write_moment};
+use nfs_attrs::pre_attr::{read_pre_attr, read_pre_op_attr, write_pre_attr, write_pre_op_attr};
+use nfs_attrs::sattr::{read_sattr, write_sattr};
+use nfs_attrs::time_setting::{read_time_setting, write_time_setting};
+use nfs_attrs::wcc::{read_wcc, write_wcc};
 use nfs_xdr::input::Input;
 use nfs_xdr::output::Output;
 use rows::answers::{debug_text, digits, left, text, with};
@@ -70,12 +69,12 @@ fn cuts(alloc: Global, words: &mut SplitWhitespace<'_>) -> Option<String> {
     debug_text(alloc, short)
 }
 
-// The item of a kind that the bytes spell, written; its size, and the room that is left.
+// The item of a kind that the bytes encode, written; its size, and the room that is left.
 fn write(alloc: Global, words: &mut SplitWhitespace<'_>) -> Option<String> {
     let mut out = Output::new(alloc, size(words)?).ok()?;
     let kind = words.next()?;
-    let spelled = bytes(alloc, words)?;
-    let mut input = Input::new(spelled.as_slice());
+    let encoded = bytes(alloc, words)?;
+    let mut input = Input::new(encoded.as_slice());
     let size = write_item(kind, &mut input, &mut out)?;
     let written = digits(alloc, out.bytes())?;
     let sized = with(alloc, written, "size", size)?;
@@ -102,7 +101,7 @@ fn write_type_of(input: &mut Input<'_>, out: &mut Output) -> Option<usize> {
     if out.room() < 4 {
         return None;
     }
-    write_file_type(out, kind);
+    out.u32(number_of(kind));
     Some(4)
 }
 

@@ -1,7 +1,7 @@
 //! The records of a stream.
 
 use nfs_rpc::framer::{Fed, Framer};
-use nfs_rpc::record::seal_record;
+use nfs_rpc::record::frame_record;
 use rows::answers::{debug_text, digits, text, then};
 use rows::words::{bytes, size, word};
 use std::alloc::Global;
@@ -24,7 +24,7 @@ impl Framing {
     }
 
     /// `frame limit BYTES`, `frame feed BYTES`, `frame whole`, `frame next`, `frame cuts BYTES` and
-    /// `frame seal LENGTH`.
+    /// `frame frame LENGTH`.
     pub(crate) fn answer(&mut self, words: &mut SplitWhitespace<'_>) -> Option<String> {
         match words.next()? {
             "limit" => self.limit(words),
@@ -32,7 +32,7 @@ impl Framing {
             "whole" => self.whole(),
             "next" => self.next(),
             "cuts" => cuts(self.alloc, words),
-            "seal" => seal(self.alloc, words),
+            "seal" => frame(self.alloc, words),
             _ => None,
         }
     }
@@ -46,8 +46,8 @@ impl Framing {
 
     // How many bytes are taken, and whether a record is whole then; or the fault.
     fn feed(&mut self, words: &mut SplitWhitespace<'_>) -> Option<String> {
-        let piece = bytes(self.alloc, words)?;
-        match self.framer.feed(piece.as_slice()) {
+        let chunk = bytes(self.alloc, words)?;
+        match self.framer.feed(chunk.as_slice()) {
             Ok(fed) => debug_text(self.alloc, (fed.used, fed.ready)),
             Err(fault) => debug_text(self.alloc, fault),
         }
@@ -71,7 +71,7 @@ impl Framing {
     }
 }
 
-// The records that a stream in two pieces brings, wherever it is cut.
+// The records that a stream in two chunks brings, wherever it is cut.
 fn cuts(alloc: Global, words: &mut SplitWhitespace<'_>) -> Option<String> {
     let stream = bytes(alloc, words)?;
     let mut all = None;
@@ -89,14 +89,14 @@ fn cuts(alloc: Global, words: &mut SplitWhitespace<'_>) -> Option<String> {
     all
 }
 
-// What was found, with the records that a piece makes whole, of at most 100.
+// What was found, with the records that a chunk makes whole, of at most 100.
 fn with_records(
     alloc: Global,
     framer: &mut Framer,
-    piece: &[u8],
+    chunk: &[u8],
     mut found: String,
 ) -> Option<String> {
-    let mut rest = piece;
+    let mut rest = chunk;
     for _ in 0..100u8 {
         let fed = framer.feed(rest).ok()?;
         rest = &rest[fed.used..];
@@ -110,10 +110,10 @@ fn with_records(
 }
 
 // The header of a record of so many bytes.
-fn seal(alloc: Global, words: &mut SplitWhitespace<'_>) -> Option<String> {
+fn frame(alloc: Global, words: &mut SplitWhitespace<'_>) -> Option<String> {
     let len = word(words)?;
     if len >= 1 << 31 {
         return None;
     }
-    digits(alloc, &seal_record(len))
+    digits(alloc, &frame_record(len))
 }

@@ -4,8 +4,8 @@ use nfs_xdr::device::{ByteIn, ByteOut, Device, DeviceFault, write_all};
 use nfs_xdr::fault::XdrFault;
 use nfs_xdr::input::Input;
 use nfs_xdr::output::{Output, halves};
-use nfs_xdr::stutter::Stutter;
 use rows::answers::{debug_text, digits, left, text, then, with};
+use rows::stutter::Stutter;
 use rows::words::{bytes, number, size, word};
 use std::alloc::{AllocError, Global};
 use std::str::SplitWhitespace;
@@ -176,8 +176,8 @@ pub(crate) fn reader(alloc: Global, words: &mut SplitWhitespace<'_>) -> Option<S
     let mut brought = text(alloc, "read")?;
     for _ in 0..4u8 {
         let read = input.read(&mut buffer);
-        let piece = read_text(alloc, read, &buffer)?;
-        brought = then(brought, piece.as_str())?;
+        let chunk = read_text(alloc, read, &buffer)?;
+        brought = then(brought, chunk.as_str())?;
     }
     Some(brought)
 }

@@ -4,6 +4,7 @@
 #![tactic(auto)]
 
 mod arguments;
+mod attribute_sizes;
 mod attributes;
 mod contents;
 mod counts;

@@ -1,6 +1,6 @@
 //! The results of the procedures of NFS and of MOUNT.
 ghost use Rattle.std.specs.Prelude.{◌≡◌, ◌<◌, ◌≤◌, length, IfSome};
-ghost use Rattle.nfs_xdr.specs.Spelling.{opaque_text};
+ghost use Rattle.nfs_xdr.specs.Encoding.{opaque_text};
 ghost use Rattle.nfs_args.specs.Chains.{chained_text};
 ghost use Rattle.nfs_args.specs.Pages.{entry_text, EntryFits, entry_plus_text, EntryPlusFits};
 ghost use Rattle.nfs_args.specs.MountAnswers.{mount_text, MountFits, mounted_text, MountedFits};
@@ -11,6 +11,7 @@ ghost use Rattle.nfs_args.specs.Results.{FoundFits, LinkPathFits, MadeFits, Read
 use nfs_args::answer::{NfsAnswer, write_nfs};
 use nfs_args::chain::write_chain_end;
 use nfs_args::committed::Committed;
+use nfs_args::dir_page::DirPage;
 use nfs_args::entry::Entry;
 use nfs_args::entry_plus::EntryPlus;
 use nfs_args::exported::{Exported, write_exported};
@@ -24,14 +25,13 @@ use nfs_args::made::Made;
 use nfs_args::mount_answer::{MountAnswer, write_mount};
 use nfs_args::mounted::Mounted;
 use nfs_args::opaque::Opaque;
-use nfs_args::page::Page;
 use nfs_args::path_limits::PathLimits;
 use nfs_args::procedure::{MountProcedure, Procedure};
 use nfs_args::read_data::ReadData;
 use nfs_args::renamed::Renamed;
 use nfs_args::rights::Rights;
-use nfs_args::room::{Room, Space};
 use nfs_args::server_limits::{ServerLimits, Transfer};
+use nfs_args::volume_space::{Space, VolumeSpace};
 use nfs_args::write::Stability;
 use nfs_args::written::Written;
 use nfs_attrs::fattr::{Fattr, SpecData};
@@ -80,8 +80,8 @@ fn of_mount(alloc: Global, arm: &str, proc: MountProcedure) -> Option<String> {
 // What was asked for.
 fn ok(alloc: Global, proc: Procedure) -> Option<String> {
     match proc {
-        Procedure::ReadDir => page(alloc),
-        Procedure::ReadDirPlus => page_plus(alloc),
+        Procedure::Readdir => page(alloc),
+        Procedure::Readdirplus => page_plus(alloc),
         _ => written(alloc, proc, &granted(proc)?),
     }
 }
@@ -91,27 +91,27 @@ fn granted(proc: Procedure) -> Option<NfsAnswer<'static>>
     ensures { IfSome result (λ a. (answered a ≡ proc) × NfsFits a × IsWithin a) }
 {
     match proc {
-        Procedure::GetAttr => Some(NfsAnswer::GetAttr(Ok(attributes()))),
-        Procedure::SetAttr => Some(NfsAnswer::SetAttr(Ok(change()))),
+        Procedure::Getattr => Some(NfsAnswer::Getattr(Ok(attributes()))),
+        Procedure::Setattr => Some(NfsAnswer::Setattr(Ok(change()))),
         Procedure::Lookup => Some(NfsAnswer::Lookup(Ok(found()))),
         Procedure::Access => Some(NfsAnswer::Access(Ok(rights()))),
-        Procedure::ReadLink => Some(NfsAnswer::ReadLink(Ok(link_path()))),
+        Procedure::Readlink => Some(NfsAnswer::Readlink(Ok(link_path()))),
         Procedure::Read => Some(NfsAnswer::Read(Ok(read_data()))),
         Procedure::Write => Some(NfsAnswer::Write(Ok(bytes_written()))),
         Procedure::Create => Some(NfsAnswer::Create(Ok(made()))),
-        Procedure::MakeDir => Some(NfsAnswer::MakeDir(Ok(made()))),
-        Procedure::SymLink => Some(NfsAnswer::SymLink(Ok(made()))),
-        Procedure::MakeNode => Some(NfsAnswer::MakeNode(Ok(made()))),
+        Procedure::Mkdir => Some(NfsAnswer::Mkdir(Ok(made()))),
+        Procedure::Symlink => Some(NfsAnswer::Symlink(Ok(made()))),
+        Procedure::Mknod => Some(NfsAnswer::Mknod(Ok(made()))),
         Procedure::Remove => Some(NfsAnswer::Remove(Ok(change()))),
-        Procedure::RemoveDir => Some(NfsAnswer::RemoveDir(Ok(change()))),
+        Procedure::Rmdir => Some(NfsAnswer::Rmdir(Ok(change()))),
         Procedure::Rename => Some(NfsAnswer::Rename(Ok(renamed()))),
         Procedure::Link => Some(NfsAnswer::Link(Ok(linked()))),
-        Procedure::FsStat => Some(NfsAnswer::FsStat(Ok(room()))),
-        Procedure::FsInfo => Some(NfsAnswer::FsInfo(Ok(server_limits()))),
-        Procedure::PathConf => Some(NfsAnswer::PathConf(Ok(path_limits()))),
+        Procedure::Fsstat => Some(NfsAnswer::Fsstat(Ok(room()))),
+        Procedure::Fsinfo => Some(NfsAnswer::Fsinfo(Ok(server_limits()))),
+        Procedure::Pathconf => Some(NfsAnswer::Pathconf(Ok(path_limits()))),
         Procedure::Commit => Some(NfsAnswer::Commit(Ok(committed()))),
-        Procedure::ReadDir => None,
-        Procedure::ReadDirPlus => None,
+        Procedure::Readdir => None,
+        Procedure::Readdirplus => None,
         Procedure::Null => None,
     }
 }
@@ -122,26 +122,26 @@ fn refusal(proc: Procedure) -> Option<NfsAnswer<'static>>
 {
     match proc {
         Procedure::Null => None,
-        Procedure::GetAttr => Some(NfsAnswer::GetAttr(Err(refused_alone()))),
-        Procedure::SetAttr => Some(NfsAnswer::SetAttr(Err(refused_change()))),
+        Procedure::Getattr => Some(NfsAnswer::Getattr(Err(refused_alone()))),
+        Procedure::Setattr => Some(NfsAnswer::Setattr(Err(refused_change()))),
         Procedure::Lookup => Some(NfsAnswer::Lookup(Err(refused()))),
         Procedure::Access => Some(NfsAnswer::Access(Err(refused()))),
-        Procedure::ReadLink => Some(NfsAnswer::ReadLink(Err(refused()))),
+        Procedure::Readlink => Some(NfsAnswer::Readlink(Err(refused()))),
         Procedure::Read => Some(NfsAnswer::Read(Err(refused()))),
         Procedure::Write => Some(NfsAnswer::Write(Err(refused_change()))),
         Procedure::Create => Some(NfsAnswer::Create(Err(refused_change()))),
-        Procedure::MakeDir => Some(NfsAnswer::MakeDir(Err(refused_change()))),
-        Procedure::SymLink => Some(NfsAnswer::SymLink(Err(refused_change()))),
-        Procedure::MakeNode => Some(NfsAnswer::MakeNode(Err(refused_change()))),
+        Procedure::Mkdir => Some(NfsAnswer::Mkdir(Err(refused_change()))),
+        Procedure::Symlink => Some(NfsAnswer::Symlink(Err(refused_change()))),
+        Procedure::Mknod => Some(NfsAnswer::Mknod(Err(refused_change()))),
         Procedure::Remove => Some(NfsAnswer::Remove(Err(refused_change()))),
-        Procedure::RemoveDir => Some(NfsAnswer::RemoveDir(Err(refused_change()))),
+        Procedure::Rmdir => Some(NfsAnswer::Rmdir(Err(refused_change()))),
         Procedure::Rename => Some(NfsAnswer::Rename(Err(refused_rename()))),
         Procedure::Link => Some(NfsAnswer::Link(Err(refused_link()))),
-        Procedure::ReadDir => Some(NfsAnswer::ReadDir(Err(refused()))),
-        Procedure::ReadDirPlus => Some(NfsAnswer::ReadDirPlus(Err(refused()))),
-        Procedure::FsStat => Some(NfsAnswer::FsStat(Err(refused()))),
-        Procedure::FsInfo => Some(NfsAnswer::FsInfo(Err(refused()))),
-        Procedure::PathConf => Some(NfsAnswer::PathConf(Err(refused()))),
+        Procedure::Readdir => Some(NfsAnswer::Readdir(Err(refused()))),
+        Procedure::Readdirplus => Some(NfsAnswer::Readdirplus(Err(refused()))),
+        Procedure::Fsstat => Some(NfsAnswer::Fsstat(Err(refused()))),
+        Procedure::Fsinfo => Some(NfsAnswer::Fsinfo(Err(refused()))),
+        Procedure::Pathconf => Some(NfsAnswer::Pathconf(Err(refused()))),
         Procedure::Commit => Some(NfsAnswer::Commit(Err(refused_change()))),
     }
 }
@@ -308,8 +308,8 @@ fn linked() -> Linked {
     }
 }
 
-fn room() -> Room {
-    Room {
+fn room() -> VolumeSpace {
+    VolumeSpace {
         attributes: Some(attributes()),
         bytes: space(21, 22, 23),
         files: space(24, 25, 26),
@@ -330,7 +330,7 @@ fn server_limits() -> ServerLimits {
         attributes: Some(attributes()),
         read: transfer(21, 22, 23),
         write: transfer(24, 25, 26),
-        read_dir: 27,
+        readdir: 27,
         max_file_size: 28,
         time_delta: moment(29),
         properties: 31,
@@ -360,13 +360,13 @@ fn path_limits() -> PathLimits {
 // Two entries, and the directory goes on.
 fn page(alloc: Global) -> Option<String> {
     let entries = [entry(21), entry(23)];
-    let page = Page {
+    let page = DirPage {
         attributes: Some(attributes()),
         verifier: VERIFIER,
         entries: Items::new(&entries),
         eof: false,
     };
-    written(alloc, Procedure::ReadDir, &NfsAnswer::ReadDir(Ok(page)))
+    written(alloc, Procedure::Readdir, &NfsAnswer::Readdir(Ok(page)))
 }
 
 fn entry(fileid: u64) -> Entry<'static>
@@ -383,7 +383,7 @@ fn entry(fileid: u64) -> Entry<'static>
 // Two entries, of which the second has neither attributes nor handle, and the directory ends.
 fn page_plus(alloc: Global) -> Option<String> {
     let entries = [entry_plus(), bare_entry_plus()];
-    let page = Page {
+    let page = DirPage {
         attributes: Some(attributes()),
         verifier: VERIFIER,
         entries: Items::new(&entries),
@@ -391,8 +391,8 @@ fn page_plus(alloc: Global) -> Option<String> {
     };
     written(
         alloc,
-        Procedure::ReadDirPlus,
-        &NfsAnswer::ReadDirPlus(Ok(page)),
+        Procedure::Readdirplus,
+        &NfsAnswer::Readdirplus(Ok(page)),
     )
 }
 

@@ -8,7 +8,7 @@ use nfs_content::pages::Pages;
 use nfs_handles::number::{Hint, Number};
 use nfs_inodes::given_attributes::GivenAttributes;
 use nfs_inodes::limits::MAX_FILE_BYTES;
-use nfs_inodes::new_file::NewFile;
+use nfs_inodes::new_file::{NewContent, NewFile};
 use nfs_inodes::tree::Tree;
 use nfs_load::description::load;
 use rows::answers::{debug_text, digits, text};
@@ -93,7 +93,7 @@ impl<'a> Served<'a> {
     fn change(&mut self, verb: &str, words: &mut SplitWhitespace<'_>) -> Option<String> {
         let done = match verb {
             "make-file" => make_file(self.alloc, &mut self.tree, words),
-            "make-dir" => make_dir(self.alloc, &mut self.tree, words),
+            "make-dir" => mkdir(self.alloc, &mut self.tree, words),
             "make-dirs" => make_dirs(self.alloc, &mut self.tree, words),
             "make-link" => make_link(self.alloc, &mut self.tree, words),
             "link" => link(self.alloc, &mut self.tree, words),
@@ -275,13 +275,16 @@ fn make_file(alloc: Global, tree: &mut Tree, words: &mut SplitWhitespace<'_>) ->
     if !tree.may_make(dir, name.as_slice(), size) {
         return None;
     }
-    let content = Pages::zeros(alloc, size);
-    let made = tree.make_file(dir, name.as_slice(), content, &GIVEN, verifier, NOW);
+    let content = NewContent {
+        pages: Pages::zeros(alloc, size),
+        verifier,
+    };
+    let made = tree.make_file(dir, name.as_slice(), content, &GIVEN, NOW);
     made.ok().map(|number| number.0)
 }
 
 // `make-dir DIRECTORY NAME`.
-fn make_dir(alloc: Global, tree: &mut Tree, words: &mut SplitWhitespace<'_>) -> Option<u64> {
+fn mkdir(alloc: Global, tree: &mut Tree, words: &mut SplitWhitespace<'_>) -> Option<u64> {
     let dir = Number::new(number(words)?);
     let name = name(alloc, words)?;
     directory(tree, dir, name.as_slice())
@@ -289,10 +292,10 @@ fn make_dir(alloc: Global, tree: &mut Tree, words: &mut SplitWhitespace<'_>) -> 
 
 /// Makes a directory, where it may be made: its number.
 pub(crate) fn directory(tree: &mut Tree, dir: Number, name: &[u8]) -> Option<u64> {
-    if !tree.may_make_dir(dir, name) {
+    if !tree.may_mkdir(dir, name) {
         return None;
     }
-    let made = tree.make_dir(dir, name, &GIVEN, NOW);
+    let made = tree.mkdir(dir, name, &GIVEN, NOW);
     made.ok().map(|number| number.0)
 }
 

@@ -3,7 +3,7 @@
 use nfs_args::args::{NfsArgs, read_nfs};
 use nfs_args::procedure::Procedure;
 use nfs_exports::addr::Addr;
-use nfs_exports::table::Table;
+use nfs_exports::export_table::ExportTable;
 use nfs_handles::number::Number;
 use nfs_inodes::tree::Tree;
 use nfs_load::description::load;
@@ -64,7 +64,7 @@ fn user(id: u32) -> Cred {
 // there, or isn't the caller's to see.
 fn verdict(
     tree: &Tree,
-    table: &Table,
+    table: &ExportTable,
     caller: Caller<'_>,
     files: (Number, Number),
     args: &NfsArgs<'_>,
@@ -79,7 +79,7 @@ fn verdict(
 
 fn file_of<'a>(
     tree: &'a Tree,
-    table: &'a Table,
+    table: &'a ExportTable,
     caller: Caller<'a>,
     number: Number,
 ) -> Option<ExportedFile<'a>> {

@@ -7,6 +7,7 @@ use nfs_conditions::entries::may_unlink;
 use nfs_conditions::moves::may_rename;
 use nfs_content::pages::Pages;
 use nfs_handles::number::Number;
+use nfs_inodes::new_file::NewContent;
 use nfs_inodes::tree::Tree;
 use rows::words::number;
 use std::alloc::Global;
@@ -126,8 +127,11 @@ impl Walk {
         if !self.tree.may_make(dir, name, size) {
             return None;
         }
-        let content = Pages::zeros(self.alloc, size);
-        let made = self.tree.make_file(dir, name, content, &GIVEN, None, NOW);
+        let content = NewContent {
+            pages: Pages::zeros(self.alloc, size),
+            verifier: None,
+        };
+        let made = self.tree.make_file(dir, name, content, &GIVEN, NOW);
         made.ok().map(|_| ())
     }
 

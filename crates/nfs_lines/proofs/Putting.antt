@@ -34,7 +34,7 @@ pub passed_on : (old new : Option (List ℕ)) (n from : ℕ) (all sent : List �
 passed_on old new n from all sent e grows = subst (λ rest. Grows (with_pending old (drop from all)) [] (with_pending new rest)) (sym (drop-drop from n all))
     (passed old new n (drop from all) (subst (λ bytes. Grows old (take n bytes) new) e grows))
 
--- a line is put behind the others, and some are passed on
+-- a line is put after the others, and some are passed on
 pub put_then_passed : (taken : Option (List ℕ)) (pending line : List ℕ) (after : Option (List ℕ)) → Grows (with_pending taken (pending ++ line)) [] after → Grows (with_pending taken pending) line after
 put_then_passed None pending line after grows before is = cc
 put_then_passed (Some bytes) pending line after grows before is =

@@ -63,7 +63,7 @@ impl<D: LineOut> LineQueue<D> {
         self.ended
     }
 
-    /// Puts a line behind the others. Refused without memory, and then nothing changes.
+    /// Puts a line after the others. Refused without memory, and then nothing changes.
     pub fn put(&mut self, line: &[u8]) -> Result<(), AllocError>
         ensures pending { OnOk result (self.new.pending ≡ self.old.pending ++ line.now) }
         ensures device { self.new.device ≡ self.old.device }

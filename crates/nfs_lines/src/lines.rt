@@ -1,6 +1,6 @@
 //! The lines of a service.
 ghost use Rattle.std.specs.Prelude.{◌≡◌, List, ℕ, Option, None, [], true, false, length, ◌≤◌, ◌↔◌, IsTrue, OnOk, OnErr};
-ghost use Rattle.nfs_lines.specs.Queued.{put, put_plainly};
+ghost use Rattle.nfs_lines.specs.Queued.{is_full, put, put_plainly};
 ghost use Rattle.nfs_lines.specs.Wordings.{is_plain};
 ghost use Rattle.nfs_server.specs.AuditLines.{line_text};
 ghost use Rattle.nfs_xdr.specs.Known.{Grows, GrowsByPart};
@@ -30,9 +30,9 @@ pub struct Lines<'a, A, C> {
     connections: Option<LineQueue<C>>,
     // Whether the last line of a denied call was refused.
     was_refused: bool,
-    // How many lines of denied calls were put, written or not.
-    denied: u64,
-    uncounted: u64,
+    // How many lines of denied calls were counted in place of being written.
+    counted: u64,
+    // How many other lines were dropped.
     dropped: u64,
 }
 
@@ -69,29 +69,14 @@ impl<'a, A: LineOut, C: LineOut> Lines<'a, A, C> {
             audit: LineQueue::new(alloc, audit),
             connections,
             was_refused: false,
-            denied: 0,
-            uncounted: 0,
+            counted: 0,
             dropped: 0,
         }
     }
 
-    /// Whether no more lines of denied calls are to be put: as many wait as may.
-    pub fn is_full(&self) -> bool
-        ensures { IsTrue result ↔ (self.now.audit.failed ≡ false) × (4194304 ≤ length self.now.audit.pending) }
-    {
-        !self.audit.has_failed() && self.audit.pending() >= MOST_PENDING
-    }
-
-    /// How many calls were denied whose line is written.
-    pub fn denied(&self) -> u64
-        ensures { result ≡ self.now.denied }
-    {
-        self.denied
-    }
-
     /// How many lines of denied calls were counted in place of being written.
     pub fn counted(&self) -> u64 {
-        self.uncounted
+        self.counted
     }
 
     /// Whether a line is lost that was to be written: it waits in vain, it was dropped, or its device has
@@ -135,13 +120,13 @@ impl<'a, A: LineOut, C: LineOut> Lines<'a, A, C> {
 
     /// Writes a line about the service itself. Where its device is full or has failed, or there is
     /// no memory, it is dropped and counted.
-    pub fn tell(&mut self, moment: Moment, line: &[u8]) {
+    pub fn report(&mut self, moment: Moment, line: &[u8]) {
         let (alloc, wording) = (self.alloc, &self.wording);
-        let is_told = match &mut self.connections {
-            Some(queue) => tell_in(alloc, queue, wording, moment, line),
-            None => tell_in(alloc, &mut self.audit, wording, moment, line),
+        let is_reported = match &mut self.connections {
+            Some(queue) => report_in(alloc, queue, wording, moment, line),
+            None => report_in(alloc, &mut self.audit, wording, moment, line),
         };
-        if !is_told {
+        if !is_reported {
             self.dropped = self.dropped.saturating_add(1);
         }
     }
@@ -188,7 +173,6 @@ impl<'a, A: LineOut, C: LineOut> Lines<'a, A, C> {
         ensures plain { self.new.is_plain ≡ self.old.is_plain }
         ensures put { Grows (put A.taken self.old.audit) [] (put A.taken self.new.audit) }
     {
-        self.denied = self.denied.saturating_add(1);
         self.audit.pass_on();
         if self.audit.has_failed() {
             return Err(DeviceFault);
@@ -225,7 +209,7 @@ impl<'a, A: LineOut, C: LineOut> Lines<'a, A, C> {
         match self.wording.when_failed {
             WhenFailed::Refuse => Err(DeviceFault),
             WhenFailed::Count => {
-                self.uncounted = self.uncounted.saturating_add(1);
+                self.counted = self.counted.saturating_add(1);
                 Ok(())
             }
         }
@@ -264,6 +248,12 @@ impl<A: LineOut, C: LineOut> AuditOut for Lines<'_, A, C> {
 
     ghost failed = { λ l. l.was_refused };
 
+    ghost full = { λ l. is_full l.audit };
+
+    fn is_full(&self) -> bool {
+        !self.audit.has_failed() && self.audit.pending() >= MOST_PENDING
+    }
+
     fn take(
         &mut self,
         denied: &AuditLine,
@@ -277,7 +267,7 @@ impl<A: LineOut, C: LineOut> AuditOut for Lines<'_, A, C> {
 }
 
 // Whether a line was put in a queue, which has passed it on as far as its device takes it now.
-fn tell_in<D: LineOut>(
+fn report_in<D: LineOut>(
     alloc: Global,
     queue: &mut LineQueue<D>,
     wording: &Wording<'_>,
@@ -294,7 +284,7 @@ fn tell_in<D: LineOut>(
     !queue.has_failed()
 }
 
-// Puts a line in a queue, behind the moment where that is asked for.
+// Puts a line in a queue, after the moment where that is asked for.
 fn put_line<D: LineOut>(
     alloc: Global,
     queue: &mut LineQueue<D>,

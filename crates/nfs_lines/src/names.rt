@@ -1,21 +1,16 @@
 //! The names of calls: of their procedures, and of the files that they are about.
 
 use nfs_args::procedure::{MountProcedure, Procedure};
+use nfs_args::program::{MOUNT_PROGRAM, NFS_PROGRAM, PROGRAM_VERSION};
 use nfs_handles::number::Number;
 use nfs_handles::reading::Reading;
 use nfs_inodes::tree::Tree;
 use nfs_rpc::call::read_call;
 use nfs_text::number::decimal;
 use nfs_text::words::Words;
-use nfs_words::names::{mount_name, nfs_name};
 use nfs_words::text::Text;
 use nfs_xdr::input::Input;
 use std::alloc::{AllocError, Global};
-
-// The programs (RFC 1813, sections 3 and 5).
-const NFS: u32 = 100_003;
-
-const MOUNT: u32 = 100_005;
 
 // The largest handle, and the longest path of MOUNT (RFC 1813, sections 2.4 and 5.1.4).
 const MAX_HANDLE_BYTES: u32 = 64;
@@ -25,9 +20,6 @@ const MAX_PATH_BYTES: u32 = 1_024;
 // The most bytes of a name that is looked at.
 const MAX_NAME_BYTES: u32 = 1_024;
 
-// The version of both whose procedures have these names.
-const VERSION: u32 = 3;
-
 // The name of a directory's parent in it.
 const PARENT: &[u8] = b"..";
 
@@ -36,7 +28,7 @@ const MOST_NAMES: u32 = 1_024;
 
 /// What stands after the audit line of a call: ` call=NAME`, and ` path=PATH` where its first handle
 /// names a file that a path of the tree leads to, or a path is what it asks for. With an entry, the name
-/// that the call gives of one in that directory follows the path, behind a slash. Nothing of a record
+/// that the call gives of one in that directory follows the path, after a slash. Nothing of a record
 /// that is no call of a procedure that there is. Refused without memory.
 pub fn names_of(
     alloc: Global,
@@ -46,28 +38,28 @@ pub fn names_of(
 ) -> Result<Vec<u8>, AllocError> {
     let mut names = Text::new(alloc);
     if let Ok(head) = read_call(record)
-        && head.vers == VERSION
+        && head.vers == PROGRAM_VERSION
         && let Some(name) = procedure_name(head.prog, head.proc)
     {
         names.put(b" call=");
         names.put(name);
-        let has_entry = with_entry && head.prog == NFS && names_entry(head.proc);
+        let has_entry = with_entry && head.prog == NFS_PROGRAM && names_entry(head.proc);
         put_path(alloc, tree, head.prog, head.args, has_entry, &mut names)?;
     }
     names.into_bytes()
 }
 
-/// The name of the procedure of which an audit line tells, by its words `prog=` and `proc=`, unless the
+/// The name of the procedure of which an audit line speaks, by its words `prog=` and `proc=`, unless the
 /// call was of another version of its program.
 pub fn name_in(line: &[u8]) -> Option<&'static [u8]> {
     if Words::new(line).any(|word| word == b"rule=program-version".as_slice()) {
         return None;
     }
-    let program = number_behind(line, b"prog=")?;
-    procedure_name(program, number_behind(line, b"proc=")?)
+    let program = number_after(line, b"prog=")?;
+    procedure_name(program, number_after(line, b"proc=")?)
 }
 
-fn number_behind(line: &[u8], key: &[u8]) -> Option<u32> {
+fn number_after(line: &[u8], key: &[u8]) -> Option<u32> {
     for word in Words::new(line) {
         if let Some(digits) = word.strip_prefix(key) {
             return u32::try_from(decimal(digits, u64::from(u32::MAX))?).ok();
@@ -78,8 +70,8 @@ fn number_behind(line: &[u8], key: &[u8]) -> Option<u32> {
 
 fn procedure_name(program: u32, procedure: u32) -> Option<&'static [u8]> {
     match program {
-        NFS => Some(nfs_name(Procedure::of(procedure)?)),
-        MOUNT => Some(mount_name(MountProcedure::of(procedure)?)),
+        NFS_PROGRAM => Some(Procedure::of(procedure)?.name()),
+        MOUNT_PROGRAM => Some(MountProcedure::of(procedure)?.name()),
         _ => None,
     }
 }
@@ -92,11 +84,11 @@ fn names_entry(procedure: u32) -> bool {
         Some(
             Procedure::Lookup
                 | Procedure::Create
-                | Procedure::MakeDir
-                | Procedure::SymLink
-                | Procedure::MakeNode
+                | Procedure::Mkdir
+                | Procedure::Symlink
+                | Procedure::Mknod
                 | Procedure::Remove
-                | Procedure::RemoveDir
+                | Procedure::Rmdir
                 | Procedure::Rename
         )
     )
@@ -113,7 +105,7 @@ fn put_path(
     out: &mut Text,
 ) -> Result<(), AllocError> {
     let mut args = args;
-    if program == MOUNT {
+    if program == MOUNT_PROGRAM {
         if let Ok(path) = args.opaque(MAX_PATH_BYTES) {
             out.put(b" path=");
             out.put_name(path);
@@ -211,7 +203,7 @@ fn directories(alloc: Global, tree: &Tree) -> Result<Vec<Number>, AllocError> {
     Ok(dirs)
 }
 
-// Puts the directories that have an entry in this one behind the others.
+// Puts the directories that have an entry in this one after the others.
 fn put_directories(tree: &Tree, dir: Number, dirs: &mut Vec<Number>) -> Result<(), AllocError> {
     let Some(dir) = tree.view(dir) else {
         return Ok(());

@@ -1,7 +1,7 @@
 //! Rules by their names.
 
 use nfs_rules::rule::Rule;
-use nfs_server::audit_line::Reason;
+use nfs_server::audit_line::DenialReason;
 use nfs_server::rpc_rules::RpcRule;
 
 // Every rule of a procedure.
@@ -46,7 +46,7 @@ const RULES: [Rule; 42] = [
     Rule::Files,
     Rule::Links,
     Rule::Numbers,
-    Rule::NoMakeNode,
+    Rule::NoMknod,
     Rule::TooSmall,
 ];
 
@@ -66,11 +66,11 @@ const RPC_RULES: [RpcRule; 8] = [
 const MEMORY: &str = "memory";
 
 /// The name by which the line of a denied call gives its reason.
-pub fn name_of(reason: Reason) -> &'static str {
+pub fn name_of(reason: DenialReason) -> &'static str {
     match reason {
-        Reason::Rpc(rule) => rule.name(),
-        Reason::Rule(rule, _) => rule.name(),
-        Reason::Memory => MEMORY,
+        DenialReason::Rpc(rule) => rule.name(),
+        DenialReason::Rule(rule, _) => rule.name(),
+        DenialReason::Memory => MEMORY,
     }
 }
 

@@ -3,7 +3,7 @@ ghost use Rattle.std.specs.Prelude.{◌≡◌};
 ghost use Rattle.nfs_lines.specs.Wordings.{is_plain};
 
 use crate::rule_names::{is_named_in, name_of};
-use nfs_server::audit_line::Reason;
+use nfs_server::audit_line::DenialReason;
 
 /// What becomes of a denied call once the device for its line has failed.
 #[derive(Clone, Copy, Debug, PartialEq, Eq)]
@@ -39,7 +39,7 @@ impl Wording<'_> {
     }
 
     /// Whether the denials of this rule have no line.
-    pub fn skips(&self, reason: Reason) -> bool {
+    pub fn skips(&self, reason: DenialReason) -> bool {
         match self.skipped {
             Some(rules) => is_named_in(name_of(reason), rules),
             None => false,

@@ -12,10 +12,10 @@ use Rattle.nfs_load.specs.declared.line.Keyword.{Keyword}
 use Rattle.nfs_load.specs.declared.line.Keyword.TheVariants as keyword
 use Rattle.nfs_load.specs.declared.loaded.Loaded.{Loaded}
 use Rattle.nfs_text.specs.Lines.{lines}
-use Rattle.nfs_text.specs.Pieces.{pieces}
+use Rattle.nfs_text.specs.Chunks.{chunks}
 use Rattle.nfs_text.specs.Words.{is_word, words}
 use Rattle.nfs_lives.specs.Paths.{PathRow, old_text, onto, paths_text, row_by, row_if, row_in, row_of, rows_of, word_of}
-use Rattle.nfs_lives.specs.Tellings.{TextsReadBack, TextsTell}
+use Rattle.nfs_lives.specs.Tellings.{TextsReadBack, TextsReport}
 
 -- ---- bytes that stand in words
 
@@ -60,13 +60,13 @@ onto_shown : (x : ℕ) (ps : List (List ℕ)) → is_shown x ≡ true → AllSho
 onto_shown x [] s all = (and_true (is_shown x) true s refl, tt)
 onto_shown x (p ∷ ps) s all = (and_true (is_shown x) (list_all is_shown p) s all.0, all.1)
 
-pieces_shown : (xs : List ℕ) → is_text xs ≡ true → AllShown (pieces 32 xs)
-pieces_shown [] e = (refl, tt)
-pieces_shown (x ∷ xs) e = let p = both (is_printable x) (is_text xs) e in of (x == 32) refl p.0 (pieces_shown xs p.1)
+chunks_shown : (xs : List ℕ) → is_text xs ≡ true → AllShown (chunks 32 xs)
+chunks_shown [] e = (refl, tt)
+chunks_shown (x ∷ xs) e = let p = both (is_printable x) (is_text xs) e in of (x == 32) refl p.0 (chunks_shown xs p.1)
   where
-    of : (b : Bool) → (x == 32) ≡ b → is_printable x ≡ true → AllShown (pieces 32 xs) → AllShown (cond b ([] ∷ pieces 32 xs) (onto_first x (pieces 32 xs)))
+    of : (b : Bool) → (x == 32) ≡ b → is_printable x ≡ true → AllShown (chunks 32 xs) → AllShown (cond b ([] ∷ chunks 32 xs) (onto_first x (chunks 32 xs)))
     of true is p all = (refl, all)
-    of false is p all = onto_shown x (pieces 32 xs) (shown x p is) all
+    of false is p all = onto_shown x (chunks 32 xs) (shown x p is) all
 
 said_of : (ps : List (List ℕ)) → AllShown ps → AllSaid (filter is_word ps)
 said_of [] all = tt
@@ -77,20 +77,20 @@ said_of (p ∷ ps) all = of (is_word p) refl (said_of ps all.1)
     of false is said = said
 
 words_said : (line : List ℕ) → is_text line ≡ true → AllSaid (words line)
-words_said line e = said_of (pieces 32 line) (pieces_shown line e)
+words_said line e = said_of (chunks 32 line) (chunks_shown line e)
 
 -- ---- words that are joined by spaces
 
-split_word : (w rest : List ℕ) → list_all is_shown w ≡ true → pieces 32 (w ++ 32 ∷ rest) ≡ w ∷ pieces 32 rest
+split_word : (w rest : List ℕ) → list_all is_shown w ≡ true → chunks 32 (w ++ 32 ∷ rest) ≡ w ∷ chunks 32 rest
 split_word [] rest e = refl
 split_word (x ∷ w) rest e = let p = both (is_shown x) (list_all is_shown w) e in
-    ap (λ b. cond b ([] ∷ pieces 32 (w ++ 32 ∷ rest)) (onto_first x (pieces 32 (w ++ 32 ∷ rest)))) (no_space x p.0)
+    ap (λ b. cond b ([] ∷ chunks 32 (w ++ 32 ∷ rest)) (onto_first x (chunks 32 (w ++ 32 ∷ rest)))) (no_space x p.0)
     ∙ ap (onto_first x) (split_word w rest p.1)
 
-last_word : (w : List ℕ) → list_all is_shown w ≡ true → pieces 32 w ≡ w ∷ []
+last_word : (w : List ℕ) → list_all is_shown w ≡ true → chunks 32 w ≡ w ∷ []
 last_word [] e = refl
 last_word (x ∷ w) e = let p = both (is_shown x) (list_all is_shown w) e in
-    ap (λ b. cond b ([] ∷ pieces 32 w) (onto_first x (pieces 32 w))) (no_space x p.0) ∙ ap (onto_first x) (last_word w p.1)
+    ap (λ b. cond b ([] ∷ chunks 32 w) (onto_first x (chunks 32 w))) (no_space x p.0) ∙ ap (onto_first x) (last_word w p.1)
 
 keep : (b : Bool) (w : List ℕ) (vs : List (List ℕ)) → b ≡ true → cond b (w ∷ vs) vs ≡ w ∷ vs
 keep true w vs e = refl
@@ -109,11 +109,11 @@ text_of (x ∷ w) rest e last = let p = both (is_shown x) (list_all is_shown w) 
 
 -- ---- lines
 
-line_ends : (front behind : List ℕ) → is_text front ≡ true → lines ((front ++ 10 ∷ []) ++ behind) ≡ front ∷ lines behind
-line_ends [] behind e = refl
-line_ends (x ∷ front) behind e = let p = both (is_printable x) (is_text front) e in
-    ap (λ b. cond b ([] ∷ lines ((front ++ 10 ∷ []) ++ behind)) (onto_first x (lines ((front ++ 10 ∷ []) ++ behind)))) (no_end x p.0)
-    ∙ ap (onto_first x) (line_ends front behind p.1)
+line_ends : (front after : List ℕ) → is_text front ≡ true → lines ((front ++ 10 ∷ []) ++ after) ≡ front ∷ lines after
+line_ends [] after e = refl
+line_ends (x ∷ front) after e = let p = both (is_printable x) (is_text front) e in
+    ap (λ b. cond b ([] ∷ lines ((front ++ 10 ∷ []) ++ after)) (onto_first x (lines ((front ++ 10 ∷ []) ++ after)))) (no_end x p.0)
+    ∙ ap (onto_first x) (line_ends front after p.1)
 
 -- ---- rows
 
@@ -121,13 +121,13 @@ abbrev front : PathRow → List ℕ
 front row = word_of row.keyword ++ codes " " ++ row.path ++ old_text row.old
 
 -- a row whose text is a line with that row
-record IsTold (row : PathRow) : Type 0 where
+record IsReported (row : PathRow) : Type 0 where
   printed : is_text (front row) ≡ true
-  told : row_of (front row) ≡ Some row
+  reported : row_of (front row) ≡ Some row
 
-abbrev AllTold : List PathRow → Type 0
-AllTold [] = Unit {0}
-AllTold (row ∷ rows) = IsTold row × AllTold rows
+abbrev AllReported : List PathRow → Type 0
+AllReported [] = Unit {0}
+AllReported (row ∷ rows) = IsReported row × AllReported rows
 
 abbrev row_with : Keyword → List ℕ → PathRow
 row_with k path = record { keyword = k; path = path; old = None }
@@ -141,63 +141,63 @@ module _ (path : List ℕ) (said : IsSaid path) where
   path_printed : (word : List ℕ) → IsSaid word → is_text (word ++ 32 ∷ (path ++ [])) ≡ true
   path_printed word it = text_of word (32 ∷ (path ++ [])) it.1 (text_of path [] said.1 refl)
 
-  volume_told : IsTold (row_with keyword.Volume path)
-  volume_told = record { printed = path_printed (codes "volume") (refl, refl); told = ap row_in (path_words (codes "volume") (refl, refl)) }
+  volume_reported : IsReported (row_with keyword.Volume path)
+  volume_reported = record { printed = path_printed (codes "volume") (refl, refl); reported = ap row_in (path_words (codes "volume") (refl, refl)) }
 
-  dir_told : IsTold (row_with keyword.Dir path)
-  dir_told = record { printed = path_printed (codes "dir") (refl, refl); told = ap row_in (path_words (codes "dir") (refl, refl)) }
+  dir_reported : IsReported (row_with keyword.Dir path)
+  dir_reported = record { printed = path_printed (codes "dir") (refl, refl); reported = ap row_in (path_words (codes "dir") (refl, refl)) }
 
-  file_told : IsTold (row_with keyword.File path)
-  file_told = record { printed = path_printed (codes "file") (refl, refl); told = ap row_in (path_words (codes "file") (refl, refl)) }
+  file_reported : IsReported (row_with keyword.File path)
+  file_reported = record { printed = path_printed (codes "file") (refl, refl); reported = ap row_in (path_words (codes "file") (refl, refl)) }
 
-  link_told : IsTold (row_with keyword.Link path)
-  link_told = record { printed = path_printed (codes "link") (refl, refl); told = ap row_in (path_words (codes "link") (refl, refl)) }
+  link_reported : IsReported (row_with keyword.Link path)
+  link_reported = record { printed = path_printed (codes "link") (refl, refl); reported = ap row_in (path_words (codes "link") (refl, refl)) }
 
-  hard_told : (old : List ℕ) → IsSaid old → IsTold (record { keyword = keyword.Hard; path = path; old = Some old })
-  hard_told old it = record {
+  hard_reported : (old : List ℕ) → IsSaid old → IsReported (record { keyword = keyword.Hard; path = path; old = Some old })
+  hard_reported old it = record {
     printed = text_of (codes "hard") (32 ∷ (path ++ 32 ∷ old)) refl (text_of path (32 ∷ old) said.1 old_printed);
-    told = ap row_in (more_words (codes "hard") (path ++ 32 ∷ old) (refl, refl) ∙ ap (λ ws. codes "hard" ∷ ws) (more_words path old said ∙ ap (λ ws. path ∷ ws) (one_word old it)));
+    reported = ap row_in (more_words (codes "hard") (path ++ 32 ∷ old) (refl, refl) ∙ ap (λ ws. codes "hard" ∷ ws) (more_words path old said ∙ ap (λ ws. path ∷ ws) (one_word old it)));
   }
     where
       old_printed : is_text (32 ∷ old) ≡ true
       old_printed = subst (λ text. is_text (32 ∷ text) ≡ true) (append-nil old) (text_of old [] it.1 refl)
 
-told_as : (row other : PathRow) → Some other ≡ Some row → IsTold other → IsTold row
-told_as row other e it = subst IsTold same it
+reported_as : (row other : PathRow) → Some other ≡ Some row → IsReported other → IsReported row
+reported_as row other e it = subst IsReported same it
   where
     same : other ≡ row
     same = cc
 
-keyword_told : (k : Keyword) (fields : List (List ℕ)) (row : PathRow) → AllSaid fields → row_by k fields ≡ Some row → IsTold row
-keyword_told keyword.Server fields row said e = cc
-keyword_told keyword.Volume [] row said e = cc
-keyword_told keyword.Volume (path ∷ rest) row said e = told_as row (row_with keyword.Volume path) e (volume_told path said.0)
-keyword_told keyword.Export fields row said e = cc
-keyword_told keyword.Dir [] row said e = cc
-keyword_told keyword.Dir (path ∷ rest) row said e = told_as row (row_with keyword.Dir path) e (dir_told path said.0)
-keyword_told keyword.File [] row said e = cc
-keyword_told keyword.File (path ∷ rest) row said e = told_as row (row_with keyword.File path) e (file_told path said.0)
-keyword_told keyword.Link [] row said e = cc
-keyword_told keyword.Link (path ∷ rest) row said e = told_as row (row_with keyword.Link path) e (link_told path said.0)
-keyword_told keyword.Hard [] row said e = cc
-keyword_told keyword.Hard (path ∷ []) row said e = cc
-keyword_told keyword.Hard (path ∷ old ∷ rest) row said e =
-    told_as row (record { keyword = keyword.Hard; path = path; old = Some old }) e (hard_told path said.0 old said.1.0)
+keyword_reported : (k : Keyword) (fields : List (List ℕ)) (row : PathRow) → AllSaid fields → row_by k fields ≡ Some row → IsReported row
+keyword_reported keyword.Server fields row said e = cc
+keyword_reported keyword.Volume [] row said e = cc
+keyword_reported keyword.Volume (path ∷ rest) row said e = reported_as row (row_with keyword.Volume path) e (volume_reported path said.0)
+keyword_reported keyword.Export fields row said e = cc
+keyword_reported keyword.Dir [] row said e = cc
+keyword_reported keyword.Dir (path ∷ rest) row said e = reported_as row (row_with keyword.Dir path) e (dir_reported path said.0)
+keyword_reported keyword.File [] row said e = cc
+keyword_reported keyword.File (path ∷ rest) row said e = reported_as row (row_with keyword.File path) e (file_reported path said.0)
+keyword_reported keyword.Link [] row said e = cc
+keyword_reported keyword.Link (path ∷ rest) row said e = reported_as row (row_with keyword.Link path) e (link_reported path said.0)
+keyword_reported keyword.Hard [] row said e = cc
+keyword_reported keyword.Hard (path ∷ []) row said e = cc
+keyword_reported keyword.Hard (path ∷ old ∷ rest) row said e =
+    reported_as row (record { keyword = keyword.Hard; path = path; old = Some old }) e (hard_reported path said.0 old said.1.0)
 
-words_told : (ws : List (List ℕ)) (row : PathRow) → AllSaid ws → row_in ws ≡ Some row → IsTold row
-words_told [] row said e = cc
-words_told (word ∷ fields) row said e = of (keyword_named word) e
+words_reported : (ws : List (List ℕ)) (row : PathRow) → AllSaid ws → row_in ws ≡ Some row → IsReported row
+words_reported [] row said e = cc
+words_reported (word ∷ fields) row said e = of (keyword_named word) e
   where
-    of : (k : Option Keyword) → row_if k fields ≡ Some row → IsTold row
+    of : (k : Option Keyword) → row_if k fields ≡ Some row → IsReported row
     of None e = cc
-    of (Some k) e = keyword_told k fields row said.1 e
+    of (Some k) e = keyword_reported k fields row said.1 e
 
-line_told : (line : List ℕ) (row : PathRow) → is_text line ≡ true → row_of line ≡ Some row → IsTold row
-line_told line row text e = of (is_comment line) e
+line_reported : (line : List ℕ) (row : PathRow) → is_text line ≡ true → row_of line ≡ Some row → IsReported row
+line_reported line row text e = of (is_comment line) e
   where
-    of : (b : Bool) → (if b then None else row_in (words line)) ≡ Some row → IsTold row
+    of : (b : Bool) → (if b then None else row_in (words line)) ≡ Some row → IsReported row
     of true e = cc
-    of false e = words_told (words line) row (words_said line text) e
+    of false e = words_reported (words line) row (words_said line text) e
 
 -- a line in order that names something has bytes of text alone
 line_printed : (old : Option Loaded) (line : List ℕ) (new : Option Loaded) (row : PathRow) → LineDone old line (Ok tt) new → row_of line ≡ Some row → is_text line ≡ true
@@ -215,25 +215,25 @@ line_printed old line new row done e = of (is_comment line) done e
     of true done e = cc
     of false done e = with_words (words line) done e
 
-all_told : (ls : List (List ℕ)) (old new : Option Loaded) → Through old ls new → AllTold (rows_of ls)
-all_told [] old new through = tt
-all_told (line ∷ rest) old new through = of (row_of line) refl (all_told rest through.0 new through.2)
+all_reported : (ls : List (List ℕ)) (old new : Option Loaded) → Through old ls new → AllReported (rows_of ls)
+all_reported [] old new through = tt
+all_reported (line ∷ rest) old new through = of (row_of line) refl (all_reported rest through.0 new through.2)
   where
-    of : (o : Option PathRow) → row_of line ≡ o → AllTold (rows_of rest) → AllTold (onto o (rows_of rest))
+    of : (o : Option PathRow) → row_of line ≡ o → AllReported (rows_of rest) → AllReported (onto o (rows_of rest))
     of None e all = all
-    of (Some row) e all = (line_told line row (line_printed old line through.0 row through.1 e) e, all)
+    of (Some row) e all = (line_reported line row (line_printed old line through.0 row through.1 e) e, all)
 
-read_back : (rows : List PathRow) → AllTold rows → rows_of (lines (paths_text rows)) ≡ rows
+read_back : (rows : List PathRow) → AllReported rows → rows_of (lines (paths_text rows)) ≡ rows
 read_back [] all = refl
 read_back (row ∷ rows) all =
     ap rows_of (line_ends (front row) (paths_text rows) all.0.printed)
-    ∙ ap (λ o. onto o (rows_of (lines (paths_text rows)))) all.0.told
+    ∙ ap (λ o. onto o (rows_of (lines (paths_text rows)))) all.0.reported
     ∙ ap (λ rs. row ∷ rs) (read_back rows all.1)
 
 pub texts_read_back : TextsReadBack
-texts_read_back ls loaded through = read_back (rows_of ls) (all_told ls None (Some loaded) through)
+texts_read_back ls loaded through = read_back (rows_of ls) (all_reported ls None (Some loaded) through)
 
--- ---- the text and the key behind it
+-- ---- the text and the key after it
 
 parts : (xs ys a b : List ℕ) → length a ≡ length b → xs ++ a ≡ ys ++ b → (xs ≡ ys) × (a ≡ b)
 parts xs ys a b same e =
@@ -242,7 +242,7 @@ parts xs ys a b same e =
       sym (drop-append_seam xs a) ∙ ap (λ t. drop (length xs) t) e ∙ ap (λ n. drop n (ys ++ b)) long ∙ drop-append_seam ys b,
     )
 
-pub texts_tell : TextsTell
-texts_tell ls others loaded other through through' same e =
+pub texts_report : TextsReport
+texts_report ls others loaded other through through' same e =
     let p = parts (paths_text (rows_of ls)) (paths_text (rows_of others)) loaded.tree.key other.tree.key same e in
     (sym (texts_read_back ls loaded through) ∙ ap (λ text. rows_of (lines text)) p.0 ∙ texts_read_back others other through', p.1)

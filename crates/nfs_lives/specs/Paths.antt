@@ -23,7 +23,7 @@ two_paths keyword [] = None
 two_paths keyword (path ∷ []) = None
 two_paths keyword (path ∷ old ∷ rest) = Some (record { keyword = keyword; path = path; old = Some old })
 
--- by the keyword, and the words behind it
+-- by the keyword, and the words after it
 abbrev pub row_by : Keyword → List (List ℕ) → Option PathRow
 row_by Server fields = None
 row_by Volume fields = one_path Volume fields
@@ -80,7 +80,7 @@ abbrev pub old_text : Option (List ℕ) → List ℕ
 old_text None = []
 old_text (Some old) = codes " " ++ old
 
--- the keyword and the paths, parted by a space each, and LF
+-- the keyword and the paths, separated by a space each, and LF
 abbrev pub path_text : PathRow → List ℕ
 path_text row = word_of row.keyword ++ codes " " ++ row.path ++ old_text row.old ++ codes "\n"
 

@@ -14,6 +14,6 @@ row_seen row = record { keyword = row.keyword; path = row.path.now; old = option
 abbrev pub HasTaken : PathDigest → List (List ℕ) → Type 0
 HasTaken it lines = Holds256 it.digest (paths_text (rows_of lines))
 
--- a text is behind what was fed before
+-- a text is after what was fed before
 abbrev pub Feeds : Sha256 → List ℕ → Sha256 → Type 0
 Feeds old text new = (before : List ℕ) → Holds256 old before → Holds256 new (before ++ text)

@@ -1,9 +1,9 @@
 //! Laws over the definitions alone.
-ghost use Rattle.nfs_lives.specs.Tellings.{TextsReadBack, TextsTell};
+ghost use Rattle.nfs_lives.specs.Tellings.{TextsReadBack, TextsReport};
 
-/// The text of which the digest is taken tells the paths and the server's key: it is one for two
+/// The text of which the digest is taken determines the paths and the server's key: it is one for two
 /// descriptions only where both are the same.
-pub fn texts_tell()
+pub fn texts_report()
     ensures read_back { TextsReadBack }
-    ensures tell { TextsTell }
+    ensures report { TextsReport }
 {}

@@ -21,7 +21,7 @@ pub fn open(tree: &mut Tree, key: [u8; 8], next: u64)
 }
 
 /// A server whose life opens with the tree of a description, so opened, and that has seen no event.
-/// It has so many places for replies to repeated calls. Refused where there is no memory; the
+/// It has so many places for cached replies. Refused where there is no memory; the
 /// description is then dropped.
 pub fn open_server(
     alloc: Global,

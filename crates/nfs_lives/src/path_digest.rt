@@ -36,7 +36,7 @@ impl PathDigest {
 
     /// The key for the handles of a life of the server with this key, where its description has the
     /// lines that were taken. Both keys have 8 bytes; this one is the first bytes of the digest of
-    /// what the lines name, with the server's key behind it.
+    /// what the lines name, with the server's key after it.
     pub fn finish(self, key: [u8; 8]) -> [u8; 8]
         ensures { (lines : List (List ℕ)) → HasTaken self lines → result ≡ life_key key (rows_of lines) }
     {

@@ -36,7 +36,7 @@ pub fn read_row(line: &[u8]) -> Option<PathRow<'_>>
     row_in(keyword, fields)
 }
 
-// What a line with this keyword and these words behind it names.
+// What a line with this keyword and these words after it names.
 fn row_in<'a>(keyword: Keyword, fields: Words<'a>) -> Option<PathRow<'a>>
     ensures { option_map row_seen result ≡ row_by keyword (words_left fields.entry) }
 {

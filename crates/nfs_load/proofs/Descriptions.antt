@@ -6,10 +6,10 @@ use Rattle.nfs_text.specs.Lines.{lines}
 use Rattle.nfs_load.specs.declared.loaded.Loaded.{Loaded}
 use Rattle.std.proofs.lemmas.Bool.{false≢true}
 use Rattle.nfs_exports.specs.Tables.{added}
-use Rattle.nfs_exports.specs.declared.table.Export.{Export}
+use Rattle.nfs_exports.specs.declared.export_table.Export.{Export}
 use Rattle.nfs_load.specs.declared.cause.Cause.{Cause}
 use Rattle.nfs_load.specs.declared.load_error.LoadError.{LoadError}
-use Rattle.nfs_load.specs.Errors.{told_at}
+use Rattle.nfs_load.specs.Errors.{reported_at}
 use Rattle.nfs_load.specs.declared.refusal.Refusal.{Refusal}
 use Rattle.nfs_load.specs.declared.refusal.Refusal.TheVariants.{Fault, Memory}
 use Rattle.nfs_load.specs.Descriptions.{Describes, IsFault, InRoot, LineDone, StopsAt, Then, Through, VolumeTaken}
@@ -77,7 +77,7 @@ pub through_more : (old : Option Loaded) (before : List (List ℕ)) (line : List
 through_more old [] line between new same done = (new, subst (λ it. LineDone it line (Ok tt) new) (sym same) done, refl)
 through_more old (first ∷ before) line between new (next, first_done, rest) done = (next, first_done, through_more next before line between new rest done)
 
--- one line more is behind
+-- one line more is after
 pub cut_more : (all before left : List (List ℕ)) (line : List ℕ) (rest : List (List ℕ))
     → all ≡ before ++ left → left ≡ line ∷ rest → all ≡ (before ++ line ∷ []) ++ rest
 cut_more all before left line rest e more = e ∙ ap (λ it. before ++ it) more ∙ sym (append_assoc before (line ∷ []) rest)
@@ -96,6 +96,6 @@ lines_few (byte ∷ rest) = more (byte == 10) (lines_few rest)
     more false few = longer (lines rest) few
 
 -- a line that is not done
-pub told : (text : List ℕ) (number : ℕ) (refusal : Refusal) (error : LoadError) → error ≡ told_at number refusal → StopsAt (lines text) number refusal → Describes text (Err error)
-told text number (Fault cause) error e stops = subst (λ it. Describes text (Err it)) (sym e) (inl stops)
-told text number Memory error e stops = subst (λ it. Describes text (Err it)) (sym e) (number, stops)
+pub reported : (text : List ℕ) (number : ℕ) (refusal : Refusal) (error : LoadError) → error ≡ reported_at number refusal → StopsAt (lines text) number refusal → Describes text (Err error)
+reported text number (Fault cause) error e stops = subst (λ it. Describes text (Err it)) (sym e) (inl stops)
+reported text number Memory error e stops = subst (λ it. Describes text (Err it)) (sym e) (number, stops)

@@ -12,12 +12,12 @@ use Rattle.nfs_load.specs.Listings.{file_text, text_at, view_text}
 abbrev pub AreShort : List Entry → Type 0
 AreShort es = All (λ (e : Entry). length e.name ≤ 255) es
 
--- what is true of all is true of those behind the first
-pub all_behind : (e : Entry) (rest es : List Entry) → es ≡ e ∷ rest → AreShort es → AreShort rest
-all_behind e rest es is all = behind (subst AreShort is all)
+-- what is true of all is true of those after the first
+pub all_after : (e : Entry) (rest es : List Entry) → es ≡ e ∷ rest → AreShort es → AreShort rest
+all_after e rest es is all = after (subst AreShort is all)
   where
-    behind : AreShort (e ∷ rest) → AreShort rest
-    behind all k d less = all (suc k) d (omega (arith, less))
+    after : AreShort (e ∷ rest) → AreShort rest
+    after all k d less = all (suc k) d (omega (arith, less))
 
 same : {X : Type 0} (a b : X) → Some a ≡ Some b → a ≡ b
 same a b e = cc

@@ -7,15 +7,15 @@ use Rattle.nfs_load.specs.declared.cause.Cause.TheVariants.{NoVolume}
 use Rattle.nfs_load.specs.declared.load_error.LoadError.{LoadError}
 use Rattle.nfs_load.specs.declared.loaded.Loaded.{Loaded}
 use Rattle.nfs_load.specs.Descriptions.{Describes, Through, finished}
-use Rattle.nfs_load.specs.Loadings.{Becomes, SoFar, at_end, number_behind}
-use Rattle.nfs_load.proofs.Descriptions.{lines_few, told}
+use Rattle.nfs_load.specs.Loadings.{Becomes, SoFar, at_end, number_after}
+use Rattle.nfs_load.proofs.Descriptions.{lines_few, reported}
 
-small : (count : ℕ) → count < 2 ^ 64 - 1 → number_behind count ≡ count + 1
+small : (count : ℕ) → count < 2 ^ 64 - 1 → number_after count ≡ count + 1
 small count few = omega (arith, few)
 
--- no line is so far behind that its number couldn't be told
+-- no line is so far after that its number couldn't be reported
 pub number_is : (text : List ℕ) (before left : List (List ℕ)) (count : ℕ)
-    → lines text ≡ before ++ left → count ≡ length before → length text < 2 ^ 64 - 1 → number_behind count ≡ length before + 1
+    → lines text ≡ before ++ left → count ≡ length before → length text < 2 ^ 64 - 1 → number_after count ≡ length before + 1
 number_is text before left count all counted few =
     let sum : length (lines text) ≡ length (before ++ left) = ap length all in
     small count (omega (arith, sum, length-append before left, lines_few text, counted, few)) ∙ ap (λ n. n + 1) counted
@@ -24,11 +24,11 @@ number_is text before left count all counted few =
 pub stops : (text : List ℕ) (old : SoFar) (before left rest : List (List ℕ)) (line : List ℕ) (error : LoadError) (new : Option Loaded)
     → Through None before old.described → lines text ≡ before ++ left → left ≡ line ∷ rest → old.count ≡ length before → length text < 2 ^ 64 - 1
     → Becomes old line (Err error) new → Describes text (Err error)
-stops text old before left rest line error new through all more counted few (refusal, told_so, refused, gone) =
-    told text (number_behind old.count) refusal error told_so (record {
+stops text old before left rest line error new through all more counted few (refusal, reported_so, refused, gone) =
+    reported text (number_after old.count) refusal error reported_so (record {
       before = before;
       line = line;
-      behind = rest;
+      after = rest;
       all_are = all ∙ ap (λ it. before ++ it) more;
       number_is = number_is text before left old.count all counted few;
       old = old.described;
@@ -39,7 +39,7 @@ stops text old before left rest line error new through all more counted few (ref
 
 -- all lines are in order
 pub ends : (text : List ℕ) (count : ℕ) (described : Option Loaded)
-    → Through None (lines text) described → number_behind count ≡ length (lines text) + 1 → Describes text (at_end count (finished described))
+    → Through None (lines text) described → number_after count ≡ length (lines text) + 1 → Describes text (at_end count (finished described))
 ends text count None through number = inr (record { number_is = number; old = None; in_order = through; missing = refl })
 ends text count (Some loaded) through number = more (nat_eq (length loaded.tree.volumes) 0) refl
   where

@@ -12,7 +12,7 @@ pub on_err : {A E P : Type 0} (r : Result A E) → P → OnErr r P
 on_err (Ok x) p = tt
 on_err (Err e) p = p
 
--- a part of the first text, or of the second behind the first, is a part of both
+-- a part of the first text, or of the second after the first, is a part of both
 pub part_of_first : (old new : Option (List ℕ)) (first second : List ℕ) → GrowsByPart old first new → GrowsByPart old (first ++ second) new
 part_of_first old new first second part = let within = part.1 in (
   part.0,
@@ -60,7 +60,7 @@ pub texts_more : (t : Tree) (a b n : ℕ) → a + 1 ≡ n → b ≡ n → texts_
 texts_more t a b n one is = let next : b ≡ suc a = omega (arith, one, is) in let number : suc a ≡ n = omega (arith, one) in
     ap (texts_to t) next ∙ ap (λ k. texts_to t a ++ text_at t k) number
 
--- a part of one, behind those before it, is a part of all
+-- a part of one, after those before it, is a part of all
 pub part_of_texts : (t : Tree) (old between new : Option (List ℕ)) (k m : ℕ) → k < m → Grows old (texts_to t k) between → GrowsByPart between (text_at t (suc k)) new → GrowsByPart old (texts_to t m) new
 part_of_texts t old between new k zero less grows part = absurd (omega (arith, less))
 part_of_texts t old between new k (suc m) less grows part = elim (split k m less) [

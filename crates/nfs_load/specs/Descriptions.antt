@@ -69,7 +69,7 @@ OnTree read Done old result new = InVolume old result (λ root. Then read result
 abbrev pub FileDone : Loaded → List (List ℕ) → Result Unit Refusal → Loaded → Type 0
 FileDone old fields result new = OnTree (file_in fields) MakesFile old result new ⊎ ((result ≡ Err Memory) × IsOk (last_root old.tree) × WantsContent fields)
 
--- A line with this keyword and these fields, behind the server line.
+-- A line with this keyword and these fields, after the server line.
 abbrev pub GoesOn : Loaded → Keyword → List (List ℕ) → Result Unit Refusal → Loaded → Type 0
 GoesOn old keyword.Server fields result new = IsFault ServerTwice result
 GoesOn old keyword.Volume fields result new = Then (volume_in fields) result (λ line. VolumeTaken old line result new)
@@ -111,7 +111,7 @@ LineDone old line result new = Asked old (shape line) result new
 -- lines in order, one after another
 abbrev pub Through : Option Loaded → List (List ℕ) → Option Loaded → Type 0
 Through old [] new = old ≡ new
-Through old (line ∷ behind) new = (between : Option Loaded) × LineDone old line (Ok tt) between × Through between behind new
+Through old (line ∷ after) new = (between : Option Loaded) × LineDone old line (Ok tt) between × Through between after new
 
 -- a server and a volume are described
 abbrev pub finished : Option Loaded → Result Loaded Cause
@@ -122,15 +122,15 @@ finished (Some loaded) = if nat_eq (length loaded.tree.volumes) 0 then Err NoVol
 pub record StopsAt (all : List (List ℕ)) (number : ℕ) (refusal : Refusal) : Type 0 where
   pub before : List (List ℕ)
   pub line : List ℕ
-  pub behind : List (List ℕ)
-  pub all_are : all ≡ before ++ line ∷ behind
+  pub after : List (List ℕ)
+  pub all_are : all ≡ before ++ line ∷ after
   pub number_is : number ≡ length before + 1
   pub old : Option Loaded
   pub in_order : Through None before old
   pub new : Option Loaded
   pub refused : LineDone old line (Err refusal) new
 
--- all lines are in order, and what is missing is told for the line behind them
+-- all lines are in order, and what is missing is reported for the line after them
 pub record IsUnfinished (all : List (List ℕ)) (number : ℕ) (cause : Cause) : Type 0 where
   pub number_is : number ≡ length all + 1
   pub old : Option Loaded

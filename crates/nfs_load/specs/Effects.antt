@@ -3,7 +3,7 @@ use Rattle.std.specs.Prelude.{◌≡◌, ℕ, List, length, Option, Some, None, 
 use Rattle.nfs_attrs.specs.declared.moment.Moment.{Moment}
 use Rattle.nfs_inodes.specs.declared.new_file.NewFile.{NewFile}
 use Rattle.nfs_inodes.specs.Tree.{Tree}
-use Rattle.nfs_inodes.specs.Changes.{Makes, after_add_volume, after_make_dir, after_make_file, after_make_link, after_link}
+use Rattle.nfs_inodes.specs.Changes.{Makes, after_add_volume, after_mkdir, after_make_file, after_make_link, after_link}
 use Rattle.nfs_inodes.specs.Conditions.{MayAddVolume, MayMakeDirectory, MayMake, MayMakeLink, MayLink}
 use Rattle.nfs_inodes.specs.Reading.{attributes_at, volume_named}
 use Rattle.nfs_load.specs.declared.cause.Cause.{Cause}
@@ -46,12 +46,12 @@ Does {P} t found May Made (Err Memory) new = IsOpen found May × (new ≡ t)
 abbrev pub free_path : Tree → List ℕ → Result (List ℕ) Cause
 free_path t path = if is_some (volume_named t path) then Err VolumeTwice else Ok path
 
--- a file that may have further names
+-- a file that may have hard links
 abbrev pub named_file : Tree → Option ℕ → Result ℕ Cause
 named_file t None = Err NoTarget
 named_file t (Some n) = if is_directory (attributes_at t n) then Err NoTarget else Ok n
 
--- where a further name goes, and the file that it names
+-- where a hard link goes, and the file that it names
 abbrev pub link_end : Tree → ℕ → List (List ℕ) → List (List ℕ) → Result (PathEnd × ℕ) Cause
 link_end t root path old = do
   end ← free_end t root path
@@ -72,7 +72,7 @@ AddsVolume t line result new = Does t (free_path t line.path)
 abbrev pub MakesDir : Tree → ℕ → DirLine → Result Unit Refusal → Tree → Type 0
 MakesDir t root line result new = Does t (free_end t root line.path)
     (λ end. MayMakeDirectory t end.dir end.name)
-    (λ end. Makes (λ tag. after_make_dir t end.dir end.name (attributes line.given) tag start)) result new
+    (λ end. Makes (λ tag. after_mkdir t end.dir end.name (attributes line.given) tag start)) result new
 
 abbrev pub MakesFile : Tree → ℕ → FileLine → Result Unit Refusal → Tree → Type 0
 MakesFile t root line result new = Does t (free_end t root line.path)
@@ -84,7 +84,7 @@ MakesLink t root line result new = Does t (free_end t root line.path)
     (λ end. MayMakeLink t end.dir end.name line.target)
     (λ end. Makes (λ tag. after_make_link t end.dir end.name line.target (link_attributes line.uid line.gid) tag start)) result new
 
--- a further name of a file
+-- a hard link of a file
 abbrev pub AddsName : Tree → ℕ → HardLine → Result Unit Refusal → Tree → Type 0
 AddsName t root line result new = Does t (link_end t root line.path line.old)
     (λ it. MayLink t it.1 it.0.dir it.0.name)

@@ -77,19 +77,19 @@ abbrev pub ◌>>=◌ : {A B E : Type 0} → Result A E → (A → Result B E) �
 (Ok x) >>= f = f x
 (Err e) >>= f = Err e
 
-abbrev pub behind : {A : Type 0} → List (List ℕ) → Result A Cause → Result (A × List (List ℕ)) Cause
-behind rest (Ok value) = Ok (value, rest)
-behind rest (Err cause) = Err cause
+abbrev pub after : {A : Type 0} → List (List ℕ) → Result A Cause → Result (A × List (List ℕ)) Cause
+after rest (Ok value) = Ok (value, rest)
+after rest (Err cause) = Err cause
 
--- the value of the next field, and the fields behind it
+-- the value of the next field, and the fields after it
 abbrev pub by : {A : Type 0} → (List ℕ → Result A Cause) → List (List ℕ) → Result (A × List (List ℕ)) Cause
 by read [] = Err FieldCount
-by read (field ∷ rest) = behind rest (read field)
+by read (field ∷ rest) = after rest (read field)
 
 -- options, or those that hold where nothing is said
 abbrev pub options_at : List (List ℕ) → Result (Options × List (List ℕ)) Cause
 options_at [] = Ok (default_options, [])
-options_at (field ∷ rest) = behind rest (options_in field)
+options_at (field ∷ rest) = after rest (options_in field)
 
 -- What was answered, seen by view, is what reading gives, with these fields left. A fault may have taken some.
 abbrev pub Takes : {X A : Type 0} → (X → A) → List (List ℕ) → Result X Cause → Result (A × List (List ℕ)) Cause → Type 0

@@ -42,7 +42,7 @@ takes File count = nat_eq count 5
 takes Link count = nat_eq count 4
 takes Hard count = nat_eq count 2
 
--- a line that asks for something: its keyword, and the words behind it
+-- a line that asks for something: its keyword, and the words after it
 pub record Line : Type 0 where
   pub keyword : Keyword
   pub fields : List (List ℕ)

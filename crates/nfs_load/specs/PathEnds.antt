@@ -20,15 +20,15 @@ is_directory (Some attributes) = is_directory_type attributes.file_type
 abbrev pub ends_in : Tree → ℕ → List ℕ → Option PathEnd
 ends_in t dir name = if is_directory (attributes_at t dir) then Some (record { dir = dir; name = name }) else None
 
--- a name, and those behind it: each but the last leads on
-abbrev pub end_behind : Tree → ℕ → List ℕ → List (List ℕ) → Option PathEnd
-end_behind t dir name [] = ends_in t dir name
-end_behind t dir name (next ∷ names) = on_some (number_under t dir name) None (λ n. end_behind t n next names)
+-- a name, and those after it: each but the last leads on
+abbrev pub end_after : Tree → ℕ → List ℕ → List (List ℕ) → Option PathEnd
+end_after t dir name [] = ends_in t dir name
+end_after t dir name (next ∷ names) = on_some (number_under t dir name) None (λ n. end_after t n next names)
 
 -- the directory in which a path ends, and the name that it ends with
 abbrev pub end_at : Tree → ℕ → List (List ℕ) → Option PathEnd
 end_at t root [] = None
-end_at t root (name ∷ names) = end_behind t root name names
+end_at t root (name ∷ names) = end_after t root name names
 
 -- the file that a path names
 abbrev pub file_at : Tree → ℕ → List (List ℕ) → Option ℕ

@@ -11,7 +11,7 @@ use Rattle.nfs_load.specs.declared.statement.ExportLine.{ExportLine}
 use Rattle.nfs_load.specs.Fields.{by, ◌>>=◌, SaysBytes, OfNext, content_in, mode_in, number_in, options_at, pattern_in, target_in}
 use Rattle.nfs_load.specs.Paths.{path_in, volume_path_in}
 
--- a value and the fields behind it, or a cause
+-- a value and the fields after it, or a cause
 abbrev pub Read : Type 0 → Type 0
 Read A = Result (A × List (List ℕ)) Cause
 

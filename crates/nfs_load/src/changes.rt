@@ -12,7 +12,7 @@ use crate::statement::{DirLine, FileLine, Given, HardLine, LinkLine, VolumeLine}
 use nfs_attrs::moment::Moment;
 use nfs_content::pages::Pages;
 use nfs_handles::number::Number;
-use nfs_inodes::new_file::NewFile;
+use nfs_inodes::new_file::{NewContent, NewFile};
 use nfs_inodes::tree::Tree;
 
 // The time of everything that a description makes.
@@ -42,14 +42,14 @@ pub fn add_volume(tree: &mut Tree, line: &VolumeLine<'_>) -> Result<(), Refusal>
 
 /// A `dir` line, in the volume of this root: a new directory. The first of these: `NoParent`,
 /// `NameTaken`, `Full` where no directory may be made there, `Memory`.
-pub fn make_dir(tree: &mut Tree, root: Number, line: &DirLine<'_>) -> Result<(), Refusal>
+pub fn mkdir(tree: &mut Tree, root: Number, line: &DirLine<'_>) -> Result<(), Refusal>
     ensures { MakesDir tree.old root.0 line.now result tree.new }
 {
     let end = find_free_end(tree, root, &line.path)?;
-    if !tree.may_make_dir(end.dir, end.name) {
+    if !tree.may_mkdir(end.dir, end.name) {
         return Err(Refusal::Fault(Cause::Full));
     }
-    tree.make_dir(end.dir, end.name, &attributes_of(line.given), START)?;
+    tree.mkdir(end.dir, end.name, &attributes_of(line.given), START)?;
     Ok(())
 }
 
@@ -69,8 +69,11 @@ pub fn make_file(tree: &mut Tree, root: Number, line: FileLine<'_>) -> Result<()
         return Err(Refusal::Fault(Cause::Full));
     }
     let given = attributes_of(given);
-    let content = Pages::of(tree.allocator(), content)?;
-    tree.make_file(end.dir, end.name, content, &given, None, START)?;
+    let content = NewContent {
+        pages: Pages::of(tree.allocator(), content)?,
+        verifier: None,
+    };
+    tree.make_file(end.dir, end.name, content, &given, START)?;
     Ok(())
 }
 
@@ -88,7 +91,7 @@ pub fn make_link(tree: &mut Tree, root: Number, line: &LinkLine<'_>) -> Result<(
     Ok(())
 }
 
-/// A `hard` line, in the volume of this root: a further name of a file. The first of these:
+/// A `hard` line, in the volume of this root: a hard link of a file. The first of these:
 /// `NoParent`, `NameTaken`, `NoTarget` where the other path names no file or a directory, `Full`
 /// where no such name may be added, `Memory`.
 pub(crate) fn add_name(tree: &mut Tree, root: Number, line: &HardLine<'_>) -> Result<(), Refusal>

@@ -10,7 +10,7 @@ use nfs_text::lines::Lines;
 use std::alloc::Global;
 
 /// The tree and the table that a text describes. The first fault of the first faulty line where
-/// there is one; at the end of the text `NoServer`, then `NoVolume`, for the line behind the last.
+/// there is one; at the end of the text `NoServer`, then `NoVolume`, for the line after the last.
 /// `Memory` where there is none for a line that is in order as far as it was looked at, and what
 /// was made is given back.
 pub fn load(alloc: Global, text: &[u8]) -> Result<Loaded, LoadError>

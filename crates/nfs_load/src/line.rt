@@ -22,7 +22,7 @@ pub enum Keyword {
     File,
     /// A symbolic link.
     Link,
-    /// A further name of a file.
+    /// A hard link of a file.
     Hard,
 }
 
@@ -31,7 +31,7 @@ pub enum Keyword {
 pub struct Line<'a> {
     /// What it asks for.
     pub keyword: Keyword,
-    /// The words behind the keyword.
+    /// The words after the keyword.
     pub fields: Words<'a>,
 }
 
@@ -72,7 +72,7 @@ fn is_comment(line: &[u8]) -> bool
 }
 
 // Whether a line has bytes of text alone. All are looked at in any case, which takes less time than a
-// test whether to go on behind each.
+// test whether to go on after each.
 fn is_text(line: &[u8]) -> bool
     ensures { result ≡ spec.is_text line.now }
 {

@@ -7,7 +7,7 @@ use thiserror::Error;
 #[derive(Clone, Copy, Debug, Error)]
 pub enum LoadError {
     /// The first faulty line, counted from 1, and its first cause. What is missing at the end of
-    /// the text is told for the line behind the last.
+    /// the text is reported for the line after the last.
     #[error("line {line}: {cause}")]
     Fault {
         /// The line's number, from 1.

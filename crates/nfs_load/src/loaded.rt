@@ -1,6 +1,6 @@
 //! What a description holds.
 
-use nfs_exports::table::Table;
+use nfs_exports::export_table::ExportTable;
 use nfs_inodes::tree::Tree;
 
 /// A tree of files, and to whom its volumes are exported. The table has a list for each volume, in
@@ -10,5 +10,5 @@ pub struct Loaded {
     /// The tree of files.
     pub tree: Tree,
     /// What is exported to whom.
-    pub table: Table,
+    pub table: ExportTable,
 }

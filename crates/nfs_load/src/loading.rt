@@ -8,15 +8,15 @@ ghost use Rattle.nfs_load.specs.Descriptions.{GoesOn, LineDone, begun, finished}
 ghost use Rattle.nfs_load.specs.Loadings.{LineTaken, at_end, nothing};
 
 use crate::cause::Cause;
-use crate::changes::{add_name, add_volume, make_dir, make_file, make_link};
+use crate::changes::{add_name, add_volume, make_file, make_link, mkdir};
 use crate::fields::Fields;
 use crate::line::{Keyword, Line, read_line};
 use crate::load_error::LoadError;
 use crate::loaded::Loaded;
 use crate::refusal::Refusal;
 use crate::statement::{DirLine, ExportLine, FileLine, HardLine, LinkLine, VolumeLine};
+use nfs_exports::export_table::ExportTable;
 use nfs_exports::limits::MAX_PATTERNS;
-use nfs_exports::table::Table;
 use nfs_handles::number::Number;
 use nfs_inodes::tree::Tree;
 use std::alloc::Global;
@@ -54,7 +54,7 @@ impl Loading {
         }
     }
 
-    /// Takes the next line, which is given without its LF. Where it is refused, it is told by its
+    /// Takes the next line, which is given without its LF. Where it is refused, it is reported by its
     /// number, counted from 1, and nothing is described any more: what was made is given back.
     pub fn take(&mut self, line: &[u8]) -> Result<(), LoadError>
         ensures { LineTaken self.old line.now result self.new }
@@ -69,7 +69,7 @@ impl Loading {
         }
     }
 
-    /// What all lines describe. `NoServer`, then `NoVolume`, for the line behind the last.
+    /// What all lines describe. `NoServer`, then `NoVolume`, for the line after the last.
     pub fn finish(self) -> Result<Loaded, LoadError>
         ensures described { result ≡ at_end self.count (finished self.described) }
         ensures law { IfOk result (λ loaded. Law loaded.tree) }
@@ -124,11 +124,11 @@ fn begin(alloc: Global, line: Line<'_>) -> Result<Loaded, Cause>
     let key = Fields::new(line.fields).key()?;
     Ok(Loaded {
         tree: Tree::new(alloc, key),
-        table: Table::new(alloc),
+        table: ExportTable::new(alloc),
     })
 }
 
-// A line behind the server's.
+// A line after the server's.
 fn go_on(alloc: Global, loaded: &mut Loaded, line: Line<'_>) -> Result<(), Refusal>
     requires { length loaded.old.table ≡ length loaded.old.tree.volumes }
     ensures done { GoesOn loaded.old line.entry.keyword (words_left line.entry.fields) result loaded.new }
@@ -179,7 +179,7 @@ fn take_dir(loaded: &mut Loaded, fields: &mut Fields<'_>) -> Result<(), Refusal>
 {
     let root = last_root(&loaded.tree)?;
     let line = DirLine::read(fields)?;
-    make_dir(&mut loaded.tree, root, &line)
+    mkdir(&mut loaded.tree, root, &line)
 }
 
 fn take_file(alloc: Global, loaded: &mut Loaded, fields: &mut Fields<'_>) -> Result<(), Refusal>

@@ -1,48 +1,48 @@
-//! Paths: names behind slashes.
+//! Paths: names after slashes.
 ghost use Rattle.std.specs.Prelude.{◌≡◌, option_map};
 ghost use Rattle.std.specs.List.{list_all};
 ghost use Rattle.std.specs.Result.{result_map_both};
-ghost use Rattle.nfs_text.specs.Pieces.{pieces, pieces_left};
+ghost use Rattle.nfs_text.specs.Chunks.{chunks, chunks_left};
 ghost use Rattle.nfs_load.specs.Paths as spec;
 ghost use Rattle.nfs_load.specs.Paths.{path_in, volume_path_in};
 
 use crate::cause::Cause;
 use crate::limits::MAX_PATH_BYTES;
 use nfs_inodes::limits::{MAX_NAME_BYTES, MAX_VOLUME_PATH_BYTES};
-use nfs_text::pieces::Pieces;
+use nfs_text::chunks::Chunks;
 use std::marker::Model;
 
 /// A path of one or more names, lent from its field. Contracts see the names.
 #[derive(Drop)]
 pub struct Path<'a> {
-    behind_slash: &'a [u8],
+    after_slash: &'a [u8],
 }
 
 impl<'a> Model for Path<'a> {
     ghost use Rattle.std.specs.Prelude.{ℕ, List};
-    ghost use Rattle.nfs_text.specs.Pieces.{pieces};
+    ghost use Rattle.nfs_text.specs.Chunks.{chunks};
 
     ghost Value = { List (List ℕ) };
 
-    ghost view = { λ path. pieces 47 path.behind_slash.now };
+    ghost view = { λ path. chunks 47 path.after_slash.now };
 }
 
 impl<'a> Path<'a> {
     /// The names in turn.
-    pub fn names(&self) -> Pieces<'a>
-        ensures { pieces_left result ≡ self.now }
+    pub fn names(&self) -> Chunks<'a>
+        ensures { chunks_left result ≡ self.now }
     {
-        Pieces::new(self.behind_slash, b'/')
+        Chunks::new(self.after_slash, b'/')
     }
 }
 
 /// A path. `BadPath` where the field has more than 1,024 bytes, doesn't begin with `/`, or what
-/// stands behind it is not names parted by `/`: 1 to 255 bytes each, none `%`, not `.` or `..`.
+/// stands after it is not names separated by `/`: 1 to 255 bytes each, none `%`, not `.` or `..`.
 pub(crate) fn read_path(field: &[u8]) -> Result<Path<'_>, Cause>
     ensures { result ≡ path_in field.now }
 {
-    match behind_slash(field) {
-        Some(behind_slash) => Ok(Path { behind_slash }),
+    match after_slash(field) {
+        Some(after_slash) => Ok(Path { after_slash }),
         None => Err(Cause::BadPath),
     }
 }
@@ -55,15 +55,15 @@ pub(crate) fn read_volume_path(field: &[u8]) -> Result<&[u8], Cause>
     if field == b"/".as_slice() {
         return Ok(field);
     }
-    if field.len() > MAX_VOLUME_PATH_BYTES || behind_slash(field).is_none() {
+    if field.len() > MAX_VOLUME_PATH_BYTES || after_slash(field).is_none() {
         return Err(Cause::BadVolumePath);
     }
     Ok(field)
 }
 
-// What stands behind a path's first slash.
-fn behind_slash(field: &[u8]) -> Option<&[u8]>
-    ensures { option_map (λ text. text.now) result ≡ spec.behind_slash field.now }
+// What stands after a path's first slash.
+fn after_slash(field: &[u8]) -> Option<&[u8]>
+    ensures { option_map (λ text. text.now) result ≡ spec.after_slash field.now }
 {
     if field.len() > MAX_PATH_BYTES {
         return None;
@@ -76,9 +76,9 @@ fn behind_slash(field: &[u8]) -> Option<&[u8]>
 
 // Whether what stands between slashes is a name each time.
 fn are_names(text: &[u8]) -> bool
-    ensures { result ≡ list_all spec.is_name (pieces 47 text.now) }
+    ensures { result ≡ list_all spec.is_name (chunks 47 text.now) }
 {
-    let mut names = Pieces::new(text, b'/');
+    let mut names = Chunks::new(text, b'/');
     while let Some(name) = names.next() {
         if !is_name(name) {
             return false;

@@ -1,6 +1,6 @@
 //! Why a line is not done.
 ghost use Rattle.std.specs.Prelude.{◌≡◌};
-ghost use Rattle.nfs_load.specs.Errors.{told_at};
+ghost use Rattle.nfs_load.specs.Errors.{reported_at};
 
 use crate::cause::Cause;
 use crate::load_error::LoadError;
@@ -21,7 +21,7 @@ pub enum Refusal {
 impl Refusal {
     /// The same for the line of this number.
     pub fn at(self, line: u64) -> LoadError
-        ensures { result ≡ told_at line self }
+        ensures { result ≡ reported_at line self }
     {
         match self {
             Refusal::Fault(cause) => LoadError::Fault { line, cause },

@@ -78,7 +78,7 @@ pub struct LinkLine<'a> {
     pub target: &'a [u8],
 }
 
-/// `hard PATH OLD`: a further name of a file.
+/// `hard PATH OLD`: a hard link of a file.
 #[derive(Drop)]
 pub struct HardLine<'a> {
     /// The new path.
@@ -118,7 +118,7 @@ impl<'a> VolumeLine<'a> {
 }
 
 impl ExportLine {
-    /// The fields of such a line, the options of which may be left out. The first cause from left
+    /// The fields of such a line, the options of which may be skipped. The first cause from left
     /// to right: `BadPattern` or `BadOptions`.
     pub fn read(fields: &mut Fields<'_>) -> Result<ExportLine, Cause>
         ensures { Takes (λ line. line) fields.new result (export_in fields.old) }

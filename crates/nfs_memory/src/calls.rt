@@ -3,9 +3,10 @@ use crate::ROUNDS;
 use crate::described::server;
 use crate::tree::snapshot_of;
 use ballast::Ballast;
+use nfs_args::program::NFS_PROGRAM;
 use nfs_attrs::moment::Moment;
 use nfs_exports::addr::Addr;
-use nfs_server::audit_line::{AuditLine, Reason};
+use nfs_server::audit_line::{AuditLine, DenialReason};
 use nfs_server::event::Event;
 use nfs_server::reply_buf::ReplyBuf;
 use nfs_server::server::Server;
@@ -39,8 +40,8 @@ const SIZE_OF_1000: &[u8] =
 
 const MODE_OF_0700: &[u8] = b"\0\0\0\x01\0\0\x01\xc0\0\0\0\0\0\0\0\0\0\0\0\0\0\0\0\0\0\0\0\0";
 
-// Procedures that may take memory, for the tree or for a place among the kept replies, each with its
-// arguments in parts: SETATTR of a mode and of a size, WRITE behind the end, CREATE, MKDIR, SYMLINK,
+// Procedures that may take memory, for the tree or for a place among the cached replies, each with its
+// arguments in parts: SETATTR of a mode and of a size, WRITE after the end, CREATE, MKDIR, SYMLINK,
 // REMOVE, RMDIR, RENAME and LINK.
 const CALLS: [(u32, [&[u8]; 4]); 10] = [
     (2, [FILE, MODE_OF_0700, b"\0\0\0\0", b""]),
@@ -87,7 +88,7 @@ pub(crate) fn is_refused(
         xid: 42,
         program,
         procedure,
-        reason: Reason::Memory,
+        reason: DenialReason::Memory,
     };
     reply.bytes() == SYSTEM_ERR && server.last_audit() == Some(line)
 }
@@ -149,7 +150,7 @@ fn refused_first(
     let mut ballast = Ballast::new(alloc)?;
     for refused in 0..ROUNDS {
         server.handle(event, reply);
-        if !is_refused(server, reply, event.addr, 100_003, procedure) {
+        if !is_refused(server, reply, event.addr, NFS_PROGRAM, procedure) {
             return Ok(Some(refused));
         }
         if snapshot_of(server.tree()) != before || !ballast.lighten() {

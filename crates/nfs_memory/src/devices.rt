@@ -3,7 +3,7 @@ use crate::described::loaded;
 use nfs_inodes::tree::Tree;
 use nfs_load::listing::{WriteFault, listing};
 use nfs_xdr::device::{ByteIn, ByteOut, Device};
-use nfs_xdr::stutter::Stutter;
+use rows::stutter::Stutter;
 use std::alloc::{AllocError, Global};
 use std::io::{self, ErrorKind, Read, Write};
 use std::test::Fail;

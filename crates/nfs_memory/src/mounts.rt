@@ -4,6 +4,7 @@ use crate::calls::{SUCCESS, is_refused};
 use crate::described::server;
 use crate::tree::snapshot_of;
 use ballast::Ballast;
+use nfs_args::program::MOUNT_PROGRAM;
 use nfs_attrs::moment::Moment;
 use nfs_exports::addr::Addr;
 use nfs_server::event::Event;
@@ -48,7 +49,7 @@ fn server_of(alloc: Global, reply: &mut ReplyBuf, clients: u8) -> Result<Server,
     Ok(server)
 }
 
-// The mount list, as DUMP tells it.
+// The mount list, as DUMP reports it.
 fn dumped(alloc: Global, server: &mut Server, reply: &mut ReplyBuf) -> Result<Vec<u8>, AllocError> {
     server.handle(event(HOST, DUMP), reply);
     let mut list = Vec::new(alloc);
@@ -56,8 +57,8 @@ fn dumped(alloc: Global, server: &mut Server, reply: &mut ReplyBuf) -> Result<Ve
     Ok(list)
 }
 
-// Whether the mount list is told by so many bytes, and these first.
-fn tells(server: &mut Server, reply: &mut ReplyBuf, len: usize, first: &[u8]) -> bool {
+// Whether the mount list is reported by so many bytes, and these first.
+fn reports(server: &mut Server, reply: &mut ReplyBuf, len: usize, first: &[u8]) -> bool {
     server.handle(event(HOST, DUMP), reply);
     reply.bytes().len() == len && reply.bytes().starts_with(first)
 }
@@ -82,12 +83,12 @@ fn refusals_of(
     let mut ballast = Ballast::new(alloc)?;
     for refused in 0..ROUNDS {
         server.handle(event(HOST, MNT), reply);
-        if !is_refused(server, reply, HOST, 100_005, 1) {
+        if !is_refused(server, reply, HOST, MOUNT_PROGRAM, 1) {
             let done = reply.bytes().starts_with(SUCCESS) && server.last_audit().is_none();
-            let longer = tells(server, reply, list.len() + CLIENT_BYTES, DUMPED);
+            let longer = reports(server, reply, list.len() + CLIENT_BYTES, DUMPED);
             return Ok((done && longer).then_some(refused));
         }
-        let same = tells(server, reply, list.len(), list);
+        let same = reports(server, reply, list.len(), list);
         if !same || snapshot_of(server.tree()) != before || !ballast.lighten() {
             break;
         }

@@ -2,6 +2,7 @@
 use crate::calls::{CREDENTIAL, DIRECTORY, FILE};
 use crate::described::server;
 use ballast::Ballast;
+use nfs_args::program::{MOUNT_PROGRAM as MOUNT, NFS_PROGRAM as NFS};
 use nfs_attrs::moment::Moment;
 use nfs_exports::addr::Addr;
 use nfs_server::event::Event;
@@ -9,10 +10,6 @@ use nfs_server::reply_buf::ReplyBuf;
 use nfs_server::server::Server;
 use std::alloc::{AllocError, Global};
 use std::test::Fail;
-
-const NFS: u32 = 100_003;
-
-const MOUNT: u32 = 100_005;
 
 // From where calls are granted, and from where they are denied.
 const ADDRESSES: [Addr; 2] = [Addr(0x0a00_0001), Addr(0x0a00_0301)];

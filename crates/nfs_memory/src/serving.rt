@@ -11,11 +11,11 @@ use nfs_server::serve_fault::ServeFault;
 use nfs_server::server::Server;
 use nfs_server::stream::{Served, serve_stream};
 use nfs_serving::client::Client;
-use nfs_serving::room::Room;
-use nfs_serving::turn::{End, Pace, Turn};
+use nfs_serving::turn::{End, Turn};
+use nfs_serving::turn_buffers::TurnBuffers;
 use nfs_xdr::device::Device;
-use nfs_xdr::stutter::Stutter;
-use nfs_xdr::stutter_link::StutterLink;
+use rows::stutter::Stutter;
+use rows::stutter_link::StutterLink;
 use std::alloc::{AllocError, Global};
 use std::test::Fail;
 
@@ -48,7 +48,7 @@ const LINE: &[u8] = b"deny addr=10.0.3.1 xid=43 prog=100003 proc=1 uid=- rule=ex
 struct Still;
 
 impl Moments for Still {
-    ghost tells = { λ old moment new. Unit {0} };
+    ghost reports = { λ old moment new. Unit {0} };
 
     fn now(&mut self) -> Moment {
         NOW
@@ -188,14 +188,14 @@ fn client(alloc: Global, k: u32) -> Client<StutterLink<'static>> {
 // Gives two clients turns one after the other, until both have ended. How they ended.
 fn take_turns(
     server: &mut Server,
-    room: &mut Room,
+    room: &mut TurnBuffers,
     first: &mut Client<StutterLink<'_>>,
     second: &mut Client<StutterLink<'_>>,
 ) -> Option<(End, End)> {
     let mut audit = Device::new(std::io::sink());
     for _ in 0..1_000 {
-        let one = first.turn(server, room, NOW, Pace::Many, &mut audit);
-        let other = second.turn(server, room, NOW, Pace::Many, &mut audit);
+        let one = first.turn(server, room, NOW, &mut audit);
+        let other = second.turn(server, room, NOW, &mut audit);
         if let (Turn::Ended(one), Turn::Ended(other)) = (one, other) {
             return Some((one, other));
         }
@@ -205,7 +205,7 @@ fn take_turns(
 
 // Whether the first client, whose link fails at its `k`-th call, was sent a first part of its replies,
 // and the second all of them. None where that isn't so.
-fn fails(alloc: Global, server: &mut Server, room: &mut Room, k: u32) -> Option<bool> {
+fn fails(alloc: Global, server: &mut Server, room: &mut TurnBuffers, k: u32) -> Option<bool> {
     let mut first = client(alloc, k);
     let mut second = client(alloc, u32::MAX);
     let ends = take_turns(server, room, &mut first, &mut second);
@@ -224,13 +224,13 @@ fn fails(alloc: Global, server: &mut Server, room: &mut Room, k: u32) -> Option<
 
 // At how many calls the link failed, one after another, until both clients were served whole.
 fn failed_links(alloc: Global) -> Result<Option<u32>, AllocError> {
-    let mut room = Room::new(alloc)?;
+    let mut room = TurnBuffers::new(alloc)?;
     let mut server = server(alloc)?;
     Ok(failed_before(alloc, &mut server, &mut room))
 }
 
 // The same of a server that is lent.
-fn failed_before(alloc: Global, server: &mut Server, room: &mut Room) -> Option<u32> {
+fn failed_before(alloc: Global, server: &mut Server, room: &mut TurnBuffers) -> Option<u32> {
     for k in 1..1_000 {
         match fails(alloc, server, room, k) {
             Some(true) => {}
@@ -250,11 +250,11 @@ fn a_link_that_fails_ends_its_client_alone(rt: HostRuntime) -> Result<(), Fail> 
 
 // What became of a new client without memory: it ended, or it got all its replies. None where it was
 // sent something else.
-fn meets(alloc: Global, server: &mut Server, room: &mut Room) -> Option<bool> {
+fn meets(alloc: Global, server: &mut Server, room: &mut TurnBuffers) -> Option<bool> {
     let mut client = client(alloc, u32::MAX);
     let mut audit = Device::new(std::io::sink());
     for _ in 0..1_000 {
-        if let Turn::Ended(end) = client.turn(server, room, NOW, Pace::Many, &mut audit) {
+        if let Turn::Ended(end) = client.turn(server, room, NOW, &mut audit) {
             let sent = client.link().sent();
             return match end {
                 End::Closed => (sent == REPLIES).then_some(true),
@@ -267,7 +267,7 @@ fn meets(alloc: Global, server: &mut Server, room: &mut Room) -> Option<bool> {
 
 // How many clients ended without memory, until one got all its replies.
 fn poor_clients(alloc: Global) -> Result<Option<u32>, AllocError> {
-    let mut room = Room::new(alloc)?;
+    let mut room = TurnBuffers::new(alloc)?;
     let mut server = server(alloc)?;
     poor_turns(alloc, &mut server, &mut room)
 }
@@ -276,7 +276,7 @@ fn poor_clients(alloc: Global) -> Result<Option<u32>, AllocError> {
 fn poor_turns(
     alloc: Global,
     server: &mut Server,
-    room: &mut Room,
+    room: &mut TurnBuffers,
 ) -> Result<Option<u32>, AllocError> {
     let mut ballast = Ballast::new(alloc)?;
     for refused in 0..ROUNDS {

@@ -55,10 +55,10 @@ const LONGEST: [u8; 5] = [0x80, 0x04, 0, 0, b'a'];
 
 const PEER: Addr = Addr(0x0a00_0001);
 
-fn feed(alloc: Global, sessions: &mut Sessions, piece: &[u8]) -> Result<u64, SessionFault> {
+fn feed(alloc: Global, sessions: &mut Sessions, chunk: &[u8]) -> Result<u64, SessionFault> {
     let mut replies = Device::new(Vec::new(alloc));
     let mut audit = Device::new(Vec::new(alloc));
-    sessions.feed(1, NOW, piece, &mut replies, &mut audit)
+    sessions.feed(1, NOW, chunk, &mut replies, &mut audit)
 }
 
 // What became of a new connection at the beginning of a record.

@@ -8,7 +8,7 @@ use nfs_conditions::bytes::{may_resize, may_write};
 use nfs_conditions::moves::may_rename;
 use nfs_content::pages::Pages;
 use nfs_handles::number::Number;
-use nfs_inodes::new_file::NewFile;
+use nfs_inodes::new_file::{NewContent, NewFile};
 use nfs_inodes::tree::Tree;
 use nfs_inodes::volumes::Totals;
 use std::alloc::{AllocError, Global};
@@ -57,10 +57,14 @@ fn operate(alloc: Global, tree: &mut Tree, operation: u32) -> Result<(), AllocEr
     let dir = Number::new(2);
     match operation {
         0 if tree.may_make(dir, b"y", 100) => {
-            tree.make_file(dir, b"y", Pages::zeros(alloc, 100), &GIVEN, None, NOW)?;
+            let content = NewContent {
+                pages: Pages::zeros(alloc, 100),
+                verifier: None,
+            };
+            tree.make_file(dir, b"y", content, &GIVEN, NOW)?;
         }
-        1 if tree.may_make_dir(dir, b"y") => {
-            tree.make_dir(dir, b"y", &GIVEN, NOW)?;
+        1 if tree.may_mkdir(dir, b"y") => {
+            tree.mkdir(dir, b"y", &GIVEN, NOW)?;
         }
         2 if tree.may_make_link(dir, b"y", b"to") => {
             tree.make_link(dir, b"y", b"to", &GIVEN, NOW)?;

@@ -1,7 +1,7 @@
 -- How many patterns the first volumes of a table have.
 use Rattle.std.proofs.Common.{◌≡◌, ℕ, zero, suc, ◌+◌, ◌≤◌, List, [], ◌∷◌, length, take, refl, ap, ◌∙◌, arith}
 use Rattle.nfs_exports.specs.Tables.{exports_of, pattern_count}
-use Rattle.nfs_exports.specs.declared.table.Export.{Export}
+use Rattle.nfs_exports.specs.declared.export_table.Export.{Export}
 
 count_next : (ls : List (List Export)) (i : ℕ) → pattern_count (take (suc i) ls) ≡ pattern_count (take i ls) + length (exports_of ls i)
 count_next [] zero = refl

@@ -5,7 +5,7 @@ use Rattle.std.specs.Int.{w32, w64, to_be_bytes}
 use Rattle.nfs_args.specs.MountAnswers.{mount_text}
 use Rattle.nfs_exports.specs.Options.{default_options}
 use Rattle.nfs_exports.specs.declared.addr.Addr.{Addr}
-use Rattle.nfs_exports.specs.declared.table.Export.{Export}
+use Rattle.nfs_exports.specs.declared.export_table.Export.{Export}
 use Rattle.nfs_inodes.specs.Example.{tree_e}
 use Rattle.nfs_rules.specs.declared.rule.Rule.TheVariants as rule
 use Rattle.nfs_mount.specs.MountAnswers.{root_of, denied_answer, dump_answer, export_answer}

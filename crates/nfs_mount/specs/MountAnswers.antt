@@ -10,7 +10,7 @@ use Rattle.nfs_exports.specs.Addresses.{addr_text}
 use Rattle.nfs_exports.specs.Patterns.{pattern_text}
 use Rattle.nfs_exports.specs.Tables.{exports_of}
 use Rattle.nfs_exports.specs.declared.addr.Addr.{Addr}
-use Rattle.nfs_exports.specs.declared.table.Export.{Export}
+use Rattle.nfs_exports.specs.declared.export_table.Export.{Export}
 use Rattle.nfs_handles.specs.Handles.{handle_at}
 use Rattle.nfs_inodes.specs.Reading.{numbered_files, volume_named}
 use Rattle.nfs_inodes.specs.Tree.{Tree, on_some}
@@ -23,9 +23,9 @@ use Rattle.nfs_rules.specs.Rules.{status_of}
 use Rattle.nfs_rules.specs.declared.rule.Rule.{Rule}
 use Rattle.nfs_xdr.specs.Written.{Written, Appends}
 
--- the text that is written for an answer is a spelling of it
-abbrev pub IsMountSpelled : MountAnswer → Type 0
-IsMountSpelled value = IsMountAnswerOf (mount_answered value) value (mount_text value)
+-- the text that is written for an answer is an encoding of it
+abbrev pub IsMountEncoded : MountAnswer → Type 0
+IsMountEncoded value = IsMountAnswerOf (mount_answered value) value (mount_text value)
 
 -- ---- MNT
 
@@ -46,10 +46,10 @@ denied_answer rule = answer.Mount (Err (record { status = status_of rule; shown 
 abbrev pub Mounts : Tree → List (List Export) → Addr → List ℕ → MountOutcome → List Mount → List Mount → Written → Written → Type 0
 Mounts t exports addr path Granted old new before after =
     (mount_verdict t exports addr path ≡ None) × (new ≡ after_mnt t addr path old) × (handle : List ℕ) × (root_of t path ≡ Some handle)
-    × Appends (mount_text (granted_answer handle)) before after × IsMountSpelled (granted_answer handle)
+    × Appends (mount_text (granted_answer handle)) before after × IsMountEncoded (granted_answer handle)
 Mounts t exports addr path (Denied rule) old new before after =
     (mount_verdict t exports addr path ≡ Some rule) × (new ≡ old)
-    × Appends (mount_text (denied_answer rule)) before after × IsMountSpelled (denied_answer rule)
+    × Appends (mount_text (denied_answer rule)) before after × IsMountEncoded (denied_answer rule)
 Mounts t exports addr path Memory old new before after =
     (mount_verdict t exports addr path ≡ None) × (is_mounted t addr path old ≡ false) × (new ≡ old) × (after ≡ before)
 

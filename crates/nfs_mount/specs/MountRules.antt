@@ -2,7 +2,7 @@
 use Rattle.std.specs.Prelude.{ℕ, false, List, [], ◌∷◌, Option, is_none}
 use Rattle.nfs_exports.specs.Tables.{exports_of, grant}
 use Rattle.nfs_exports.specs.declared.addr.Addr.{Addr}
-use Rattle.nfs_exports.specs.declared.table.Export.{Export}
+use Rattle.nfs_exports.specs.declared.export_table.Export.{Export}
 use Rattle.nfs_inodes.specs.Reading.{volume_named}
 use Rattle.nfs_inodes.specs.Tree.{Tree, on_some}
 use Rattle.nfs_rules.specs.Tests.{Test, first, path_long}

@@ -9,5 +9,5 @@ pub mod mount;
 pub mod mount_list;
 pub mod outcome;
 mod replies;
-mod rules;
+pub mod rules;
 mod volumes;

@@ -15,7 +15,7 @@ use crate::volumes::root_handle;
 use indexmap::IndexSet;
 use nfs_args::chain::write_chain_end;
 use nfs_exports::addr::Addr;
-use nfs_exports::table::Table;
+use nfs_exports::export_table::ExportTable;
 use nfs_inodes::tree::Tree;
 use nfs_xdr::output::Output;
 use std::alloc::{AllocError, Global};
@@ -65,7 +65,7 @@ impl MountList {
     pub fn mnt(
         &mut self,
         tree: &Tree,
-        table: &Table,
+        table: &ExportTable,
         addr: Addr,
         path: &[u8],
         out: &mut Output,
@@ -113,7 +113,7 @@ impl MountList {
     pub fn write_dump(&self, tree: &Tree, out: &mut Output)
         requires { MAX_DUMP_BYTES ≤ out.old.room }
         ensures text { Appends (mount_text (dump_answer tree.now self.now)) out.old out.new }
-        ensures spelled { IsMountAnswerOf procedure.Dump (dump_answer tree.now self.now) (mount_text (dump_answer tree.now self.now)) }
+        ensures encoded { IsMountAnswerOf procedure.Dump (dump_answer tree.now self.now) (mount_text (dump_answer tree.now self.now)) }
         ensures bound { length (mount_text (dump_answer tree.now self.now)) ≤ MAX_DUMP_BYTES }
     {
         for mount in self.mounts.as_slice() {

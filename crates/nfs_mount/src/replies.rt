@@ -2,7 +2,7 @@
 ghost use Rattle.std.specs.Prelude.{◌≡◌, ◌+◌, ◌≤◌};
 ghost use Rattle.nfs_args.specs.Chains.{chained_text};
 ghost use Rattle.nfs_args.specs.MountAnswers.{IsMounted, mount_text, mounted_text};
-ghost use Rattle.nfs_mount.specs.MountAnswers.{IsMountSpelled, client, denied_answer, granted_answer};
+ghost use Rattle.nfs_mount.specs.MountAnswers.{IsMountEncoded, client, denied_answer, granted_answer};
 ghost use Rattle.nfs_xdr.specs.Written.{Appends};
 
 use crate::mount::Mount;
@@ -21,7 +21,7 @@ use nfs_xdr::output::Output;
 pub(crate) fn write_denied(out: &mut Output, rule: Rule)
     requires { 40 ≤ out.old.room }
     ensures text { Appends (mount_text (denied_answer rule)) out.old out.new }
-    ensures spelled { IsMountSpelled (denied_answer rule) }
+    ensures encoded { IsMountEncoded (denied_answer rule) }
 {
     let failed = Failed {
         status: rule.status(),
@@ -34,7 +34,7 @@ pub(crate) fn write_denied(out: &mut Output, rule: Rule)
 pub(crate) fn write_granted(out: &mut Output, handle: &[u8; 24])
     requires { 40 ≤ out.old.room }
     ensures text { Appends (mount_text (granted_answer handle.now)) out.old out.new }
-    ensures spelled { IsMountSpelled (granted_answer handle.now) }
+    ensures encoded { IsMountEncoded (granted_answer handle.now) }
 {
     write_mount(out, &MountAnswer::Mount(Ok(Opaque::new(handle))));
 }
@@ -43,7 +43,7 @@ pub(crate) fn write_granted(out: &mut Output, handle: &[u8; 24])
 pub(crate) fn write_client(out: &mut Output, tree: &Tree, mount: &Mount)
     requires { 284 ≤ out.old.room }
     ensures text { Appends (chained_text mounted_text (client tree.now mount.now)) out.old out.new }
-    ensures spelled { IsMounted (client tree.now mount.now) (mounted_text (client tree.now mount.now)) }
+    ensures encoded { IsMounted (client tree.now mount.now) (mounted_text (client tree.now mount.now)) }
     ensures room { out.old.room ≤ out.new.room + 284 }
 {
     let mut host = Line::new();

@@ -36,7 +36,7 @@ apart f n o = apart_number f n (λ e. o (sym e))
 abbrev bytes_among : List (ℕ × File) → ℕ → List ℕ
 bytes_among es n = on_some (at n es) [] (λ (f : File). bytes_in f.kind)
 
--- a kind is told by its shape and its bytes
+-- a kind is given by its shape and its bytes
 kind_of : (k l : Kind) → blank_kind k ≡ blank_kind l → bytes_in k ≡ bytes_in l → k ≡ l
 kind_of (Regular b) (Regular c) e g = ap Regular g
 kind_of (Regular b) (Directory p n es) e g = cc

@@ -19,11 +19,11 @@ use Rattle.nfs_policy.specs.Shape.{blank_kind, blank_file, blank_where, blank}
 abbrev pub shown : (ℕ → Bool) → ℕ × File → ℕ × File
 shown p e = (e.0, blank_where (p e.0) e.1)
 
--- what is told of a file, whatever its bytes
+-- what is reported of a file, whatever its bytes
 module _ {X : Type 0} (g : File → X) (same : (f : File) → g (blank_file f) ≡ g f) where
-  pub told : (b : Bool) (f : File) → g (blank_where b f) ≡ g f
-  told true f = same f
-  told false f = refl
+  pub reported : (b : Bool) (f : File) → g (blank_where b f) ≡ g f
+  reported true f = same f
+  reported false f = refl
 
 -- ---- by number
 
@@ -44,16 +44,16 @@ module _ (p : ℕ → Bool) where
     sum_blank (e ∷ es) =
         let a = sum_by-cons (λ (e : ℕ × File). w e.1) (shown p e) (map (shown p) es) in
         let b = sum_by-cons (λ (e : ℕ × File). w e.1) e es in
-        let here = told w same (p e.0) e.1 in
+        let here = reported w same (p e.0) e.1 in
         let rest = sum_blank es in
         omega (arith, a, b, here, rest)
 
   module _ {X : Type 0} (y : X) (g : File → X) (same : (f : File) → g (blank_file f) ≡ g f) where
     of_option : (b : Bool) (o : Option File) → on_some (option_map (blank_where b) o) y g ≡ on_some o y g
     of_option b None = refl
-    of_option b (Some f) = told g same b f
+    of_option b (Some f) = reported g same b f
 
-    -- what is told of the file under a number
+    -- what is reported of the file under a number
     pub read_blank : (t : Tree) (n : ℕ) → on_some (at n (blank p t).files) y g ≡ on_some (at n t.files) y g
     read_blank t n = ap (λ o. on_some o y g) (at_blank n t.files) ∙ of_option (p n) (at n t.files)
 
@@ -94,7 +94,7 @@ module _ (p : ℕ → Bool) (t : Tree) where
 
   of_found : (n : ℕ) (b : Bool) (o : Option File) → option_map (λ f. attributes_of n f (nlink (blank p t).files n f)) (option_map (blank_where b) o) ≡ option_map (λ f. attributes_of n f (nlink t.files n f)) o
   of_found n b None = refl
-  of_found n b (Some f) = (λ i. Some (attributes_of n (blank_where b f) (nlink_blank n (blank_where b f) i))) ∙ ap Some (told (λ f. attributes_of n f (nlink t.files n f)) (of_file n) b f)
+  of_found n b (Some f) = (λ i. Some (attributes_of n (blank_where b f) (nlink_blank n (blank_where b f) i))) ∙ ap Some (reported (λ f. attributes_of n f (nlink t.files n f)) (of_file n) b f)
 
   pub attributes_blank : (n : ℕ) → attributes_at (blank p t) n ≡ attributes_at t n
   attributes_blank n = ap (option_map (λ f. attributes_of n f (nlink (blank p t).files n f))) (at_blank p n t.files) ∙ of_found n (p n) (at n t.files)

@@ -11,19 +11,19 @@ use Rattle.nfs_args.specs.declared.write.Stability.TheVariants.{FileSync}
 use Rattle.nfs_attrs.specs.declared.fattr.Fattr.{Fattr}
 use Rattle.nfs_attrs.specs.declared.moment.Moment.{Moment}
 use Rattle.nfs_attrs.specs.declared.sattr.Sattr.{Sattr}
-use Rattle.nfs_dirs.specs.Pages.{fits, fits_plus, chosen, is_end, entry_told, entry_plus_told, entry_plus_with}
-use Rattle.nfs_exports.specs.declared.table.Export.{Export}
+use Rattle.nfs_dirs.specs.Pages.{fits, fits_plus, chosen, is_end, entry_reported, entry_plus_reported, entry_plus_with}
+use Rattle.nfs_exports.specs.declared.export_table.Export.{Export}
 use Rattle.nfs_inodes.proofs.Lists.{same_some, not_both, by_test}
 use Rattle.nfs_inodes.proofs.Maps.{same_number}
 use Rattle.nfs_inodes.specs.Changes.{after_resize, after_set, after_write_at}
-use Rattle.nfs_inodes.specs.Reading.{bytes_at, entries_behind}
+use Rattle.nfs_inodes.specs.Reading.{bytes_at, entries_beyond}
 use Rattle.nfs_inodes.specs.Tree.{Tree, File, Entry, at, on_some, bytes_in}
-use Rattle.nfs_procs.specs.Changers.{changed, given_of, sets_something, after_settings, set_attr, write, after_writing, made_of, after_taking, after_creating, with_cleared_mode, cleared_mode, has_bytes, size_alone, size_taken, mode_alone, create, make_dir, sym_link, remove, remove_dir, rename, link, file_mode, directory_mode, link_mode, attributes_in, verifier_in}
+use Rattle.nfs_procs.specs.Changers.{changed, given_of, sets_something, after_settings, setattr, write, after_writing, made_of, after_taking, after_creating, with_cleared_mode, cleared_mode, has_bytes, size_alone, size_taken, mode_alone, create, mkdir, symlink, remove, rmdir, rename, link, file_mode, directory_mode, link_mode, attributes_in, verifier_in}
 use Rattle.nfs_procs.specs.Doing.{Doing, change}
 use Rattle.nfs_procs.specs.NewFiles.{new_file_of}
 use Rattle.nfs_procs.specs.Performing.{AppendsAnswer, Performs}
 use Rattle.nfs_procs.specs.Procedures.{PerformsAs, doing_of}
-use Rattle.nfs_procs.specs.Readers.{handle_in, get_attr, lookup, access, read_link, read, data_of, page_at, read_dir, page_plus_at, read_dir_plus, make_node, room_in, fs_stat, fs_info, path_conf, commit, max_transfer, verifier_of}
+use Rattle.nfs_procs.specs.Readers.{handle_in, getattr, lookup, access, readlink, read, data_of, page_at, readdir, page_plus_at, readdirplus, mknod, room_in, fsstat, fsinfo, pathconf, commit, max_transfer, verifier_of}
 use Rattle.nfs_procs.specs.Scenes.{Scene, verdict_in, subjects_in, seen_in}
 use Rattle.nfs_procs.specs.declared.done.Done.{Done}
 use Rattle.nfs_procs.specs.declared.done.Done.TheVariants.{Granted, Denied, Memory}
@@ -38,7 +38,7 @@ use Rattle.nfs_xdr.specs.Written.{Written}
 use Rattle.nfs_policy.specs.Shape.{blank, blank_where, AgreeOutside}
 use Rattle.nfs_policy.specs.Reading.{ReadsNot, CallsAreConfined}
 use Rattle.nfs_policy.proofs.Blanks.{at_blank, attributes_blank, listing_blank, handle_blank, path_blank, totals_blank}
-use Rattle.nfs_policy.proofs.Changes.{blank_twice, set_blank, unlink_blank, rename_blank, link_blank, make_file_blank, make_dir_blank, make_link_blank, write_blank, resize_blank}
+use Rattle.nfs_policy.proofs.Changes.{blank_twice, set_blank, unlink_blank, rename_blank, link_blank, make_file_blank, mkdir_blank, make_link_blank, write_blank, resize_blank}
 use Rattle.nfs_policy.proofs.Wants.{wants_blank}
 use Rattle.nfs_policy.proofs.Rules.{veiled, found_veiled, subject_blank, subjects_blank, both_veiled, verdict_blank}
 
@@ -85,38 +85,38 @@ module _ (p : ℕ → Bool) where
   pub does_blank : (args : NfsArgs) (doing : Doing) → doing_of args ≡ Some doing → DoesBlank doing
   does_blank args doing e = by args doing e
     where
-      -- an effect is told by its procedure
-      told_as : (d doing : Doing) → Some d ≡ Some doing → DoesBlank d → DoesBlank doing
-      told_as d doing e h = subst DoesBlank (same_some e) h
+      -- an effect is given by its procedure
+      reported_as : (d doing : Doing) → Some d ≡ Some doing → DoesBlank d → DoesBlank doing
+      reported_as d doing e h = subst DoesBlank (same_some e) h
 
       exact : (d doing : Doing) → Some d ≡ Some doing → ((one two : Subject) (now : Moment) (tag : ℕ) → d.effect (veiled p one) (veiled p two) now tag ≡ blank p (d.effect one two now tag)) → DoesBlank doing
-      exact d doing e h = told_as d doing e (λ one two now tag. exactly (d.effect (veiled p one) (veiled p two) now tag) (d.effect one two now tag) (h one two now tag))
+      exact d doing e h = reported_as d doing e (λ one two now tag. exactly (d.effect (veiled p one) (veiled p two) now tag) (d.effect one two now tag) (h one two now tag))
 
       by : (args : NfsArgs) (doing : Doing) → doing_of args ≡ Some doing → DoesBlank doing
       by nfs.Null doing e = absurd (not_both refl e)
-      by (nfs.GetAttr file) doing e = told_as get_attr doing e (λ one two now tag. leaves one)
-      by (nfs.SetAttr a) doing e = told_as (set_attr a) doing e (λ one two now tag. settings_blank one.tree one.file.fileid (with_cleared_mode one.ids.uid one.file a.attributes) now)
-      by (nfs.Lookup a) doing e = told_as (lookup a) doing e (λ one two now tag. leaves one)
-      by (nfs.Access a) doing e = told_as (access a) doing e (λ one two now tag. leaves one)
-      by (nfs.ReadLink file) doing e = told_as (read_link file) doing e (λ one two now tag. leaves one)
-      by (nfs.Read a) doing e = told_as (read a) doing e (λ one two now tag. leaves one)
-      by (nfs.Write a) doing e = told_as (write a) doing e (λ one two now tag. writing_blank one.tree one.file.fileid a.offset a.content (cleared_mode one.ids.uid one.file (has_bytes a.content)) now)
-      by (nfs.Create a) doing e = told_as (create a) doing e (λ one two now tag.
+      by (nfs.Getattr file) doing e = reported_as getattr doing e (λ one two now tag. leaves one)
+      by (nfs.Setattr a) doing e = reported_as (setattr a) doing e (λ one two now tag. settings_blank one.tree one.file.fileid (with_cleared_mode one.ids.uid one.file a.attributes) now)
+      by (nfs.Lookup a) doing e = reported_as (lookup a) doing e (λ one two now tag. leaves one)
+      by (nfs.Access a) doing e = reported_as (access a) doing e (λ one two now tag. leaves one)
+      by (nfs.Readlink file) doing e = reported_as (readlink file) doing e (λ one two now tag. leaves one)
+      by (nfs.Read a) doing e = reported_as (read a) doing e (λ one two now tag. leaves one)
+      by (nfs.Write a) doing e = reported_as (write a) doing e (λ one two now tag. writing_blank one.tree one.file.fileid a.offset a.content (cleared_mode one.ids.uid one.file (has_bytes a.content)) now)
+      by (nfs.Create a) doing e = reported_as (create a) doing e (λ one two now tag.
           ap (λ o. blank p (on_some o (after_creating (veiled p one) a now tag) (λ f. after_taking (blank p one.tree) one.ids.uid f a.how now))) (found_veiled p one a.place.name)
           ∙ create_case one a now tag (found one a.place.name))
-      by (nfs.MakeDir a) doing e = exact (make_dir a) doing e (λ one two now tag. make_dir_blank p one.tree one.file.fileid tag a.place.name (new_file_of directory_mode one.ids now a.attributes) now)
-      by (nfs.SymLink a) doing e = exact (sym_link a) doing e (λ one two now tag. make_link_blank p one.tree one.file.fileid tag a.place.name a.path (record (new_file_of link_mode one.ids now a.attributes) { mode = link_mode }) now)
-      by (nfs.MakeNode a) doing e = told_as (make_node a) doing e (λ one two now tag. leaves one)
+      by (nfs.Mkdir a) doing e = exact (mkdir a) doing e (λ one two now tag. mkdir_blank p one.tree one.file.fileid tag a.place.name (new_file_of directory_mode one.ids now a.attributes) now)
+      by (nfs.Symlink a) doing e = exact (symlink a) doing e (λ one two now tag. make_link_blank p one.tree one.file.fileid tag a.place.name a.path (record (new_file_of link_mode one.ids now a.attributes) { mode = link_mode }) now)
+      by (nfs.Mknod a) doing e = reported_as (mknod a) doing e (λ one two now tag. leaves one)
       by (nfs.Remove a) doing e = exact (remove a) doing e (λ one two now tag. unlink_blank p one.tree one.file.fileid a.name now)
-      by (nfs.RemoveDir a) doing e = exact (remove_dir a) doing e (λ one two now tag. unlink_blank p one.tree one.file.fileid a.name now)
+      by (nfs.Rmdir a) doing e = exact (rmdir a) doing e (λ one two now tag. unlink_blank p one.tree one.file.fileid a.name now)
       by (nfs.Rename a) doing e = exact (rename a) doing e (λ one two now tag. rename_blank p one.tree one.file.fileid two.file.fileid a.from.name a.to.name now)
       by (nfs.Link a) doing e = exact (link a) doing e (λ one two now tag. link_blank p one.tree one.file.fileid two.file.fileid a.place.name now)
-      by (nfs.ReadDir a) doing e = told_as (read_dir a) doing e (λ one two now tag. leaves one)
-      by (nfs.ReadDirPlus a) doing e = told_as (read_dir_plus a) doing e (λ one two now tag. leaves one)
-      by (nfs.FsStat file) doing e = told_as (fs_stat file) doing e (λ one two now tag. leaves one)
-      by (nfs.FsInfo file) doing e = told_as (fs_info file) doing e (λ one two now tag. leaves one)
-      by (nfs.PathConf file) doing e = told_as (path_conf file) doing e (λ one two now tag. leaves one)
-      by (nfs.Commit a) doing e = told_as (commit a) doing e (λ one two now tag. leaves one)
+      by (nfs.Readdir a) doing e = reported_as (readdir a) doing e (λ one two now tag. leaves one)
+      by (nfs.Readdirplus a) doing e = reported_as (readdirplus a) doing e (λ one two now tag. leaves one)
+      by (nfs.Fsstat file) doing e = reported_as (fsstat file) doing e (λ one two now tag. leaves one)
+      by (nfs.Fsinfo file) doing e = reported_as (fsinfo file) doing e (λ one two now tag. leaves one)
+      by (nfs.Pathconf file) doing e = reported_as (pathconf file) doing e (λ one two now tag. leaves one)
+      by (nfs.Commit a) doing e = reported_as (commit a) doing e (λ one two now tag. leaves one)
 
   -- ---- answers
 
@@ -144,54 +144,54 @@ module _ (p : ℕ → Bool) where
       of None = refl
       of (Some f) = refl
 
-  plus_blank : (t : Tree) (searchable : Bool) (e : Entry) → entry_plus_told (blank p t) searchable e ≡ entry_plus_told t searchable e
+  plus_blank : (t : Tree) (searchable : Bool) (e : Entry) → entry_plus_reported (blank p t) searchable e ≡ entry_plus_reported t searchable e
   plus_blank t searchable e = λ i. entry_plus_with e (if searchable then attributes_blank p t e.number i else None) (if searchable then handle_blank p t e.number i else None)
 
   page_blank : (t : Tree) (f : Fattr) (cookie count : ℕ) → page_at (blank p t) f cookie count ≡ page_at t f cookie count
   page_blank t f cookie count = λ i. record {
     attributes = Some f;
     verifier = 0;
-    entries = map entry_told (chosen (fits count) (entries_behind cookie (listing_blank p t f.fileid i)));
-    eof = is_end (fits count) (entries_behind cookie (listing_blank p t f.fileid i));
+    entries = map entry_reported (chosen (fits count) (entries_beyond cookie (listing_blank p t f.fileid i)));
+    eof = is_end (fits count) (entries_beyond cookie (listing_blank p t f.fileid i));
   }
 
   page_plus_blank : (t : Tree) (f : Fattr) (searchable : Bool) (cookie dircount maxcount : ℕ) → page_plus_at (blank p t) f searchable cookie dircount maxcount ≡ page_plus_at t f searchable cookie dircount maxcount
   page_plus_blank t f searchable cookie dircount maxcount = λ i. record {
     attributes = Some f;
     verifier = 0;
-    entries = map (λ e. plus_blank t searchable e i) (chosen (fits_plus dircount maxcount searchable) (entries_behind cookie (listing_blank p t f.fileid i)));
-    eof = is_end (fits_plus dircount maxcount searchable) (entries_behind cookie (listing_blank p t f.fileid i));
+    entries = map (λ e. plus_blank t searchable e i) (chosen (fits_plus dircount maxcount searchable) (entries_beyond cookie (listing_blank p t f.fileid i)));
+    eof = is_end (fits_plus dircount maxcount searchable) (entries_beyond cookie (listing_blank p t f.fileid i));
   }
 
   pub answers_blank : (args : NfsArgs) (doing : Doing) → doing_of args ≡ Some doing → (one two : Subject) (new : Tree) → ReadsOther args one → AnswersAt doing one two new
   answers_blank args doing e one two new reads = by args e reads
     where
-      told_as : (d : Doing) → Some d ≡ Some doing → AnswersAt d one two new → AnswersAt doing one two new
-      told_as d e h = subst (λ d. AnswersAt d one two new) (same_some e) h
+      reported_as : (d : Doing) → Some d ≡ Some doing → AnswersAt d one two new → AnswersAt doing one two new
+      reported_as d e h = subst (λ d. AnswersAt d one two new) (same_some e) h
 
       by : (args : NfsArgs) → doing_of args ≡ Some doing → ReadsOther args one → AnswersAt doing one two new
       by nfs.Null e reads = absurd (not_both refl e)
-      by (nfs.GetAttr file) e reads = told_as get_attr e refl
-      by (nfs.SetAttr a) e reads = told_as (set_attr a) e (λ i. answer.SetAttr (Ok (changed_blank new one i)))
-      by (nfs.Lookup a) e reads = told_as (lookup a) e (λ i. answer.Lookup (Ok (record { file = on_some (found_veiled p one a.name i) [] (λ f. handle_in_blank one.tree f i); attributes = found_veiled p one a.name i; dir = Some one.file })))
-      by (nfs.Access a) e reads = told_as (access a) e refl
-      by (nfs.ReadLink file) e reads = told_as (read_link file) e (λ i. answer.ReadLink (Ok (record { attributes = Some one.file; path = on_some (path_blank p one.tree one.file.fileid i) [] (λ path. path) })))
-      by (nfs.Read a) e reads = told_as (read a) e (λ i. answer.Read (Ok (data_of one.file a.offset (take (min a.count max_transfer) (drop a.offset (bytes_other one.tree one.file.fileid (reads a refl) i))))))
-      by (nfs.Write a) e reads = told_as (write a) e (λ i. answer.Write (Ok (record { file = changed_blank new one i; count = length a.content; committed = FileSync; verifier = verifier_of one.tree })))
-      by (nfs.Create a) e reads = told_as (create a) e (λ i. answer.Create (Ok (made_blank new (on_some (found_veiled p one a.place.name i) one.tree.next (λ f. f.fileid)) one i)))
-      by (nfs.MakeDir a) e reads = told_as (make_dir a) e (λ i. answer.MakeDir (Ok (made_blank new one.tree.next one i)))
-      by (nfs.SymLink a) e reads = told_as (sym_link a) e (λ i. answer.SymLink (Ok (made_blank new one.tree.next one i)))
-      by (nfs.MakeNode a) e reads = told_as (make_node a) e refl
-      by (nfs.Remove a) e reads = told_as (remove a) e (λ i. answer.Remove (Ok (changed_blank new one i)))
-      by (nfs.RemoveDir a) e reads = told_as (remove_dir a) e (λ i. answer.RemoveDir (Ok (changed_blank new one i)))
-      by (nfs.Rename a) e reads = told_as (rename a) e (λ i. answer.Rename (Ok (record { from = changed_blank new one i; to = changed_blank new two i })))
-      by (nfs.Link a) e reads = told_as (link a) e (λ i. answer.Link (Ok (record { attributes = attributes_blank p new one.file.fileid i; dir = changed_blank new two i })))
-      by (nfs.ReadDir a) e reads = told_as (read_dir a) e (λ i. answer.ReadDir (Ok (page_blank one.tree one.file a.cookie a.count i)))
-      by (nfs.ReadDirPlus a) e reads = told_as (read_dir_plus a) e (λ i. answer.ReadDirPlus (Ok (page_plus_blank one.tree one.file (may one.ids one.file Execute) a.cookie a.dircount a.maxcount i)))
-      by (nfs.FsStat file) e reads = told_as (fs_stat file) e (λ i. answer.FsStat (Ok (room_in (slice_get one.tree.volumes (one.file.fsid - 1)) (totals_blank p one.tree (one.file.fsid - 1) i) one.file)))
-      by (nfs.FsInfo file) e reads = told_as (fs_info file) e refl
-      by (nfs.PathConf file) e reads = told_as (path_conf file) e refl
-      by (nfs.Commit a) e reads = told_as (commit a) e refl
+      by (nfs.Getattr file) e reads = reported_as getattr e refl
+      by (nfs.Setattr a) e reads = reported_as (setattr a) e (λ i. answer.Setattr (Ok (changed_blank new one i)))
+      by (nfs.Lookup a) e reads = reported_as (lookup a) e (λ i. answer.Lookup (Ok (record { file = on_some (found_veiled p one a.name i) [] (λ f. handle_in_blank one.tree f i); attributes = found_veiled p one a.name i; dir = Some one.file })))
+      by (nfs.Access a) e reads = reported_as (access a) e refl
+      by (nfs.Readlink file) e reads = reported_as (readlink file) e (λ i. answer.Readlink (Ok (record { attributes = Some one.file; path = on_some (path_blank p one.tree one.file.fileid i) [] (λ path. path) })))
+      by (nfs.Read a) e reads = reported_as (read a) e (λ i. answer.Read (Ok (data_of one.file a.offset (take (min a.count max_transfer) (drop a.offset (bytes_other one.tree one.file.fileid (reads a refl) i))))))
+      by (nfs.Write a) e reads = reported_as (write a) e (λ i. answer.Write (Ok (record { file = changed_blank new one i; count = length a.content; committed = FileSync; verifier = verifier_of one.tree })))
+      by (nfs.Create a) e reads = reported_as (create a) e (λ i. answer.Create (Ok (made_blank new (on_some (found_veiled p one a.place.name i) one.tree.next (λ f. f.fileid)) one i)))
+      by (nfs.Mkdir a) e reads = reported_as (mkdir a) e (λ i. answer.Mkdir (Ok (made_blank new one.tree.next one i)))
+      by (nfs.Symlink a) e reads = reported_as (symlink a) e (λ i. answer.Symlink (Ok (made_blank new one.tree.next one i)))
+      by (nfs.Mknod a) e reads = reported_as (mknod a) e refl
+      by (nfs.Remove a) e reads = reported_as (remove a) e (λ i. answer.Remove (Ok (changed_blank new one i)))
+      by (nfs.Rmdir a) e reads = reported_as (rmdir a) e (λ i. answer.Rmdir (Ok (changed_blank new one i)))
+      by (nfs.Rename a) e reads = reported_as (rename a) e (λ i. answer.Rename (Ok (record { from = changed_blank new one i; to = changed_blank new two i })))
+      by (nfs.Link a) e reads = reported_as (link a) e (λ i. answer.Link (Ok (record { attributes = attributes_blank p new one.file.fileid i; dir = changed_blank new two i })))
+      by (nfs.Readdir a) e reads = reported_as (readdir a) e (λ i. answer.Readdir (Ok (page_blank one.tree one.file a.cookie a.count i)))
+      by (nfs.Readdirplus a) e reads = reported_as (readdirplus a) e (λ i. answer.Readdirplus (Ok (page_plus_blank one.tree one.file (may one.ids one.file Execute) a.cookie a.dircount a.maxcount i)))
+      by (nfs.Fsstat file) e reads = reported_as (fsstat file) e (λ i. answer.Fsstat (Ok (room_in (slice_get one.tree.volumes (one.file.fsid - 1)) (totals_blank p one.tree (one.file.fsid - 1) i) one.file)))
+      by (nfs.Fsinfo file) e reads = reported_as (fsinfo file) e refl
+      by (nfs.Pathconf file) e reads = reported_as (pathconf file) e refl
+      by (nfs.Commit a) e reads = reported_as (commit a) e refl
 
 -- ---- a call in two trees that agree outside f
 

@@ -6,7 +6,7 @@ use Rattle.nfs_attrs.specs.declared.moment.Moment.{Moment}
 use Rattle.nfs_inodes.proofs.Maps.{same_number}
 use Rattle.nfs_inodes.specs.declared.given_attributes.GivenAttributes.{GivenAttributes}
 use Rattle.nfs_inodes.specs.declared.new_file.NewFile.{NewFile}
-use Rattle.nfs_inodes.specs.Changes.{with_new_file, with_file, kind_with_entry, entered, with_entry, kind_without_entry, left, without_entry, without_file, touched, released, kind_with_parent, moved_to, moved, zeros, new_file, volume_index, with_named_file, after_make_file, after_make_dir, after_make_link, after_link, put_bytes, kind_with_bytes, file_with_bytes, after_write_at, sized, resized_to, after_resize, with_given, after_set, after_unlink, carried, after_rename}
+use Rattle.nfs_inodes.specs.Changes.{with_new_file, with_file, kind_with_entry, entered, with_entry, kind_without_entry, left, without_entry, without_file, touched, released, kind_with_parent, moved_to, moved, zeros, new_file, volume_index, with_named_file, after_make_file, after_mkdir, after_make_link, after_link, put_bytes, kind_with_bytes, file_with_bytes, after_write_at, sized, resized_to, after_resize, with_given, after_set, after_unlink, carried, after_rename}
 use Rattle.nfs_inodes.specs.Reading.{entry_at}
 use Rattle.nfs_inodes.specs.Tree.{Tree, File, Kind, Entry, Regular, Directory, Link, at, with_at, without_at, on_some, bytes_in, names_of}
 use Rattle.nfs_policy.specs.Shape.{blank_kind, blank_file, blank_where, blank}
@@ -181,8 +181,8 @@ module _ (p : ℕ → Bool) where
   pub make_file_blank : (t : Tree) (d size tag : ℕ) (name : List ℕ) (given : NewFile) (verifier : Option (List ℕ)) (now : Moment) → after_make_file (blank p t) d name (zeros size) given verifier tag now ≡ blank p (after_make_file t d name (zeros size) given verifier tag now)
   make_file_blank t d size tag name given verifier now = named_file_blank t d name (λ volume. new_file volume (Regular (zeros size)) given verifier tag now) now (zero_file size given verifier tag now)
 
-  pub make_dir_blank : (t : Tree) (d tag : ℕ) (name : List ℕ) (given : NewFile) (now : Moment) → after_make_dir (blank p t) d name given tag now ≡ blank p (after_make_dir t d name given tag now)
-  make_dir_blank t d tag name given now = named_file_blank t d name (λ volume. new_file volume (Directory d 3 []) given None tag now) now of
+  pub mkdir_blank : (t : Tree) (d tag : ℕ) (name : List ℕ) (given : NewFile) (now : Moment) → after_mkdir (blank p t) d name given tag now ≡ blank p (after_mkdir t d name given tag now)
+  mkdir_blank t d tag name given now = named_file_blank t d name (λ volume. new_file volume (Directory d 3 []) given None tag now) now of
     where
       of : (b : Bool) (volume : ℕ) → blank_where b (new_file volume (Directory d 3 []) given None tag now) ≡ new_file volume (Directory d 3 []) given None tag now
       of true volume = refl

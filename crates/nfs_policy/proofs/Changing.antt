@@ -21,8 +21,8 @@ use Rattle.nfs_server.specs.Events.{Event, Answer, Choice, Done}
 use Rattle.nfs_server.specs.Requests.{Request, Nothing, OfNfs, OfMount, request_of, is_null, is_nfs, args_in, mount_args_in}
 use Rattle.nfs_server.specs.Requests as requests
 use Rattle.nfs_server.specs.RpcRules.{rpc_failure_of}
-use Rattle.nfs_server.specs.Repeats.{first_reply, may_change}
-use Rattle.nfs_server.specs.Steps.{Setup, State, Decided, Refusable, Performed, MountDecided, MountPerformed, scene_of, Requested, Judged, Called, Repeated, Step}
+use Rattle.nfs_server.specs.Retransmissions.{first_reply, may_change}
+use Rattle.nfs_server.specs.Steps.{Setup, State, Decided, Refusable, Performed, MountDecided, MountPerformed, scene_of, Requested, Judged, Called, Retransmitted, Step}
 use Rattle.nfs_server.specs.declared.rpc_rules.RpcRule.{RpcRule}
 use Rattle.nfs_policy.specs.Confining.{Asks}
 
@@ -121,9 +121,9 @@ module _ (setup : Setup) (old : State) (event : Event) (choice : Choice) (answer
   called (Err fault) is h = same h.1
   called (Ok head) is h = judged head.0 head.1 is (rpc_failure_of head.0 head.1) refl h
 
-  repeated : (reply : Option (List ℕ)) → Repeated reply setup old event choice answer new → Changes
-  repeated (Some reply) h = same h.1
-  repeated None h = called (head_at event.bytes) refl h
+  retransmitted : (reply : Option (List ℕ)) → Retransmitted reply setup old event choice answer new → Changes
+  retransmitted (Some reply) h = same h.1
+  retransmitted None h = called (head_at event.bytes) refl h
 
-pub step_changes : (setup : Setup) (past : List Done) (old : State) (event : Event) (choice : Choice) (answer : Answer) (new : State) → Step setup past old event choice answer new → Changes setup old event choice answer new
-step_changes setup past old event choice answer new step = repeated setup old event choice answer new (first_reply setup.places choice.again past event) step
+pub step_changes : (setup : Setup) (history : List Done) (old : State) (event : Event) (choice : Choice) (answer : Answer) (new : State) → Step setup history old event choice answer new → Changes setup old event choice answer new
+step_changes setup history old event choice answer new step = retransmitted setup old event choice answer new (first_reply setup.places choice.again history event) step

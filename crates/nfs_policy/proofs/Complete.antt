@@ -22,18 +22,18 @@ use Rattle.nfs_inodes.specs.Conditions.{MayUnlink, MayRename, MayReplace}
 use Rattle.nfs_inodes.specs.Law.{Law, Lives}
 use Rattle.nfs_inodes.specs.Reading.{attributes_of, attributes_at, dot, dot_dot, entry_at, entry_named, listing, numbered_files, path_of, type_of}
 use Rattle.nfs_inodes.specs.Tree.{Tree, File, Kind, Regular, Directory, Link, Entry, at, on_some, entries_in, parent_in, is_directory, names_of, nlink}
-use Rattle.nfs_procs.specs.Changers.{set_attr, write, create, make_dir, sym_link, remove, remove_dir, rename, link, given_of, sets_something, after_settings, after_taking, after_creating, with_cleared_mode, cleared_mode, has_bytes, size_alone, size_taken, mode_alone}
+use Rattle.nfs_procs.specs.Changers.{setattr, write, create, mkdir, symlink, remove, rmdir, rename, link, given_of, sets_something, after_settings, after_taking, after_creating, with_cleared_mode, cleared_mode, has_bytes, size_alone, size_taken, mode_alone}
 use Rattle.nfs_procs.specs.Doing.{Doing}
 use Rattle.nfs_procs.specs.Performing.{IsGranted}
 use Rattle.nfs_procs.specs.Procedures.{doing_of}
-use Rattle.nfs_procs.specs.Readers.{get_attr, lookup, access, read_link, read, read_dir, read_dir_plus, make_node, fs_stat, fs_info, path_conf, commit}
+use Rattle.nfs_procs.specs.Readers.{getattr, lookup, access, readlink, read, readdir, readdirplus, mknod, fsstat, fsinfo, pathconf, commit}
 use Rattle.nfs_procs.specs.Scenes.{Scene}
 use Rattle.nfs_rules.proofs.Firsts.{passed_at}
 use Rattle.nfs_rules.proofs.Removals.{may_remove, may_remove_directory, some_from_is_none}
 use Rattle.nfs_rules.proofs.Renames.{may_rename}
 use Rattle.nfs_rules.proofs.SeenFiles.{seen_lives, seen_place, found_seen}
 use Rattle.nfs_rules.specs.Subjects.{Subject}
-use Rattle.nfs_rules.specs.Table.{rules_of, lookup_rules, remove_rules, remove_dir_rules}
+use Rattle.nfs_rules.specs.Table.{rules_of, lookup_rules, remove_rules, rmdir_rules}
 use Rattle.nfs_rules.specs.Tests as test
 use Rattle.nfs_rules.specs.Tests.{first, found, is_link_type}
 use Rattle.nfs_policy.specs.Complete.{HasPath, HasFound, HasVolume, HasListed, HasChanged, HasBoth, IsShown, HasMade}
@@ -173,7 +173,7 @@ module _ (c : Scene) (law : Law c.tree) (one two : Subject) (granted : IsGranted
   pub has_path : HasPath c one two
   has_path handle is =
       let m = mapped (λ (h : File). attributes_of one.file.fileid h (nlink one.tree.files one.file.fileid h)) (at one.file.fileid one.tree.files) one.file are.first.seen in
-      let passed : not (is_link_type one.file.file_type) ≡ false = passed_at (rules_of one two (nfs.ReadLink handle)) (kept (nfs.ReadLink handle) is) 0 (test.not_link one) refl in
+      let passed : not (is_link_type one.file.file_type) ≡ false = passed_at (rules_of one two (nfs.Readlink handle)) (kept (nfs.Readlink handle) is) 0 (test.not_link one) refl in
       ap (λ o. is_some (on_some o None (λ (f : File). path_of f.kind))) m.1
       ∙ path_there m.0.kind (ap (λ (f : Fattr). not (is_link_type f.file_type)) m.2 ∙ passed)
     where
@@ -261,8 +261,8 @@ module _ (c : Scene) (law : Law c.tree) (one two : Subject) (granted : IsGranted
   after : (args : NfsArgs) (doing : Doing) (tag : ℕ) → doing_of args ≡ Some doing → c.args ≡ args → IsThere (doing.effect one two c.now tag) d
   after args doing tag e is = by args e is
     where
-      told_as : (k : Doing) → Some k ≡ Some doing → IsThere (k.effect one two c.now tag) d → IsThere (doing.effect one two c.now tag) d
-      told_as k e h = subst (λ (k : Doing). IsThere (k.effect one two c.now tag) d) (same_some e) h
+      reported_as : (k : Doing) → Some k ≡ Some doing → IsThere (k.effect one two c.now tag) d → IsThere (doing.effect one two c.now tag) d
+      reported_as k e h = subst (λ (k : Doing). IsThere (k.effect one two c.now tag) d) (same_some e) h
 
       created : (a : Create) (o : Option Fattr) → IsThere (on_some o (after_creating one a c.now tag) (λ f. after_taking one.tree one.ids.uid f a.how c.now)) d
       created a None = made_there d a.place.name _ there
@@ -270,34 +270,34 @@ module _ (c : Scene) (law : Law c.tree) (one two : Subject) (granted : IsGranted
 
       by : (args : NfsArgs) → doing_of args ≡ Some doing → c.args ≡ args → IsThere (doing.effect one two c.now tag) d
       by nfs.Null e is = absurd (not_both refl e)
-      by (nfs.GetAttr file) e is = told_as get_attr e there
-      by (nfs.SetAttr a) e is = told_as (set_attr a) e (stays_settled d one.tree d (with_cleared_mode one.ids.uid one.file a.attributes) c.now there)
-      by (nfs.Lookup a) e is = told_as (lookup a) e there
-      by (nfs.Access a) e is = told_as (access a) e there
-      by (nfs.ReadLink file) e is = told_as (read_link file) e there
-      by (nfs.Read a) e is = told_as (read a) e there
-      by (nfs.Write a) e is = told_as (write a) e (stays_settled d (after_write_at one.tree d a.offset a.content c.now) d (mode_alone (cleared_mode one.ids.uid one.file (has_bytes a.content))) c.now
+      by (nfs.Getattr file) e is = reported_as getattr e there
+      by (nfs.Setattr a) e is = reported_as (setattr a) e (stays_settled d one.tree d (with_cleared_mode one.ids.uid one.file a.attributes) c.now there)
+      by (nfs.Lookup a) e is = reported_as (lookup a) e there
+      by (nfs.Access a) e is = reported_as (access a) e there
+      by (nfs.Readlink file) e is = reported_as (readlink file) e there
+      by (nfs.Read a) e is = reported_as (read a) e there
+      by (nfs.Write a) e is = reported_as (write a) e (stays_settled d (after_write_at one.tree d a.offset a.content c.now) d (mode_alone (cleared_mode one.ids.uid one.file (has_bytes a.content))) c.now
           (stays_written d one.tree d a.offset a.content c.now there))
-      by (nfs.Create a) e is = told_as (create a) e (created a (found one a.place.name))
-      by (nfs.MakeDir a) e is = told_as (make_dir a) e (made_there d a.place.name _ there)
-      by (nfs.SymLink a) e is = told_as (sym_link a) e (made_there d a.place.name _ there)
-      by (nfs.MakeNode a) e is = told_as (make_node a) e there
+      by (nfs.Create a) e is = reported_as (create a) e (created a (found one a.place.name))
+      by (nfs.Mkdir a) e is = reported_as (mkdir a) e (made_there d a.place.name _ there)
+      by (nfs.Symlink a) e is = reported_as (symlink a) e (made_there d a.place.name _ there)
+      by (nfs.Mknod a) e is = reported_as (mknod a) e there
       by (nfs.Remove a) e is =
           let none = kept (nfs.Remove a) is in
           let f = some_from_is_none (found one a.name) (passed_at (remove_rules one a.name) none 6 (test.no_entry one a.name) refl) in
-          told_as (remove a) e (stays_unlinked d one.tree d a.name c.now (off_unlinked d a.name (may_remove one lawful are.first.seen a.name none f.0 f.1).may) there)
-      by (nfs.RemoveDir a) e is =
-          let none = kept (nfs.RemoveDir a) is in
-          let f = some_from_is_none (found one a.name) (passed_at (remove_dir_rules one a.name) none 7 (test.no_entry one a.name) refl) in
-          told_as (remove_dir a) e (stays_unlinked d one.tree d a.name c.now (off_unlinked d a.name (may_remove_directory one lawful are.first.seen a.name none f.0 f.1).may) there)
-      by (nfs.Rename a) e is = told_as (rename a) e (stays_renamed d one.tree d two.file.fileid a.from.name a.to.name c.now (from_apart d two.file.fileid a.from.name a.to.name (may_move a is)) there)
-      by (nfs.Link a) e is = told_as (link a) e (stays_entered d (touched one.tree d c.now) two.file.fileid d a.place.name c.now (stays_touched d one.tree d c.now there))
-      by (nfs.ReadDir a) e is = told_as (read_dir a) e there
-      by (nfs.ReadDirPlus a) e is = told_as (read_dir_plus a) e there
-      by (nfs.FsStat file) e is = told_as (fs_stat file) e there
-      by (nfs.FsInfo file) e is = told_as (fs_info file) e there
-      by (nfs.PathConf file) e is = told_as (path_conf file) e there
-      by (nfs.Commit a) e is = told_as (commit a) e there
+          reported_as (remove a) e (stays_unlinked d one.tree d a.name c.now (off_unlinked d a.name (may_remove one lawful are.first.seen a.name none f.0 f.1).may) there)
+      by (nfs.Rmdir a) e is =
+          let none = kept (nfs.Rmdir a) is in
+          let f = some_from_is_none (found one a.name) (passed_at (rmdir_rules one a.name) none 7 (test.no_entry one a.name) refl) in
+          reported_as (rmdir a) e (stays_unlinked d one.tree d a.name c.now (off_unlinked d a.name (may_remove_directory one lawful are.first.seen a.name none f.0 f.1).may) there)
+      by (nfs.Rename a) e is = reported_as (rename a) e (stays_renamed d one.tree d two.file.fileid a.from.name a.to.name c.now (from_apart d two.file.fileid a.from.name a.to.name (may_move a is)) there)
+      by (nfs.Link a) e is = reported_as (link a) e (stays_entered d (touched one.tree d c.now) two.file.fileid d a.place.name c.now (stays_touched d one.tree d c.now there))
+      by (nfs.Readdir a) e is = reported_as (readdir a) e there
+      by (nfs.Readdirplus a) e is = reported_as (readdirplus a) e there
+      by (nfs.Fsstat file) e is = reported_as (fsstat file) e there
+      by (nfs.Fsinfo file) e is = reported_as (fsinfo file) e there
+      by (nfs.Pathconf file) e is = reported_as (pathconf file) e there
+      by (nfs.Commit a) e is = reported_as (commit a) e there
 
   pub has_changed : HasChanged c one two
   has_changed doing tag e fits = shown_attributes (doing.effect one two c.now tag) d (after c.args doing tag e refl)
@@ -311,8 +311,8 @@ module _ (c : Scene) (law : Law c.tree) (one two : Subject) (granted : IsGranted
   pub has_made : HasMade c one two
   has_made = (
     λ a tag is. created a tag (found one a.place.name) refl,
-    λ a tag is. is_shown ((make_dir a).effect one two c.now tag) one.tree.next (new_there a.place.name _),
-    λ a tag is. is_shown ((sym_link a).effect one two c.now tag) one.tree.next (new_there a.place.name _),
+    λ a tag is. is_shown ((mkdir a).effect one two c.now tag) one.tree.next (new_there a.place.name _),
+    λ a tag is. is_shown ((symlink a).effect one two c.now tag) one.tree.next (new_there a.place.name _),
   )
     where
       created : (a : Create) (tag : ℕ) (o : Option Fattr) → found one a.place.name ≡ o

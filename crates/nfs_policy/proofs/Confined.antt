@@ -13,7 +13,7 @@ use Rattle.nfs_inodes.specs.Law.{Law}
 use Rattle.nfs_inodes.specs.Reading.{numbered_files}
 use Rattle.nfs_inodes.specs.Tree.{Tree, File, at}
 use Rattle.nfs_server.specs.Events.{Event, Answer, Choice, Done}
-use Rattle.nfs_server.specs.Fits.{Held, Past, Fits, GoesOn}
+use Rattle.nfs_server.specs.Fits.{Held, History, Fits, GoesOn}
 use Rattle.nfs_server.specs.Steps.{Setup, State, IsRun, scene_of}
 use Rattle.nfs_policy.proofs.Changing.{Changes, step_changes}
 use Rattle.nfs_policy.proofs.Lawful.{granted_law}
@@ -45,7 +45,7 @@ module _ (setup : Setup) (old : State) (event : Event) (choice : Choice) (answer
   goes (inr g) = let f = g.effect in subst (Goes old.tree) (sym f.new_is) (granted_goes (scene_of setup old event g.caller g.args) law f.doing f.doing_is f.one f.two f.tag f.fits f.granted)
 
 pub change_is_confined : ChangeIsConfined
-change_is_confined setup past old event choice answer new law step = confined setup old event choice answer new law (step_changes setup past old event choice answer new step)
+change_is_confined setup history old event choice answer new law step = confined setup old event choice answer new law (step_changes setup history old event choice answer new step)
 
 -- ---- runs
 
@@ -88,12 +88,12 @@ abbrev LeadsTo : State → State → Type 0
 LeadsTo state between = Law between.tree × Goes between.tree state.tree
 
 module _ (setup : Setup) (opening : State) where
-  through : (P Q : State → Type 0) → ((s : State) → P s → Q s) → (past : List Done) (state : State) (run : IsRun setup opening past state) → Through setup opening past state run P → Through setup opening past state run Q
+  through : (P Q : State → Type 0) → ((s : State) → P s → Q s) → (history : List Done) (state : State) (run : IsRun setup opening history state) → Through setup opening history state run P → Through setup opening history state run Q
   through P Q h [] state run p = h state p
   through P Q h (d ∷ before) state run p = (through P Q h before run.0 run.1 p.0, h state p.1)
 
   module _ (law : Law opening.tree) where
-    leads : (past : List Done) (state : State) (run : IsRun setup opening past state) → Through setup opening past state run (LeadsTo state)
+    leads : (history : List Done) (state : State) (run : IsRun setup opening history state) → Through setup opening history state run (LeadsTo state)
     leads [] state run = ((runs_are_confined setup opening law [] state run).0, goes_itself state.tree)
     leads (d ∷ before) state run =
         let last = (runs_are_confined setup opening law before run.0 run.1).0 in
@@ -103,26 +103,26 @@ module _ (setup : Setup) (opening : State) where
         )
 
 pub handles_name_for_good : HandlesNameForGood
-handles_name_for_good setup opening law past state run = (
-  λ m n handle e g. handles_name_one.once (numbered_files state.tree) m n handle (runs_are_confined setup opening law past state run).0.numbers e g,
-  through setup opening (LeadsTo state) (λ s. NamesOn s.tree state.tree) (λ s p. names_on s.tree state.tree p.0.numbers p.1) past state run (leads setup opening law past state run),
+handles_name_for_good setup opening law history state run = (
+  λ m n handle e g. handles_name_one.once (numbered_files state.tree) m n handle (runs_are_confined setup opening law history state run).0.numbers e g,
+  through setup opening (LeadsTo state) (λ s. NamesOn s.tree state.tree) (λ s p. names_on s.tree state.tree p.0.numbers p.1) history state run (leads setup opening law history state run),
 )
 
 -- ---- servers
 
 -- one event more
-module _ (past : Past) (old : Held) (event : Event) (choice : Choice) (answer : Answer) (new : Held) (fits : Fits past old) (step : GoesOn past old event choice answer new) where
+module _ (history : History) (old : Held) (event : Event) (choice : Choice) (answer : Answer) (new : Held) (fits : Fits history old) (step : GoesOn history old event choice answer new) where
   law_before : Law old.state.tree
-  law_before = (runs_are_confined old.setup past.opening fits.opens.lawful past.done old.state fits.run).0
+  law_before = (runs_are_confined old.setup history.opening fits.opens.lawful history.done old.state fits.run).0
 
   pub step_leaves : Leaves old.setup old.state event new.state
-  step_leaves = change_is_confined old.setup past.done old.state event choice answer new.state law_before step.0
+  step_leaves = change_is_confined old.setup history.done old.state event choice answer new.state law_before step.0
 
   pub step_names : NamesOn old.state.tree new.state.tree
-  step_names = names_on old.state.tree new.state.tree law_before.numbers (goes old.setup old.state event choice answer new.state law_before (step_changes old.setup past.done old.state event choice answer new.state step.0))
+  step_names = names_on old.state.tree new.state.tree law_before.numbers (goes old.setup old.state event choice answer new.state law_before (step_changes old.setup history.done old.state event choice answer new.state step.0))
 
 pub servers_are_confined : ServersAreConfined
-servers_are_confined past s fits =
-    let run = runs_are_confined s.setup past.opening fits.opens.lawful past.done s.state fits.run in
-    let handles = handles_name_for_good s.setup past.opening fits.opens.lawful past.done s.state fits.run in
+servers_are_confined history s fits =
+    let run = runs_are_confined s.setup history.opening fits.opens.lawful history.done s.state fits.run in
+    let handles = handles_name_for_good s.setup history.opening fits.opens.lawful history.done s.state fits.run in
     record { lawful = run.0; confined = run.1; one = handles.0; good = handles.1 }

@@ -5,7 +5,7 @@ use Rattle.std.proofs.lemmas.Bool.{eqb-true}
 use Rattle.nfs_attrs.specs.declared.fattr.Fattr.{Fattr}
 use Rattle.nfs_exports.specs.Ids.{squash}
 use Rattle.nfs_exports.specs.declared.options.Options.{Options}
-use Rattle.nfs_exports.specs.declared.table.Export.{Export}
+use Rattle.nfs_exports.specs.declared.export_table.Export.{Export}
 use Rattle.nfs_handles.specs.Handles.{reading}
 use Rattle.nfs_handles.specs.declared.reading.Reading.{Reading}
 use Rattle.nfs_handles.specs.declared.reading.Reading.TheVariants.{Live, Stale, Bad}

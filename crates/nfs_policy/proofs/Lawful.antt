@@ -6,15 +6,15 @@ use Rattle.nfs_args.specs.declared.args.NfsArgs.TheVariants as nfs
 use Rattle.nfs_args.specs.declared.create.Create.{Create}
 use Rattle.nfs_args.specs.declared.create.CreateHow.{CreateHow}
 use Rattle.nfs_args.specs.declared.create.CreateHow.TheVariants.{Unchecked, Guarded, Exclusive}
-use Rattle.nfs_args.specs.declared.set_attr.SetAttr.{SetAttr}
+use Rattle.nfs_args.specs.declared.setattr.Setattr.{Setattr}
 use Rattle.nfs_args.specs.declared.write.Write.{Write}
 use Rattle.nfs_attrs.specs.declared.fattr.Fattr.{Fattr}
 use Rattle.nfs_attrs.specs.declared.moment.Moment.{Moment}
 use Rattle.nfs_attrs.specs.declared.sattr.Sattr.{Sattr}
-use Rattle.nfs_exports.specs.declared.table.Export.{Export}
+use Rattle.nfs_exports.specs.declared.export_table.Export.{Export}
 use Rattle.nfs_inodes.proofs.Lists.{same_some, not_both}
 use Rattle.nfs_inodes.proofs.Maps.{at_with_same}
-use Rattle.nfs_inodes.proofs.law.NewFiles.{law_after_make_file, law_after_make_dir, law_after_make_link}
+use Rattle.nfs_inodes.proofs.law.NewFiles.{law_after_make_file, law_after_mkdir, law_after_make_link}
 use Rattle.nfs_inodes.proofs.law.Operations.{law_after_link, law_after_write_at}
 use Rattle.nfs_inodes.proofs.law.Renames.{law_after_rename}
 use Rattle.nfs_inodes.proofs.law.Settings.{law_after_resize, law_after_set, resized_is}
@@ -24,12 +24,12 @@ use Rattle.nfs_inodes.specs.Conditions.{MayMake, MayResize}
 use Rattle.nfs_inodes.specs.Law.{Law, Lives}
 use Rattle.nfs_inodes.specs.Tree.{Tree, File, at, on_some}
 use Rattle.nfs_procs.proofs.GivenSettings.{lives_written}
-use Rattle.nfs_procs.specs.Changers.{set_attr, write, create, make_dir, sym_link, remove, remove_dir, rename, link, given_of, sets_something, file_mode, directory_mode, link_mode, attributes_in, verifier_in, after_settings, after_writing, after_taking, after_creating, with_cleared_mode, cleared_mode, has_bytes, size_alone, size_taken, mode_alone}
+use Rattle.nfs_procs.specs.Changers.{setattr, write, create, mkdir, symlink, remove, rmdir, rename, link, given_of, sets_something, file_mode, directory_mode, link_mode, attributes_in, verifier_in, after_settings, after_writing, after_taking, after_creating, with_cleared_mode, cleared_mode, has_bytes, size_alone, size_taken, mode_alone}
 use Rattle.nfs_procs.specs.NewFiles.{new_file_of}
 use Rattle.nfs_procs.specs.Doing.{Doing}
 use Rattle.nfs_procs.specs.Performing.{IsGranted}
 use Rattle.nfs_procs.specs.Procedures.{doing_of}
-use Rattle.nfs_procs.specs.Readers.{get_attr, lookup, access, read_link, read, read_dir, read_dir_plus, make_node, fs_stat, fs_info, path_conf, commit}
+use Rattle.nfs_procs.specs.Readers.{getattr, lookup, access, readlink, read, readdir, readdirplus, mknod, fsstat, fsinfo, pathconf, commit}
 use Rattle.nfs_procs.specs.Scenes.{Scene}
 use Rattle.nfs_rules.proofs.Links.{may_link}
 use Rattle.nfs_rules.proofs.NewFiles.{may_make_directory, may_make_link, may_make_file}
@@ -39,7 +39,7 @@ use Rattle.nfs_rules.proofs.SeenFiles.{seen_lives, found_seen}
 use Rattle.nfs_rules.proofs.Sizes.{may_write, may_set_size, may_resize_present}
 use Rattle.nfs_rules.proofs.Firsts.{passed_at}
 use Rattle.nfs_rules.specs.Subjects.{Caller, Subject}
-use Rattle.nfs_rules.specs.Table.{rules_of, set_attr_rules, write_rules, create_rules, remove_rules, remove_dir_rules, size_in}
+use Rattle.nfs_rules.specs.Table.{rules_of, setattr_rules, write_rules, create_rules, remove_rules, rmdir_rules, size_in}
 use Rattle.nfs_rules.specs.Tests as test
 use Rattle.nfs_rules.specs.Tests.{first, found}
 use Rattle.nfs_policy.proofs.Changes.{length_zeros}
@@ -69,7 +69,7 @@ module _ (t : Tree) (law : Law t) (n : ℕ) (now : Moment) where
       by false = law
 
 module _ (s : Subject) (law : Law s.tree) (t : Tree) (exports : List (List Export)) (caller : Caller) (is : IsSubject t exports caller s) (now : Moment) where
-  given : (a : SetAttr) → first (set_attr_rules s a) ≡ None → Law (after_settings s.tree s.file.fileid (with_cleared_mode s.ids.uid s.file a.attributes) now)
+  given : (a : Setattr) → first (setattr_rules s a) ≡ None → Law (after_settings s.tree s.file.fileid (with_cleared_mode s.ids.uid s.file a.attributes) now)
   given a none = let lives = seen_lives s.tree s.file is.seen in
       settled s.tree law s.file.fileid now lives.0 lives.1 (with_cleared_mode s.ids.uid s.file a.attributes) (may_set_size s law is.seen a none)
 
@@ -108,33 +108,33 @@ granted_law c law doing e one two tag fits granted = by c.args e (rules_kept c o
     l : Law one.tree
     l = subst Law (sym are.first.tree) law
 
-    told_as : (d : Doing) → Some d ≡ Some doing → Law (d.effect one two c.now tag) → Law (doing.effect one two c.now tag)
-    told_as d e h = subst (λ (d : Doing). Law (d.effect one two c.now tag)) (same_some e) h
+    reported_as : (d : Doing) → Some d ≡ Some doing → Law (d.effect one two c.now tag) → Law (doing.effect one two c.now tag)
+    reported_as d e h = subst (λ (d : Doing). Law (d.effect one two c.now tag)) (same_some e) h
 
     by : (args : NfsArgs) → doing_of args ≡ Some doing → first (rules_of one two args) ≡ None → Law (doing.effect one two c.now tag)
     by nfs.Null e none = absurd (not_both refl e)
-    by (nfs.GetAttr file) e none = told_as get_attr e l
-    by (nfs.SetAttr a) e none = told_as (set_attr a) e (given one l c.tree c.exports c.caller is c.now a none)
-    by (nfs.Lookup a) e none = told_as (lookup a) e l
-    by (nfs.Access a) e none = told_as (access a) e l
-    by (nfs.ReadLink file) e none = told_as (read_link file) e l
-    by (nfs.Read a) e none = told_as (read a) e l
-    by (nfs.Write a) e none = told_as (write a) e (written one l c.tree c.exports c.caller is c.now a none (cleared_mode one.ids.uid one.file (has_bytes a.content)))
-    by (nfs.Create a) e none = told_as (create a) e (created one l c.tree c.exports c.caller is c.now a tag fits none (found one a.place.name) refl)
-    by (nfs.MakeDir a) e none = told_as (make_dir a) e (law_after_make_dir one.tree one.file.fileid tag a.place.name (new_file_of directory_mode one.ids c.now a.attributes) c.now (may_make_directory one l is.seen a.place.name none) fits l)
-    by (nfs.SymLink a) e none = told_as (sym_link a) e (law_after_make_link one.tree one.file.fileid tag a.place.name a.path (record (new_file_of link_mode one.ids c.now a.attributes) { mode = link_mode }) c.now (may_make_link one l is.seen a.place.name a.path none) fits l)
-    by (nfs.MakeNode a) e none = told_as (make_node a) e l
+    by (nfs.Getattr file) e none = reported_as getattr e l
+    by (nfs.Setattr a) e none = reported_as (setattr a) e (given one l c.tree c.exports c.caller is c.now a none)
+    by (nfs.Lookup a) e none = reported_as (lookup a) e l
+    by (nfs.Access a) e none = reported_as (access a) e l
+    by (nfs.Readlink file) e none = reported_as (readlink file) e l
+    by (nfs.Read a) e none = reported_as (read a) e l
+    by (nfs.Write a) e none = reported_as (write a) e (written one l c.tree c.exports c.caller is c.now a none (cleared_mode one.ids.uid one.file (has_bytes a.content)))
+    by (nfs.Create a) e none = reported_as (create a) e (created one l c.tree c.exports c.caller is c.now a tag fits none (found one a.place.name) refl)
+    by (nfs.Mkdir a) e none = reported_as (mkdir a) e (law_after_mkdir one.tree one.file.fileid tag a.place.name (new_file_of directory_mode one.ids c.now a.attributes) c.now (may_make_directory one l is.seen a.place.name none) fits l)
+    by (nfs.Symlink a) e none = reported_as (symlink a) e (law_after_make_link one.tree one.file.fileid tag a.place.name a.path (record (new_file_of link_mode one.ids c.now a.attributes) { mode = link_mode }) c.now (may_make_link one l is.seen a.place.name a.path none) fits l)
+    by (nfs.Mknod a) e none = reported_as (mknod a) e l
     by (nfs.Remove a) e none = let f = some_from_is_none (found one a.name) (passed_at (remove_rules one a.name) none 6 (test.no_entry one a.name) refl) in
-        told_as (remove a) e (law_after_unlink one.tree one.file.fileid a.name c.now (may_remove one l is.seen a.name none f.0 f.1).may l)
-    by (nfs.RemoveDir a) e none = let f = some_from_is_none (found one a.name) (passed_at (remove_dir_rules one a.name) none 7 (test.no_entry one a.name) refl) in
-        told_as (remove_dir a) e (law_after_unlink one.tree one.file.fileid a.name c.now (may_remove_directory one l is.seen a.name none f.0 f.1).may l)
-    by (nfs.Rename a) e none = told_as (rename a) e (law_after_rename one.tree one.file.fileid a.from.name two.file.fileid a.to.name c.now
+        reported_as (remove a) e (law_after_unlink one.tree one.file.fileid a.name c.now (may_remove one l is.seen a.name none f.0 f.1).may l)
+    by (nfs.Rmdir a) e none = let f = some_from_is_none (found one a.name) (passed_at (rmdir_rules one a.name) none 7 (test.no_entry one a.name) refl) in
+        reported_as (rmdir a) e (law_after_unlink one.tree one.file.fileid a.name c.now (may_remove_directory one l is.seen a.name none f.0 f.1).may l)
+    by (nfs.Rename a) e none = reported_as (rename a) e (law_after_rename one.tree one.file.fileid a.from.name two.file.fileid a.to.name c.now
         (may_rename one.tree l one two refl (are.second.tree ∙ sym are.first.tree) is.seen are.second.seen are.volume a none) l)
-    by (nfs.Link a) e none = told_as (link a) e (law_after_link one.tree one.file.fileid two.file.fileid a.place.name c.now
+    by (nfs.Link a) e none = reported_as (link a) e (law_after_link one.tree one.file.fileid two.file.fileid a.place.name c.now
         (may_link one.tree l one two refl (are.second.tree ∙ sym are.first.tree) is.seen are.second.seen are.volume a.place.name none) l)
-    by (nfs.ReadDir a) e none = told_as (read_dir a) e l
-    by (nfs.ReadDirPlus a) e none = told_as (read_dir_plus a) e l
-    by (nfs.FsStat file) e none = told_as (fs_stat file) e l
-    by (nfs.FsInfo file) e none = told_as (fs_info file) e l
-    by (nfs.PathConf file) e none = told_as (path_conf file) e l
-    by (nfs.Commit a) e none = told_as (commit a) e l
+    by (nfs.Readdir a) e none = reported_as (readdir a) e l
+    by (nfs.Readdirplus a) e none = reported_as (readdirplus a) e l
+    by (nfs.Fsstat file) e none = reported_as (fsstat file) e l
+    by (nfs.Fsinfo file) e none = reported_as (fsinfo file) e l
+    by (nfs.Pathconf file) e none = reported_as (pathconf file) e l
+    by (nfs.Commit a) e none = reported_as (commit a) e l

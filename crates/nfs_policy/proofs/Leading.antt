@@ -4,7 +4,7 @@ use Rattle.std.specs.Prelude.{Contains, nat_eq, not, ◌||◌}
 use Rattle.nfs_attrs.specs.declared.moment.Moment.{Moment}
 use Rattle.nfs_exports.specs.Ids.{Ids, squash}
 use Rattle.nfs_exports.specs.declared.options.Options.{Options}
-use Rattle.nfs_exports.specs.declared.table.Export.{Export}
+use Rattle.nfs_exports.specs.declared.export_table.Export.{Export}
 use Rattle.nfs_inodes.proofs.Lists.{by_test, by_number, same_some, not_both, true_and_false}
 use Rattle.nfs_inodes.proofs.Maps.{at_with_same, at_with_other, at_without_same, at_without_other, at_push_same, at_push_other}
 use Rattle.nfs_inodes.specs.Changes.{with_file, with_new_file, without_file}

@@ -179,7 +179,7 @@ module _ (t : Tree) (law : Law t) (ids : Ids) (now : Moment) (index : ℕ) where
   pub make_differs : (d : ℕ) (name : List ℕ) (dir f : File) → LivesAsDirectory t d dir → EntriesDiffer t (with_named_file t d name f now)
   make_differs d name dir f at_dir = entered_differs t (with_new_file t f) d t.next name now dir law at_dir.0 (record { file = dir; at_file = stays t f d dir law at_dir.0; directory = at_dir.1; cookie = refl })
 
-  -- a further name
+  -- a hard link
   pub link_led : (Moves : Type 0) (n d : ℕ) (name : List ℕ) (file dir : File) → Lives t n file → file.volume ≡ index → Enters d dir → Leads ids now index Moves t (after_link t n d name now)
   link_led Moves n d name file dir at_file volume enters = gains Moves (touched t n now) (touches Moves t (leads_itself ids now index Moves t) n file at_file volume) d n name dir enters
 

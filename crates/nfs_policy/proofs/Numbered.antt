@@ -16,11 +16,11 @@ use Rattle.nfs_inodes.specs.Changes.{with_new_file, with_file, without_file, ent
 use Rattle.nfs_inodes.specs.Law.{Law}
 use Rattle.nfs_inodes.specs.Reading.{entry_at, numbered_files}
 use Rattle.nfs_inodes.specs.Tree.{Tree, File, Entry, at, on_some, names_of}
-use Rattle.nfs_procs.specs.Changers.{set_attr, write, create, make_dir, sym_link, remove, remove_dir, rename, link, given_of, sets_something, after_settings, after_writing, after_taking, after_creating, with_cleared_mode, cleared_mode, has_bytes, size_alone, size_taken, mode_alone}
+use Rattle.nfs_procs.specs.Changers.{setattr, write, create, mkdir, symlink, remove, rmdir, rename, link, given_of, sets_something, after_settings, after_writing, after_taking, after_creating, with_cleared_mode, cleared_mode, has_bytes, size_alone, size_taken, mode_alone}
 use Rattle.nfs_procs.specs.Doing.{Doing}
 use Rattle.nfs_procs.specs.Performing.{IsGranted}
 use Rattle.nfs_procs.specs.Procedures.{doing_of}
-use Rattle.nfs_procs.specs.Readers.{get_attr, lookup, access, read_link, read, read_dir, read_dir_plus, make_node, fs_stat, fs_info, path_conf, commit}
+use Rattle.nfs_procs.specs.Readers.{getattr, lookup, access, readlink, read, readdir, readdirplus, mknod, fsstat, fsinfo, pathconf, commit}
 use Rattle.nfs_procs.specs.Scenes.{Scene}
 use Rattle.nfs_rules.proofs.NewFiles.{may_make_directory, may_make_link, may_make_file}
 use Rattle.nfs_rules.specs.Subjects.{Subject}
@@ -126,7 +126,7 @@ settles t n a now = by (sets_something a)
         goes_on t u (after_set u n (given_of now a) now) (resizes t n a.size now) (changes_one u n (λ f. with_given f (given_of now a) now) (λ f. refl))
     by false = goes_itself t
 
--- bytes, and a mode behind them
+-- bytes, and a mode after them
 writes_all : (t : Tree) (n offset : ℕ) (bytes : List ℕ) (mode : Option ℕ) (now : Moment) → Goes t (after_writing t n offset bytes mode now)
 writes_all t n offset bytes mode now = let u = after_write_at t n offset bytes now in
     goes_on t u (after_settings u n (mode_alone mode) now) (writes t n offset bytes now) (settles u n (mode_alone mode) now)
@@ -145,8 +145,8 @@ granted_goes c law doing e one two tag fits granted = subst (λ t. Goes t (doing
     l : Law one.tree
     l = subst Law (sym are.first.tree) law
 
-    told_as : (d : Doing) → Some d ≡ Some doing → Goes one.tree (d.effect one two c.now tag) → Goes one.tree (doing.effect one two c.now tag)
-    told_as d e h = subst (λ (d : Doing). Goes one.tree (d.effect one two c.now tag)) (same_some e) h
+    reported_as : (d : Doing) → Some d ≡ Some doing → Goes one.tree (d.effect one two c.now tag) → Goes one.tree (doing.effect one two c.now tag)
+    reported_as d e h = subst (λ (d : Doing). Goes one.tree (d.effect one two c.now tag)) (same_some e) h
 
     stays : Goes one.tree one.tree
     stays = goes_itself one.tree
@@ -157,24 +157,24 @@ granted_goes c law doing e one two tag fits granted = subst (λ t. Goes t (doing
 
     by : (args : NfsArgs) → doing_of args ≡ Some doing → first (rules_of one two args) ≡ None → Goes one.tree (doing.effect one two c.now tag)
     by nfs.Null e none = absurd (not_both refl e)
-    by (nfs.GetAttr file) e none = told_as get_attr e stays
-    by (nfs.SetAttr a) e none = told_as (set_attr a) e (settles one.tree one.file.fileid (with_cleared_mode one.ids.uid one.file a.attributes) c.now)
-    by (nfs.Lookup a) e none = told_as (lookup a) e stays
-    by (nfs.Access a) e none = told_as (access a) e stays
-    by (nfs.ReadLink file) e none = told_as (read_link file) e stays
-    by (nfs.Read a) e none = told_as (read a) e stays
-    by (nfs.Write a) e none = told_as (write a) e (writes_all one.tree one.file.fileid a.offset a.content (cleared_mode one.ids.uid one.file (has_bytes a.content)) c.now)
-    by (nfs.Create a) e none = told_as (create a) e (creates a none (found one a.place.name) refl)
-    by (nfs.MakeDir a) e none = told_as (make_dir a) e (makes one.tree one.file.fileid a.place.name _ c.now fits (may_make_directory one l are.first.seen a.place.name none).make.number)
-    by (nfs.SymLink a) e none = told_as (sym_link a) e (makes one.tree one.file.fileid a.place.name _ c.now fits (may_make_link one l are.first.seen a.place.name a.path none).make.number)
-    by (nfs.MakeNode a) e none = told_as (make_node a) e stays
-    by (nfs.Remove a) e none = told_as (remove a) e (unlinks one.tree one.file.fileid a.name c.now)
-    by (nfs.RemoveDir a) e none = told_as (remove_dir a) e (unlinks one.tree one.file.fileid a.name c.now)
-    by (nfs.Rename a) e none = told_as (rename a) e (renames one.tree one.file.fileid two.file.fileid a.from.name a.to.name c.now)
-    by (nfs.Link a) e none = told_as (link a) e (links one.tree one.file.fileid two.file.fileid a.place.name c.now)
-    by (nfs.ReadDir a) e none = told_as (read_dir a) e stays
-    by (nfs.ReadDirPlus a) e none = told_as (read_dir_plus a) e stays
-    by (nfs.FsStat file) e none = told_as (fs_stat file) e stays
-    by (nfs.FsInfo file) e none = told_as (fs_info file) e stays
-    by (nfs.PathConf file) e none = told_as (path_conf file) e stays
-    by (nfs.Commit a) e none = told_as (commit a) e stays
+    by (nfs.Getattr file) e none = reported_as getattr e stays
+    by (nfs.Setattr a) e none = reported_as (setattr a) e (settles one.tree one.file.fileid (with_cleared_mode one.ids.uid one.file a.attributes) c.now)
+    by (nfs.Lookup a) e none = reported_as (lookup a) e stays
+    by (nfs.Access a) e none = reported_as (access a) e stays
+    by (nfs.Readlink file) e none = reported_as (readlink file) e stays
+    by (nfs.Read a) e none = reported_as (read a) e stays
+    by (nfs.Write a) e none = reported_as (write a) e (writes_all one.tree one.file.fileid a.offset a.content (cleared_mode one.ids.uid one.file (has_bytes a.content)) c.now)
+    by (nfs.Create a) e none = reported_as (create a) e (creates a none (found one a.place.name) refl)
+    by (nfs.Mkdir a) e none = reported_as (mkdir a) e (makes one.tree one.file.fileid a.place.name _ c.now fits (may_make_directory one l are.first.seen a.place.name none).make.number)
+    by (nfs.Symlink a) e none = reported_as (symlink a) e (makes one.tree one.file.fileid a.place.name _ c.now fits (may_make_link one l are.first.seen a.place.name a.path none).make.number)
+    by (nfs.Mknod a) e none = reported_as (mknod a) e stays
+    by (nfs.Remove a) e none = reported_as (remove a) e (unlinks one.tree one.file.fileid a.name c.now)
+    by (nfs.Rmdir a) e none = reported_as (rmdir a) e (unlinks one.tree one.file.fileid a.name c.now)
+    by (nfs.Rename a) e none = reported_as (rename a) e (renames one.tree one.file.fileid two.file.fileid a.from.name a.to.name c.now)
+    by (nfs.Link a) e none = reported_as (link a) e (links one.tree one.file.fileid two.file.fileid a.place.name c.now)
+    by (nfs.Readdir a) e none = reported_as (readdir a) e stays
+    by (nfs.Readdirplus a) e none = reported_as (readdirplus a) e stays
+    by (nfs.Fsstat file) e none = reported_as (fsstat file) e stays
+    by (nfs.Fsinfo file) e none = reported_as (fsinfo file) e stays
+    by (nfs.Pathconf file) e none = reported_as (pathconf file) e stays
+    by (nfs.Commit a) e none = reported_as (commit a) e stays

@@ -4,7 +4,7 @@ use Rattle.std.specs.Prelude.{Contains, nat_eq, nat_le, slice_get, ◌%◌, is_s
 use Rattle.std.specs.List.{list_any}
 use Rattle.std.proofs.lemmas.Bool.{not-false, eqb-true, eq-eqb, and_parts}
 use Rattle.nfs_args.specs.declared.args.NfsArgs.TheVariants as nfs
-use Rattle.nfs_args.specs.declared.set_attr.SetAttr.{SetAttr}
+use Rattle.nfs_args.specs.declared.setattr.Setattr.{Setattr}
 use Rattle.nfs_args.specs.declared.write.Write.{Write}
 use Rattle.nfs_attrs.specs.declared.fattr.Fattr.{Fattr}
 use Rattle.nfs_attrs.specs.declared.moment.Moment.{Moment}
@@ -12,12 +12,12 @@ use Rattle.nfs_attrs.specs.declared.sattr.Sattr.{Sattr}
 use Rattle.nfs_attrs.specs.declared.time_setting.TimeSetting.{TimeSetting}
 use Rattle.nfs_attrs.specs.declared.time_setting.TimeSetting.TheVariants.{Leave, ServerTime, ClientTime}
 use Rattle.nfs_exports.specs.Ids.{Ids, squash}
-use Rattle.nfs_exports.specs.declared.table.Export.{Export}
+use Rattle.nfs_exports.specs.declared.export_table.Export.{Export}
 use Rattle.nfs_inodes.proofs.Lists.{by_test, if_false, same_some, not_both, true_and_false}
 use Rattle.nfs_inodes.proofs.law.WithoutEntry.{names_apart}
 use Rattle.nfs_inodes.proofs.law.EntryLess.{found_is}
 use Rattle.nfs_inodes.proofs.Maps.{at_with_same, apart_number}
-use Rattle.nfs_inodes.specs.Changes.{with_file, new_file, volume_index, with_named_file, after_make_dir, after_make_link, after_link, after_rename, zeros, file_with_bytes, after_write_at, resized_to, after_resize, with_given, after_set, after_unlink}
+use Rattle.nfs_inodes.specs.Changes.{with_file, new_file, volume_index, with_named_file, after_mkdir, after_make_link, after_link, after_rename, zeros, file_with_bytes, after_write_at, resized_to, after_resize, with_given, after_set, after_unlink}
 use Rattle.nfs_inodes.specs.Conditions.{MayUnlink, MayEnter, MayRename}
 use Rattle.nfs_inodes.specs.Law.{Law, Lives, LivesAsDirectory}
 use Rattle.nfs_inodes.specs.Reading.{attributes_at, attributes_of, entry_named}
@@ -30,8 +30,8 @@ use Rattle.nfs_args.specs.declared.create.CreateHow.TheVariants.{Unchecked, Guar
 use Rattle.nfs_args.specs.declared.rename.Rename.{Rename}
 use Rattle.nfs_exports.specs.declared.options.Options.{Options}
 use Rattle.nfs_inodes.proofs.Lookups.{found_lives}
-use Rattle.nfs_procs.specs.Changers.{set_attr, write, create, make_dir, sym_link, remove, remove_dir, rename, link}
-use Rattle.nfs_procs.specs.Readers.{get_attr, lookup, access, read_link, read, read_dir, read_dir_plus, make_node, fs_stat, fs_info, path_conf, commit}
+use Rattle.nfs_procs.specs.Changers.{setattr, write, create, mkdir, symlink, remove, rmdir, rename, link}
+use Rattle.nfs_procs.specs.Readers.{getattr, lookup, access, readlink, read, readdir, readdirplus, mknod, fsstat, fsinfo, pathconf, commit}
 use Rattle.nfs_procs.specs.Doing.{Doing}
 use Rattle.nfs_procs.specs.Performing.{IsGranted, Performs}
 use Rattle.nfs_procs.specs.Procedures.{PerformsAs, doing_of}
@@ -43,13 +43,13 @@ use Rattle.nfs_rules.proofs.Names.{no_dots, absent_name, present_name}
 use Rattle.nfs_rules.proofs.Renames.{may_rename, rename_lets_go}
 use Rattle.nfs_rules.proofs.Firsts.{passed_at}
 use Rattle.nfs_rules.proofs.SeenFiles.{seen_lives, seen_place, none_under, found_seen}
-use Rattle.nfs_rules.proofs.Removals.{may_remove, may_remove_directory, remove_lets_go, remove_dir_lets_go, some_from_is_none}
+use Rattle.nfs_rules.proofs.Removals.{may_remove, may_remove_directory, remove_lets_go, rmdir_lets_go, some_from_is_none}
 use Rattle.nfs_rules.specs.Rights.{may, owns, restricts_deletion, lets_go}
 use Rattle.nfs_rules.specs.Subjects.{Caller, Subject}
 use Rattle.nfs_rules.proofs.NewFiles.{may_make_directory, may_make_link, may_make_file, create_rules_with}
-use Rattle.nfs_rules.specs.Table.{is_moved, rules_of, write_rules, set_attr_rules, create_rules, size_in, make_dir_rules, sym_link_rules, remove_rules, remove_dir_rules, link_rules, rename_rules}
-use Rattle.nfs_args.specs.declared.make_dir.MakeDir.{MakeDir}
-use Rattle.nfs_args.specs.declared.sym_link.SymLink.{SymLink}
+use Rattle.nfs_rules.specs.Table.{is_moved, rules_of, write_rules, setattr_rules, create_rules, size_in, mkdir_rules, symlink_rules, remove_rules, rmdir_rules, link_rules, rename_rules}
+use Rattle.nfs_args.specs.declared.mkdir.Mkdir.{Mkdir}
+use Rattle.nfs_args.specs.declared.symlink.Symlink.{Symlink}
 use Rattle.nfs_procs.specs.NewFiles.{uid_of, gid_of, new_file_of}
 use Rattle.nfs_rules.specs.Tests as test
 use Rattle.nfs_rules.specs.Tests.{Test, first, found, owns_or_may, gives_uid, gives_gid, is_client_time, is_server_time}
@@ -242,13 +242,13 @@ module _ (t : Tree) (exports : List (List Export)) (caller : Caller) (s : Subjec
         (passed_at (remove_rules s name) none 5 (test.search_right s) refl) (passed_at (remove_rules s name) none 7 (test.directory_write s) refl)
         (may_leave law seen.may.dir seen.may.at_dir.0 f.0 (found_seen s name f.0 f.1).1 (remove_lets_go s law is.seen name none f.0 f.1) name seen.may.entry seen.may.found (sym seen.number))
 
-    pub remove_dir_policy : Law s.tree → (name : List ℕ) → first (remove_dir_rules s name) ≡ None → Polite now (after_unlink s.tree s.file.fileid name now)
-    remove_dir_policy law name none =
-        let f = some_from_is_none (found s name) (passed_at (remove_dir_rules s name) none 7 (test.no_entry s name) refl) in
+    pub rmdir_policy : Law s.tree → (name : List ℕ) → first (rmdir_rules s name) ≡ None → Polite now (after_unlink s.tree s.file.fileid name now)
+    rmdir_policy law name none =
+        let f = some_from_is_none (found s name) (passed_at (rmdir_rules s name) none 7 (test.no_entry s name) refl) in
         let seen = may_remove_directory s law is.seen name none f.0 f.1 in
-        unlink_policy law (passed_at (remove_dir_rules s name) none 0 (test.read_only s) refl) name seen.may
-        (passed_at (remove_dir_rules s name) none 6 (test.search_right s) refl) (passed_at (remove_dir_rules s name) none 8 (test.directory_write s) refl)
-        (may_leave law seen.may.dir seen.may.at_dir.0 f.0 (found_seen s name f.0 f.1).1 (remove_dir_lets_go s law is.seen name none f.0 f.1) name seen.may.entry seen.may.found (sym seen.number))
+        unlink_policy law (passed_at (rmdir_rules s name) none 0 (test.read_only s) refl) name seen.may
+        (passed_at (rmdir_rules s name) none 6 (test.search_right s) refl) (passed_at (rmdir_rules s name) none 8 (test.directory_write s) refl)
+        (may_leave law seen.may.dir seen.may.at_dir.0 f.0 (found_seen s name f.0 f.1).1 (rmdir_lets_go s law is.seen name none f.0 f.1) name seen.may.entry seen.may.found (sym seen.number))
 
     -- ---- new files
 
@@ -269,19 +269,19 @@ module _ (t : Tree) (exports : List (List Export)) (caller : Caller) (s : Subjec
     own_file : (volume mode tag : ℕ) (kind : Kind) (given : Sattr) (verifier : Option (List ℕ)) → IsOwn s.ids (new_file volume kind (new_file_of mode s.ids now given) verifier tag now)
     own_file volume mode tag kind given verifier = record { uid = own_uid s.ids given.uid; group = own_gid s.ids given.gid }
 
-    pub make_dir_policy : Law s.tree → (a : MakeDir) (tag : ℕ) → first (make_dir_rules s a.place.name) ≡ None → Polite now (after_make_dir s.tree s.file.fileid a.place.name (new_file_of directory_mode s.ids now a.attributes) tag now)
-    make_dir_policy law a tag none = let passed = passed_at (make_dir_rules s a.place.name) none in
+    pub mkdir_policy : Law s.tree → (a : Mkdir) (tag : ℕ) → first (mkdir_rules s a.place.name) ≡ None → Polite now (after_mkdir s.tree s.file.fileid a.place.name (new_file_of directory_mode s.ids now a.attributes) tag now)
+    mkdir_policy law a tag none = let passed = passed_at (mkdir_rules s a.place.name) none in
         make_policy law (passed 0 (test.read_only s) refl) a.place.name _ (may_make_directory s law is.seen a.place.name none).make.enter (passed 4 (test.search_right s) refl) (passed 6 (test.directory_write s) refl)
         (own_file (volume_index s.tree s.file.fileid) directory_mode tag (Directory s.file.fileid 3 []) a.attributes None) refl
 
-    pub sym_link_policy : Law s.tree → (a : SymLink) (tag : ℕ) → first (sym_link_rules s a.place.name a.path) ≡ None → Polite now (after_make_link s.tree s.file.fileid a.place.name a.path (record (new_file_of link_mode s.ids now a.attributes) { mode = link_mode }) tag now)
-    sym_link_policy law a tag none = let passed = passed_at (sym_link_rules s a.place.name a.path) none in
+    pub symlink_policy : Law s.tree → (a : Symlink) (tag : ℕ) → first (symlink_rules s a.place.name a.path) ≡ None → Polite now (after_make_link s.tree s.file.fileid a.place.name a.path (record (new_file_of link_mode s.ids now a.attributes) { mode = link_mode }) tag now)
+    symlink_policy law a tag none = let passed = passed_at (symlink_rules s a.place.name a.path) none in
         make_policy law (passed 0 (test.read_only s) refl) a.place.name _ (may_make_link s law is.seen a.place.name a.path none).make.enter (passed 4 (test.search_right s) refl) (passed 7 (test.directory_write s) refl)
         (record { uid = own_uid s.ids a.attributes.uid; group = own_gid s.ids a.attributes.gid }) refl
 
     -- ---- SETATTR
 
-    module _ (a : SetAttr) (none : first (set_attr_rules s a) ≡ None) where
+    module _ (a : Setattr) (none : first (setattr_rules s a) ≡ None) where
       abbrev g : Sattr
       g = a.attributes
 
@@ -293,21 +293,21 @@ module _ (t : Tree) (exports : List (List Export)) (caller : Caller) (s : Subjec
       owner_where b y e = sym (owns_is r at_r) ∙ not-false _ (sym (ap (λ k. k && not (owns s.ids s.file)) y) ∙ e)
 
       size_writes : is_some g.size ≡ true → is_writer ids r ≡ true
-      size_writes e = sym (writer_is r at_r) ∙ not-false _ (sym (ap (λ b. b && not (owns_or_may s right.Write)) e) ∙ passed_at (set_attr_rules s a) none 6 (test.only_where (is_some g.size) (test.write_right s)) refl)
+      size_writes e = sym (writer_is r at_r) ∙ not-false _ (sym (ap (λ b. b && not (owns_or_may s right.Write)) e) ∙ passed_at (setattr_rules s a) none 6 (test.only_where (is_some g.size) (test.write_right s)) refl)
 
       mode_may : (mode : ℕ) → h.mode ≡ Some mode → (is_owner ids r ≡ true) ⊎ ((is_writer ids r ≡ true) × (loses_set_ids r.mode (mode % 4096) ≡ true))
       mode_may mode e = by g.mode refl e
         where
           by : (o : Option ℕ) → g.mode ≡ o → on_some o (cleared_mode s.ids.uid s.file (is_some g.size)) (λ m. Some m) ≡ Some mode → (is_owner ids r ≡ true) ⊎ ((is_writer ids r ≡ true) × (loses_set_ids r.mode (mode % 4096) ≡ true))
           by None is e = inr (cleared_may (is_some g.size) size_writes mode e)
-          by (Some m) is e = inl (owner_where (is_some g.mode) (ap is_some is) (passed_at (set_attr_rules s a) none 2 (test.owner_mode s g) refl))
+          by (Some m) is e = inl (owner_where (is_some g.mode) (ap is_some is) (passed_at (setattr_rules s a) none 2 (test.owner_mode s g) refl))
 
       uid_may : (uid : ℕ) → g.uid ≡ Some uid → (nat_eq ids.uid 0 ≡ true) ⊎ (uid ≡ r.uid)
       uid_may uid e = by_test (nat_eq s.ids.uid 0) (λ y. inl (ap (λ (k : Ids). nat_eq k.uid 0) (sym is.ids) ∙ y))
           (λ z. inr (eqb-true uid r.uid ((λ i. nat_eq uid (shown r at_r i).uid) ∙ (and_parts (nat_eq s.ids.uid s.file.uid) (nat_eq uid s.file.uid) (sym (ap (λ b. b || nat_eq s.ids.uid s.file.uid && nat_eq uid s.file.uid) z) ∙ gives)).1)))
         where
           gives : gives_uid s.ids s.file uid ≡ true
-          gives = not-false _ (sym (ap (λ o. on_some o false (λ uid. not (gives_uid s.ids s.file uid))) e) ∙ passed_at (set_attr_rules s a) none 3 (test.owner_uid s g) refl)
+          gives = not-false _ (sym (ap (λ o. on_some o false (λ uid. not (gives_uid s.ids s.file uid))) e) ∙ passed_at (setattr_rules s a) none 3 (test.owner_uid s g) refl)
 
       -- as the policy wants it of a group that is given
       gid_from : (root owner present own among : Bool) (P : Type 0) → (root || owner && (present || own || among)) ≡ true → (present ≡ true → P) → ((root || owner) ≡ true → (root || (own || among)) ≡ true → P) → P
@@ -322,22 +322,22 @@ module _ (t : Tree) (exports : List (List Export)) (caller : Caller) (s : Subjec
           (λ y z. inr (sym (owns_is r at_r) ∙ y, (λ i. nat_eq (sym is.ids i).uid 0 || in_group (sym is.ids i) gid) ∙ z))
         where
           gives : gives_gid s.ids s.file gid ≡ true
-          gives = not-false _ (sym (ap (λ o. on_some o false (λ gid. not (gives_gid s.ids s.file gid))) e) ∙ passed_at (set_attr_rules s a) none 4 (test.owner_gid s g) refl)
+          gives = not-false _ (sym (ap (λ o. on_some o false (λ gid. not (gives_gid s.ids s.file gid))) e) ∙ passed_at (setattr_rules s a) none 4 (test.owner_gid s g) refl)
 
       owner_writes : is_owner ids r ≡ true → is_writer ids r ≡ true
       owner_writes e = ap (λ b. b || may ids (rights_of r) right.Write) e
 
-      -- a time, of which the tests tell so
+      -- a time, where the tests say so
       time_may : (set : TimeSetting) → (is_client_time set ≡ true → is_owner ids r ≡ true) → (is_server_time set ≡ true → is_writer ids r ≡ true) → (moment : Moment) → setting now set ≡ Some moment → (is_writer ids r ≡ true) × ((moment ≡ now) ⊎ (is_owner ids r ≡ true))
       time_may Leave client server moment e = absurd (not_both refl e)
       time_may ServerTime client server moment e = (server refl, inl (sym (same_some e)))
       time_may (ClientTime m) client server moment e = (owner_writes (client refl), inr (client refl))
 
       client : (b : Bool) → b ≡ true → (b ≡ true → (is_client_time g.atime || is_client_time g.mtime) ≡ true) → is_owner ids r ≡ true
-      client b y h = owner_where (is_client_time g.atime || is_client_time g.mtime) (h y) (passed_at (set_attr_rules s a) none 7 (test.owner_time s g) refl)
+      client b y h = owner_where (is_client_time g.atime || is_client_time g.mtime) (h y) (passed_at (setattr_rules s a) none 7 (test.owner_time s g) refl)
 
       server : (is_server_time g.atime || is_server_time g.mtime) ≡ true → is_writer ids r ≡ true
-      server y = sym (writer_is r at_r) ∙ not-false _ (sym (ap (λ k. k && not (owns_or_may s right.Write)) y) ∙ passed_at (set_attr_rules s a) none 8 (test.time_right s g) refl)
+      server y = sym (writer_is r at_r) ∙ not-false _ (sym (ap (λ k. k && not (owns_or_may s right.Write)) y) ∙ passed_at (setattr_rules s a) none 8 (test.time_right s g) refl)
 
       may_give : MayGive ids now index ⊥ r (given_of now h)
       may_give = record {
@@ -348,8 +348,8 @@ module _ (t : Tree) (exports : List (List Export)) (caller : Caller) (s : Subjec
         mtime = time_may g.mtime (λ y. client (is_client_time g.mtime) y (λ y. or_right (is_client_time g.atime) _ y)) (λ y. server (or_right (is_server_time g.atime) _ y));
       }
 
-      pub set_attr_policy : Polite now (after_settings s.tree n h now)
-      set_attr_policy = policy exports caller now s.tree (after_settings s.tree n h now) index s.options is.options (passed_at (set_attr_rules s a) none 0 (test.read_only s) refl) ⊥ (λ m. absurd m)
+      pub setattr_policy : Polite now (after_settings s.tree n h now)
+      setattr_policy = policy exports caller now s.tree (after_settings s.tree n h now) index s.options is.options (passed_at (setattr_rules s a) none 0 (test.read_only s) refl) ⊥ (λ m. absurd m)
           (settled_from s.tree as_it_is h size_writes may_give) (keeps_settled (MayGo ids s.tree) s.tree n h now)
 
     -- ---- CREATE
@@ -504,35 +504,35 @@ granted_policy c law doing e one two tag granted =
     lawful : Law one.tree
     lawful = subst Law (sym are.first.tree) law
 
-    told_as : (d : Doing) → Some d ≡ Some doing → Policy c.exports c.caller c.now one.tree (d.effect one two c.now tag) → Policy c.exports c.caller c.now one.tree (doing.effect one two c.now tag)
-    told_as d e h = subst (λ (d : Doing). Policy c.exports c.caller c.now one.tree (d.effect one two c.now tag)) (same_some e) h
+    reported_as : (d : Doing) → Some d ≡ Some doing → Policy c.exports c.caller c.now one.tree (d.effect one two c.now tag) → Policy c.exports c.caller c.now one.tree (doing.effect one two c.now tag)
+    reported_as d e h = subst (λ (d : Doing). Policy c.exports c.caller c.now one.tree (d.effect one two c.now tag)) (same_some e) h
 
     leaves : Policy c.exports c.caller c.now one.tree one.tree
     leaves = policy_itself c.exports c.caller c.now one.tree
 
     by : (args : NfsArgs) → doing_of args ≡ Some doing → first (rules_of one two args) ≡ None → Policy c.exports c.caller c.now one.tree (doing.effect one two c.now tag)
     by nfs.Null e none = absurd (not_both refl e)
-    by (nfs.GetAttr file) e none = told_as get_attr e leaves
-    by (nfs.SetAttr a) e none = told_as (set_attr a) e (set_attr_policy c.tree c.exports c.caller one is c.now a none)
-    by (nfs.Lookup a) e none = told_as (lookup a) e leaves
-    by (nfs.Access a) e none = told_as (access a) e leaves
-    by (nfs.ReadLink file) e none = told_as (read_link file) e leaves
-    by (nfs.Read a) e none = told_as (read a) e leaves
-    by (nfs.Write a) e none = told_as (write a) e (write_policy c.tree c.exports c.caller one is c.now a none)
-    by (nfs.Create a) e none = told_as (create a) e (create_policy c.tree c.exports c.caller one is c.now lawful a tag none)
-    by (nfs.MakeDir a) e none = told_as (make_dir a) e (make_dir_policy c.tree c.exports c.caller one is c.now lawful a tag none)
-    by (nfs.SymLink a) e none = told_as (sym_link a) e (sym_link_policy c.tree c.exports c.caller one is c.now lawful a tag none)
-    by (nfs.MakeNode a) e none = told_as (make_node a) e leaves
-    by (nfs.Remove a) e none = told_as (remove a) e (remove_policy c.tree c.exports c.caller one is c.now lawful a.name none)
-    by (nfs.RemoveDir a) e none = told_as (remove_dir a) e (remove_dir_policy c.tree c.exports c.caller one is c.now lawful a.name none)
-    by (nfs.Rename a) e none = told_as (rename a) e (rename_policy c.tree c.exports c.caller one two is are.second are.volume c.now lawful a none)
-    by (nfs.Link a) e none = told_as (link a) e (link_policy c.tree c.exports c.caller one two is are.second are.volume c.now lawful a.place.name none)
-    by (nfs.ReadDir a) e none = told_as (read_dir a) e leaves
-    by (nfs.ReadDirPlus a) e none = told_as (read_dir_plus a) e leaves
-    by (nfs.FsStat file) e none = told_as (fs_stat file) e leaves
-    by (nfs.FsInfo file) e none = told_as (fs_info file) e leaves
-    by (nfs.PathConf file) e none = told_as (path_conf file) e leaves
-    by (nfs.Commit a) e none = told_as (commit a) e leaves
+    by (nfs.Getattr file) e none = reported_as getattr e leaves
+    by (nfs.Setattr a) e none = reported_as (setattr a) e (setattr_policy c.tree c.exports c.caller one is c.now a none)
+    by (nfs.Lookup a) e none = reported_as (lookup a) e leaves
+    by (nfs.Access a) e none = reported_as (access a) e leaves
+    by (nfs.Readlink file) e none = reported_as (readlink file) e leaves
+    by (nfs.Read a) e none = reported_as (read a) e leaves
+    by (nfs.Write a) e none = reported_as (write a) e (write_policy c.tree c.exports c.caller one is c.now a none)
+    by (nfs.Create a) e none = reported_as (create a) e (create_policy c.tree c.exports c.caller one is c.now lawful a tag none)
+    by (nfs.Mkdir a) e none = reported_as (mkdir a) e (mkdir_policy c.tree c.exports c.caller one is c.now lawful a tag none)
+    by (nfs.Symlink a) e none = reported_as (symlink a) e (symlink_policy c.tree c.exports c.caller one is c.now lawful a tag none)
+    by (nfs.Mknod a) e none = reported_as (mknod a) e leaves
+    by (nfs.Remove a) e none = reported_as (remove a) e (remove_policy c.tree c.exports c.caller one is c.now lawful a.name none)
+    by (nfs.Rmdir a) e none = reported_as (rmdir a) e (rmdir_policy c.tree c.exports c.caller one is c.now lawful a.name none)
+    by (nfs.Rename a) e none = reported_as (rename a) e (rename_policy c.tree c.exports c.caller one two is are.second are.volume c.now lawful a none)
+    by (nfs.Link a) e none = reported_as (link a) e (link_policy c.tree c.exports c.caller one two is are.second are.volume c.now lawful a.place.name none)
+    by (nfs.Readdir a) e none = reported_as (readdir a) e leaves
+    by (nfs.Readdirplus a) e none = reported_as (readdirplus a) e leaves
+    by (nfs.Fsstat file) e none = reported_as (fsstat file) e leaves
+    by (nfs.Fsinfo file) e none = reported_as (fsinfo file) e leaves
+    by (nfs.Pathconf file) e none = reported_as (pathconf file) e leaves
+    by (nfs.Commit a) e none = reported_as (commit a) e leaves
 
 pub changes_are_confined : ChangesAreConfined
 changes_are_confined c law done new before after h = of (doing_of c.args) refl done h

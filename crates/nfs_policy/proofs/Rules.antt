@@ -12,7 +12,7 @@ use Rattle.nfs_args.specs.declared.rename.Rename.{Rename}
 use Rattle.nfs_attrs.specs.declared.fattr.Fattr.{Fattr}
 use Rattle.nfs_dirs.specs.Pages.{page_head_bytes, entry_bytes, plus_bytes}
 use Rattle.nfs_exports.specs.declared.options.Options.{Options}
-use Rattle.nfs_exports.specs.declared.table.Export.{Export}
+use Rattle.nfs_exports.specs.declared.export_table.Export.{Export}
 use Rattle.nfs_handles.specs.declared.reading.Reading.{Reading}
 use Rattle.nfs_handles.specs.declared.reading.Reading.TheVariants.{Live, Stale, Bad}
 use Rattle.nfs_handles.specs.Handles.{reading}
@@ -22,7 +22,7 @@ use Rattle.nfs_inodes.specs.Tree.{Tree, Volume, on_some}
 use Rattle.nfs_inodes.specs.Law.{parent_of}
 use Rattle.nfs_rules.specs.Rights.{may}
 use Rattle.nfs_rules.specs.Subjects.{Caller, Subject, named, live_at, granted, subject_with, subject_at}
-use Rattle.nfs_rules.specs.Table.{is_above_within, is_above, into_itself, incompatible, is_moved, sticky_move, entering_rules, move_rules, rename_rules, rules_of, new_file_rules, present_file_rules, create_rules, remove_rules, remove_dir_rules, size_in}
+use Rattle.nfs_rules.specs.Table.{is_above_within, is_above, into_itself, incompatible, is_moved, sticky_move, entering_rules, move_rules, rename_rules, rules_of, new_file_rules, present_file_rules, create_rules, remove_rules, rmdir_rules, size_in}
 use Rattle.nfs_rules.specs.Tests as test
 use Rattle.nfs_rules.specs.Tests.{first, found, in_volume, takes, is_empty, only_where}
 use Rattle.nfs_rules.specs.Verdicts.{handle_rules, handles_rules, handles_in, subjects_at, verdict, cross_volume, is_bad, is_stale}
@@ -102,8 +102,8 @@ module _ (p : ℕ → Bool) where
   remove_veiled s name = λ i. test.read_only s ∷ test.not_directory s ∷ test.dot_name name ∷ test.name_long name ∷ test.name_form name ∷ test.search_right s ∷ no_entry_veiled s name i ∷ test.directory_write s
       ∷ on_some (found_veiled s name i) [] (λ f. test.sticky s f ∷ test.is_directory f ∷ [])
 
-  remove_dir_veiled : (s : Subject) (name : List ℕ) → remove_dir_rules (veiled s) name ≡ remove_dir_rules s name
-  remove_dir_veiled s name = λ i. test.read_only s ∷ test.not_directory s ∷ test.dot_alone name ∷ test.dot_dot_alone name ∷ test.name_long name ∷ test.name_form name ∷ test.search_right s ∷ no_entry_veiled s name i ∷ test.directory_write s
+  rmdir_veiled : (s : Subject) (name : List ℕ) → rmdir_rules (veiled s) name ≡ rmdir_rules s name
+  rmdir_veiled s name = λ i. test.read_only s ∷ test.not_directory s ∷ test.dot_alone name ∷ test.dot_dot_alone name ∷ test.name_long name ∷ test.name_form name ∷ test.search_right s ∷ no_entry_veiled s name i ∷ test.directory_write s
       ∷ on_some (found_veiled s name i) [] (λ f. test.sticky s f ∷ test.target_not_directory f ∷ (rule.NotEmpty, not (empty_blank s.tree f i)) ∷ [])
 
   into_itself_veiled : (to : Subject) (moved : Fattr) → into_itself (veiled to) moved ≡ into_itself to moved
@@ -127,30 +127,30 @@ module _ (p : ℕ → Bool) where
 
   pub rules_veiled : (one two : Subject) (args : NfsArgs) → rules_of (veiled one) (veiled two) args ≡ rules_of one two args
   rules_veiled one two nfs.Null = refl
-  rules_veiled one two (nfs.GetAttr file) = refl
-  rules_veiled one two (nfs.SetAttr a) = λ i.
+  rules_veiled one two (nfs.Getattr file) = refl
+  rules_veiled one two (nfs.Setattr a) = λ i.
       test.read_only one ∷ test.guard one a.guard ∷ test.owner_mode one a.attributes ∷ test.owner_uid one a.attributes ∷ test.owner_gid one a.attributes
       ∷ test.size_type one a.attributes ∷ only_where (is_some a.attributes.size) (test.write_right one) ∷ test.owner_time one a.attributes ∷ test.time_right one a.attributes
       ∷ test.too_big a.attributes.size ∷ space_veiled one (test.growth one a.attributes.size) i ∷ []
   rules_veiled one two (nfs.Lookup a) = λ i. test.not_directory one ∷ test.search_right one ∷ test.name_long a.name ∷ test.name_form a.name ∷ no_entry_veiled one a.name i ∷ []
   rules_veiled one two (nfs.Access a) = refl
-  rules_veiled one two (nfs.ReadLink file) = refl
+  rules_veiled one two (nfs.Readlink file) = refl
   rules_veiled one two (nfs.Read a) = refl
   rules_veiled one two (nfs.Write a) = λ i. test.read_only one ∷ test.not_regular one ∷ test.write_right one ∷ test.too_big (test.end_of a.offset (length a.content)) ∷ space_veiled one (test.growth one (test.end_of a.offset (length a.content))) i ∷ []
   rules_veiled one two (nfs.Create a) = create_veiled one a
-  rules_veiled one two (nfs.MakeDir a) = λ i. test.read_only one ∷ test.not_directory one ∷ test.name_long a.place.name ∷ test.name_form a.place.name ∷ test.search_right one ∷ exists_veiled one a.place.name i ∷ test.directory_write one ∷ files_veiled one i ∷ test.links one.file ∷ numbers_veiled one i ∷ []
-  rules_veiled one two (nfs.SymLink a) = λ i. test.read_only one ∷ test.not_directory one ∷ test.name_long a.place.name ∷ test.name_form a.place.name ∷ test.search_right one ∷ test.path_long a.path ∷ exists_veiled one a.place.name i ∷ test.directory_write one ∷ files_veiled one i ∷ numbers_veiled one i ∷ []
-  rules_veiled one two (nfs.MakeNode a) = refl
+  rules_veiled one two (nfs.Mkdir a) = λ i. test.read_only one ∷ test.not_directory one ∷ test.name_long a.place.name ∷ test.name_form a.place.name ∷ test.search_right one ∷ exists_veiled one a.place.name i ∷ test.directory_write one ∷ files_veiled one i ∷ test.links one.file ∷ numbers_veiled one i ∷ []
+  rules_veiled one two (nfs.Symlink a) = λ i. test.read_only one ∷ test.not_directory one ∷ test.name_long a.place.name ∷ test.name_form a.place.name ∷ test.search_right one ∷ test.path_long a.path ∷ exists_veiled one a.place.name i ∷ test.directory_write one ∷ files_veiled one i ∷ numbers_veiled one i ∷ []
+  rules_veiled one two (nfs.Mknod a) = refl
   rules_veiled one two (nfs.Remove a) = remove_veiled one a.name
-  rules_veiled one two (nfs.RemoveDir a) = remove_dir_veiled one a.name
+  rules_veiled one two (nfs.Rmdir a) = rmdir_veiled one a.name
   rules_veiled one two (nfs.Rename a) = rename_veiled one two a
   rules_veiled one two (nfs.Link a) = λ i. test.read_only one ∷ test.link_directory one ∷ test.not_directory two ∷ test.name_long a.place.name ∷ test.name_form a.place.name ∷ test.search_right two ∷ exists_veiled two a.place.name i
       ∷ test.directory_write two ∷ test.links one.file ∷ cookies_veiled two i ∷ []
-  rules_veiled one two (nfs.ReadDir a) = λ i. test.not_directory one ∷ test.directory_read one ∷ too_small_veiled one a.cookie a.count 0 i ∷ []
-  rules_veiled one two (nfs.ReadDirPlus a) = λ i. test.not_directory one ∷ test.directory_read one ∷ too_small_veiled one a.cookie a.maxcount (plus_bytes (may one.ids one.file Execute)) i ∷ []
-  rules_veiled one two (nfs.FsStat file) = refl
-  rules_veiled one two (nfs.FsInfo file) = refl
-  rules_veiled one two (nfs.PathConf file) = refl
+  rules_veiled one two (nfs.Readdir a) = λ i. test.not_directory one ∷ test.directory_read one ∷ too_small_veiled one a.cookie a.count 0 i ∷ []
+  rules_veiled one two (nfs.Readdirplus a) = λ i. test.not_directory one ∷ test.directory_read one ∷ too_small_veiled one a.cookie a.maxcount (plus_bytes (may one.ids one.file Execute)) i ∷ []
+  rules_veiled one two (nfs.Fsstat file) = refl
+  rules_veiled one two (nfs.Fsinfo file) = refl
+  rules_veiled one two (nfs.Pathconf file) = refl
   rules_veiled one two (nfs.Commit a) = refl
 
   -- ---- handles

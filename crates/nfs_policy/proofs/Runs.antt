@@ -11,11 +11,11 @@ use Rattle.nfs_args.specs.declared.mount_answer.MountAnswer.TheVariants as resul
 use Rattle.nfs_mount.specs.declared.mount.Mount.{Mount}
 use Rattle.nfs_inodes.specs.Reading.{volume_named}
 use Rattle.nfs_inodes.specs.Tree.{Tree, on_some}
-use Rattle.nfs_mount.specs.MountAnswers.{IsMountSpelled, root_of, dump_answer, export_answer, granted_answer}
+use Rattle.nfs_mount.specs.MountAnswers.{IsMountEncoded, root_of, dump_answer, export_answer, granted_answer}
 use Rattle.nfs_mount.specs.MountRules.{mount_verdict}
 use Rattle.nfs_mount.specs.Mounts.{after_mnt, after_umnt, is_mounted, without_addr}
 use Rattle.nfs_procs.specs.Doing.{Doing}
-use Rattle.nfs_procs.specs.Performing.{IsSpelled}
+use Rattle.nfs_procs.specs.Performing.{IsEncoded}
 use Rattle.nfs_procs.specs.Procedures.{doing_of}
 use Rattle.nfs_procs.specs.Scenes.{Scene, verdict_in}
 use Rattle.nfs_rpc.specs.Calls.{Call, head_at}
@@ -27,9 +27,9 @@ use Rattle.nfs_server.specs.AuditLines.{line_of}
 use Rattle.nfs_server.specs.Events.{Event, Answer, Choice, Done, granted, denied}
 use Rattle.nfs_server.specs.Requests.{Request, Nothing, OfNfs, OfMount, request_of}
 use Rattle.nfs_server.specs.RpcRules.{rpc_failure_of}
-use Rattle.nfs_server.specs.Steps.{Setup, State, success, Decided, Refusable, Performed, MountDone, MountDecided, MountPerformed, scene_of, Requested, Judged, Called, Repeated, Step, IsRun}
-use Rattle.nfs_server.specs.Repeats.{first_reply, may_change}
-use Rattle.nfs_server.specs.declared.audit_line.Reason.TheVariants as reason
+use Rattle.nfs_server.specs.Steps.{Setup, State, success, Decided, Refusable, Performed, MountDone, MountDecided, MountPerformed, scene_of, Requested, Judged, Called, Retransmitted, Step, IsRun}
+use Rattle.nfs_server.specs.Retransmissions.{first_reply, may_change}
+use Rattle.nfs_server.specs.declared.audit_line.DenialReason.TheVariants as reason
 use Rattle.nfs_server.specs.declared.rpc_rules.RpcRule.{RpcRule}
 use Rattle.nfs_policy.proofs.Blanks.{handle_blank}
 use Rattle.nfs_policy.proofs.Calls.{d, same_verdict, same_seen, same_uid, others, apart, same_effect, same_answer}
@@ -52,7 +52,7 @@ module _ (f : ℕ) (c : Scene) (other : Tree) (agree : AgreeOutside f c.tree oth
     record {
       new_is = refl;
       answer_is = h.answer_is ∙ (λ i. denied (success call (nfs_text (doing.denied (status_of rule) (same_seen f c other agree i)))) (line_of c.caller.addr call (reason.Rule rule (same_uid f c other agree i))));
-      spelled = subst (λ s. IsSpelled (doing.denied (status_of rule) s)) (same_seen f c other agree) h.spelled;
+      encoded = subst (λ s. IsEncoded (doing.denied (status_of rule) s)) (same_seen f c other agree) h.encoded;
     },
     ap (blank (nat_eq f)) h.new_is ∙ agree,
   )
@@ -69,7 +69,7 @@ module _ (f : ℕ) (c : Scene) (other : Tree) (agree : AgreeOutside f c.tree oth
           subjects = o.2;
           new_is = refl;
           answer_is = h.answer_is ∙ ap (λ a. granted (success call (nfs_text a))) same_answer_is;
-          spelled = subst IsSpelled same_answer_is h.spelled;
+          encoded = subst IsEncoded same_answer_is h.encoded;
         },
         same,
       )
@@ -105,7 +105,7 @@ module _ (f : ℕ) (setup : Setup) (old : State) (other : Tree) (agree : AgreeOu
   mount_done : (call : Call) (result : Tree → MountAnswer) (mounts : Tree → List Mount) → result old.tree ≡ result other → mounts old.tree ≡ mounts other → MountDone call old (result old.tree) (mounts old.tree) answer new → To (λ new. MountDone call over (result other) (mounts other) answer new)
   mount_done call result mounts e g h = (
     record { tree = other; mounts = mounts other },
-    (subst (λ r. answer ≡ granted (success call (mount_text r))) e h.0, refl, subst IsMountSpelled e h.2),
+    (subst (λ r. answer ≡ granted (success call (mount_text r))) e h.0, refl, subst IsMountEncoded e h.2),
     ap (λ (s : State). blank (nat_eq f) s.tree) h.1 ∙ agree,
     sym g ∙ ap (λ (s : State). s.mounts) (sym h.1),
   )
@@ -143,9 +143,9 @@ module _ (f : ℕ) (setup : Setup) (old : State) (other : Tree) (agree : AgreeOu
   called (Ok head) is reads h = judged head.0 (rpc_failure_of head.0 head.1) (request_of event.addr head.0 head.1)
       (λ v caller args r. reads caller args (record { call = head.0; rest = head.1; head = is; kept = v; request = r })) h
 
-  repeated : (reply : Option (List ℕ)) → ((caller : Caller) (args : NfsArgs) → Asks event caller args → ReadsNot f (scene_of setup old event caller args)) → Repeated reply setup old event choice answer new → To (λ new. Repeated reply setup over event choice answer new)
-  repeated (Some reply) reads h = unchanged (λ new. Repeated (Some reply) setup over event choice answer new) (h.0, refl) h.1
-  repeated None reads h = called (head_at event.bytes) refl reads h
+  retransmitted : (reply : Option (List ℕ)) → ((caller : Caller) (args : NfsArgs) → Asks event caller args → ReadsNot f (scene_of setup old event caller args)) → Retransmitted reply setup old event choice answer new → To (λ new. Retransmitted reply setup over event choice answer new)
+  retransmitted (Some reply) reads h = unchanged (λ new. Retransmitted (Some reply) setup over event choice answer new) (h.0, refl) h.1
+  retransmitted None reads h = called (head_at event.bytes) refl reads h
 
 -- ---- a run
 
@@ -157,10 +157,10 @@ reading_is_confined f setup opening [] state run never other agree = (record ope
 reading_is_confined f setup opening (e ∷ before) state run never other agree =
     let r = reading_is_confined f setup opening before run.0 run.1 never.0 other agree in
     let now = agree_now before run.0 r.0 run.1 r.1 r.2 in
-    let s = repeated f setup run.0 r.0.tree now.0 e.event e.choice e.answer state (first_reply setup.places e.choice.again before e.event) never.1 run.2 in
+    let s = retransmitted f setup run.0 r.0.tree now.0 e.event e.choice e.answer state (first_reply setup.places e.choice.again before e.event) never.1 run.2 in
     let step : Step setup before r.0 e.event e.choice e.answer s.0 = same_mounts f setup run.0 r.0 (λ old. Step setup before old e.event e.choice e.answer s.0) now.1 s.1 in
     (s.0, (r.0, r.1, step), (r.2, s.2, s.3))
   where
-    agree_now : (past : List Done) (state state' : State) (run : IsRun setup opening past state) (run' : IsRun setup (record opening { tree = other }) past state') → AgreeThrough f setup opening (record opening { tree = other }) past state state' run run' → AgreeOutside f state.tree state'.tree × (state'.mounts ≡ state.mounts)
+    agree_now : (history : List Done) (state state' : State) (run : IsRun setup opening history state) (run' : IsRun setup (record opening { tree = other }) history state') → AgreeThrough f setup opening (record opening { tree = other }) history state state' run run' → AgreeOutside f state.tree state'.tree × (state'.mounts ≡ state.mounts)
     agree_now [] state state' run run' h = h
-    agree_now (d ∷ past) state state' run run' h = (h.1, h.2)
+    agree_now (d ∷ history) state state' run run' h = (h.1, h.2)

@@ -7,10 +7,10 @@ use Rattle.nfs_args.specs.declared.create.CreateHow.{CreateHow}
 use Rattle.nfs_inodes.proofs.Lists.{same_some, not_both}
 use Rattle.nfs_inodes.specs.Reading.{bytes_at}
 use Rattle.nfs_inodes.specs.Tree.{Tree, File, Kind, Regular, Directory, Link, at, on_some, bytes_in}
-use Rattle.nfs_procs.specs.Changers.{set_attr, write, create, make_dir, sym_link, remove, remove_dir, rename, link, grows, grows_to, size_taken, taking_grows, names_apart}
+use Rattle.nfs_procs.specs.Changers.{setattr, write, create, mkdir, symlink, remove, rmdir, rename, link, grows, grows_to, size_taken, taking_grows, names_apart}
 use Rattle.nfs_procs.specs.Doing.{Doing}
 use Rattle.nfs_procs.specs.Procedures.{doing_of}
-use Rattle.nfs_procs.specs.Readers.{get_attr, lookup, access, read_link, read, read_dir, read_dir_plus, make_node, fs_stat, fs_info, path_conf, commit}
+use Rattle.nfs_procs.specs.Readers.{getattr, lookup, access, readlink, read, readdir, readdirplus, mknod, fsstat, fsinfo, pathconf, commit}
 use Rattle.nfs_rules.specs.Subjects.{Subject}
 use Rattle.nfs_policy.specs.Shape.{blank, blank_kind, blank_where}
 use Rattle.nfs_policy.proofs.Blanks.{at_blank, entry_blank}
@@ -50,29 +50,29 @@ module _ (p : ℕ → Bool) where
   pub wants_blank : (args : NfsArgs) (doing : Doing) → doing_of args ≡ Some doing → WantsBlank doing
   wants_blank args doing e = by args e
     where
-      told_as : (d : Doing) → Some d ≡ Some doing → WantsBlank d → WantsBlank doing
-      told_as d e h = subst WantsBlank (same_some e) h
+      reported_as : (d : Doing) → Some d ≡ Some doing → WantsBlank d → WantsBlank doing
+      reported_as d e h = subst WantsBlank (same_some e) h
 
       by : (args : NfsArgs) → doing_of args ≡ Some doing → WantsBlank doing
       by nfs.Null e = absurd (not_both refl e)
-      by (nfs.GetAttr file) e = told_as get_attr e (λ one two. refl)
-      by (nfs.SetAttr a) e = told_as (set_attr a) e (λ one two. grows_to_blank one.tree one.file.fileid a.attributes.size)
-      by (nfs.Lookup a) e = told_as (lookup a) e (λ one two. refl)
-      by (nfs.Access a) e = told_as (access a) e (λ one two. refl)
-      by (nfs.ReadLink file) e = told_as (read_link file) e (λ one two. refl)
-      by (nfs.Read a) e = told_as (read a) e (λ one two. refl)
-      by (nfs.Write a) e = told_as (write a) e (λ one two. refl)
-      by (nfs.Create a) e = told_as (create a) e (λ one two i. on_some (found_veiled p one a.place.name i) true (λ f. taking_blank one.tree f.fileid a.how i))
-      by (nfs.MakeDir a) e = told_as (make_dir a) e (λ one two. refl)
-      by (nfs.SymLink a) e = told_as (sym_link a) e (λ one two. refl)
-      by (nfs.MakeNode a) e = told_as (make_node a) e (λ one two. refl)
-      by (nfs.Remove a) e = told_as (remove a) e (λ one two. refl)
-      by (nfs.RemoveDir a) e = told_as (remove_dir a) e (λ one two. refl)
-      by (nfs.Rename a) e = told_as (rename a) e (λ one two. names_blank one.tree one.file.fileid two.file.fileid a.from.name a.to.name)
-      by (nfs.Link a) e = told_as (link a) e (λ one two. refl)
-      by (nfs.ReadDir a) e = told_as (read_dir a) e (λ one two. refl)
-      by (nfs.ReadDirPlus a) e = told_as (read_dir_plus a) e (λ one two. refl)
-      by (nfs.FsStat file) e = told_as (fs_stat file) e (λ one two. refl)
-      by (nfs.FsInfo file) e = told_as (fs_info file) e (λ one two. refl)
-      by (nfs.PathConf file) e = told_as (path_conf file) e (λ one two. refl)
-      by (nfs.Commit a) e = told_as (commit a) e (λ one two. refl)
+      by (nfs.Getattr file) e = reported_as getattr e (λ one two. refl)
+      by (nfs.Setattr a) e = reported_as (setattr a) e (λ one two. grows_to_blank one.tree one.file.fileid a.attributes.size)
+      by (nfs.Lookup a) e = reported_as (lookup a) e (λ one two. refl)
+      by (nfs.Access a) e = reported_as (access a) e (λ one two. refl)
+      by (nfs.Readlink file) e = reported_as (readlink file) e (λ one two. refl)
+      by (nfs.Read a) e = reported_as (read a) e (λ one two. refl)
+      by (nfs.Write a) e = reported_as (write a) e (λ one two. refl)
+      by (nfs.Create a) e = reported_as (create a) e (λ one two i. on_some (found_veiled p one a.place.name i) true (λ f. taking_blank one.tree f.fileid a.how i))
+      by (nfs.Mkdir a) e = reported_as (mkdir a) e (λ one two. refl)
+      by (nfs.Symlink a) e = reported_as (symlink a) e (λ one two. refl)
+      by (nfs.Mknod a) e = reported_as (mknod a) e (λ one two. refl)
+      by (nfs.Remove a) e = reported_as (remove a) e (λ one two. refl)
+      by (nfs.Rmdir a) e = reported_as (rmdir a) e (λ one two. refl)
+      by (nfs.Rename a) e = reported_as (rename a) e (λ one two. names_blank one.tree one.file.fileid two.file.fileid a.from.name a.to.name)
+      by (nfs.Link a) e = reported_as (link a) e (λ one two. refl)
+      by (nfs.Readdir a) e = reported_as (readdir a) e (λ one two. refl)
+      by (nfs.Readdirplus a) e = reported_as (readdirplus a) e (λ one two. refl)
+      by (nfs.Fsstat file) e = reported_as (fsstat file) e (λ one two. refl)
+      by (nfs.Fsinfo file) e = reported_as (fsinfo file) e (λ one two. refl)
+      by (nfs.Pathconf file) e = reported_as (pathconf file) e (λ one two. refl)
+      by (nfs.Commit a) e = reported_as (commit a) e (λ one two. refl)

@@ -4,16 +4,16 @@ use Rattle.nfs_args.specs.declared.args.NfsArgs.TheVariants as nfs
 use Rattle.nfs_args.specs.declared.create.Create.{Create}
 use Rattle.nfs_args.specs.declared.dir_op.DirOp.{DirOp}
 use Rattle.nfs_args.specs.declared.link.Link.{Link}
-use Rattle.nfs_args.specs.declared.make_dir.MakeDir.{MakeDir}
-use Rattle.nfs_args.specs.declared.read_dir.ReadDirPlus.{ReadDirPlus}
+use Rattle.nfs_args.specs.declared.mkdir.Mkdir.{Mkdir}
+use Rattle.nfs_args.specs.declared.readdir.Readdirplus.{Readdirplus}
 use Rattle.nfs_args.specs.declared.rename.Rename.{Rename}
-use Rattle.nfs_args.specs.declared.sym_link.SymLink.{SymLink}
+use Rattle.nfs_args.specs.declared.symlink.Symlink.{Symlink}
 use Rattle.nfs_attrs.specs.declared.fattr.Fattr.{Fattr}
 use Rattle.nfs_handles.specs.Handles.{handle_at}
 use Rattle.nfs_inodes.specs.Law.{Law}
 use Rattle.nfs_inodes.specs.Reading.{attributes_at, listing_at, path_at, totals_at, numbered_files}
 use Rattle.nfs_inodes.specs.Tree.{Tree, Entry, on_some}
-use Rattle.nfs_procs.specs.Changers.{create, make_dir, sym_link, rename, link}
+use Rattle.nfs_procs.specs.Changers.{create, mkdir, symlink, rename, link}
 use Rattle.nfs_procs.specs.Doing.{Doing}
 use Rattle.nfs_procs.specs.Performing.{IsGranted}
 use Rattle.nfs_procs.specs.Procedures.{doing_of}
@@ -27,7 +27,7 @@ OfGranted Holds = (c : Scene) → Law c.tree → (one two : Subject) → IsGrant
 
 -- READLINK: the link's path
 abbrev pub HasPath : Scene → Subject → Subject → Type 0
-HasPath c one two = (handle : List ℕ) → c.args ≡ nfs.ReadLink handle → IsSome (path_at one.tree one.file.fileid)
+HasPath c one two = (handle : List ℕ) → c.args ≡ nfs.Readlink handle → IsSome (path_at one.tree one.file.fileid)
 
 -- LOOKUP: the file under the name, and its handle
 abbrev pub HasFound : Scene → Subject → Subject → Type 0
@@ -36,7 +36,7 @@ HasFound c one two = (a : DirOp) → c.args ≡ nfs.Lookup a
 
 -- FSSTAT: the volume's limits, and what its files have of them
 abbrev pub HasVolume : Scene → Subject → Subject → Type 0
-HasVolume c one two = (handle : List ℕ) → c.args ≡ nfs.FsStat handle
+HasVolume c one two = (handle : List ℕ) → c.args ≡ nfs.Fsstat handle
     → IsSome (slice_get one.tree.volumes (one.file.fsid - 1)) × IsSome (totals_at one.tree (one.file.fsid - 1))
 
 -- the attributes and the handle of a file
@@ -45,7 +45,7 @@ IsShown t n = IsSome (attributes_at t n) × IsSome (handle_at (numbered_files t)
 
 -- READDIRPLUS: those of each file that the directory lists, of `.` and `..` too
 abbrev pub HasListed : Scene → Subject → Subject → Type 0
-HasListed c one two = (a : ReadDirPlus) → c.args ≡ nfs.ReadDirPlus a
+HasListed c one two = (a : Readdirplus) → c.args ≡ nfs.Readdirplus a
     → (e : Entry) → Contains (listing_at one.tree one.file.fileid) e → IsShown one.tree e.number
 
 -- of each procedure: the attributes that the file of its first handle has afterwards
@@ -62,5 +62,5 @@ HasBoth c one two = ((a : Rename) (tag : ℕ) → c.args ≡ nfs.Rename a → Is
 abbrev pub HasMade : Scene → Subject → Subject → Type 0
 HasMade c one two = ((a : Create) (tag : ℕ) → c.args ≡ nfs.Create a
     → IsShown ((create a).effect one two c.now tag) (on_some (found one a.place.name) one.tree.next (λ f. f.fileid)))
-    × ((a : MakeDir) (tag : ℕ) → c.args ≡ nfs.MakeDir a → IsShown ((make_dir a).effect one two c.now tag) one.tree.next)
-    × ((a : SymLink) (tag : ℕ) → c.args ≡ nfs.SymLink a → IsShown ((sym_link a).effect one two c.now tag) one.tree.next)
+    × ((a : Mkdir) (tag : ℕ) → c.args ≡ nfs.Mkdir a → IsShown ((mkdir a).effect one two c.now tag) one.tree.next)
+    × ((a : Symlink) (tag : ℕ) → c.args ≡ nfs.Symlink a → IsShown ((symlink a).effect one two c.now tag) one.tree.next)

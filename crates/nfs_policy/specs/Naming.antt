@@ -24,12 +24,12 @@ abbrev pub HandlesNameOne : Tree → Type 0
 HandlesNameOne t = (m n : ℕ) (handle : List ℕ) → handle_at (numbered_files t) m ≡ Some handle → handle_at (numbered_files t) n ≡ Some handle → m ≡ n
 
 -- this is so of each state that a run comes through, its opening and its last among them
-abbrev pub Through : (setup : Setup) (opening : State) (past : List Done) (state : State) → IsRun setup opening past state → (State → Type 0) → Type 0
+abbrev pub Through : (setup : Setup) (opening : State) (history : List Done) (state : State) → IsRun setup opening history state → (State → Type 0) → Type 0
 Through setup opening [] state run Holds = Holds state
 Through setup opening (d ∷ before) state run Holds = Through setup opening before run.0 run.1 Holds × Holds state
 
 -- from each state of a run from a lawful tree to the last
 abbrev pub HandlesNameForGood : Type 0
 HandlesNameForGood = (setup : Setup) (opening : State) → Law opening.tree
-    → (past : List Done) (state : State) (run : IsRun setup opening past state)
-    → HandlesNameOne state.tree × Through setup opening past state run (λ between. NamesOn between.tree state.tree)
+    → (history : List Done) (state : State) (run : IsRun setup opening history state)
+    → HandlesNameOne state.tree × Through setup opening history state run (λ between. NamesOn between.tree state.tree)

@@ -1,4 +1,4 @@
--- What a call may tell of the bytes of a file that it doesn't read.
+-- What a call may report of the bytes of a file that it doesn't read.
 use Rattle.std.specs.Prelude.{◌≡◌, ◌≢◌, ℕ, Option}
 use Rattle.nfs_args.specs.declared.args.NfsArgs.TheVariants as nfs
 use Rattle.nfs_args.specs.declared.byte_range.ByteRange.{ByteRange}

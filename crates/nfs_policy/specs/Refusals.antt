@@ -2,7 +2,7 @@
 use Rattle.std.specs.Prelude.{ℕ, false, List, [], ◌∷◌}
 use Rattle.nfs_attrs.specs.declared.moment.Moment.{Moment}
 use Rattle.nfs_exports.specs.declared.options.Squash.TheVariants.{No}
-use Rattle.nfs_exports.specs.declared.table.Export.{Export}
+use Rattle.nfs_exports.specs.declared.export_table.Export.{Export}
 use Rattle.nfs_exports.specs.Patterns.{any}
 use Rattle.nfs_inodes.specs.Changes.{with_file, with_new_file, without_file, with_named_file, after_write_at}
 use Rattle.nfs_inodes.specs.Example.{file_1, file_2, file_3, file_8, start, tree_e}

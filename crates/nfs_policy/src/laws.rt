@@ -29,7 +29,7 @@ pub fn handles_name_for_good()
     ensures { HandlesNameForGood }
 {}
 
-/// All this is so of each server that a past fits.
+/// All this is so of each server that a history fits.
 pub fn servers_are_confined()
     ensures { ServersAreConfined }
 {}

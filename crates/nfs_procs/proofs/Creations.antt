@@ -7,7 +7,7 @@ use Rattle.nfs_args.specs.declared.answer.NfsAnswer.TheVariants as answer
 use Rattle.nfs_args.specs.declared.create.Create.{Create}
 use Rattle.nfs_args.specs.declared.create.CreateHow.{CreateHow}
 use Rattle.nfs_args.specs.declared.create.CreateHow.TheVariants.{Unchecked, Guarded, Exclusive}
-use Rattle.nfs_attrs.specs.Spelling.{IsWcc}
+use Rattle.nfs_attrs.specs.Encoding.{IsWcc}
 use Rattle.nfs_attrs.specs.declared.fattr.Fattr.{Fattr}
 use Rattle.nfs_attrs.specs.declared.moment.Moment.{Moment}
 use Rattle.nfs_attrs.specs.declared.wcc.Wcc.{Wcc}
@@ -18,7 +18,7 @@ use Rattle.nfs_inodes.specs.Reading.{attributes_at}
 use Rattle.nfs_inodes.specs.Tree.{Tree, File, on_some}
 use Rattle.nfs_inodes.specs.declared.new_file.NewFile.{NewFile}
 use Rattle.nfs_procs.proofs.Made.{shows_made}
-use Rattle.nfs_procs.proofs.Spelled.{granted_spelled}
+use Rattle.nfs_procs.proofs.Encoded.{granted_encoded}
 use Rattle.nfs_procs.specs.Changers.{create, attributes_in, file_mode, new_file_in, size_taken, verifier_in, after_taking}
 use Rattle.nfs_procs.specs.Doing.{change}
 use Rattle.nfs_procs.specs.NewFiles.{new_file_of}
@@ -58,7 +58,7 @@ pub created : (c : Scene) (a : Create) (s : Subject) (plan : FilePlan) (new : Tr
     → dir ≡ change (Some plan.dir.attributes) (attributes_at new plan.dir.attributes.fileid)
     → Appends (to_be_bytes w32 0) x y → Appends (made_text (new_file_in new n dir)) y z → IsMade (new_file_in new n dir) (made_text (new_file_in new n dir))
     → HasEffect c (create a) new x z
-created c a s plan new n dir x y z granted plans makes number shown status made spelled = record {
+created c a s plan new n dir x y z granted plans makes number shown status made encoded = record {
   one = s;
   two = s;
   granted = granted;
@@ -72,7 +72,7 @@ created c a s plan new n dir x y z granted plans makes number shown status made 
       ∙ ap (λ t. after_plan t a c.now makes.tag s.file (found s a.place.name) s.ids.uid (new_file_of file_mode s.ids c.now (attributes_in a.how))) (sym plans.tree);
   written = subst (λ m. AppendsAnswer (answer.Create (Ok m)) x z) (shows_made new n (number_of s.tree (found s a.place.name)) s plan.dir.attributes dir plans.dir numbered shown) (record {
     text = appends_then _ _ x y z status made;
-    spelled = granted_spelled answer.Create IsMade IsWcc made_text (new_file_in new n dir) spelled;
+    encoded = granted_encoded answer.Create IsMade IsWcc made_text (new_file_in new n dir) encoded;
   });
 }
   where

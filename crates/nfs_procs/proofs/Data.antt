@@ -1,4 +1,4 @@
--- Bytes of a file that are written run after run, behind what says how many they are.
+-- Bytes of a file that are written run after run, after what says how many they are.
 use Rattle.std.proofs.Common.{◌≡◌, ℕ, ◌+◌, ◌-◌, ◌≤◌, min, Bool, true, false, List, [], ◌++◌, length, take, drop, Option, Some, None, refl, sym, ap, subst, ◌∙◌, arith, length-drop}
 use Rattle.std.specs.Prelude.{Ok, nat_le, option_map}
 use Rattle.std.specs.Int.{w32, to_be_bytes}
@@ -8,16 +8,16 @@ use Rattle.std.proofs.lemmas.Bool.{le-leb, leb-true, leb-false}
 use Rattle.std.proofs.Math.Dec.{leb}
 use Rattle.nfs_args.specs.Results.{BeginsReadData, IsReadData, read_head_text, read_data_text}
 use Rattle.nfs_args.specs.declared.answer.NfsAnswer.TheVariants as answer
-use Rattle.nfs_attrs.specs.Spelling.{IsPostOpAttr}
+use Rattle.nfs_attrs.specs.Encoding.{IsPostOpAttr}
 use Rattle.nfs_attrs.specs.declared.fattr.Fattr.{Fattr}
 use Rattle.nfs_inodes.proofs.Lists.{by_test, same_some}
 use Rattle.nfs_inodes.specs.Reading.{IsFirstChunk, attributes_of, attributes_at, bytes_at, type_of, size_of, is_regular_type}
 use Rattle.nfs_inodes.specs.Tree.{Tree, File, Kind, Regular, Directory, Link, at, on_some, bytes_in, nlink}
-use Rattle.nfs_procs.proofs.Spelled.{granted_spelled}
+use Rattle.nfs_procs.proofs.Encoded.{granted_encoded}
 use Rattle.nfs_procs.specs.Performing.{AppendsAnswer}
 use Rattle.nfs_procs.specs.Readers.{data_of, max_transfer}
 use Rattle.nfs_xdr.proofs.Writing.{appends_then}
-use Rattle.nfs_xdr.specs.Spelling.{pad_text}
+use Rattle.nfs_xdr.specs.Encoding.{pad_text}
 use Rattle.nfs_xdr.specs.Written.{Written, Appends}
 
 -- the front of a run of the bytes that are left are the next bytes
@@ -55,7 +55,7 @@ parts_written f offset n eof bytes a b c d e same end status head content pad be
     subst (λ k. BeginsReadData (Some f) k (nat_le f.size (offset + length bytes))) same (subst (λ k. BeginsReadData (Some f) n k) end begins) in
     record {
       text = appends_then _ _ a b e status (appends_then _ _ b c e head' (appends_then _ _ c d e content pad'));
-      spelled = granted_spelled answer.Read IsReadData IsPostOpAttr read_data_text (data_of f offset bytes) (begins' bytes refl);
+      encoded = granted_encoded answer.Read IsReadData IsPostOpAttr read_data_text (data_of f offset bytes) (begins' bytes refl);
     }
 
 pub read_written : (f : Fattr) (offset count left len : ℕ) (all : List ℕ) (a b c d e : Written) → f.size ≡ length all → left ≡ f.size - offset → len ≡ min left (min count max_transfer)

@@ -1,7 +1,7 @@
 -- Attributes are set.
 use Rattle.std.proofs.Common.{◌≡◌, ℕ, List, [], ◌∷◌, Option, Some, None, Ok, sym, ap, subst, ◌∙◌, arith}
 use Rattle.nfs_args.specs.declared.answer.NfsAnswer.TheVariants as answer
-use Rattle.nfs_args.specs.declared.set_attr.SetAttr.{SetAttr}
+use Rattle.nfs_args.specs.declared.setattr.Setattr.{Setattr}
 use Rattle.nfs_attrs.specs.declared.fattr.Fattr.{Fattr}
 use Rattle.nfs_attrs.specs.declared.moment.Moment.{Moment}
 use Rattle.nfs_attrs.specs.declared.sattr.Sattr.{Sattr}
@@ -12,7 +12,7 @@ use Rattle.nfs_inodes.specs.Changes.{after_resize, resized_to, after_write_at, f
 use Rattle.nfs_inodes.specs.Law.{Lives}
 use Rattle.nfs_inodes.specs.Reading.{attributes_at}
 use Rattle.nfs_inodes.specs.Tree.{Tree, File, on_some}
-use Rattle.nfs_procs.specs.Changers.{set_attr, after_settings, with_cleared_mode}
+use Rattle.nfs_procs.specs.Changers.{setattr, after_settings, with_cleared_mode}
 use Rattle.nfs_procs.specs.Doing.{change}
 use Rattle.nfs_procs.specs.Performing.{AppendsAnswer, IsGranted, HasEffect}
 use Rattle.nfs_procs.specs.declared.plan.FileBefore.{FileBefore}
@@ -33,9 +33,9 @@ lives_written t n offset (b ∷ bytes) now f at_f =
     let g : File = file_with_bytes f offset (b ∷ bytes) now in
     (g, subst (λ o. Lives (on_some o t (λ f. with_file t n (file_with_bytes f offset (b ∷ bytes) now))) n g) (sym at_f) (at_with_same n f g t.files at_f))
 
-pub has_set : (c : Scene) (a : SetAttr) (s : Subject) (file : FileBefore) (given : Sattr) (new : Tree) (shown : Wcc) (x y : Written) → IsGranted c s s → PlansSettings c.tree a (file, given) s
+pub has_set : (c : Scene) (a : Setattr) (s : Subject) (file : FileBefore) (given : Sattr) (new : Tree) (shown : Wcc) (x y : Written) → IsGranted c s s → PlansSettings c.tree a (file, given) s
     → new ≡ after_settings c.tree file.attributes.fileid given c.now → shown ≡ change (Some file.attributes) (attributes_at new file.attributes.fileid)
-    → AppendsAnswer (answer.SetAttr (Ok shown)) x y → HasEffect c (set_attr a) new x y
+    → AppendsAnswer (answer.Setattr (Ok shown)) x y → HasEffect c (setattr a) new x y
 has_set c a s file given new shown x y granted plans is shows written = record {
   one = s;
   two = s;
@@ -46,5 +46,5 @@ has_set c a s file given new shown x y granted plans is shows written = record {
       ∙ ap (λ (f : Fattr). after_settings c.tree f.fileid given c.now) plans.same
       ∙ ap (λ g. after_settings c.tree s.file.fileid g c.now) plans.given
       ∙ ap (λ t. after_settings t s.file.fileid (with_cleared_mode s.ids.uid s.file a.attributes) c.now) (sym plans.tree);
-  written = subst (λ w. AppendsAnswer (answer.SetAttr (Ok w)) x y) (shows ∙ ap (λ (f : Fattr). change (Some f) (attributes_at new f.fileid)) plans.same) written;
+  written = subst (λ w. AppendsAnswer (answer.Setattr (Ok w)) x y) (shows ∙ ap (λ (f : Fattr). change (Some f) (attributes_at new f.fileid)) plans.same) written;
 }

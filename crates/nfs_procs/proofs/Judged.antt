@@ -1,16 +1,16 @@
--- What the rules of one handle, and those after them, tell of a call.
+-- What the rules of one handle, and those after them, report of a call.
 use Rattle.std.proofs.Common.{◌≡◌, ℕ, true, false, List, [], ◌∷◌, ◌++◌, Option, Some, None, option_map, refl, sym, ap, subst, ◌∙◌}
 use Rattle.std.specs.Prelude.{Result, Ok, Err, IsErr, IsErrAnd}
 use Rattle.nfs_args.specs.declared.args.NfsArgs.{NfsArgs}
 use Rattle.nfs_attrs.specs.declared.fattr.Fattr.{Fattr}
 use Rattle.nfs_exports.specs.declared.options.Options.{Options}
-use Rattle.nfs_exports.specs.declared.table.Export.{Export}
+use Rattle.nfs_exports.specs.declared.export_table.Export.{Export}
 use Rattle.nfs_inodes.proofs.Lists.{same_some, not_both, if_true, if_false}
 use Rattle.nfs_inodes.specs.Tree.{Tree, on_some}
 use Rattle.nfs_procs.specs.Denials.{IsNamed, IsUnnamed, IsDenied, Decides}
 use Rattle.nfs_procs.specs.Performing.{IsGranted}
 use Rattle.nfs_procs.specs.Scenes.{scene, verdict_in, subjects_in}
-use Rattle.nfs_procs.specs.declared.call.Call.{Call}
+use Rattle.nfs_procs.specs.declared.call_context.CallContext.{CallContext}
 use Rattle.nfs_procs.specs.declared.denial.Denial.{Denial}
 use Rattle.nfs_rules.proofs.Firsts.{first_after_passed, first_of_failed}
 use Rattle.nfs_rules.specs.Subjects.{Caller, Subject, named, granted, subject_with, subject_at}
@@ -25,7 +25,7 @@ abbrev pub rules_after : NfsArgs → Option (Subject × Subject) → List Test
 rules_after args subjects = on_some subjects [] (λ s. rules_of s.0 s.1 args)
 
 -- Of a call with one handle.
-module _ (t : Tree) (call : Call) (args : NfsArgs) (h : List ℕ) (one : handles_in args ≡ h ∷ []) where
+module _ (t : Tree) (call : CallContext) (args : NfsArgs) (h : List ℕ) (one : handles_in args ≡ h ∷ []) where
   subjects_one : (o : Option Subject) → subject_at t call.table.now (caller_of call.caller) h ≡ o → subjects_in (scene t call args) ≡ option_map (λ s. (s, s)) o
   subjects_one o is = ap (subjects_at t call.table.now (caller_of call.caller)) one ∙ ap (option_map (λ s. (s, s))) is
 

@@ -1,14 +1,14 @@
 pub mod Judged
-pub mod Spelled
+pub mod Encoded
 pub mod Pairs
 pub mod Reading
 pub mod Data
 pub mod Pages
-pub mod MakeDir
+pub mod MadeDirs
 pub mod Removing
 pub mod Linking
 pub mod Made
-pub mod SymLink
+pub mod MadeLinks
 pub mod WrittenBytes
 pub mod GivenSettings
 pub mod Creations

@@ -1,4 +1,4 @@
--- What the rules of two handles, and those after them, tell of a call.
+-- What the rules of two handles, and those after them, report of a call.
 use Rattle.std.proofs.Common.{◌≡◌, ℕ, List, [], ◌∷◌, ◌++◌, Option, Some, None, option_map, refl, sym, ap, subst, ◌∙◌}
 use Rattle.std.specs.Prelude.{Result, Ok, Err, IsErr, IsErrAnd, nat_eq}
 use Rattle.std.proofs.lemmas.Bool.{eqb-true, eq-eqb}
@@ -12,7 +12,7 @@ use Rattle.nfs_procs.proofs.Judged.{rules_after, subject_tree}
 use Rattle.nfs_procs.specs.Denials.{IsNamed, AreNamed, AreUnnamed, IsDeniedPair, DecidesPair}
 use Rattle.nfs_procs.specs.Performing.{IsGranted}
 use Rattle.nfs_procs.specs.Scenes.{scene, verdict_in}
-use Rattle.nfs_procs.specs.declared.call.Call.{Call}
+use Rattle.nfs_procs.specs.declared.call_context.CallContext.{CallContext}
 use Rattle.nfs_procs.specs.declared.denial.PairDenial.{PairDenial}
 use Rattle.nfs_rules.proofs.Firsts.{first_after_passed, first_of_failed}
 use Rattle.nfs_rules.proofs.Pairs.{pair_judged, pair_named}
@@ -54,7 +54,7 @@ are_pair (Ok a) (Ok b) s u is = by_test (nat_eq a.file.fsid b.file.fsid)
     (λ n. absurd (err_not_ok (sym (if_false (Ok (a, b)) (Err CrossVolume) n) ∙ is)))
 
 -- of one of them, whose bytes are also known by another name
-pub pair_part : (t : Tree) (call : Call) (h b : List ℕ) → b ≡ h → (r : Result Subject Rule) (s : Subject) → r ≡ Ok s
+pub pair_part : (t : Tree) (call : CallContext) (h b : List ℕ) → b ≡ h → (r : Result Subject Rule) (s : Subject) → r ≡ Ok s
     → Judges r (handle_rules t call.table.now (caller_of call.caller) b) → ok_of r ≡ subject_at t call.table.now (caller_of call.caller) b
     → Law s.tree → attributes_at s.tree s.file.fileid ≡ Some s.file → IsNamed t call h s
 pair_part t call h b same r s is judged named law file = subst (λ h. IsNamed t call h s) same (record {
@@ -69,7 +69,7 @@ pair_part t call h b same r s is judged named law file = subst (λ h. IsNamed t 
     subject_is = sym named ∙ ap ok_of is
 
 -- where they are not a pair
-pub pair_unnamed : (t : Tree) (call : Call) (h k b d : List ℕ) → b ≡ h → d ≡ k → (r q : Result Subject Rule) (rule : Rule) (one two : Option Fattr) → in_one_volume r q ≡ Err rule
+pub pair_unnamed : (t : Tree) (call : CallContext) (h k b d : List ℕ) → b ≡ h → d ≡ k → (r q : Result Subject Rule) (rule : Rule) (one two : Option Fattr) → in_one_volume r q ≡ Err rule
     → Judges r (handle_rules t call.table.now (caller_of call.caller) b) → ok_of r ≡ subject_at t call.table.now (caller_of call.caller) b
     → Judges q (handle_rules t call.table.now (caller_of call.caller) d) → ok_of q ≡ subject_at t call.table.now (caller_of call.caller) d
     → one ≡ option_map (λ s. s.file) (ok_of r) → two ≡ option_map (λ s. s.file) (ok_of q) → AreUnnamed t call h k (record { rule = rule; uid = None; one = one; two = two })
@@ -84,7 +84,7 @@ pair_unnamed t call h k b d same same_too r q rule one two is judged named judge
     }))
 
 -- Of a call with two handles.
-module _ (t : Tree) (call : Call) (args : NfsArgs) (h k : List ℕ) (two : handles_in args ≡ h ∷ k ∷ []) where
+module _ (t : Tree) (call : CallContext) (args : NfsArgs) (h k : List ℕ) (two : handles_in args ≡ h ∷ k ∷ []) where
   verdict_two : verdict_in (scene t call args) ≡ first (handles_rules t call.table.now (caller_of call.caller) (h ∷ k ∷ [])
       ++ rules_after args (subjects_at t call.table.now (caller_of call.caller) (h ∷ k ∷ [])))
   verdict_two = ap (λ hs. first (handles_rules t call.table.now (caller_of call.caller) hs ++ rules_after args (subjects_at t call.table.now (caller_of call.caller) hs))) two

@@ -16,7 +16,7 @@ use Rattle.nfs_procs.specs.Denials.{IsNamed, IsUnnamed, IsDenied, IsDeniedPair}
 use Rattle.nfs_procs.specs.Doing.{Doing, no_change, unchanged}
 use Rattle.nfs_procs.specs.Performing.{AppendsAnswer, IsGranted, HasEffect, Performs}
 use Rattle.nfs_procs.specs.Scenes.{Scene, scene, seen_in}
-use Rattle.nfs_procs.specs.declared.call.Call.{Call}
+use Rattle.nfs_procs.specs.declared.call_context.CallContext.{CallContext}
 use Rattle.nfs_procs.specs.declared.denial.Denial.{Denial}
 use Rattle.nfs_procs.specs.declared.denial.PairDenial.{PairDenial}
 use Rattle.nfs_procs.specs.declared.done.Done.{Done}
@@ -51,25 +51,25 @@ with_change made rule shown = made (Err (record { status = status_of rule; shown
 -- where it is denied, what was written shows the file of its handle
 pub denies : (c : Scene) (doing : Doing) (h : List ℕ) (denial : Denial) (done : Done) (answer : Option Fattr → NfsAnswer) (x y : Written) → IsDenied c h denial
     → doing.denied (status_of denial.rule) (seen_in c) ≡ answer (seen_in c h) → AppendsAnswer (answer denial.shown) x y → done ≡ Denied denial.rule denial.uid → Performs c doing done c.tree x y
-denies c doing h denial done answer x y denied tells written is = subst (λ d. Performs c doing d c.tree x y) (sym is) (record {
+denies c doing h denial done answer x y denied reports written is = subst (λ d. Performs c doing d c.tree x y) (sym is) (record {
   verdict = denied.verdict;
   uid_is = denied.uid;
   new_is = refl;
-  written = subst (λ a. AppendsAnswer a x y) (sym tells) (subst (λ f. AppendsAnswer (answer f) x y) denied.shown written);
+  written = subst (λ a. AppendsAnswer a x y) (sym reports) (subst (λ f. AppendsAnswer (answer f) x y) denied.shown written);
 })
 
 -- of two handles, of each
 pub denies_pair : (c : Scene) (doing : Doing) (h k : List ℕ) (denial : PairDenial) (done : Done) (answer : Option Fattr → Option Fattr → NfsAnswer) (x y : Written) → IsDeniedPair c h k denial
     → doing.denied (status_of denial.rule) (seen_in c) ≡ answer (seen_in c h) (seen_in c k) → AppendsAnswer (answer denial.one denial.two) x y → done ≡ Denied denial.rule denial.uid → Performs c doing done c.tree x y
-denies_pair c doing h k denial done answer x y denied tells written is = subst (λ d. Performs c doing d c.tree x y) (sym is) (record {
+denies_pair c doing h k denial done answer x y denied reports written is = subst (λ d. Performs c doing d c.tree x y) (sym is) (record {
   verdict = denied.verdict;
   uid_is = denied.uid;
   new_is = refl;
-  written = subst (λ a. AppendsAnswer a x y) (sym tells) (subst (λ f. AppendsAnswer (answer f (seen_in c k)) x y) denied.one_shown (subst (λ g. AppendsAnswer (answer denial.one g) x y) denied.two_shown written));
+  written = subst (λ a. AppendsAnswer a x y) (sym reports) (subst (λ f. AppendsAnswer (answer f (seen_in c k)) x y) denied.one_shown (subst (λ g. AppendsAnswer (answer denial.one g) x y) denied.two_shown written));
 })
 
 -- Of a call with one handle and no rules after its own.
-module _ (t : Tree) (call : Call) (args : NfsArgs) (doing : Doing) (h : List ℕ) (one : handles_in args ≡ h ∷ []) where
+module _ (t : Tree) (call : CallContext) (args : NfsArgs) (doing : Doing) (h : List ℕ) (one : handles_in args ≡ h ∷ []) where
   pub reads_freely : (s : Subject) (x y : Written) → doing.effect ≡ unchanged → rules_of s s args ≡ [] → IsNamed t call h s
       → AppendsAnswer (doing.granted s s t) x y → HasEffect (scene t call args) doing t x y
   reads_freely s x y unchanging none names written = reads (scene t call args) doing s x y unchanging
@@ -78,7 +78,7 @@ module _ (t : Tree) (call : Call) (args : NfsArgs) (doing : Doing) (h : List ℕ
   pub denies_handle : (denial : Denial) (done : Done) (answer : Option Fattr → NfsAnswer) (x y : Written) → IsUnnamed t call h denial
       → doing.denied (status_of denial.rule) (seen_in (scene t call args)) ≡ answer (seen_in (scene t call args) h) → AppendsAnswer (answer denial.shown) x y
       → done ≡ Denied denial.rule denial.uid → Performs (scene t call args) doing done t x y
-  denies_handle denial done answer x y unnamed tells written made = denies (scene t call args) doing h denial done answer x y (denied_by_handle t call args h one denial unnamed) tells written made
+  denies_handle denial done answer x y unnamed reports written made = denies (scene t call args) doing h denial done answer x y (denied_by_handle t call args h one denial unnamed) reports written made
 
 -- ---- the path of a link
 

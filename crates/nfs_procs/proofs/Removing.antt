@@ -17,7 +17,7 @@ use Rattle.nfs_procs.specs.Doing.{Doing, change}
 use Rattle.nfs_procs.specs.Performing.{AppendsAnswer, IsGranted, HasEffect}
 use Rattle.nfs_procs.specs.Plans.{PlansEntry, PlansRemoval}
 use Rattle.nfs_procs.specs.Scenes.{Scene, scene}
-use Rattle.nfs_procs.specs.declared.call.Call.{Call}
+use Rattle.nfs_procs.specs.declared.call_context.CallContext.{CallContext}
 use Rattle.nfs_procs.specs.declared.denial.Denial.{Denial}
 use Rattle.nfs_procs.specs.declared.plan.RemovalPlan.{RemovalPlan}
 use Rattle.nfs_rules.specs.Judging.{Judges}
@@ -31,7 +31,7 @@ use Rattle.nfs_xdr.specs.Written.{Written}
 pub removes : (c : Scene) (doing : Doing) (answer : Wcc → NfsAnswer) (name bytes : List ℕ) (plan : RemovalPlan) (s : Subject) (new : Tree) (x y : Written) → IsGranted c s s → PlansRemoval c.tree name plan s → bytes ≡ name
     → doing.effect s s c.now 0 ≡ after_unlink s.tree s.file.fileid name c.now → doing.granted s s new ≡ answer (changed new s)
     → new ≡ after_unlink c.tree plan.dir.attributes.fileid bytes c.now → AppendsAnswer (answer (change (Some plan.dir.attributes) (attributes_at new plan.dir.attributes.fileid))) x y → HasEffect c doing new x y
-removes c doing answer name bytes plan s new x y granted plans same effect tells is written = record {
+removes c doing answer name bytes plan s new x y granted plans same effect reports is written = record {
   one = s;
   two = s;
   granted = granted;
@@ -39,12 +39,12 @@ removes c doing answer name bytes plan s new x y granted plans same effect tells
   fits = omega arith;
   new_is = is ∙ ap (λ b. after_unlink c.tree plan.dir.attributes.fileid b c.now) same ∙ ap (λ (f : Fattr). after_unlink c.tree f.fileid name c.now) plans.dir
       ∙ ap (λ t. after_unlink t s.file.fileid name c.now) (sym plans.tree) ∙ sym effect;
-  written = subst (λ a. AppendsAnswer a x y) (sym tells) (subst (λ (f : Fattr). AppendsAnswer (answer (change (Some f) (attributes_at new f.fileid))) x y) plans.dir written);
+  written = subst (λ a. AppendsAnswer a x y) (sym reports) (subst (λ (f : Fattr). AppendsAnswer (answer (change (Some f) (attributes_at new f.fileid))) x y) plans.dir written);
 }
 
 -- ---- what is decided of a removal
 
-module _ (t : Tree) (call : Call) (args : NfsArgs) (h : List ℕ) (one : handles_in args ≡ h ∷ []) (s : Subject) (named : IsNamed t call h s) where
+module _ (t : Tree) (call : CallContext) (args : NfsArgs) (h : List ℕ) (one : handles_in args ≡ h ∷ []) (s : Subject) (named : IsNamed t call h s) where
   -- by what its rules have found
   pub removal_decided : (judged : Result FileView Rule) (decided : Result RemovalPlan Denial) → PlansEntry s judged decided → (name : List ℕ)
       → Judges judged (rules_of s s args) → IfOk judged (λ f. found s name ≡ Some f.attributes)

@@ -29,8 +29,8 @@ abbrev pub answer_of : Wcc → ℕ → ℕ → Written
 answer_of file count verifier = record { file = file; count = count; committed = FileSync; verifier = verifier }
 
 -- the file into which they are written is there afterwards
-pub lives_behind : (t new : Tree) (a : Write) (plan : FileBefore × Option ℕ) (s : Subject) (bytes : List ℕ) (now : Moment) → PlansBytes t a plan s → new ≡ after_write_at t plan.0.attributes.fileid a.offset bytes now → (f : File) × Lives new plan.0.attributes.fileid f
-lives_behind t new a plan s bytes now plans is = subst (λ u. (f : File) × Lives u plan.0.attributes.fileid f) (sym is)
+pub lives_after : (t new : Tree) (a : Write) (plan : FileBefore × Option ℕ) (s : Subject) (bytes : List ℕ) (now : Moment) → PlansBytes t a plan s → new ≡ after_write_at t plan.0.attributes.fileid a.offset bytes now → (f : File) × Lives new plan.0.attributes.fileid f
+lives_after t new a plan s bytes now plans is = subst (λ u. (f : File) × Lives u plan.0.attributes.fileid f) (sym is)
     (lives_written t plan.0.attributes.fileid a.offset bytes now plans.may.file (subst (λ (k : Fattr). Lives t k.fileid plans.may.file) (sym plans.same) plans.may.at_file))
 
 pub wrote : (c : Scene) (a : Write) (s : Subject) (file : FileBefore) (mode : Option ℕ) (new : Tree) (shown : Wcc) (count verifier : ℕ) (x y : output.Written) → IsGranted c s s → PlansBytes c.tree a (file, mode) s

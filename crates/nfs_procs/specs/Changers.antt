@@ -8,10 +8,10 @@ use Rattle.nfs_args.specs.declared.create.CreateHow.TheVariants.{Unchecked, Guar
 use Rattle.nfs_args.specs.declared.dir_op.DirOp.{DirOp}
 use Rattle.nfs_args.specs.declared.link.Link.{Link}
 use Rattle.nfs_args.specs.declared.made.Made.{Made}
-use Rattle.nfs_args.specs.declared.make_dir.MakeDir.{MakeDir}
+use Rattle.nfs_args.specs.declared.mkdir.Mkdir.{Mkdir}
 use Rattle.nfs_args.specs.declared.rename.Rename.{Rename}
-use Rattle.nfs_args.specs.declared.set_attr.SetAttr.{SetAttr}
-use Rattle.nfs_args.specs.declared.sym_link.SymLink.{SymLink}
+use Rattle.nfs_args.specs.declared.setattr.Setattr.{Setattr}
+use Rattle.nfs_args.specs.declared.symlink.Symlink.{Symlink}
 use Rattle.nfs_args.specs.declared.write.Stability.TheVariants.{FileSync}
 use Rattle.nfs_args.specs.declared.write.Write.{Write}
 use Rattle.nfs_args.specs.declared.procedure.Procedure.TheVariants as proc
@@ -22,7 +22,7 @@ use Rattle.nfs_attrs.specs.declared.time_setting.TimeSetting.{TimeSetting}
 use Rattle.nfs_attrs.specs.declared.time_setting.TimeSetting.TheVariants.{Leave, ServerTime, ClientTime}
 use Rattle.nfs_attrs.specs.declared.wcc.Wcc.{Wcc}
 use Rattle.nfs_handles.specs.Handles.{handle_at}
-use Rattle.nfs_inodes.specs.Changes.{after_make_file, after_make_dir, after_make_link, after_link, after_write_at, after_resize, after_set}
+use Rattle.nfs_inodes.specs.Changes.{after_make_file, after_mkdir, after_make_link, after_link, after_write_at, after_resize, after_set}
 use Rattle.nfs_inodes.specs.Changes.{after_unlink, after_rename, zeros}
 use Rattle.nfs_inodes.specs.Reading.{attributes_at, bytes_at, entry_at, numbered_files}
 use Rattle.nfs_inodes.specs.Tree.{Tree, on_some}
@@ -91,13 +91,13 @@ with_cleared_mode uid f a = record a { mode = on_some a.mode (cleared_mode uid f
 
 -- ---- SETATTR
 
-abbrev pub set_attr : SetAttr → Doing
-set_attr a = record {
+abbrev pub setattr : Setattr → Doing
+setattr a = record {
   takes_memory = λ file same. grows_to file.tree file.file.fileid a.attributes.size;
   effect = λ file same now tag. after_settings file.tree file.file.fileid (with_cleared_mode file.ids.uid file.file a.attributes) now;
-  granted = λ file same new. answer.SetAttr (Ok (changed new file));
-  largest = largest_of proc.SetAttr;
-  denied = λ status seen. answer.SetAttr (Err (record { status = status; shown = no_change (seen a.file) }));
+  granted = λ file same new. answer.Setattr (Ok (changed new file));
+  largest = largest_of proc.Setattr;
+  denied = λ status seen. answer.Setattr (Err (record { status = status; shown = no_change (seen a.file) }));
 }
 
 -- ---- WRITE: all of the data, which are safe at once
@@ -182,23 +182,23 @@ create a = record {
   denied = λ status seen. answer.Create (Err (record { status = status; shown = no_change (seen a.place.dir) }));
 }
 
-abbrev pub make_dir : MakeDir → Doing
-make_dir a = record {
+abbrev pub mkdir : Mkdir → Doing
+mkdir a = record {
   takes_memory = always;
-  effect = λ dir same now tag. after_make_dir dir.tree dir.file.fileid a.place.name (new_file_of directory_mode dir.ids now a.attributes) tag now;
-  granted = λ dir same new. answer.MakeDir (Ok (made_of new dir.tree.next dir));
-  largest = largest_of proc.MakeDir;
-  denied = λ status seen. answer.MakeDir (Err (record { status = status; shown = no_change (seen a.place.dir) }));
+  effect = λ dir same now tag. after_mkdir dir.tree dir.file.fileid a.place.name (new_file_of directory_mode dir.ids now a.attributes) tag now;
+  granted = λ dir same new. answer.Mkdir (Ok (made_of new dir.tree.next dir));
+  largest = largest_of proc.Mkdir;
+  denied = λ status seen. answer.Mkdir (Err (record { status = status; shown = no_change (seen a.place.dir) }));
 }
 
 -- the mode that is given for a link is not looked at
-abbrev pub sym_link : SymLink → Doing
-sym_link a = record {
+abbrev pub symlink : Symlink → Doing
+symlink a = record {
   takes_memory = always;
   effect = λ dir same now tag. after_make_link dir.tree dir.file.fileid a.place.name a.path (record (new_file_of link_mode dir.ids now a.attributes) { mode = link_mode }) tag now;
-  granted = λ dir same new. answer.SymLink (Ok (made_of new dir.tree.next dir));
-  largest = largest_of proc.SymLink;
-  denied = λ status seen. answer.SymLink (Err (record { status = status; shown = no_change (seen a.place.dir) }));
+  granted = λ dir same new. answer.Symlink (Ok (made_of new dir.tree.next dir));
+  largest = largest_of proc.Symlink;
+  denied = λ status seen. answer.Symlink (Err (record { status = status; shown = no_change (seen a.place.dir) }));
 }
 
 -- ---- names
@@ -212,13 +212,13 @@ remove a = record {
   denied = λ status seen. answer.Remove (Err (record { status = status; shown = no_change (seen a.dir) }));
 }
 
-abbrev pub remove_dir : DirOp → Doing
-remove_dir a = record {
+abbrev pub rmdir : DirOp → Doing
+rmdir a = record {
   takes_memory = never;
   effect = λ dir same now tag. after_unlink dir.tree dir.file.fileid a.name now;
-  granted = λ dir same new. answer.RemoveDir (Ok (changed new dir));
-  largest = largest_of proc.RemoveDir;
-  denied = λ status seen. answer.RemoveDir (Err (record { status = status; shown = no_change (seen a.dir) }));
+  granted = λ dir same new. answer.Rmdir (Ok (changed new dir));
+  largest = largest_of proc.Rmdir;
+  denied = λ status seen. answer.Rmdir (Err (record { status = status; shown = no_change (seen a.dir) }));
 }
 
 -- whether two names are not those of one file

@@ -17,14 +17,14 @@ pub record IsGranted (c : Scene) (one two : Subject) : Type 0 where
   pub subjects : subjects_in c ≡ Some (one, two)
   pub verdict : verdict_in c ≡ None
 
--- the text that is written for an answer is a spelling of it (RFC 1813, section 3.3)
-abbrev pub IsSpelled : NfsAnswer → Type 0
-IsSpelled value = IsAnswerOf (answered value) value (nfs_text value)
+-- the text that is written for an answer is an encoding of it (RFC 1813, section 3.3)
+abbrev pub IsEncoded : NfsAnswer → Type 0
+IsEncoded value = IsAnswerOf (answered value) value (nfs_text value)
 
--- an answer is written, and so it is spelled
+-- an answer is written, and so it is encoded
 pub record AppendsAnswer (value : NfsAnswer) (before after : Written) : Type 0 where
   pub text : Appends (nfs_text value) before after
-  pub spelled : IsSpelled value
+  pub encoded : IsEncoded value
 
 -- the procedure is done and answered; the tag of a new file is chosen freely
 pub record HasEffect (c : Scene) (doing : Doing) (new : Tree) (before after : Written) : Type 0 where

@@ -1,21 +1,26 @@
 -- What is planned of procedures that change the tree, once their rules are kept.
-use Rattle.std.specs.Prelude.{◌≡◌, ℕ, true, false, List, length, Option, Some, None, option_map, Result, Ok, Err}
+use Rattle.std.specs.Prelude.{◌≡◌, ℕ, true, List, length, min, Option, Some, None, option_map, Result, Ok, Err}
 use Rattle.nfs_args.specs.declared.create.Create.{Create}
 use Rattle.nfs_args.specs.declared.create.CreateHow.{CreateHow}
-use Rattle.nfs_args.specs.declared.make_dir.MakeDir.{MakeDir}
-use Rattle.nfs_args.specs.declared.read_dir.ReadDir.{ReadDir}
-use Rattle.nfs_args.specs.declared.read_dir.ReadDirPlus.{ReadDirPlus}
+use Rattle.nfs_args.specs.declared.mkdir.Mkdir.{Mkdir}
+use Rattle.nfs_args.specs.declared.readdir.Readdir.{Readdir}
+use Rattle.nfs_args.specs.declared.readdir.Readdirplus.{Readdirplus}
 use Rattle.nfs_args.specs.declared.rename.Rename.{Rename}
-use Rattle.nfs_args.specs.declared.set_attr.SetAttr.{SetAttr}
-use Rattle.nfs_args.specs.declared.sym_link.SymLink.{SymLink}
+use Rattle.nfs_args.specs.declared.setattr.Setattr.{Setattr}
+use Rattle.nfs_args.specs.declared.symlink.Symlink.{Symlink}
 use Rattle.nfs_args.specs.declared.write.Write.{Write}
 use Rattle.nfs_attrs.specs.declared.fattr.Fattr.{Fattr}
 use Rattle.nfs_attrs.specs.declared.moment.Moment.{Moment}
 use Rattle.nfs_attrs.specs.declared.wcc.Wcc.{Wcc}
 use Rattle.nfs_attrs.specs.declared.sattr.Sattr.{Sattr}
-use Rattle.nfs_dirs.specs.Pages.{fits, fits_plus, is_too_small, left_after}
+use Rattle.nfs_args.specs.Sizes.{max_page}
+use Rattle.nfs_dirs.specs.Opening.{IsOpen}
+use Rattle.nfs_dirs.specs.Pages.{left_after, plus_bytes}
+use Rattle.nfs_dirs.specs.declared.open_page.OpenPage.{OpenPage}
+use Rattle.nfs_dirs.specs.declared.open_page.OpenPagePlus.{OpenPagePlus}
+use Rattle.nfs_handles.specs.declared.number.Number.{Number}
 use Rattle.nfs_inodes.specs.Changes.{after_make_file, zeros}
-use Rattle.nfs_inodes.specs.Conditions.{MayLink, MayMake, MayMakeDirectory, MayMakeLink, MayRename, MayResize, MayUnlinkSeen, MayWrite}
+use Rattle.nfs_inodes.specs.Conditions.{MayLink, MayMake, MayMakeDirectory, MayMakeLink, MayRenameSeen, MayResize, MayUnlinkSeen, MayWrite}
 use Rattle.nfs_inodes.specs.Law.{Lives}
 use Rattle.nfs_inodes.specs.Reading.{is_regular_type, attributes_at}
 use Rattle.nfs_inodes.specs.Tree.{Tree, File, on_some}
@@ -28,6 +33,7 @@ use Rattle.nfs_procs.specs.declared.plan.Plan.{Plan}
 use Rattle.nfs_procs.specs.declared.plan.FileBefore.{FileBefore}
 use Rattle.nfs_procs.specs.declared.plan.FilePlan.{FilePlan}
 use Rattle.nfs_procs.specs.declared.plan.RemovalPlan.{RemovalPlan}
+use Rattle.nfs_procs.specs.declared.plan.RenamePlan.{RenamePlan}
 use Rattle.nfs_rules.specs.Rights.{may}
 use Rattle.nfs_rules.specs.Subjects.{Subject}
 use Rattle.nfs_rules.specs.Table.{size_in}
@@ -36,7 +42,7 @@ use Rattle.nfs_rules.specs.declared.rights.Right.TheVariants.{Execute}
 use Rattle.nfs_rules.specs.declared.rule.Rule.{Rule}
 
 -- a new directory
-pub record PlansDirectory (t : Tree) (now : Moment) (a : MakeDir) (plan : Plan) (s : Subject) : Type 0 where
+pub record PlansDirectory (t : Tree) (now : Moment) (a : Mkdir) (plan : Plan) (s : Subject) : Type 0 where
   pub tree : s.tree ≡ t
   pub dir : plan.dir.attributes ≡ s.file
   pub given : plan.given ≡ new_file_of directory_mode s.ids now a.attributes
@@ -60,16 +66,17 @@ pub record PlansData (t : Tree) (plan s : Subject) : Type 0 where
   pub tree : s.tree ≡ t
   pub regular : is_regular_type s.file.file_type ≡ true
 
--- a directory that is listed: at least the first entry that is left fits
-pub record PlansPage (t : Tree) (a : ReadDir) (plan s : Subject) : Type 0 where
-  pub subject : plan ≡ s
+-- a directory that is listed, and its page, which has room for the first entry that is left
+pub record PlansPage (t : Tree) (a : Readdir) (plan : Subject × OpenPage) (s : Subject) : Type 0 where
+  pub subject : plan.0 ≡ s
   pub tree : s.tree ≡ t
-  pub large : is_too_small (fits a.count) (left_after s.tree s.file.fileid a.cookie) ≡ false
+  pub page : IsOpen (left_after s.tree s.file.fileid a.cookie) (min a.count max_page) 0 plan.1
 
-pub record PlansPagePlus (t : Tree) (a : ReadDirPlus) (plan s : Subject) : Type 0 where
-  pub subject : plan ≡ s
+pub record PlansPagePlus (t : Tree) (a : Readdirplus) (plan : Subject × OpenPagePlus) (s : Subject) : Type 0 where
+  pub subject : plan.0 ≡ s
   pub tree : s.tree ≡ t
-  pub large : is_too_small (fits_plus a.dircount a.maxcount (may s.ids s.file Execute)) (left_after s.tree s.file.fileid a.cookie) ≡ false
+  pub page : IsOpen (left_after s.tree s.file.fileid a.cookie) (min a.maxcount max_page) (plus_bytes (may s.ids s.file Execute)) plan.1.page
+  pub searchable : plan.1.searchable ≡ may s.ids s.file Execute
 
 -- an entry that is taken away: its directory, and what is known of its file
 pub record PlansRemoval (t : Tree) (name : List ℕ) (plan : RemovalPlan) (s : Subject) : Type 0 where
@@ -88,22 +95,30 @@ PlansEntry s (Err rule) (Ok plan) = ⊥
 abbrev pub directory_change : Tree → RemovalPlan → Wcc
 directory_change new plan = change (Some plan.dir.attributes) (attributes_at new plan.dir.attributes.fileid)
 
--- a further name: the file, and the directory of the name
+-- a hard link: the file, and the directory of the name
 pub record PlansLink (t : Tree) (name : List ℕ) (plan : FileBefore × FileBefore) (file dir : Subject) : Type 0 where
   pub tree : file.tree ≡ t
   pub file_is : plan.0.attributes ≡ file.file
   pub dir_is : plan.1.attributes ≡ dir.file
   pub may : MayLink t plan.0.attributes.fileid plan.1.attributes.fileid name
 
--- a name that is changed: both directories
-pub record PlansRename (t : Tree) (a : Rename) (plan : FileBefore × FileBefore) (from to : Subject) : Type 0 where
+-- where an entry goes from one directory to another, of the file that moves and of the one that the new name names
+pub record RoutesRename (from to : Subject) (moved replaced : Option Fattr) (plan : RenamePlan) : Type 0 where
+  pub from_is : plan.from ≡ from.file
+  pub to_is : plan.to ≡ to.file
+  pub from_number : plan.route.from.0 ≡ from.file.fileid
+  pub to_number : plan.route.to.0 ≡ to.file.fileid
+  pub number : Some plan.route.number.0 ≡ option_map (λ (f : Fattr). f.fileid) moved
+  pub names : option_map (λ (n : Number). n.0) plan.route.replaced ≡ option_map (λ (f : Fattr). f.fileid) replaced
+
+-- a name that is changed: both directories, and the files that its rules have found
+pub record PlansRename (t : Tree) (a : Rename) (plan : RenamePlan) (from to : Subject) : Type 0 where
   pub tree : from.tree ≡ t
-  pub from_is : plan.0.attributes ≡ from.file
-  pub to_is : plan.1.attributes ≡ to.file
-  pub may : MayRename t plan.0.attributes.fileid a.from.name plan.1.attributes.fileid a.to.name
+  pub routes : RoutesRename from to (found from a.from.name) (found to a.to.name) plan
+  pub may : MayRenameSeen t plan.route a.from.name a.to.name
 
 -- a new link
-pub record PlansSymLink (t : Tree) (now : Moment) (a : SymLink) (plan : Plan) (s : Subject) : Type 0 where
+pub record PlansSymlink (t : Tree) (now : Moment) (a : Symlink) (plan : Plan) (s : Subject) : Type 0 where
   pub tree : s.tree ≡ t
   pub dir : plan.dir.attributes ≡ s.file
   pub given : plan.given ≡ record (new_file_of link_mode s.ids now a.attributes) { mode = link_mode }
@@ -121,7 +136,7 @@ abbrev pub MayTakeSize : Tree → ℕ → Option ℕ → Type 0
 MayTakeSize t n size = (bytes : ℕ) → size ≡ Some bytes → MayResize t n bytes
 
 -- attributes of a file that is there, and what is set of them
-pub record PlansSettings (t : Tree) (a : SetAttr) (plan : FileBefore × Sattr) (s : Subject) : Type 0 where
+pub record PlansSettings (t : Tree) (a : Setattr) (plan : FileBefore × Sattr) (s : Subject) : Type 0 where
   pub tree : s.tree ≡ t
   pub same : plan.0.attributes ≡ s.file
   pub given : plan.1 ≡ with_cleared_mode s.ids.uid s.file a.attributes

@@ -8,19 +8,19 @@ use Rattle.nfs_args.specs.declared.byte_range.ByteRange.{ByteRange}
 use Rattle.nfs_args.specs.declared.dir_op.DirOp.{DirOp}
 use Rattle.nfs_args.specs.declared.entry.Entry.{Entry}
 use Rattle.nfs_args.specs.declared.entry_plus.EntryPlus.{EntryPlus}
-use Rattle.nfs_args.specs.declared.make_node.MakeNode.{MakeNode}
-use Rattle.nfs_args.specs.declared.page.Page.{Page}
+use Rattle.nfs_args.specs.declared.mknod.Mknod.{Mknod}
+use Rattle.nfs_args.specs.declared.dir_page.DirPage.{DirPage}
 use Rattle.nfs_args.specs.declared.path_limits.PathLimits.{PathLimits}
 use Rattle.nfs_args.specs.declared.read_data.ReadData.{ReadData}
-use Rattle.nfs_args.specs.declared.read_dir.ReadDir.{ReadDir}
-use Rattle.nfs_args.specs.declared.read_dir.ReadDirPlus.{ReadDirPlus}
-use Rattle.nfs_args.specs.declared.room.Room.{Room}
-use Rattle.nfs_args.specs.declared.room.Space.{Space}
+use Rattle.nfs_args.specs.declared.readdir.Readdir.{Readdir}
+use Rattle.nfs_args.specs.declared.readdir.Readdirplus.{Readdirplus}
+use Rattle.nfs_args.specs.declared.volume_space.VolumeSpace.{VolumeSpace}
+use Rattle.nfs_args.specs.declared.volume_space.Space.{Space}
 use Rattle.nfs_args.specs.declared.server_limits.ServerLimits.{ServerLimits}
 use Rattle.nfs_args.specs.declared.server_limits.Transfer.{Transfer}
 use Rattle.nfs_args.specs.declared.procedure.Procedure.TheVariants as proc
 use Rattle.nfs_attrs.specs.declared.fattr.Fattr.{Fattr}
-use Rattle.nfs_dirs.specs.Pages.{fits, fits_plus, chosen, is_end, left_after, entry_told, entry_plus_told}
+use Rattle.nfs_dirs.specs.Pages.{fits, fits_plus, chosen, is_end, left_after, entry_reported, entry_plus_reported}
 use Rattle.nfs_handles.specs.Handles.{handle_at}
 use Rattle.nfs_inodes.specs.Limits.{max_file_bytes, max_name_bytes, max_links}
 use Rattle.nfs_inodes.specs.Reading.{bytes_at, numbered_files, path_at, totals_at}
@@ -32,20 +32,20 @@ use Rattle.nfs_rules.specs.Rules.{status_of}
 use Rattle.nfs_rules.specs.Subjects.{Subject}
 use Rattle.nfs_rules.specs.Tests.{found}
 use Rattle.nfs_rules.specs.declared.rights.Right.TheVariants.{Execute}
-use Rattle.nfs_rules.specs.declared.rule.Rule.TheVariants.{NoMakeNode}
+use Rattle.nfs_rules.specs.declared.rule.Rule.TheVariants.{NoMknod}
 
 -- the handle of a file that lives
 abbrev pub handle_in : Tree → Fattr → List ℕ
 handle_in t f = on_some (handle_at (numbered_files t) f.fileid) [] (λ handle. handle)
 
 -- GETATTR: the attributes of the file
-abbrev pub get_attr : Doing
-get_attr = record {
+abbrev pub getattr : Doing
+getattr = record {
   takes_memory = never;
   effect = unchanged;
-  granted = λ file same new. answer.GetAttr (Ok file.file);
-  largest = largest_of proc.GetAttr;
-  denied = λ status seen. answer.GetAttr (Err (record { status = status; shown = tt }));
+  granted = λ file same new. answer.Getattr (Ok file.file);
+  largest = largest_of proc.Getattr;
+  denied = λ status seen. answer.Getattr (Err (record { status = status; shown = tt }));
 }
 
 -- LOOKUP: the file under the name
@@ -76,16 +76,16 @@ access a = record {
 }
 
 -- READLINK: the link's path
-abbrev pub read_link : List ℕ → Doing
-read_link handle = record {
+abbrev pub readlink : List ℕ → Doing
+readlink handle = record {
   takes_memory = never;
   effect = unchanged;
-  granted = λ file same new. answer.ReadLink (Ok (record {
+  granted = λ file same new. answer.Readlink (Ok (record {
     attributes = Some file.file;
     path = on_some (path_at file.tree file.file.fileid) [] (λ path. path);
   }));
-  largest = largest_of proc.ReadLink;
-  denied = λ status seen. answer.ReadLink (Err (record { status = status; shown = seen handle }));
+  largest = largest_of proc.Readlink;
+  denied = λ status seen. answer.Readlink (Err (record { status = status; shown = seen handle }));
 }
 
 -- the most bytes of one READ or WRITE that the server speaks of
@@ -110,52 +110,52 @@ read a = record {
   denied = λ status seen. answer.Read (Err (record { status = status; shown = seen a.file }));
 }
 
--- a page of a directory behind a cookie; the verifier of cookies is 0, since they are never used again
-abbrev pub page_at : Tree → Fattr → ℕ → ℕ → Page (List Entry)
+-- a page of a directory after a cookie; the verifier of cookies is 0, since they are never used again
+abbrev pub page_at : Tree → Fattr → ℕ → ℕ → DirPage (List Entry)
 page_at t f cookie count = record {
   attributes = Some f;
   verifier = 0;
-  entries = map entry_told (chosen (fits count) (left_after t f.fileid cookie));
+  entries = map entry_reported (chosen (fits count) (left_after t f.fileid cookie));
   eof = is_end (fits count) (left_after t f.fileid cookie);
 }
 
 -- READDIR
-abbrev pub read_dir : ReadDir → Doing
-read_dir a = record {
+abbrev pub readdir : Readdir → Doing
+readdir a = record {
   takes_memory = never;
   effect = unchanged;
-  granted = λ dir same new. answer.ReadDir (Ok (page_at dir.tree dir.file a.cookie a.count));
-  largest = largest_of proc.ReadDir;
-  denied = λ status seen. answer.ReadDir (Err (record { status = status; shown = seen a.dir }));
+  granted = λ dir same new. answer.Readdir (Ok (page_at dir.tree dir.file a.cookie a.count));
+  largest = largest_of proc.Readdir;
+  denied = λ status seen. answer.Readdir (Err (record { status = status; shown = seen a.dir }));
 }
 
 -- the same with what the files are, where the directory is searchable
-abbrev pub page_plus_at : Tree → Fattr → Bool → ℕ → ℕ → ℕ → Page (List EntryPlus)
+abbrev pub page_plus_at : Tree → Fattr → Bool → ℕ → ℕ → ℕ → DirPage (List EntryPlus)
 page_plus_at t f searchable cookie dircount maxcount = record {
   attributes = Some f;
   verifier = 0;
-  entries = map (entry_plus_told t searchable) (chosen (fits_plus dircount maxcount searchable) (left_after t f.fileid cookie));
+  entries = map (entry_plus_reported t searchable) (chosen (fits_plus dircount maxcount searchable) (left_after t f.fileid cookie));
   eof = is_end (fits_plus dircount maxcount searchable) (left_after t f.fileid cookie);
 }
 
 -- READDIRPLUS
-abbrev pub read_dir_plus : ReadDirPlus → Doing
-read_dir_plus a = record {
+abbrev pub readdirplus : Readdirplus → Doing
+readdirplus a = record {
   takes_memory = never;
   effect = unchanged;
-  granted = λ dir same new. answer.ReadDirPlus (Ok (page_plus_at dir.tree dir.file (may dir.ids dir.file Execute) a.cookie a.dircount a.maxcount));
-  largest = largest_of proc.ReadDirPlus;
-  denied = λ status seen. answer.ReadDirPlus (Err (record { status = status; shown = seen a.dir }));
+  granted = λ dir same new. answer.Readdirplus (Ok (page_plus_at dir.tree dir.file (may dir.ids dir.file Execute) a.cookie a.dircount a.maxcount));
+  largest = largest_of proc.Readdirplus;
+  denied = λ status seen. answer.Readdirplus (Err (record { status = status; shown = seen a.dir }));
 }
 
 -- MKNOD is never granted
-abbrev pub make_node : MakeNode → Doing
-make_node a = record {
+abbrev pub mknod : Mknod → Doing
+mknod a = record {
   takes_memory = never;
   effect = unchanged;
-  granted = λ dir same new. answer.MakeNode (Err (record { status = status_of NoMakeNode; shown = no_change (Some dir.file) }));
-  largest = largest_of proc.MakeNode;
-  denied = λ status seen. answer.MakeNode (Err (record { status = status; shown = no_change (seen a.place.dir) }));
+  granted = λ dir same new. answer.Mknod (Err (record { status = status_of NoMknod; shown = no_change (Some dir.file) }));
+  largest = largest_of proc.Mknod;
+  denied = λ status seen. answer.Mknod (Err (record { status = status; shown = no_change (seen a.place.dir) }));
 }
 
 -- of so many, so many of which are used
@@ -166,7 +166,7 @@ abbrev pub no_space : Space
 no_space = space_of 0 0
 
 -- of the bytes and the files that a volume may have, those that its files have
-abbrev pub room_in : Option Volume → Option Totals → Fattr → Room
+abbrev pub room_in : Option Volume → Option Totals → Fattr → VolumeSpace
 room_in (Some volume) (Some totals) f = record {
   attributes = Some f;
   bytes = space_of volume.max_bytes totals.bytes;
@@ -177,13 +177,13 @@ room_in (Some volume) None f = record { attributes = Some f; bytes = no_space; f
 room_in None totals f = record { attributes = Some f; bytes = no_space; files = no_space; invarsec = 0 }
 
 -- FSSTAT: the room of the file's volume
-abbrev pub fs_stat : List ℕ → Doing
-fs_stat handle = record {
+abbrev pub fsstat : List ℕ → Doing
+fsstat handle = record {
   takes_memory = never;
   effect = unchanged;
-  granted = λ file same new. answer.FsStat (Ok (room_in (slice_get file.tree.volumes (file.file.fsid - 1)) (totals_at file.tree (file.file.fsid - 1)) file.file));
-  largest = largest_of proc.FsStat;
-  denied = λ status seen. answer.FsStat (Err (record { status = status; shown = seen handle }));
+  granted = λ file same new. answer.Fsstat (Ok (room_in (slice_get file.tree.volumes (file.file.fsid - 1)) (totals_at file.tree (file.file.fsid - 1)) file.file));
+  largest = largest_of proc.Fsstat;
+  denied = λ status seen. answer.Fsstat (Err (record { status = status; shown = seen handle }));
 }
 
 -- at most 131,072 bytes at once, in multiples of 4,096
@@ -196,23 +196,23 @@ server_limits f = record {
   attributes = Some f;
   read = transfer;
   write = transfer;
-  read_dir = 8192;
+  readdir = 8192;
   max_file_size = max_file_bytes;
   time_delta = record { seconds = 0; nanos = 1 };
   properties = 27;
 }
 
 -- FSINFO: what the server bears
-abbrev pub fs_info : List ℕ → Doing
-fs_info handle = record {
+abbrev pub fsinfo : List ℕ → Doing
+fsinfo handle = record {
   takes_memory = never;
   effect = unchanged;
-  granted = λ file same new. answer.FsInfo (Ok (server_limits file.file));
-  largest = largest_of proc.FsInfo;
-  denied = λ status seen. answer.FsInfo (Err (record { status = status; shown = seen handle }));
+  granted = λ file same new. answer.Fsinfo (Ok (server_limits file.file));
+  largest = largest_of proc.Fsinfo;
+  denied = λ status seen. answer.Fsinfo (Err (record { status = status; shown = seen handle }));
 }
 
--- names are told apart by case, too long ones are refused, and only uid 0 gives files away
+-- names are distinguished by case, too long ones are refused, and only uid 0 gives files away
 abbrev pub path_limits : Fattr → PathLimits
 path_limits f = record {
   attributes = Some f;
@@ -225,13 +225,13 @@ path_limits f = record {
 }
 
 -- PATHCONF: what names may be
-abbrev pub path_conf : List ℕ → Doing
-path_conf handle = record {
+abbrev pub pathconf : List ℕ → Doing
+pathconf handle = record {
   takes_memory = never;
   effect = unchanged;
-  granted = λ file same new. answer.PathConf (Ok (path_limits file.file));
-  largest = largest_of proc.PathConf;
-  denied = λ status seen. answer.PathConf (Err (record { status = status; shown = seen handle }));
+  granted = λ file same new. answer.Pathconf (Ok (path_limits file.file));
+  largest = largest_of proc.Pathconf;
+  denied = λ status seen. answer.Pathconf (Err (record { status = status; shown = seen handle }));
 }
 
 -- the key of the server, by which a client sees that the server began anew

@@ -3,9 +3,9 @@ use Rattle.std.specs.Prelude.{ℕ, List, Option, option_map}
 use Rattle.nfs_args.specs.declared.args.NfsArgs.{NfsArgs}
 use Rattle.nfs_attrs.specs.declared.fattr.Fattr.{Fattr}
 use Rattle.nfs_attrs.specs.declared.moment.Moment.{Moment}
-use Rattle.nfs_exports.specs.declared.table.Export.{Export}
+use Rattle.nfs_exports.specs.declared.export_table.Export.{Export}
 use Rattle.nfs_inodes.specs.Tree.{Tree}
-use Rattle.nfs_procs.specs.declared.call.Call.{Call}
+use Rattle.nfs_procs.specs.declared.call_context.CallContext.{CallContext}
 use Rattle.nfs_rules.specs.Subjects.{Caller, Subject, subject_at}
 use Rattle.nfs_rules.specs.Verdicts.{handles_in, subjects_at, verdict}
 use Rattle.nfs_rules.specs.Views.{caller_of}
@@ -19,7 +19,7 @@ pub record Scene : Type 0 where
   pub args : NfsArgs
 
 -- of a call as it is in memory
-abbrev pub scene : Tree → Call → NfsArgs → Scene
+abbrev pub scene : Tree → CallContext → NfsArgs → Scene
 scene t call args = record { tree = t; exports = call.table.now; caller = caller_of call.caller; now = call.moment; args = args }
 
 abbrev pub verdict_in : Scene → Option Rule

@@ -8,7 +8,7 @@ ghost use Rattle.nfs_procs.specs.Performing.{AppendsAnswer, Performs};
 ghost use Rattle.nfs_procs.specs.Readers as procedure;
 ghost use Rattle.nfs_procs.specs.Scenes.{scene};
 
-use crate::call::Call;
+use crate::call_context::CallContext;
 use crate::done::Done;
 use crate::replies::write_denied_attributes;
 use crate::subjects::file_of;
@@ -18,7 +18,12 @@ use nfs_attrs::fattr::Fattr;
 use nfs_inodes::tree::Tree;
 use nfs_xdr::output::Output;
 
-pub(crate) fn access(tree: &Tree, call: &Call<'_>, args: &Access<'_>, out: &mut Output) -> Done
+pub(crate) fn access(
+    tree: &Tree,
+    call: &CallContext<'_>,
+    args: &Access<'_>,
+    out: &mut Output,
+) -> Done
     requires { (procedure.access args.now).largest ≤ out.old.room }
     ensures { Performs (scene tree.now call.now (nfs.Access args.now))
         (procedure.access args.now) result tree.now out.old out.new }

@@ -11,7 +11,7 @@ ghost use Rattle.nfs_procs.specs.Plans.{PlansReading};
 ghost use Rattle.nfs_procs.specs.Readers as procedure;
 ghost use Rattle.nfs_procs.specs.Scenes.{scene};
 
-use crate::call::Call;
+use crate::call_context::CallContext;
 use crate::denial::Denial;
 use crate::done::Done;
 use crate::replies::{change, verifier_of, write_denied_change};
@@ -23,7 +23,12 @@ use nfs_inodes::tree::Tree;
 use nfs_rules::subject::Subject;
 use nfs_xdr::output::Output;
 
-pub(crate) fn commit(tree: &Tree, call: &Call<'_>, args: &ByteRange<'_>, out: &mut Output) -> Done
+pub(crate) fn commit(
+    tree: &Tree,
+    call: &CallContext<'_>,
+    args: &ByteRange<'_>,
+    out: &mut Output,
+) -> Done
     requires { (procedure.commit args.now).largest ≤ out.old.room }
     ensures { Performs (scene tree.now call.now (nfs.Commit args.now))
         (procedure.commit args.now) result tree.now out.old out.new }
@@ -37,7 +42,11 @@ pub(crate) fn commit(tree: &Tree, call: &Call<'_>, args: &ByteRange<'_>, out: &m
     }
 }
 
-fn decide<'a>(tree: &'a Tree, call: &Call<'a>, args: &ByteRange<'_>) -> Result<Subject<'a>, Denial>
+fn decide<'a>(
+    tree: &'a Tree,
+    call: &CallContext<'a>,
+    args: &ByteRange<'_>,
+) -> Result<Subject<'a>, Denial>
     ensures { Decides (scene tree.entry.now call.now (nfs.Commit args.now)) args.now.file
         (PlansReading tree.entry.now) result }
 {

@@ -7,7 +7,7 @@ ghost use Rattle.nfs_procs.specs.Performing.{Performs};
 ghost use Rattle.nfs_procs.specs.Plans.{PlansFile};
 ghost use Rattle.nfs_procs.specs.Scenes.{scene};
 
-use crate::call::Call;
+use crate::call_context::CallContext;
 use crate::creation::make_or_take;
 use crate::denial::Denial;
 use crate::done::Done;
@@ -27,7 +27,12 @@ use nfs_xdr::output::Output;
 /// The mode of a file where none is given.
 const FILE_MODE: u32 = 0o600;
 
-pub(crate) fn create(tree: &mut Tree, call: &Call<'_>, args: &Create<'_>, out: &mut Output) -> Done
+pub(crate) fn create(
+    tree: &mut Tree,
+    call: &CallContext<'_>,
+    args: &Create<'_>,
+    out: &mut Output,
+) -> Done
     requires { (procedure.create args.now).largest ≤ out.old.room }
     ensures { Performs (scene tree.old call.now (nfs.Create args.now))
         (procedure.create args.now) result tree.new out.old out.new }
@@ -46,7 +51,7 @@ pub(crate) fn create(tree: &mut Tree, call: &Call<'_>, args: &Create<'_>, out: &
     Done::Granted
 }
 
-fn decide(tree: &Tree, call: &Call<'_>, args: &Create<'_>) -> Result<FilePlan, Denial>
+fn decide(tree: &Tree, call: &CallContext<'_>, args: &Create<'_>) -> Result<FilePlan, Denial>
     ensures { Decides (scene tree.now call.now (nfs.Create args.now)) args.now.place.dir
         (PlansFile tree.now call.now.moment args.now) result }
 {

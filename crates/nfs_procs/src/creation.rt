@@ -14,6 +14,7 @@ use nfs_args::create::{Create, CreateHow};
 use nfs_attrs::moment::Moment;
 use nfs_content::pages::Pages;
 use nfs_handles::number::Number;
+use nfs_inodes::new_file::NewContent;
 use nfs_inodes::tree::Tree;
 use std::alloc::AllocError;
 
@@ -52,13 +53,15 @@ fn make(
     ensures number { IfOk result (λ n. n.0 ≡ tree.old.next) }
     ensures err { OnErr result (tree.new ≡ tree.old) }
 {
-    let content = Pages::zeros(tree.allocator(), size_of(&args.how) as usize);
+    let content = NewContent {
+        pages: Pages::zeros(tree.allocator(), size_of(&args.how) as usize),
+        verifier: verifier_in(&args.how),
+    };
     tree.make_file(
         Number(plan.dir.attributes.fileid, plan.dir.hint),
         args.place.name.bytes(),
         content,
         &plan.given,
-        verifier_in(&args.how),
         now,
     )
 }

@@ -1,4 +1,4 @@
-//! The bounds of what procedures move, and what they tell of them.
+//! The bounds of what procedures move, and what they report of them.
 
 use nfs_args::limits::MAX_DATA_BYTES;
 

@@ -1,4 +1,4 @@
-//! LINK: a further name for a file (RFC 1813, section 3.3.15).
+//! LINK: a hard link for a file (RFC 1813, section 3.3.15).
 ghost use Rattle.std.specs.Prelude.{◌≡◌, ◌≤◌, ◌++◌};
 ghost use Rattle.std.specs.Int.{w32, to_be_bytes};
 ghost use Rattle.nfs_args.specs.Results.{IsFailed, IsLinked, linked_text};
@@ -15,7 +15,7 @@ ghost use Rattle.nfs_procs.specs.declared.done.Done.TheVariants as done;
 ghost use Rattle.nfs_rules.specs.Rules.{status_of};
 ghost use Rattle.nfs_xdr.specs.Written.{Appends};
 
-use crate::call::Call;
+use crate::call_context::CallContext;
 use crate::denial::PairDenial;
 use crate::done::Done;
 use crate::plan::FileBefore;
@@ -28,7 +28,12 @@ use nfs_inodes::tree::Tree;
 use nfs_rules::table::link_rules;
 use nfs_xdr::output::Output;
 
-pub(crate) fn link(tree: &mut Tree, call: &Call<'_>, args: &Link<'_>, out: &mut Output) -> Done
+pub(crate) fn link(
+    tree: &mut Tree,
+    call: &CallContext<'_>,
+    args: &Link<'_>,
+    out: &mut Output,
+) -> Done
     requires { (procedure.link args.now).largest ≤ out.old.room }
     ensures { Performs (scene tree.old call.now (nfs.Link args.now))
         (procedure.link args.now) result tree.new out.old out.new }
@@ -51,7 +56,7 @@ pub(crate) fn link(tree: &mut Tree, call: &Call<'_>, args: &Link<'_>, out: &mut 
 
 fn decide(
     tree: &Tree,
-    call: &Call<'_>,
+    call: &CallContext<'_>,
     args: &Link<'_>,
 ) -> Result<(FileBefore, FileBefore), PairDenial>
     ensures { DecidesPair (scene tree.now call.now (nfs.Link args.now)) args.now.file args.now.place.dir
@@ -68,7 +73,7 @@ fn write_denied(out: &mut Output, denial: &PairDenial) -> Done
     requires { largest_of proc.Link ≤ out.old.room }
     ensures text { Appends (to_be_bytes w32 (status_of denial.now.rule) ++ linked_text
         (record { attributes = denial.now.one; dir = doing.no_change denial.now.two })) out.old out.new }
-    ensures spelled { IsFailed IsLinked (record {
+    ensures encoded { IsFailed IsLinked (record {
       status = status_of denial.now.rule;
       shown = record { attributes = denial.now.one; dir = doing.no_change denial.now.two };
     }) (to_be_bytes w32 (status_of denial.now.rule) ++ linked_text

@@ -10,7 +10,7 @@ ghost use Rattle.nfs_procs.specs.Plans.{PlansFound};
 ghost use Rattle.nfs_procs.specs.Readers as procedure;
 ghost use Rattle.nfs_procs.specs.Scenes.{scene};
 
-use crate::call::Call;
+use crate::call_context::CallContext;
 use crate::denial::Denial;
 use crate::done::Done;
 use crate::replies::write_denied_attributes;
@@ -25,7 +25,12 @@ use nfs_rules::subject::Subject;
 use nfs_rules::table::lookup_rules;
 use nfs_xdr::output::Output;
 
-pub(crate) fn lookup(tree: &Tree, call: &Call<'_>, args: &DirOp<'_>, out: &mut Output) -> Done
+pub(crate) fn lookup(
+    tree: &Tree,
+    call: &CallContext<'_>,
+    args: &DirOp<'_>,
+    out: &mut Output,
+) -> Done
     requires { (procedure.lookup args.now).largest ≤ out.old.room }
     ensures { Performs (scene tree.now call.now (nfs.Lookup args.now))
         (procedure.lookup args.now) result tree.now out.old out.new }
@@ -42,7 +47,7 @@ pub(crate) fn lookup(tree: &Tree, call: &Call<'_>, args: &DirOp<'_>, out: &mut O
 
 fn decide<'a>(
     tree: &'a Tree,
-    call: &Call<'a>,
+    call: &CallContext<'a>,
     args: &DirOp<'_>,
 ) -> Result<(Subject<'a>, FileView<'a>), Denial>
     ensures { Decides (scene tree.entry.now call.now (nfs.Lookup args.now)) args.now.dir

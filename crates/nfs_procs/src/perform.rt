@@ -4,27 +4,27 @@ ghost use Rattle.nfs_procs.specs.Procedures.{PerformsAs, doing_of, room_for};
 ghost use Rattle.nfs_procs.specs.Scenes.{scene};
 
 use crate::access::access;
-use crate::call::Call;
+use crate::call_context::CallContext;
 use crate::commit::commit;
 use crate::create::create;
 use crate::done::Done;
-use crate::fs_info::fs_info;
-use crate::fs_stat::fs_stat;
-use crate::get_attr::get_attr;
+use crate::fsinfo::fsinfo;
+use crate::fsstat::fsstat;
+use crate::getattr::getattr;
 use crate::link::link;
 use crate::lookup::lookup;
-use crate::make_dir::make_dir;
-use crate::make_node::make_node;
-use crate::path_conf::path_conf;
+use crate::mkdir::mkdir;
+use crate::mknod::mknod;
+use crate::pathconf::pathconf;
 use crate::read::read;
-use crate::read_dir::read_dir;
-use crate::read_dir_plus::read_dir_plus;
-use crate::read_link::read_link;
+use crate::readdir::readdir;
+use crate::readdirplus::readdirplus;
+use crate::readlink::readlink;
 use crate::remove::remove;
-use crate::remove_dir::remove_dir;
 use crate::rename::rename;
-use crate::set_attr::set_attr;
-use crate::sym_link::sym_link;
+use crate::rmdir::rmdir;
+use crate::setattr::setattr;
+use crate::symlink::symlink;
 use crate::write::write;
 use nfs_args::args::NfsArgs;
 use nfs_inodes::tree::Tree;
@@ -35,7 +35,7 @@ use nfs_xdr::output::Output;
 /// before and nothing is written. `None` for NULL, which has no result.
 pub fn perform(
     tree: &mut Tree,
-    call: &Call<'_>,
+    call: &CallContext<'_>,
     args: &NfsArgs<'_>,
     out: &mut Output,
 ) -> Option<Done>
@@ -44,26 +44,26 @@ pub fn perform(
 {
     match args {
         NfsArgs::Null => None,
-        NfsArgs::GetAttr(file) => Some(get_attr(tree, call, file, out)),
-        NfsArgs::SetAttr(args) => Some(set_attr(tree, call, args, out)),
+        NfsArgs::Getattr(file) => Some(getattr(tree, call, file, out)),
+        NfsArgs::Setattr(args) => Some(setattr(tree, call, args, out)),
         NfsArgs::Lookup(args) => Some(lookup(tree, call, args, out)),
         NfsArgs::Access(args) => Some(access(tree, call, args, out)),
-        NfsArgs::ReadLink(file) => Some(read_link(tree, call, file, out)),
+        NfsArgs::Readlink(file) => Some(readlink(tree, call, file, out)),
         NfsArgs::Read(args) => Some(read(tree, call, args, out)),
         NfsArgs::Write(args) => Some(write(tree, call, args, out)),
         NfsArgs::Create(args) => Some(create(tree, call, args, out)),
-        NfsArgs::MakeDir(args) => Some(make_dir(tree, call, args, out)),
-        NfsArgs::SymLink(args) => Some(sym_link(tree, call, args, out)),
-        NfsArgs::MakeNode(args) => Some(make_node(tree, call, args, out)),
+        NfsArgs::Mkdir(args) => Some(mkdir(tree, call, args, out)),
+        NfsArgs::Symlink(args) => Some(symlink(tree, call, args, out)),
+        NfsArgs::Mknod(args) => Some(mknod(tree, call, args, out)),
         NfsArgs::Remove(args) => Some(remove(tree, call, args, out)),
-        NfsArgs::RemoveDir(args) => Some(remove_dir(tree, call, args, out)),
+        NfsArgs::Rmdir(args) => Some(rmdir(tree, call, args, out)),
         NfsArgs::Rename(args) => Some(rename(tree, call, args, out)),
         NfsArgs::Link(args) => Some(link(tree, call, args, out)),
-        NfsArgs::ReadDir(args) => Some(read_dir(tree, call, args, out)),
-        NfsArgs::ReadDirPlus(args) => Some(read_dir_plus(tree, call, args, out)),
-        NfsArgs::FsStat(file) => Some(fs_stat(tree, call, file, out)),
-        NfsArgs::FsInfo(file) => Some(fs_info(tree, call, file, out)),
-        NfsArgs::PathConf(file) => Some(path_conf(tree, call, file, out)),
+        NfsArgs::Readdir(args) => Some(readdir(tree, call, args, out)),
+        NfsArgs::Readdirplus(args) => Some(readdirplus(tree, call, args, out)),
+        NfsArgs::Fsstat(file) => Some(fsstat(tree, call, file, out)),
+        NfsArgs::Fsinfo(file) => Some(fsinfo(tree, call, file, out)),
+        NfsArgs::Pathconf(file) => Some(pathconf(tree, call, file, out)),
         NfsArgs::Commit(args) => Some(commit(tree, call, args, out)),
     }
 }

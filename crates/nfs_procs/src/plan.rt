@@ -5,6 +5,7 @@ use nfs_attrs::fattr::Fattr;
 use nfs_handles::number::{Hint, Number};
 use nfs_inodes::new_file::NewFile;
 use nfs_inodes::removal::Standing;
+use nfs_inodes::renaming::Route;
 use nfs_inodes::view::FileView;
 
 /// A file as it is before the call.
@@ -47,6 +48,17 @@ pub struct RemovalPlan {
     pub number: Number,
     /// What its removal has to know of it.
     pub file: Standing,
+}
+
+/// A name that is changed: both directories before the call, and where the entry goes.
+#[derive(Clone, Copy)]
+pub struct RenamePlan {
+    /// The directory of the old name.
+    pub from: Fattr,
+    /// The directory of the new name.
+    pub to: Fattr,
+    /// Where the entry goes.
+    pub route: Route,
 }
 
 /// A regular file: the directory of its name, and the file that is there, or what a new one is like.

@@ -13,7 +13,7 @@ ghost use Rattle.nfs_procs.specs.Readers as procedure;
 ghost use Rattle.nfs_procs.specs.Scenes.{scene};
 ghost use Rattle.nfs_xdr.specs.Written.{Appends};
 
-use crate::call::Call;
+use crate::call_context::CallContext;
 use crate::denial::Denial;
 use crate::done::Done;
 use crate::limits::MAX_TRANSFER;
@@ -27,7 +27,12 @@ use nfs_rules::subject::Subject;
 use nfs_rules::table::read_rules;
 use nfs_xdr::output::Output;
 
-pub(crate) fn read(tree: &Tree, call: &Call<'_>, args: &ByteRange<'_>, out: &mut Output) -> Done
+pub(crate) fn read(
+    tree: &Tree,
+    call: &CallContext<'_>,
+    args: &ByteRange<'_>,
+    out: &mut Output,
+) -> Done
     requires { (procedure.read args.now).largest ≤ out.old.room }
     ensures { Performs (scene tree.now call.now (nfs.Read args.now))
         (procedure.read args.now) result tree.now out.old out.new }
@@ -41,7 +46,11 @@ pub(crate) fn read(tree: &Tree, call: &Call<'_>, args: &ByteRange<'_>, out: &mut
     }
 }
 
-fn decide<'a>(tree: &'a Tree, call: &Call<'a>, args: &ByteRange<'_>) -> Result<Subject<'a>, Denial>
+fn decide<'a>(
+    tree: &'a Tree,
+    call: &CallContext<'a>,
+    args: &ByteRange<'_>,
+) -> Result<Subject<'a>, Denial>
     ensures { Decides (scene tree.entry.now call.now (nfs.Read args.now)) args.now.file
         (PlansData tree.entry.now) result }
 {

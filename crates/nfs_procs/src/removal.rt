@@ -2,7 +2,7 @@
 ghost use Rattle.std.specs.Prelude.{◌≡◌, ◌+◌, ◌≤◌, ◌++◌, Some};
 ghost use Rattle.std.specs.Int.{w32, to_be_bytes};
 ghost use Rattle.nfs_args.specs.Sizes.{change_size, status_size};
-ghost use Rattle.nfs_attrs.specs.Spelling.{IsWcc, wcc_text};
+ghost use Rattle.nfs_attrs.specs.Encoding.{IsWcc, wcc_text};
 ghost use Rattle.nfs_inodes.specs.Changes.{after_unlink};
 ghost use Rattle.nfs_inodes.specs.Conditions.{MayUnlinkSeen};
 ghost use Rattle.nfs_inodes.specs.Reading.{attributes_at};
@@ -52,7 +52,7 @@ pub(crate) fn remove_entry(
     requires room { status_size + change_size ≤ out.old.room }
     ensures tree { tree.new ≡ after_unlink tree.old plan.now.dir.attributes.fileid name.now now }
     ensures text { Appends (to_be_bytes w32 0 ++ wcc_text (directory_change tree.new plan.now)) out.old out.new }
-    ensures spelled { IsWcc (directory_change tree.new plan.now) (wcc_text (directory_change tree.new plan.now)) }
+    ensures encoded { IsWcc (directory_change tree.new plan.now) (wcc_text (directory_change tree.new plan.now)) }
 {
     let dir = Number(plan.dir.attributes.fileid, plan.dir.hint);
     tree.unlink_seen(dir, name, plan.number, plan.file, now);

@@ -7,7 +7,7 @@ ghost use Rattle.nfs_procs.specs.Performing.{Performs};
 ghost use Rattle.nfs_procs.specs.Plans.{PlansRemoval};
 ghost use Rattle.nfs_procs.specs.Scenes.{scene};
 
-use crate::call::Call;
+use crate::call_context::CallContext;
 use crate::denial::Denial;
 use crate::done::Done;
 use crate::plan::RemovalPlan;
@@ -19,7 +19,12 @@ use nfs_inodes::tree::Tree;
 use nfs_rules::table::remove_rules;
 use nfs_xdr::output::Output;
 
-pub(crate) fn remove(tree: &mut Tree, call: &Call<'_>, args: &DirOp<'_>, out: &mut Output) -> Done
+pub(crate) fn remove(
+    tree: &mut Tree,
+    call: &CallContext<'_>,
+    args: &DirOp<'_>,
+    out: &mut Output,
+) -> Done
     requires { (procedure.remove args.now).largest ≤ out.old.room }
     ensures { Performs (scene tree.old call.now (nfs.Remove args.now))
         (procedure.remove args.now) result tree.new out.old out.new }
@@ -33,7 +38,7 @@ pub(crate) fn remove(tree: &mut Tree, call: &Call<'_>, args: &DirOp<'_>, out: &m
     }
 }
 
-fn decide(tree: &Tree, call: &Call<'_>, args: &DirOp<'_>) -> Result<RemovalPlan, Denial>
+fn decide(tree: &Tree, call: &CallContext<'_>, args: &DirOp<'_>) -> Result<RemovalPlan, Denial>
     ensures { Decides (scene tree.now call.now (nfs.Remove args.now)) args.now.dir
         (PlansRemoval tree.now args.now.name) result }
 {

@@ -3,7 +3,7 @@ ghost use Rattle.std.specs.Prelude.{◌≡◌, ◌+◌, ◌≤◌, ◌++◌, Som
 ghost use Rattle.std.specs.Int.{w32, to_be_bytes};
 ghost use Rattle.nfs_args.specs.Results.{IsFailed, IsMade, made_text};
 ghost use Rattle.nfs_args.specs.Sizes.{change_size, made_size, post_op_attributes_size, status_size};
-ghost use Rattle.nfs_attrs.specs.Spelling.{IsPostOpAttr, IsWcc, post_op_attr_text, wcc_text};
+ghost use Rattle.nfs_attrs.specs.Encoding.{IsPostOpAttr, IsWcc, post_op_attr_text, wcc_text};
 ghost use Rattle.nfs_procs.specs.Changers.{new_file_in};
 ghost use Rattle.nfs_procs.specs.Doing as doing;
 ghost use Rattle.nfs_procs.specs.Readers as readers;
@@ -49,7 +49,7 @@ pub(crate) fn verifier_of(tree: &Tree) -> u64
 pub(crate) fn write_denied_change(out: &mut Output, denial: &Denial) -> Done
     requires { status_size + change_size ≤ out.old.room }
     ensures text { Appends (to_be_bytes w32 (status_of denial.now.rule) ++ wcc_text (doing.no_change denial.now.shown)) out.old out.new }
-    ensures spelled { IsFailed IsWcc (record { status = status_of denial.now.rule; shown = doing.no_change denial.now.shown })
+    ensures encoded { IsFailed IsWcc (record { status = status_of denial.now.rule; shown = doing.no_change denial.now.shown })
         (to_be_bytes w32 (status_of denial.now.rule) ++ wcc_text (doing.no_change denial.now.shown)) }
     ensures done { result ≡ done.Denied denial.now.rule denial.now.uid }
 {
@@ -62,7 +62,7 @@ pub(crate) fn write_denied_change(out: &mut Output, denial: &Denial) -> Done
 pub(crate) fn write_denied_attributes(out: &mut Output, denial: &Denial) -> Done
     requires { status_size + post_op_attributes_size ≤ out.old.room }
     ensures text { Appends (to_be_bytes w32 (status_of denial.now.rule) ++ post_op_attr_text denial.now.shown) out.old out.new }
-    ensures spelled { IsFailed IsPostOpAttr (record { status = status_of denial.now.rule; shown = denial.now.shown })
+    ensures encoded { IsFailed IsPostOpAttr (record { status = status_of denial.now.rule; shown = denial.now.shown })
         (to_be_bytes w32 (status_of denial.now.rule) ++ post_op_attr_text denial.now.shown) }
     ensures done { result ≡ done.Denied denial.now.rule denial.now.uid }
 {
@@ -76,7 +76,7 @@ pub(crate) fn write_denied_attributes(out: &mut Output, denial: &Denial) -> Done
 pub(crate) fn write_granted_change(out: &mut Output, file: Wcc)
     requires { status_size + change_size ≤ out.old.room }
     ensures text { Appends (to_be_bytes w32 0 ++ wcc_text file) out.old out.new }
-    ensures spelled { IsWcc file (wcc_text file) }
+    ensures encoded { IsWcc file (wcc_text file) }
 {
     out.u32(0);
     write_wcc(out, &file);
@@ -87,7 +87,7 @@ pub(crate) fn write_granted_change(out: &mut Output, file: Wcc)
 pub(crate) fn write_new_file(out: &mut Output, tree: &Tree, file: Number, dir: Wcc)
     requires { made_size ≤ out.old.room }
     ensures text { Appends (made_text (new_file_in tree.now file.0 dir)) out.old out.new }
-    ensures spelled { IsMade (new_file_in tree.now file.0 dir) (made_text (new_file_in tree.now file.0 dir)) }
+    ensures encoded { IsMade (new_file_in tree.now file.0 dir) (made_text (new_file_in tree.now file.0 dir)) }
 {
     match tree.view(file) {
         Some(file) => {

@@ -1,7 +1,7 @@
 //! What the handles of a call name.
 ghost use Rattle.nfs_procs.specs.Denials.{Names, NamesBoth};
 
-use crate::call::Call;
+use crate::call_context::CallContext;
 use crate::denial::{Denial, PairDenial};
 use nfs_args::opaque::Opaque;
 use nfs_inodes::tree::Tree;
@@ -13,7 +13,7 @@ use nfs_rules::subject::Subject;
 #[inline(always)]
 pub(crate) fn file_of<'a>(
     tree: &'a Tree,
-    call: &Call<'a>,
+    call: &CallContext<'a>,
     handle: &Opaque<'_>,
 ) -> Result<ExportedFile<'a>, Denial>
     ensures { Names tree.entry.now call.now handle.now result }
@@ -31,7 +31,7 @@ pub(crate) fn file_of<'a>(
 #[inline(always)]
 pub(crate) fn subject_of<'a>(
     tree: &'a Tree,
-    call: &Call<'a>,
+    call: &CallContext<'a>,
     handle: &Opaque<'_>,
 ) -> Result<Subject<'a>, Denial>
     ensures { Names tree.entry.now call.now handle.now result }
@@ -47,7 +47,7 @@ pub(crate) fn subject_of<'a>(
 #[inline(always)]
 pub(crate) fn pair_of<'a>(
     tree: &'a Tree,
-    call: &Call<'a>,
+    call: &CallContext<'a>,
     one: &Opaque<'_>,
     two: &Opaque<'_>,
 ) -> Result<(Subject<'a>, Subject<'a>), PairDenial>

@@ -11,7 +11,7 @@ ghost use Rattle.nfs_procs.specs.Plans.{PlansBytes};
 ghost use Rattle.nfs_procs.specs.Changers as procedure;
 ghost use Rattle.nfs_procs.specs.Scenes.{scene};
 
-use crate::call::Call;
+use crate::call_context::CallContext;
 use crate::denial::Denial;
 use crate::done::Done;
 use crate::plan::FileBefore;
@@ -26,7 +26,12 @@ use nfs_inodes::tree::Tree;
 use nfs_rules::table::write_rules;
 use nfs_xdr::output::Output;
 
-pub(crate) fn write(tree: &mut Tree, call: &Call<'_>, args: &Write<'_>, out: &mut Output) -> Done
+pub(crate) fn write(
+    tree: &mut Tree,
+    call: &CallContext<'_>,
+    args: &Write<'_>,
+    out: &mut Output,
+) -> Done
     requires { (procedure.write args.now).largest ≤ out.old.room }
     ensures { Performs (scene tree.old call.now (nfs.Write args.now))
         (procedure.write args.now) result tree.new out.old out.new }
@@ -54,7 +59,7 @@ pub(crate) fn write(tree: &mut Tree, call: &Call<'_>, args: &Write<'_>, out: &mu
 // The file before the call, and the mode that it gets, if it loses bits.
 fn decide(
     tree: &Tree,
-    call: &Call<'_>,
+    call: &CallContext<'_>,
     args: &Write<'_>,
 ) -> Result<(FileBefore, Option<u32>), Denial>
     ensures { Decides (scene tree.now call.now (nfs.Write args.now)) args.now.file (PlansBytes tree.now args.now) result }

@@ -6,7 +6,7 @@ use Rattle.std.specs.Option.{ok_or, unwrap_or}
 use Rattle.std.proofs.lemmas.Bool.Decides.{nat_tests}
 use Rattle.std.proofs.lemmas.List.{length-append}
 use Rattle.std.proofs.lemmas.Fmt.{decimal_is_IsNumeral}
-use Rattle.nfs_text.specs.Pieces.{pieces}
+use Rattle.nfs_text.specs.Chunks.{chunks}
 use Rattle.nfs_exports.specs.Settings.{nothing, options_of, parse_options, squash_of, with_setting, with_words}
 use Rattle.nfs_exports.specs.Words.{◌>>=◌}
 use Rattle.nfs_exports.specs.declared.options.Options.{Options}
@@ -22,9 +22,9 @@ use Rattle.nfs_read_back.specs.ReadBack.{is_said}
 use Rattle.nfs_read_back.proofs.Digits.{decimal_of_decimal, decimal_said}
 use Rattle.nfs_read_back.proofs.Patterns.{said_of}
 use Rattle.nfs_read_back.proofs.Words.{both}
-use Rattle.nfs_read_back.proofs.Separators.{append_free, append_shown, digits_free, is_free, last_piece, piece_ends}
+use Rattle.nfs_read_back.proofs.Separators.{append_free, append_shown, digits_free, is_free, last_chunk, chunk_ends}
 
--- ---- words behind the first
+-- ---- words after the first
 
 abbrev tail_of : List (List ℕ) → List ℕ
 tail_of [] = []
@@ -34,9 +34,9 @@ abbrev AreFree : List (List ℕ) → Type 0
 AreFree [] = Unit {0}
 AreFree (v ∷ vs) = (is_free 44 v ≡ true) × AreFree vs
 
-pieces_of : (w : List ℕ) (vs : List (List ℕ)) → is_free 44 w ≡ true → AreFree vs → pieces 44 (w ++ tail_of vs) ≡ w ∷ vs
-pieces_of w [] free all = ap (pieces 44) (append-nil w) ∙ last_piece 44 w free
-pieces_of w (v ∷ vs) free all = piece_ends 44 w (v ++ tail_of vs) free ∙ ap (λ l. w ∷ l) (pieces_of v vs all.0 all.1)
+chunks_of : (w : List ℕ) (vs : List (List ℕ)) → is_free 44 w ≡ true → AreFree vs → chunks 44 (w ++ tail_of vs) ≡ w ∷ vs
+chunks_of w [] free all = ap (chunks 44) (append-nil w) ∙ last_chunk 44 w free
+chunks_of w (v ∷ vs) free all = chunk_ends 44 w (v ++ tail_of vs) free ∙ ap (λ l. w ∷ l) (chunks_of v vs all.0 all.1)
 
 tail_append : (us vs : List (List ℕ)) → tail_of (us ++ vs) ≡ tail_of us ++ tail_of vs
 tail_append [] vs = refl
@@ -153,13 +153,13 @@ id_back id = by_test (nat_eq id 65534) (grind (arith, nat_tests))
 
 -- ---- the whole
 
-abbrev words_behind : Options → List (List ℕ)
-words_behind o = squash_words o.squash ++ (anonymous_words (codes "anonuid=") o.anonuid ++ anonymous_words (codes "anongid=") o.anongid)
+abbrev words_after : Options → List (List ℕ)
+words_after o = squash_words o.squash ++ (anonymous_words (codes "anonuid=") o.anonuid ++ anonymous_words (codes "anongid=") o.anongid)
 
 joined : (a b c d : List ℕ) → a ++ b ++ c ++ d ≡ a ++ (b ++ (c ++ d))
 joined a b c d = simp append_assoc
 
-text_is : (o : Options) → options_text o ≡ first_word o.read_only ++ tail_of (words_behind o)
+text_is : (o : Options) → options_text o ≡ first_word o.read_only ++ tail_of (words_after o)
 text_is o =
     joined (first_word o.read_only) (squash_text o.squash) (anonymous_text (codes ",anonuid=") o.anonuid) (anonymous_text (codes ",anongid=") o.anongid)
     ∙ ap (λ l. first_word o.read_only ++ (l ++ (anonymous_text (codes ",anonuid=") o.anonuid ++ anonymous_text (codes ",anongid=") o.anongid))) (squash_is o.squash)
@@ -168,10 +168,10 @@ text_is o =
     ∙ ap (λ l. first_word o.read_only ++ (tail_of (squash_words o.squash) ++ l)) (sym (tail_append (anonymous_words (codes "anonuid=") o.anonuid) (anonymous_words (codes "anongid=") o.anongid)))
     ∙ ap (λ l. first_word o.read_only ++ l) (sym (tail_append (squash_words o.squash) (anonymous_words (codes "anonuid=") o.anonuid ++ anonymous_words (codes "anongid=") o.anongid)))
 
-words_say : (o : Options) → o.anonuid < 2 ^ 32 → o.anongid < 2 ^ 32 → with_words nothing (first_word o.read_only ∷ words_behind o)
+words_say : (o : Options) → o.anonuid < 2 ^ 32 → o.anongid < 2 ^ 32 → with_words nothing (first_word o.read_only ∷ words_after o)
     ≡ Ok (record { read_only = Some o.read_only; root_squash = root_said o.squash; all_squash = all_said o.squash; anonuid = id_said o.anonuid; anongid = id_said o.anongid })
 words_say o uid gid =
-    first_says o.read_only (words_behind o)
+    first_says o.read_only (words_after o)
     ∙ squash_says o.read_only o.squash (anonymous_words (codes "anonuid=") o.anonuid ++ anonymous_words (codes "anongid=") o.anongid)
     ∙ uid_says (Some o.read_only) (root_said o.squash) (all_said o.squash) o.anonuid (anonymous_words (codes "anongid=") o.anongid) uid
     ∙ gid_says (Some o.read_only) (root_said o.squash) (all_said o.squash) (id_said o.anonuid) o.anongid gid
@@ -184,10 +184,10 @@ all_back o =
 
 pub options_read : (o : Options) → o.anonuid < 2 ^ 32 → o.anongid < 2 ^ 32 → parse_options (options_text o) ≡ Ok o
 options_read o uid gid =
-    let said = pieces_of (first_word o.read_only) (words_behind o) (first_free o.read_only)
+    let said = chunks_of (first_word o.read_only) (words_after o) (first_free o.read_only)
     (free_append (squash_words o.squash) _ (squash_free o.squash)
     (free_append (anonymous_words (codes "anonuid=") o.anonuid) _ (anonymous_free (codes "anonuid=") o.anonuid refl uid) (anonymous_free (codes "anongid=") o.anongid refl gid))) in
-    ap (λ ws. with_words nothing ws >>= (λ (settings : Settings). Ok (options_of settings))) (ap (pieces 44) (text_is o) ∙ said)
+    ap (λ ws. with_words nothing ws >>= (λ (settings : Settings). Ok (options_of settings))) (ap (chunks 44) (text_is o) ∙ said)
     ∙ ap (λ (r : Result Settings OptionsFault). r >>= (λ (settings : Settings). Ok (options_of settings))) (words_say o uid gid)
     ∙ ap Ok (all_back o)
 

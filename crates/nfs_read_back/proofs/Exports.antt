@@ -3,7 +3,7 @@ use Rattle.std.proofs.Common.{◌≡◌, ℕ, List, [], ◌∷◌, Ok, refl, ap,
 use Rattle.std.specs.Prelude.{Result, codes}
 use Rattle.nfs_exports.specs.declared.options.Options.{Options}
 use Rattle.nfs_exports.specs.declared.pattern.Pattern.{Pattern}
-use Rattle.nfs_load.specs.Fields.{◌>>=◌, behind, found_pattern, options_at, options_in, options_or_cause, pattern_in}
+use Rattle.nfs_load.specs.Fields.{◌>>=◌, after, found_pattern, options_at, options_in, options_or_cause, pattern_in}
 use Rattle.nfs_load.specs.Statements.{export_in}
 use Rattle.nfs_load.specs.declared.cause.Cause.{Cause}
 use Rattle.nfs_load.specs.declared.line.Keyword.TheVariants as keyword
@@ -16,8 +16,8 @@ use Rattle.nfs_read_back.proofs.Statements.{hard_words, space}
 
 export_read : (p o : List ℕ) (pattern : Pattern) (options : Options) → pattern_in p ≡ Ok pattern → options_in o ≡ Ok options → export_in (p ∷ o ∷ []) ≡ Ok (record { pattern = pattern; options = options }, [])
 export_read p o pattern options is says =
-    ap (λ (r : Result Pattern Cause). behind (o ∷ []) r >>= (λ (pattern : Pattern × List (List ℕ)). options_at pattern.1 >>= (λ (options : Options × List (List ℕ)). Ok (record { pattern = pattern.0; options = options.0 }, options.1)))) is
-    ∙ ap (λ (r : Result Options Cause). behind [] r >>= (λ (options : Options × List (List ℕ)). Ok (record { pattern = pattern; options = options.0 }, options.1))) says
+    ap (λ (r : Result Pattern Cause). after (o ∷ []) r >>= (λ (pattern : Pattern × List (List ℕ)). options_at pattern.1 >>= (λ (options : Options × List (List ℕ)). Ok (record { pattern = pattern.0; options = options.0 }, options.1)))) is
+    ∙ ap (λ (r : Result Options Cause). after [] r >>= (λ (options : Options × List (List ℕ)). Ok (record { pattern = pattern; options = options.0 }, options.1))) says
 
 pub exports : law.ExportsAreReadBack
 exports e is = (

@@ -22,6 +22,6 @@ pub read_as : (line word : List ℕ) (fields : List (List ℕ)) (keyword : Keywo
     → keyword_named word ≡ Some keyword → takes keyword (length fields) ≡ true → IsReadAs line keyword fields
 read_as line word fields keyword is said comment named count = record {
   front = joined word fields;
-  alone = λ behind. ap (λ l. lines (l ++ behind)) is ∙ line_ends (joined word fields) behind (joined_printed word fields said);
+  alone = λ after. ap (λ l. lines (l ++ after)) is ∙ line_ends (joined word fields) after (joined_printed word fields said);
   asks = shape_read (joined word fields) word fields keyword comment (words_of word fields said) (joined_printed word fields said) named count;
 }

@@ -7,8 +7,8 @@ use Rattle.std.proofs.lemmas.Bool.Decides.{nat_tests}
 use Rattle.std.proofs.lemmas.List.{length-append}
 use Rattle.std.proofs.lemmas.Fmt.{decimal_is_IsNumeral, length-decimal-le}
 use Rattle.nfs_text.specs.Numbers.{decimal_of}
-use Rattle.nfs_text.specs.Pieces.{cut, pieces}
-use Rattle.nfs_exports.specs.Addresses.{◌>>=◌, addr_text, address_of, number_of_parts, number_of_pieces, part}
+use Rattle.nfs_text.specs.Chunks.{cut, chunks}
+use Rattle.nfs_exports.specs.Addresses.{◌>>=◌, addr_text, address_of, number_of_parts, number_of_chunks, part}
 use Rattle.nfs_exports.specs.Patterns.{any, bits, bits_or_all, network_of, pattern_of}
 use Rattle.nfs_exports.specs.declared.addr.Addr.{Addr}
 use Rattle.nfs_exports.specs.declared.pattern.Pattern.{Pattern}
@@ -16,7 +16,7 @@ use Rattle.nfs_describe.specs.Lines.{is_shown, pattern_text}
 use Rattle.nfs_read_back.proofs.Digits.{and_true, decimal_of_decimal, decimal_said}
 use Rattle.nfs_read_back.specs.ReadBack.{is_said}
 use Rattle.nfs_read_back.proofs.Words.{both}
-use Rattle.nfs_read_back.proofs.Separators.{append_free, append_shown, cut_at, cut_none, digits_free, is_free, last_piece, piece_ends}
+use Rattle.nfs_read_back.proofs.Separators.{append_free, append_shown, cut_at, cut_none, digits_free, is_free, last_chunk, chunk_ends}
 
 not_above : (m n : ℕ) → n ≤ m → nat_lt m n ≡ false
 not_above m n le = grind (arith, nat_tests)
@@ -39,21 +39,21 @@ dotted a b c d s = simp append_assoc
 digits_of : (separator n : ℕ) → separator < 48 → n < 2 ^ 64 → list_all (λ byte. not (byte == separator)) (decimal n) ≡ true
 digits_of separator n low small = digits_free separator (decimal n) low (decimal_is_IsNumeral n small).0.1
 
-four_pieces : (a b c d : ℕ) → a < 256 → b < 256 → c < 256 → d < 256 → pieces 46 (decimal a ++ codes "." ++ decimal b ++ codes "." ++ decimal c ++ codes "." ++ decimal d) ≡ decimal a ∷ decimal b ∷ decimal c ∷ decimal d ∷ []
-four_pieces a b c d a_small b_small c_small d_small =
-    ap (pieces 46) (dotted (decimal a) (decimal b) (decimal c) (decimal d) (codes "."))
-    ∙ piece_ends 46 (decimal a) (decimal b ++ 46 ∷ (decimal c ++ 46 ∷ decimal d)) (digits_of 46 a (omega arith) (omega (arith, a_small)))
-    ∙ ap (λ l. decimal a ∷ l) (piece_ends 46 (decimal b) (decimal c ++ 46 ∷ decimal d) (digits_of 46 b (omega arith) (omega (arith, b_small)))
-    ∙ ap (λ l. decimal b ∷ l) (piece_ends 46 (decimal c) (decimal d) (digits_of 46 c (omega arith) (omega (arith, c_small)))
-    ∙ ap (λ l. decimal c ∷ l) (last_piece 46 (decimal d) (digits_of 46 d (omega arith) (omega (arith, d_small))))))
+four_chunks : (a b c d : ℕ) → a < 256 → b < 256 → c < 256 → d < 256 → chunks 46 (decimal a ++ codes "." ++ decimal b ++ codes "." ++ decimal c ++ codes "." ++ decimal d) ≡ decimal a ∷ decimal b ∷ decimal c ∷ decimal d ∷ []
+four_chunks a b c d a_small b_small c_small d_small =
+    ap (chunks 46) (dotted (decimal a) (decimal b) (decimal c) (decimal d) (codes "."))
+    ∙ chunk_ends 46 (decimal a) (decimal b ++ 46 ∷ (decimal c ++ 46 ∷ decimal d)) (digits_of 46 a (omega arith) (omega (arith, a_small)))
+    ∙ ap (λ l. decimal a ∷ l) (chunk_ends 46 (decimal b) (decimal c ++ 46 ∷ decimal d) (digits_of 46 b (omega arith) (omega (arith, b_small)))
+    ∙ ap (λ l. decimal b ∷ l) (chunk_ends 46 (decimal c) (decimal d) (digits_of 46 c (omega arith) (omega (arith, c_small)))
+    ∙ ap (λ l. decimal c ∷ l) (last_chunk 46 (decimal d) (digits_of 46 d (omega arith) (omega (arith, d_small))))))
 
 bytes_of : (n : ℕ) → n < 2 ^ 32 → from_be_bytes w32 (n / 16777216 ∷ n / 65536 % 256 ∷ n / 256 % 256 ∷ n % 256 ∷ []) ≡ n
 bytes_of n small = omega (arith, small)
 
-number_read : (n : ℕ) → n < 2 ^ 32 → number_of_pieces (pieces 46 (decimal (n / 16777216) ++ codes "." ++ decimal (n / 65536 % 256) ++ codes "." ++ decimal (n / 256 % 256) ++ codes "." ++ decimal (n % 256))) ≡ Some n
+number_read : (n : ℕ) → n < 2 ^ 32 → number_of_chunks (chunks 46 (decimal (n / 16777216) ++ codes "." ++ decimal (n / 65536 % 256) ++ codes "." ++ decimal (n / 256 % 256) ++ codes "." ++ decimal (n % 256))) ≡ Some n
 number_read n small =
     let first : n / 16777216 < 256 = omega (arith, small) in
-    ap number_of_pieces (four_pieces (n / 16777216) (n / 65536 % 256) (n / 256 % 256) (n % 256) first (omega arith) (omega arith) (omega arith))
+    ap number_of_chunks (four_chunks (n / 16777216) (n / 65536 % 256) (n / 256 % 256) (n % 256) first (omega arith) (omega arith) (omega arith))
     ∙ parts_read (n / 16777216) (n / 65536 % 256) (n / 256 % 256) (n % 256) first (omega arith) (omega arith) (omega arith)
     ∙ ap Some (bytes_of n small)
 
@@ -97,9 +97,9 @@ bits_read n few =
     ap (λ b. if b then None else decimal_of 32 (decimal n)) (not_above 2 (length (decimal n)) (length-decimal-le 2 n (omega arith) (omega (arith, few)) (omega (arith, few))))
     ∙ decimal_of_decimal 32 n few (omega (arith, few))
 
-network_read : (text : List ℕ) (a : Addr) (n : ℕ) (behind : Option (List ℕ)) → address_of text ≡ Some a → bits_or_all behind ≡ Some n → network_of (text, behind) ≡ Some (record { address = a; bits = n })
-network_read text a n behind address number =
-    ap (λ (o : Option Addr). o >>= (λ (address : Addr). bits_or_all behind >>= (λ (bits : ℕ). Some (record { address = address; bits = bits })))) address
+network_read : (text : List ℕ) (a : Addr) (n : ℕ) (after : Option (List ℕ)) → address_of text ≡ Some a → bits_or_all after ≡ Some n → network_of (text, after) ≡ Some (record { address = a; bits = n })
+network_read text a n after address number =
+    ap (λ (o : Option Addr). o >>= (λ (address : Addr). bits_or_all after >>= (λ (bits : ℕ). Some (record { address = address; bits = bits })))) address
     ∙ ap (λ (o : Option ℕ). o >>= (λ (bits : ℕ). Some (record { address = a; bits = bits }))) number
 
 of_text : (text : List ℕ) (parts : List ℕ × Option (List ℕ)) → 1 < length text → cut 47 text ≡ parts → pattern_of text ≡ network_of parts

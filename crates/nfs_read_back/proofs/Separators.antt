@@ -1,10 +1,10 @@
--- Texts that are parted by one byte, and found again.
+-- Texts that are separated by one byte, and found again.
 use Rattle.std.proofs.Common.{◌≡◌, ℕ, ◌<◌, Bool, true, false, not, cond, List, [], ◌∷◌, ◌++◌, Option, Some, None, refl, ap, ◌∙◌, ◌==◌, arith}
 use Rattle.std.specs.Char.{digit_value}
 use Rattle.std.specs.List.{list_all, onto_first}
 use Rattle.std.specs.Str.Parse.{AllDigits}
 use Rattle.std.proofs.lemmas.Bool.Decides.{nat_tests}
-use Rattle.nfs_text.specs.Pieces.{cut, pieces}
+use Rattle.nfs_text.specs.Chunks.{cut, chunks}
 use Rattle.nfs_describe.specs.Lines.{is_shown}
 use Rattle.nfs_read_back.proofs.Digits.{and_true}
 use Rattle.nfs_read_back.proofs.Words.{both}
@@ -26,16 +26,16 @@ first_free separator x w e = let p = both (not (x == separator)) (is_free separa
 same : (separator : ℕ) → (separator == separator) ≡ true
 same separator = grind (arith, nat_tests)
 
-pub piece_ends : (separator : ℕ) (w rest : List ℕ) → is_free separator w ≡ true → pieces separator (w ++ separator ∷ rest) ≡ w ∷ pieces separator rest
-piece_ends separator [] rest e = ap (λ b. cond b ([] ∷ pieces separator rest) (onto_first separator (pieces separator rest))) (same separator)
-piece_ends separator (x ∷ w) rest e = let p = first_free separator x w e in
-    ap (λ b. cond b ([] ∷ pieces separator (w ++ separator ∷ rest)) (onto_first x (pieces separator (w ++ separator ∷ rest)))) p.0
-    ∙ ap (onto_first x) (piece_ends separator w rest p.1)
+pub chunk_ends : (separator : ℕ) (w rest : List ℕ) → is_free separator w ≡ true → chunks separator (w ++ separator ∷ rest) ≡ w ∷ chunks separator rest
+chunk_ends separator [] rest e = ap (λ b. cond b ([] ∷ chunks separator rest) (onto_first separator (chunks separator rest))) (same separator)
+chunk_ends separator (x ∷ w) rest e = let p = first_free separator x w e in
+    ap (λ b. cond b ([] ∷ chunks separator (w ++ separator ∷ rest)) (onto_first x (chunks separator (w ++ separator ∷ rest)))) p.0
+    ∙ ap (onto_first x) (chunk_ends separator w rest p.1)
 
-pub last_piece : (separator : ℕ) (w : List ℕ) → is_free separator w ≡ true → pieces separator w ≡ w ∷ []
-last_piece separator [] e = refl
-last_piece separator (x ∷ w) e = let p = first_free separator x w e in
-    ap (λ b. cond b ([] ∷ pieces separator w) (onto_first x (pieces separator w))) p.0 ∙ ap (onto_first x) (last_piece separator w p.1)
+pub last_chunk : (separator : ℕ) (w : List ℕ) → is_free separator w ≡ true → chunks separator w ≡ w ∷ []
+last_chunk separator [] e = refl
+last_chunk separator (x ∷ w) e = let p = first_free separator x w e in
+    ap (λ b. cond b ([] ∷ chunks separator w) (onto_first x (chunks separator w))) p.0 ∙ ap (onto_first x) (last_chunk separator w p.1)
 
 onto_cut : ℕ → List ℕ × Option (List ℕ) → List ℕ × Option (List ℕ)
 onto_cut x parts = (x ∷ parts.0, parts.1)

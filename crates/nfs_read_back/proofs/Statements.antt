@@ -3,7 +3,7 @@ use Rattle.std.proofs.Common.{◌≡◌, ℕ, ◌<◌, ◌^◌, true, ◌&&◌, 
 use Rattle.std.specs.Prelude.{Result, Err, codes, decimal, nat_le, nat_lt, if◌then◌else◌}
 use Rattle.std.specs.List.{list_all}
 use Rattle.hex.specs.Hex.{encode_lower}
-use Rattle.nfs_load.specs.Fields.{◌>>=◌, behind, by, content_in, mode_in, number_in, target_in}
+use Rattle.nfs_load.specs.Fields.{◌>>=◌, after, by, content_in, mode_in, number_in, target_in}
 use Rattle.nfs_load.specs.Listings.{octal}
 use Rattle.nfs_load.specs.Paths.{path_in, volume_path_in}
 use Rattle.nfs_load.specs.Statements.{Read, id_in, given_in, volume_in, dir_in, file_in, link_in, hard_in}
@@ -29,10 +29,10 @@ id_said n small = decimal_said n (omega (arith, small))
 given_read : (m u g : List ℕ) (rest : List (List ℕ)) (given : Given) → mode_in m ≡ Ok given.mode → id_in u ≡ Ok given.uid → id_in g ≡ Ok given.gid
     → given_in (m ∷ u ∷ g ∷ rest) ≡ Ok (given, rest)
 given_read m u g rest given mode uid gid =
-    ap (λ (r : Result ℕ Cause). behind (u ∷ g ∷ rest) r >>= (λ (mode : ℕ × List (List ℕ)). by id_in mode.1 >>= (λ (uid : ℕ × List (List ℕ)). by id_in uid.1 >>= (λ (gid : ℕ × List (List ℕ)).
+    ap (λ (r : Result ℕ Cause). after (u ∷ g ∷ rest) r >>= (λ (mode : ℕ × List (List ℕ)). by id_in mode.1 >>= (λ (uid : ℕ × List (List ℕ)). by id_in uid.1 >>= (λ (gid : ℕ × List (List ℕ)).
     Ok (record { mode = mode.0; uid = uid.0; gid = gid.0 }, gid.1))))) mode
-    ∙ ap (λ (r : Result ℕ Cause). behind (g ∷ rest) r >>= (λ (uid : ℕ × List (List ℕ)). by id_in uid.1 >>= (λ (gid : ℕ × List (List ℕ)). Ok (record { mode = given.mode; uid = uid.0; gid = gid.0 }, gid.1)))) uid
-    ∙ ap (λ (r : Result ℕ Cause). behind rest r >>= (λ (gid : ℕ × List (List ℕ)). Ok (record { mode = given.mode; uid = given.uid; gid = gid.0 }, gid.1))) gid
+    ∙ ap (λ (r : Result ℕ Cause). after (g ∷ rest) r >>= (λ (uid : ℕ × List (List ℕ)). by id_in uid.1 >>= (λ (gid : ℕ × List (List ℕ)). Ok (record { mode = given.mode; uid = uid.0; gid = gid.0 }, gid.1)))) uid
+    ∙ ap (λ (r : Result ℕ Cause). after rest r >>= (λ (gid : ℕ × List (List ℕ)). Ok (record { mode = given.mode; uid = given.uid; gid = gid.0 }, gid.1))) gid
 
 given_fields : (given : Given) (rest : List (List ℕ)) → IsGiven given → given_in (octal given.mode ∷ decimal given.uid ∷ decimal given.gid ∷ rest) ≡ Ok (given, rest)
 given_fields given rest is = given_read (octal given.mode) (decimal given.uid) (decimal given.gid) rest given (mode_read given.mode is.0) (id_read given.uid is.1) (id_read given.gid is.2)
@@ -42,40 +42,40 @@ given_fields given rest is = given_read (octal given.mode) (decimal given.uid) (
 dir_read : (path : List ℕ) (names : List (List ℕ)) (given : Given) (fields rest : List (List ℕ)) → path_in path ≡ Ok names → given_in fields ≡ Ok (given, rest)
     → dir_in (path ∷ fields) ≡ Ok (record { path = names; given = given }, rest)
 dir_read path names given fields rest is gives =
-    ap (λ (r : Result (List (List ℕ)) Cause). behind fields r >>= (λ (path : List (List ℕ) × List (List ℕ)). given_in path.1 >>= (λ (given : Given × List (List ℕ)). Ok (record { path = path.0; given = given.0 }, given.1)))) is
+    ap (λ (r : Result (List (List ℕ)) Cause). after fields r >>= (λ (path : List (List ℕ) × List (List ℕ)). given_in path.1 >>= (λ (given : Given × List (List ℕ)). Ok (record { path = path.0; given = given.0 }, given.1)))) is
     ∙ ap (λ (r : Read Given). r >>= (λ (given : Given × List (List ℕ)). Ok (record { path = names; given = given.0 }, given.1))) gives
 
 file_read : (path c bytes : List ℕ) (names : List (List ℕ)) (given : Given) (fields : List (List ℕ)) → path_in path ≡ Ok names → given_in fields ≡ Ok (given, c ∷ []) → content_in c ≡ Ok bytes
     → file_in (path ∷ fields) ≡ Ok (record { path = names; given = given; content = bytes }, [])
 file_read path c bytes names given fields is gives content =
-    ap (λ (r : Result (List (List ℕ)) Cause). behind fields r >>= (λ (path : List (List ℕ) × List (List ℕ)). given_in path.1 >>= (λ (given : Given × List (List ℕ)). by content_in given.1 >>= (λ (content : List ℕ × List (List ℕ)).
+    ap (λ (r : Result (List (List ℕ)) Cause). after fields r >>= (λ (path : List (List ℕ) × List (List ℕ)). given_in path.1 >>= (λ (given : Given × List (List ℕ)). by content_in given.1 >>= (λ (content : List ℕ × List (List ℕ)).
     Ok (record { path = path.0; given = given.0; content = content.0 }, content.1))))) is
     ∙ ap (λ (r : Read Given). r >>= (λ (given : Given × List (List ℕ)). by content_in given.1 >>= (λ (content : List ℕ × List (List ℕ)). Ok (record { path = names; given = given.0; content = content.0 }, content.1)))) gives
-    ∙ ap (λ (r : Result (List ℕ) Cause). behind [] r >>= (λ (content : List ℕ × List (List ℕ)). Ok (record { path = names; given = given; content = content.0 }, content.1))) content
+    ∙ ap (λ (r : Result (List ℕ) Cause). after [] r >>= (λ (content : List ℕ × List (List ℕ)). Ok (record { path = names; given = given; content = content.0 }, content.1))) content
 
 link_read : (path u g target : List ℕ) (names : List (List ℕ)) (uid gid : ℕ) → path_in path ≡ Ok names → id_in u ≡ Ok uid → id_in g ≡ Ok gid → target_in target ≡ Ok target
     → link_in (path ∷ u ∷ g ∷ target ∷ []) ≡ Ok (record { path = names; uid = uid; gid = gid; target = target }, [])
 link_read path u g target names uid gid is owner group holds =
-    ap (λ (r : Result (List (List ℕ)) Cause). behind (u ∷ g ∷ target ∷ []) r >>= (λ (path : List (List ℕ) × List (List ℕ)). by id_in path.1 >>= (λ (uid : ℕ × List (List ℕ)). by id_in uid.1 >>= (λ (gid : ℕ × List (List ℕ)).
+    ap (λ (r : Result (List (List ℕ)) Cause). after (u ∷ g ∷ target ∷ []) r >>= (λ (path : List (List ℕ) × List (List ℕ)). by id_in path.1 >>= (λ (uid : ℕ × List (List ℕ)). by id_in uid.1 >>= (λ (gid : ℕ × List (List ℕ)).
     by target_in gid.1 >>= (λ (target : List ℕ × List (List ℕ)). Ok (record { path = path.0; uid = uid.0; gid = gid.0; target = target.0 }, target.1)))))) is
-    ∙ ap (λ (r : Result ℕ Cause). behind (g ∷ target ∷ []) r >>= (λ (uid : ℕ × List (List ℕ)). by id_in uid.1 >>= (λ (gid : ℕ × List (List ℕ)).
+    ∙ ap (λ (r : Result ℕ Cause). after (g ∷ target ∷ []) r >>= (λ (uid : ℕ × List (List ℕ)). by id_in uid.1 >>= (λ (gid : ℕ × List (List ℕ)).
     by target_in gid.1 >>= (λ (target : List ℕ × List (List ℕ)). Ok (record { path = names; uid = uid.0; gid = gid.0; target = target.0 }, target.1))))) owner
-    ∙ ap (λ (r : Result ℕ Cause). behind (target ∷ []) r >>= (λ (gid : ℕ × List (List ℕ)). by target_in gid.1 >>= (λ (target : List ℕ × List (List ℕ)). Ok (record { path = names; uid = uid; gid = gid.0; target = target.0 }, target.1)))) group
-    ∙ ap (λ (r : Result (List ℕ) Cause). behind [] r >>= (λ (target : List ℕ × List (List ℕ)). Ok (record { path = names; uid = uid; gid = gid; target = target.0 }, target.1))) holds
+    ∙ ap (λ (r : Result ℕ Cause). after (target ∷ []) r >>= (λ (gid : ℕ × List (List ℕ)). by target_in gid.1 >>= (λ (target : List ℕ × List (List ℕ)). Ok (record { path = names; uid = uid; gid = gid.0; target = target.0 }, target.1)))) group
+    ∙ ap (λ (r : Result (List ℕ) Cause). after [] r >>= (λ (target : List ℕ × List (List ℕ)). Ok (record { path = names; uid = uid; gid = gid; target = target.0 }, target.1))) holds
 
 hard_read : (path old : List ℕ) (names olds : List (List ℕ)) → path_in path ≡ Ok names → path_in old ≡ Ok olds → hard_in (path ∷ old ∷ []) ≡ Ok (record { path = names; old = olds }, [])
 hard_read path old names olds is was =
-    ap (λ (r : Result (List (List ℕ)) Cause). behind (old ∷ []) r >>= (λ (path : List (List ℕ) × List (List ℕ)). by path_in path.1 >>= (λ (old : List (List ℕ) × List (List ℕ)). Ok (record { path = path.0; old = old.0 }, old.1)))) is
-    ∙ ap (λ (r : Result (List (List ℕ)) Cause). behind [] r >>= (λ (old : List (List ℕ) × List (List ℕ)). Ok (record { path = names; old = old.0 }, old.1))) was
+    ap (λ (r : Result (List (List ℕ)) Cause). after (old ∷ []) r >>= (λ (path : List (List ℕ) × List (List ℕ)). by path_in path.1 >>= (λ (old : List (List ℕ) × List (List ℕ)). Ok (record { path = path.0; old = old.0 }, old.1)))) is
+    ∙ ap (λ (r : Result (List (List ℕ)) Cause). after [] r >>= (λ (old : List (List ℕ) × List (List ℕ)). Ok (record { path = names; old = old.0 }, old.1))) was
 
 volume_read : (path b f : List ℕ) (bytes files : ℕ) (given : Given) (fields : List (List ℕ)) → volume_path_in path ≡ Ok path → number_in 0 1099511627776 b ≡ Ok bytes → number_in 1 1000000 f ≡ Ok files
     → given_in fields ≡ Ok (given, []) → volume_in (path ∷ b ∷ f ∷ fields) ≡ Ok (record { path = path; max_bytes = bytes; max_files = files; given = given }, [])
 volume_read path b f bytes files given fields is most many gives =
-    ap (λ (r : Result (List ℕ) Cause). behind (b ∷ f ∷ fields) r >>= (λ (path : List ℕ × List (List ℕ)). by (number_in 0 1099511627776) path.1 >>= (λ (max_bytes : ℕ × List (List ℕ)). by (number_in 1 1000000) max_bytes.1 >>= (λ (max_files : ℕ × List (List ℕ)).
+    ap (λ (r : Result (List ℕ) Cause). after (b ∷ f ∷ fields) r >>= (λ (path : List ℕ × List (List ℕ)). by (number_in 0 1099511627776) path.1 >>= (λ (max_bytes : ℕ × List (List ℕ)). by (number_in 1 1000000) max_bytes.1 >>= (λ (max_files : ℕ × List (List ℕ)).
     given_in max_files.1 >>= (λ (given : Given × List (List ℕ)). Ok (record { path = path.0; max_bytes = max_bytes.0; max_files = max_files.0; given = given.0 }, given.1)))))) is
-    ∙ ap (λ (r : Result ℕ Cause). behind (f ∷ fields) r >>= (λ (max_bytes : ℕ × List (List ℕ)). by (number_in 1 1000000) max_bytes.1 >>= (λ (max_files : ℕ × List (List ℕ)).
+    ∙ ap (λ (r : Result ℕ Cause). after (f ∷ fields) r >>= (λ (max_bytes : ℕ × List (List ℕ)). by (number_in 1 1000000) max_bytes.1 >>= (λ (max_files : ℕ × List (List ℕ)).
     given_in max_files.1 >>= (λ (given : Given × List (List ℕ)). Ok (record { path = path; max_bytes = max_bytes.0; max_files = max_files.0; given = given.0 }, given.1))))) most
-    ∙ ap (λ (r : Result ℕ Cause). behind fields r >>= (λ (max_files : ℕ × List (List ℕ)). given_in max_files.1 >>= (λ (given : Given × List (List ℕ)). Ok (record { path = path; max_bytes = bytes; max_files = max_files.0; given = given.0 }, given.1)))) many
+    ∙ ap (λ (r : Result ℕ Cause). after fields r >>= (λ (max_files : ℕ × List (List ℕ)). given_in max_files.1 >>= (λ (given : Given × List (List ℕ)). Ok (record { path = path; max_bytes = bytes; max_files = max_files.0; given = given.0 }, given.1)))) many
     ∙ ap (λ (r : Read Given). r >>= (λ (given : Given × List (List ℕ)). Ok (record { path = path; max_bytes = bytes; max_files = files; given = given.0 }, given.1))) gives
 
 -- ---- lines
@@ -125,7 +125,7 @@ pub servers : law.ServersAreReadBack
 servers key all long = (
   encode_lower key ∷ [],
   read_as (server_line key) (codes "server") (encode_lower key ∷ []) Server refl (refl, key_said key all long) refl refl refl,
-  ap (λ (r : Result (List ℕ) Cause). behind [] r) (key_read key all long),
+  ap (λ (r : Result (List ℕ) Cause). after [] r) (key_read key all long),
 )
 
 pub volumes : law.VolumesAreReadBack

@@ -3,7 +3,7 @@ use Rattle.std.proofs.Common.{◌≡◌, ℕ, Bool, true, false, ◌&&◌, cond,
 use Rattle.std.specs.List.{filter, list_all, onto_first}
 use Rattle.std.proofs.lemmas.Bool.Decides.{nat_tests}
 use Rattle.nfs_text.specs.Lines.{lines}
-use Rattle.nfs_text.specs.Pieces.{pieces}
+use Rattle.nfs_text.specs.Chunks.{chunks}
 use Rattle.nfs_text.specs.Words.{is_word, words}
 use Rattle.nfs_load.specs.Lines.{is_printable, is_text}
 use Rattle.nfs_describe.specs.Lines.{is_shown}
@@ -25,18 +25,18 @@ printed x shown = grind (arith, nat_tests)
 no_end : (x : ℕ) → is_printable x ≡ true → (x == 10) ≡ false
 no_end x shown = grind (arith, nat_tests)
 
--- ---- pieces
+-- ---- chunks
 
-split_word : (w rest : List ℕ) → list_all is_shown w ≡ true → pieces 32 (w ++ 32 ∷ rest) ≡ w ∷ pieces 32 rest
+split_word : (w rest : List ℕ) → list_all is_shown w ≡ true → chunks 32 (w ++ 32 ∷ rest) ≡ w ∷ chunks 32 rest
 split_word [] rest e = refl
 split_word (x ∷ w) rest e = let p = both (is_shown x) (list_all is_shown w) e in
-    ap (λ b. cond b ([] ∷ pieces 32 (w ++ 32 ∷ rest)) (onto_first x (pieces 32 (w ++ 32 ∷ rest)))) (no_space x p.0)
+    ap (λ b. cond b ([] ∷ chunks 32 (w ++ 32 ∷ rest)) (onto_first x (chunks 32 (w ++ 32 ∷ rest)))) (no_space x p.0)
     ∙ ap (onto_first x) (split_word w rest p.1)
 
-last_word : (w : List ℕ) → list_all is_shown w ≡ true → pieces 32 w ≡ w ∷ []
+last_word : (w : List ℕ) → list_all is_shown w ≡ true → chunks 32 w ≡ w ∷ []
 last_word [] e = refl
 last_word (x ∷ w) e = let p = both (is_shown x) (list_all is_shown w) e in
-    ap (λ b. cond b ([] ∷ pieces 32 w) (onto_first x (pieces 32 w))) (no_space x p.0) ∙ ap (onto_first x) (last_word w p.1)
+    ap (λ b. cond b ([] ∷ chunks 32 w) (onto_first x (chunks 32 w))) (no_space x p.0) ∙ ap (onto_first x) (last_word w p.1)
 
 -- ---- words
 
@@ -83,8 +83,8 @@ joined_printed w (v ∷ vs) said = shown_printed w (32 ∷ joined v vs) (both (i
 
 -- ---- lines
 
-pub line_ends : (front behind : List ℕ) → is_text front ≡ true → lines ((front ++ 10 ∷ []) ++ behind) ≡ front ∷ lines behind
-line_ends [] behind e = refl
-line_ends (x ∷ front) behind e = let p = both (is_printable x) (is_text front) e in
-    ap (λ b. cond b ([] ∷ lines ((front ++ 10 ∷ []) ++ behind)) (onto_first x (lines ((front ++ 10 ∷ []) ++ behind)))) (no_end x p.0)
-    ∙ ap (onto_first x) (line_ends front behind p.1)
+pub line_ends : (front after : List ℕ) → is_text front ≡ true → lines ((front ++ 10 ∷ []) ++ after) ≡ front ∷ lines after
+line_ends [] after e = refl
+line_ends (x ∷ front) after e = let p = both (is_printable x) (is_text front) e in
+    ap (λ b. cond b ([] ∷ lines ((front ++ 10 ∷ []) ++ after)) (onto_first x (lines ((front ++ 10 ∷ []) ++ after)))) (no_end x p.0)
+    ∙ ap (onto_first x) (line_ends front after p.1)

@@ -4,7 +4,7 @@ use Rattle.std.specs.List.{list_all}
 use Rattle.hex.specs.Hex.{IsBytes}
 use Rattle.nfs_text.specs.Lines.{lines}
 use Rattle.nfs_inodes.specs.Limits.{max_file_bytes}
-use Rattle.nfs_exports.specs.declared.table.Export.{Export}
+use Rattle.nfs_exports.specs.declared.export_table.Export.{Export}
 use Rattle.nfs_load.specs.Fields.{by, key_in}
 use Rattle.nfs_load.specs.Lines.{shape}
 use Rattle.nfs_load.specs.Paths.{path_in, volume_path_in}
@@ -19,10 +19,10 @@ use Rattle.nfs_describe.specs.Lines.{server_line, volume_line, dir_line, file_li
 abbrev pub is_said : List ℕ → Bool
 is_said word = nat_lt 0 (length word) && list_all is_shown word
 
--- Whatever stands behind the line in a text, it is a line of its own there, and asks for what its keyword and these fields say.
+-- Whatever stands after the line in a text, it is a line of its own there, and asks for what its keyword and these fields say.
 pub record IsReadAs (line : List ℕ) (keyword : Keyword) (fields : List (List ℕ)) : Type 0 where
   pub front : List ℕ
-  pub alone : (behind : List ℕ) → lines (line ++ behind) ≡ front ∷ lines behind
+  pub alone : (after : List ℕ) → lines (line ++ after) ≡ front ∷ lines after
   pub asks : shape front ≡ Ok (Some (record { keyword = keyword; fields = fields }))
 
 -- the numbers are those of a file

@@ -2,7 +2,7 @@
 ghost use Rattle.nfs_read_back.specs.ReadBack.{DirsAreReadBack, FilesAreReadBack, HardsAreReadBack, LinksAreReadBack};
 ghost use Rattle.nfs_read_back.specs.ReadBack.{ExportsAreReadBack, ServersAreReadBack, VolumesAreReadBack};
 
-/// The line that is written for a directory, a file, a link or a further name asks for exactly that,
+/// The line that is written for a directory, a file, a link or a hard link asks for exactly that,
 /// wherever it stands in a text: the same path, mode, owner, group and content.
 pub fn files_are_read_back()
     ensures dirs { DirsAreReadBack }

@@ -45,7 +45,7 @@ impl ByteOut for Captured {
     }
 }
 
-/// The first record of some, each sealed as one fragment, and those after it.
+/// The first record of some, each framed as one fragment, and those after it.
 pub(crate) fn split_record(records: &[u8]) -> (&[u8], &[u8])
     ensures { 0 < length records.now → length result.1.now < length records.now }
 {

@@ -1,4 +1,4 @@
-//! The calls that have come on connections, for their replies to be told in words.
+//! The calls that have come on connections, so that their replies can be printed in words.
 
 use crate::captured::split_record;
 use std::alloc::{AllocError, Global};
@@ -35,14 +35,14 @@ impl Heard {
         }
     }
 
-    /// A piece comes on a connection. Refused without memory.
-    pub(crate) fn add(&mut self, conn: u32, piece: &[u8]) -> Result<(), AllocError> {
+    /// A chunk comes on a connection. Refused without memory.
+    pub(crate) fn add(&mut self, conn: u32, chunk: &[u8]) -> Result<(), AllocError> {
         for stream in self.streams.iter_mut() {
             if stream.conn == conn {
-                return stream.bytes.extend_from_slice(piece);
+                return stream.bytes.extend_from_slice(chunk);
             }
         }
-        let bytes = piece.to_vec(self.alloc)?;
+        let bytes = chunk.to_vec(self.alloc)?;
         self.streams.push(Stream { conn, bytes })?;
         Ok(())
     }

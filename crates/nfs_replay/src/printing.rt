@@ -5,9 +5,9 @@ ghost use Rattle.nfs_xdr.specs.Known.{Grows};
 ghost use Rattle.nfs_server.specs.AuditLines.{line_text};
 ghost use Rattle.nfs_server.specs.Events.{Answer};
 
-use crate::call::Call;
 use crate::fault::RunFault;
 use crate::hexadecimal::push_digits;
+use crate::queued_call::QueuedCall;
 use crate::shown::Shown;
 use nfs_decode::reply::put_reply;
 use nfs_server::audit_line::AuditLine;
@@ -57,7 +57,7 @@ impl Printer {
         self.end(out)
     }
 
-    /// Prints the line of a call that was denied, with some names behind it.
+    /// Prints the line of a call that was denied, with some names after it.
     pub(crate) fn named_audit<W: ByteOut>(
         &mut self,
         out: &mut W,
@@ -69,7 +69,7 @@ impl Printer {
         self.named(out, line.as_slice().trim_ascii_end(), names)
     }
 
-    /// Prints a line, with some names behind it.
+    /// Prints a line, with some names after it.
     pub(crate) fn named<W: ByteOut>(
         &mut self,
         out: &mut W,
@@ -137,7 +137,7 @@ pub struct Replies<'a, W: ByteOut> {
     /// What is printed beside them.
     pub shown: Shown,
     /// The calls, of which the first is the one whose outcome comes next.
-    pub calls: &'a [Call],
+    pub calls: &'a [QueuedCall],
     /// The fault that ended the run.
     pub fault: Option<RunFault>,
 }

@@ -2,12 +2,12 @@
 ghost use Rattle.std.specs.Prelude.{◌≤◌, IfErr};
 ghost use Rattle.nfs_replay.specs.ScriptFaults.{IsNumbered};
 
-use crate::call::Call;
 use crate::captured::{Captured, split_record};
 use crate::fault::{LineCause, RunFault, ScriptFault};
 use crate::heard::Heard;
 use crate::hexadecimal::{HexFault, push_bytes};
 use crate::printing::{Printer, Replies};
+use crate::queued_call::QueuedCall;
 use crate::script::{Order, order_of};
 use crate::shown::Shown;
 use nfs_ask::ask::Ask;
@@ -126,7 +126,7 @@ struct Player {
     sessions: Sessions,
     printer: Printer,
     shown: Shown,
-    calls: Vec<Call>,
+    calls: Vec<QueuedCall>,
     heard: Heard,
 }
 
@@ -170,7 +170,7 @@ impl Player {
         };
         match order {
             Order::Nothing => Ok(()),
-            Order::Call {
+            Order::QueuedCall {
                 addr,
                 moment,
                 bytes,
@@ -229,7 +229,7 @@ impl Player {
         Ask::read(words)?.record(self.alloc, tree, xid)
     }
 
-    // A call waits for those that follow it. Where its names are told they are those before it.
+    // A call waits for those that follow it. Where its names are printed they are those before it.
     fn call<W: ByteOut>(
         &mut self,
         addr: Addr,
@@ -243,7 +243,7 @@ impl Player {
             let tree = self.sessions.server().tree();
             names = names_of(self.alloc, tree, bytes.as_slice(), false)?;
         }
-        self.calls.push(Call {
+        self.calls.push(QueuedCall {
             addr,
             moment,
             bytes,
@@ -297,18 +297,18 @@ impl Player {
         &mut self,
         conn: u32,
         moment: Moment,
-        piece: &[u8],
+        chunk: &[u8],
         out: &mut W,
     ) -> Result<(), RunFault> {
         let mut replies = Captured::new(self.alloc);
         let mut audit = Captured::new(self.alloc);
         let sessions = &mut self.sessions;
-        let fed = sessions.feed(conn, moment, piece, &mut replies, &mut audit);
+        let fed = sessions.feed(conn, moment, chunk, &mut replies, &mut audit);
         if replies.has_failed() || audit.has_failed() {
             return Err(RunFault::Memory);
         }
         if self.shown.is_decoded {
-            self.heard.add(conn, piece)?;
+            self.heard.add(conn, chunk)?;
         }
         self.lines(audit.bytes(), out)?;
         self.replies(conn, replies.bytes(), out)?;

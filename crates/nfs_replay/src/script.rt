@@ -26,7 +26,7 @@ pub enum Order<'a> {
         conn: u32,
     },
     /// A whole record.
-    Call {
+    QueuedCall {
         addr: Addr,
         moment: Moment,
         bytes: Words<'a>,
@@ -78,7 +78,7 @@ pub(crate) fn order_of(line: &[u8]) -> Option<Order<'_>> {
             let moment = moment(words.next()?)?;
             goes_on(
                 words,
-                Order::Call {
+                Order::QueuedCall {
                     addr,
                     moment,
                     bytes: words,

@@ -3,8 +3,8 @@
 /// What is printed beside replies and audit lines.
 #[derive(Clone, Copy)]
 pub struct Shown {
-    /// Behind each reply, what it says in words.
+    /// After each reply, what it says in words.
     pub is_decoded: bool,
-    /// Behind each audit line, the name of the call's procedure and the path of its file.
+    /// After each audit line, the name of the call's procedure and the path of its file.
     pub is_named: bool,
 }

@@ -8,7 +8,7 @@ use Rattle.nfs_handles.specs.NumberedFiles as numbered
 use Rattle.nfs_handles.specs.NumberedFiles.{TaggedFile, IsGiven}
 use Rattle.nfs_handles.specs.declared.reading.Reading.{Reading}
 use Rattle.nfs_handles.specs.declared.reading.Reading.TheVariants.{Live, Stale}
-use Rattle.nfs_handles.proofs.Handles.{handles_name_one, judged, names, past_checks}
+use Rattle.nfs_handles.proofs.Handles.{handles_name_one, judged, names, history_checks}
 use Rattle.nfs_handles.proofs.Lookups.{live_is_given}
 use Rattle.nfs_inodes.proofs.Maps.{at_shows}
 use Rattle.nfs_inodes.specs.Law.{Law}
@@ -26,8 +26,8 @@ abbrev tagged : File → TaggedFile File
 tagged f = record { tag = f.tag; value = f }
 
 -- what is so of each state of a run is so of its opening
-at_opening : (setup : Setup) (opening : State) (Holds : State → Type 0) (past : List Done) (state : State) (run : IsRun setup opening past state)
-    → Through setup opening past state run Holds → Holds opening
+at_opening : (setup : Setup) (opening : State) (Holds : State → Type 0) (history : List Done) (state : State) (run : IsRun setup opening history state)
+    → Through setup opening history state run Holds → Holds opening
 at_opening setup opening Holds [] state run h = subst Holds run h
 at_opening setup opening Holds (d ∷ before) state run h = at_opening setup opening Holds before run.0 run.1 h.0
 
@@ -35,11 +35,11 @@ at_opening setup opening Holds (d ∷ before) state run h = at_opening setup ope
 
 module _ (life : Life) where
   lawful : Law life.state.tree
-  lawful = (runs_are_confined life.setup life.opening life.opens_lawful life.past life.state life.run).0
+  lawful = (runs_are_confined life.setup life.opening life.opens_lawful life.history life.state life.run).0
 
   names_on : NamesOn life.opening.tree life.state.tree
-  names_on = at_opening life.setup life.opening (λ s. NamesOn s.tree life.state.tree) life.past life.state life.run
-      (handles_name_for_good life.setup life.opening life.opens_lawful life.past life.state life.run).1
+  names_on = at_opening life.setup life.opening (λ s. NamesOn s.tree life.state.tree) life.history life.state life.run
+      (handles_name_for_good life.setup life.opening life.opens_lawful life.history life.state life.run).1
 
   key_is : life.state.tree.key ≡ key_of life
   key_is = names_on.key ∙ ap (λ (t : Tree). t.key) life.opens
@@ -74,7 +74,7 @@ made_by : (lines : List (List ℕ)) (n m : ℕ) (row : PathRow) → n ≡ m → 
 made_by lines n m row same it = record {
   before = it.first;
   line = it.line;
-  behind = it.behind;
+  after = it.after;
   lines_are = it.lines_are;
   old = it.old;
   in_order = it.in_order;
@@ -132,7 +132,7 @@ module _ (earlier later : Life) (follows : Follows earlier later) where
         let given : IsGiven t.next n = live_is_given t n (lawful earlier).numbers (ap is_some it.found) in
         let below : n < later.next = omega (arith, given.below, follows.above) in
         let here : IsGiven u.next n = record { counted = given.counted; below = omega (arith, below, begins_above later) } in
-        let read = past_checks u handle n it.shaped (it.ours ∙ same_key) it.number here in
+        let read = history_checks u handle n it.shaped (it.ours ∙ same_key) it.number here in
         reads_on given.counted below (numbered.at u n) refl read
 
 pub handles_live_on : HandlesAcrossLives

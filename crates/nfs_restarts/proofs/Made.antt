@@ -82,12 +82,12 @@ module _ (old new : Loaded) where
   volume_taken (Err cause) done = cc
 
   -- the number that follows a row
-  abbrev after : Option PathRow → ℕ → ℕ
-  after None n = n
-  after (Some row) n = if makes_file row.keyword then n + 1 else n
+  abbrev next_after : Option PathRow → ℕ → ℕ
+  next_after None n = n
+  next_after (Some row) n = if makes_file row.keyword then n + 1 else n
 
   goes_on : (keyword : Keyword) (fields : List (List ℕ)) → takes keyword (length fields) ≡ true → GoesOn old keyword fields (Ok tt) new
-      → new.tree.next ≡ after (row_by keyword fields) old.tree.next
+      → new.tree.next ≡ next_after (row_by keyword fields) old.tree.next
   goes_on keyword.Server fields few done = cc
   goes_on keyword.Volume [] few done = cc
   goes_on keyword.Volume (path ∷ rest) few done = volume_taken (volume_in (path ∷ rest)) done
@@ -119,7 +119,7 @@ Begun new = (loaded : Loaded) × (new ≡ Some loaded) × (loaded.tree.next ≡ 
 
 abbrev Steps : Option Loaded → Option PathRow → Option Loaded → Type 0
 Steps None row new = (row ≡ None) × ((new ≡ None) ⊎ Begun new)
-Steps (Some old) row new = (loaded : Loaded) × (new ≡ Some loaded) × (loaded.tree.next ≡ after old loaded row old.tree.next)
+Steps (Some old) row new = (loaded : Loaded) × (new ≡ Some loaded) × (loaded.tree.next ≡ next_after old loaded row old.tree.next)
 
 begins : (k : Keyword) (fields : List (List ℕ)) (new : Option Loaded) → Begins (begun k fields) (Ok tt) new → Steps None (row_by k fields) new
 begins keyword.Server fields new done = (refl, inr (of (by key_in fields) done))
@@ -184,12 +184,12 @@ row_at [] i = None
 row_at (row ∷ rows) zero = Some row
 row_at (row ∷ rows) (suc i) = row_at rows i
 
--- file n is made by a line with this row, behind what was described before
+-- file n is made by a line with this row, after what was described before
 pub record MadeIn (before : Option Loaded) (lines : List (List ℕ)) (n : ℕ) (row : PathRow) : Type 0 where
   pub first : List (List ℕ)
   pub line : List ℕ
-  pub behind : List (List ℕ)
-  pub lines_are : lines ≡ first ++ line ∷ behind
+  pub after : List (List ℕ)
+  pub lines_are : lines ≡ first ++ line ∷ after
   pub old : Loaded
   pub in_order : Through before first (Some old)
   pub new : Loaded
@@ -205,12 +205,12 @@ EachMade before lines from rows = (i : ℕ) → i < length rows → (row : PathR
 abbrev pub AllMade : Option Loaded → List (List ℕ) → ℕ → List PathRow → Loaded → Type 0
 AllMade before lines from rows new = (new.tree.next ≡ from + length rows) × EachMade before lines from rows
 
-module _ (before between : Option Loaded) (line : List ℕ) (done : LineDone before line (Ok tt) between) (behind : List (List ℕ)) where
-  more : (n m : ℕ) (row : PathRow) → m ≡ n → MadeIn between behind n row → MadeIn before (line ∷ behind) m row
+module _ (before between : Option Loaded) (line : List ℕ) (done : LineDone before line (Ok tt) between) (after : List (List ℕ)) where
+  more : (n m : ℕ) (row : PathRow) → m ≡ n → MadeIn between after n row → MadeIn before (line ∷ after) m row
   more n m row same it = record {
     first = line ∷ it.first;
     line = it.line;
-    behind = it.behind;
+    after = it.after;
     lines_are = ap (λ ls. line ∷ ls) it.lines_are;
     old = it.old;
     in_order = (between, done, it.in_order);
@@ -222,23 +222,23 @@ module _ (before between : Option Loaded) (line : List ℕ) (done : LineDone bef
   }
 
   -- a line that makes no file
-  passed : (from : ℕ) (rows : List PathRow) (new : Loaded) → AllMade between behind from rows new → AllMade before (line ∷ behind) from rows new
+  passed : (from : ℕ) (rows : List PathRow) (new : Loaded) → AllMade between after from rows new → AllMade before (line ∷ after) from rows new
   passed from rows new all = (all.0, λ i l. let it = all.1 i l in (it.0, it.1, more (from + i) (from + i) it.0 refl it.2))
 
-module _ (line : List ℕ) (behind : List (List ℕ)) (old mid new : Loaded) (done : LineDone (Some old) line (Ok tt) (Some mid)) where
+module _ (line : List ℕ) (after : List (List ℕ)) (old mid new : Loaded) (done : LineDone (Some old) line (Ok tt) (Some mid)) where
   -- a line that makes a file
   one_more : (row : PathRow) → row_of line ≡ Some row → makes_file row.keyword ≡ true → mid.tree.next ≡ old.tree.next + 1 → (rows : List PathRow)
-      → AllMade (Some mid) behind mid.tree.next rows new → AllMade (Some old) (line ∷ behind) old.tree.next (row ∷ rows) new
+      → AllMade (Some mid) after mid.tree.next rows new → AllMade (Some old) (line ∷ after) old.tree.next (row ∷ rows) new
   one_more row is makes next rows all = (omega (arith, next, all.0), each)
     where
-      each : EachMade (Some old) (line ∷ behind) old.tree.next (row ∷ rows)
+      each : EachMade (Some old) (line ∷ after) old.tree.next (row ∷ rows)
       each zero l = (
         row,
         refl,
         record {
           first = [];
           line = line;
-          behind = behind;
+          after = after;
           lines_are = refl;
           old = old;
           in_order = refl;
@@ -251,21 +251,21 @@ module _ (line : List ℕ) (behind : List (List ℕ)) (old mid new : Loaded) (do
       )
       each (suc i) l =
           let it = all.1 i (omega (arith, l)) in
-          (it.0, it.1, more (Some old) (Some mid) line done behind (mid.tree.next + i) (old.tree.next + suc i) it.0 (omega (arith, next)) it.2)
+          (it.0, it.1, more (Some old) (Some mid) line done after (mid.tree.next + i) (old.tree.next + suc i) it.0 (omega (arith, next)) it.2)
 
-  line_made : mid.tree.next ≡ after old mid (row_of line) old.tree.next → (rows : List PathRow) → AllMade (Some mid) behind mid.tree.next (making rows) new
-      → AllMade (Some old) (line ∷ behind) old.tree.next (making (onto (row_of line) rows)) new
+  line_made : mid.tree.next ≡ next_after old mid (row_of line) old.tree.next → (rows : List PathRow) → AllMade (Some mid) after mid.tree.next (making rows) new
+      → AllMade (Some old) (line ∷ after) old.tree.next (making (onto (row_of line) rows)) new
   line_made next rows all = of (row_of line) refl next
     where
-      same : mid.tree.next ≡ old.tree.next → AllMade (Some old) (line ∷ behind) old.tree.next (making rows) new
-      same e = subst (λ from. AllMade (Some old) (line ∷ behind) from (making rows) new) e (passed (Some old) (Some mid) line done behind mid.tree.next (making rows) new all)
+      same : mid.tree.next ≡ old.tree.next → AllMade (Some old) (line ∷ after) old.tree.next (making rows) new
+      same e = subst (λ from. AllMade (Some old) (line ∷ after) from (making rows) new) e (passed (Some old) (Some mid) line done after mid.tree.next (making rows) new all)
 
       makes : (row : PathRow) → row_of line ≡ Some row → (b : Bool) → makes_file row.keyword ≡ b → mid.tree.next ≡ (if b then old.tree.next + 1 else old.tree.next)
-          → AllMade (Some old) (line ∷ behind) old.tree.next (when b row (making rows)) new
+          → AllMade (Some old) (line ∷ after) old.tree.next (when b row (making rows)) new
       makes row is true b next = one_more row is b next (making rows) all
       makes row is false b next = same next
 
-      of : (o : Option PathRow) → row_of line ≡ o → mid.tree.next ≡ after old mid o old.tree.next → AllMade (Some old) (line ∷ behind) old.tree.next (making (onto o rows)) new
+      of : (o : Option PathRow) → row_of line ≡ o → mid.tree.next ≡ next_after old mid o old.tree.next → AllMade (Some old) (line ∷ after) old.tree.next (making (onto o rows)) new
       of None is next = same next
       of (Some row) is next = makes row is (makes_file row.keyword) refl next
 
@@ -277,25 +277,25 @@ from_loaded [] old new through = (next, λ i l. absurd (omega (arith, l)))
 
     next : new.tree.next ≡ old.tree.next + 0
     next = let e : old.tree.next ≡ new.tree.next = ap (λ (l : Loaded). l.tree.next) one in omega (arith, e)
-from_loaded (line ∷ behind) old new through =
+from_loaded (line ∷ after) old new through =
     let steps = line_steps through.0 (Some old) line through.1 in
     let mid : Loaded = steps.0 in
     let done : LineDone (Some old) line (Ok tt) (Some mid) = subst (λ it. LineDone (Some old) line (Ok tt) it) steps.1 through.1 in
-    let rest : Through (Some mid) behind (Some new) = subst (λ it. Through it behind (Some new)) steps.1 through.2 in
-    line_made line behind old mid new done steps.2 (rows_of behind) (from_loaded behind mid new rest)
+    let rest : Through (Some mid) after (Some new) = subst (λ it. Through it after (Some new)) steps.1 through.2 in
+    line_made line after old mid new done steps.2 (rows_of after) (from_loaded after mid new rest)
 
 -- the files of a description are those of its rows, from number 1 on
 pub all_made : (lines : List (List ℕ)) (new : Loaded) → Through None lines (Some new) → AllMade None lines 1 (making (rows_of lines)) new
 all_made [] new through = cc
-all_made (line ∷ behind) new (between, done, rest) =
+all_made (line ∷ after) new (between, done, rest) =
     let steps = line_steps between None line done in
-    subst (λ o. AllMade None (line ∷ behind) 1 (making (onto o (rows_of behind))) new) (sym steps.0)
-    (passed None between line done behind 1 (making (rows_of behind)) new (of (λ through. all_made behind new through) steps.1))
+    subst (λ o. AllMade None (line ∷ after) 1 (making (onto o (rows_of after))) new) (sym steps.0)
+    (passed None between line done after 1 (making (rows_of after)) new (of (λ through. all_made after new through) steps.1))
   where
-    of : (Through None behind (Some new) → AllMade None behind 1 (making (rows_of behind)) new)
-        → (between ≡ None) ⊎ Begun between → AllMade between behind 1 (making (rows_of behind)) new
-    of before (inl none) = subst (λ it. AllMade it behind 1 (making (rows_of behind)) new) (sym none) (before (subst (λ it. Through it behind (Some new)) none rest))
+    of : (Through None after (Some new) → AllMade None after 1 (making (rows_of after)) new)
+        → (between ≡ None) ⊎ Begun between → AllMade between after 1 (making (rows_of after)) new
+    of before (inl none) = subst (λ it. AllMade it after 1 (making (rows_of after)) new) (sym none) (before (subst (λ it. Through it after (Some new)) none rest))
     of before (inr begun) =
-        let all = from_loaded behind begun.0 new (subst (λ it. Through it behind (Some new)) begun.1 rest) in
-        subst (λ it. AllMade it behind 1 (making (rows_of behind)) new) (sym begun.1)
-        (subst (λ from. AllMade (Some begun.0) behind from (making (rows_of behind)) new) begun.2 all)
+        let all = from_loaded after begun.0 new (subst (λ it. Through it after (Some new)) begun.1 rest) in
+        subst (λ it. AllMade it after 1 (making (rows_of after)) new) (sym begun.1)
+        (subst (λ from. AllMade (Some begun.0) after from (making (rows_of after)) new) begun.2 all)

@@ -23,9 +23,9 @@ pub record Life : Type 0 where
   pub opens : opening.tree ≡ opened loaded.tree (life_key loaded.tree.key (rows_of lines)) next
   pub opens_lawful : Law opening.tree
   pub setup : Setup
-  pub past : List Done
+  pub history : List Done
   pub state : State
-  pub run : IsRun setup opening past state
+  pub run : IsRun setup opening history state
 
 -- the key of its handles
 abbrev pub key_of : Life → List ℕ
@@ -37,12 +37,12 @@ pub record Follows (earlier later : Life) : Type 0 where
   pub paths : rows_of later.lines ≡ rows_of earlier.lines
   pub above : earlier.state.tree.next ≤ later.next
 
--- file n is the one that a line with this row makes, behind the lines before it
+-- file n is the one that a line with this row makes, after the lines before it
 pub record IsMadeBy (lines : List (List ℕ)) (n : ℕ) (row : PathRow) : Type 0 where
   pub before : List (List ℕ)
   pub line : List ℕ
-  pub behind : List (List ℕ)
-  pub lines_are : lines ≡ before ++ line ∷ behind
+  pub after : List (List ℕ)
+  pub lines_are : lines ≡ before ++ line ∷ after
   pub old : Loaded
   pub in_order : Through None before (Some old)
   pub new : Loaded

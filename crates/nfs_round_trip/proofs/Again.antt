@@ -7,7 +7,7 @@ use Rattle.std.proofs.lemmas.List.{map-append}
 use Rattle.std.proofs.lemmas.List.Elements.{Contains-append_cases}
 use Rattle.nfs_attrs.specs.declared.fattr.Fattr.{Fattr}
 use Rattle.nfs_exports.specs.Tables.{exports_of}
-use Rattle.nfs_exports.specs.declared.table.Export.{Export}
+use Rattle.nfs_exports.specs.declared.export_table.Export.{Export}
 use Rattle.nfs_inodes.specs.Law.{Law, Lives}
 use Rattle.nfs_inodes.specs.Reading.{attributes_at, attributes_of}
 use Rattle.nfs_inodes.specs.Tree.{Tree, File, Kind, Regular, Directory, Link, Entry, Volume, entries_in, is_directory, nlink, on_some}
@@ -17,7 +17,7 @@ use Rattle.nfs_load.specs.declared.load_error.LoadError.TheVariants as error
 use Rattle.nfs_load.specs.declared.loaded.Loaded.{Loaded}
 use Rattle.nfs_load.specs.declared.statement.Given.{Given}
 use Rattle.nfs_describe.specs.Lines.{dir_line, export_line, file_line, hard_line, link_line, server_line, volume_line}
-use Rattle.nfs_describe.specs.Places.{IsWalk, Place, are_sayable, is_sayable, place_below, places_below}
+use Rattle.nfs_describe.specs.Places.{IsWalk, FilePath, are_sayable, is_sayable, place_below, places_below}
 use Rattle.nfs_describe.specs.Texts.{Says, SaysTo, files_text, first_name, given_of, own_line, own_text, place_text, root_text, volume_text}
 use Rattle.nfs_round_trip.specs.Copies.{copied, copied_entries, copied_kind, copied_mode, copied_volume, new_number}
 use Rattle.nfs_round_trip.specs.RoundTrip as law
@@ -46,7 +46,7 @@ one_description t table one two first second = says_once t table (length t.volum
 
 -- ---- places
 
-abbrev again : (ℕ → ℕ) → Place → Place
+abbrev again : (ℕ → ℕ) → FilePath → FilePath
 again number p = record { path = p.path; number = number p.number }
 
 below_copied : (number : ℕ → ℕ) (cookie : ℕ) (path : List ℕ) (es : List Entry)
@@ -54,7 +54,7 @@ below_copied : (number : ℕ → ℕ) (cookie : ℕ) (path : List ℕ) (es : Lis
 below_copied number cookie path [] = refl
 below_copied number cookie path (e ∷ es) = ap (λ l. again number (place_below path e) ∷ l) (below_copied number (cookie + 1) path es)
 
-sayable_again : (number : ℕ → ℕ) (places : List Place) → are_sayable (map (again number) places) ≡ are_sayable places
+sayable_again : (number : ℕ → ℕ) (places : List FilePath) → are_sayable (map (again number) places) ≡ are_sayable places
 sayable_again number [] = refl
 sayable_again number (p ∷ places) = ap (λ b. is_sayable p.path && b) (sayable_again number places)
 
@@ -78,10 +78,10 @@ entries_of_copy number (Directory parent next_cookie entries) = refl
 entries_of_copy number (Link path) = refl
 
 module _ (t : Tree) (law : Law t) (number : ℕ → ℕ) (u : Tree) (copy : IsCopy t number u) where
-  abbrev Live : Place → Type 0
+  abbrev Live : FilePath → Type 0
   Live p = (f : File) × Lives t p.number f
 
-  below_again : (p : Place) → Live p → places_below u (again number p) ≡ map (again number) (places_below t p)
+  below_again : (p : FilePath) → Live p → places_below u (again number p) ≡ map (again number) (places_below t p)
   below_again p live =
       let made = copy.each p.number live.0 live.1 in
       ap (λ o. map (place_below p.path) (on_some o [] (λ (f : File). entries_in f.kind))) made.1
@@ -89,7 +89,7 @@ module _ (t : Tree) (law : Law t) (number : ℕ → ℕ) (u : Tree) (copy : IsCo
       ∙ below_copied number 3 p.path (entries_in live.0.kind)
       ∙ ap (λ o. map (again number) (map (place_below p.path) (on_some o [] (λ (f : File). entries_in f.kind)))) (sym live.1)
 
-  all_below : (places : List Place) → ((p : Place) → Contains places p → Live p)
+  all_below : (places : List FilePath) → ((p : FilePath) → Contains places p → Live p)
       → flat_map (places_below u) (map (again number) places) ≡ map (again number) (flat_map (places_below t) places)
   all_below [] live = refl
   all_below (p ∷ places) live =
@@ -97,10 +97,10 @@ module _ (t : Tree) (law : Law t) (number : ℕ → ℕ) (u : Tree) (copy : IsCo
       ∙ ap (λ l. map (again number) (places_below t p) ++ l) (all_below places (λ q c. live q (in_tail p q places c)))
       ∙ sym (map-append (again number) (places_below t p) (flat_map (places_below t) places))
 
-  walk_again : (root : ℕ) (walk : List Place) → IsWalk t root walk → ((p : Place) → Contains walk p → Live p) → IsWalk u (number root) (map (again number) walk)
+  walk_again : (root : ℕ) (walk : List FilePath) → IsWalk t root walk → ((p : FilePath) → Contains walk p → Live p) → IsWalk u (number root) (map (again number) walk)
   walk_again root walk walked live = ap (map (again number)) walked ∙ ap (λ l. root_place u (number root) ∷ l) (sym (all_below walk live))
 
-  first_again : (n : ℕ) (f : File) → Lives t n f → (before : List Place) → ((p : Place) → Contains before p → Live p)
+  first_again : (n : ℕ) (f : File) → Lives t n f → (before : List FilePath) → ((p : FilePath) → Contains before p → Live p)
       → first_name (number n) (map (again number) before) ≡ option_map (again number) (first_name n before)
   first_again n f lives [] live = refl
   first_again n f lives (p ∷ before) live =
@@ -110,12 +110,12 @@ module _ (t : Tree) (law : Law t) (number : ℕ → ℕ) (u : Tree) (copy : IsCo
       ∙ ap (λ o. cond (nat_eq p.number n) (Some (again number p)) o) (first_again n f lives before (λ q c. live q (in_tail p q before c)))
       ∙ both_ways (nat_eq p.number n) p (first_name n before)
     where
-      both_ways : (b : Bool) (p : Place) (o : Option Place)
+      both_ways : (b : Bool) (p : FilePath) (o : Option FilePath)
           → cond b (Some (again number p)) (option_map (again number) o) ≡ option_map (again number) (cond b (Some p) o)
       both_ways true p o = refl
       both_ways false p o = refl
 
-  own_again : (p : Place) → Live p → own_text u (again number p) ≡ own_text t p
+  own_again : (p : FilePath) → Live p → own_text u (again number p) ≡ own_text t p
   own_again p live =
       let made = copy.each p.number live.0 live.1 in
       let new : File = copied number made.0 live.0 in
@@ -124,18 +124,18 @@ module _ (t : Tree) (law : Law t) (number : ℕ → ℕ) (u : Tree) (copy : IsCo
       (attributes_of (number p.number) new (nlink u.files (number p.number) new)) live.0.kind refl
       ∙ ap (λ o. on_some o [] (λ (f : File). own_line p.path (attributes_of p.number f (nlink t.files p.number f)) f.kind)) (sym live.1)
 
-  place_again : (before : List Place) (p : Place) → ((q : Place) → Contains before q → Live q) → Live p
+  place_again : (before : List FilePath) (p : FilePath) → ((q : FilePath) → Contains before q → Live q) → Live p
       → place_text u (map (again number) before) (again number p) ≡ place_text t before p
   place_again before p live here =
-      ap (λ o. on_some o (own_text u (again number p)) (λ (first : Place). hard_line p.path first.path)) (first_again p.number here.0 here.1 before live)
+      ap (λ o. on_some o (own_text u (again number p)) (λ (first : FilePath). hard_line p.path first.path)) (first_again p.number here.0 here.1 before live)
       ∙ by (first_name p.number before)
     where
-      by : (o : Option Place) → on_some (option_map (again number) o) (own_text u (again number p)) (λ (first : Place). hard_line p.path first.path)
-          ≡ on_some o (own_text t p) (λ (first : Place). hard_line p.path first.path)
+      by : (o : Option FilePath) → on_some (option_map (again number) o) (own_text u (again number p)) (λ (first : FilePath). hard_line p.path first.path)
+          ≡ on_some o (own_text t p) (λ (first : FilePath). hard_line p.path first.path)
       by None = own_again p here
       by (Some first) = refl
 
-  files_again : (before places : List Place) → ((q : Place) → Contains before q → Live q) → ((q : Place) → Contains places q → Live q)
+  files_again : (before places : List FilePath) → ((q : FilePath) → Contains before q → Live q) → ((q : FilePath) → Contains places q → Live q)
       → files_text u (map (again number) before) (map (again number) places) ≡ files_text t before places
   files_again before [] known live = refl
   files_again before (p ∷ places) known live =
@@ -172,7 +172,7 @@ module _ (t : Tree) (law : Law t) (number : ℕ → ℕ) (u : Tree) (copy : IsCo
   says_to_again : (table : List (List Export)) (n : ℕ) (text : List ℕ) → SaysTo t table n text → SaysTo u table n text
   says_to_again table zero text says = says ∙ ap server_line (sym copy.key)
   says_to_again table (suc n) text (before, part, says, is, e) =
-      let live : (p : Place) → Contains is.walk p → Live p =
+      let live : (p : FilePath) → Contains is.walk p → Live p =
       λ p c. (let inside = inside_walk t law n is.volume is.walk is.at_place is.walked p c in (inside.0, inside.1)) in (
         before,
         part,

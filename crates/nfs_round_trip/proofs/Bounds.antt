@@ -11,9 +11,9 @@ use Rattle.hex.specs.Hex.{IsBytes, decode_of, decode_sized}
 use Rattle.hex.specs.declared.error.FromHexError.{FromHexError}
 use Rattle.hex.proofs.HexLemmas.{decode_of-ok, decode_sized-ok, decode_sized-twice}
 use Rattle.nfs_text.specs.Numbers.{decimal_of, is_decimal}
-use Rattle.nfs_text.specs.Pieces.{cut, pieces}
+use Rattle.nfs_text.specs.Chunks.{cut, chunks}
 use Rattle.nfs_exports.specs.Addresses as addresses
-use Rattle.nfs_exports.specs.Addresses.{address_of, number_of_parts, number_of_pieces, part}
+use Rattle.nfs_exports.specs.Addresses.{address_of, number_of_parts, number_of_chunks, part}
 use Rattle.nfs_exports.specs.Options.{default_options}
 use Rattle.nfs_exports.specs.Patterns.{any, bits_or_all, network_of, pattern_of}
 use Rattle.nfs_exports.specs.Settings.{agreed, nothing, options_of, parse_options, same_flag, with_setting, with_words}
@@ -28,7 +28,7 @@ use Rattle.nfs_exports.specs.declared.setting.Setting.{Setting}
 use Rattle.nfs_exports.specs.declared.setting.Setting.TheVariants.{ReadOnly, RootSquash, AllSquash, AnonUid, AnonGid, Nothing}
 use Rattle.nfs_exports.specs.declared.settings.Settings.{Settings}
 use Rattle.nfs_inodes.proofs.Lists.{by_test, not_both, same_some}
-use Rattle.nfs_load.specs.Fields.{◌>>=◌, at_least, behind, by, content_in, found_pattern, key_in, mode_in, keyed, number_in, options_at, options_or_cause}
+use Rattle.nfs_load.specs.Fields.{◌>>=◌, at_least, after, by, content_in, found_pattern, key_in, mode_in, keyed, number_in, options_at, options_or_cause}
 use Rattle.nfs_load.specs.Fields.{pattern_in, target_in, within}
 use Rattle.nfs_load.specs.Statements.{given_in, id_in}
 use Rattle.nfs_load.specs.declared.cause.Cause.{Cause}
@@ -48,8 +48,8 @@ pub by_is : {A : Type 0} (read : List ℕ → Result A Cause) (fields : List (Li
 by_is read [] a rest e = cc
 by_is {A} read (field ∷ fields) a rest e = from (read field) refl e
   where
-    from : (r : Result A Cause) → read field ≡ r → behind fields r ≡ Ok (a, rest) → (f : List ℕ) × (field ∷ fields ≡ f ∷ rest) × (read f ≡ Ok a)
-    from (Ok x) is e = let p = same_ok (behind fields (Ok x)) (x, fields) (a, rest) refl e in
+    from : (r : Result A Cause) → read field ≡ r → after fields r ≡ Ok (a, rest) → (f : List ℕ) × (field ∷ fields ≡ f ∷ rest) × (read f ≡ Ok a)
+    from (Ok x) is e = let p = same_ok (after fields (Ok x)) (x, fields) (a, rest) refl e in
         (field, ap (λ (q : A × List (List ℕ)). field ∷ q.1) p, is ∙ ap (λ (q : A × List (List ℕ)). Ok q.0) p)
     from (Err cause) is e = cc
 
@@ -162,20 +162,20 @@ parts_bound a b c d n e =
     four_bound one.0 two.0 three.0 four.0 n (part_bound a one.0 one.1) (part_bound b two.0 two.1) (part_bound c three.0 three.1) (part_bound d four.0 four.1)
     (same_some four.2)
 
-pieces_bound : (ps : List (List ℕ)) (n : ℕ) → number_of_pieces ps ≡ Some n → n < 2 ^ 32
-pieces_bound (a ∷ b ∷ c ∷ d ∷ []) n e = parts_bound a b c d n e
-pieces_bound [] n e = cc
-pieces_bound (a ∷ []) n e = cc
-pieces_bound (a ∷ b ∷ []) n e = cc
-pieces_bound (a ∷ b ∷ c ∷ []) n e = cc
-pieces_bound (a ∷ b ∷ c ∷ d ∷ f ∷ rest) n e = cc
+chunks_bound : (ps : List (List ℕ)) (n : ℕ) → number_of_chunks ps ≡ Some n → n < 2 ^ 32
+chunks_bound (a ∷ b ∷ c ∷ d ∷ []) n e = parts_bound a b c d n e
+chunks_bound [] n e = cc
+chunks_bound (a ∷ []) n e = cc
+chunks_bound (a ∷ b ∷ []) n e = cc
+chunks_bound (a ∷ b ∷ c ∷ []) n e = cc
+chunks_bound (a ∷ b ∷ c ∷ d ∷ f ∷ rest) n e = cc
 
 address_bound : (text : List ℕ) (a : Addr) → address_of text ≡ Some a → a.0 < 2 ^ 32
-address_bound text a e = from (number_of_pieces (pieces 46 text)) refl e
+address_bound text a e = from (number_of_chunks (chunks 46 text)) refl e
   where
-    from : (o : Option ℕ) → number_of_pieces (pieces 46 text) ≡ o → option_map (λ n. record { 0 = n }) o ≡ Some a → a.0 < 2 ^ 32
+    from : (o : Option ℕ) → number_of_chunks (chunks 46 text) ≡ o → option_map (λ n. record { 0 = n }) o ≡ Some a → a.0 < 2 ^ 32
     from None is e = cc
-    from (Some n) is e = subst (λ (x : Addr). x.0 < 2 ^ 32) (same_some e) (pieces_bound (pieces 46 text) n is)
+    from (Some n) is e = subst (λ (x : Addr). x.0 < 2 ^ 32) (same_some e) (chunks_bound (chunks 46 text) n is)
 
 bits_bound : (o : Option (List ℕ)) (n : ℕ) → bits_or_all o ≡ Some n → n ≤ 32
 bits_bound None n e = let is : 32 ≡ n = same_some e in omega (arith, is)
@@ -300,8 +300,8 @@ or_bound (Some id) each = each id refl
 
 options_kept : (o : Options) (field : List ℕ) → parse_options field ≡ Ok o → (o.anonuid < 2 ^ 32) × (o.anongid < 2 ^ 32)
 options_kept o field e =
-    let s = words_bind (with_words nothing (pieces 44 field)) (λ (settings : Settings). Ok (options_of settings)) o e in
-    let ids = words_kept (pieces 44 field) nothing s.0 ((λ id is. absurd (not_both refl is)), (λ id is. absurd (not_both refl is))) s.1 in
+    let s = words_bind (with_words nothing (chunks 44 field)) (λ (settings : Settings). Ok (options_of settings)) o e in
+    let ids = words_kept (chunks 44 field) nothing s.0 ((λ id is. absurd (not_both refl is)), (λ id is. absurd (not_both refl is))) s.1 in
     subst (λ (it : Options). (it.anonuid < 2 ^ 32) × (it.anongid < 2 ^ 32)) (same_ok (Ok (options_of s.0)) (options_of s.0) o refl s.2)
     (or_bound s.0.anonuid ids.0, or_bound s.0.anongid ids.1)
 
@@ -312,9 +312,9 @@ options_bound [] o rest e =
     subst (λ (it : Options). (it.anonuid < 2 ^ 32) × (it.anongid < 2 ^ 32)) same (omega arith, omega arith)
 options_bound (field ∷ fields) o rest e = from (parse_options field) refl e
   where
-    from : (r : Result Options OptionsFault) → parse_options field ≡ r → behind fields (options_or_cause r) ≡ Ok (o, rest) → (o.anonuid < 2 ^ 32)
+    from : (r : Result Options OptionsFault) → parse_options field ≡ r → after fields (options_or_cause r) ≡ Ok (o, rest) → (o.anonuid < 2 ^ 32)
         × (o.anongid < 2 ^ 32)
     from (Err x) is e = cc
     from (Ok it) is e =
-        let same : it ≡ o = ap (λ (p : Options × List (List ℕ)). p.0) (same_ok (behind fields (options_or_cause (Ok it))) (it, fields) (o, rest) refl e) in
+        let same : it ≡ o = ap (λ (p : Options × List (List ℕ)). p.0) (same_ok (after fields (options_or_cause (Ok it))) (it, fields) (o, rest) refl e) in
         options_kept o field (is ∙ ap Ok same)

@@ -67,7 +67,7 @@ module _ (t : Tree) (law : Law t) (number : ℕ → ℕ) (done : List Step) (s :
 
   begun_more : (m : ℕ) (rest : List Entry) → entries_at t s.0.number ≡ shown done s.0.number ++ s.1 ∷ rest → (old : List Entry)
       → entries_at t m ≡ shown done m ++ old
-      → (behind : List Entry) × (entries_at t m ≡ shown (done ++ s ∷ []) m ++ behind)
+      → (after : List Entry) × (entries_at t m ≡ shown (done ++ s ∷ []) m ++ after)
   begun_more m rest here old was = by_number s.0.number m
       (λ e. (
         rest,
@@ -113,7 +113,7 @@ module _ (t : Tree) (law : Law t) (number : ℕ → ℕ) (done : List Step) (s :
           volumes = part.volumes;
         })
 
-    -- a further name
+    -- a hard link
     pub part_with_name : (g : File) → Lives t s.1.number g → is_directory g.kind ≡ false → Has s.1.number ns
         → IsPart t number (done ++ s ∷ []) ns vs (after_link u (number s.1.number) (number s.0.number) s.1.name start)
     part_with_name g lives no_dir there =

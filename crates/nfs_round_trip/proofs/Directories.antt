@@ -12,7 +12,7 @@ use Rattle.nfs_inodes.specs.Tree.{names_in, names_of}
 use Rattle.nfs_inodes.proofs.Lists.{by_test, by_number, same_some, not_both, in_head, in_tail, head_or_tail, not_in_empty}
 use Rattle.nfs_inodes.proofs.Maps.{apart_number, itself, sum_some, at_here, at_after, rising_bounds}
 use Rattle.nfs_inodes.proofs.law.Alike.{sum_same}
-use Rattle.nfs_describe.specs.Places.{Place, IsWalk}
+use Rattle.nfs_describe.specs.Places.{FilePath, IsWalk}
 use Rattle.nfs_round_trip.proofs.Walks.{Step, step_from, steps_from, steps, stands, named_from, stands_in_walk}
 
 -- ---- sums
@@ -93,14 +93,14 @@ module _ (t : Tree) (law : Law t) where
         absurd (o (sym (law.parents k g entry.0 f e entry.1 (subst (λ i. LivesAsDirectory t i f) (sym entry.2) lives))))))
 
     -- a directory stands in a walk as often as its parent
-    pub named_by_parent : (walk : List Place) → named_from t m walk ≡ stands (parent_in f.kind) walk
-    named_by_parent walk = sum_same (λ (p : Place). names_in m (entries_at t p.number)) (λ (p : Place). one_when (nat_eq p.number (parent_in f.kind))) walk
+    pub named_by_parent : (walk : List FilePath) → named_from t m walk ≡ stands (parent_in f.kind) walk
+    named_by_parent walk = sum_same (λ (p : FilePath). names_in m (entries_at t p.number)) (λ (p : FilePath). one_when (nat_eq p.number (parent_in f.kind))) walk
         (λ p. in_file p.number (at p.number t.files) refl)
 
-  named_nowhere : (n : ℕ) (walk : List Place) → names_of n t.files ≡ 0 → named_from t n walk ≡ 0
+  named_nowhere : (n : ℕ) (walk : List FilePath) → names_of n t.files ≡ 0 → named_from t n walk ≡ 0
   named_nowhere n [] none = refl
   named_nowhere n (p ∷ walk) none =
-      let sum = sum_by-cons (λ (q : Place). names_in n (entries_at t q.number)) p walk in
+      let sum = sum_by-cons (λ (q : FilePath). names_in n (entries_at t q.number)) p walk in
       let here = none_named n p.number none in let rest = named_nowhere n walk none in omega (arith, sum, here, rest)
 
   -- the volume of a root's number
@@ -109,7 +109,7 @@ module _ (t : Tree) (law : Law t) where
       let root = law.roots index w at_w in
       ap (λ (g : File). g.volume) (same_some (sym lives ∙ ap (λ i. at i t.files) (sym is) ∙ root.1.0)) ∙ root.3
 
-  module _ (index : ℕ) (w : Volume) (at_w : slice_get t.volumes index ≡ Some w) (walk : List Place) (walked : IsWalk t w.root walk) where
+  module _ (index : ℕ) (w : Volume) (at_w : slice_get t.volumes index ≡ Some w) (walk : List FilePath) (walked : IsWalk t w.root walk) where
     top : (m : ℕ) (f : File) (v : Volume) → slice_get t.volumes f.volume ≡ Some v → m ≡ v.root → stands m walk ≡ one_when (nat_eq w.root v.root)
     top m f v at_v s =
         let none : names_of m t.files ≡ 0 = ap (λ i. names_of i t.files) s ∙ (law.roots f.volume v at_v).4 in
@@ -161,11 +161,11 @@ module _ (t : Tree) (law : Law t) where
         let dir : is_directory named.1.kind ≡ true = has_entries named.1.kind named.3 named.4 in
         let volume : named.1.volume ≡ index = sym target.2 ∙ ap (λ (g : File). g.volume) same ∙ here in
         let stood = stands_here named.0 named.1 (named.2, dir) volume in
-        let place = some_of_sum (λ (p : Place). one_when (nat_eq p.number named.0)) walk (omega (arith, stood)) in
+        let place = some_of_sum (λ (p : FilePath). one_when (nat_eq p.number named.0)) walk (omega (arith, stood)) in
         let at_place : place.0.number ≡ named.0 = by_number place.0.number named.0 (λ s. s)
         (λ o. absurd (let none : one_when (nat_eq place.0.number named.0) ≡ 0 = ap one_when (apart_number place.0.number named.0 o) in let some = place.2 in
         omega (arith, none, some))) in
-        let below = one_of_sum (λ (p : Place). names_in n (entries_at t p.number)) walk place.0 place.1 in
+        let below = one_of_sum (λ (p : FilePath). names_in n (entries_at t p.number)) walk place.0 place.1 in
         let entry = one_named n (entries_at t place.0.number) named.3
         (subst (λ l. Contains l named.3) (sym (ap (entries_at t) at_place ∙ entries_of named.0 named.1 named.2)) named.4) named.5 in
         let all = stands_in_walk t w.root n walk walked in omega (arith, below, entry, all))
@@ -199,18 +199,18 @@ pub shown_there : (done : List Step) (s : Step) (d : ℕ) → s.0.number ≢ d �
 shown_there done s d o = shown_append done (s ∷ []) d ∙ ap (λ l. shown done d ++ l) (append-nil (listed_by d s) ∙ listed_there d s o)
     ∙ append-nil (shown done d)
 
-from_here : (p : Place) (es : List Entry) (d : ℕ) → p.number ≡ d → shown (map (step_from p) es) d ≡ es
+from_here : (p : FilePath) (es : List Entry) (d : ℕ) → p.number ≡ d → shown (map (step_from p) es) d ≡ es
 from_here p [] d e = refl
 from_here p (x ∷ es) d e = ap (λ l. l ++ shown (map (step_from p) es) d) (listed_here d (step_from p x) e) ∙ ap (λ l. x ∷ l) (from_here p es d e)
 
-from_there : (p : Place) (es : List Entry) (d : ℕ) → p.number ≢ d → shown (map (step_from p) es) d ≡ []
+from_there : (p : FilePath) (es : List Entry) (d : ℕ) → p.number ≢ d → shown (map (step_from p) es) d ≡ []
 from_there p [] d o = refl
 from_there p (x ∷ es) d o = ap (λ l. l ++ shown (map (step_from p) es) d) (listed_there d (step_from p x) o) ∙ from_there p es d o
 
-pub shown_none : (t : Tree) (places : List Place) (d : ℕ) → stands d places ≡ 0 → shown (steps t places) d ≡ []
+pub shown_none : (t : Tree) (places : List FilePath) (d : ℕ) → stands d places ≡ 0 → shown (steps t places) d ≡ []
 shown_none t [] d none = refl
 shown_none t (p ∷ places) d none =
-    let sum = sum_by-cons (λ (q : Place). one_when (nat_eq q.number d)) p places in
+    let sum = sum_by-cons (λ (q : FilePath). one_when (nat_eq q.number d)) p places in
     by_number p.number d
     (λ s. absurd (let one : one_when (nat_eq p.number d) ≡ 1 = ap one_when (subst (λ i. nat_eq p.number i ≡ true) s (itself p.number)) in
     omega (arith, sum, one, none)))
@@ -218,10 +218,10 @@ shown_none t (p ∷ places) d none =
     ∙ shown_none t places d (omega (arith, sum, none)))
 
 -- of a directory that stands once its entries are listed
-pub shown_once : (t : Tree) (places : List Place) (d : ℕ) → stands d places ≡ 1 → shown (steps t places) d ≡ entries_at t d
+pub shown_once : (t : Tree) (places : List FilePath) (d : ℕ) → stands d places ≡ 1 → shown (steps t places) d ≡ entries_at t d
 shown_once t [] d once = absurd (omega (arith, once))
 shown_once t (p ∷ places) d once =
-    let sum = sum_by-cons (λ (q : Place). one_when (nat_eq q.number d)) p places in
+    let sum = sum_by-cons (λ (q : FilePath). one_when (nat_eq q.number d)) p places in
     by_number p.number d
     (λ s. let one : one_when (nat_eq p.number d) ≡ 1 = ap one_when (subst (λ i. nat_eq p.number i ≡ true) s (itself p.number)) in
     shown_append (steps_from t p) (steps t places) d ∙ ap (λ l. l ++ shown (steps t places) d) (from_here p (entries_at t p.number) d s)

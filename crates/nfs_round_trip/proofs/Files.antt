@@ -5,7 +5,7 @@ use Rattle.std.specs.Prelude.{AllPairs, Contains, Err, Result, if◌then◌else�
 use Rattle.std.proofs.lemmas.List.{length-append}
 use Rattle.hex.specs.Hex.{IsBytes}
 use Rattle.nfs_attrs.specs.declared.fattr.Fattr.{Fattr}
-use Rattle.nfs_inodes.specs.Changes.{Makes, after_link, after_make_dir, after_make_file, after_make_link, new_file, volume_index, with_named_file}
+use Rattle.nfs_inodes.specs.Changes.{Makes, after_link, after_mkdir, after_make_file, after_make_link, new_file, volume_index, with_named_file}
 use Rattle.nfs_inodes.specs.Conditions.{MayLink, MayMake, MayMakeDirectory, MayMakeLink}
 use Rattle.nfs_inodes.specs.Law.{IsName, Law, Lives, LivesAsDirectory}
 use Rattle.nfs_inodes.specs.Limits.{max_file_bytes}
@@ -28,7 +28,7 @@ use Rattle.nfs_load.specs.declared.statement.DirLine.{DirLine}
 use Rattle.nfs_load.specs.declared.statement.Given.{Given}
 use Rattle.nfs_load.specs.declared.statement.HardLine.{HardLine}
 use Rattle.nfs_describe.specs.Lines.{dir_line, file_line, hard_line, link_line}
-use Rattle.nfs_describe.specs.Places.{Place, is_sayable}
+use Rattle.nfs_describe.specs.Places.{FilePath, is_sayable}
 use Rattle.nfs_describe.specs.Texts.{given_of, own_line}
 use Rattle.nfs_read_back.specs.ReadBack.{is_said}
 use Rattle.nfs_read_back.proofs.Statements as read_back
@@ -40,7 +40,7 @@ use Rattle.nfs_round_trip.proofs.Made.{Has, holding, with_entries}
 use Rattle.nfs_round_trip.proofs.Parts.{IsPart, copy_is_directory, directory_made, file_made, none_before}
 use Rattle.nfs_round_trip.proofs.Paths.{AreNames, names_push, slashed, slashed_push}
 use Rattle.nfs_round_trip.proofs.Reaches.{HasNone, leads}
-use Rattle.nfs_round_trip.proofs.Rooms.{has_name, is_entry, may_link, may_make, may_make_dir, may_make_link, same_volume}
+use Rattle.nfs_round_trip.proofs.Rooms.{has_name, is_entry, may_link, may_make, may_mkdir, may_make_link, same_volume}
 use Rattle.nfs_round_trip.proofs.Runs.{Done, Goes, does_made, goes_on, root_is, then_is}
 use Rattle.nfs_round_trip.proofs.Walks.{Step, place_of}
 
@@ -218,8 +218,8 @@ module _ (Last : Option Loaded → Type 0) (t : Tree) (law : Law t) (number : �
           ))
           (does_made old.tree (free_end old.tree (number w.root) names)
           (λ (e : PathEnd). MayMakeDirectory old.tree e.dir e.name)
-          (λ (e : PathEnd). Makes (λ tag. after_make_dir old.tree e.dir e.name (attributes given) tag start)) result loaded.tree end free
-          (may_make_dir t law number all ns vs old.tree part s f next.at_dir next.has next.rest next.here next.room w (copied_volume number w)
+          (λ (e : PathEnd). Makes (λ tag. after_mkdir old.tree e.dir e.name (attributes given) tag start)) result loaded.tree end free
+          (may_mkdir t law number all ns vs old.tree part s f next.at_dir next.has next.rest next.here next.room w (copied_volume number w)
           next.at_w next.at_vs refl refl g next.lives new dir) it.0)))
 
       link_goes : (target : List ℕ) → g.kind ≡ Link target → Goes Last (Some old) (own_line path (attributes_of s.1.number g links) (Link target)) All
@@ -249,9 +249,9 @@ module _ (Last : Option Loaded → Type 0) (t : Tree) (law : Law t) (number : �
       pub own_goes : Goes Last (Some old) (own_line path (attributes_of s.1.number g links) g.kind) All
       own_goes = by_kind g.kind refl
 
-  -- ---- a further name
+  -- ---- a hard link
 
-  module _ (first : Place) (named : IsNamed all w.root first) (same : first.number ≡ s.1.number) (said : is_sayable first.path ≡ true)
+  module _ (first : FilePath) (named : IsNamed all w.root first) (same : first.number ≡ s.1.number) (said : is_sayable first.path ≡ true)
       (there : Has s.1.number ns) (no_dir : is_directory g.kind ≡ false) where
     -- one name more, and the same table
     abbrev pub IsNamedMore : Loaded → Type 0

@@ -14,7 +14,7 @@ use Rattle.nfs_load.specs.Paths.{path_in}
 use Rattle.nfs_load.specs.declared.cause.Cause.{Cause}
 use Rattle.nfs_load.specs.declared.cause.Cause.TheVariants.{NameTaken}
 use Rattle.nfs_describe.specs.Lines.{is_shown}
-use Rattle.nfs_describe.specs.Places.{Place, is_sayable}
+use Rattle.nfs_describe.specs.Places.{FilePath, is_sayable}
 use Rattle.nfs_read_back.specs.ReadBack.{is_said}
 use Rattle.nfs_round_trip.proofs.Directories.{shown, shown_append, shown_here}
 use Rattle.nfs_round_trip.proofs.Made.{Has}
@@ -28,7 +28,7 @@ use Rattle.nfs_round_trip.proofs.Truths.{and_true, both, some, within}
 -- ---- places and their names
 
 -- the names of a place's path lead to its file
-pub record IsNamed (all : List Step) (root : ℕ) (p : Place) : Type 0 where
+pub record IsNamed (all : List Step) (root : ℕ) (p : FilePath) : Type 0 where
   pub names : List (List ℕ)
   pub are : AreNames names
   pub path : p.path ≡ slashed names
@@ -37,7 +37,7 @@ pub record IsNamed (all : List Step) (root : ℕ) (p : Place) : Type 0 where
 grown : (all : List Step) (s : Step) (n : ℕ) → (more : List Entry) × (shown (all ++ s ∷ []) n ≡ shown all n ++ more)
 grown all s n = (shown (s ∷ []) n, shown_append all (s ∷ []) n)
 
-pub named_more : (all : List Step) (s : Step) (root : ℕ) (p : Place) → IsNamed all root p → IsNamed (all ++ s ∷ []) root p
+pub named_more : (all : List Step) (s : Step) (root : ℕ) (p : FilePath) → IsNamed all root p → IsNamed (all ++ s ∷ []) root p
 named_more all s root p named = record {
   names = named.names;
   are = named.are;
@@ -84,7 +84,7 @@ path_in_names path (first ∷ names) name is are e =
     ap path_in is ∙ path_read first (names ++ name ∷ []) are (subst (λ l. length l ≤ 1024) is (within (length path) 1024 p.0))
     (subst (λ l. list_all is_plain l ≡ true) is p.1)
 
-pub one_passes : (test : Place → Bool) (places : List Place) (p : Place) → list_all test places ≡ true → Contains places p → test p ≡ true
+pub one_passes : (test : FilePath → Bool) (places : List FilePath) (p : FilePath) → list_all test places ≡ true → Contains places p → test p ≡ true
 one_passes test [] p all c = absurd (not_in_empty [] p refl c)
 one_passes test (q ∷ places) p all c = let b = both (test q) (list_all test places) all in elim (head_or_tail q p places c) [
   | inl e ↦ subst (λ r. test r ≡ true) e b.0
@@ -191,7 +191,7 @@ module _ (t : Tree) (law : Law t) (number : ℕ → ℕ) (all : List Step) (ns :
         unless_when o end = if is_some o then Err NameTaken else Ok end
 
   -- the file of a place with a name
-  pub file_found : (root : ℕ) → Has root ns → (p : Place) (named : IsNamed all root p) → named.names ≢ []
+  pub file_found : (root : ℕ) → Has root ns → (p : FilePath) (named : IsNamed all root p) → named.names ≢ []
       → file_at u (number root) named.names ≡ Some (number p.number)
   file_found root has_root p named more =
       let l = last_of named.names more in

@@ -6,17 +6,17 @@ use Rattle.std.specs.Prelude.{Err, Result, if◌then◌else◌, nat_lt}
 use Rattle.std.proofs.lemmas.Bool.Decides.{nat_tests}
 use Rattle.hex.specs.Hex.{IsBytes}
 use Rattle.nfs_attrs.specs.declared.moment.Moment.{Moment}
-use Rattle.nfs_text.specs.Pieces.{pieces}
+use Rattle.nfs_text.specs.Chunks.{chunks}
 use Rattle.nfs_text.specs.Words.{is_word, words}
 use Rattle.nfs_inodes.specs.declared.new_file.NewFile.{NewFile}
-use Rattle.nfs_inodes.specs.Changes.{after_add_volume, after_link, after_make_dir, after_make_file, after_make_link, entered, kind_with_entry, new_file}
+use Rattle.nfs_inodes.specs.Changes.{after_add_volume, after_link, after_mkdir, after_make_file, after_make_link, entered, kind_with_entry, new_file}
 use Rattle.nfs_inodes.specs.Changes.{touched, with_entry, with_file, with_named_file, with_new_file}
 use Rattle.nfs_inodes.specs.Conditions.{MayAddVolume, MayLink, MayMake, MayMakeDirectory, MayMakeLink}
 use Rattle.nfs_inodes.specs.Law.{Law, Lives}
 use Rattle.nfs_inodes.specs.Tree.{Tree, File, Kind, Regular, Directory, Link, at, bytes_in, on_some}
 use Rattle.nfs_inodes.proofs.Lists.{by_test, same_some}
 use Rattle.nfs_inodes.proofs.Maps.{at_next, push_back, with_back}
-use Rattle.nfs_inodes.proofs.law.NewFiles.{law_after_add_volume, law_after_make_dir, law_after_make_file, law_after_make_link}
+use Rattle.nfs_inodes.proofs.law.NewFiles.{law_after_add_volume, law_after_mkdir, law_after_make_file, law_after_make_link}
 use Rattle.nfs_inodes.proofs.law.Operations.{law_after_link}
 use Rattle.nfs_load.specs.Effects.{attributes, link_attributes, start}
 use Rattle.nfs_load.specs.Lines.{Line, counted, is_comment, is_printable, is_text, keyword_named, shape, shape_of, takes}
@@ -44,15 +44,15 @@ each_onto : (x : ℕ) (ws : List (List ℕ)) → is_shown x ≡ true → EachSho
 each_onto x [] e each = (and_true (is_shown x) true e refl, tt)
 each_onto x (w ∷ ws) e each = (and_true (is_shown x) (list_all is_shown w) e each.0, each.1)
 
-each_piece : (line : List ℕ) → is_text line ≡ true → EachShown (pieces 32 line)
-each_piece [] e = (refl, tt)
-each_piece (x ∷ line) e =
+each_chunk : (line : List ℕ) → is_text line ≡ true → EachShown (chunks 32 line)
+each_chunk [] e = (refl, tt)
+each_chunk (x ∷ line) e =
     let p = both (is_printable x) (list_all is_printable line) e in
-    let rest = each_piece line p.1 in
+    let rest = each_chunk line p.1 in
     by_test (x == 32)
-    (λ y. subst EachShown (sym (ap (λ b. cond b ([] ∷ pieces 32 line) (onto_first x (pieces 32 line))) y)) (refl, rest))
-    (λ o. subst EachShown (sym (ap (λ b. cond b ([] ∷ pieces 32 line) (onto_first x (pieces 32 line))) o))
-    (each_onto x (pieces 32 line) (shown_byte x p.0 o) rest))
+    (λ y. subst EachShown (sym (ap (λ b. cond b ([] ∷ chunks 32 line) (onto_first x (chunks 32 line))) y)) (refl, rest))
+    (λ o. subst EachShown (sym (ap (λ b. cond b ([] ∷ chunks 32 line) (onto_first x (chunks 32 line))) o))
+    (each_onto x (chunks 32 line) (shown_byte x p.0 o) rest))
 
 -- words of bytes from `!` to `~`
 abbrev pub AllSaid : List (List ℕ) → Type 0
@@ -88,7 +88,7 @@ fields_said line l e = by_test (is_comment line)
     of [] is e = absurd (none_some (shape_of line []) refl e)
     of (w ∷ fields) is e = by_test (is_text line)
         (λ y.
-        let said : AllSaid (w ∷ fields) = subst AllSaid is (all_words (pieces 32 line) (each_piece line y)) in
+        let said : AllSaid (w ∷ fields) = subst AllSaid is (all_words (chunks 32 line) (each_chunk line y)) in
         some_of (keyword_named w) fields said.1 (sym (ap (λ b. if b then counted (keyword_named w) fields else Err BadByte) y) ∙ e))
         (λ o. absurd (runs.not_both (shape_of line (w ∷ fields)) (Some l) BadByte e (ap (λ b. if b then counted (keyword_named w) fields else Err BadByte) o)))
 
@@ -154,9 +154,9 @@ IsKept u = Law u × FilesSaid u
 
 pub kept_dir : (u : Tree) (d tag : ℕ) (name : List ℕ) (given : Given) → MayMakeDirectory u d name → tag < 2 ^ 32 → (given.uid < 2 ^ 32) × (given.gid < 2 ^ 32)
     → IsKept u
-    → IsKept (after_make_dir u d name (attributes given) tag start)
+    → IsKept (after_mkdir u d name (attributes given) tag start)
 kept_dir u d tag name given may fits ids kept = (
-  law_after_make_dir u d tag name (attributes given) start may fits kept.0,
+  law_after_mkdir u d tag name (attributes given) start may fits kept.0,
   said_named u d name _ start kept.0 (new_said _ (Directory d 3 []) (attributes given) tag ids.0 ids.1 no_bytes (λ path is. cc)) kept.1,
 )
 

@@ -297,10 +297,10 @@ module _ {X : Type 0} (weight : X → ℕ) where
       by_number a x.0
       (λ s. let one : one_when (nat_eq a x.0) ≡ 1 = ap one_when (subst (λ m. nat_eq a m ≡ true) s (itself a)) in
       let here : weighed (x ∷ xs) a ≡ weight x.1 = ap (λ o. on_some o 0 weight) (ap (λ i. at i (x ∷ xs)) s ∙ at_here x xs) in
-      let behind : weighed xs a ≡ 0 = ap (λ o. on_some o 0 weight) (ap (λ i. at i xs) s ∙ none) in
+      let after : weighed xs a ≡ 0 = ap (λ o. on_some o 0 weight) (ap (λ i. at i xs) s ∙ none) in
       let all : times x.0 (a ∷ ns) ≡ 1 + times x.0 ns = omega (arith, c, one) in
       let product : times x.0 (a ∷ ns) * weight x.1 ≡ weight x.1 + times x.0 ns * weight x.1 = ap (λ m. m * weight x.1) all ∙ omega arith in
-      omega (arith, rest, l, r, here, behind, product))
+      omega (arith, rest, l, r, here, after, product))
       (λ o. let zero_times : one_when (nat_eq a x.0) ≡ 0 = ap one_when (apart_number a x.0 o) in
       let here : weighed (x ∷ xs) a ≡ weighed xs a = ap (λ o. on_some o 0 weight) (at_after a x xs o) in
       let all : times x.0 (a ∷ ns) ≡ times x.0 ns = omega (arith, c, zero_times) in

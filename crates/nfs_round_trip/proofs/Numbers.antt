@@ -8,7 +8,7 @@ use Rattle.nfs_inodes.specs.Law.{Law, Lives}
 use Rattle.nfs_inodes.specs.Tree.{Tree, File, Volume, entries_in, on_some}
 use Rattle.nfs_inodes.proofs.Lists.{by_test, in_head, in_tail, head_or_tail, not_in_empty, not_both, true_and_false}
 use Rattle.nfs_inodes.proofs.Maps.{apart_number, itself}
-use Rattle.nfs_describe.specs.Places.{IsWalk, Place}
+use Rattle.nfs_describe.specs.Places.{IsWalk, FilePath}
 use Rattle.nfs_describe.specs.Texts.{first_name}
 use Rattle.nfs_round_trip.specs.Copies.{counted_from, first_seen}
 use Rattle.nfs_round_trip.proofs.Directories.{entries_of}
@@ -19,11 +19,11 @@ use Rattle.nfs_round_trip.proofs.Walks.{Step, contains_middle, parent_stands, pl
 -- ---- every place of a walk lives in its volume
 
 module _ (t : Tree) (law : Law t) (index : ℕ) where
-  abbrev pub IsInside : Place → Type 0
+  abbrev pub IsInside : FilePath → Type 0
   IsInside p = (f : File) × Lives t p.number f × (f.volume ≡ index)
 
-  all_inside : (root : ℕ) (walk : List Place) (todo done : List Step) → IsWalk t root walk → steps t walk ≡ done ++ todo
-      → ((p : Place) → Contains (root_place t root ∷ map place_of done) p → IsInside p) → (p : Place)
+  all_inside : (root : ℕ) (walk : List FilePath) (todo done : List Step) → IsWalk t root walk → steps t walk ≡ done ++ todo
+      → ((p : FilePath) → Contains (root_place t root ∷ map place_of done) p → IsInside p) → (p : FilePath)
       → Contains (root_place t root ∷ map place_of (steps t walk)) p → IsInside p
   all_inside root walk [] done walked are inside p c = inside p (subst (λ l. Contains (root_place t root ∷ map place_of l) p) (are ∙ append-nil done) c)
   all_inside root walk (s ∷ todo) done walked are inside p c =
@@ -42,7 +42,7 @@ module _ (t : Tree) (law : Law t) (index : ℕ) where
         ]
       ]) p c
 
-  pub inside_walk : (w : Volume) (walk : List Place) → slice_get t.volumes index ≡ Some w → IsWalk t w.root walk → (p : Place) → Contains walk p → IsInside p
+  pub inside_walk : (w : Volume) (walk : List FilePath) → slice_get t.volumes index ≡ Some w → IsWalk t w.root walk → (p : FilePath) → Contains walk p → IsInside p
   inside_walk w walk at_w walked p c =
       let root = law.roots index w at_w in
       all_inside w.root walk (steps t walk) [] walked refl
@@ -59,12 +59,12 @@ counted_is k (m ∷ before) rest n none =
     ap (λ b. if b then k else counted_from (suc k) (before ++ n ∷ rest) n) (apart_number m n (λ e. none (inl e)))
     ∙ counted_is (suc k) before rest n (λ has. none (inr has)) ∙ omega arith
 
-found_there : (n : ℕ) (places : List Place) (p : Place) → Contains places p → p.number ≡ n → first_name n places ≢ None
+found_there : (n : ℕ) (places : List FilePath) (p : FilePath) → Contains places p → p.number ≡ n → first_name n places ≢ None
 found_there n [] p c e none = not_in_empty [] p refl c
 found_there n (q ∷ places) p c e none = by_test (nat_eq q.number n)
     (λ y. not_both none (ap (λ b. cond b (Some q) (first_name n places)) y))
     (λ o. elim (head_or_tail q p places c) [
-      | inl is ↦ not_same q.number n o (ap (λ (r : Place). r.number) is ∙ e)
+      | inl is ↦ not_same q.number n o (ap (λ (r : FilePath). r.number) is ∙ e)
       | inr r ↦ found_there n places p r e (sym (ap (λ b. cond b (Some q) (first_name n places)) o) ∙ none)
     ])
   where
@@ -72,14 +72,14 @@ found_there n (q ∷ places) p c e none = by_test (nat_eq q.number n)
     not_same a b o is = true_and_false (subst (λ c. nat_eq a c ≡ true) is (itself a)) o
 
 module _ (order : List ℕ) (Old : ℕ → Type 0) where
-  abbrev NumberedFrom : List Place → List Place → List ℕ → Type 0
+  abbrev NumberedFrom : List FilePath → List FilePath → List ℕ → Type 0
   NumberedFrom places before given = Numbered (counted_from 1 order) (suc (length given + length (first_seen before places))) before places (suc (length given))
 
   -- what was numbered is of other volumes, or stands among the places before
-  abbrev pub KnownOf : List Place → List ℕ → Type 0
-  KnownOf before given = (m : ℕ) → Has m given → Old m ⊎ ((q : Place) × Contains before q × (q.number ≡ m))
+  abbrev pub KnownOf : List FilePath → List ℕ → Type 0
+  KnownOf before given = (m : ℕ) → Has m given → Old m ⊎ ((q : FilePath) × Contains before q × (q.number ≡ m))
 
-  known_on : (p : Place) (before : List Place) (given more : List ℕ) → KnownOf before given → ((m : ℕ) → Has m more → Has m given ⊎ (p.number ≡ m))
+  known_on : (p : FilePath) (before : List FilePath) (given more : List ℕ) → KnownOf before given → ((m : ℕ) → Has m more → Has m given ⊎ (p.number ≡ m))
       → KnownOf (before ++ p ∷ []) more
   known_on p before given more known from m has = elim (from m has) [
     | inl was ↦ elim (known m was) [
@@ -89,10 +89,10 @@ module _ (order : List ℕ) (Old : ℕ → Type 0) where
     | inr e ↦ inr (p, Contains-append_right before (p ∷ []) p (in_head p []), e)
   ]
 
-  step : (p : Place) (places before : List Place) (given later : List ℕ) → KnownOf before given → (Old p.number → ⊥)
-      → ((more behind : List ℕ) → order ≡ more ++ (first_seen (before ++ p ∷ []) places ++ behind) → KnownOf (before ++ p ∷ []) more
+  step : (p : FilePath) (places before : List FilePath) (given later : List ℕ) → KnownOf before given → (Old p.number → ⊥)
+      → ((more after : List ℕ) → order ≡ more ++ (first_seen (before ++ p ∷ []) places ++ after) → KnownOf (before ++ p ∷ []) more
       → NumberedFrom places (before ++ p ∷ []) more)
-      → (o : Option Place) → first_name p.number before ≡ o
+      → (o : Option FilePath) → first_name p.number before ≡ o
       → order ≡ given ++ (on_some o (p.number ∷ first_seen (before ++ p ∷ []) places) (λ first. first_seen (before ++ p ∷ []) places) ++ later)
       → OnFirst o
       ((counted_from 1 order p.number ≡ suc (length given))
@@ -100,23 +100,23 @@ module _ (order : List ℕ) (Old : ℕ → Type 0) where
       (before ++ p ∷ []) places (suc (suc (length given))))
       (NumberedFrom places (before ++ p ∷ []) given)
   step p places before given later known new rest None none is =
-      let behind : List ℕ = first_seen (before ++ p ∷ []) places in
+      let after : List ℕ = first_seen (before ++ p ∷ []) places in
       let one = length-append given (p.number ∷ []) in
       let fresh : Has p.number given → ⊥ = λ has. elim (known p.number has) [
         | inl old ↦ new old
         | inr it ↦ found_there p.number before it.0 it.1 it.2 none
       ] in
-      let more = rest (given ++ p.number ∷ []) later (is ∙ sym (append_assoc given (p.number ∷ []) (behind ++ later)))
+      let more = rest (given ++ p.number ∷ []) later (is ∙ sym (append_assoc given (p.number ∷ []) (after ++ later)))
       (known_on p before given (given ++ p.number ∷ []) known (λ m has. push_has m p.number given has)) in
-      let last : suc (length (given ++ p.number ∷ []) + length behind) ≡ suc (length given + suc (length behind)) = omega (arith, one) in
+      let last : suc (length (given ++ p.number ∷ []) + length after) ≡ suc (length given + suc (length after)) = omega (arith, one) in
       let first : suc (length (given ++ p.number ∷ [])) ≡ suc (suc (length given)) = omega (arith, one) in (
-        ap (λ l. counted_from 1 l p.number) is ∙ counted_is 1 given (behind ++ later) p.number fresh ∙ omega arith,
+        ap (λ l. counted_from 1 l p.number) is ∙ counted_is 1 given (after ++ later) p.number fresh ∙ omega arith,
         subst (λ n. Numbered (counted_from 1 order) n (before ++ p ∷ []) places (suc (suc (length given)))) last
-            (subst (λ n. Numbered (counted_from 1 order) (suc (length (given ++ p.number ∷ []) + length behind)) (before ++ p ∷ []) places n) first more),
+            (subst (λ n. Numbered (counted_from 1 order) (suc (length (given ++ p.number ∷ []) + length after)) (before ++ p ∷ []) places n) first more),
       )
   step p places before given later known new rest (Some first) found is = rest given later is (known_on p before given given known (λ m has. inl has))
 
-  counted : (p : Place) (places before : List Place) (given : List ℕ) (o : Option Place)
+  counted : (p : FilePath) (places before : List FilePath) (given : List ℕ) (o : Option FilePath)
       → OnFirst o
       ((counted_from 1 order p.number ≡ suc (length given))
       × Numbered (counted_from 1 order) (suc (length given + suc (length (first_seen (before ++ p ∷ []) places))))
@@ -133,11 +133,11 @@ module _ (order : List ℕ) (Old : ℕ → Type 0) where
   counted p places before given None it = it
   counted p places before given (Some first) it = it
 
-  pub numbered_from : (places before : List Place) (given later : List ℕ) → order ≡ given ++ (first_seen before places ++ later) → KnownOf before given
-      → ((p : Place) → Contains places p → Old p.number → ⊥) → NumberedFrom places before given
+  pub numbered_from : (places before : List FilePath) (given later : List ℕ) → order ≡ given ++ (first_seen before places ++ later) → KnownOf before given
+      → ((p : FilePath) → Contains places p → Old p.number → ⊥) → NumberedFrom places before given
   numbered_from [] before given later is known new = omega arith
   numbered_from (p ∷ places) before given later is known new =
       counted p places before given (first_name p.number before)
       (step p places before given later known (new p (in_head p places))
-      (λ more behind are known_more. numbered_from places (before ++ p ∷ []) more behind are known_more (λ q c. new q (in_tail p q places c)))
+      (λ more after are known_more. numbered_from places (before ++ p ∷ []) more after are known_more (λ q c. new q (in_tail p q places c)))
       (first_name p.number before) refl is)

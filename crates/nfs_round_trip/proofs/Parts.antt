@@ -86,16 +86,16 @@ copy_cookie number es (Link path) y = cc
 
 -- ---- entries of different names
 
-same_behind : {X : Type 0} (xs : List X) (x : X) (rest : List X) (d : X) → get_or (xs ++ x ∷ rest) (length xs) d ≡ x
-same_behind [] x rest d = refl
-same_behind (y ∷ xs) x rest d = same_behind xs x rest d
+same_after : {X : Type 0} (xs : List X) (x : X) (rest : List X) (d : X) → get_or (xs ++ x ∷ rest) (length xs) d ≡ x
+same_after [] x rest d = refl
+same_after (y ∷ xs) x rest d = same_after xs x rest d
 
 pub none_before : (xs : List Entry) (e : Entry) (rest : List Entry) → AllPairs (λ e g. (e.name ≢ g.name) × (e.cookie < g.cookie)) (xs ++ e ∷ rest)
     → HasNone e.name xs
 none_before [] e rest apart = tt
 none_before (x ∷ xs) e rest apart = (
   λ s. (apart 0 (suc (length xs)) e (omega arith) (let l = length-append xs (e ∷ rest) in omega (arith, l))).0 (s
-      ∙ ap (λ (g : Entry). g.name) (sym (same_behind xs e rest e))),
+      ∙ ap (λ (g : Entry). g.name) (sym (same_after xs e rest e))),
   none_before xs e rest (λ j k d less inside. apart (suc j) (suc k) d (omega (arith, less)) (omega (arith, inside))),
 )
 

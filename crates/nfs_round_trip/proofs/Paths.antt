@@ -7,7 +7,7 @@ use Rattle.std.proofs.lemmas.Bool.Decides.{nat_tests}
 use Rattle.std.proofs.lemmas.List.Concat.{flat_map-append}
 use Rattle.std.proofs.lemmas.List.Elements.{All-head, All-tail}
 use Rattle.std.proofs.lemmas.Slice.Eq.{bytes_eq-Decides}
-use Rattle.nfs_text.specs.Pieces.{pieces}
+use Rattle.nfs_text.specs.Chunks.{chunks}
 use Rattle.nfs_inodes.specs.Law.{IsName}
 use Rattle.nfs_inodes.proofs.Lists.{by_test}
 use Rattle.nfs_load.specs.Listings.{is_plain}
@@ -66,21 +66,21 @@ names_push (first ∷ names) name are is = (are.0, names_push names name are.1 i
 no_slash : (x : ℕ) → (x ≢ 0) × (x ≢ 47) → (x == 47) ≡ false
 no_slash x o = by_test (x == 47) (λ e. absurd (o.1 (grind (arith, nat_tests)))) (λ n. n)
 
-cut_name : (name rest : List ℕ) → All (λ byte. (byte ≢ 0) × (byte ≢ 47)) name → pieces 47 (name ++ 47 ∷ rest) ≡ name ∷ pieces 47 rest
+cut_name : (name rest : List ℕ) → All (λ byte. (byte ≢ 0) × (byte ≢ 47)) name → chunks 47 (name ++ 47 ∷ rest) ≡ name ∷ chunks 47 rest
 cut_name [] rest all = refl
 cut_name (x ∷ name) rest all =
-    ap (λ b. cond b ([] ∷ pieces 47 (name ++ 47 ∷ rest)) (onto_first x (pieces 47 (name ++ 47 ∷ rest))))
+    ap (λ b. cond b ([] ∷ chunks 47 (name ++ 47 ∷ rest)) (onto_first x (chunks 47 (name ++ 47 ∷ rest))))
     (no_slash x (All-head (λ byte. (byte ≢ 0) × (byte ≢ 47)) x name all))
     ∙ ap (onto_first x) (cut_name name rest (All-tail (λ byte. (byte ≢ 0) × (byte ≢ 47)) x name all))
 
-last_name : (name : List ℕ) → All (λ byte. (byte ≢ 0) × (byte ≢ 47)) name → pieces 47 name ≡ name ∷ []
+last_name : (name : List ℕ) → All (λ byte. (byte ≢ 0) × (byte ≢ 47)) name → chunks 47 name ≡ name ∷ []
 last_name [] all = refl
 last_name (x ∷ name) all =
-    ap (λ b. cond b ([] ∷ pieces 47 name) (onto_first x (pieces 47 name))) (no_slash x (All-head (λ byte. (byte ≢ 0) × (byte ≢ 47)) x name all))
+    ap (λ b. cond b ([] ∷ chunks 47 name) (onto_first x (chunks 47 name))) (no_slash x (All-head (λ byte. (byte ≢ 0) × (byte ≢ 47)) x name all))
     ∙ ap (onto_first x) (last_name name (All-tail (λ byte. (byte ≢ 0) × (byte ≢ 47)) x name all))
 
-names_cut : (name : List ℕ) (names : List (List ℕ)) → AreNames (name ∷ names) → pieces 47 (name ++ slashed names) ≡ name ∷ names
-names_cut name [] are = ap (pieces 47) (append-nil name) ∙ last_name name are.0.bytes
+names_cut : (name : List ℕ) (names : List (List ℕ)) → AreNames (name ∷ names) → chunks 47 (name ++ slashed names) ≡ name ∷ names
+names_cut name [] are = ap (chunks 47) (append-nil name) ∙ last_name name are.0.bytes
 names_cut name (next ∷ names) are = cut_name name (next ++ slashed names) are.0.bytes ∙ ap (λ l. name ∷ l) (names_cut next names are.1)
 
 plain_parts : (xs ys : List ℕ) → list_all is_plain (xs ++ ys) ≡ true → (list_all is_plain xs ≡ true) × (list_all is_plain ys ≡ true)
@@ -101,7 +101,7 @@ pub path_read : (name : List ℕ) (names : List (List ℕ)) → AreNames (name �
 path_read name names are short plain =
     let cut = names_cut name names are in
     ap (λ b. named_path (if b then Some (name ++ slashed names) else None))
-    (and_true (nat_le (length (name ++ slashed names)) 1023 && nat_eq 47 47) (list_all is_name (pieces 47 (name ++ slashed names)))
+    (and_true (nat_le (length (name ++ slashed names)) 1023 && nat_eq 47 47) (list_all is_name (chunks 47 (name ++ slashed names)))
     (and_true (nat_le (length (name ++ slashed names)) 1023) true (upto (length (name ++ slashed names)) 1023 (omega (arith, short))) refl)
     (ap (list_all is_name) cut ∙ all_names (name ∷ names) are plain))
     ∙ ap Ok cut

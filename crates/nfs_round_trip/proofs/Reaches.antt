@@ -7,7 +7,7 @@ use Rattle.nfs_inodes.specs.Reading.{attributes_of, type_of, is_directory_type, 
 use Rattle.nfs_inodes.specs.Tree.{Tree, File, Kind, Regular, Directory, Link, Entry, entries_in, is_directory, nlink, on_some}
 use Rattle.nfs_inodes.proofs.Lists.{not_both}
 use Rattle.nfs_load.specs.PathEnds as path_ends
-use Rattle.nfs_load.specs.PathEnds.{PathEnd, end_at, end_behind, ends_in, file_at}
+use Rattle.nfs_load.specs.PathEnds.{PathEnd, end_at, end_after, ends_in, file_at}
 use Rattle.nfs_round_trip.specs.Copies.{copied_entries}
 use Rattle.nfs_round_trip.proofs.Paths.{itself_bytes, other_bytes}
 
@@ -111,9 +111,9 @@ end_inner u names name None = refl
 end_inner u names name (Some i) = refl
 
 end_reached : (u : Tree) (n : ℕ) (first : List ℕ) (names : List (List ℕ)) (name : List ℕ)
-    → end_behind u n first (names ++ name ∷ []) ≡ on_some (number_under u n first) None (λ m. on_some (reached u m names) None (λ d. ends_in u d name))
+    → end_after u n first (names ++ name ∷ []) ≡ on_some (number_under u n first) None (λ m. on_some (reached u m names) None (λ d. ends_in u d name))
 end_reached u n first [] name = refl
-end_reached u n first (next ∷ names) name = on_both (number_under u n first) (λ m. end_behind u m next (names ++ name ∷ []))
+end_reached u n first (next ∷ names) name = on_both (number_under u n first) (λ m. end_after u m next (names ++ name ∷ []))
     (λ m. on_some (reached u m (next ∷ names)) None (λ d. ends_in u d name))
     (λ m. end_reached u m next names name ∙ end_inner u names name (number_under u m next))
 

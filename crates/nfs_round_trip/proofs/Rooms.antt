@@ -121,10 +121,10 @@ module _ (t : Tree) (law : Law t) (number : ℕ → ℕ) (done : List Step) (ns 
         ap (subdirectories u.files) made.entries ∙ subdirectories_copied 3 (shown done s.0.number) (shown_have ns done s.0.number part.known) in
         let all : subdirectories t.files (entries_in f.kind) ≡ subdirectories t.files (shown done s.0.number) + subdirectories t.files (s.1 ∷ rest) =
         ap (subdirectories t.files) entries_are ∙ sum_by-append (λ (e : Entry). one_when (names_directory t.files e)) (shown done s.0.number) (s.1 ∷ rest) in
-        let behind = sum_by-cons (λ (e : Entry). one_when (names_directory t.files e)) s.1 rest in
+        let after = sum_by-cons (λ (e : Entry). one_when (names_directory t.files e)) s.1 rest in
         let one : one_when (names_directory t.files s.1) ≡ 1 = ap (λ o. one_when (on_some o false (λ (h : File). is_directory h.kind))) lives.0
         ∙ ap one_when lives.1 in
-        omega (arith, most, of_t, of_u, same, all, behind, one)
+        omega (arith, most, of_t, of_u, same, all, after, one)
 
     -- ---- a new file
 
@@ -158,9 +158,9 @@ module _ (t : Tree) (law : Law t) (number : ℕ → ℕ) (done : List Step) (ns 
         large = let few = (law.sound s.1.number g lives).bytes in omega (arith, few, long);
       }
 
-      pub may_make_dir : is_directory g.kind ≡ true → MayMakeDirectory u (number s.0.number) s.1.name
+      pub may_mkdir : is_directory g.kind ≡ true → MayMakeDirectory u (number s.0.number) s.1.name
       unfolding may_enter may_make
-      may_make_dir y = record { make = may_make 0 (no_bytes g.kind y); links = links_of_directory g (lives, y) }
+      may_mkdir y = record { make = may_make 0 (no_bytes g.kind y); links = links_of_directory g (lives, y) }
 
       pub may_make_link : (path : List ℕ) → g.kind ≡ Link path → MayMakeLink u (number s.0.number) s.1.name path
       may_make_link path is = record {
@@ -168,7 +168,7 @@ module _ (t : Tree) (law : Law t) (number : ℕ → ℕ) (done : List Step) (ns 
         long = subst (λ k. length (path_in k) ≤ 1024) is (law.sound s.1.number g lives).path;
       }
 
-    -- ---- a further name
+    -- ---- a hard link
 
     module _ (g : File) (lives : Lives t s.1.number g) (no_dir : is_directory g.kind ≡ false) (there : Has s.1.number ns) where
       share_least : (m : ℕ) → Has m ns → names_in s.1.number (shown done m) ≤ weighed (λ (h : File). names_in s.1.number (entries_in h.kind)) t.files m
@@ -182,9 +182,9 @@ module _ (t : Tree) (law : Law t) (number : ℕ → ℕ) (done : List Step) (ns 
       share_here =
           let all : names_in s.1.number (entries_at t s.0.number) ≡ names_in s.1.number (shown done s.0.number) + names_in s.1.number (s.1 ∷ rest) =
           ap (names_in s.1.number) here ∙ sum_by-append (λ (e : Entry). one_when (nat_eq e.number s.1.number)) (shown done s.0.number) (s.1 ∷ rest) in
-          let behind = sum_by-cons (λ (e : Entry). one_when (nat_eq e.number s.1.number)) s.1 rest in
+          let after = sum_by-cons (λ (e : Entry). one_when (nat_eq e.number s.1.number)) s.1 rest in
           let one : one_when (nat_eq s.1.number s.1.number) ≡ 1 = ap one_when (itself s.1.number) in
-          let same = in_option s.1.number (at s.0.number t.files) in omega (arith, all, behind, one, same)
+          let same = in_option s.1.number (at s.0.number t.files) in omega (arith, all, after, one, same)
 
       pub names_few : names_of (number s.1.number) u.files < 1000
       names_few =

@@ -6,7 +6,7 @@ use Rattle.std.specs.Prelude.{All, Contains, Err, Result, bytes_eq, if◌then◌
 use Rattle.std.proofs.lemmas.List.{length-append}
 use Rattle.std.proofs.lemmas.List.Elements.{All-head, All-tail}
 use Rattle.nfs_exports.specs.Tables.{added, pattern_count}
-use Rattle.nfs_exports.specs.declared.table.Export.{Export}
+use Rattle.nfs_exports.specs.declared.export_table.Export.{Export}
 use Rattle.nfs_inodes.specs.Changes.{Makes, after_add_volume, new_file}
 use Rattle.nfs_inodes.specs.Conditions.{MayAddVolume}
 use Rattle.nfs_inodes.specs.Law.{Law, LivesAsDirectory}

@@ -7,7 +7,7 @@ use Rattle.std.proofs.lemmas.List.{length-append}
 use Rattle.std.proofs.lemmas.List.Concat.{flat_map-append}
 use Rattle.nfs_text.specs.Lines.{lines}
 use Rattle.nfs_exports.specs.Tables.{exports_of}
-use Rattle.nfs_exports.specs.declared.table.Export.{Export}
+use Rattle.nfs_exports.specs.declared.export_table.Export.{Export}
 use Rattle.nfs_inodes.specs.Law.{Lives}
 use Rattle.nfs_inodes.specs.Reading.{attributes_at}
 use Rattle.nfs_inodes.specs.Tree.{Tree, File, Kind, Regular, Directory, Link, Entry, Volume, at, entries_in, is_directory, on_some}
@@ -20,7 +20,7 @@ use Rattle.nfs_load.specs.declared.cause.Cause.TheVariants.{NoVolume}
 use Rattle.nfs_load.specs.declared.line.Keyword.TheVariants as keyword
 use Rattle.nfs_load.specs.declared.loaded.Loaded.{Loaded}
 use Rattle.nfs_describe.specs.Lines.{export_line, server_line}
-use Rattle.nfs_describe.specs.Places.{IsWalk, Place}
+use Rattle.nfs_describe.specs.Places.{IsWalk, FilePath}
 use Rattle.nfs_describe.specs.Texts.{IsVolumeText, SaysTo, files_text, first_name, root_text}
 use Rattle.nfs_read_back.proofs.Statements as read_back
 use Rattle.nfs_round_trip.specs.Copies.{copied, copied_volume, counted_from, first_seen}
@@ -52,15 +52,15 @@ has_parts m (x ∷ xs) ys has = elim has [
   | inr r ↦ elim (has_parts m xs ys r) [ inl one ↦ inl (inr one) | inr two ↦ inr two ]
 ]
 
-seen_have : (m : ℕ) (places before : List Place) → Has m (first_seen before places) → (p : Place) × Contains places p × (p.number ≡ m)
+seen_have : (m : ℕ) (places before : List FilePath) → Has m (first_seen before places) → (p : FilePath) × Contains places p × (p.number ≡ m)
 seen_have m [] before has = absurd has
 seen_have m (p ∷ places) before has = on_first (first_name p.number before) has (seen_have m places (before ++ p ∷ []))
   where
-    tail : (q : Place) × Contains places q × (q.number ≡ m) → (q : Place) × Contains (p ∷ places) q × (q.number ≡ m)
+    tail : (q : FilePath) × Contains places q × (q.number ≡ m) → (q : FilePath) × Contains (p ∷ places) q × (q.number ≡ m)
     tail it = (it.0, in_tail p it.0 places it.1, it.2)
 
-    on_first : (o : Option Place) → Has m (on_some o (p.number ∷ first_seen (before ++ p ∷ []) places) (λ first. first_seen (before ++ p ∷ []) places))
-        → (Has m (first_seen (before ++ p ∷ []) places) → (q : Place) × Contains places q × (q.number ≡ m)) → (q : Place) × Contains (p ∷ places) q
+    on_first : (o : Option FilePath) → Has m (on_some o (p.number ∷ first_seen (before ++ p ∷ []) places) (λ first. first_seen (before ++ p ∷ []) places))
+        → (Has m (first_seen (before ++ p ∷ []) places) → (q : FilePath) × Contains places q × (q.number ≡ m)) → (q : FilePath) × Contains (p ∷ places) q
         × (q.number ≡ m)
     on_first None has rest = elim has [
       | inl e ↦ (p, in_head p places, e)
@@ -82,7 +82,7 @@ module _ (t : Tree) (table : List (List Export)) (d : IsDescribable t table) whe
   steps_to zero text says = []
   steps_to (suc n) text (before, part, says, is, e) = steps_to n before says ++ steps t is.walk
 
-  walks_to : (n : ℕ) (text : List ℕ) → SaysTo t table n text → List (List Place)
+  walks_to : (n : ℕ) (text : List ℕ) → SaysTo t table n text → List (List FilePath)
   walks_to zero text says = []
   walks_to (suc n) text (before, part, says, is, e) = walks_to n before says ++ is.walk ∷ []
 
@@ -92,7 +92,7 @@ module _ (t : Tree) (table : List (List Export)) (d : IsDescribable t table) whe
   walks_count (suc n) text (before, part, says, is, e) =
       let rest = walks_count n before says in let l = length-append (walks_to n before says) (is.walk ∷ []) in omega (arith, rest, l)
 
-  walks_walked : (n : ℕ) (text : List ℕ) (says : SaysTo t table n text) (index : ℕ) (v : Volume) (walk : List Place) → slice_get t.volumes index ≡ Some v
+  walks_walked : (n : ℕ) (text : List ℕ) (says : SaysTo t table n text) (index : ℕ) (v : Volume) (walk : List FilePath) → slice_get t.volumes index ≡ Some v
       → slice_get (walks_to n text says) index ≡ Some walk → IsWalk t v.root walk
   unfolding walks_to
   walks_walked zero text says index v walk at_v at_walk = cc
@@ -249,7 +249,7 @@ ends_in_order t table number all k old loaded some is through =
 pub load_again : law.DescriptionsLoadAgain
 load_again t table text d says short result describes_it =
     let n = length t.volumes in
-    let walks : List (List Place) = walks_to t table d n text says in
+    let walks : List (List FilePath) = walks_to t table d n text says in
     let order : List ℕ = flat_map (first_seen []) walks in
     let order_are : order ≡ order_to t table d n text says ++ [] = order_is t table d n text says ∙ sym (append-nil (order_to t table d n text says)) in
     let k : ℕ = suc (length (order_to t table d n text says)) in

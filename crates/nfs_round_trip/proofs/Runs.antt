@@ -24,9 +24,9 @@ same_ok r a b one two = cc
 pub same_err : {A E : Type 0} (r : Result A E) (a b : E) → r ≡ Err a → r ≡ Err b → a ≡ b
 same_err r a b one two = cc
 
--- a line is done, and this holds behind it, or memory is wanted
+-- a line is done, and this holds after it, or memory is wanted
 abbrev pub Done : Result Unit Refusal → Type 0 → Type 0
-Done result Behind = (result ≡ Err Memory) ⊎ ((result ≡ Ok tt) × Behind)
+Done result After = (result ≡ Err Memory) ⊎ ((result ≡ Ok tt) × After)
 
 done_ok : (A' : Type 0) (ok : Result Unit Refusal) → ok ≡ Ok tt → Done ok A' → A'
 done_ok A' ok is done = elim done [
@@ -37,30 +37,30 @@ done_ok A' ok is done = elim done [
 -- each line is done in turn, and then this holds
 abbrev pub Runs : (Option Loaded → Type 0) → Option Loaded → List (List ℕ) → Type 0
 Runs Last old [] = Last old
-Runs Last old (line ∷ behind) = (result : Result Unit Refusal) (new : Option Loaded) → LineDone old line result new → Done result (Runs Last new behind)
+Runs Last old (line ∷ after) = (result : Result Unit Refusal) (new : Option Loaded) → LineDone old line result new → Done result (Runs Last new after)
 
 no_memory : (cause : Cause) → Fault cause ≡ Memory → ⊥
 no_memory cause e = cc
 
 module _ (Last : Option Loaded → Type 0) where
-  -- a text is read, and then this holds, whatever stands behind it
+  -- a text is read, and then this holds, whatever stands after it
   abbrev pub Goes : Option Loaded → List ℕ → (Option Loaded → Type 0) → Type 0
-  Goes old text Then = (behind : List ℕ) → ((new : Option Loaded) → Then new → Runs Last new (lines behind)) → Runs Last old (lines (text ++ behind))
+  Goes old text Then = (after : List ℕ) → ((new : Option Loaded) → Then new → Runs Last new (lines after)) → Runs Last old (lines (text ++ after))
 
   pub goes_none : (old : Option Loaded) (Then : Option Loaded → Type 0) → Then old → Goes old [] Then
-  goes_none old Then holds behind next = next old holds
+  goes_none old Then holds after next = next old holds
 
   pub goes_both : (old : Option Loaded) (one two : List ℕ) (Between Then : Option Loaded → Type 0) → Goes old one Between
       → ((new : Option Loaded) → Between new → Goes new two Then) → Goes old (one ++ two) Then
-  goes_both old one two Between Then first second behind next =
-      subst (λ text. Runs Last old (lines text)) (sym (append_assoc one two behind)) (first (two ++ behind) (λ new holds. second new holds behind next))
+  goes_both old one two Between Then first second after next =
+      subst (λ text. Runs Last old (lines text)) (sym (append_assoc one two after)) (first (two ++ after) (λ new holds. second new holds after next))
 
   goes_line : (old : Option Loaded) (line : List ℕ) (keyword : Keyword) (fields : List (List ℕ)) (Then : Option Loaded → Type 0) → IsReadAs line keyword fields
       → ((result : Result Unit Refusal) (new : Option Loaded) → Asked old (Ok (Some (record { keyword = keyword; fields = fields }))) result new
       → Done result (Then new))
       → Goes old line Then
-  goes_line old line keyword fields Then read does behind next =
-      subst (Runs Last old) (sym (read.alone behind)) (λ result new done.
+  goes_line old line keyword fields Then read does after next =
+      subst (Runs Last old) (sym (read.alone after)) (λ result new done.
       elim (does result new (subst (λ asks. Asked old asks result new) read.asks done)) [
         | inl memory ↦ inl memory
         | inr it ↦ inr (it.0, next new it.1)
@@ -88,16 +88,16 @@ module _ (Last : Option Loaded → Type 0) where
   through_last old new (line ∷ ls) runs (between, is_done, rest) =
       through_last between new ls (done_ok (Runs Last between ls) (Ok tt) refl (runs (Ok tt) between is_done)) rest
 
-  stops_memory : (start old new : Option Loaded) (before : List (List ℕ)) (line : List ℕ) (behind : List (List ℕ)) (refusal : Refusal)
-      → Runs Last start (before ++ line ∷ behind) → Through start before old → LineDone old line (Err refusal) new → refusal ≡ Memory
-  stops_memory start old new [] line behind refusal runs through done =
+  stops_memory : (start old new : Option Loaded) (before : List (List ℕ)) (line : List ℕ) (after : List (List ℕ)) (refusal : Refusal)
+      → Runs Last start (before ++ line ∷ after) → Through start before old → LineDone old line (Err refusal) new → refusal ≡ Memory
+  stops_memory start old new [] line after refusal runs through done =
       elim (runs (Err refusal) new (subst (λ o. LineDone o line (Err refusal) new) (sym through) done)) [
         | inl memory ↦ same_err (Err refusal) refusal Memory refl memory
         | inr it ↦ absurd (not_both (Err refusal) tt refusal it.0 refl)
       ]
-  stops_memory start old new (first ∷ before) line behind refusal runs (between, is_done, rest) done =
-      stops_memory between old new before line behind refusal
-      (done_ok (Runs Last between (before ++ line ∷ behind)) (Ok tt) refl (runs (Ok tt) between is_done)) rest done
+  stops_memory start old new (first ∷ before) line after refusal runs (between, is_done, rest) done =
+      stops_memory between old new before line after refusal
+      (done_ok (Runs Last between (before ++ line ∷ after)) (Ok tt) refl (runs (Ok tt) between is_done)) rest done
 
   -- a text that is read says what holds then, or memory is wanted
   pub describes : (text : List ℕ) (result : Result Loaded LoadError) → Runs Last None (lines text)
@@ -106,7 +106,7 @@ module _ (Last : Option Loaded → Type 0) where
   describes text (Ok loaded) runs ends is = inr (loaded, refl, through_last None (Some loaded) (lines text) runs is.0)
   describes text (Err error.Memory) runs ends is = inl refl
   describes text (Err (error.Fault number cause)) runs ends is = elim is [
-    | inl stops ↦ absurd (no_memory cause (stops_memory None stops.old stops.new stops.before stops.line stops.behind (Fault cause)
+    | inl stops ↦ absurd (no_memory cause (stops_memory None stops.old stops.new stops.before stops.line stops.after (Fault cause)
         (subst (Runs Last None) stops.all_are runs) stops.in_order stops.refused))
     | inr missing ↦ absurd (let f = ends missing.old (through_last None missing.old (lines text) runs missing.in_order) in
         not_both (finished missing.old) f.0 cause f.1 missing.missing)

@@ -4,7 +4,7 @@ use Rattle.std.proofs.Common.{refl, sym, ap, subst, ◌∙◌, arith}
 use Rattle.std.specs.Prelude.{All, if◌then◌else◌}
 use Rattle.hex.specs.Hex.{IsBytes}
 use Rattle.nfs_attrs.specs.declared.moment.Moment.{Moment}
-use Rattle.nfs_exports.specs.declared.table.Export.{Export}
+use Rattle.nfs_exports.specs.declared.export_table.Export.{Export}
 use Rattle.nfs_inodes.specs.declared.given_attributes.GivenAttributes.{GivenAttributes}
 use Rattle.nfs_inodes.specs.Changes.{after_link, after_rename, after_unlink, after_write_at, carried, entered, file_with_bytes, kind_with_bytes}
 use Rattle.nfs_inodes.specs.Changes.{kind_with_parent, kind_without_entry, left, moved, moved_to, or_else, put_bytes, released, resized_to, sized, touched}
@@ -13,7 +13,7 @@ use Rattle.nfs_inodes.specs.Law.{AreRising, Law}
 use Rattle.nfs_inodes.specs.Reading.{entry_at}
 use Rattle.nfs_inodes.specs.Tree.{Tree, File, Kind, Regular, Directory, Link, Entry, Volume, at, bytes_in, names_of, on_some}
 use Rattle.nfs_inodes.proofs.Maps.{at_next, push_back, rising_push, rising_with, rising_without, with_back, without_back}
-use Rattle.nfs_inodes.proofs.law.NewFiles.{law_after_make_dir, law_after_make_file, law_after_make_link}
+use Rattle.nfs_inodes.proofs.law.NewFiles.{law_after_mkdir, law_after_make_file, law_after_make_link}
 use Rattle.nfs_inodes.proofs.law.Operations.{law_after_link, law_after_write_at}
 use Rattle.nfs_inodes.proofs.law.Renames.{law_after_rename}
 use Rattle.nfs_inodes.proofs.law.Settings.{law_after_resize, law_after_set}
@@ -253,7 +253,7 @@ changes_stay = record {
   files = λ t d tag name bytes given verifier now may fits ids all table it. stays t _ table it
       (law_after_make_file t d tag name bytes given verifier now may fits it.law)
       (named t.volumes t d name _ now (record { uid = ids.0; gid = ids.1; bytes = all; target = λ path is. cc }) (holding_of t table it));
-  directories = λ t d tag name given now may fits ids table it. stays t _ table it (law_after_make_dir t d tag name given now may fits it.law)
+  directories = λ t d tag name given now may fits ids table it. stays t _ table it (law_after_mkdir t d tag name given now may fits it.law)
       (named t.volumes t d name _ now (record { uid = ids.0; gid = ids.1; bytes = no_bytes; target = λ path is. cc }) (holding_of t table it));
   links = λ t d tag name path given now may fits ids holds table it. stays t _ table it (law_after_make_link t d tag name path given now may fits it.law)
       (named t.volumes t d name _ now (record { uid = ids.0; gid = ids.1; bytes = no_bytes; target = link_said path holds }) (holding_of t table it));

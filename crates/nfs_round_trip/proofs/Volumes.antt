@@ -5,7 +5,7 @@ use Rattle.std.specs.Prelude.{Contains, slice_get}
 use Rattle.std.proofs.lemmas.List.{length-append, map-append}
 use Rattle.std.proofs.lemmas.List.Elements.{Contains-append_cases, Contains-append_left}
 use Rattle.std.proofs.lemmas.List.Sums.{sum_by-append, sum_by-cons}
-use Rattle.nfs_exports.specs.declared.table.Export.{Export}
+use Rattle.nfs_exports.specs.declared.export_table.Export.{Export}
 use Rattle.nfs_inodes.specs.Law.{Law, Lives, LivesAsDirectory}
 use Rattle.nfs_inodes.specs.Reading.{attributes_of, entries_at}
 use Rattle.nfs_inodes.specs.Tree.{Tree, File, Kind, Regular, Directory, Link, Entry, Volume, at, entries_in, is_directory, nlink, on_some, one_when}
@@ -13,7 +13,7 @@ use Rattle.nfs_inodes.proofs.Lists.{by_test, find_contains, in_head, not_in_empt
 use Rattle.nfs_inodes.proofs.Maps.{itself, same_number}
 use Rattle.nfs_load.specs.declared.loaded.Loaded.{Loaded}
 use Rattle.nfs_describe.specs.Lines.{hard_line}
-use Rattle.nfs_describe.specs.Places.{IsWalk, Place, are_sayable, is_sayable}
+use Rattle.nfs_describe.specs.Places.{IsWalk, FilePath, are_sayable, is_sayable}
 use Rattle.nfs_describe.specs.Texts.{files_text, first_name, own_line, own_text, place_text}
 use Rattle.nfs_round_trip.specs.Copies.{CanBeSaid, copied_volume}
 use Rattle.nfs_round_trip.proofs.Directories.{entries_of, one_of_sum, shown, shown_append, shown_once, stands_here}
@@ -26,20 +26,20 @@ use Rattle.nfs_round_trip.proofs.Walks.{Step, contains_middle, parent_stands, pa
 
 -- ---- numbers in the order of the first names
 
-abbrev pub OnFirst : Option Place → Type 0 → Type 0 → Type 0
+abbrev pub OnFirst : Option FilePath → Type 0 → Type 0 → Type 0
 OnFirst None new old = new
 OnFirst (Some first) new old = old
 
--- the files of some places behind others take the numbers from k on, each where it comes first
-abbrev pub Numbered : (ℕ → ℕ) → ℕ → List Place → List Place → ℕ → Type 0
+-- the files of some places after others take the numbers from k on, each where it comes first
+abbrev pub Numbered : (ℕ → ℕ) → ℕ → List FilePath → List FilePath → ℕ → Type 0
 Numbered number last before [] k = k ≡ last
-Numbered number last before (p ∷ behind) k = OnFirst (first_name p.number before)
-    ((number p.number ≡ k) × Numbered number last (before ++ p ∷ []) behind (suc k))
-    (Numbered number last (before ++ p ∷ []) behind k)
+Numbered number last before (p ∷ after) k = OnFirst (first_name p.number before)
+    ((number p.number ≡ k) × Numbered number last (before ++ p ∷ []) after (suc k))
+    (Numbered number last (before ++ p ∷ []) after k)
 
 -- ---- a volume that is to be made
 
-pub record IsToMake (t : Tree) (number : ℕ → ℕ) (earlier : List Step) (vs : List Volume) (index : ℕ) (w : Volume) (walk : List Place) : Type 0 where
+pub record IsToMake (t : Tree) (number : ℕ → ℕ) (earlier : List Step) (vs : List Volume) (index : ℕ) (w : Volume) (walk : List FilePath) : Type 0 where
   pub at_w : slice_get t.volumes index ≡ Some w
   pub walked : IsWalk t w.root walk
   pub sayable : are_sayable walk ≡ true
@@ -49,7 +49,7 @@ pub record IsToMake (t : Tree) (number : ℕ → ℕ) (earlier : List Step) (vs 
   pub room : length (earlier ++ steps t walk) + length vs ≤ 1099511627776
 
 -- a place whose file is made
-pub record IsStood (t : Tree) (all : List Step) (ns : List ℕ) (index : ℕ) (w : Volume) (p : Place) : Type 0 where
+pub record IsStood (t : Tree) (all : List Step) (ns : List ℕ) (index : ℕ) (w : Volume) (p : FilePath) : Type 0 where
   pub has : Has p.number ns
   pub named : IsNamed all w.root p
   pub file : File
@@ -57,20 +57,20 @@ pub record IsStood (t : Tree) (all : List Step) (ns : List ℕ) (index : ℕ) (w
   pub volume : file.volume ≡ index
 
 -- what was made of it at some places, with the next number
-pub record IsGoing (t : Tree) (number : ℕ → ℕ) (vs : List Volume) (table : List (List Export)) (index : ℕ) (w : Volume) (all : List Step) (before : List Place)
+pub record IsGoing (t : Tree) (number : ℕ → ℕ) (vs : List Volume) (table : List (List Export)) (index : ℕ) (w : Volume) (all : List Step) (before : List FilePath)
     (k : ℕ) (loaded : Loaded) : Type 0 where
   pub ns : List ℕ
   pub part : IsPart t number all ns vs loaded.tree
   pub count : suc (length ns) ≡ k
   pub table_is : loaded.table ≡ table
-  pub stood : (p : Place) → Contains before p → IsStood t all ns index w p
+  pub stood : (p : FilePath) → Contains before p → IsStood t all ns index w p
   pub below : (m : ℕ) → Has m ns → (f : File) × Lives t m f × (f.volume < suc index)
   pub have : (m : ℕ) (f : File) → Lives t m f → f.volume < index → Has m ns
 
 module _ (Last : Option Loaded → Type 0) (t : Tree) (law : Law t) (words : (n : ℕ) (f : File) → Lives t n f → CanBeSaid f) (number : ℕ → ℕ)
     (earlier : List Step) (vs : List Volume)
-    (table : List (List Export)) (index : ℕ) (w : Volume) (walk : List Place) (to_make : IsToMake t number earlier vs index w walk) (last : ℕ) where
-  abbrev Going : List Step → List Place → ℕ → Loaded → Type 0
+    (table : List (List Export)) (index : ℕ) (w : Volume) (walk : List FilePath) (to_make : IsToMake t number earlier vs index w walk) (last : ℕ) where
+  abbrev Going : List Step → List FilePath → ℕ → Loaded → Type 0
   Going all before k loaded = IsGoing t number vs table index w all before k loaded
 
   has_entries : (k : Kind) (e : Entry) → Contains (entries_in k) e → is_directory k ≡ true
@@ -86,7 +86,7 @@ module _ (Last : Option Loaded → Type 0) (t : Tree) (law : Law t) (words : (n 
   walk_cut done todo s are = walk_is ∙ ap (λ l. root_place t w.root ∷ map place_of l) are
       ∙ ap (λ l. root_place t w.root ∷ l) (map-append place_of done (s ∷ todo))
 
-  module _ (todo done : List Step) (s : Step) (before : List Place) (all : List Step) (k : ℕ) (old : Loaded)
+  module _ (todo done : List Step) (s : Step) (before : List FilePath) (all : List Step) (k : ℕ) (old : Loaded)
       (before_is : before ≡ root_place t w.root ∷ map place_of done) (are : steps t walk ≡ done ++ s ∷ todo) (all_is : all ≡ earlier ++ done)
       (going : Going all before k old) where
     parent : IsStood t all going.ns index w s.0
@@ -130,7 +130,7 @@ module _ (Last : Option Loaded → Type 0) (t : Tree) (law : Law t) (words : (n 
           let m : length (steps t walk) ≡ length done + length (s ∷ todo) = ap length are ∙ length-append done (s ∷ todo) in
           let n : length all ≡ length earlier + length done = ap length all_is ∙ length-append earlier done in omega (arith, room, l, m, n);
       named = parent.named;
-      said = one_passes (λ (p : Place). is_sayable p.path) walk (place_of s) to_make.sayable
+      said = one_passes (λ (p : FilePath). is_sayable p.path) walk (place_of s) to_make.sayable
           (subst (λ l. Contains l (place_of s)) (sym (walk_cut done todo s are))
           (contains_middle (place_of s) (root_place t w.root ∷ map place_of done) (map place_of todo)));
     }
@@ -147,7 +147,7 @@ module _ (Last : Option Loaded → Type 0) (t : Tree) (law : Law t) (words : (n 
       volume = target.2 ∙ parent.volume;
     }
 
-    old_place : (ns : List ℕ) → ((n : ℕ) → Has n going.ns → Has n ns) → (p : Place) → IsStood t all going.ns index w p → IsStood t (all ++ s ∷ []) ns index w p
+    old_place : (ns : List ℕ) → ((n : ℕ) → Has n going.ns → Has n ns) → (p : FilePath) → IsStood t all going.ns index w p → IsStood t (all ++ s ∷ []) ns index w p
     old_place ns more p stood = record {
       has = more p.number stood.has;
       named = named_more all s w.root p stood.named;
@@ -156,7 +156,7 @@ module _ (Last : Option Loaded → Type 0) (t : Tree) (law : Law t) (words : (n 
       volume = stood.volume;
     }
 
-    all_stood : (ns : List ℕ) → ((n : ℕ) → Has n going.ns → Has n ns) → Has s.1.number ns → (p : Place) → Contains (before ++ place_of s ∷ []) p
+    all_stood : (ns : List ℕ) → ((n : ℕ) → Has n going.ns → Has n ns) → Has s.1.number ns → (p : FilePath) → Contains (before ++ place_of s ∷ []) p
         → IsStood t (all ++ s ∷ []) ns index w p
     all_stood ns more has p c = elim (Contains-append_cases before (place_of s ∷ []) p c) [
       | inl was ↦ old_place ns more p (going.stood p was)
@@ -167,18 +167,18 @@ module _ (Last : Option Loaded → Type 0) (t : Tree) (law : Law t) (words : (n 
     ]
 
     -- a file that has a name already is no directory
-    no_directory : (first : Place) → first_name s.1.number before ≡ Some first → is_directory target.0.kind ≡ false
+    no_directory : (first : FilePath) → first_name s.1.number before ≡ Some first → is_directory target.0.kind ≡ false
     no_directory first found = by_test (is_directory target.0.kind)
         (λ y. absurd (
         let once = stands_here t law index w to_make.at_w walk to_make.walked s.1.number target.0 (target.1, y) (target.2 ∙ parent.volume) in
         let cut : stands s.1.number walk ≡ stands s.1.number before + stands s.1.number (place_of s ∷ map place_of todo) =
         ap (stands s.1.number) (walk_cut done todo s are ∙ ap (λ l. l ++ place_of s ∷ map place_of todo) (sym before_is))
-        ∙ sum_by-append (λ (p : Place). one_when (nat_eq p.number s.1.number)) before (place_of s ∷ map place_of todo) in
-        let more = sum_by-cons (λ (p : Place). one_when (nat_eq p.number s.1.number)) (place_of s) (map place_of todo) in
+        ∙ sum_by-append (λ (p : FilePath). one_when (nat_eq p.number s.1.number)) before (place_of s ∷ map place_of todo) in
+        let more = sum_by-cons (λ (p : FilePath). one_when (nat_eq p.number s.1.number)) (place_of s) (map place_of todo) in
         let itself_one : one_when (nat_eq s.1.number s.1.number) ≡ 1 = ap one_when (itself s.1.number) in
-        let there = one_of_sum (λ (p : Place). one_when (nat_eq p.number s.1.number)) before first
-        (find_contains (λ (p : Place). nat_eq p.number s.1.number) before first found) in
-        let one : one_when (nat_eq first.number s.1.number) ≡ 1 = ap one_when (passes (λ (p : Place). nat_eq p.number s.1.number) before first found) in
+        let there = one_of_sum (λ (p : FilePath). one_when (nat_eq p.number s.1.number)) before first
+        (find_contains (λ (p : FilePath). nat_eq p.number s.1.number) before first found) in
+        let one : one_when (nat_eq first.number s.1.number) ≡ 1 = ap one_when (passes (λ (p : FilePath). nat_eq p.number s.1.number) before first found) in
         omega (arith, once, cut, more, itself_one, there, one)))
         (λ n. n)
 
@@ -186,7 +186,7 @@ module _ (Last : Option Loaded → Type 0) (t : Tree) (law : Law t) (words : (n 
     own_is = ap (λ o. on_some o [] (λ (f : File). own_line (place_of s).path (attributes_of s.1.number f (nlink t.files s.1.number f)) f.kind)) target.1
 
     -- the next place's line
-    step_goes : (o : Option Place) → first_name s.1.number before ≡ o
+    step_goes : (o : Option FilePath) → first_name s.1.number before ≡ o
         → OnFirst o ((number s.1.number ≡ k) × Numbered number last (before ++ place_of s ∷ []) (map place_of todo) (suc k))
         (Numbered number last (before ++ place_of s ∷ []) (map place_of todo) k)
         → (All : Option Loaded → Type 0)
@@ -210,11 +210,11 @@ module _ (Last : Option Loaded → Type 0) (t : Tree) (law : Law t) (words : (n 
         }))
         (nlink t.files s.1.number target.0))
     step_goes (Some first) found numbers All goes =
-        let there = find_contains (λ (p : Place). nat_eq p.number s.1.number) before first found in
+        let there = find_contains (λ (p : FilePath). nat_eq p.number s.1.number) before first found in
         let stood = going.stood first there in
-        let same : first.number ≡ s.1.number = same_number first.number s.1.number (passes (λ (p : Place). nat_eq p.number s.1.number) before first found) in
+        let same : first.number ≡ s.1.number = same_number first.number s.1.number (passes (λ (p : FilePath). nat_eq p.number s.1.number) before first found) in
         let has : Has s.1.number going.ns = subst (λ n. Has n going.ns) same stood.has in
-        let said : is_sayable first.path ≡ true = one_passes (λ (p : Place). is_sayable p.path) walk first to_make.sayable
+        let said : is_sayable first.path ≡ true = one_passes (λ (p : FilePath). is_sayable p.path) walk first to_make.sayable
         (subst (λ l. Contains l first) (sym (walk_cut done todo s are ∙ ap (λ l. l ++ place_of s ∷ map place_of todo) (sym before_is)))
         (Contains-append_left before (place_of s ∷ map place_of todo) first there)) in
         hard_goes Last t law number all going.ns vs old going.part w s parent.file target.0 next first stood.named same said has (no_directory first found) All
@@ -229,7 +229,7 @@ module _ (Last : Option Loaded → Type 0) (t : Tree) (law : Law t) (words : (n 
         }))
 
   -- all places, one after another
-  pub files_go : (todo done : List Step) (before : List Place) (all : List Step) (k : ℕ) (old : Loaded)
+  pub files_go : (todo done : List Step) (before : List FilePath) (all : List Step) (k : ℕ) (old : Loaded)
       → before ≡ root_place t w.root ∷ map place_of done → steps t walk ≡ done ++ todo → all ≡ earlier ++ done
       → Numbered number last before (map place_of todo) k
       → Going all before k old → (All : Option Loaded → Type 0) → ((loaded : Loaded) → Going (earlier ++ steps t walk) walk last loaded → All (Some loaded))

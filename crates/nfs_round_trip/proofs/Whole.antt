@@ -6,7 +6,7 @@ use Rattle.std.specs.Prelude.{All, AllPairs, Contains, slice_get}
 use Rattle.std.proofs.lemmas.List.{length-append, map-append}
 use Rattle.std.proofs.lemmas.List.Elements.{All-cons, All-nil}
 use Rattle.nfs_exports.specs.Tables.{exports_of, pattern_count}
-use Rattle.nfs_exports.specs.declared.table.Export.{Export}
+use Rattle.nfs_exports.specs.declared.export_table.Export.{Export}
 use Rattle.nfs_inodes.specs.Law.{Lives, LivesAsDirectory}
 use Rattle.nfs_inodes.specs.Reading.{attributes_at, attributes_of, entries_at}
 use Rattle.nfs_inodes.specs.Tree.{Tree, File, Kind, Regular, Directory, Link, Volume, at, names_of, nlink, on_some, one_for, one_when, parent_in}
@@ -15,7 +15,7 @@ use Rattle.nfs_inodes.proofs.Maps.{itself, apart_number, sum_some}
 use Rattle.nfs_load.specs.Descriptions.{last_root, root_or_cause}
 use Rattle.nfs_load.specs.declared.loaded.Loaded.{Loaded}
 use Rattle.nfs_describe.specs.Lines.{export_line, hard_line}
-use Rattle.nfs_describe.specs.Places.{IsWalk, Place, are_sayable}
+use Rattle.nfs_describe.specs.Places.{IsWalk, FilePath, are_sayable}
 use Rattle.nfs_describe.specs.Texts.{files_text, first_name, own_line, own_text, place_text, root_text, volume_text}
 use Rattle.nfs_round_trip.specs.Copies.{copied_volume}
 use Rattle.nfs_round_trip.specs.RoundTrip.{IsDescribable, IsVolumeSaid}
@@ -105,14 +105,14 @@ file_long path name t n f k = long (path ++ 47 ∷ name) (some path name) k
     long (x ∷ path) o (Link target) = omega arith
 
 module _ (t : Tree) where
-  place_long : (s : Step) (g : File) → Lives t s.1.number g → (o : Option Place)
+  place_long : (s : Step) (g : File) → Lives t s.1.number g → (o : Option FilePath)
       → 1 ≤ length (on_some o (own_text t (place_of s)) (λ first. hard_line (place_of s).path first.path))
   place_long s g lives (Some first) = omega arith
   place_long s g lives None = subst (λ o. 1 ≤ length
       (on_some o [] (λ (f : File). own_line (place_of s).path (attributes_of s.1.number f (nlink t.files s.1.number f)) f.kind))) (sym lives)
       (file_long s.0.path s.1.name t s.1.number g g.kind)
 
-  pub files_long : (before : List Place) (todo : List Step) → ((s : Step) → Contains todo s → (g : File) × Lives t s.1.number g)
+  pub files_long : (before : List FilePath) (todo : List Step) → ((s : Step) → Contains todo s → (g : File) × Lives t s.1.number g)
       → length todo ≤ length (files_text t before (map place_of todo))
   files_long before [] each = omega arith
   files_long before (s ∷ todo) each =
@@ -147,7 +147,7 @@ root_is_none t root None = refl
 root_is_none t root (Some f) = refl
 
 module _ (Last : Option Loaded → Type 0) (t : Tree) (table : List (List Export)) (d : IsDescribable t table) (number : ℕ → ℕ)
-    (n : ℕ) (all : List Step) (w : Volume) (walk : List Place) (k last : ℕ) (at_w : slice_get t.volumes n ≡ Some w) (walked : IsWalk t w.root walk)
+    (n : ℕ) (all : List Step) (w : Volume) (walk : List FilePath) (k last : ℕ) (at_w : slice_get t.volumes n ≡ Some w) (walked : IsWalk t w.root walk)
     (sayable : are_sayable walk ≡ true)
     (numbers : Numbered number last [] walk k) (room : length (all ++ steps t walk) ≤ 1073741824) where
   abbrev vs : List Volume
@@ -204,7 +204,7 @@ module _ (Last : Option Loaded → Type 0) (t : Tree) (table : List (List Export
     below = going.below;
     have = λ m f lives less. by_number f.volume n
         (λ here.
-        let place = some_of_sum (λ (p : Place). one_when (nat_eq p.number m)) walk (all_stand t d.law n w at_w walk walked m f lives here) in
+        let place = some_of_sum (λ (p : FilePath). one_when (nat_eq p.number m)) walk (all_stand t d.law n w at_w walk walked m f lives here) in
         let is : place.0.number ≡ m = by_number place.0.number m (λ s. s)
         (λ o. absurd (let none : one_when (nat_eq place.0.number m) ≡ 0 = ap one_when (apart_number place.0.number m o) in let some = place.2 in
         omega (arith, none, some))) in

@@ -4,12 +4,12 @@ use Rattle.hex.specs.Hex.{IsBytes}
 use Rattle.nfs_attrs.specs.declared.moment.Moment.{Moment}
 use Rattle.nfs_inodes.specs.declared.given_attributes.GivenAttributes.{GivenAttributes}
 use Rattle.nfs_inodes.specs.declared.new_file.NewFile.{NewFile}
-use Rattle.nfs_inodes.specs.Changes.{after_link, after_make_dir, after_make_file, after_make_link, after_rename, after_resize, after_set, after_unlink}
+use Rattle.nfs_inodes.specs.Changes.{after_link, after_mkdir, after_make_file, after_make_link, after_rename, after_resize, after_set, after_unlink}
 use Rattle.nfs_inodes.specs.Changes.{after_write_at}
 use Rattle.nfs_inodes.specs.Conditions.{MayLink, MayMake, MayMakeDirectory, MayMakeLink, MayRename, MayResize, MayUnlink, MayWrite}
 use Rattle.nfs_inodes.specs.Law.{Lives}
 use Rattle.nfs_inodes.specs.Tree.{Tree, File}
-use Rattle.nfs_exports.specs.declared.table.Export.{Export}
+use Rattle.nfs_exports.specs.declared.export_table.Export.{Export}
 use Rattle.nfs_describe.specs.Lines.{is_target}
 use Rattle.nfs_round_trip.specs.RoundTrip.{IsDescribable}
 
@@ -29,7 +29,7 @@ pub record ChangesStayDescribable : Type 0 where
   pub files : (t : Tree) (d tag : ℕ) (name bytes : List ℕ) (given : NewFile) (verifier : Option (List ℕ)) (now : Moment)
       → MayMake t d name (length bytes) → tag < 2 ^ 32 → IsNewSaid given → IsBytes bytes → Stays t (after_make_file t d name bytes given verifier tag now)
   pub directories : (t : Tree) (d tag : ℕ) (name : List ℕ) (given : NewFile) (now : Moment)
-      → MayMakeDirectory t d name → tag < 2 ^ 32 → IsNewSaid given → Stays t (after_make_dir t d name given tag now)
+      → MayMakeDirectory t d name → tag < 2 ^ 32 → IsNewSaid given → Stays t (after_mkdir t d name given tag now)
   pub links : (t : Tree) (d tag : ℕ) (name path : List ℕ) (given : NewFile) (now : Moment)
       → MayMakeLink t d name path → tag < 2 ^ 32 → IsNewSaid given → is_target path ≡ true → Stays t (after_make_link t d name path given tag now)
   pub names : (t : Tree) (n d : ℕ) (name : List ℕ) (now : Moment) → MayLink t n d name → Stays t (after_link t n d name now)

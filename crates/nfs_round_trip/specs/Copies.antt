@@ -3,18 +3,18 @@ use Rattle.std.specs.Prelude.{◌≡◌, ℕ, suc, ◌+◌, ◌<◌, ◌^◌, tr
 use Rattle.std.specs.List.{flat_map}
 use Rattle.hex.specs.Hex.{IsBytes}
 use Rattle.nfs_describe.specs.Lines.{is_target}
-use Rattle.nfs_describe.specs.Places.{Place}
+use Rattle.nfs_describe.specs.Places.{FilePath}
 use Rattle.nfs_describe.specs.Texts.{first_name}
 use Rattle.nfs_load.specs.Effects.{start}
 use Rattle.nfs_inodes.specs.Tree.{File, Kind, Entry, Volume, Regular, Directory, Link, bytes_in, on_some}
 
 -- ---- new numbers
 
--- the files of some places behind others, each where it comes first
-abbrev pub first_seen : List Place → List Place → List ℕ
+-- the files of some places after others, each where it comes first
+abbrev pub first_seen : List FilePath → List FilePath → List ℕ
 first_seen before [] = []
-first_seen before (p ∷ behind) = on_some (first_name p.number before) (p.number ∷ first_seen (before ++ p ∷ []) behind)
-    (λ first. first_seen (before ++ p ∷ []) behind)
+first_seen before (p ∷ after) = on_some (first_name p.number before) (p.number ∷ first_seen (before ++ p ∷ []) after)
+    (λ first. first_seen (before ++ p ∷ []) after)
 
 -- where a number stands among others, counted from k on
 abbrev pub counted_from : ℕ → List ℕ → ℕ → ℕ
@@ -22,7 +22,7 @@ counted_from k [] n = k
 counted_from k (m ∷ ms) n = if nat_eq m n then k else counted_from (suc k) ms n
 
 -- A file's new number: its place, from 1 on, among the files of all walks in the order in which they come first.
-abbrev pub new_number : List (List Place) → ℕ → ℕ
+abbrev pub new_number : List (List FilePath) → ℕ → ℕ
 new_number walks n = counted_from 1 (flat_map (first_seen []) walks) n
 
 -- ---- files

@@ -1,7 +1,7 @@
 -- A description that is written of a tree loads, and is that tree again.
 use Rattle.std.specs.Prelude.{◌≡◌, ◌⊎◌, ℕ, ◌+◌, ◌≤◌, ◌<◌, true, List, length, map, All, Contains, Some, Result, Ok, Err, slice_get, slice_index}
 use Rattle.nfs_exports.specs.Tables.{exports_of, pattern_count}
-use Rattle.nfs_exports.specs.declared.table.Export.{Export}
+use Rattle.nfs_exports.specs.declared.export_table.Export.{Export}
 use Rattle.nfs_inodes.specs.Changes.{with_key}
 use Rattle.nfs_inodes.specs.Law.{Law, Lives}
 use Rattle.nfs_inodes.specs.Tree.{Tree, File, Volume, nlink}
@@ -10,7 +10,7 @@ use Rattle.nfs_load.specs.Paths.{volume_path_in}
 use Rattle.nfs_load.specs.declared.load_error.LoadError.{LoadError}
 use Rattle.nfs_load.specs.declared.load_error.LoadError.TheVariants.{Memory}
 use Rattle.nfs_load.specs.declared.loaded.Loaded.{Loaded}
-use Rattle.nfs_describe.specs.Places.{IsWalk, Place}
+use Rattle.nfs_describe.specs.Places.{IsWalk, FilePath}
 use Rattle.nfs_describe.specs.Texts.{Says}
 use Rattle.nfs_read_back.specs.ReadBack.{IsExport, is_said}
 use Rattle.nfs_round_trip.specs.Copies.{CanBeSaid, copied, copied_volume, new_number}
@@ -26,13 +26,13 @@ pub record IsCopy (t : Tree) (number : ℕ → ℕ) (u : Tree) : Type 0 where
   pub next : u.next ≡ 1 + length u.files
 
 -- the walks of all volumes
-pub record AreWalks (t : Tree) (walks : List (List Place)) : Type 0 where
+pub record AreWalks (t : Tree) (walks : List (List FilePath)) : Type 0 where
   pub each : length walks ≡ length t.volumes
-  pub walked : (index : ℕ) (v : Volume) (walk : List Place) → slice_get t.volumes index ≡ Some v → slice_get walks index ≡ Some walk → IsWalk t v.root walk
+  pub walked : (index : ℕ) (v : Volume) (walk : List FilePath) → slice_get t.volumes index ≡ Some v → slice_get walks index ≡ Some walk → IsWalk t v.root walk
 
 -- A tree is another again, with the numbers of the order in which the walks of all volumes come to its files.
 pub record IsRestored (t u : Tree) : Type 0 where
-  pub walks : List (List Place)
+  pub walks : List (List FilePath)
   pub are_walks : AreWalks t walks
   pub copy : IsCopy t (new_number walks) u
 
@@ -70,7 +70,7 @@ LoadedAreDescribable = (text : List ℕ) (loaded : Loaded) → Describes text (O
 
 -- Of any tree there is at most one walk from a root.
 abbrev pub WalksAreOne : Type 0
-WalksAreOne = (t : Tree) (root : ℕ) (one two : List Place) → IsWalk t root one → IsWalk t root two → one ≡ two
+WalksAreOne = (t : Tree) (root : ℕ) (one two : List FilePath) → IsWalk t root one → IsWalk t root two → one ≡ two
 
 -- Of a tree with its exports there is at most one description.
 abbrev pub DescriptionsAreOne : Type 0

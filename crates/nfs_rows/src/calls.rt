@@ -1,8 +1,8 @@
 //! Calls, as whole records.
 
-use crate::description::{counted, push_counting, push_line, repeated};
-use crate::kept::Kept;
+use crate::description::{counted, push_counting, push_line, retransmitted};
 use crate::record::{Record, bytes, record_of};
+use crate::reply_cache::Kept;
 use crate::stream;
 use nfs_exports::addr::Addr;
 use nfs_handles::number::Number;
@@ -61,7 +61,7 @@ impl<'a> Calls<'a> {
             "uniform" => self.uniform(words),
             "stream" => self.stream(words),
             "broken" => self.broken(words),
-            "sealed" => self.sealed(words),
+            "sealed" => self.framed(words),
             "clear" => self.clear(),
             "run" => self.run(words),
             "kept" => self.kept(),
@@ -117,7 +117,7 @@ impl<'a> Calls<'a> {
     // times it comes.
     fn uniform(&mut self, words: &mut SplitWhitespace<'_>) -> Option<String> {
         self.handle(words)?;
-        let count = repeated(self.reply.bytes().get(BEFORE_DATA..)?);
+        let count = retransmitted(self.reply.bytes().get(BEFORE_DATA..)?);
         self.data_as("repeats", count)
     }
 
@@ -169,10 +169,10 @@ impl<'a> Calls<'a> {
         None
     }
 
-    // `sealed ADDRESS SECONDS BYTES`: the reply with its record mark.
-    fn sealed(&mut self, words: &mut SplitWhitespace<'_>) -> Option<String> {
+    // `framed ADDRESS SECONDS BYTES`: the reply with its record mark.
+    fn framed(&mut self, words: &mut SplitWhitespace<'_>) -> Option<String> {
         self.handle(words)?;
-        digits(self.alloc, self.reply.sealed())
+        digits(self.alloc, self.reply.framed())
     }
 
     // `clear`: the reply, once it is taken out.

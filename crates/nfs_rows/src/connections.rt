@@ -1,15 +1,15 @@
 //! Calls on a connection.
 
-use crate::kept::Kept;
 use crate::record::{bytes, moment, record_of};
+use crate::reply_cache::Kept;
 use nfs_attrs::moment::Moment;
 use nfs_exports::addr::Addr;
 use nfs_load::description::load;
 use nfs_server::server::Server;
 use nfs_server::sessions::Sessions;
 use nfs_xdr::device::Device;
-use nfs_xdr::stutter::Stutter;
 use rows::answers::{debug_text, digits, text, then};
+use rows::stutter::Stutter;
 use rows::words::{address, number, size, word};
 use std::alloc::Global;
 use std::str::SplitWhitespace;
@@ -52,7 +52,7 @@ impl<'a> Connections<'a> {
             "attach" => self.attach(words),
             "detach" => self.detach(words),
             "feed" => self.feed(words),
-            "pieces" => self.pieces(words),
+            "pieces" => self.chunks(words),
             "cuts" => self.cuts(words),
             "stutter" => self.stutter(words),
             "audit" => self.audit(words),
@@ -93,13 +93,13 @@ impl<'a> Connections<'a> {
         })
     }
 
-    // How many records a piece ends, or the fault, and the replies as they are written.
-    fn fed(&mut self, conn: u32, moment: Moment, piece: &[u8]) -> Option<String> {
+    // How many records a chunk ends, or the fault, and the replies as they are written.
+    fn fed(&mut self, conn: u32, moment: Moment, chunk: &[u8]) -> Option<String> {
         let mut out = Device::new(Vec::new(self.alloc));
         let mut audit = Device::new(Vec::new(self.alloc));
         let fed = self
             .sessions
-            .feed(conn, moment, piece, &mut out, &mut audit);
+            .feed(conn, moment, chunk, &mut out, &mut audit);
         let replies = digits(self.alloc, out.into_inner().as_slice())?;
         then(debug_text(self.alloc, fed)?, replies.as_str())
     }
@@ -110,23 +110,23 @@ impl<'a> Connections<'a> {
         self.fed(stream.conn, stream.moment, stream.bytes.as_slice())
     }
 
-    // `pieces BYTES_A_PIECE CONNECTION SECONDS BYTES`: what the last piece brings; none before it
+    // `pieces BYTES_A_PIECE CONNECTION SECONDS BYTES`: what the last chunk brings; none before it
     // may bring anything.
-    fn pieces(&mut self, words: &mut SplitWhitespace<'_>) -> Option<String> {
+    fn chunks(&mut self, words: &mut SplitWhitespace<'_>) -> Option<String> {
         let size = size(words)?.max(1);
         let stream = self.stream(words)?;
         let mut last = text(self.alloc, "Ok(0) -")?;
-        for piece in stream.bytes.as_slice().chunks(size) {
+        for chunk in stream.bytes.as_slice().chunks(size) {
             if last.as_str() != "Ok(0) -" {
                 return None;
             }
-            last = self.fed(stream.conn, stream.moment, piece)?;
+            last = self.fed(stream.conn, stream.moment, chunk)?;
         }
         Some(last)
     }
 
-    // `cuts CONNECTION SECONDS BYTES`: what the bytes in two pieces bring, wherever they are cut;
-    // the first piece may bring nothing.
+    // `cuts CONNECTION SECONDS BYTES`: what the bytes in two chunks bring, wherever they are cut;
+    // the first chunk may bring nothing.
     fn cuts(&mut self, words: &mut SplitWhitespace<'_>) -> Option<String> {
         let stream = self.stream(words)?;
         let mut all = None;
@@ -159,7 +159,7 @@ impl<'a> Connections<'a> {
     }
 
     // `audit STEP K CONNECTION SECONDS BYTES`: as `feed`, with audit lines written to such a device:
-    // the digits of the lines behind those of the replies.
+    // the digits of the lines after those of the replies.
     fn audit(&mut self, words: &mut SplitWhitespace<'_>) -> Option<String> {
         let step = size(words)?.max(1);
         let k = number(words)?.max(1);

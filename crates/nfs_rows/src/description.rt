@@ -44,7 +44,7 @@ fn counting(alloc: Global, len: usize) -> Option<Vec<u8>> {
 }
 
 /// How many of the first bytes are the first one again.
-pub(crate) fn repeated(bytes: &[u8]) -> usize {
+pub(crate) fn retransmitted(bytes: &[u8]) -> usize {
     let start = bytes.first().copied().unwrap_or(0);
     for (at, byte) in bytes.iter().enumerate() {
         if *byte != start {

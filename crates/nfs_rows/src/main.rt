@@ -6,8 +6,8 @@ mod calls;
 mod connections;
 mod description;
 mod heads;
-mod kept;
 mod record;
+mod reply_cache;
 mod stream;
 
 use crate::calls::Calls;

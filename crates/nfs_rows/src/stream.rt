@@ -6,8 +6,8 @@ use nfs_server::moments::Moments;
 use nfs_server::server::Server;
 use nfs_server::stream::serve_stream;
 use nfs_xdr::device::Device;
-use nfs_xdr::stutter::Stutter;
 use rows::answers::{debug_text, digits, then};
+use rows::stutter::Stutter;
 use std::alloc::Global;
 
 // More reads than a stream of the rows takes.
@@ -18,7 +18,7 @@ const READS: u32 = 10_000;
 struct Still;
 
 impl Moments for Still {
-    ghost tells = { λ old moment new. Unit {0} };
+    ghost reports = { λ old moment new. Unit {0} };
 
     fn now(&mut self) -> Moment {
         Moment {

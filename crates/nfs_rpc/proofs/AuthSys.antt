@@ -1,8 +1,8 @@
--- Reading the credential of AUTH_SYS finds its spelling.
+-- Reading the credential of AUTH_SYS finds its encoding.
 use Rattle.std.proofs.Common.{◌≡◌, ℕ, List, Ok, Err, refl, subst}
 use Rattle.std.specs.Int.{w32}
 use Rattle.nfs_xdr.specs.declared.fault.XdrFault.{XdrFault}
-use Rattle.nfs_xdr.specs.Spelling.{IsNumber, IsOpaque, IsArray, Begins, BeginsNone}
+use Rattle.nfs_xdr.specs.Encoding.{IsNumber, IsOpaque, IsArray, Begins, BeginsNone}
 use Rattle.nfs_xdr.specs.Reading.{Finds, AreBytes, number_at}
 use Rattle.nfs_xdr.proofs.Finding.{finds_as, finds_field, finds_last, finds_all, finds_image, finds_none}
 use Rattle.nfs_xdr.proofs.Items.{finds_u32, finds_opaque, finds_array}

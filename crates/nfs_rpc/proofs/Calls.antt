@@ -1,9 +1,9 @@
--- Reading the head of a call finds its spelling, and another message is answered_credential apart.
+-- Reading the head of a call finds its encoding, and another message is distinguished.
 use Rattle.std.proofs.Common.{◌≡◌, ◌≢◌, ◌↔◌, ℕ, Bool, true, false, eqb, List, [], ◌++◌, Result, Ok, Err, refl, sym, ap, subst, ◌∙◌, append_assoc, append-nil, if◌then◌else◌}
 use Rattle.std.specs.Prelude.{IfOk, IsErrOf}
 use Rattle.std.specs.Int.{w32}
 use Rattle.std.proofs.lemmas.Bool.{eqb-true, eqb-false, ne_eqb}
-use Rattle.nfs_xdr.specs.Spelling.{IsNumber, IsOpaque, ◌⨾◌, Begins, BeginsNone}
+use Rattle.nfs_xdr.specs.Encoding.{IsNumber, IsOpaque, ◌⨾◌, Begins, BeginsNone}
 use Rattle.nfs_xdr.specs.Reading.{Read, ◌>>=◌, Finds, AreBytes, number_at, opaque_at}
 use Rattle.nfs_xdr.proofs.Finding.{finds_as, Then, finds_then, IsDone, finds_done, IsEither, IsNothing, finds_fault, finds_either, finds_renamed, finds_field, finds_last, finds_all, finds_image, finds_none, AreBytes-rest}
 use Rattle.nfs_xdr.proofs.Items.{finds_u32, finds_opaque}
@@ -140,7 +140,7 @@ kind_other bytes e =
 two_numbers : (xid kind : ℕ) (bytes middle rest : List ℕ) → Begins (IsNumber w32) xid bytes middle → Begins (IsNumber w32) kind middle rest → Begins (λ n. IsNumber w32 xid ⨾ IsNumber w32 n) kind bytes rest
 two_numbers xid kind bytes middle rest first second = record {
   text = first.text ++ second.text;
-  spelled = record { front = first.text; first = first.spelled; back = second.text; second = second.spelled; text_is = refl };
+  encoded = record { front = first.text; first = first.encoded; back = second.text; second = second.encoded; text_is = refl };
   bytes_are = first.bytes_are ∙ ap (λ t. first.text ++ t) second.bytes_are ∙ sym (append_assoc first.text second.text rest);
 }
 
@@ -165,7 +165,7 @@ kind_again bytes n rest e other =
 
 other_again : (bytes : List ℕ) → IsOtherMessage bytes → IsOther (call_at bytes)
 other_again bytes o =
-    let s = o.begins.spelled in
+    let s = o.begins.encoded in
     let regrouped : bytes ≡ s.front ++ (s.back ++ o.rest) = o.begins.bytes_are ∙ ap (λ t. t ++ o.rest) s.text_is ∙ append_assoc s.front s.back o.rest in
     let first : number_at w32 bytes ≡ Ok (o.xid, s.back ++ o.rest) = ap (number_at w32) regrouped ∙ finds_u32.again o.xid s.front (s.back ++ o.rest) s.first in
     let kind : kind_at (s.back ++ o.rest) ≡ Err NotCall = kind_again (s.back ++ o.rest) o.kind o.rest (finds_u32.again o.kind s.back o.rest s.second) o.other in

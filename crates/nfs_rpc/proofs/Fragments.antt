@@ -4,7 +4,7 @@ use Rattle.std.specs.Int.{w32}
 use Rattle.std.specs.List.{AllByRecursion}
 use Rattle.std.proofs.lemmas.List.{take_at, drop_at, append_cancel_left}
 use Rattle.std.proofs.lemmas.List.Concat.{flat_map-append}
-use Rattle.nfs_xdr.specs.Spelling.{IsNumber, SpellsOnce}
+use Rattle.nfs_xdr.specs.Encoding.{IsNumber, EncodesOnce}
 use Rattle.nfs_xdr.specs.Reading.{number_at}
 use Rattle.nfs_xdr.proofs.Finding.{once}
 use Rattle.nfs_xdr.proofs.Items.{finds_u32}
@@ -16,7 +16,7 @@ split_same a b x y len e = (
   sym (drop_at a x (length b) len) ∙ ap (drop (length b)) e ∙ drop_at b y (length b) refl,
 )
 
-pub number_once : SpellsOnce (IsNumber w32)
+pub number_once : EncodesOnce (IsNumber w32)
 number_once = once (IsNumber w32) (number_at w32) finds_u32
 
 mark_once : (b c : Bool) (m n : ℕ) → m < 2 ^ 31 → n < 2 ^ 31 → mark b m ≡ mark c n → (b ≡ c) × (m ≡ n)

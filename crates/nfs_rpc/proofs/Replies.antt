@@ -2,7 +2,7 @@
 use Rattle.std.proofs.Common.{◌≡◌, ℕ, ◌^◌, ◌<◌, eqb, cond, List, [], ◌∷◌, ◌++◌, refl, sym, ap, ◌∙◌, append_assoc, arith}
 use Rattle.std.specs.Int.{w32, to_be_bytes}
 use Rattle.std.proofs.lemmas.List.{append_cancel_left}
-use Rattle.nfs_xdr.specs.Spelling.{SpellsOnce, numbers_text}
+use Rattle.nfs_xdr.specs.Encoding.{EncodesOnce, numbers_text}
 use Rattle.nfs_rpc.specs.declared.reply.Accept.{Accept}
 use Rattle.nfs_rpc.specs.declared.reply.Accept.TheVariants.{Success, ProgUnavail, ProgMismatch, ProcUnavail, GarbageArgs, SystemErr}
 use Rattle.nfs_rpc.specs.declared.reply.Refused.{Refused}
@@ -133,7 +133,7 @@ accepted_or_denied m n ms ns u v p q e =
     let third = next_word 0 1 ms ns u v (omega arith) (omega arith) (after_type m n (0 ∷ ms) (1 ∷ ns) u v p q e).1 in
     omega (arith, third.0)
 
-pub reply_once : SpellsOnce IsReply
+pub reply_once : EncodesOnce IsReply
 reply_once (Accepted xid a) (Accepted other b) x y u v p q e =
     let words : accepted_text xid a ++ u ≡ accepted_text other b ++ v = ap (λ t. t ++ u) (sym p.1) ∙ e ∙ ap (λ t. t ++ v) q.1 in
     let first = after_type xid other (0 ∷ 0 ∷ 0 ∷ accept_words a) (0 ∷ 0 ∷ 0 ∷ accept_words b) u v p.0 q.0 words in

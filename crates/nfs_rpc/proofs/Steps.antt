@@ -63,9 +63,9 @@ pub header_done : (limit have n left : ℕ) (last : Bool) (bytes filled content 
 header_done limit have n left last bytes filled content text taken whole is mark below within u =
     at_header limit left last content (text ++ taken) below within (whole_header limit have n left last bytes filled content text taken whole is mark u)
 
-pub header_above : (limit have n left : ℕ) (last : Bool) (bytes filled content text piece : List ℕ) → 4 ≤ have + n → take (have + n) filled ≡ take have bytes ++ take n piece → filled ≡ header last left → left < 2 ^ 31 → limit < length content + left → Leads limit (Header bytes have) content text → ReachesTooLong limit (text ++ piece)
-header_above limit have n left last bytes filled content text piece whole is mark below over u =
-    let f = whole_header limit have n left last bytes filled content text (take n piece) whole is mark u in
+pub header_above : (limit have n left : ℕ) (last : Bool) (bytes filled content text chunk : List ℕ) → 4 ≤ have + n → take (have + n) filled ≡ take have bytes ++ take n chunk → filled ≡ header last left → left < 2 ^ 31 → limit < length content + left → Leads limit (Header bytes have) content text → ReachesTooLong limit (text ++ chunk)
+header_above limit have n left last bytes filled content text chunk whole is mark below over u =
+    let f = whole_header limit have n left last bytes filled content text (take n chunk) whole is mark u in
     let len : length content ≡ length (joined f.parts) = ap length (f.content_is ∙ append-nil (joined f.parts)) in
     record {
       parts = f.parts;
@@ -74,8 +74,8 @@ header_above limit have n left last bytes filled content text piece whole is mar
       n = left;
       below = below;
       too_long = omega arith;
-      after = drop n piece;
-      bytes_are = ap (λ t. text ++ t) (sym (take-append-drop n piece)) ∙ sym (append_assoc text (take n piece) (drop n piece)) ∙ ap (λ t. t ++ drop n piece) f.text_is ∙ append_assoc (unended f.parts) (header last left) (drop n piece);
+      after = drop n chunk;
+      bytes_are = ap (λ t. text ++ t) (sym (take-append-drop n chunk)) ∙ sym (append_assoc text (take n chunk) (drop n chunk)) ∙ ap (λ t. t ++ drop n chunk) f.text_is ∙ append_assoc (unended f.parts) (header last left) (drop n chunk);
     }
 
 -- room is refused only where there was less
@@ -83,9 +83,9 @@ pub refused_above : {A E : Type 0} {P : Type 0} (r : Result A E) → OnErr r P �
 refused_above (Ok x) full is = absurd (false≢true is)
 refused_above (Err e) full is = full
 
-pub header_within : (limit have n left : ℕ) (last : Bool) (bytes filled content text piece : List ℕ) → 4 ≤ have + n → take (have + n) filled ≡ take have bytes ++ take n piece → filled ≡ header last left → left < 2 ^ 31 → 0 < left → length content + left ≤ limit → Leads limit (Header bytes have) content text → ReachesWithin limit (text ++ piece)
-header_within limit have n left last bytes filled content text piece whole is mark below some inside u =
-    let f = whole_header limit have n left last bytes filled content text (take n piece) whole is mark u in
+pub header_within : (limit have n left : ℕ) (last : Bool) (bytes filled content text chunk : List ℕ) → 4 ≤ have + n → take (have + n) filled ≡ take have bytes ++ take n chunk → filled ≡ header last left → left < 2 ^ 31 → 0 < left → length content + left ≤ limit → Leads limit (Header bytes have) content text → ReachesWithin limit (text ++ chunk)
+header_within limit have n left last bytes filled content text chunk whole is mark below some inside u =
+    let f = whole_header limit have n left last bytes filled content text (take n chunk) whole is mark u in
     let len : length content ≡ length (joined f.parts) = ap length (f.content_is ∙ append-nil (joined f.parts)) in
     record {
       parts = f.parts;
@@ -95,8 +95,8 @@ header_within limit have n left last bytes filled content text piece whole is ma
       below = below;
       some = some;
       within = omega arith;
-      after = drop n piece;
-      bytes_are = ap (λ t. text ++ t) (sym (take-append-drop n piece)) ∙ sym (append_assoc text (take n piece) (drop n piece)) ∙ ap (λ t. t ++ drop n piece) f.text_is ∙ append_assoc (unended f.parts) (header last left) (drop n piece);
+      after = drop n chunk;
+      bytes_are = ap (λ t. text ++ t) (sym (take-append-drop n chunk)) ∙ sym (append_assoc text (take n chunk) (drop n chunk)) ∙ ap (λ t. t ++ drop n chunk) f.text_is ∙ append_assoc (unended f.parts) (header last left) (drop n chunk);
     }
 
 -- ---- a fragment's content
@@ -145,13 +145,13 @@ pub header_moves : (old new : Progress) (have n left : ℕ) (last : Bool) (bytes
 header_moves old new have n left last bytes filled taken stage whole fill mark below within is text u =
     now_at old new (stage_of (nat_lt 0 left) last left) old.content (text ++ taken) is (header_done old.limit have n left last bytes filled old.content text taken whole fill mark below within (unfinished_at old (Header bytes have) text stage u))
 
-pub header_brings : (old : Progress) (have n left : ℕ) (last : Bool) (bytes filled piece : List ℕ) → old.stage ≡ Header bytes have → 4 ≤ have + n → take (have + n) filled ≡ take have bytes ++ take n piece → filled ≡ header last left → left < 2 ^ 31 → old.limit < length old.content + left → BringsTooLong old piece
-header_brings old have n left last bytes filled piece stage whole fill mark below over text u =
-    header_above old.limit have n left last bytes filled old.content text piece whole fill mark below over (unfinished_at old (Header bytes have) text stage u)
+pub header_brings : (old : Progress) (have n left : ℕ) (last : Bool) (bytes filled chunk : List ℕ) → old.stage ≡ Header bytes have → 4 ≤ have + n → take (have + n) filled ≡ take have bytes ++ take n chunk → filled ≡ header last left → left < 2 ^ 31 → old.limit < length old.content + left → BringsTooLong old chunk
+header_brings old have n left last bytes filled chunk stage whole fill mark below over text u =
+    header_above old.limit have n left last bytes filled old.content text chunk whole fill mark below over (unfinished_at old (Header bytes have) text stage u)
 
-pub header_asks : (old : Progress) (have n left : ℕ) (last : Bool) (bytes filled piece : List ℕ) → old.stage ≡ Header bytes have → 4 ≤ have + n → take (have + n) filled ≡ take have bytes ++ take n piece → filled ≡ header last left → left < 2 ^ 31 → 0 < left → length old.content + left ≤ old.limit → AsksForRoom old piece
-header_asks old have n left last bytes filled piece stage whole fill mark below some inside text u =
-    header_within old.limit have n left last bytes filled old.content text piece whole fill mark below some inside (unfinished_at old (Header bytes have) text stage u)
+pub header_asks : (old : Progress) (have n left : ℕ) (last : Bool) (bytes filled chunk : List ℕ) → old.stage ≡ Header bytes have → 4 ≤ have + n → take (have + n) filled ≡ take have bytes ++ take n chunk → filled ≡ header last left → left < 2 ^ 31 → 0 < left → length old.content + left ≤ old.limit → AsksForRoom old chunk
+header_asks old have n left last bytes filled chunk stage whole fill mark below some inside text u =
+    header_within old.limit have n left last bytes filled old.content text chunk whole fill mark below some inside (unfinished_at old (Header bytes have) text stage u)
 
 -- ---- one step and another
 

@@ -2,11 +2,11 @@
 use Rattle.std.proofs.Common.{◌≡◌, ℕ, ◌+◌, ◌^◌, ◌<◌, ◌≤◌, Bool, true, false, List, [], ◌∷◌, ◌++◌, length, take, refl, sym, ap, subst, ◌∙◌, append_assoc, append-nil, arith}
 use Rattle.std.proofs.lemmas.List.{length-append, length-take, append_cancel_left}
 use Rattle.std.proofs.lemmas.Bool.{false≢true}
-use Rattle.nfs_xdr.specs.Spelling.{Begins, BeginsNone, SpellsOnce}
+use Rattle.nfs_xdr.specs.Encoding.{Begins, BeginsNone, EncodesOnce}
 use Rattle.nfs_rpc.specs.declared.framer.Stage.{Stage}
 use Rattle.nfs_rpc.specs.declared.framer.Stage.TheVariants.{Header, Body, Ready, Failed}
 use Rattle.nfs_rpc.specs.Records.{header, fragment, IsPart, unended, joined, IsRecord, AreRecords, Follows, StreamsAreReadOnce, RecordsGrow, RecordsClose}
-use Rattle.nfs_rpc.specs.Progress.{Progress, Leads, Unfinished, Moves, HasRead, ReadersKeep, IsWithin, StageTells, UnfinishedTells}
+use Rattle.nfs_rpc.specs.Progress.{Progress, Leads, Unfinished, Moves, HasRead, ReadersKeep, IsWithin, StageReports, UnfinishedReports}
 use Rattle.nfs_rpc.proofs.Fragments.{header_once, fragment_once, GoesOn, LeftFirst, RightFirst, go_on, joined-append}
 
 -- a fragment that is the last of its record, and one that isn't, don't stand at one place
@@ -18,7 +18,7 @@ at_final ps qs f g x y p q (LeftFirst [] are e h) = (sym (e ∙ append-nil ps), 
 at_final ps qs f g x y p q (LeftFirst (m ∷ more) are e h) = absurd (last_or_not f m x (unended more ++ (fragment true g ++ y)) p are.0 (h ∙ append_assoc (fragment false m) (unended more) (fragment true g ++ y)))
 at_final ps qs f g x y p q (RightFirst m more are e h) = absurd (last_or_not g m y (unended more ++ (fragment true f ++ x)) q are.0 (h ∙ append_assoc (fragment false m) (unended more) (fragment true f ++ x)))
 
-pub record_once : SpellsOnce IsRecord
+pub record_once : EncodesOnce IsRecord
 record_once v w a b x y p q e =
     let regrouped : unended p.parts ++ (fragment true p.final ++ x) ≡ unended q.parts ++ (fragment true q.final ++ y) =
     sym (append_assoc (unended p.parts) (fragment true p.final) x) ∙ ap (λ t. t ++ x) (sym p.text_is) ∙ e ∙ ap (λ t. t ++ y) q.text_is ∙ append_assoc (unended q.parts) (fragment true q.final) y in
@@ -30,7 +30,7 @@ record_once v w a b x y p q e =
 begins_once : (v w : List ℕ) (bytes x y : List ℕ) → Begins IsRecord v bytes x → Begins IsRecord w bytes y → (v ≡ w) × (x ≡ y)
 begins_once v w bytes x y p q =
     let both : p.text ++ x ≡ q.text ++ y = sym p.bytes_are ∙ q.bytes_are in
-    let same = record_once v w p.text q.text x y p.spelled q.spelled both in
+    let same = record_once v w p.text q.text x y p.encoded q.encoded both in
     (same.0, append_cancel_left q.text x y (ap (λ t. t ++ x) (sym same.1) ∙ both))
 
 pub streams_once : StreamsAreReadOnce
@@ -76,7 +76,7 @@ none_whole limit len ps qs tail f x p short (RightFirst m more are e h) = last_o
 
 begins_none : (limit : ℕ) (text content tail : List ℕ) (got : List ℕ) → Follows text content tail got → (len : ℕ) → IsShort limit len tail → BeginsNone IsRecord text
 begins_none limit text content tail got f len short value rest b =
-    let s = b.spelled in
+    let s = b.encoded in
     let regrouped : unended f.parts ++ tail ≡ unended s.parts ++ (fragment true s.final ++ rest) =
     sym f.text_is ∙ b.bytes_are ∙ ap (λ t. t ++ rest) s.text_is ∙ append_assoc (unended s.parts) (fragment true s.final) rest in
     none_whole limit len f.parts s.parts tail s.final rest s.final_is short (go_on f.parts s.parts tail (fragment true s.final ++ rest) f.are_parts s.are_parts regrouped)
@@ -116,15 +116,15 @@ record_within limit content text s within r =
     whole_above limit r.n r.last s.parts r.parts s.final r.after r.below s.final_is r.too_long (omega arith)
     (go_on s.parts r.parts (fragment true s.final) (header r.last r.n ++ r.after) s.are_parts r.are_parts (sym s.text_is ∙ r.bytes_are))
 
-header_tells : (limit : ℕ) (text content tail : List ℕ) → length tail < 4 → length content ≤ limit → Follows text content tail [] → BeginsNone IsRecord text × IsWithin limit text
-header_tells limit text content tail short within f =
+header_reports : (limit : ℕ) (text content tail : List ℕ) → length tail < 4 → length content ≤ limit → Follows text content tail [] → BeginsNone IsRecord text × IsWithin limit text
+header_reports limit text content tail short within f =
     let len : length content ≡ length (joined f.parts) = ap length (f.content_is ∙ append-nil (joined f.parts)) in (
       begins_none limit text content tail [] f 0 (InHeader short),
       follows_within limit text content tail [] f (omega arith) (InHeader short),
     )
 
-body_tells : (limit left : ℕ) (last : Bool) (text content got : List ℕ) → 0 < left → length got + left < 2 ^ 31 → length content + left ≤ limit → Follows text content (header last (length got + left) ++ got) got → BeginsNone IsRecord text × IsWithin limit text
-body_tells limit left last text content got some below within f =
+body_reports : (limit left : ℕ) (last : Bool) (text content got : List ℕ) → 0 < left → length got + left < 2 ^ 31 → length content + left ≤ limit → Follows text content (header last (length got + left) ++ got) got → BeginsNone IsRecord text × IsWithin limit text
+body_reports limit left last text content got some below within f =
     let len : length content ≡ length (joined f.parts) + length got = ap length f.content_is ∙ length-append (joined f.parts) got in
     let tail = header last (length got + left) ++ got in
     let short : IsShort limit (length (joined f.parts)) tail = InBody last (length got + left) got below (omega arith) (omega arith) refl in (
@@ -132,14 +132,14 @@ body_tells limit left last text content got some below within f =
       follows_within limit text content tail got f (omega arith) short,
     )
 
-stage_tells : (limit : ℕ) (stage : Stage) (content text : List ℕ) → Leads limit stage content text → StageTells stage limit content text
-stage_tells limit (Header bytes have) content text u = header_tells limit text content (take have bytes) (omega (arith, length-take have bytes)) u.1 u.2
-stage_tells limit (Body last left) content text u = body_tells limit left last text content u.1 u.2 u.3 u.0 u.4
-stage_tells limit Ready content text u = (u.1, u.0, record_within limit content text u.1 u.0)
-stage_tells limit Failed content text u = tt
+stage_reports : (limit : ℕ) (stage : Stage) (content text : List ℕ) → Leads limit stage content text → StageReports stage limit content text
+stage_reports limit (Header bytes have) content text u = header_reports limit text content (take have bytes) (omega (arith, length-take have bytes)) u.1 u.2
+stage_reports limit (Body last left) content text u = body_reports limit left last text content u.1 u.2 u.3 u.0 u.4
+stage_reports limit Ready content text u = (u.1, u.0, record_within limit content text u.1 u.0)
+stage_reports limit Failed content text u = tt
 
-pub unfinished_tells : UnfinishedTells
-unfinished_tells text p u = stage_tells p.limit p.stage p.content text u
+pub unfinished_reports : UnfinishedReports
+unfinished_reports text p u = stage_reports p.limit p.stage p.content text u
 
 -- ---- records one after another
 
@@ -148,10 +148,10 @@ records_grow bytes [] rest more r = ap (λ t. t ++ more) r
 records_grow bytes (content ∷ records) rest more r =
     let b = r.1 in
     let grown : bytes ++ more ≡ b.text ++ (r.0 ++ more) = ap (λ t. t ++ more) b.bytes_are ∙ append_assoc b.text r.0 more in
-    (r.0 ++ more, record { text = b.text; spelled = b.spelled; bytes_are = grown }, records_grow r.0 records rest more r.2)
+    (r.0 ++ more, record { text = b.text; encoded = b.encoded; bytes_are = grown }, records_grow r.0 records rest more r.2)
 
 pub records_close : RecordsClose
-records_close bytes [] content rest r is = ([], record { text = rest; spelled = is; bytes_are = sym r ∙ sym (append-nil rest) }, refl)
+records_close bytes [] content rest r is = ([], record { text = rest; encoded = is; bytes_are = sym r ∙ sym (append-nil rest) }, refl)
 records_close bytes (first ∷ records) content rest r is = (r.0, r.1, records_close r.0 records content rest r.2 is)
 
 feeds_keep : (bytes taken : List ℕ) (records : List (List ℕ)) (old new : Progress) → HasRead bytes records old → Moves old taken new → HasRead (bytes ++ taken) records new

@@ -1,7 +1,7 @@
 -- The credential of AUTH_SYS (RFC 5531, section 8.2 and appendix A).
 use Rattle.std.specs.Prelude.{◌≡◌, ℕ, List, [], Result, Ok, Err, Option, Some, None}
 use Rattle.std.specs.Int.{w32}
-use Rattle.nfs_xdr.specs.Spelling.{IsNumber, IsOpaque, IsArray, ◌⨾◌}
+use Rattle.nfs_xdr.specs.Encoding.{IsNumber, IsOpaque, IsArray, ◌⨾◌}
 use Rattle.nfs_xdr.specs.Reading.{Read, ◌>>=◌, number_at, opaque_at, array_at}
 use Rattle.nfs_xdr.specs.declared.fault.XdrFault.{XdrFault}
 use Rattle.nfs_rpc.specs.declared.auth_sys.Cred.{Cred}

@@ -1,7 +1,7 @@
 -- Call messages (RFC 5531, sections 8.2 and 9).
 use Rattle.std.specs.Prelude.{◌≡◌, ◌≢◌, ℕ, List, Result, Ok, Err, if◌then◌else◌, nat_eq}
 use Rattle.std.specs.Int.{w32}
-use Rattle.nfs_xdr.specs.Spelling.{IsNumber, IsOpaque, ◌⨾◌, Begins}
+use Rattle.nfs_xdr.specs.Encoding.{IsNumber, IsOpaque, ◌⨾◌, Begins}
 use Rattle.nfs_xdr.specs.Reading.{Read, ◌>>=◌, number_at, opaque_at}
 use Rattle.nfs_rpc.specs.declared.call.RpcFault.{RpcFault}
 use Rattle.nfs_rpc.specs.declared.call.RpcFault.TheVariants.{NotCall, Unreadable}
@@ -25,6 +25,10 @@ pub record Call : Type 0 where
   pub proc : ℕ
   pub cred : Auth
 
+-- the version of RPC
+abbrev pub rpc_version : ℕ
+rpc_version = 2
+
 -- a call's message type is 0
 abbrev pub CALL : ℕ
 CALL = 0
@@ -47,7 +51,7 @@ pub record IsOtherMessage (bytes : List ℕ) : Type 0 where
 
 -- ---- the same from left to right
 
--- an item, where no fault but one is told apart
+-- an item, where no fault but one is distinguished
 abbrev pub read : {A : Type 0} → Read A → Result (A × List ℕ) RpcFault
 read (Ok x) = Ok x
 read (Err e) = Err Unreadable

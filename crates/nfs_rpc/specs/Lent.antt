@@ -1,4 +1,4 @@
--- Records that are read where they stand in a piece.
+-- Records that are read where they stand in a chunk.
 use Rattle.std.specs.Prelude.{◌≡◌, ℕ, ◌+◌, ◌^◌, ◌<◌, ◌≤◌, true, List, [], length, take}
 use Rattle.nfs_rpc.specs.declared.framer.Stage.TheVariants.{Header, Ready}
 use Rattle.nfs_rpc.specs.Progress.{Progress, Moves, Unfinished}
@@ -21,13 +21,13 @@ pub record IsBefore (p : Progress) : Type 0 where
   pub stage : p.stage ≡ Header bytes 0
   pub content : p.content ≡ []
 
--- nothing of a record came, and one stands whole at the front of the piece
-pub record BeginsWhole (p : Progress) (content piece : List ℕ) : Type 0 where
+-- nothing of a record came, and one stands whole at the front of the chunk
+pub record BeginsWhole (p : Progress) (content chunk : List ℕ) : Type 0 where
   pub before : IsBefore p
-  pub front : IsAtFront p.limit content piece
+  pub front : IsAtFront p.limit content chunk
 
--- The record at the front of a piece: whatever stood before, with its bytes it is whole; and without any, a record begins.
-pub record IsLent (p : Progress) (content piece : List ℕ) : Type 0 where
-  pub whole : 4 + length content ≤ length piece
-  pub moves : Moves p (take (4 + length content) piece) (record { limit = p.limit; stage = Ready; content = content })
+-- The record at the front of a chunk: whatever stood before, with its bytes it is whole; and without any, a record begins.
+pub record IsLent (p : Progress) (content chunk : List ℕ) : Type 0 where
+  pub whole : 4 + length content ≤ length chunk
+  pub moves : Moves p (take (4 + length content) chunk) (record { limit = p.limit; stage = Ready; content = content })
   pub begins : Unfinished [] p

@@ -2,7 +2,7 @@
 use Rattle.std.specs.Prelude.{◌≡◌, ℕ, ◌+◌, ◌^◌, ◌<◌, ◌≤◌, List, [], ◌∷◌, ◌++◌, length, take}
 use Rattle.nfs_rpc.specs.declared.framer.Stage.{Stage}
 use Rattle.nfs_rpc.specs.declared.framer.Stage.TheVariants.{Header, Body, Ready, Failed}
-use Rattle.nfs_xdr.specs.Spelling.{BeginsNone}
+use Rattle.nfs_xdr.specs.Encoding.{BeginsNone}
 use Rattle.nfs_rpc.specs.Records.{header, IsRecord, AreRecords, ReachesTooLong, ReachesWithin, Follows}
 
 -- a reader of records of at most limit bytes: its stage, and what it has of the record's content
@@ -57,11 +57,11 @@ abbrev pub IsWithin : ℕ → List ℕ → Type 0
 IsWithin limit text = ReachesTooLong limit text → ⊥
 
 -- what the bytes since the last whole record are, by the stage: no whole record, or one and no more
-abbrev pub StageTells : Stage → ℕ → List ℕ → List ℕ → Type 0
-StageTells (Header bytes have) limit content text = BeginsNone IsRecord text × IsWithin limit text
-StageTells (Body last left) limit content text = BeginsNone IsRecord text × IsWithin limit text
-StageTells Ready limit content text = IsRecord content text × (length content ≤ limit) × IsWithin limit text
-StageTells Failed limit content text = Unit {0}
+abbrev pub StageReports : Stage → ℕ → List ℕ → List ℕ → Type 0
+StageReports (Header bytes have) limit content text = BeginsNone IsRecord text × IsWithin limit text
+StageReports (Body last left) limit content text = BeginsNone IsRecord text × IsWithin limit text
+StageReports Ready limit content text = IsRecord content text × (length content ≤ limit) × IsWithin limit text
+StageReports Failed limit content text = Unit {0}
 
-abbrev pub UnfinishedTells : Type 0
-UnfinishedTells = (text : List ℕ) (p : Progress) → Unfinished text p → StageTells p.stage p.limit p.content text
+abbrev pub UnfinishedReports : Type 0
+UnfinishedReports = (text : List ℕ) (p : Progress) → Unfinished text p → StageReports p.stage p.limit p.content text

@@ -2,7 +2,7 @@
 use Rattle.std.specs.Prelude.{◌≡◌, ℕ, ◌+◌, ◌^◌, ◌<◌, ◌≤◌, Bool, true, false, List, [], ◌∷◌, ◌++◌, length, if◌then◌else◌}
 use Rattle.std.specs.List.{flat_map, AllByRecursion}
 use Rattle.std.specs.Int.{w32, to_be_bytes}
-use Rattle.nfs_xdr.specs.Spelling.{Begins, BeginsNone}
+use Rattle.nfs_xdr.specs.Encoding.{Begins, BeginsNone}
 
 -- the number in the header of a fragment of n bytes: the highest bit says that it is the last of its record
 abbrev pub mark : Bool → ℕ → ℕ

@@ -1,6 +1,6 @@
 -- Reply messages (RFC 5531, section 9), without the results of a procedure.
 use Rattle.std.specs.Prelude.{◌≡◌, ℕ, ◌^◌, ◌<◌, List, [], ◌∷◌}
-use Rattle.nfs_xdr.specs.Spelling.{numbers_text}
+use Rattle.nfs_xdr.specs.Encoding.{numbers_text}
 use Rattle.nfs_rpc.specs.declared.reply.Accept.{Accept}
 use Rattle.nfs_rpc.specs.declared.reply.Accept.TheVariants.{Success, ProgUnavail, ProgMismatch, ProcUnavail, GarbageArgs, SystemErr}
 use Rattle.nfs_rpc.specs.declared.reply.Refused.{Refused}

@@ -1,7 +1,7 @@
 //! The credential of AUTH_SYS (RFC 5531, section 8.2 and appendix A).
 ghost use Rattle.std.specs.Prelude.{◌≡◌, ℕ, List, [], ◌≤◌, IfOk, OnOk, IsErr};
 ghost use Rattle.std.specs.Int.{w32};
-ghost use Rattle.nfs_xdr.specs.Spelling.{Begins, BeginsNone};
+ghost use Rattle.nfs_xdr.specs.Encoding.{Begins, BeginsNone};
 ghost use Rattle.nfs_xdr.specs.Reading.{number_at, items_at, array_at};
 ghost use Rattle.nfs_rpc.specs.AuthSys.{IsAuthSys, NOBODY, cred_at, caller, credential_of, answered_credential, credential_left, GivesOrFails};
 
@@ -105,7 +105,7 @@ impl Cred {
     }
 }
 
-// The groups behind their number.
+// The groups after their number.
 #[inline(always)]
 fn read_gids(input: &mut Input<'_>, gids: &mut ArrayVec<u32, 16>) -> Result<(), XdrFault>
     requires { gids.old.items ≡ [] }

@@ -1,6 +1,6 @@
 //! The head of a call (RFC 5531, sections 8.2 and 9).
 ghost use Rattle.std.specs.Prelude.{◌≡◌, ◌↔◌, IfOk, IsErrOf};
-ghost use Rattle.nfs_xdr.specs.Spelling.{Begins, BeginsNone};
+ghost use Rattle.nfs_xdr.specs.Encoding.{Begins, BeginsNone};
 ghost use Rattle.nfs_rpc.specs.Calls.{IsCallHead, IsOtherMessage, call_of, head_at, GivesHead};
 
 use nfs_xdr::fault::XdrFault;
@@ -27,6 +27,9 @@ impl From<XdrFault> for RpcFault {
         RpcFault::Unreadable
     }
 }
+
+/// The version of RPC.
+pub const RPC_VERSION: u32 = 2;
 
 /// The head of a call, lent from its record.
 #[derive(Drop)]

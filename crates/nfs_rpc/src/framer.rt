@@ -1,4 +1,4 @@
-//! Records from the pieces of a stream.
+//! Records from the chunks of a stream.
 ghost use Rattle.std.specs.Prelude.{◌≡◌, ◌≢◌, ℕ, ◌+◌, ◌<◌, ◌≤◌, ◌↔◌, ◌⊎◌, [], ◌++◌, true, nat_lt, length, take, vec_len, vec_capacity};
 ghost use Rattle.std.specs.Prelude.{IfOk, IfErr, IfSome, OnOk, OnErr, IsTrue, IsNone, IsErr, IsErrOf};
 ghost use Rattle.nfs_rpc.specs.Progress.{Progress, Unfinished, Moves, BringsTooLong, AsksForRoom};
@@ -6,7 +6,7 @@ ghost use Rattle.nfs_rpc.specs.Lent.{BeginsWhole, HasNoneAtFront, IsAtFront, IsB
 ghost use Rattle.nfs_rpc.specs.Stages.{begun_by, stage_of};
 
 use crate::record::{HEADER_BYTES, read_header};
-use nfs_xdr::pieces::append;
+use nfs_xdr::chunks::append;
 use std::alloc::{AllocError, Global};
 use std::marker::Model;
 use thiserror::Error;
@@ -25,7 +25,7 @@ pub enum FrameFault {
     Failed,
 }
 
-/// How much of a piece was taken, and whether a record is whole now.
+/// How much of a chunk was taken, and whether a record is whole now.
 #[derive(Clone, Copy, Debug, PartialEq, Eq)]
 pub struct Fed {
     /// The number of bytes taken.
@@ -64,7 +64,7 @@ impl Stage {
     };
 }
 
-/// Takes the pieces of a stream, and gives its records (RFC 5531, section 11), each of at most
+/// Takes the chunks of a stream, and gives its records (RFC 5531, section 11), each of at most
 /// `limit` bytes.
 #[derive(Drop)]
 pub struct Framer {
@@ -99,25 +99,25 @@ impl Framer {
         }
     }
 
-    /// Takes the next bytes of the stream, up to the end of the record or of the piece. While a
+    /// Takes the next bytes of the stream, up to the end of the record or of the chunk. While a
     /// record is whole it takes none.
     ///
     /// `TooLong` comes as soon as a header is whole that brings the record's length above the
     /// limit, `Memory` where there is no memory for a fragment; after either, and only then,
     /// `Failed`.
-    pub fn feed(&mut self, piece: &[u8]) -> Result<Fed, FrameFault>
+    pub fn feed(&mut self, chunk: &[u8]) -> Result<Fed, FrameFault>
         ensures limit { self.new.limit ≡ self.old.limit }
-        // What is taken stands at the front of the piece, and is all of it unless a record is whole.
-        ensures used { IfOk result (λ fed. fed.used ≤ length piece.now) }
-        ensures all { IfOk result (λ fed. IsTrue fed.ready ⊎ (fed.used ≡ length piece.now)) }
+        // What is taken stands at the front of the chunk, and is all of it unless a record is whole.
+        ensures used { IfOk result (λ fed. fed.used ≤ length chunk.now) }
+        ensures all { IfOk result (λ fed. IsTrue fed.ready ⊎ (fed.used ≡ length chunk.now)) }
         ensures ready { IfOk result (λ fed. IsTrue fed.ready ↔ (self.new.stage ≡ Stage.Ready)) }
         ensures some { self.old.stage ≢ Stage.Ready → IfOk result (λ fed. IsTrue fed.ready → 0 < fed.used) }
         // Whatever stood before, the bytes since the last whole record are now those and what was taken.
-        ensures moves { IfOk result (λ fed. Moves self.old (take fed.used piece.now) self.new) }
+        ensures moves { IfOk result (λ fed. Moves self.old (take fed.used chunk.now) self.new) }
         ensures held { self.old.stage ≡ Stage.Ready → (result ≡ Ok (record { used = 0; ready = true })) × (self.new ≡ self.old) }
         // Each fault, and what stays.
-        ensures too_long { IsErrOf result FrameFault.TooLong → BringsTooLong self.old piece.now }
-        ensures memory { IsErrOf result FrameFault.Memory → AsksForRoom self.old piece.now }
+        ensures too_long { IsErrOf result FrameFault.TooLong → BringsTooLong self.old chunk.now }
+        ensures memory { IsErrOf result FrameFault.Memory → AsksForRoom self.old chunk.now }
         ensures failed { IsErrOf result FrameFault.Failed ↔ (self.old.stage ≡ Stage.Failed) }
         ensures ends { IsErr result ↔ (self.new.stage ≡ Stage.Failed) }
     {
@@ -132,15 +132,15 @@ impl Framer {
             Stage::Header { .. } | Stage::Body { .. } => {}
         }
         let mut used = 0;
-        while used < piece.len() {
+        while used < chunk.len() {
             match self.stage {
                 Stage::Header { bytes, have } => {
-                    match self.take_header(bytes, have, &piece[used..]) {
+                    match self.take_header(bytes, have, &chunk[used..]) {
                         Ok(n) => used += n,
                         Err(fault) => return Err(fault),
                     }
                 }
-                Stage::Body { last, left } => used += self.take_body(last, left, &piece[used..]),
+                Stage::Body { last, left } => used += self.take_body(last, left, &chunk[used..]),
                 Stage::Ready => return Ok(Fed { used, ready: true }),
                 Stage::Failed => unreachable!(),
             }
@@ -156,20 +156,20 @@ impl Framer {
         &mut self,
         bytes: [u8; 4],
         have: usize,
-        piece: &[u8],
+        chunk: &[u8],
     ) -> Result<usize, FrameFault>
         requires stage { self.old.stage ≡ Stage.Header bytes have }
         requires have { have < 4 }
-        requires some { 0 < length piece.now }
+        requires some { 0 < length chunk.now }
         ensures limit { self.new.limit ≡ self.old.limit }
-        ensures used { IfOk result (λ n. (0 < n) × (n ≤ length piece.now)) }
-        ensures moves { IfOk result (λ n. Moves self.old (take n piece.now) self.new) }
+        ensures used { IfOk result (λ n. (0 < n) × (n ≤ length chunk.now)) }
+        ensures moves { IfOk result (λ n. Moves self.old (take n chunk.now) self.new) }
         ensures alive { IsErr result ↔ (self.new.stage ≡ Stage.Failed) }
-        ensures too_long { IsErrOf result FrameFault.TooLong → BringsTooLong self.old piece.now }
-        ensures memory { IsErrOf result FrameFault.Memory → AsksForRoom self.old piece.now }
+        ensures too_long { IsErrOf result FrameFault.TooLong → BringsTooLong self.old chunk.now }
+        ensures memory { IsErrOf result FrameFault.Memory → AsksForRoom self.old chunk.now }
         ensures fault { IfErr result (λ e. e ≢ FrameFault.Failed) }
     {
-        let (bytes, n) = fill_header(bytes, have, piece);
+        let (bytes, n) = fill_header(bytes, have, chunk);
         if have + n < 4 {
             self.stage = Stage::Header {
                 bytes,
@@ -191,33 +191,47 @@ impl Framer {
     }
 
     // As much of a fragment's content as is there, of which so many bytes are left.
-    fn take_body(&mut self, last: bool, left: usize, piece: &[u8]) -> usize
+    fn take_body(&mut self, last: bool, left: usize, chunk: &[u8]) -> usize
         requires stage { self.old.stage ≡ Stage.Body last left }
-        requires some { 0 < length piece.now }
+        requires some { 0 < length chunk.now }
         ensures limit { self.new.limit ≡ self.old.limit }
-        ensures used { (0 < result) × (result ≤ length piece.now) }
-        ensures moves { Moves self.old (take result piece.now) self.new }
+        ensures used { (0 < result) × (result ≤ length chunk.now) }
+        ensures moves { Moves self.old (take result chunk.now) self.new }
         ensures alive { self.new.stage ≢ Stage.Failed }
     {
-        let n = left.min(piece.len());
-        append(&mut self.content, &piece[..n]);
+        let n = left.min(chunk.len());
+        append(&mut self.content, &chunk[..n]);
         self.stage = stage_before(last, left - n);
         n
     }
 
-    /// The record that stands at the front of the piece, lent from it: where it stands there whole, in
+    /// The record that stands at the front of the chunk, lent from it: where it stands there whole, in
     /// one fragment, and nothing of it came before; none elsewhere. Who takes it, with its header,
     /// takes what `feed` would take, and reads what `whole` would lend; the framer stays before the
     /// next record.
-    pub fn lend<'a>(&self, piece: &'a [u8]) -> Option<&'a [u8]>
-        ensures lent { IfSome result (λ content. IsLent self.now content.now piece.entry.now) }
-        ensures some { IfSome result (λ content. BeginsWhole self.now content.now piece.entry.now) }
-        ensures none { IsNone result → IsBefore self.now → HasNoneAtFront self.now.limit piece.entry.now }
+    pub fn lend<'a>(&self, chunk: &'a [u8]) -> Option<&'a [u8]>
+        ensures lent { IfSome result (λ content. IsLent self.now content.now chunk.entry.now) }
+        ensures some { IfSome result (λ content. BeginsWhole self.now content.now chunk.entry.now) }
+        ensures none { IsNone result → IsBefore self.now → HasNoneAtFront self.now.limit chunk.entry.now }
     {
         if !self.is_before_record() {
             return None;
         }
-        record_at_front(piece, self.limit)
+        record_at_front(chunk, self.limit)
+    }
+
+    /// Another framer at the same place of its stream, with the same bytes. Refused without memory.
+    pub fn copied(&self) -> Result<Framer, AllocError>
+        ensures { IfOk result (λ framer. framer ≡ self.now) }
+    {
+        let alloc = *self.content.allocator();
+        let mut content = Vec::with_capacity(alloc, self.content.capacity())?;
+        append(&mut content, self.content.as_slice());
+        Ok(Framer {
+            limit: self.limit,
+            stage: self.stage,
+            content,
+        })
     }
 
     /// The record of which a fragment has begun and is not whole yet.
@@ -271,12 +285,12 @@ fn record_at_front(bytes: &[u8], limit: usize) -> Option<&[u8]>
     if bytes.len() < HEADER_BYTES {
         return None;
     }
-    let (header, behind) = bytes.split_at(HEADER_BYTES);
+    let (header, after) = bytes.split_at(HEADER_BYTES);
     let (last, len) = read_header([header[0], header[1], header[2], header[3]]);
-    if !last || len > limit || len > behind.len() {
+    if !last || len > limit || len > after.len() {
         return None;
     }
-    Some(&behind[..len])
+    Some(&after[..len])
 }
 
 // Makes room for so many bytes more: just for these, but at least twice what there was, so that the
@@ -311,16 +325,16 @@ fn stage_before(last: bool, left: usize) -> Stage
     }
 }
 
-// The header, of which so many bytes had come, with the first bytes of the piece, and how many
+// The header, of which so many bytes had come, with the first bytes of the chunk, and how many
 // these are.
-fn fill_header(mut bytes: [u8; 4], have: usize, piece: &[u8]) -> ([u8; 4], usize)
+fn fill_header(mut bytes: [u8; 4], have: usize, chunk: &[u8]) -> ([u8; 4], usize)
     requires { have < 4 }
-    ensures used { result.1 ≤ length piece.now }
-    ensures some { 0 < length piece.now → 0 < result.1 }
+    ensures used { result.1 ≤ length chunk.now }
+    ensures some { 0 < length chunk.now → 0 < result.1 }
     ensures within { have + result.1 ≤ 4 }
-    ensures filled { take (have + result.1) result.0 ≡ take have bytes ++ take result.1 piece.now }
+    ensures filled { take (have + result.1) result.0 ≡ take have bytes ++ take result.1 chunk.now }
 {
-    let n = (4 - have).min(piece.len());
-    bytes[have..have + n].copy_from_slice(&piece[..n]);
+    let n = (4 - have).min(chunk.len());
+    bytes[have..have + n].copy_from_slice(&chunk[..n]);
     (bytes, n)
 }

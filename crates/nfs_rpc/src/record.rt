@@ -9,7 +9,7 @@ pub const HEADER_BYTES: usize = 4;
 /// The header of a record of `len` bytes that goes out as one fragment: the highest bit, which
 /// says that the fragment is the last of its record, and the length.
 #[inline(always)]
-pub fn seal_record(len: u32) -> [u8; 4]
+pub fn frame_record(len: u32) -> [u8; 4]
     requires { len < 2 ^ 31 }
     ensures { result ≡ to_be_bytes w32 (mark true len) }
 {

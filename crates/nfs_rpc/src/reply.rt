@@ -1,6 +1,6 @@
 //! The head of a reply (RFC 5531, section 9).
 ghost use Rattle.std.specs.Prelude.{◌≡◌, ◌*◌, ◌≤◌, length};
-ghost use Rattle.nfs_xdr.specs.Spelling.{numbers_text};
+ghost use Rattle.nfs_xdr.specs.Encoding.{numbers_text};
 ghost use Rattle.nfs_xdr.specs.Written.{Appends};
 ghost use Rattle.nfs_rpc.specs.Replies.{accepted_words, refused_words, accepted_text, refused_text};
 

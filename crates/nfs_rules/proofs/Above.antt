@@ -1,4 +1,4 @@
--- What the walk from a directory to those above it tells.
+-- What the walk from a directory to those above it reports.
 use Rattle.std.proofs.Common.{inl, inr, ◌≡◌, ◌≢◌, ℕ, zero, suc, ◌+◌, ◌-◌, ◌≤◌, true, false, length, Bool, Option, Some, None, option_map, refl, sym, ap, ◌∙◌, arith}
 use Rattle.std.specs.Prelude.{nat_eq, ◌||◌}
 use Rattle.std.proofs.lemmas.Bool.{eqb-true, eqb-false, or_parts, cases_lt}
@@ -52,10 +52,10 @@ is_off t n d f law lives e steps s =
 pub is_found_above : (t : Tree) (n d : ℕ) (f : File) → Law t → LivesAsDirectory t d f → (steps : ℕ) → climb steps t.files d ≡ n → is_above t n d ≡ true
 is_found_above t n d f law lives steps s = by_test (is_above t n d) (λ y. y) (λ e. absurd (is_off t n d f law lives e steps s))
 
--- a walk that tells whether some steps lead there
-pub walk_tells : (t : Tree) (n d : ℕ) (f : File) (b : Bool) → Law t → LivesAsDirectory t d f → (b ≡ true → (steps : ℕ) × (climb steps t.files d ≡ n)) → (b ≡ false → IsOff t d n) → b ≡ is_above t n d
-walk_tells t n d f true law lives up off = let u = up refl in sym (is_found_above t n d f law lives u.0 u.1)
-walk_tells t n d f false law lives up off = by_test (is_above t n d) (λ y. let u = climbs_to t n d y in absurd (off refl u.0 u.1)) (λ e. sym e)
+-- a walk that reports whether some steps lead there
+pub walk_reports : (t : Tree) (n d : ℕ) (f : File) (b : Bool) → Law t → LivesAsDirectory t d f → (b ≡ true → (steps : ℕ) × (climb steps t.files d ≡ n)) → (b ≡ false → IsOff t d n) → b ≡ is_above t n d
+walk_reports t n d f true law lives up off = let u = up refl in sym (is_found_above t n d f law lives u.0 u.1)
+walk_reports t n d f false law lives up off = by_test (is_above t n d) (λ y. let u = climbs_to t n d y in absurd (off refl u.0 u.1)) (λ e. sym e)
 
 -- what is shown as a directory lives as one
 directory_kind : (k : Kind) → is_directory_type (type_of k) ≡ true → is_directory k ≡ true

@@ -25,14 +25,14 @@ passed_at ts none place t e = of ts (are_passed ts none) place t e
     of (u ∷ us) passed zero t e = ap (λ (t : Test). t.1) (sym (same_some e)) ∙ passed.0
     of (u ∷ us) passed (suc place) t e = of us passed.1 place t e
 
--- where the first tests are passed, those after them tell
+-- where the first tests are passed, those after them report
 pub first_after_passed : (ts us : List Test) → first ts ≡ None → first (ts ++ us) ≡ first us
 first_after_passed [] us e = refl
 first_after_passed (t ∷ ts) us e = by_test t.1
     (λ y. absurd (not_both e (if_true (Some t.0) (first ts) y)))
     (λ n. if_false (Some t.0) (first (ts ++ us)) n ∙ first_after_passed ts us (sym (if_false (Some t.0) (first ts) n) ∙ e))
 
--- and where one of them is failed, the others tell nothing
+-- and where one of them is failed, the others report nothing
 pub first_of_failed : (ts us : List Test) (r : Rule) → first ts ≡ Some r → first (ts ++ us) ≡ Some r
 first_of_failed [] us r e = absurd (not_both refl e)
 first_of_failed (t ∷ ts) us r e = by_test t.1

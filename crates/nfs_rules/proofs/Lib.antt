@@ -9,3 +9,5 @@ pub mod Removals
 pub mod Links
 pub mod Renames
 pub mod Pairs
+pub mod Verdicts
+pub mod Pages

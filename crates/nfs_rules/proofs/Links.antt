@@ -1,4 +1,4 @@
--- Where no rule is failed, a file takes a further name.
+-- Where no rule is failed, a file takes a hard link.
 use Rattle.std.proofs.Common.{◌≡◌, ℕ, ◌-◌, ◌<◌, false, List, Some, None, refl, sym, ap, subst, ◌∙◌}
 use Rattle.std.proofs.lemmas.Bool.{leb-false}
 use Rattle.nfs_inodes.specs.Limits.{max_links}

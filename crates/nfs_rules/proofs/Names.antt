@@ -40,17 +40,17 @@ number e = e.number
 abbrev entry_after_dots : Bool → Bool → Entry → Entry → Option Entry → Option Entry
 entry_after_dots is_dot is_dot_dot itself above rest = cond is_dot (Some itself) (cond is_dot_dot (Some above) rest)
 
-none_behind : (is_dot is_dot_dot : Bool) (itself above : Entry) (rest : Option Entry) → option_map number (entry_after_dots is_dot is_dot_dot itself above rest) ≡ None → (is_dot ≡ false) × (is_dot_dot ≡ false) × (rest ≡ None)
-none_behind true b x y o e = absurd (not_both e refl)
-none_behind false true x y o e = absurd (not_both e refl)
-none_behind false false x y None e = (refl, refl, refl)
-none_behind false false x y (Some z) e = absurd (not_both e refl)
+none_after : (is_dot is_dot_dot : Bool) (itself above : Entry) (rest : Option Entry) → option_map number (entry_after_dots is_dot is_dot_dot itself above rest) ≡ None → (is_dot ≡ false) × (is_dot_dot ≡ false) × (rest ≡ None)
+none_after true b x y o e = absurd (not_both e refl)
+none_after false true x y o e = absurd (not_both e refl)
+none_after false false x y None e = (refl, refl, refl)
+none_after false false x y (Some z) e = absurd (not_both e refl)
 
-some_behind : (is_dot is_dot_dot : Bool) (itself above : Entry) (rest : Option Entry) (n : ℕ) → option_map number (entry_after_dots is_dot is_dot_dot itself above rest) ≡ Some n → is_dot ≡ false → is_dot_dot ≡ false → (e : Entry) × (rest ≡ Some e) × (e.number ≡ n)
-some_behind true b x y o n e not_dot not_dot_dot = cc
-some_behind false true x y o n e not_dot not_dot_dot = cc
-some_behind false false x y None n e not_dot not_dot_dot = absurd (not_both refl e)
-some_behind false false x y (Some z) n e not_dot not_dot_dot = (z, refl, same_some e)
+some_after : (is_dot is_dot_dot : Bool) (itself above : Entry) (rest : Option Entry) (n : ℕ) → option_map number (entry_after_dots is_dot is_dot_dot itself above rest) ≡ Some n → is_dot ≡ false → is_dot_dot ≡ false → (e : Entry) × (rest ≡ Some e) × (e.number ≡ n)
+some_after true b x y o n e not_dot not_dot_dot = cc
+some_after false true x y o n e not_dot not_dot_dot = cc
+some_after false false x y None n e not_dot not_dot_dot = absurd (not_both refl e)
+some_after false false x y (Some z) n e not_dot not_dot_dot = (z, refl, same_some e)
 
 module _ (t : Tree) (d : ℕ) (dir : File) (at_dir : LivesAsDirectory t d dir) (name : List ℕ) where
   abbrev itself : Entry
@@ -70,13 +70,13 @@ module _ (t : Tree) (d : ℕ) (dir : File) (at_dir : LivesAsDirectory t d dir) (
   -- a name that is not there is no name of an entry, neither `.` nor `..`
   pub absent_name : number_under t d name ≡ None → (name ≢ dot) × (name ≢ dot_dot) × (entry_named name (entries_in dir.kind) ≡ None)
   absent_name e =
-      let none = none_behind (bytes_eq dot name) (bytes_eq dot_dot name) itself (above dir.kind) (entry_named name (entries_in dir.kind)) (sym under ∙ e) in
+      let none = none_after (bytes_eq dot name) (bytes_eq dot_dot name) itself (above dir.kind) (entry_named name (entries_in dir.kind)) (sym under ∙ e) in
       (λ s. other_bytes dot name none.0 (sym s), λ s. other_bytes dot_dot name none.1 (sym s), none.2)
 
   -- a name that is there, neither `.` nor `..`, is that of an entry
   pub present_name : (n : ℕ) → number_under t d name ≡ Some n → name ≢ dot → name ≢ dot_dot → (e : Entry) × (entry_named name (entries_in dir.kind) ≡ Some e) × (e.number ≡ n)
   present_name n e not_dot not_dot_dot =
-      some_behind (bytes_eq dot name) (bytes_eq dot_dot name) itself (above dir.kind) (entry_named name (entries_in dir.kind)) n (sym under ∙ e) (not_same dot (λ s. not_dot (sym s))) (not_same dot_dot (λ s. not_dot_dot (sym s)))
+      some_after (bytes_eq dot name) (bytes_eq dot_dot name) itself (above dir.kind) (entry_named name (entries_in dir.kind)) n (sym under ∙ e) (not_same dot (λ s. not_dot (sym s))) (not_same dot_dot (λ s. not_dot_dot (sym s)))
     where
       not_same : (other : List ℕ) → other ≢ name → bytes_eq other name ≡ false
       not_same other apart = by_test (bytes_eq other name) (λ y. absurd (apart ((bytes_eq-Decides other name).0 y))) (λ n. n)

@@ -1,4 +1,4 @@
--- Where no rule is failed, a directory takes a further name and a new file.
+-- Where no rule is failed, a directory takes a hard link and a new file.
 use Rattle.std.proofs.Common.{◌≡◌, ℕ, ◌+◌, ◌<◌, ◌≤◌, false, List, Option, Some, None, refl, sym, subst, ◌∙◌, arith}
 use Rattle.std.specs.Prelude.{is_some, not, ◌∷◌, length}
 use Rattle.std.proofs.lemmas.Bool.{not-false, leb-false, ltb-false}
@@ -13,7 +13,7 @@ use Rattle.nfs_inodes.specs.Reading.{attributes_at}
 use Rattle.nfs_inodes.proofs.law.Renames.{none_named}
 use Rattle.nfs_rules.specs.Subjects.{Subject}
 use Rattle.nfs_rules.specs.Tests.{Test, first, read_only, not_directory, search_right, name_long, name_form, found, exists, takes, files, links, numbers, cookies, too_big, space, path_long}
-use Rattle.nfs_rules.specs.Table.{make_dir_rules, sym_link_rules, create_rules, new_file_rules, present_file_rules, size_in}
+use Rattle.nfs_rules.specs.Table.{mkdir_rules, symlink_rules, create_rules, new_file_rules, present_file_rules, size_in}
 use Rattle.nfs_rules.specs.declared.rule.Rule.TheVariants as rule
 use Rattle.nfs_rules.proofs.Firsts.{passed_at}
 use Rattle.nfs_rules.proofs.SeenFiles.{seen_lives, seen_directory, seen_links, none_under}
@@ -71,9 +71,9 @@ module _ (s : Subject) (law : Law s.tree) (seen : attributes_at s.tree s.file.fi
         small (Some n) large = ltb-false max_file_bytes n large
 
     -- a new directory
-    pub may_make_directory : first (make_dir_rules s name) ≡ None → MayMakeDirectory s.tree s.file.fileid name
+    pub may_make_directory : first (mkdir_rules s name) ≡ None → MayMakeDirectory s.tree s.file.fileid name
     may_make_directory none =
-        let passed = passed_at (make_dir_rules s name) none in
+        let passed = passed_at (mkdir_rules s name) none in
         let enter = may_enter (passed 1 (not_directory s) refl) (passed 2 (name_long name) refl) (passed 3 (name_form name) refl) (none_from_is_some (found s name) (passed 5 (exists s name) refl)) (has_number s (passed 9 (numbers s) refl)).1 in
         let make = may_make_sized enter None (passed 7 (files s) refl) refl refl (passed 9 (numbers s) refl) in
         record {
@@ -82,9 +82,9 @@ module _ (s : Subject) (law : Law s.tree) (seen : attributes_at s.tree s.file.fi
         }
 
     -- a link
-    pub may_make_link : (path : List ℕ) → first (sym_link_rules s name path) ≡ None → MayMakeLink s.tree s.file.fileid name path
+    pub may_make_link : (path : List ℕ) → first (symlink_rules s name path) ≡ None → MayMakeLink s.tree s.file.fileid name path
     may_make_link path none =
-        let passed = passed_at (sym_link_rules s name path) none in
+        let passed = passed_at (symlink_rules s name path) none in
         let enter = may_enter (passed 1 (not_directory s) refl) (passed 2 (name_long name) refl) (passed 3 (name_form name) refl) (none_from_is_some (found s name) (passed 6 (exists s name) refl)) (has_number s (passed 9 (numbers s) refl)).1 in
         record {
           make = may_make_sized enter None (passed 8 (files s) refl) refl refl (passed 9 (numbers s) refl);

@@ -1,9 +1,9 @@
--- What two handles tell of a call.
+-- What two handles report of a call.
 use Rattle.std.proofs.Common.{◌≡◌, ℕ, false, not, List, [], ◌∷◌, ◌++◌, Option, Some, None, option_map, refl, sym, ap, subst, ◌∙◌}
 use Rattle.std.specs.Prelude.{Result, Ok, Err, nat_eq, if◌then◌else◌}
 use Rattle.nfs_attrs.specs.declared.fattr.Fattr.{Fattr}
 use Rattle.nfs_exports.specs.declared.options.Options.{Options}
-use Rattle.nfs_exports.specs.declared.table.Export.{Export}
+use Rattle.nfs_exports.specs.declared.export_table.Export.{Export}
 use Rattle.nfs_inodes.proofs.Lists.{by_test, same_some, not_both, if_true, if_false}
 use Rattle.nfs_inodes.specs.Tree.{Tree, on_some}
 use Rattle.nfs_rules.proofs.Firsts.{first_after_passed, first_of_failed}
@@ -35,10 +35,10 @@ module _ (t : Tree) (exports : List (List Export)) (caller : Caller) (h k : List
   after_one : (rest : List Test) (s : Subject) → first (handle_rules t exports caller h) ≡ None → first (handle_rules t exports caller h ++ rest) ≡ first rest
   after_one rest s passed = first_after_passed (handle_rules t exports caller h) rest passed
 
-  -- the rules of both handles, by what each was told alone
+  -- the rules of both handles, by what each was reported alone
   pub pair_judged : (one two : Result Subject Rule) → Judges one (handle_rules t exports caller h) → ok_of one ≡ subject_at t exports caller h → Judges two (handle_rules t exports caller k) → ok_of two ≡ subject_at t exports caller k
       → Judges (in_one_volume one two) (handles_rules t exports caller (h ∷ k ∷ []))
-  pair_judged (Err r) two failed none judged told = first_of_failed (handle_rules t exports caller h) (handle_rules t exports caller k ++ cross_volume t h k ∷ []) r failed
+  pair_judged (Err r) two failed none judged reported = first_of_failed (handle_rules t exports caller h) (handle_rules t exports caller k ++ cross_volume t h k ∷ []) r failed
   pair_judged (Ok s) (Err r) passed some failed none = after_one (handle_rules t exports caller k ++ cross_volume t h k ∷ []) s passed ∙ first_of_failed (handle_rules t exports caller k) (cross_volume t h k ∷ []) r failed
   pair_judged (Ok s) (Ok u) passed some passed_too some_too =
       let last : first (handles_rules t exports caller (h ∷ k ∷ [])) ≡ first (cross_volume t h k ∷ []) = after_one (handle_rules t exports caller k ++ cross_volume t h k ∷ []) s passed ∙ first_after_passed (handle_rules t exports caller k) (cross_volume t h k ∷ []) passed_too in
@@ -51,7 +51,7 @@ module _ (t : Tree) (exports : List (List Export)) (caller : Caller) (h k : List
 
   -- and what they name
   pub pair_named : (one two : Result Subject Rule) → ok_of one ≡ subject_at t exports caller h → ok_of two ≡ subject_at t exports caller k → ok_of (in_one_volume one two) ≡ subjects_at t exports caller (h ∷ k ∷ [])
-  pair_named (Err r) two none told = ap (λ o. on_some o None (λ s. on_some (subject_at t exports caller k) None (λ u. if nat_eq s.file.fsid u.file.fsid then Some (s, u) else None))) none
+  pair_named (Err r) two none reported = ap (λ o. on_some o None (λ s. on_some (subject_at t exports caller k) None (λ u. if nat_eq s.file.fsid u.file.fsid then Some (s, u) else None))) none
   pair_named (Ok s) (Err r) some none = ap (λ o. on_some o None (λ u. if nat_eq s.file.fsid u.file.fsid then Some (s, u) else None)) none
       ∙ ap (λ o. on_some o None (λ s. on_some (subject_at t exports caller k) None (λ u. if nat_eq s.file.fsid u.file.fsid then Some (s, u) else None))) some
   pair_named (Ok s) (Ok u) some some_too =

@@ -14,7 +14,7 @@ use Rattle.nfs_rules.specs.Rights.{lets_go}
 use Rattle.nfs_rules.specs.Subjects.{Subject}
 use Rattle.nfs_rules.specs.Tests as test
 use Rattle.nfs_rules.specs.Tests.{Test, first, found, is_empty}
-use Rattle.nfs_rules.specs.Table.{remove_rules, remove_dir_rules}
+use Rattle.nfs_rules.specs.Table.{remove_rules, rmdir_rules}
 use Rattle.nfs_rules.proofs.Firsts.{passed_at}
 use Rattle.nfs_rules.proofs.SeenFiles.{seen_lives, seen_directory, seen_links, found_seen}
 use Rattle.nfs_rules.proofs.Names.{no_dots, other_bytes, present_name}
@@ -27,10 +27,10 @@ only_directories (Regular bytes) e = refl
 only_directories (Directory parent next_cookie entries) e = cc
 only_directories (Link path) e = refl
 
-behind_dots : (n : ℕ) (k : Kind) → is_directory k ≡ true → first_after 2 (listing n k) ≡ first_after 2 (entries_in k)
-behind_dots n (Regular bytes) e = cc
-behind_dots n (Directory parent next_cookie entries) e = refl
-behind_dots n (Link path) e = cc
+after_dots : (n : ℕ) (k : Kind) → is_directory k ≡ true → first_after 2 (listing n k) ≡ first_after 2 (entries_in k)
+after_dots n (Regular bytes) e = cc
+after_dots n (Directory parent next_cookie entries) e = refl
+after_dots n (Link path) e = cc
 
 none_listed : (next : ℕ) (es : List Entry) → All (λ (e : Entry). (3 ≤ e.cookie) × (e.cookie < next)) es → first_after 2 es ≡ None → es ≡ []
 none_listed next [] all none = refl
@@ -50,7 +50,7 @@ some_from_is_none (Some x) e = (x, refl)
 pub no_entries : (t : Tree) → Law t → (f : Fattr) (h : File) → LivesAsDirectory t f.fileid h → is_empty t f ≡ true → entries_in h.kind ≡ []
 no_entries t law f h at_h empty =
     let none : first_after 2 (entries_in h.kind) ≡ None =
-    sym (behind_dots f.fileid h.kind at_h.1) ∙ sym (ap (λ o. first_after 2 (on_some o [] (λ (f' : File). listing f.fileid f'.kind))) at_h.0) ∙ none_from_is_none (entry_after t f.fileid 2) empty in
+    sym (after_dots f.fileid h.kind at_h.1) ∙ sym (ap (λ o. first_after 2 (on_some o [] (λ (f' : File). listing f.fileid f'.kind))) at_h.0) ∙ none_from_is_none (entry_after t f.fileid 2) empty in
     none_listed (next_cookie_in h.kind) (entries_in h.kind) (law.sound f.fileid h at_h.0).cookies none
 
 -- ---- removals
@@ -98,16 +98,16 @@ module _ (s : Subject) (law : Law s.tree) (seen : attributes_at s.tree s.file.fi
       ∷ on_some o [] (λ f. test.sticky s f ∷ test.is_directory f ∷ []) in
       not-false _ (passed_at (rules (Some f)) (subst (λ o. first (rules o) ≡ None) is none) 8 (test.sticky s f) refl)
 
-  pub remove_dir_lets_go : first (remove_dir_rules s name) ≡ None → (f : Fattr) → found s name ≡ Some f → lets_go s.ids s.file f ≡ true
-  remove_dir_lets_go none f is =
+  pub rmdir_lets_go : first (rmdir_rules s name) ≡ None → (f : Fattr) → found s name ≡ Some f → lets_go s.ids s.file f ≡ true
+  rmdir_lets_go none f is =
       let rules : Option Fattr → List Test = λ o. test.read_only s ∷ test.not_directory s ∷ test.dot_alone name ∷ test.dot_dot_alone name ∷ test.name_long name ∷ test.name_form name ∷ test.search_right s ∷ test.no_entry s name ∷ test.directory_write s
       ∷ on_some o [] (λ f. test.sticky s f ∷ test.target_not_directory f ∷ test.not_empty s.tree f ∷ []) in
       not-false _ (passed_at (rules (Some f)) (subst (λ o. first (rules o) ≡ None) is none) 9 (test.sticky s f) refl)
 
   -- RMDIR, of an empty directory
-  pub may_remove_directory : first (remove_dir_rules s name) ≡ None → (f : Fattr) → found s name ≡ Some f → MayUnlinkSeen s.tree s.file.fileid name f.fileid (standing_of f)
+  pub may_remove_directory : first (rmdir_rules s name) ≡ None → (f : Fattr) → found s name ≡ Some f → MayUnlinkSeen s.tree s.file.fileid name f.fileid (standing_of f)
   may_remove_directory none f is =
-      let passed = passed_at (remove_dir_rules s name) none in
+      let passed = passed_at (rmdir_rules s name) none in
       let rules : Option Fattr → List Test = λ o. test.read_only s ∷ test.not_directory s ∷ test.dot_alone name ∷ test.dot_dot_alone name ∷ test.name_long name ∷ test.name_form name ∷ test.search_right s ∷ test.no_entry s name ∷ test.directory_write s
       ∷ on_some o [] (λ f. test.sticky s f ∷ test.target_not_directory f ∷ test.not_empty s.tree f ∷ []) in
       let passed_there = passed_at (rules (Some f)) (subst (λ o. first (rules o) ≡ None) is none) in

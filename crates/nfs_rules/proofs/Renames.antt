@@ -1,5 +1,5 @@
 -- Where no rule is failed, an entry may go to another name.
-use Rattle.std.proofs.Common.{inl, inr, ◌≡◌, ◌≢◌, ◌⊎◌, ℕ, ◌-◌, ◌<◌, ◌^◌, Bool, true, false, List, [], ◌∷◌, Option, Some, None, refl, sym, ap, subst, ◌∙◌}
+use Rattle.std.proofs.Common.{inl, inr, ◌≡◌, ◌≢◌, ◌⊎◌, ℕ, ◌-◌, ◌<◌, ◌^◌, Bool, true, false, List, [], ◌∷◌, Option, Some, None, option_map, refl, sym, ap, subst, ◌∙◌}
 use Rattle.std.specs.Prelude.{nat_eq, not, ◌&&◌, ◌||◌, if◌then◌else◌}
 use Rattle.std.proofs.lemmas.Bool.{not-false, leb-false}
 use Rattle.nfs_args.specs.declared.rename.Rename.{Rename}
@@ -7,7 +7,9 @@ use Rattle.nfs_attrs.specs.declared.fattr.Fattr.{Fattr}
 use Rattle.nfs_inodes.specs.Limits.{max_links}
 use Rattle.nfs_inodes.specs.Tree.{Tree, File, Entry, on_some, entries_in, next_cookie_in, is_directory, nlink}
 use Rattle.nfs_inodes.specs.Law.{Law, IsName, Lives, LivesAsDirectory}
-use Rattle.nfs_inodes.specs.Conditions.{IsOff, NamesOther, MayReplace, MayRename}
+use Rattle.nfs_handles.specs.declared.number.Number.{Number}
+use Rattle.nfs_inodes.specs.declared.renaming.Route.{Route}
+use Rattle.nfs_inodes.specs.Conditions.{IsOff, NamesOther, MayReplace, MayRename, MayRenameSeen}
 use Rattle.nfs_inodes.specs.Reading.{attributes_at, entry_at, entry_named, has_name, is_directory_type}
 use Rattle.nfs_inodes.proofs.Lists.{by_test, by_number, not_both, same_some, find_contains}
 use Rattle.nfs_inodes.proofs.Maps.{same_number, apart_number}
@@ -41,7 +43,7 @@ both_so : (one two : Bool) → one ≡ true → two ≡ true → (one && two) �
 both_so true two y z = z
 both_so false two y z = cc
 
--- the rules of RENAME, with others behind those of the handles, the names and the rights
+-- the rules of RENAME, with others after those of the handles, the names and the rights
 abbrev pub rules_before : Subject → Subject → Rename → List Test → List Test
 rules_before from to a others = read_only from ∷ not_directory from ∷ not_directory to ∷ dot_name a.from.name ∷ dot_name a.to.name
     ∷ name_long a.from.name ∷ name_long a.to.name ∷ name_form a.from.name ∷ name_form a.to.name ∷ search_right from ∷ search_right to
@@ -213,8 +215,8 @@ pub rename_lets_go : (from to : Subject) (a : Rename) (moved : Fattr) → found 
     → (lets_go from.ids from.file moved && on_some (found to a.to.name) true (lets_go to.ids to.file)) ≡ true
 rename_lets_go from to a moved is other none =
     let there = subst (λ o. first (rules_before from to a (on_some o [] (λ m. move_rules from to m (found to a.to.name)))) ≡ None) is none in
-    let behind = subst (λ b. first (rules_before from to a (if b then [] else (sticky_move from to moved (found to a.to.name) ∷ entering_rules from to moved (found to a.to.name)))) ≡ None) other there in
-    not-false _ (passed_at (rules_before from to a (sticky_move from to moved (found to a.to.name) ∷ entering_rules from to moved (found to a.to.name))) behind 14 (sticky_move from to moved (found to a.to.name)) refl)
+    let after = subst (λ b. first (rules_before from to a (if b then [] else (sticky_move from to moved (found to a.to.name) ∷ entering_rules from to moved (found to a.to.name)))) ≡ None) other there in
+    not-false _ (passed_at (rules_before from to a (sticky_move from to moved (found to a.to.name) ∷ entering_rules from to moved (found to a.to.name))) after 14 (sticky_move from to moved (found to a.to.name)) refl)
 
 -- RENAME
 pub may_rename : (t : Tree) → Law t → (one two : Subject) → one.tree ≡ t → two.tree ≡ t → attributes_at one.tree one.file.fileid ≡ Some one.file → attributes_at two.tree two.file.fileid ≡ Some two.file → one.file.fsid ≡ two.file.fsid
@@ -222,3 +224,35 @@ pub may_rename : (t : Tree) → Law t → (one two : Subject) → one.tree ≡ t
 may_rename t law one two tree_one tree_two seen_one seen_two same a none =
     may_rename_over t law one two (subst (λ u. attributes_at u one.file.fileid ≡ Some one.file) tree_one seen_one) (subst (λ u. attributes_at u two.file.fileid ≡ Some two.file) tree_two seen_two) a same
     (subst (λ u. first (rename_rules (over u one) (over t two) a) ≡ None) tree_one (subst (λ u. first (rename_rules one (over u two) a) ≡ None) tree_two none))
+
+-- the entry of a name in a directory, where the rules have found what it names
+entry_found : (s : Subject) → Law s.tree → attributes_at s.tree s.file.fileid ≡ Some s.file → (not_directory s).1 ≡ false → (name : List ℕ) → (dot_name name).1 ≡ false → (o : Option Fattr) → found s name ≡ o
+    → option_map (λ (e : Entry). e.number) (entry_at s.tree s.file.fileid name) ≡ option_map (λ (f : Fattr). f.fileid) o
+entry_found s law seen directory name dots None is =
+    let dir = lives_as_directory s law seen directory in
+    ap (λ o. option_map (λ (e : Entry). e.number) (on_some o None (λ (f : File). entry_named name (entries_in f.kind)))) dir.1.0
+    ∙ ap (option_map (λ (e : Entry). e.number)) (absent_name s.tree s.file.fileid dir.0 dir.1 name (none_under s name law is)).2
+entry_found s law seen directory name dots (Some f) is =
+    let dir = lives_as_directory s law seen directory in
+    let other = no_dots name dots in
+    let entry = present_name s.tree s.file.fileid dir.0 dir.1 name f.fileid (found_seen s name f is).0 other.0 other.1 in
+    ap (λ o. option_map (λ (e : Entry). e.number) (on_some o None (λ (f : File). entry_named name (entries_in f.kind)))) dir.1.0
+    ∙ ap (option_map (λ (e : Entry). e.number)) entry.1 ∙ ap Some entry.2
+
+-- RENAME, of the files that its rules have found
+pub may_rename_seen : (t : Tree) → Law t → (one two : Subject) → one.tree ≡ t → two.tree ≡ t → attributes_at one.tree one.file.fileid ≡ Some one.file → attributes_at two.tree two.file.fileid ≡ Some two.file → one.file.fsid ≡ two.file.fsid
+    → (a : Rename) → first (rename_rules one two a) ≡ None → (route : Route) → route.from.0 ≡ one.file.fileid → route.to.0 ≡ two.file.fileid
+    → Some route.number.0 ≡ option_map (λ (f : Fattr). f.fileid) (found one a.from.name) → option_map (λ (n : Number). n.0) route.replaced ≡ option_map (λ (f : Fattr). f.fileid) (found two a.to.name)
+    → MayRenameSeen t route a.from.name a.to.name
+may_rename_seen t law one two tree_one tree_two seen_one seen_two same a none route from_is to_is moved replaced =
+    let passed = passed_at (rename_rules one two a) none in
+    let entry_one = entry_found one (subst Law (sym tree_one) law) seen_one (passed 1 (not_directory one) refl) a.from.name (passed 3 (dot_name a.from.name) refl) (found one a.from.name) refl in
+    let entry_two = entry_found two (subst Law (sym tree_two) law) seen_two (passed 2 (not_directory two) refl) a.to.name (passed 4 (dot_name a.to.name) refl) (found two a.to.name) refl in
+    record {
+      may = subst (λ d. MayRename t d a.from.name route.to.0 a.to.name) (sym from_is)
+          (subst (λ d. MayRename t one.file.fileid a.from.name d a.to.name) (sym to_is) (may_rename t law one two tree_one tree_two seen_one seen_two same a none));
+      found = moved ∙ sym entry_one ∙ ap (λ u. option_map (λ (e : Entry). e.number) (entry_at u one.file.fileid a.from.name)) tree_one
+          ∙ ap (λ d. option_map (λ (e : Entry). e.number) (entry_at t d a.from.name)) (sym from_is);
+      names = replaced ∙ sym entry_two ∙ ap (λ u. option_map (λ (e : Entry). e.number) (entry_at u two.file.fileid a.to.name)) tree_two
+          ∙ ap (λ d. option_map (λ (e : Entry). e.number) (entry_at t d a.to.name)) (sym to_is);
+    }

@@ -4,7 +4,7 @@ use Rattle.std.specs.Prelude.{nat_eq, slice_get, is_some, not, ◌&&◌}
 use Rattle.std.proofs.lemmas.Bool.{not-false, ltb-false, eqb-true}
 use Rattle.nfs_args.specs.declared.create.Create.{Create}
 use Rattle.nfs_args.specs.declared.create.CreateHow.TheVariants.{Unchecked}
-use Rattle.nfs_args.specs.declared.set_attr.SetAttr.{SetAttr}
+use Rattle.nfs_args.specs.declared.setattr.Setattr.{Setattr}
 use Rattle.nfs_args.specs.declared.write.Write.{Write}
 use Rattle.nfs_attrs.specs.declared.fattr.Fattr.{Fattr}
 use Rattle.nfs_attrs.specs.declared.sattr.Sattr.{Sattr}
@@ -16,7 +16,7 @@ use Rattle.nfs_inodes.specs.Reading.{attributes_at, is_regular_type}
 use Rattle.nfs_inodes.proofs.Lists.{by_test, if_false}
 use Rattle.nfs_rules.specs.Subjects.{Subject}
 use Rattle.nfs_rules.specs.Tests.{first, not_regular, size_type, too_big, end_of, growth, space, found}
-use Rattle.nfs_rules.specs.Table.{write_rules, set_attr_rules, create_rules}
+use Rattle.nfs_rules.specs.Table.{write_rules, setattr_rules, create_rules}
 use Rattle.nfs_rules.proofs.Firsts.{passed_at}
 use Rattle.nfs_rules.proofs.SeenFiles.{seen_lives, seen_regular, seen_size, found_seen}
 use Rattle.nfs_rules.proofs.Room.{has_space}
@@ -71,9 +71,9 @@ module _ (s : Subject) (law : Law s.tree) (seen : attributes_at s.tree s.file.fi
       }
 
   -- SETATTR of a size
-  pub may_set_size : (a : SetAttr) → first (set_attr_rules s a) ≡ None → (n : ℕ) → a.attributes.size ≡ Some n → MayResize s.tree s.file.fileid n
+  pub may_set_size : (a : Setattr) → first (setattr_rules s a) ≡ None → (n : ℕ) → a.attributes.size ≡ Some n → MayResize s.tree s.file.fileid n
   may_set_size a none n is =
-      let passed = passed_at (set_attr_rules s a) none in
+      let passed = passed_at (setattr_rules s a) none in
       may_resize_to n
       (regular_with a.attributes.size n (is_regular_type s.file.file_type) is (passed 5 (size_type s a.attributes) refl))
       (subst (λ o. (too_big o).1 ≡ false) is (passed 9 (too_big a.attributes.size) refl))

@@ -44,7 +44,7 @@ name_of rule.LinkDirectory = codes "link-dir"
 name_of rule.Files = codes "files"
 name_of rule.Links = codes "links"
 name_of rule.Numbers = codes "numbers"
-name_of rule.NoMakeNode = codes "no-mknod"
+name_of rule.NoMknod = codes "no-mknod"
 name_of rule.TooSmall = codes "too-small"
 
 -- nfsstat3 and mountstat3
@@ -89,5 +89,5 @@ status_of rule.LinkDirectory = 22
 status_of rule.Files = 28
 status_of rule.Links = 31
 status_of rule.Numbers = 28
-status_of rule.NoMakeNode = 10004
+status_of rule.NoMknod = 10004
 status_of rule.TooSmall = 10005

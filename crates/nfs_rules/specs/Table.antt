@@ -5,10 +5,10 @@ use Rattle.nfs_args.specs.declared.args.NfsArgs.TheVariants as nfs
 use Rattle.nfs_args.specs.declared.create.Create.{Create}
 use Rattle.nfs_args.specs.declared.create.CreateHow.{CreateHow}
 use Rattle.nfs_args.specs.declared.create.CreateHow.TheVariants.{Unchecked, Guarded, Exclusive}
-use Rattle.nfs_args.specs.declared.read_dir.ReadDir.{ReadDir}
-use Rattle.nfs_args.specs.declared.read_dir.ReadDirPlus.{ReadDirPlus}
+use Rattle.nfs_args.specs.declared.readdir.Readdir.{Readdir}
+use Rattle.nfs_args.specs.declared.readdir.Readdirplus.{Readdirplus}
 use Rattle.nfs_args.specs.declared.rename.Rename.{Rename}
-use Rattle.nfs_args.specs.declared.set_attr.SetAttr.{SetAttr}
+use Rattle.nfs_args.specs.declared.setattr.Setattr.{Setattr}
 use Rattle.nfs_args.specs.declared.write.Write.{Write}
 use Rattle.nfs_attrs.specs.declared.fattr.Fattr.{Fattr}
 use Rattle.nfs_dirs.specs.Pages.{plus_bytes}
@@ -27,8 +27,8 @@ use Rattle.nfs_rules.specs.declared.rule.Rule.TheVariants as rule
 
 -- ---- SETATTR and WRITE
 
-abbrev pub set_attr_rules : Subject → SetAttr → List Test
-set_attr_rules s a =
+abbrev pub setattr_rules : Subject → Setattr → List Test
+setattr_rules s a =
     read_only s ∷ guard s a.guard ∷ owner_mode s a.attributes ∷ owner_uid s a.attributes ∷ owner_gid s a.attributes
     ∷ size_type s a.attributes ∷ only_where (is_some a.attributes.size) (write_right s) ∷ owner_time s a.attributes ∷ time_right s a.attributes
     ∷ too_big a.attributes.size ∷ space s (growth s a.attributes.size) ∷ []
@@ -45,11 +45,11 @@ lookup_rules s name = not_directory s ∷ search_right s ∷ name_long name ∷ 
 abbrev pub read_rules : Subject → List Test
 read_rules s = not_regular s ∷ read_right s ∷ []
 
-abbrev pub read_dir_rules : Subject → ReadDir → List Test
-read_dir_rules s a = not_directory s ∷ directory_read s ∷ too_small s a.cookie a.count 0 ∷ []
+abbrev pub readdir_rules : Subject → Readdir → List Test
+readdir_rules s a = not_directory s ∷ directory_read s ∷ too_small s a.cookie a.count 0 ∷ []
 
-abbrev pub read_dir_plus_rules : Subject → ReadDirPlus → List Test
-read_dir_plus_rules s a = not_directory s ∷ directory_read s ∷ too_small s a.cookie a.maxcount (plus_bytes (may s.ids s.file Execute)) ∷ []
+abbrev pub readdirplus_rules : Subject → Readdirplus → List Test
+readdirplus_rules s a = not_directory s ∷ directory_read s ∷ too_small s a.cookie a.maxcount (plus_bytes (may s.ids s.file Execute)) ∷ []
 
 -- ---- new files
 
@@ -72,12 +72,12 @@ abbrev pub create_rules : Subject → Create → List Test
 create_rules s a = read_only s ∷ not_directory s ∷ name_long a.place.name ∷ name_form a.place.name ∷ search_right s ∷ exists_other s a.place.name a.how
     ∷ on_some (found s a.place.name) (new_file_rules s (size_in a.how)) (λ f. present_file_rules (record s { file = f }) a.how)
 
-abbrev pub make_dir_rules : Subject → List ℕ → List Test
-make_dir_rules s name = read_only s ∷ not_directory s ∷ name_long name ∷ name_form name ∷ search_right s ∷ exists s name ∷ directory_write s
+abbrev pub mkdir_rules : Subject → List ℕ → List Test
+mkdir_rules s name = read_only s ∷ not_directory s ∷ name_long name ∷ name_form name ∷ search_right s ∷ exists s name ∷ directory_write s
     ∷ files s ∷ links s.file ∷ numbers s ∷ []
 
-abbrev pub sym_link_rules : Subject → List ℕ → List ℕ → List Test
-sym_link_rules s name path = read_only s ∷ not_directory s ∷ name_long name ∷ name_form name ∷ search_right s ∷ path_long path
+abbrev pub symlink_rules : Subject → List ℕ → List ℕ → List Test
+symlink_rules s name path = read_only s ∷ not_directory s ∷ name_long name ∷ name_form name ∷ search_right s ∷ path_long path
     ∷ exists s name ∷ directory_write s ∷ files s ∷ numbers s ∷ []
 
 -- ---- entries
@@ -86,12 +86,12 @@ abbrev pub remove_rules : Subject → List ℕ → List Test
 remove_rules s name = read_only s ∷ not_directory s ∷ dot_name name ∷ name_long name ∷ name_form name ∷ search_right s ∷ no_entry s name ∷ directory_write s
     ∷ on_some (found s name) [] (λ f. sticky s f ∷ is_directory f ∷ [])
 
-abbrev pub remove_dir_rules : Subject → List ℕ → List Test
-remove_dir_rules s name = read_only s ∷ not_directory s ∷ dot_alone name ∷ dot_dot_alone name ∷ name_long name ∷ name_form name
+abbrev pub rmdir_rules : Subject → List ℕ → List Test
+rmdir_rules s name = read_only s ∷ not_directory s ∷ dot_alone name ∷ dot_dot_alone name ∷ name_long name ∷ name_form name
     ∷ search_right s ∷ no_entry s name ∷ directory_write s
     ∷ on_some (found s name) [] (λ f. sticky s f ∷ target_not_directory f ∷ not_empty s.tree f ∷ [])
 
--- the file and the directory that takes the further name
+-- the file and the directory that takes the hard link
 abbrev pub link_rules : Subject → Subject → List ℕ → List Test
 link_rules file dir name = read_only file ∷ link_directory file ∷ not_directory dir ∷ name_long name ∷ name_form name ∷ search_right dir ∷ exists dir name
     ∷ directory_write dir ∷ links file.file ∷ cookies dir ∷ []
@@ -147,24 +147,24 @@ rename_rules from to a = read_only from ∷ not_directory from ∷ not_directory
 -- by the file of the first handle and that of the second; where there is only one, both are it
 abbrev pub rules_of : Subject → Subject → NfsArgs → List Test
 rules_of one two nfs.Null = []
-rules_of one two (nfs.GetAttr file) = []
-rules_of one two (nfs.SetAttr a) = set_attr_rules one a
+rules_of one two (nfs.Getattr file) = []
+rules_of one two (nfs.Setattr a) = setattr_rules one a
 rules_of one two (nfs.Lookup a) = lookup_rules one a.name
 rules_of one two (nfs.Access a) = []
-rules_of one two (nfs.ReadLink file) = not_link one ∷ []
+rules_of one two (nfs.Readlink file) = not_link one ∷ []
 rules_of one two (nfs.Read a) = read_rules one
 rules_of one two (nfs.Write a) = write_rules one a
 rules_of one two (nfs.Create a) = create_rules one a
-rules_of one two (nfs.MakeDir a) = make_dir_rules one a.place.name
-rules_of one two (nfs.SymLink a) = sym_link_rules one a.place.name a.path
-rules_of one two (nfs.MakeNode a) = (rule.NoMakeNode, true) ∷ []
+rules_of one two (nfs.Mkdir a) = mkdir_rules one a.place.name
+rules_of one two (nfs.Symlink a) = symlink_rules one a.place.name a.path
+rules_of one two (nfs.Mknod a) = (rule.NoMknod, true) ∷ []
 rules_of one two (nfs.Remove a) = remove_rules one a.name
-rules_of one two (nfs.RemoveDir a) = remove_dir_rules one a.name
+rules_of one two (nfs.Rmdir a) = rmdir_rules one a.name
 rules_of one two (nfs.Rename a) = rename_rules one two a
 rules_of one two (nfs.Link a) = link_rules one two a.place.name
-rules_of one two (nfs.ReadDir a) = read_dir_rules one a
-rules_of one two (nfs.ReadDirPlus a) = read_dir_plus_rules one a
-rules_of one two (nfs.FsStat file) = []
-rules_of one two (nfs.FsInfo file) = []
-rules_of one two (nfs.PathConf file) = []
+rules_of one two (nfs.Readdir a) = readdir_rules one a
+rules_of one two (nfs.Readdirplus a) = readdirplus_rules one a
+rules_of one two (nfs.Fsstat file) = []
+rules_of one two (nfs.Fsinfo file) = []
+rules_of one two (nfs.Pathconf file) = []
 rules_of one two (nfs.Commit a) = not_regular one ∷ []

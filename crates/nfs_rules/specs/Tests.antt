@@ -153,7 +153,7 @@ links f = (rule.Links, nat_le max_links f.nlink)
 abbrev pub last_number : ℕ
 last_number = 2 ^ 64 - 1
 
--- for a further name
+-- for a hard link
 abbrev pub cookies : Subject → Test
 cookies s = (rule.Numbers, on_some (next_cookie_at s.tree s.file.fileid) false (nat_le last_number))
 
@@ -216,7 +216,7 @@ is_directory f = (rule.IsDirectory, is_directory_type f.file_type)
 abbrev pub target_not_directory : Fattr → Test
 target_not_directory f = (rule.TargetNotDirectory, not (is_directory_type f.file_type))
 
--- a directory lists nothing behind `.` and `..`
+-- a directory lists nothing after `.` and `..`
 abbrev pub is_empty : Tree → Fattr → Bool
 is_empty t f = is_none (entry_after t f.fileid 2)
 

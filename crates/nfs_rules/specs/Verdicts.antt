@@ -2,7 +2,7 @@
 use Rattle.std.specs.Prelude.{ℕ, Bool, true, false, not, List, [], ◌∷◌, ◌++◌, Option, Some, None, option_map, is_none, Result, Ok, Err, nat_eq, if◌then◌else◌}
 use Rattle.nfs_args.specs.declared.args.NfsArgs.{NfsArgs}
 use Rattle.nfs_args.specs.declared.args.NfsArgs.TheVariants as nfs
-use Rattle.nfs_exports.specs.declared.table.Export.{Export}
+use Rattle.nfs_exports.specs.declared.export_table.Export.{Export}
 use Rattle.nfs_handles.specs.Handles.{reading}
 use Rattle.nfs_handles.specs.declared.reading.Reading.{Reading}
 use Rattle.nfs_handles.specs.declared.reading.Reading.TheVariants.{Stale, Bad}
@@ -44,26 +44,26 @@ handles_rules t exports caller (one ∷ two ∷ others) = handle_rules t exports
 -- the handles of a call, in their order
 abbrev pub handles_in : NfsArgs → List (List ℕ)
 handles_in nfs.Null = []
-handles_in (nfs.GetAttr file) = file ∷ []
-handles_in (nfs.SetAttr a) = a.file ∷ []
+handles_in (nfs.Getattr file) = file ∷ []
+handles_in (nfs.Setattr a) = a.file ∷ []
 handles_in (nfs.Lookup a) = a.dir ∷ []
 handles_in (nfs.Access a) = a.file ∷ []
-handles_in (nfs.ReadLink file) = file ∷ []
+handles_in (nfs.Readlink file) = file ∷ []
 handles_in (nfs.Read a) = a.file ∷ []
 handles_in (nfs.Write a) = a.file ∷ []
 handles_in (nfs.Create a) = a.place.dir ∷ []
-handles_in (nfs.MakeDir a) = a.place.dir ∷ []
-handles_in (nfs.SymLink a) = a.place.dir ∷ []
-handles_in (nfs.MakeNode a) = a.place.dir ∷ []
+handles_in (nfs.Mkdir a) = a.place.dir ∷ []
+handles_in (nfs.Symlink a) = a.place.dir ∷ []
+handles_in (nfs.Mknod a) = a.place.dir ∷ []
 handles_in (nfs.Remove a) = a.dir ∷ []
-handles_in (nfs.RemoveDir a) = a.dir ∷ []
+handles_in (nfs.Rmdir a) = a.dir ∷ []
 handles_in (nfs.Rename a) = a.from.dir ∷ a.to.dir ∷ []
 handles_in (nfs.Link a) = a.file ∷ a.place.dir ∷ []
-handles_in (nfs.ReadDir a) = a.dir ∷ []
-handles_in (nfs.ReadDirPlus a) = a.dir ∷ []
-handles_in (nfs.FsStat file) = file ∷ []
-handles_in (nfs.FsInfo file) = file ∷ []
-handles_in (nfs.PathConf file) = file ∷ []
+handles_in (nfs.Readdir a) = a.dir ∷ []
+handles_in (nfs.Readdirplus a) = a.dir ∷ []
+handles_in (nfs.Fsstat file) = file ∷ []
+handles_in (nfs.Fsinfo file) = file ∷ []
+handles_in (nfs.Pathconf file) = file ∷ []
 handles_in (nfs.Commit a) = a.file ∷ []
 
 -- ---- the verdict

@@ -3,7 +3,7 @@ ghost use Rattle.std.specs.Prelude.{◌≡◌, false, bytes_eq, Some, IfSome, If
 ghost use Rattle.nfs_inodes.specs.Reading.{number_under, verifier_at};
 ghost use Rattle.nfs_inodes.specs.Tree.{on_some};
 ghost use Rattle.nfs_inodes.specs.Views.{IsSeen};
-ghost use Rattle.nfs_rules.specs.Judging.{Tells};
+ghost use Rattle.nfs_rules.specs.Judging.{Reports};
 ghost use Rattle.nfs_rules.specs.Tests as test;
 
 use crate::rights::lets_go;
@@ -14,7 +14,7 @@ use nfs_attrs::fattr::Fattr;
 use nfs_attrs::file_type::FileType;
 use nfs_inodes::view::FileView;
 
-// The cookie of `..`, behind which the other entries stand.
+// The cookie of `..`, after which the other entries stand.
 const LAST_DOT_COOKIE: u64 = 2;
 
 impl<'a> Subject<'a> {
@@ -31,7 +31,7 @@ impl<'a> Subject<'a> {
     /// `NoEntry`: there is an entry of the name, whose file is answered.
     #[inline(always)]
     pub(crate) fn must_find(&self, name: &[u8]) -> Result<FileView<'a>, Rule>
-        ensures rule { Tells result (test.no_entry self.now name.now) }
+        ensures rule { Reports result (test.no_entry self.now name.now) }
         ensures found { IfOk result (λ f. test.found self.now name.now ≡ Some f.attributes) }
         ensures seen { IfOk result (λ f. IsSeen self.now.tree f) }
         ensures number { IfOk result (λ f. number_under self.now.tree self.now.file.fileid name.now ≡ Some f.attributes.fileid) }
@@ -44,7 +44,7 @@ impl<'a> Subject<'a> {
 
     /// `Exists`: there is no entry of the name.
     pub(crate) fn must_be_free(&self, name: &[u8]) -> Result<(), Rule>
-        ensures { Tells result (test.exists self.now name.now) }
+        ensures { Reports result (test.exists self.now name.now) }
     {
         ensure(self.found(name).is_none(), Rule::Exists)
     }
@@ -57,7 +57,7 @@ impl<'a> Subject<'a> {
         name: &[u8],
         how: &CreateHow,
     ) -> Result<Option<FileView<'a>>, Rule>
-        ensures rule { Tells result (test.exists_other self.now name.now how.now) }
+        ensures rule { Reports result (test.exists_other self.now name.now how.now) }
         ensures found { IfOk result (λ o. option_map (λ f. f.attributes) o ≡ test.found self.now name.now) }
         ensures seen { IfOk result (λ o. IfSome o (λ f. IsSeen self.now.tree f)) }
     {
@@ -98,7 +98,7 @@ impl<'a> Subject<'a> {
 
     /// `Sticky`: the directory lets the entry of a file go.
     pub(crate) fn must_let_go(&self, file: &Fattr) -> Result<(), Rule>
-        ensures { Tells result (test.sticky self.now file.now) }
+        ensures { Reports result (test.sticky self.now file.now) }
     {
         ensure(lets_go(&self.ids, &self.attributes(), file), Rule::Sticky)
     }
@@ -106,7 +106,7 @@ impl<'a> Subject<'a> {
     /// `NotEmpty`: a directory lists nothing but `.` and `..`.
     pub(crate) fn must_be_empty(&self, dir: &FileView<'_>) -> Result<(), Rule>
         requires { IsSeen self.now.tree dir.now }
-        ensures { Tells result (test.not_empty self.now.tree dir.now.attributes) }
+        ensures { Reports result (test.not_empty self.now.tree dir.now.attributes) }
     {
         ensure(self.is_empty(dir), Rule::NotEmpty)
     }
@@ -121,7 +121,7 @@ impl<'a> Subject<'a> {
 
 /// `IsDirectory`: the file is no directory.
 pub(crate) fn must_not_be_directory(file: &Fattr) -> Result<(), Rule>
-    ensures { Tells result (test.is_directory file.now) }
+    ensures { Reports result (test.is_directory file.now) }
 {
     match file.file_type {
         FileType::Directory => Err(Rule::IsDirectory),
@@ -131,7 +131,7 @@ pub(crate) fn must_not_be_directory(file: &Fattr) -> Result<(), Rule>
 
 /// `TargetNotDirectory`: the file is a directory.
 pub(crate) fn must_be_directory(file: &Fattr) -> Result<(), Rule>
-    ensures { Tells result (test.target_not_directory file.now) }
+    ensures { Reports result (test.target_not_directory file.now) }
 {
     match file.file_type {
         FileType::Directory => Ok(()),

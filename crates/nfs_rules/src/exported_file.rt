@@ -11,9 +11,9 @@ use crate::caller::Caller;
 use crate::rule::Rule;
 use crate::subject::Subject;
 use nfs_attrs::fattr::Fattr;
+use nfs_exports::export_table::ExportTable;
 use nfs_exports::options::Options;
 use nfs_exports::squash::squash;
-use nfs_exports::table::Table;
 use nfs_handles::reading::NoFile;
 use nfs_inodes::tree::Tree;
 use nfs_inodes::view::FileView;
@@ -54,7 +54,7 @@ impl<'a> ExportedFile<'a> {
     #[inline(always)]
     pub fn of(
         tree: &'a Tree,
-        table: &'a Table,
+        table: &'a ExportTable,
         caller: Caller<'a>,
         handle: &[u8],
     ) -> Result<ExportedFile<'a>, Rule>

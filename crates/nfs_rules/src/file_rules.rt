@@ -2,7 +2,7 @@
 //! 4.4). The owner of a file may read and write it whatever its mode says, and who may execute it
 //! may read it.
 ghost use Rattle.std.specs.Prelude.{◌≡◌};
-ghost use Rattle.nfs_rules.specs.Judging.{Tells};
+ghost use Rattle.nfs_rules.specs.Judging.{Reports};
 ghost use Rattle.nfs_rules.specs.Rights as rights;
 ghost use Rattle.nfs_rules.specs.Tests as test;
 
@@ -23,7 +23,7 @@ impl<'a> Subject<'a> {
     /// `ReadOnly`: the volume is exported for writing.
     #[inline(always)]
     pub fn must_not_be_read_only(&self) -> Result<(), Rule>
-        ensures { Tells result (test.read_only self.now) }
+        ensures { Reports result (test.read_only self.now) }
     {
         ensure(!self.options.read_only, Rule::ReadOnly)
     }
@@ -31,7 +31,7 @@ impl<'a> Subject<'a> {
     /// `NotRegular`: the file is a regular one.
     #[inline(always)]
     pub fn must_be_regular(&self) -> Result<(), Rule>
-        ensures { Tells result (test.not_regular self.now) }
+        ensures { Reports result (test.not_regular self.now) }
     {
         match self.attributes().file_type {
             FileType::Regular => Ok(()),
@@ -42,7 +42,7 @@ impl<'a> Subject<'a> {
     /// `NotLink`: the file is a symbolic link.
     #[inline(always)]
     pub fn must_be_link(&self) -> Result<(), Rule>
-        ensures { Tells result (test.not_link self.now) }
+        ensures { Reports result (test.not_link self.now) }
     {
         match self.attributes().file_type {
             FileType::SymbolicLink => Ok(()),
@@ -53,7 +53,7 @@ impl<'a> Subject<'a> {
     /// `NotDirectory`: the file is a directory.
     #[inline(always)]
     pub(crate) fn must_be_directory(&self) -> Result<(), Rule>
-        ensures { Tells result (test.not_directory self.now) }
+        ensures { Reports result (test.not_directory self.now) }
     {
         match self.attributes().file_type {
             FileType::Directory => Ok(()),
@@ -64,7 +64,7 @@ impl<'a> Subject<'a> {
     /// `LinkDirectory`: the file is no directory.
     #[inline(always)]
     pub(crate) fn must_not_be_directory(&self) -> Result<(), Rule>
-        ensures { Tells result (test.link_directory self.now) }
+        ensures { Reports result (test.link_directory self.now) }
     {
         match self.attributes().file_type {
             FileType::Directory => Err(Rule::LinkDirectory),
@@ -75,7 +75,7 @@ impl<'a> Subject<'a> {
     /// `ReadRight`: the caller may read or execute the file, or owns it.
     #[inline(always)]
     pub(crate) fn must_be_readable(&self) -> Result<(), Rule>
-        ensures { Tells result (test.read_right self.now) }
+        ensures { Reports result (test.read_right self.now) }
     {
         let kept = self.owns_or_may(Right::Read)
             || may(&self.ids, &self.attributes(), Right::Execute);
@@ -85,7 +85,7 @@ impl<'a> Subject<'a> {
     /// `WriteRight`: the caller may write the file, or owns it.
     #[inline(always)]
     pub(crate) fn must_be_writable(&self) -> Result<(), Rule>
-        ensures { Tells result (test.write_right self.now) }
+        ensures { Reports result (test.write_right self.now) }
     {
         ensure(self.owns_or_may(Right::Write), Rule::WriteRight)
     }
@@ -93,7 +93,7 @@ impl<'a> Subject<'a> {
     /// `Search`: the caller may search the directory.
     #[inline(always)]
     pub(crate) fn must_be_searchable(&self) -> Result<(), Rule>
-        ensures { Tells result (test.search_right self.now) }
+        ensures { Reports result (test.search_right self.now) }
     {
         ensure(self.may_search(), Rule::Search)
     }
@@ -109,7 +109,7 @@ impl<'a> Subject<'a> {
     /// `DirectoryRead`: the caller may read the directory.
     #[inline(always)]
     pub(crate) fn must_be_listable(&self) -> Result<(), Rule>
-        ensures { Tells result (test.directory_read self.now) }
+        ensures { Reports result (test.directory_read self.now) }
     {
         ensure(
             may(&self.ids, &self.attributes(), Right::Read),
@@ -120,7 +120,7 @@ impl<'a> Subject<'a> {
     /// `DirectoryWrite`: the caller may write the directory.
     #[inline(always)]
     pub(crate) fn must_be_changeable(&self) -> Result<(), Rule>
-        ensures { Tells result (test.directory_write self.now) }
+        ensures { Reports result (test.directory_write self.now) }
     {
         ensure(
             may(&self.ids, &self.attributes(), Right::Write),

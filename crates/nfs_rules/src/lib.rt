@@ -9,6 +9,7 @@ pub mod file_rules;
 pub mod limit_rules;
 pub mod move_rules;
 pub mod name_rules;
+pub mod order;
 pub mod page_rules;
 pub mod rights;
 pub mod rule;

@@ -3,7 +3,7 @@
 ghost use Rattle.std.specs.Prelude.{◌≡◌, ◌+◌, ◌∷◌, [], false, not, nat_lt, nat_le};
 ghost use Rattle.nfs_inodes.specs.Reading.{next_cookie_at};
 ghost use Rattle.nfs_inodes.specs.Tree.{on_some};
-ghost use Rattle.nfs_rules.specs.Judging.{Tells, Judges};
+ghost use Rattle.nfs_rules.specs.Judging.{Reports, Judges};
 ghost use Rattle.nfs_rules.specs.Tests as test;
 
 use crate::exported_file::volume_index;
@@ -42,7 +42,7 @@ impl<'a> Subject<'a> {
 
     /// `Space`: the volume takes so many bytes more, if any.
     pub fn must_have_space(&self, more: Option<u64>) -> Result<(), Rule>
-        ensures { Tells result (test.space self.now more) }
+        ensures { Reports result (test.space self.now more) }
     {
         match more {
             None => Ok(()),
@@ -52,14 +52,14 @@ impl<'a> Subject<'a> {
 
     /// `Files`: the volume takes a file more.
     pub fn must_have_file_left(&self) -> Result<(), Rule>
-        ensures { Tells result (test.files self.now) }
+        ensures { Reports result (test.files self.now) }
     {
         ensure(self.has_file_left(), Rule::Files)
     }
 
     /// `Numbers`: the directory has a cookie left for a further entry.
     pub fn must_have_cookie_left(&self) -> Result<(), Rule>
-        ensures { Tells result (test.cookies self.now) }
+        ensures { Reports result (test.cookies self.now) }
     {
         ensure(self.has_cookie_left(), Rule::Numbers)
     }
@@ -67,7 +67,7 @@ impl<'a> Subject<'a> {
     /// `Numbers`: there is a number left for a new file, and the directory has a cookie left for its
     /// entry.
     pub fn must_have_number_left(&self) -> Result<(), Rule>
-        ensures { Tells result (test.numbers self.now) }
+        ensures { Reports result (test.numbers self.now) }
     {
         let kept = self.tree.next_number() < u64::MAX && self.has_cookie_left();
         ensure(kept, Rule::Numbers)
@@ -107,7 +107,7 @@ impl<'a> Subject<'a> {
 
 /// `TooBig`: a file has at most 16,777,216 bytes; without a size nothing is looked at.
 pub(crate) fn must_not_be_too_big(size: Option<u64>) -> Result<(), Rule>
-    ensures { Tells result (test.too_big size) }
+    ensures { Reports result (test.too_big size) }
 {
     match size {
         None => Ok(()),
@@ -117,7 +117,7 @@ pub(crate) fn must_not_be_too_big(size: Option<u64>) -> Result<(), Rule>
 
 /// `Links`: a file has at most 1,000 links.
 pub fn must_have_link_left(file: &Fattr) -> Result<(), Rule>
-    ensures { Tells result (test.links file.now) }
+    ensures { Reports result (test.links file.now) }
 {
     ensure(file.nlink < MAX_LINKS, Rule::Links)
 }

@@ -2,7 +2,7 @@
 ghost use Rattle.std.specs.Prelude.{◌≡◌, ◌&&◌, not, true, nat_eq, IfSome, option_map};
 ghost use Rattle.nfs_inodes.specs.Reading.{is_directory_type};
 ghost use Rattle.nfs_inodes.specs.Views.{IsSeen};
-ghost use Rattle.nfs_rules.specs.Judging.{Judges, Tells};
+ghost use Rattle.nfs_rules.specs.Judging.{Judges, Reports};
 ghost use Rattle.nfs_rules.specs.Table as table;
 ghost use Rattle.nfs_rules.specs.Tests as test;
 
@@ -75,7 +75,7 @@ impl<'a> Subject<'a> {
         moved: &FileView<'_>,
         old: &Option<FileView<'_>>,
     ) -> Result<(), Rule>
-        ensures { Tells result (table.sticky_move self.now to.now moved.now.attributes (option_map (λ f. f.attributes) old.now)) }
+        ensures { Reports result (table.sticky_move self.now to.now moved.now.attributes (option_map (λ f. f.attributes) old.now)) }
     {
         self.must_let_go(&moved.attributes())?;
         match old {
@@ -91,7 +91,7 @@ impl<'a> Subject<'a> {
         old: &FileView<'_>,
     ) -> Result<(), Rule>
         requires { IsSeen self.now.tree old.now }
-        ensures { Tells result (table.incompatible self.now moved.now.attributes old.now.attributes) }
+        ensures { Reports result (table.incompatible self.now moved.now.attributes old.now.attributes) }
     {
         let kept = if is_directory(moved) {
             is_directory(old) && self.is_empty(old)
@@ -104,7 +104,7 @@ impl<'a> Subject<'a> {
     /// `IntoItself`: what is moved is neither this directory nor above it.
     pub(crate) fn must_not_be_below(&self, moved: &FileView<'_>) -> Result<(), Rule>
         requires { is_directory_type self.now.file.file_type ≡ true }
-        ensures { Tells result (table.into_itself self.now moved.now.attributes) }
+        ensures { Reports result (table.into_itself self.now moved.now.attributes) }
     {
         if !is_directory(moved) {
             return Ok(());
@@ -115,7 +115,7 @@ impl<'a> Subject<'a> {
 
     // `Links`, where a directory comes into another directory than this one, which gains a link.
     fn must_have_link_left_for(&self, to: &Subject<'_>, moved: &FileView<'_>) -> Result<(), Rule>
-        ensures { Tells result (test.only_where (is_directory_type moved.now.attributes.file_type && not
+        ensures { Reports result (test.only_where (is_directory_type moved.now.attributes.file_type && not
             (nat_eq self.now.file.fileid to.now.file.fileid)) (test.links to.now.file)) }
     {
         if !is_directory(moved) || self.attributes().fileid == to.attributes().fileid {

@@ -2,7 +2,7 @@
 ghost use Rattle.std.specs.Prelude.{◌≡◌, bytes_eq};
 ghost use Rattle.std.specs.List.{list_any};
 ghost use Rattle.nfs_inodes.specs.Reading.{dot, dot_dot};
-ghost use Rattle.nfs_rules.specs.Judging.{Tells};
+ghost use Rattle.nfs_rules.specs.Judging.{Reports};
 ghost use Rattle.nfs_rules.specs.Tests as test;
 
 use crate::rule::{Rule, ensure};
@@ -10,42 +10,42 @@ use nfs_inodes::limits::{MAX_NAME_BYTES, MAX_PATH_BYTES};
 
 /// `NameLong`: a name has at most 255 bytes.
 pub(crate) fn name_must_be_short(name: &[u8]) -> Result<(), Rule>
-    ensures { Tells result (test.name_long name.now) }
+    ensures { Reports result (test.name_long name.now) }
 {
     ensure(name.len() <= MAX_NAME_BYTES, Rule::NameLong)
 }
 
 /// `NameForm`: a name has a byte, and none that is 0 or `/`.
 pub(crate) fn name_must_be_formed(name: &[u8]) -> Result<(), Rule>
-    ensures { Tells result (test.name_form name.now) }
+    ensures { Reports result (test.name_form name.now) }
 {
     ensure(!name.is_empty() && !has_separator(name), Rule::NameForm)
 }
 
 /// `DotName`: a name is neither `.` nor `..`.
 pub(crate) fn name_must_not_be_dots(name: &[u8]) -> Result<(), Rule>
-    ensures { Tells result (test.dot_name name.now) }
+    ensures { Reports result (test.dot_name name.now) }
 {
     ensure(!is_dot(name) && !is_dot_dot(name), Rule::DotName)
 }
 
 /// `DotName` in RMDIR: a name isn't `.`.
 pub(crate) fn name_must_not_be_dot(name: &[u8]) -> Result<(), Rule>
-    ensures { Tells result (test.dot_alone name.now) }
+    ensures { Reports result (test.dot_alone name.now) }
 {
     ensure(!is_dot(name), Rule::DotName)
 }
 
 /// `DotDot`: a name isn't `..`.
 pub(crate) fn name_must_not_be_dot_dot(name: &[u8]) -> Result<(), Rule>
-    ensures { Tells result (test.dot_dot_alone name.now) }
+    ensures { Reports result (test.dot_dot_alone name.now) }
 {
     ensure(!is_dot_dot(name), Rule::DotDot)
 }
 
 /// `PathLong`: a path has at most 1,024 bytes.
 pub fn path_must_be_short(path: &[u8]) -> Result<(), Rule>
-    ensures { Tells result (test.path_long path.now) }
+    ensures { Reports result (test.path_long path.now) }
 {
     ensure(path.len() <= MAX_PATH_BYTES, Rule::PathLong)
 }

@@ -1,6 +1,6 @@
 //! The rules of the procedures, each with its name and its status.
 ghost use Rattle.std.specs.Prelude.{◌≡◌, ◌≤◌, length, not};
-ghost use Rattle.nfs_rules.specs.Judging.{Tells};
+ghost use Rattle.nfs_rules.specs.Judging.{Reports};
 ghost use Rattle.nfs_rules.specs.Rules.{name_of, status_of};
 
 /// A rule that a call may fail. The comment of each says when it does.
@@ -79,7 +79,7 @@ pub enum Rule {
     Incompatible,
     /// A directory would go into itself or below itself.
     IntoItself,
-    /// The file that is to have a further name is a directory.
+    /// The file that is to have a hard link is a directory.
     LinkDirectory,
     /// The volume has as many files as it may have.
     Files,
@@ -88,7 +88,7 @@ pub enum Rule {
     /// There is no number left for a new file, or none for its entry.
     Numbers,
     /// A special file is asked for.
-    NoMakeNode,
+    NoMknod,
     /// The first entry that is left doesn't fit into the answer.
     TooSmall,
 }
@@ -140,7 +140,7 @@ impl Rule {
             Rule::Files => "files",
             Rule::Links => "links",
             Rule::Numbers => "numbers",
-            Rule::NoMakeNode => "no-mknod",
+            Rule::NoMknod => "no-mknod",
             Rule::TooSmall => "too-small",
         }
     }
@@ -191,7 +191,7 @@ impl Rule {
             Rule::Files => 28,
             Rule::Links => 31,
             Rule::Numbers => 28,
-            Rule::NoMakeNode => 10_004,
+            Rule::NoMknod => 10_004,
             Rule::TooSmall => 10_005,
         }
     }
@@ -200,7 +200,7 @@ impl Rule {
 // The rule where it is not kept.
 #[inline(always)]
 pub(crate) fn ensure(kept: bool, rule: Rule) -> Result<(), Rule>
-    ensures { Tells result (rule, not kept) }
+    ensures { Reports result (rule, not kept) }
 {
     if kept { Ok(()) } else { Err(rule) }
 }

@@ -3,7 +3,7 @@
 //! may all of this.
 ghost use Rattle.std.specs.Prelude.{◌≡◌, ◌||◌, nat_eq, is_some};
 ghost use Rattle.std.specs.List.{list_any};
-ghost use Rattle.nfs_rules.specs.Judging.{Tells};
+ghost use Rattle.nfs_rules.specs.Judging.{Reports};
 ghost use Rattle.nfs_rules.specs.Tests as test;
 
 use crate::rights::{Right, owns};
@@ -19,7 +19,7 @@ use nfs_exports::squash::Ids;
 impl<'a> Subject<'a> {
     /// `Guard`: the file's attributes were changed last when the guard says, if there is one.
     pub fn must_match_guard(&self, ctime: Option<Moment>) -> Result<(), Rule>
-        ensures { Tells result (test.guard self.now ctime) }
+        ensures { Reports result (test.guard self.now ctime) }
     {
         match ctime {
             None => Ok(()),
@@ -29,7 +29,7 @@ impl<'a> Subject<'a> {
 
     /// `OwnerMode`: who gives a mode owns the file.
     pub(crate) fn must_allow_mode(&self, given: &Sattr) -> Result<(), Rule>
-        ensures { Tells result (test.owner_mode self.now given.now) }
+        ensures { Reports result (test.owner_mode self.now given.now) }
     {
         match given.mode {
             None => Ok(()),
@@ -39,7 +39,7 @@ impl<'a> Subject<'a> {
 
     /// `OwnerUid`: the owner that is given is the present one, who gives it.
     pub(crate) fn must_allow_uid(&self, given: &Sattr) -> Result<(), Rule>
-        ensures { Tells result (test.owner_uid self.now given.now) }
+        ensures { Reports result (test.owner_uid self.now given.now) }
     {
         match given.uid {
             None => Ok(()),
@@ -52,7 +52,7 @@ impl<'a> Subject<'a> {
 
     /// `OwnerGid`: the group that is given is the present one or one of the owner's, who gives it.
     pub(crate) fn must_allow_gid(&self, given: &Sattr) -> Result<(), Rule>
-        ensures { Tells result (test.owner_gid self.now given.now) }
+        ensures { Reports result (test.owner_gid self.now given.now) }
     {
         match given.gid {
             None => Ok(()),
@@ -62,7 +62,7 @@ impl<'a> Subject<'a> {
 
     /// `SizeType`: the file to which a size is given is a regular one.
     pub(crate) fn must_allow_size(&self, given: &Sattr) -> Result<(), Rule>
-        ensures { Tells result (test.size_type self.now given.now) }
+        ensures { Reports result (test.size_type self.now given.now) }
     {
         match given.size {
             None => Ok(()),
@@ -75,7 +75,7 @@ impl<'a> Subject<'a> {
 
     /// `WriteRight`, where a size is given.
     pub(crate) fn must_be_writable_for_size(&self, size: Option<u64>) -> Result<(), Rule>
-        ensures { Tells result (test.only_where (is_some size) (test.write_right self.now)) }
+        ensures { Reports result (test.only_where (is_some size) (test.write_right self.now)) }
     {
         match size {
             None => Ok(()),
@@ -85,7 +85,7 @@ impl<'a> Subject<'a> {
 
     /// `OwnerTime`: who gives a time owns the file.
     pub(crate) fn must_allow_client_time(&self, given: &Sattr) -> Result<(), Rule>
-        ensures { Tells result (test.owner_time self.now given.now) }
+        ensures { Reports result (test.owner_time self.now given.now) }
     {
         if !is_client_time(given.atime) && !is_client_time(given.mtime) {
             return Ok(());
@@ -95,7 +95,7 @@ impl<'a> Subject<'a> {
 
     /// `TimeRight`: who asks for the server's time may write the file, or owns it.
     pub(crate) fn must_allow_server_time(&self, given: &Sattr) -> Result<(), Rule>
-        ensures { Tells result (test.time_right self.now given.now) }
+        ensures { Reports result (test.time_right self.now given.now) }
     {
         if !is_server_time(given.atime) && !is_server_time(given.mtime) {
             return Ok(());

@@ -1,9 +1,13 @@
 //! The rules of each procedure after those of its handles, in the order of the table. What a rule has
 //! found is answered where the procedure goes on with it.
-ghost use Rattle.std.specs.Prelude.{◌≡◌, true, Some, IfOk, option_map};
+ghost use Rattle.std.specs.Prelude.{◌≡◌, true, Some, IfOk, min, option_map};
+ghost use Rattle.nfs_args.specs.Sizes.{max_page};
+ghost use Rattle.nfs_dirs.specs.Opening.{IsOpen};
+ghost use Rattle.nfs_dirs.specs.Pages.{left_after, plus_bytes};
 ghost use Rattle.nfs_inodes.specs.Reading.{is_directory_type, number_under};
 ghost use Rattle.nfs_inodes.specs.Views.{IsSeen};
 ghost use Rattle.nfs_rules.specs.Judging.{Judges};
+ghost use Rattle.nfs_rules.specs.Rights.{may};
 ghost use Rattle.nfs_rules.specs.Table as table;
 ghost use Rattle.nfs_rules.specs.Tests.{found};
 
@@ -14,18 +18,20 @@ use crate::name_rules::{
     name_must_be_formed, name_must_be_short, name_must_not_be_dot, name_must_not_be_dot_dot,
     name_must_not_be_dots, path_must_be_short,
 };
+use crate::rights::Right;
 use crate::rule::Rule;
 use crate::subject::Subject;
 use nfs_args::create::{Create, CreateHow};
-use nfs_args::read_dir::{ReadDir, ReadDirPlus};
+use nfs_args::readdir::{Readdir, Readdirplus};
 use nfs_args::rename::Rename;
-use nfs_args::set_attr::SetAttr;
+use nfs_args::setattr::Setattr;
 use nfs_args::write::Write;
+use nfs_dirs::open_page::{OpenPage, OpenPagePlus};
 use nfs_inodes::view::FileView;
 
 /// SETATTR (RFC 1813, section 3.3.2).
-pub fn set_attr_rules(file: &Subject<'_>, args: &SetAttr<'_>) -> Result<(), Rule>
-    ensures { Judges result (table.set_attr_rules file.now args.now) }
+pub fn setattr_rules(file: &Subject<'_>, args: &Setattr<'_>) -> Result<(), Rule>
+    ensures { Judges result (table.setattr_rules file.now args.now) }
 {
     let given = &args.attributes;
     file.must_not_be_read_only()?;
@@ -125,8 +131,8 @@ fn size_in(how: &CreateHow) -> Option<u64>
 }
 
 /// MKDIR (RFC 1813, section 3.3.9).
-pub fn make_dir_rules(dir: &Subject<'_>, name: &[u8]) -> Result<(), Rule>
-    ensures { Judges result (table.make_dir_rules dir.now name.now) }
+pub fn mkdir_rules(dir: &Subject<'_>, name: &[u8]) -> Result<(), Rule>
+    ensures { Judges result (table.mkdir_rules dir.now name.now) }
 {
     dir.must_not_be_read_only()?;
     dir.must_be_directory()?;
@@ -141,8 +147,8 @@ pub fn make_dir_rules(dir: &Subject<'_>, name: &[u8]) -> Result<(), Rule>
 }
 
 /// SYMLINK (RFC 1813, section 3.3.10).
-pub fn sym_link_rules(dir: &Subject<'_>, name: &[u8], path: &[u8]) -> Result<(), Rule>
-    ensures { Judges result (table.sym_link_rules dir.now name.now path.now) }
+pub fn symlink_rules(dir: &Subject<'_>, name: &[u8], path: &[u8]) -> Result<(), Rule>
+    ensures { Judges result (table.symlink_rules dir.now name.now path.now) }
 {
     dir.must_not_be_read_only()?;
     dir.must_be_directory()?;
@@ -176,8 +182,8 @@ pub fn remove_rules<'a>(dir: &Subject<'a>, name: &[u8]) -> Result<FileView<'a>, 
 }
 
 /// RMDIR (RFC 1813, section 3.3.13), and the directory that the name names.
-pub fn remove_dir_rules<'a>(dir: &Subject<'a>, name: &[u8]) -> Result<FileView<'a>, Rule>
-    ensures rules { Judges result (table.remove_dir_rules dir.now name.now) }
+pub fn rmdir_rules<'a>(dir: &Subject<'a>, name: &[u8]) -> Result<FileView<'a>, Rule>
+    ensures rules { Judges result (table.rmdir_rules dir.now name.now) }
     ensures found { IfOk result (λ f. found dir.now name.now ≡ Some f.attributes) }
 {
     dir.must_not_be_read_only()?;
@@ -196,9 +202,16 @@ pub fn remove_dir_rules<'a>(dir: &Subject<'a>, name: &[u8]) -> Result<FileView<'
     Ok(found)
 }
 
-/// RENAME (RFC 1813, section 3.3.14): of the directories of the old name and of the new one.
-pub fn rename_rules(from: &Subject<'_>, to: &Subject<'_>, args: &Rename<'_>) -> Result<(), Rule>
-    ensures { Judges result (table.rename_rules from.now to.now args.now) }
+/// RENAME (RFC 1813, section 3.3.14): of the directories of the old name and of the new one. The file
+/// that is moved, and what the new name names, if it names something.
+pub fn rename_rules<'a>(
+    from: &Subject<'a>,
+    to: &Subject<'a>,
+    args: &Rename<'_>,
+) -> Result<(FileView<'a>, Option<FileView<'a>>), Rule>
+    ensures rules { Judges result (table.rename_rules from.now to.now args.now) }
+    ensures moved { IfOk result (λ f. found from.now args.now.from.name ≡ Some f.0.attributes) }
+    ensures replaced { IfOk result (λ f. option_map (λ o. o.attributes) f.1 ≡ found to.now args.now.to.name) }
 {
     let (name, new_name) = (args.from.name.bytes(), args.to.name.bytes());
     from.must_not_be_read_only()?;
@@ -215,9 +228,15 @@ pub fn rename_rules(from: &Subject<'_>, to: &Subject<'_>, args: &Rename<'_>) -> 
 
 // Those of RENAME after those of what its directories and names are like.
 #[inline(always)]
-fn rename_entry_rules(from: &Subject<'_>, to: &Subject<'_>, args: &Rename<'_>) -> Result<(), Rule>
+fn rename_entry_rules<'a>(
+    from: &Subject<'a>,
+    to: &Subject<'a>,
+    args: &Rename<'_>,
+) -> Result<(FileView<'a>, Option<FileView<'a>>), Rule>
     requires { is_directory_type to.now.file.file_type ≡ true }
-    ensures { Judges result (table.rename_entry_rules from.now to.now args.now) }
+    ensures rules { Judges result (table.rename_entry_rules from.now to.now args.now) }
+    ensures moved { IfOk result (λ f. found from.now args.now.from.name ≡ Some f.0.attributes) }
+    ensures replaced { IfOk result (λ f. option_map (λ o. o.attributes) f.1 ≡ found to.now args.now.to.name) }
 {
     let (name, new_name) = (args.from.name.bytes(), args.to.name.bytes());
     from.must_be_searchable()?;
@@ -225,10 +244,12 @@ fn rename_entry_rules(from: &Subject<'_>, to: &Subject<'_>, args: &Rename<'_>) -
     let moved = from.must_find(name)?;
     from.must_be_changeable()?;
     to.must_be_changeable()?;
-    move_rules(from, to, &moved, &to.found(new_name))
+    let replaced = to.found(new_name);
+    move_rules(from, to, &moved, &replaced)?;
+    Ok((moved, replaced))
 }
 
-/// LINK (RFC 1813, section 3.3.15): of the file and the directory that takes the further name.
+/// LINK (RFC 1813, section 3.3.15): of the file and the directory that takes the hard link.
 pub fn link_rules(file: &Subject<'_>, dir: &Subject<'_>, name: &[u8]) -> Result<(), Rule>
     ensures { Judges result (table.link_rules file.now dir.now name.now) }
 {
@@ -244,18 +265,25 @@ pub fn link_rules(file: &Subject<'_>, dir: &Subject<'_>, name: &[u8]) -> Result<
     dir.must_have_cookie_left()
 }
 
-/// READDIR (RFC 1813, section 3.3.16).
-pub fn read_dir_rules(dir: &Subject<'_>, args: &ReadDir<'_>) -> Result<(), Rule>
-    ensures { Judges result (table.read_dir_rules dir.now args.now) }
+/// READDIR (RFC 1813, section 3.3.16), and the page, with its first entry.
+pub fn readdir_rules<'a>(dir: &Subject<'a>, args: &Readdir<'_>) -> Result<OpenPage<'a>, Rule>
+    ensures rules { Judges result (table.readdir_rules dir.now args.now) }
+    ensures open { IfOk result (IsOpen (left_after dir.now.tree dir.now.file.fileid args.now.cookie) (min args.now.count max_page) 0) }
 {
     dir.must_be_directory()?;
     dir.must_be_listable()?;
     dir.first_must_fit(args.cookie, args.count)
 }
 
-/// READDIRPLUS (RFC 1813, section 3.3.17).
-pub fn read_dir_plus_rules(dir: &Subject<'_>, args: &ReadDirPlus<'_>) -> Result<(), Rule>
-    ensures { Judges result (table.read_dir_plus_rules dir.now args.now) }
+/// READDIRPLUS (RFC 1813, section 3.3.17), and the page, with its first entry.
+pub fn readdirplus_rules<'a>(
+    dir: &Subject<'a>,
+    args: &Readdirplus<'_>,
+) -> Result<OpenPagePlus<'a>, Rule>
+    ensures rules { Judges result (table.readdirplus_rules dir.now args.now) }
+    ensures open { IfOk result (λ p. IsOpen (left_after dir.now.tree dir.now.file.fileid args.now.cookie) (min args.now.maxcount max_page)
+        (plus_bytes (may dir.now.ids dir.now.file Right.Execute)) p.page) }
+    ensures searchable { IfOk result (λ p. p.searchable ≡ may dir.now.ids dir.now.file Right.Execute) }
 {
     dir.must_be_directory()?;
     dir.must_be_listable()?;

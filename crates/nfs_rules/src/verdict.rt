@@ -1,7 +1,8 @@
-//! The verdict of a call, told without doing what it asks for: the first rule that it fails.
+//! The verdict of a call, given without doing what it asks for: the first rule that it fails.
 ghost use Rattle.std.specs.Prelude.{◌≡◌, [], ◌∷◌};
 ghost use Rattle.nfs_rules.specs.Table.{rules_of};
 ghost use Rattle.nfs_rules.specs.Tests.{first};
+ghost use Rattle.nfs_rules.specs.Verdicts as judged;
 ghost use Rattle.nfs_rules.specs.Verdicts.{handle_rules, handles_in, handles_rules};
 ghost use Rattle.nfs_rules.specs.Views.{caller_of, handles_seen};
 
@@ -11,19 +12,19 @@ use crate::exported_pair::in_one_volume;
 use crate::rule::Rule;
 use crate::subject::Subject;
 use crate::table::{
-    create_rules, link_rules, lookup_rules, make_dir_rules, read_dir_plus_rules, read_dir_rules,
-    read_rules, remove_dir_rules, remove_rules, rename_rules, set_attr_rules, sym_link_rules,
+    create_rules, link_rules, lookup_rules, mkdir_rules, read_rules, readdir_rules,
+    readdirplus_rules, remove_rules, rename_rules, rmdir_rules, setattr_rules, symlink_rules,
     write_rules,
 };
 use nfs_args::args::NfsArgs;
-use nfs_exports::table::Table;
+use nfs_exports::export_table::ExportTable;
 use nfs_inodes::tree::Tree;
 
 /// The first failing rule of a call's handles: those of each handle in turn, and then that both name
 /// files of one volume. `None` where they are kept, and for NULL, which has no handle.
 pub fn handle_failure(
     tree: &Tree,
-    table: &Table,
+    table: &ExportTable,
     caller: Caller<'_>,
     args: &NfsArgs<'_>,
 ) -> Option<Rule>
@@ -48,31 +49,31 @@ fn handles_of<'a>(args: &'a NfsArgs<'_>) -> Handles<'a>
 {
     match args {
         NfsArgs::Null => Handles::None,
-        NfsArgs::GetAttr(file)
-        | NfsArgs::ReadLink(file)
-        | NfsArgs::FsStat(file)
-        | NfsArgs::FsInfo(file)
-        | NfsArgs::PathConf(file) => Handles::One(file.bytes()),
-        NfsArgs::SetAttr(args) => Handles::One(args.file.bytes()),
+        NfsArgs::Getattr(file)
+        | NfsArgs::Readlink(file)
+        | NfsArgs::Fsstat(file)
+        | NfsArgs::Fsinfo(file)
+        | NfsArgs::Pathconf(file) => Handles::One(file.bytes()),
+        NfsArgs::Setattr(args) => Handles::One(args.file.bytes()),
         NfsArgs::Access(args) => Handles::One(args.file.bytes()),
         NfsArgs::Read(args) | NfsArgs::Commit(args) => Handles::One(args.file.bytes()),
         NfsArgs::Write(args) => Handles::One(args.file.bytes()),
-        NfsArgs::Lookup(args) | NfsArgs::Remove(args) | NfsArgs::RemoveDir(args) => {
+        NfsArgs::Lookup(args) | NfsArgs::Remove(args) | NfsArgs::Rmdir(args) => {
             Handles::One(args.dir.bytes())
         }
         NfsArgs::Create(args) => Handles::One(args.place.dir.bytes()),
-        NfsArgs::MakeDir(args) => Handles::One(args.place.dir.bytes()),
-        NfsArgs::SymLink(args) => Handles::One(args.place.dir.bytes()),
-        NfsArgs::MakeNode(args) => Handles::One(args.place.dir.bytes()),
-        NfsArgs::ReadDir(args) => Handles::One(args.dir.bytes()),
-        NfsArgs::ReadDirPlus(args) => Handles::One(args.dir.bytes()),
+        NfsArgs::Mkdir(args) => Handles::One(args.place.dir.bytes()),
+        NfsArgs::Symlink(args) => Handles::One(args.place.dir.bytes()),
+        NfsArgs::Mknod(args) => Handles::One(args.place.dir.bytes()),
+        NfsArgs::Readdir(args) => Handles::One(args.dir.bytes()),
+        NfsArgs::Readdirplus(args) => Handles::One(args.dir.bytes()),
         NfsArgs::Rename(args) => Handles::Two(args.from.dir.bytes(), args.to.dir.bytes()),
         NfsArgs::Link(args) => Handles::Two(args.file.bytes(), args.place.dir.bytes()),
     }
 }
 
 // The first failing rule of one handle.
-fn failure_of(tree: &Tree, table: &Table, caller: Caller<'_>, handle: &[u8]) -> Option<Rule>
+fn failure_of(tree: &Tree, table: &ExportTable, caller: Caller<'_>, handle: &[u8]) -> Option<Rule>
     ensures { result ≡ first (handle_rules tree.now table.now (caller_of caller.entry) handle.now) }
 {
     ExportedFile::of(tree, table, caller, handle).err()
@@ -81,7 +82,7 @@ fn failure_of(tree: &Tree, table: &Table, caller: Caller<'_>, handle: &[u8]) -> 
 // The same of two handles.
 fn failure_of_pair(
     tree: &Tree,
-    table: &Table,
+    table: &ExportTable,
     caller: Caller<'_>,
     one: &[u8],
     two: &[u8],
@@ -96,35 +97,65 @@ fn failure_of_pair(
     }
 }
 
+/// The first rule that a call fails: of its handles, and then of its procedure. `None` where it is
+/// granted.
+pub fn verdict(
+    tree: &Tree,
+    table: &ExportTable,
+    caller: Caller<'_>,
+    args: &NfsArgs<'_>,
+) -> Option<Rule>
+    ensures { result ≡ judged.verdict tree.now table.now (caller_of caller.entry) args.now }
+{
+    match handles_of(args) {
+        Handles::None => None,
+        Handles::One(handle) => match ExportedFile::of(tree, table, caller, handle) {
+            Ok(file) => {
+                let subject = file.subject();
+                first_failure(&subject, &subject, args)
+            }
+            Err(rule) => Some(rule),
+        },
+        Handles::Two(one, two) => {
+            let one = ExportedFile::of(tree, table, caller, one);
+            let two = ExportedFile::of(tree, table, caller, two);
+            match in_one_volume(one, two) {
+                Ok((one, two)) => first_failure(&one, &two, args),
+                Err(rule) => Some(rule),
+            }
+        }
+    }
+}
+
 /// The first failing rule of a call's procedure, for the files that its handles name; of a call with
 /// one handle both are the file of that. `None` where the call is granted.
 pub fn first_failure(one: &Subject<'_>, two: &Subject<'_>, args: &NfsArgs<'_>) -> Option<Rule>
     ensures { result ≡ first (rules_of one.now two.now args.now) }
 {
     match args {
-        NfsArgs::SetAttr(args) => set_attr_rules(one, args).err(),
+        NfsArgs::Setattr(args) => setattr_rules(one, args).err(),
         NfsArgs::Lookup(args) => lookup_rules(one, args.name.bytes()).err(),
-        NfsArgs::ReadLink(_) => one.must_be_link().err(),
+        NfsArgs::Readlink(_) => one.must_be_link().err(),
         NfsArgs::Read(_) => read_rules(one).err(),
         NfsArgs::Write(args) => write_rules(one, args).err(),
         NfsArgs::Create(args) => create_rules(one, args).err(),
-        NfsArgs::MakeDir(args) => make_dir_rules(one, args.place.name.bytes()).err(),
-        NfsArgs::SymLink(args) => {
-            sym_link_rules(one, args.place.name.bytes(), args.path.bytes()).err()
+        NfsArgs::Mkdir(args) => mkdir_rules(one, args.place.name.bytes()).err(),
+        NfsArgs::Symlink(args) => {
+            symlink_rules(one, args.place.name.bytes(), args.path.bytes()).err()
         }
-        NfsArgs::MakeNode(_) => Some(Rule::NoMakeNode),
+        NfsArgs::Mknod(_) => Some(Rule::NoMknod),
         NfsArgs::Remove(args) => remove_rules(one, args.name.bytes()).err(),
-        NfsArgs::RemoveDir(args) => remove_dir_rules(one, args.name.bytes()).err(),
+        NfsArgs::Rmdir(args) => rmdir_rules(one, args.name.bytes()).err(),
         NfsArgs::Rename(args) => rename_rules(one, two, args).err(),
         NfsArgs::Link(args) => link_rules(one, two, args.place.name.bytes()).err(),
-        NfsArgs::ReadDir(args) => read_dir_rules(one, args).err(),
-        NfsArgs::ReadDirPlus(args) => read_dir_plus_rules(one, args).err(),
+        NfsArgs::Readdir(args) => readdir_rules(one, args).err(),
+        NfsArgs::Readdirplus(args) => readdirplus_rules(one, args).err(),
         NfsArgs::Commit(_) => one.must_be_regular().err(),
         NfsArgs::Null
-        | NfsArgs::GetAttr(_)
+        | NfsArgs::Getattr(_)
         | NfsArgs::Access(_)
-        | NfsArgs::FsStat(_)
-        | NfsArgs::FsInfo(_)
-        | NfsArgs::PathConf(_) => None,
+        | NfsArgs::Fsstat(_)
+        | NfsArgs::Fsinfo(_)
+        | NfsArgs::Pathconf(_) => None,
     }
 }

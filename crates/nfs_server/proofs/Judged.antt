@@ -7,7 +7,7 @@ use Rattle.std.proofs.lemmas.List.Folds.{find-append}
 use Rattle.std.specs.Option.{option_map}
 use Rattle.nfs_args.specs.declared.args.NfsArgs.{NfsArgs}
 use Rattle.nfs_args.specs.declared.mount_args.MountArgs.{MountArgs}
-use Rattle.nfs_kept.specs.Places.{Place, kept_reply}
+use Rattle.nfs_reply_cache.specs.Places.{Place, cached_reply}
 use Rattle.nfs_rpc.specs.AuthSys.{Credential, caller, credential_of}
 use Rattle.nfs_rpc.specs.declared.auth_sys.Cred.{Cred}
 use Rattle.nfs_rules.specs.Subjects.{Caller}
@@ -18,14 +18,14 @@ use Rattle.nfs_rpc.specs.declared.reply.Accept.TheVariants.{Success}
 use Rattle.nfs_server.specs.AuditLines.{line_of}
 use Rattle.nfs_server.specs.Events.{Event, Answer, Choice, granted, denied}
 use Rattle.nfs_server.specs.Fits.{Held}
-use Rattle.nfs_server.specs.OneEvent.{AnswersBy, AnswersCalled, AnswersChange, AnswersJudged, AnswersKept, AnswersMount, PerformsAnew, scene_for}
-use Rattle.nfs_server.specs.Repeats.{calls_change, key_of, may_change}
+use Rattle.nfs_server.specs.OneEvent.{AnswersBy, AnswersCalled, AnswersChange, AnswersJudged, AnswersCached, AnswersMount, PerformsAnew, scene_for}
+use Rattle.nfs_server.specs.Retransmissions.{calls_change, key_of, may_change}
 use Rattle.nfs_server.specs.Requests.{Request, Nothing, OfNfs, OfMount, args_in, asked, is_nfs, is_null, lacks_args, mount_args_in, request_of}
 use Rattle.nfs_server.specs.RpcRules.{AUTH_NONE, AUTH_SYS, caller_rules, fails_rpc, head_rules, rpc_reply}
-use Rattle.nfs_server.specs.InMemory.{told}
+use Rattle.nfs_server.specs.InMemory.{reported}
 use Rattle.nfs_server.specs.Steps.{Called, MountPerformed, Requested, State}
 use Rattle.nfs_server.specs.declared.audit_line.AuditLine.{AuditLine}
-use Rattle.nfs_server.specs.declared.audit_line.Reason.TheVariants as reason
+use Rattle.nfs_server.specs.declared.audit_line.DenialReason.TheVariants as reason
 use Rattle.nfs_server.specs.declared.rpc_rules.RpcRule.{RpcRule}
 use Rattle.nfs_server.specs.declared.rpc_rules.RpcRule.TheVariants.{Arguments, Flavor, WeakCredential, Credential as RpcCredential}
 use Rattle.nfs_server.proofs.Performed.{no_choice}
@@ -33,7 +33,7 @@ use Rattle.nfs_server.proofs.Performed.{no_choice}
 -- ---- the line that was held before
 
 any_line_before : (changes : Bool) (reply : Option (List ℕ)) (Anew : Type 0) (old : Held) (line : Option AuditLine) (event : Event) (answer : Answer) (new : State) (kept : List Place)
-    → AnswersKept changes reply Anew (record old { line = line }) event answer new kept → AnswersKept changes reply Anew old event answer new kept
+    → AnswersCached changes reply Anew (record old { line = line }) event answer new kept → AnswersCached changes reply Anew old event answer new kept
 any_line_before false reply Anew old line event answer new kept a = a
 any_line_before true (Some reply) Anew old line event answer new kept a = a
 any_line_before true None Anew old line event answer new kept a = a
@@ -42,16 +42,16 @@ any_line_before true None Anew old line event answer new kept a = a
 pub whatever_line : (head : Result (Call × List ℕ) RpcFault) (old : Held) (line : Option AuditLine) (event : Event) (answer : Answer) (new : Held)
     → AnswersCalled head (record old { line = line }) event answer new → AnswersCalled head old event answer new
 whatever_line head old line event answer new a =
-    (a.0, a.1, any_line_before (calls_change event.addr head) (kept_reply (key_of event) old.kept) (Called head old.setup old.state event a.0 answer new.state) old line event answer new.state new.kept a.2)
+    (a.0, a.1, any_line_before (calls_change event.addr head) (cached_reply (key_of event) old.kept) (Called head old.setup old.state event a.0 answer new.state) old line event answer new.state new.kept a.2)
 
 -- ---- the first of a list that fails
 
--- where none of the first ones fails, those behind them decide
-find_behind : (p : RpcRule → Bool) (xs ys : List RpcRule) → find p xs ≡ None → find p (xs ++ ys) ≡ find p ys
-find_behind p xs ys none = find-append p xs ys ∙ ap (λ o. option_or o (find p ys)) none
+-- where none of the first ones fails, those after them decide
+pub find_after : (p : RpcRule → Bool) (xs ys : List RpcRule) → find p xs ≡ None → find p (xs ++ ys) ≡ find p ys
+find_after p xs ys none = find-append p xs ys ∙ ap (λ o. option_or o (find p ys)) none
 
 -- where one of the first ones fails, it is the first
-find_before : (p : RpcRule → Bool) (x : RpcRule) (xs ys : List RpcRule) → find p xs ≡ Some x → find p (xs ++ ys) ≡ Some x
+pub find_before : (p : RpcRule → Bool) (x : RpcRule) (xs ys : List RpcRule) → find p xs ≡ Some x → find p (xs ++ ys) ≡ Some x
 find_before p x xs ys found = find-append p xs ys ∙ ap (λ o. option_or o (find p ys)) found
 
 -- ---- what a call asks for
@@ -60,16 +60,16 @@ abbrev pub call_rules : List RpcRule
 call_rules = caller_rules ++ Arguments ∷ []
 
 -- what a call asks for by whether it is NULL, and whether it is of NFS
-abbrev requests : Bool → Bool → Event → Call → List ℕ → Option Request
+abbrev pub requests : Bool → Bool → Event → Call → List ℕ → Option Request
 requests null nfs event call bytes = cond null (Some Nothing) (cond nfs (asked event.addr (caller call.cred.body) (args_in call.proc bytes)) (option_map OfMount (mount_args_in call.proc bytes)))
 
-nfs_asked : (event : Event) (call : Call) (bytes : List ℕ) (cred : Credential) (args : NfsArgs) → is_nfs call ≡ true → is_null call ≡ false → caller call.cred.body ≡ Some cred → args_in call.proc bytes ≡ Some args
+pub nfs_asked : (event : Event) (call : Call) (bytes : List ℕ) (cred : Credential) (args : NfsArgs) → is_nfs call ≡ true → is_null call ≡ false → caller call.cred.body ≡ Some cred → args_in call.proc bytes ≡ Some args
     → request_of event.addr call bytes ≡ Some (OfNfs (record { addr = event.addr; cred = cred }) args)
 nfs_asked event call bytes cred args nfs other cred_is args_is =
     ap (λ b. requests b (is_nfs call) event call bytes) other ∙ ap (λ b. requests false b event call bytes) nfs
     ∙ ap (λ o. asked event.addr o (args_in call.proc bytes)) cred_is ∙ ap (asked event.addr (Some cred)) args_is
 
-mount_asked : (event : Event) (call : Call) (bytes : List ℕ) (args : MountArgs) → is_nfs call ≡ false → is_null call ≡ false → mount_args_in call.proc bytes ≡ Some args
+pub mount_asked : (event : Event) (call : Call) (bytes : List ℕ) (args : MountArgs) → is_nfs call ≡ false → is_null call ≡ false → mount_args_in call.proc bytes ≡ Some args
     → request_of event.addr call bytes ≡ Some (OfMount args)
 mount_asked event call bytes args mount other args_is =
     ap (λ b. requests b (is_nfs call) event call bytes) other ∙ ap (λ b. requests false b event call bytes) mount ∙ ap (option_map OfMount) args_is
@@ -81,7 +81,7 @@ nfs_lacks call bytes nfs = ap (λ b. cond b (is_none (args_in call.proc bytes)) 
 pub mount_lacks : (call : Call) (bytes : List ℕ) → is_nfs call ≡ false → lacks_args call bytes ≡ is_none (mount_args_in call.proc bytes)
 mount_lacks call bytes mount = ap (λ b. cond b (is_none (args_in call.proc bytes)) (is_none (mount_args_in call.proc bytes))) mount
 
-by_arguments : (call : Call) (bytes : List ℕ) (b : Bool) → is_null call ≡ false → lacks_args call bytes ≡ b → find (fails_rpc call bytes) (Arguments ∷ []) ≡ cond b (Some Arguments) None
+pub by_arguments : (call : Call) (bytes : List ℕ) (b : Bool) → is_null call ≡ false → lacks_args call bytes ≡ b → find (fails_rpc call bytes) (Arguments ∷ []) ≡ cond b (Some Arguments) None
 by_arguments call bytes b other lacks = ap (λ n. cond (not n && lacks_args call bytes) (Some Arguments) None) other ∙ ap (λ l. cond l (Some Arguments) None) lacks
 
 -- the same call, read once more
@@ -98,31 +98,31 @@ module _ (old : Held) (event : Event) (call : Call) (bytes : List ℕ) where
 
   -- whether a reply is kept for the record
   abbrev is_kept : Bool
-  is_kept = is_some (kept_reply (key_of event) old.kept)
+  is_kept = is_some (cached_reply (key_of event) old.kept)
 
   -- a rule fails
   pub denied_by : (rules later : List RpcRule) (rule : RpcRule) (reply : List ℕ) (new : Held) → find (fails_rpc call bytes) rules ≡ Some rule
       → reply ≡ rpc_reply rule call.xid → new ≡ record old { line = Some (line_of event.addr call (reason.Rpc rule)) }
-      → Answered (rules ++ later) (told reply new.line) new
+      → Answered (rules ++ later) (reported reply new.line) new
   denied_by rules later rule reply new found reply_is new_is =
       let line = line_of event.addr call (reason.Rpc rule) in
-      subst (λ n. Answered (rules ++ later) (told reply n.line) n) (sym new_is)
-      (subst (λ v. AnswersJudged v (request_of event.addr call bytes) old event call (told reply (Some line)) (record old { line = Some line })) (sym (find_before (fails_rpc call bytes) rule rules later found))
+      subst (λ n. Answered (rules ++ later) (reported reply n.line) n) (sym new_is)
+      (subst (λ v. AnswersJudged v (request_of event.addr call bytes) old event call (reported reply (Some line)) (record old { line = Some line })) (sym (find_before (fails_rpc call bytes) rule rules later found))
       (no_choice is_kept, refl, ((ap (λ r. denied r line) reply_is, refl), refl)))
 
   -- the arguments can't be read
   pub denied_unread : (reply : List ℕ) (new : Held) → is_null call ≡ false → find (fails_rpc call bytes) caller_rules ≡ None → lacks_args call bytes ≡ true
       → reply ≡ rpc_reply Arguments call.xid → new ≡ record old { line = Some (line_of event.addr call (reason.Rpc Arguments)) }
-      → Answered call_rules (told reply new.line) new
+      → Answered call_rules (reported reply new.line) new
   denied_unread reply new other known lacks reply_is new_is =
-      subst (λ v. AnswersJudged v (request_of event.addr call bytes) old event call (told reply new.line) new) (sym (find_behind (fails_rpc call bytes) caller_rules (Arguments ∷ []) known))
+      subst (λ v. AnswersJudged v (request_of event.addr call bytes) old event call (reported reply new.line) new) (sym (find_after (fails_rpc call bytes) caller_rules (Arguments ∷ []) known))
       (denied_by (Arguments ∷ []) [] Arguments reply new (by_arguments call bytes true other lacks) reply_is new_is)
 
   -- no rule fails, and this is asked for
   asked_so : (request : Request) (answer : Answer) (new : Held) → is_null call ≡ false → find (fails_rpc call bytes) caller_rules ≡ None → lacks_args call bytes ≡ false → request_of event.addr call bytes ≡ Some request
       → AnswersJudged None (Some request) old event call answer new → Answered call_rules answer new
   asked_so request answer new other known lacks request_is answers =
-      let none = find_behind (fails_rpc call bytes) caller_rules (Arguments ∷ []) known ∙ by_arguments call bytes false other lacks in
+      let none = find_after (fails_rpc call bytes) caller_rules (Arguments ∷ []) known ∙ by_arguments call bytes false other lacks in
       subst (λ v. AnswersJudged v (request_of event.addr call bytes) old event call answer new) (sym none)
       (subst (λ r. AnswersJudged None r old event call answer new) (sym request_is) answers)
 
@@ -137,7 +137,7 @@ module _ (old : Held) (event : Event) (call : Call) (bytes : List ℕ) where
     Asks choice = Requested (Some (OfNfs Caller_ args)) old.setup old.state event call choice answer new.state
 
     -- by the reply that is kept
-    by_kept : (o : Option (List ℕ)) → AnswersKept true o Anew old event answer new.state new.kept → (choice : Choice) × (choice.again ≡ is_some o) × AnswersKept true o (Asks choice) old event answer new.state new.kept
+    by_kept : (o : Option (List ℕ)) → AnswersCached true o Anew old event answer new.state new.kept → (choice : Choice) × (choice.again ≡ is_some o) × AnswersCached true o (Asks choice) old event answer new.state new.kept
     by_kept (Some reply) a = (no_choice true, refl, a)
     by_kept None a = let p = a.0.0 false in (p.0, p.1, ((p.2, a.0.1), a.1))
 
@@ -145,9 +145,9 @@ module _ (old : Held) (event : Event) (call : Call) (bytes : List ℕ) where
     pub change_requested : is_nfs call ≡ true → is_null call ≡ false → find (fails_rpc call bytes) caller_rules ≡ None → caller call.cred.body ≡ Some (credential_of cred) → args_in call.proc bytes ≡ Some args
         → may_change args ≡ true → AnswersChange (scene_for old event cred args) call old event answer new → Answered call_rules answer new
     change_requested nfs other known cred_is args_is changes a =
-        let by = by_kept (kept_reply (key_of event) old.kept) a in
+        let by = by_kept (cached_reply (key_of event) old.kept) a in
         asked_so (OfNfs Caller_ args) answer new other known (nfs_lacks call bytes nfs ∙ ap is_none args_is) (nfs_asked event call bytes (credential_of cred) args nfs other cred_is args_is)
-        (by.0, by.1, subst (λ b. AnswersKept b (kept_reply (key_of event) old.kept) (Asks by.0) old event answer new.state new.kept) (sym changes) by.2)
+        (by.0, by.1, subst (λ b. AnswersCached b (cached_reply (key_of event) old.kept) (Asks by.0) old event answer new.state new.kept) (sym changes) by.2)
 
     -- something else of NFS
     pub anew_requested : is_nfs call ≡ true → is_null call ≡ false → find (fails_rpc call bytes) caller_rules ≡ None → caller call.cred.body ≡ Some (credential_of cred) → args_in call.proc bytes ≡ Some args
@@ -155,7 +155,7 @@ module _ (old : Held) (event : Event) (call : Call) (bytes : List ℕ) where
     anew_requested nfs other known cred_is args_is changes a kept =
         let p = a.0 is_kept in
         asked_so (OfNfs Caller_ args) answer new other known (nfs_lacks call bytes nfs ∙ ap is_none args_is) (nfs_asked event call bytes (credential_of cred) args nfs other cred_is args_is)
-        (p.0, p.1, subst (λ b. AnswersKept b (kept_reply (key_of event) old.kept) (Asks p.0) old event answer new.state new.kept) (sym changes) ((p.2, a.1), kept))
+        (p.0, p.1, subst (λ b. AnswersCached b (cached_reply (key_of event) old.kept) (Asks p.0) old event answer new.state new.kept) (sym changes) ((p.2, a.1), kept))
 
   -- something of MOUNT
   pub mount_requested : (args : MountArgs) (answer : Answer) (new : Held) → is_nfs call ≡ false → is_null call ≡ false → find (fails_rpc call bytes) caller_rules ≡ None → mount_args_in call.proc bytes ≡ Some args
@@ -167,9 +167,9 @@ module _ (old : Held) (event : Event) (call : Call) (bytes : List ℕ) where
 
   -- the rules of the head are kept
   pub admitted : (answer : Answer) (new : Held) → find (fails_rpc call bytes) head_rules ≡ None → Answered call_rules answer new → Answered (head_rules ++ call_rules) answer new
-  admitted answer new kept answered = subst (λ v. AnswersJudged v (request_of event.addr call bytes) old event call answer new) (sym (find_behind (fails_rpc call bytes) head_rules call_rules kept)) answered
+  admitted answer new kept answered = subst (λ v. AnswersJudged v (request_of event.addr call bytes) old event call answer new) (sym (find_after (fails_rpc call bytes) head_rules call_rules kept)) answered
 
-  null_passes : is_null call ≡ true → find (fails_rpc call bytes) call_rules ≡ None
+  pub null_passes : is_null call ≡ true → find (fails_rpc call bytes) call_rules ≡ None
   null_passes null =
       ap (λ b. cond (not b && not (nat_eq call.cred.flavor AUTH_NONE || nat_eq call.cred.flavor AUTH_SYS)) (Some Flavor) (find (fails_rpc call bytes) (RpcCredential ∷ WeakCredential ∷ Arguments ∷ []))) null
       ∙ ap (λ b. cond (not b && (nat_eq call.cred.flavor AUTH_SYS && is_none (caller call.cred.body))) (Some RpcCredential) (find (fails_rpc call bytes) (WeakCredential ∷ Arguments ∷ []))) null
@@ -177,10 +177,10 @@ module _ (old : Held) (event : Event) (call : Call) (bytes : List ℕ) where
       ∙ ap (λ b. cond (not b && lacks_args call bytes) (Some Arguments) None) null
 
   -- NULL
-  pub null_done : (reply : List ℕ) (line : Option AuditLine) → line ≡ None → find (fails_rpc call bytes) head_rules ≡ None → is_null call ≡ true → reply ≡ accepted_text call.xid Success → Answered (head_rules ++ call_rules) (told reply line) old
+  pub null_done : (reply : List ℕ) (line : Option AuditLine) → line ≡ None → find (fails_rpc call bytes) head_rules ≡ None → is_null call ≡ true → reply ≡ accepted_text call.xid Success → Answered (head_rules ++ call_rules) (reported reply line) old
   null_done reply line unset kept null reply_is =
       let asks : request_of event.addr call bytes ≡ Some Nothing = ap (λ b. requests b (is_nfs call) event call bytes) null in
-      let none = find_behind (fails_rpc call bytes) head_rules call_rules kept ∙ null_passes null in
-      subst (λ v. AnswersJudged v (request_of event.addr call bytes) old event call (told reply line) old) (sym none)
-      (subst (λ r. AnswersJudged None r old event call (told reply line) old) (sym asks)
-      (no_choice is_kept, refl, ((ap (told reply) unset ∙ ap granted (reply_is ∙ sym (append-nil (accepted_text call.xid Success))), refl), refl)))
+      let none = find_after (fails_rpc call bytes) head_rules call_rules kept ∙ null_passes null in
+      subst (λ v. AnswersJudged v (request_of event.addr call bytes) old event call (reported reply line) old) (sym none)
+      (subst (λ r. AnswersJudged None r old event call (reported reply line) old) (sym asks)
+      (no_choice is_kept, refl, ((ap (reported reply) unset ∙ ap granted (reply_is ∙ sym (append-nil (accepted_text call.xid Success))), refl), refl)))

@@ -7,11 +7,14 @@ pub mod Room
 pub mod Performed
 pub mod Mounted
 pub mod Judged
+pub mod Denied
+pub mod Spared
 pub mod Short
 pub mod Changes
 pub mod Feeding
 pub mod OneRecord
-pub mod PieceByPiece
+pub mod Waiting
+pub mod ChunkByChunk
 pub mod Connected
 pub mod Together
 pub mod Streaming

@@ -13,7 +13,7 @@ use Rattle.nfs_args.specs.declared.mount_answer.MountAnswer.TheVariants as resul
 use Rattle.nfs_args.specs.declared.mount_args.MountArgs.{MountArgs}
 use Rattle.nfs_args.specs.declared.mount_args.MountArgs.TheVariants as asked
 use Rattle.nfs_exports.specs.declared.addr.Addr.{Addr}
-use Rattle.nfs_exports.specs.declared.table.Export.{Export}
+use Rattle.nfs_exports.specs.declared.export_table.Export.{Export}
 use Rattle.nfs_inodes.specs.Tree.{Tree, on_some}
 use Rattle.nfs_mount.specs.MountAnswers.{Mounts, denied_answer, dump_answer, export_answer, granted_answer}
 use Rattle.nfs_mount.specs.Mounts.{after_umnt, without_addr}
@@ -28,10 +28,10 @@ use Rattle.nfs_server.specs.AuditLines.{line_of}
 use Rattle.nfs_server.specs.Events.{Choice, granted, denied}
 use Rattle.nfs_server.specs.OneEvent.{AnswersMount, Leaves, MountsAs}
 use Rattle.nfs_server.specs.Requests.{mount_args_in, read_args}
-use Rattle.nfs_server.specs.InMemory.{told}
+use Rattle.nfs_server.specs.InMemory.{reported}
 use Rattle.nfs_server.specs.Steps.{MountDecided, MountDone, State, success}
 use Rattle.nfs_server.specs.declared.audit_line.AuditLine.{AuditLine}
-use Rattle.nfs_server.specs.declared.audit_line.Reason.TheVariants as reason
+use Rattle.nfs_server.specs.declared.audit_line.DenialReason.TheVariants as reason
 use Rattle.nfs_server.specs.ReplyRoom.{Adds}
 use Rattle.nfs_server.proofs.Performed.{no_choice}
 use Rattle.nfs_server.proofs.Room.{adds, adds_none}
@@ -76,42 +76,42 @@ module _ (t : Tree) (exports : List (List Export)) (addr : Addr) (call : Call) (
   abbrev Replies : Type 0
   Replies = (text : List ℕ) → after.bytes ≡ before.bytes ++ text → reply ≡ success call text
 
-  left : (answer : MountAnswer) (mounts : List Mount) → Leaves answer mounts came new before after → Replies → MountDone call (StateOf old) answer mounts (told reply None) (StateOf new)
+  left : (answer : MountAnswer) (mounts : List Mount) → Leaves answer mounts came new before after → Replies → MountDone call (StateOf old) answer mounts (reported reply None) (StateOf new)
   left answer mounts l wrote = (ap granted (wrote (mount_text answer) l.2.bytes), ap StateOf l.1, l.3)
 
-  granted_left : (args : MountArgs) → came ≡ Granted → MountsAs args t exports addr came old new before after → Replies → AnswersMount args exports (StateOf old) addr call (told reply None) new
+  granted_left : (args : MountArgs) → came ≡ Granted → MountsAs args t exports addr came old new before after → Replies → AnswersMount args exports (StateOf old) addr call (reported reply None) new
   granted_left asked.Null e m wrote = λ again. (no_choice again, refl, left result.Null old m wrote)
   granted_left (asked.Mount path) e m wrote =
       let g : Mounts t exports addr path Granted old new before after = subst (λ x. Mounts t exports addr path x old new before after) e m in
-      λ again. (no_choice again, refl, subst (λ v. MountDecided v true (StateOf old) addr path call (told reply None) (StateOf new)) (sym g.0) (g.2, g.3, (ap granted (wrote (mount_text (granted_answer g.2)) g.4.bytes), ap StateOf g.1, g.5)))
+      λ again. (no_choice again, refl, subst (λ v. MountDecided v true (StateOf old) addr path call (reported reply None) (StateOf new)) (sym g.0) (g.2, g.3, (ap granted (wrote (mount_text (granted_answer g.2)) g.4.bytes), ap StateOf g.1, g.5)))
   granted_left asked.Dump e m wrote = λ again. (no_choice again, refl, left (dump_answer t old) old m wrote)
   granted_left (asked.Unmount path) e m wrote = λ again. (no_choice again, refl, left result.Unmount (after_umnt t addr path old) m wrote)
   granted_left asked.UnmountAll e m wrote = λ again. (no_choice again, refl, left result.UnmountAll (without_addr addr old) m wrote)
   granted_left asked.Export e m wrote = λ again. (no_choice again, refl, left (export_answer t exports) old m wrote)
 
-  pub granted_mount : (args : MountArgs) (line : Option AuditLine) → line ≡ None → came ≡ Granted → MountsAs args t exports addr came old new before after → Replies → AnswersMount args exports (StateOf old) addr call (told reply line) new
-  granted_mount args line none e m wrote = subst (λ l. AnswersMount args exports (StateOf old) addr call (told reply l) new) (sym none) (granted_left args e m wrote)
+  pub granted_mount : (args : MountArgs) (line : Option AuditLine) → line ≡ None → came ≡ Granted → MountsAs args t exports addr came old new before after → Replies → AnswersMount args exports (StateOf old) addr call (reported reply line) new
+  granted_mount args line none e m wrote = subst (λ l. AnswersMount args exports (StateOf old) addr call (reported reply l) new) (sym none) (granted_left args e m wrote)
 
   pub denied_mount : (args : MountArgs) (line : AuditLine) (rule : Rule) → came ≡ Denied rule → MountsAs args t exports addr came old new before after → Replies → line ≡ line_of addr call (reason.Rule rule None)
-      → AnswersMount args exports (StateOf old) addr call (told reply (Some line)) new
+      → AnswersMount args exports (StateOf old) addr call (reported reply (Some line)) new
   denied_mount asked.Null line rule e m wrote line_is = absurd (true≢false (ap is_granted (sym m.0 ∙ e)))
   denied_mount (asked.Mount path) line rule e m wrote line_is =
       let d : Mounts t exports addr path (Denied rule) old new before after = subst (λ x. Mounts t exports addr path x old new before after) e m in
       let text = mount_text (denied_answer rule) in
-      λ again. (no_choice again, refl, subst (λ v. MountDecided v true (StateOf old) addr path call (told reply (Some line)) (StateOf new)) (sym d.0) (ap (λ r. denied r line) (wrote text d.2.bytes) ∙ ap (denied (success call text)) line_is, ap StateOf d.1, d.3))
+      λ again. (no_choice again, refl, subst (λ v. MountDecided v true (StateOf old) addr path call (reported reply (Some line)) (StateOf new)) (sym d.0) (ap (λ r. denied r line) (wrote text d.2.bytes) ∙ ap (denied (success call text)) line_is, ap StateOf d.1, d.3))
   denied_mount asked.Dump line rule e m wrote line_is = absurd (true≢false (ap is_granted (sym m.0 ∙ e)))
   denied_mount (asked.Unmount path) line rule e m wrote line_is = absurd (true≢false (ap is_granted (sym m.0 ∙ e)))
   denied_mount asked.UnmountAll line rule e m wrote line_is = absurd (true≢false (ap is_granted (sym m.0 ∙ e)))
   denied_mount asked.Export line rule e m wrote line_is = absurd (true≢false (ap is_granted (sym m.0 ∙ e)))
 
   pub refused_mount : (args : MountArgs) (line : AuditLine) → came ≡ Memory → MountsAs args t exports addr came old new before after → reply ≡ accepted_text call.xid SystemErr → line ≡ line_of addr call reason.Memory
-      → AnswersMount args exports (StateOf old) addr call (told reply (Some line)) new
+      → AnswersMount args exports (StateOf old) addr call (reported reply (Some line)) new
   refused_mount asked.Null line e m reply_is line_is = absurd (true≢false (ap is_granted (sym m.0 ∙ e)))
   refused_mount (asked.Mount path) line e m reply_is line_is =
       let r : Mounts t exports addr path Memory old new before after = subst (λ x. Mounts t exports addr path x old new before after) e m in
       λ again.
       let choice : Choice = record { tag = 0; fits = omega arith; has_memory = false; again = again } in
-      (choice, refl, subst (λ v. MountDecided v false (StateOf old) addr path call (told reply (Some line)) (StateOf new)) (sym r.0) (r.1, ap (λ x. denied x line) reply_is ∙ ap (denied (accepted_text call.xid SystemErr)) line_is, ap StateOf r.2))
+      (choice, refl, subst (λ v. MountDecided v false (StateOf old) addr path call (reported reply (Some line)) (StateOf new)) (sym r.0) (r.1, ap (λ x. denied x line) reply_is ∙ ap (denied (accepted_text call.xid SystemErr)) line_is, ap StateOf r.2))
   refused_mount asked.Dump line e m reply_is line_is = absurd (true≢false (ap is_granted (sym m.0 ∙ e)))
   refused_mount (asked.Unmount path) line e m reply_is line_is = absurd (true≢false (ap is_granted (sym m.0 ∙ e)))
   refused_mount asked.UnmountAll line e m reply_is line_is = absurd (true≢false (ap is_granted (sym m.0 ∙ e)))

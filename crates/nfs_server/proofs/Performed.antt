@@ -19,13 +19,13 @@ use Rattle.nfs_rules.specs.Subjects.{Subject}
 use Rattle.nfs_rules.specs.declared.rule.Rule.{Rule}
 use Rattle.nfs_server.specs.AuditLines.{line_of}
 use Rattle.nfs_server.specs.Events.{Choice, Answer, granted, denied}
-use Rattle.nfs_server.specs.Repeats.{may_change}
+use Rattle.nfs_server.specs.Retransmissions.{may_change}
 use Rattle.nfs_server.specs.ReplyRoom.{Adds}
 use Rattle.nfs_server.proofs.Room.{adds, adds_none}
-use Rattle.nfs_server.specs.InMemory.{told}
+use Rattle.nfs_server.specs.InMemory.{reported}
 use Rattle.nfs_server.specs.Steps.{Decided, Performed, Refusable, success}
 use Rattle.nfs_server.specs.declared.audit_line.AuditLine.{AuditLine}
-use Rattle.nfs_server.specs.declared.audit_line.Reason.TheVariants as reason
+use Rattle.nfs_server.specs.declared.audit_line.DenialReason.TheVariants as reason
 use Rattle.nfs_xdr.specs.Written.{Written}
 
 -- ---- the room
@@ -40,33 +40,33 @@ adds_result c (Some doing) (Some Memory) new before after p = adds_none before a
 
 -- ---- the steps
 
--- nothing is chosen but what is said of a repeat
+-- nothing is chosen but what is said of a retransmission
 abbrev pub no_choice : Bool → Choice
 no_choice again = record { tag = 0; fits = omega arith; has_memory = true; again = again }
 
 -- a procedure that may find no memory may change the tree
 wanting : (args : NfsArgs) (one two : Subject) → on_some (doing_of args) false (λ d. d.takes_memory one two) ≡ true → may_change args ≡ true
 wanting nfs.Null one two h = absurd (false≢true h)
-wanting (nfs.GetAttr a) one two h = absurd (false≢true h)
-wanting (nfs.SetAttr a) one two h = refl
+wanting (nfs.Getattr a) one two h = absurd (false≢true h)
+wanting (nfs.Setattr a) one two h = refl
 wanting (nfs.Lookup a) one two h = absurd (false≢true h)
 wanting (nfs.Access a) one two h = absurd (false≢true h)
-wanting (nfs.ReadLink a) one two h = absurd (false≢true h)
+wanting (nfs.Readlink a) one two h = absurd (false≢true h)
 wanting (nfs.Read a) one two h = absurd (false≢true h)
 wanting (nfs.Write a) one two h = refl
 wanting (nfs.Create a) one two h = refl
-wanting (nfs.MakeDir a) one two h = refl
-wanting (nfs.SymLink a) one two h = refl
-wanting (nfs.MakeNode a) one two h = absurd (false≢true h)
+wanting (nfs.Mkdir a) one two h = refl
+wanting (nfs.Symlink a) one two h = refl
+wanting (nfs.Mknod a) one two h = absurd (false≢true h)
 wanting (nfs.Remove a) one two h = refl
-wanting (nfs.RemoveDir a) one two h = refl
+wanting (nfs.Rmdir a) one two h = refl
 wanting (nfs.Rename a) one two h = refl
 wanting (nfs.Link a) one two h = refl
-wanting (nfs.ReadDir a) one two h = absurd (false≢true h)
-wanting (nfs.ReadDirPlus a) one two h = absurd (false≢true h)
-wanting (nfs.FsStat a) one two h = absurd (false≢true h)
-wanting (nfs.FsInfo a) one two h = absurd (false≢true h)
-wanting (nfs.PathConf a) one two h = absurd (false≢true h)
+wanting (nfs.Readdir a) one two h = absurd (false≢true h)
+wanting (nfs.Readdirplus a) one two h = absurd (false≢true h)
+wanting (nfs.Fsstat a) one two h = absurd (false≢true h)
+wanting (nfs.Fsinfo a) one two h = absurd (false≢true h)
+wanting (nfs.Pathconf a) one two h = absurd (false≢true h)
 wanting (nfs.Commit a) one two h = absurd (false≢true h)
 
 abbrev pub Performs : Option Doing → Scene → Call → Answer → Tree → Type 0
@@ -74,15 +74,15 @@ Performs o c call answer new = (again : Bool) → (choice : Choice) × (choice.a
 
 pub nothing_done : (c : Scene) (o : Option Doing) (came : Option Done) (new : Tree) (before after : Written) (call : Call) (reply : List ℕ) (line : Option AuditLine) → line ≡ None → came ≡ None → PerformsAs c o came new before after
     → ((text : List ℕ) → after.bytes ≡ before.bytes ++ text → reply ≡ success call text)
-    → Performs o c call (told reply line) new
+    → Performs o c call (reported reply line) new
 nothing_done c None came new before after call reply line unset e performs wrote =
     let p : PerformsAs c None None new before after = subst (λ d. PerformsAs c None d new before after) e performs in
-    λ again. (no_choice again, refl, (ap (told reply) unset ∙ ap granted (wrote [] (ap (λ (w : Written). w.bytes) p.1 ∙ sym (append-nil before.bytes))), p.0))
+    λ again. (no_choice again, refl, (ap (reported reply) unset ∙ ap granted (wrote [] (ap (λ (w : Written). w.bytes) p.1 ∙ sym (append-nil before.bytes))), p.0))
 nothing_done c (Some doing) came new before after call reply line unset e performs wrote = absurd (subst (λ d. PerformsAs c (Some doing) d new before after) e performs)
 
 pub granted_done : (c : Scene) (o : Option Doing) (came : Option Done) (new : Tree) (before after : Written) (call : Call) (reply : List ℕ) (line : Option AuditLine) → line ≡ None → came ≡ Some Granted → PerformsAs c o came new before after
     → ((text : List ℕ) → after.bytes ≡ before.bytes ++ text → reply ≡ success call text)
-    → Performs o c call (told reply line) new
+    → Performs o c call (reported reply line) new
 granted_done c None came new before after call reply line unset e performs wrote = absurd (subst (λ d. PerformsAs c None d new before after) e performs)
 granted_done c (Some doing) came new before after call reply line unset e performs wrote =
     let h : HasEffect c doing new before after = subst (λ d. PerformsAs c (Some doing) d new before after) e performs in
@@ -90,13 +90,13 @@ granted_done c (Some doing) came new before after call reply line unset e perfor
     let choice : Choice = record { tag = h.tag; fits = h.fits; has_memory = true; again = again } in (
       choice,
       refl,
-      subst (λ v. Decided v c doing call h.tag (told reply line) new) (sym h.granted.verdict)
-          (record { one = h.one; two = h.two; subjects = h.granted.subjects; new_is = h.new_is; answer_is = ap (told reply) unset ∙ ap granted (wrote _ h.written.text.bytes); spelled = h.written.spelled }),
+      subst (λ v. Decided v c doing call h.tag (reported reply line) new) (sym h.granted.verdict)
+          (record { one = h.one; two = h.two; subjects = h.granted.subjects; new_is = h.new_is; answer_is = ap (reported reply) unset ∙ ap granted (wrote _ h.written.text.bytes); encoded = h.written.encoded }),
     )
 
 pub denied_done : (c : Scene) (o : Option Doing) (came : Option Done) (new : Tree) (before after : Written) (call : Call) (reply : List ℕ) (line : AuditLine) (rule : Rule) (uid : Option ℕ) → came ≡ Some (Denied rule uid) → PerformsAs c o came new before after
     → ((text : List ℕ) → after.bytes ≡ before.bytes ++ text → reply ≡ success call text) → line ≡ line_of c.caller.addr call (reason.Rule rule uid)
-    → Performs o c call (told reply (Some line)) new
+    → Performs o c call (reported reply (Some line)) new
 denied_done c None came new before after call reply line rule uid e performs wrote line_is = absurd (subst (λ d. PerformsAs c None d new before after) e performs)
 denied_done c (Some doing) came new before after call reply line rule uid e performs wrote line_is =
     let h : HasFailed c doing rule uid new before after = subst (λ d. PerformsAs c (Some doing) d new before after) e performs in
@@ -104,17 +104,17 @@ denied_done c (Some doing) came new before after call reply line rule uid e perf
     λ again. (
       no_choice again,
       refl,
-      subst (λ v. Decided v c doing call 0 (told reply (Some line)) new) (sym h.verdict)
+      subst (λ v. Decided v c doing call 0 (reported reply (Some line)) new) (sym h.verdict)
           (record {
             new_is = h.new_is;
-            spelled = h.written.spelled;
+            encoded = h.written.encoded;
             answer_is = ap (λ r. denied r line) (wrote text h.written.text.bytes) ∙ ap (denied (success call text)) (line_is ∙ ap (λ u. line_of c.caller.addr call (reason.Rule rule u)) h.uid_is);
           }),
     )
 
 pub refused_done : (c : Scene) (o : Option Doing) (came : Option Done) (new : Tree) (before after : Written) (call : Call) (reply : List ℕ) (line : AuditLine) → doing_of c.args ≡ o → came ≡ Some Memory → PerformsAs c o came new before after
     → reply ≡ accepted_text call.xid SystemErr → line ≡ line_of c.caller.addr call reason.Memory
-    → Performs o c call (told reply (Some line)) new
+    → Performs o c call (reported reply (Some line)) new
 refused_done c None came new before after call reply line asks e performs reply_is line_is = absurd (subst (λ d. PerformsAs c None d new before after) e performs)
 refused_done c (Some doing) came new before after call reply line asks e performs reply_is line_is =
     let h : HasNoMemory c doing new before after = subst (λ d. PerformsAs c (Some doing) d new before after) e performs in
@@ -122,18 +122,18 @@ refused_done c (Some doing) came new before after call reply line asks e perform
     let choice : Choice = record { tag = 0; fits = omega arith; has_memory = false; again = again } in (
       choice,
       refl,
-      subst (λ b. Refusable b (Some doing) c call 0 (told reply (Some line)) new) (sym (wanting c.args h.one h.two (ap (λ o. on_some o false (λ d. d.takes_memory h.one h.two)) asks ∙ h.takes)))
+      subst (λ b. Refusable b (Some doing) c call 0 (reported reply (Some line)) new) (sym (wanting c.args h.one h.two (ap (λ o. on_some o false (λ d. d.takes_memory h.one h.two)) asks ∙ h.takes)))
           (record { new_is = h.new_is; answer_is = ap (λ r. denied r line) reply_is ∙ ap (denied (accepted_text call.xid SystemErr)) line_is }),
     )
 
 -- a call that may change the tree, for which there is no place
 pub no_place : (c : Scene) (o : Option Doing) (new : Tree) (call : Call) (reply : List ℕ) (line : AuditLine) → may_change c.args ≡ true → new ≡ c.tree
     → reply ≡ accepted_text call.xid SystemErr → line ≡ line_of c.caller.addr call reason.Memory
-    → Performs o c call (told reply (Some line)) new
+    → Performs o c call (reported reply (Some line)) new
 no_place c o new call reply line changes new_is reply_is line_is = λ again.
     let choice : Choice = record { tag = 0; fits = omega arith; has_memory = false; again = again } in (
       choice,
       refl,
-      subst (λ b. Refusable b o c call 0 (told reply (Some line)) new) (sym changes)
+      subst (λ b. Refusable b o c call 0 (reported reply (Some line)) new) (sym changes)
           (record { new_is = new_is; answer_is = ap (λ r. denied r line) reply_is ∙ ap (denied (accepted_text call.xid SystemErr)) line_is }),
     )

@@ -5,14 +5,14 @@ use Rattle.std.proofs.lemmas.Bool.{false≢true}
 use Rattle.std.proofs.lemmas.List.{length-append}
 use Rattle.nfs_args.specs.Answers.{nfs_text}
 use Rattle.nfs_args.specs.Results.{HandleFits, made_text, renamed_text, linked_text}
-use Rattle.nfs_args.specs.Spelling.{stability_number}
+use Rattle.nfs_args.specs.Encoding.{stability_number}
 use Rattle.nfs_args.specs.declared.args.NfsArgs.{NfsArgs}
 use Rattle.nfs_args.specs.declared.args.NfsArgs.TheVariants as nfs
 use Rattle.nfs_args.specs.declared.linked.Linked.{Linked}
 use Rattle.nfs_args.specs.declared.renamed.Renamed.{Renamed}
 use Rattle.nfs_args.specs.declared.write.Stability.TheVariants.{FileSync}
-use Rattle.nfs_args.proofs.Lengths.{behind_change, change_within, linked_within, made_within, renamed_within}
-use Rattle.nfs_attrs.specs.Spelling.{wcc_text}
+use Rattle.nfs_args.proofs.Lengths.{after_change, change_within, linked_within, made_within, renamed_within}
+use Rattle.nfs_attrs.specs.Encoding.{wcc_text}
 use Rattle.nfs_attrs.specs.declared.fattr.Fattr.{Fattr}
 use Rattle.nfs_attrs.specs.declared.wcc.Wcc.{Wcc}
 use Rattle.nfs_handles.specs.Handles.{handle_text, magic}
@@ -20,7 +20,7 @@ use Rattle.nfs_handles.specs.NumberedFiles.{TaggedFile, at as file_at}
 use Rattle.nfs_inodes.specs.Law.{Law}
 use Rattle.nfs_inodes.specs.Tree.{File, Tree, on_some}
 use Rattle.nfs_inodes.specs.Reading.{attributes_at, numbered_files}
-use Rattle.nfs_procs.specs.Changers.{changed, create, link, made_of, make_dir, remove, remove_dir, rename, set_attr, sym_link, write}
+use Rattle.nfs_procs.specs.Changers.{changed, create, link, made_of, mkdir, remove, rmdir, rename, setattr, symlink, write}
 use Rattle.nfs_procs.specs.Doing.{Doing, no_change}
 use Rattle.nfs_procs.specs.Procedures.{PerformsAs, doing_of}
 use Rattle.nfs_procs.specs.Readers.{verifier_of}
@@ -30,7 +30,7 @@ use Rattle.nfs_procs.specs.declared.done.Done.TheVariants.{Granted, Denied, Memo
 use Rattle.nfs_rules.specs.Rules.{status_of}
 use Rattle.nfs_rules.specs.Subjects.{Subject}
 use Rattle.nfs_rules.specs.Tests.{found}
-use Rattle.nfs_server.specs.Repeats.{may_change}
+use Rattle.nfs_server.specs.Retransmissions.{may_change}
 use Rattle.nfs_xdr.specs.Written.{Appends, Written}
 
 -- a granted call and a denied one are answered by few bytes
@@ -55,45 +55,45 @@ of_args : (one doing : Doing) (new : Tree) → Some one ≡ Some doing → IsSho
 of_args one doing new e short = subst (λ d. IsShort d new) (same_some e) short
 
 -- a status, and what has at most so many bytes
-behind_status : (status m : ℕ) (text : List ℕ) → length text ≤ m → m ≤ 276 → length (to_be_bytes w32 status ++ text) ≤ 280
-behind_status status m text within small = omega (arith, within, small)
+after_status : (status m : ℕ) (text : List ℕ) → length text ≤ m → m ≤ 276 → length (to_be_bytes w32 status ++ text) ≤ 280
+after_status status m text within small = omega (arith, within, small)
 
 wcc_short : (status : ℕ) (w : Wcc) → length (to_be_bytes w32 status ++ wcc_text w) ≤ 280
-wcc_short status w = behind_status status 116 (wcc_text w) (change_within w) (omega arith)
+wcc_short status w = after_status status 116 (wcc_text w) (change_within w) (omega arith)
 
 made_short : (new : Tree) (n : ℕ) (dir : Subject) → Law new → length (to_be_bytes w32 0 ++ made_text (made_of new n dir)) ≤ 280
-made_short new n dir law = behind_status 0 276 (made_text (made_of new n dir)) (made_within (made_of new n dir) (handle_fits new.key n (file_at (numbered_files new) n) law.numbers.key_len)) (omega arith)
+made_short new n dir law = after_status 0 276 (made_text (made_of new n dir)) (made_within (made_of new n dir) (handle_fits new.key n (file_at (numbered_files new) n) law.numbers.key_len)) (omega arith)
 
 written_short : (w : Wcc) (rest : List ℕ) → length rest ≡ 16 → length (to_be_bytes w32 0 ++ (wcc_text w ++ rest)) ≤ 280
-written_short w rest size = behind_status 0 132 (wcc_text w ++ rest) (behind_change w rest 16 size) (omega arith)
+written_short w rest size = after_status 0 132 (wcc_text w ++ rest) (after_change w rest 16 size) (omega arith)
 
 renamed_short : (status : ℕ) (r : Renamed) → length (to_be_bytes w32 status ++ renamed_text r) ≤ 280
-renamed_short status r = behind_status status 232 (renamed_text r) (renamed_within r) (omega arith)
+renamed_short status r = after_status status 232 (renamed_text r) (renamed_within r) (omega arith)
 
 linked_short : (status : ℕ) (l : Linked) → length (to_be_bytes w32 status ++ linked_text l) ≤ 280
-linked_short status l = behind_status status 204 (linked_text l) (linked_within l) (omega arith)
+linked_short status l = after_status status 204 (linked_text l) (linked_within l) (omega arith)
 
 is_short : (args : NfsArgs) (doing : Doing) (new : Tree) → Law new → may_change args ≡ true → doing_of args ≡ Some doing → IsShort doing new
 is_short nfs.Null doing new law m e = absurd (false≢true m)
-is_short (nfs.GetAttr a) doing new law m e = absurd (false≢true m)
+is_short (nfs.Getattr a) doing new law m e = absurd (false≢true m)
 is_short (nfs.Lookup a) doing new law m e = absurd (false≢true m)
 is_short (nfs.Access a) doing new law m e = absurd (false≢true m)
-is_short (nfs.ReadLink a) doing new law m e = absurd (false≢true m)
+is_short (nfs.Readlink a) doing new law m e = absurd (false≢true m)
 is_short (nfs.Read a) doing new law m e = absurd (false≢true m)
-is_short (nfs.MakeNode a) doing new law m e = absurd (false≢true m)
-is_short (nfs.ReadDir a) doing new law m e = absurd (false≢true m)
-is_short (nfs.ReadDirPlus a) doing new law m e = absurd (false≢true m)
-is_short (nfs.FsStat a) doing new law m e = absurd (false≢true m)
-is_short (nfs.FsInfo a) doing new law m e = absurd (false≢true m)
-is_short (nfs.PathConf a) doing new law m e = absurd (false≢true m)
+is_short (nfs.Mknod a) doing new law m e = absurd (false≢true m)
+is_short (nfs.Readdir a) doing new law m e = absurd (false≢true m)
+is_short (nfs.Readdirplus a) doing new law m e = absurd (false≢true m)
+is_short (nfs.Fsstat a) doing new law m e = absurd (false≢true m)
+is_short (nfs.Fsinfo a) doing new law m e = absurd (false≢true m)
+is_short (nfs.Pathconf a) doing new law m e = absurd (false≢true m)
 is_short (nfs.Commit a) doing new law m e = absurd (false≢true m)
-is_short (nfs.SetAttr a) doing new law m e = of_args (set_attr a) doing new e (λ one two. wcc_short 0 (changed new one), λ status seen. wcc_short status (no_change (seen a.file)))
+is_short (nfs.Setattr a) doing new law m e = of_args (setattr a) doing new e (λ one two. wcc_short 0 (changed new one), λ status seen. wcc_short status (no_change (seen a.file)))
 is_short (nfs.Write a) doing new law m e = of_args (write a) doing new e (λ one two. written_short (changed new one) (to_be_bytes w32 (length a.content) ++ to_be_bytes w32 (stability_number FileSync) ++ to_be_bytes w64 (verifier_of one.tree)) refl, λ status seen. wcc_short status (no_change (seen a.file)))
 is_short (nfs.Create a) doing new law m e = of_args (create a) doing new e (λ one two. made_short new (on_some (found one a.place.name) one.tree.next (λ f. f.fileid)) one law, λ status seen. wcc_short status (no_change (seen a.place.dir)))
-is_short (nfs.MakeDir a) doing new law m e = of_args (make_dir a) doing new e (λ one two. made_short new one.tree.next one law, λ status seen. wcc_short status (no_change (seen a.place.dir)))
-is_short (nfs.SymLink a) doing new law m e = of_args (sym_link a) doing new e (λ one two. made_short new one.tree.next one law, λ status seen. wcc_short status (no_change (seen a.place.dir)))
+is_short (nfs.Mkdir a) doing new law m e = of_args (mkdir a) doing new e (λ one two. made_short new one.tree.next one law, λ status seen. wcc_short status (no_change (seen a.place.dir)))
+is_short (nfs.Symlink a) doing new law m e = of_args (symlink a) doing new e (λ one two. made_short new one.tree.next one law, λ status seen. wcc_short status (no_change (seen a.place.dir)))
 is_short (nfs.Remove a) doing new law m e = of_args (remove a) doing new e (λ one two. wcc_short 0 (changed new one), λ status seen. wcc_short status (no_change (seen a.dir)))
-is_short (nfs.RemoveDir a) doing new law m e = of_args (remove_dir a) doing new e (λ one two. wcc_short 0 (changed new one), λ status seen. wcc_short status (no_change (seen a.dir)))
+is_short (nfs.Rmdir a) doing new law m e = of_args (rmdir a) doing new e (λ one two. wcc_short 0 (changed new one), λ status seen. wcc_short status (no_change (seen a.dir)))
 is_short (nfs.Rename a) doing new law m e = of_args (rename a) doing new e (λ one two. renamed_short 0 (record { from = changed new one; to = changed new two }), λ status seen. renamed_short status (record { from = no_change (seen a.from.dir); to = no_change (seen a.to.dir) }))
 is_short (nfs.Link a) doing new law m e = of_args (link a) doing new e (λ one two. linked_short 0 (record { attributes = attributes_at new one.file.fileid; dir = changed new two }), λ status seen. linked_short status (record { attributes = seen a.file; dir = no_change (seen a.place.dir) }))
 

@@ -1,4 +1,4 @@
--- Feeds on several connections are one past.
+-- Feeds on several connections are one history.
 use Rattle.std.proofs.Common.{◌≡◌, ◌≢◌, ℕ, Bool, true, false, List, [], ◌∷◌, ◌++◌, map, reverse, Option, Result, Ok, Err, IsOk, if◌then◌else◌, nat_eq, refl, sym, ap, subst, ◌∙◌, append_assoc, append-nil}
 use Rattle.std.proofs.lemmas.Bool.{eqb-true, eqb-false, false≢true}
 use Rattle.std.proofs.lemmas.List.{map-append, reverse-append}
@@ -7,9 +7,9 @@ use Rattle.nfs_rpc.specs.Records.{AreRecords}
 use Rattle.nfs_rpc.proofs.Streams.{records_grow}
 use Rattle.nfs_server.specs.Events.{Event, Done}
 use Rattle.nfs_server.specs.Feeding.{device, Brings, event_at, replies_of}
-use Rattle.nfs_server.specs.Fits.{Held, Past, Fits}
+use Rattle.nfs_server.specs.Fits.{Held, History, Fits}
 use Rattle.nfs_server.specs.Runs.{longer}
-use Rattle.nfs_server.specs.Together.{Feed, Stand, IsOneFeed, IsUnbroken, all_events, own_events, own_bytes, IsServed, AreTogether, FeedsAreOnePast}
+use Rattle.nfs_server.specs.Together.{Feed, Stand, IsOneFeed, IsUnbroken, all_events, own_events, own_bytes, IsServed, AreTogether, FeedsAreOneHistory}
 use Rattle.nfs_server.specs.declared.session_fault.SessionFault.{SessionFault}
 use Rattle.nfs_server.specs.declared.taking.Origin.{Origin}
 use Rattle.nfs_server.proofs.Feeding.{records_append, replies_append}
@@ -45,12 +45,12 @@ served_on bytes more done later p q a b c s left cut u wrote =
     }
 
 -- the connection that was fed
-pub fed_on : (past : Past) (origin : Origin) (bytes piece : List ℕ) (done : List Done) (p q : Progress) (a b c d e : Option (List ℕ)) (result : Result ℕ SessionFault) (server : Held) (s : IsServed bytes done p (device a b))
-    (brings : Brings past origin (s.rest ++ piece) result server q (device d e) (device b c)) → IsOk result → IsServed (bytes ++ piece) (brings.done ++ done) q (device a c)
-fed_on past origin bytes piece done p q a b c d e (Ok n) server s brings ok =
+pub fed_on : (history : History) (origin : Origin) (bytes chunk : List ℕ) (done : List Done) (p q : Progress) (a b c d e : Option (List ℕ)) (result : Result ℕ SessionFault) (server : Held) (s : IsServed bytes done p (device a b))
+    (brings : Brings history origin (s.rest ++ chunk) result server q (device d e) (device b c)) → IsOk result → IsServed (bytes ++ chunk) (brings.done ++ done) q (device a c)
+fed_on history origin bytes chunk done p q a b c d e (Ok n) server s brings ok =
     let serves = brings.serves in
-    served_on bytes piece done brings.done p q a b c s brings.rest (subst (λ rs. AreRecords (s.rest ++ piece) rs brings.rest) (sym (records_are origin brings.done serves.records serves.events_are)) serves.cut) brings.ends.1.unfinished brings.ends.2.replies_are
-fed_on past origin bytes piece done p q a b c d e (Err fault) server s brings ok = absurd (false≢true ok)
+    served_on bytes chunk done brings.done p q a b c s brings.rest (subst (λ rs. AreRecords (s.rest ++ chunk) rs brings.rest) (sym (records_are origin brings.done serves.records serves.events_are)) serves.cut) brings.ends.1.unfinished brings.ends.2.replies_are
+fed_on history origin bytes chunk done p q a b c d e (Err fault) server s brings ok = absurd (false≢true ok)
 
 -- one that was not
 unfed : (bytes : List ℕ) (done : List Done) (p q : Progress) (a b c : Option (List ℕ)) → q ≡ p → c ≡ b → IsServed bytes done p (device a b) → IsServed (bytes ++ []) done q (device a c)
@@ -61,23 +61,23 @@ unfed bytes done p q a b c same sent s = record {
   wrote = subst (λ o. Grows a (replies_of done) o) (sym sent) s.wrote;
 }
 
-module _ (past : Past) (texts : ℕ → List ℕ) (f : Feed) (earlier : List Feed) (old between new : Stand) (step : IsOneFeed f between new) (unbroken : IsUnbroken f.conn earlier) (t : AreTogether past texts earlier old between) where
+module _ (history : History) (texts : ℕ → List ℕ) (f : Feed) (earlier : List Feed) (old between new : Stand) (step : IsOneFeed f between new) (unbroken : IsUnbroken f.conn earlier) (t : AreTogether history texts earlier old between) where
   own : IsServed (texts f.conn ++ own_bytes f.conn earlier) (own_events f.conn t.fed) (between.progress f.conn) (device (old.sent f.conn) (between.sent f.conn))
   own = t.served f.conn unbroken
 
-  brought : Brings (longer past (all_events t.fed)) f.origin (own.rest ++ f.piece) f.result new.server (new.progress f.conn) (device step.log_before step.log_after) (device (between.sent f.conn) (new.sent f.conn))
-  brought = step.feeds (longer past (all_events t.fed)) t.fits own.rest own.unfinished
+  brought : Brings (longer history (all_events t.fed)) f.origin (own.rest ++ f.chunk) f.result new.server (new.progress f.conn) (device step.log_before step.log_after) (device (between.sent f.conn) (new.sent f.conn))
+  brought = step.feeds (longer history (all_events t.fed)) t.fits own.rest own.unfinished
 
-  served_there : IsOk f.result → IsServed (texts f.conn ++ (own_bytes f.conn earlier ++ f.piece)) (brought.done ++ own_events f.conn t.fed) (new.progress f.conn) (device (old.sent f.conn) (new.sent f.conn))
-  served_there ok = subst (λ bytes. IsServed bytes (brought.done ++ own_events f.conn t.fed) (new.progress f.conn) (device (old.sent f.conn) (new.sent f.conn))) (append_assoc (texts f.conn) (own_bytes f.conn earlier) f.piece)
-      (fed_on (longer past (all_events t.fed)) f.origin (texts f.conn ++ own_bytes f.conn earlier) f.piece (own_events f.conn t.fed) (between.progress f.conn) (new.progress f.conn) (old.sent f.conn) (between.sent f.conn) (new.sent f.conn) step.log_before step.log_after f.result new.server own brought ok)
+  served_there : IsOk f.result → IsServed (texts f.conn ++ (own_bytes f.conn earlier ++ f.chunk)) (brought.done ++ own_events f.conn t.fed) (new.progress f.conn) (device (old.sent f.conn) (new.sent f.conn))
+  served_there ok = subst (λ bytes. IsServed bytes (brought.done ++ own_events f.conn t.fed) (new.progress f.conn) (device (old.sent f.conn) (new.sent f.conn))) (append_assoc (texts f.conn) (own_bytes f.conn earlier) f.chunk)
+      (fed_on (longer history (all_events t.fed)) f.origin (texts f.conn ++ own_bytes f.conn earlier) f.chunk (own_events f.conn t.fed) (between.progress f.conn) (new.progress f.conn) (old.sent f.conn) (between.sent f.conn) (new.sent f.conn) step.log_before step.log_after f.result new.server own brought ok)
 
   served_elsewhere : (conn : ℕ) → conn ≢ f.conn → IsUnbroken conn earlier → IsServed (texts conn ++ (own_bytes conn earlier ++ [])) (own_events conn t.fed) (new.progress conn) (device (old.sent conn) (new.sent conn))
   served_elsewhere conn other before = subst (λ bytes. IsServed bytes (own_events conn t.fed) (new.progress conn) (device (old.sent conn) (new.sent conn))) (append_assoc (texts conn) (own_bytes conn earlier) [])
       (unfed (texts conn ++ own_bytes conn earlier) (own_events conn t.fed) (between.progress conn) (new.progress conn) (old.sent conn) (between.sent conn) (new.sent conn) (step.progress_stays conn other) (step.sent_stays conn other) (t.served conn before))
 
   abbrev Served : ℕ → Bool → Type 0
-  Served conn here = IsServed (texts conn ++ (own_bytes conn earlier ++ (if here then f.piece else []))) ((if here then brought.done else []) ++ own_events conn t.fed) (new.progress conn) (device (old.sent conn) (new.sent conn))
+  Served conn here = IsServed (texts conn ++ (own_bytes conn earlier ++ (if here then f.chunk else []))) ((if here then brought.done else []) ++ own_events conn t.fed) (new.progress conn) (device (old.sent conn) (new.sent conn))
 
   served_by : (conn : ℕ) (here : Bool) → nat_eq conn f.conn ≡ here → IsUnbroken conn (f ∷ earlier) → Served conn here
   served_by conn true e u =
@@ -85,16 +85,16 @@ module _ (past : Past) (texts : ℕ → List ℕ) (f : Feed) (earlier : List Fee
       subst (λ k. Served k true) (sym same) (served_there (u.0 same))
   served_by conn false e u = served_elsewhere conn (eqb-false conn f.conn e) u.1
 
-  pub together_on : AreTogether past texts (f ∷ earlier) old new
+  pub together_on : AreTogether history texts (f ∷ earlier) old new
   together_on = record {
     fed = (f, brought.done) ∷ t.fed;
     feeds_are = ap (λ l. f ∷ l) t.feeds_are;
-    fits = subst (λ d. Fits (record { opening = past.opening; done = d }) new.server) (sym (append_assoc brought.done (all_events t.fed) past.done)) brought.serves.fits;
+    fits = subst (λ d. Fits (record { opening = history.opening; done = d }) new.server) (sym (append_assoc brought.done (all_events t.fed) history.done)) brought.serves.fits;
     served = λ conn u. subst (λ here. Served conn here) refl (served_by conn (nat_eq conn f.conn) refl u);
   }
 
-together_none : (past : Past) (texts : ℕ → List ℕ) (old : Stand) → Fits past old.server → ((conn : ℕ) → Unfinished (texts conn) (old.progress conn)) → AreTogether past texts [] old old
-together_none past texts old fits unfinished = record {
+together_none : (history : History) (texts : ℕ → List ℕ) (old : Stand) → Fits history old.server → ((conn : ℕ) → Unfinished (texts conn) (old.progress conn)) → AreTogether history texts [] old old
+together_none history texts old fits unfinished = record {
   fed = [];
   feeds_are = refl;
   fits = fits;
@@ -106,8 +106,8 @@ together_none past texts old fits unfinished = record {
   };
 }
 
-pub feeds_are_one_past : FeedsAreOnePast
-feeds_are_one_past [] old new are past fits texts unfinished = subst (λ s. AreTogether past texts [] old s) (sym are) (together_none past texts old fits unfinished)
-feeds_are_one_past (f ∷ earlier) old new are past fits texts unfinished =
-    let t = feeds_are_one_past earlier old are.0 are.1 past fits texts unfinished in
-    together_on past texts f earlier old are.0 new are.3 are.2 t
+pub feeds_are_one_history : FeedsAreOneHistory
+feeds_are_one_history [] old new are history fits texts unfinished = subst (λ s. AreTogether history texts [] old s) (sym are) (together_none history texts old fits unfinished)
+feeds_are_one_history (f ∷ earlier) old new are history fits texts unfinished =
+    let t = feeds_are_one_history earlier old are.0 are.1 history fits texts unfinished in
+    together_on history texts f earlier old are.0 new are.3 are.2 t

@@ -7,11 +7,11 @@ use Rattle.nfs_rules.specs.Rules.{name_of, status_of}
 use Rattle.nfs_rules.specs.declared.rule.Rule.{Rule as FileRule}
 use Rattle.nfs_server.specs.RpcRules.{rpc_name, rpc_status}
 use Rattle.nfs_server.specs.declared.audit_line.AuditLine.{AuditLine}
-use Rattle.nfs_server.specs.declared.audit_line.Reason.{Reason}
-use Rattle.nfs_server.specs.declared.audit_line.Reason.TheVariants.{Rpc, Rule, Memory}
+use Rattle.nfs_server.specs.declared.audit_line.DenialReason.{DenialReason}
+use Rattle.nfs_server.specs.declared.audit_line.DenialReason.TheVariants.{Rpc, Rule, Memory}
 
 -- the line of a call
-abbrev pub line_of : Addr → Call → Reason → AuditLine
+abbrev pub line_of : Addr → Call → DenialReason → AuditLine
 line_of addr call reason = record { addr = addr; xid = call.xid; program = call.prog; procedure = call.proc; reason = reason }
 
 -- a rule of a procedure has its status as a number
@@ -22,7 +22,7 @@ rule_text rule = codes " rule=" ++ name_of rule ++ codes " status=" ++ decimal (
 abbrev pub words_text : List ℕ → List ℕ → List ℕ
 words_text rule status = codes " uid=- rule=" ++ rule ++ codes " status=" ++ status
 
-abbrev pub reason_text : Reason → List ℕ
+abbrev pub reason_text : DenialReason → List ℕ
 reason_text (Rpc rule) = words_text (rpc_name rule) (rpc_status rule)
 reason_text (Rule rule (Some uid)) = codes " uid=" ++ decimal uid ++ rule_text rule
 reason_text (Rule rule None) = codes " uid=-" ++ rule_text rule

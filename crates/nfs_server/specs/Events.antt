@@ -15,7 +15,7 @@ pub record Answer : Type 0 where
   pub reply : Option (List ℕ)
   pub line : Option AuditLine
 
--- what a server may choose at an event: the tag of a new file, whether there is memory, and whether a repeat that isn't surely held is answered as one
+-- what a server may choose at an event: the tag of a new file, whether there is memory, and whether a retransmission that isn't surely held is answered as one
 pub record Choice : Type 0 where
   pub tag : ℕ
   pub fits : tag < 2 ^ 32

@@ -5,14 +5,14 @@ use Rattle.nfs_rpc.specs.Progress.{Progress, Unfinished, IsWithin}
 use Rattle.nfs_rpc.specs.Records.{fragment, IsRecord, AreRecords, ReachesTooLong, ReachesWithin}
 use Rattle.nfs_server.specs.AuditLines.{line_text}
 use Rattle.nfs_server.specs.Events.{Event, Done}
-use Rattle.nfs_server.specs.Fits.{Held, Past, Fits}
+use Rattle.nfs_server.specs.Fits.{Held, History, Fits}
 use Rattle.nfs_server.specs.Runs.{longer}
 use Rattle.nfs_server.specs.declared.audit_line.AuditLine.{AuditLine}
 use Rattle.nfs_server.specs.declared.taking.Origin.{Origin}
 use Rattle.nfs_server.specs.declared.session_fault.SessionFault.{SessionFault}
 use Rattle.nfs_server.specs.declared.session_fault.SessionFault.TheVariants.{ConnectionTaken, UnknownConnection, Ended, TooLong, Memory, AuditFault, WriteFault}
 use Rattle.nfs_xdr.specs.Known.{Grows}
-use Rattle.nfs_xdr.specs.Spelling.{BeginsNone}
+use Rattle.nfs_xdr.specs.Encoding.{BeginsNone}
 
 -- ---- what is written
 
@@ -22,19 +22,19 @@ line_bytes None = []
 line_bytes (Some line) = line_text line
 
 -- the reply, where there is one, as a record of one fragment
-abbrev pub sealed : Option (List ℕ) → List ℕ
-sealed None = []
-sealed (Some reply) = fragment true reply
+abbrev pub framed : Option (List ℕ) → List ℕ
+framed None = []
+framed (Some reply) = fragment true reply
 
 -- the lines of events in their order, of which the newest stands first
 abbrev pub lines_of : List Done → List ℕ
 lines_of [] = []
 lines_of (d ∷ earlier) = lines_of earlier ++ line_bytes d.answer.line
 
--- and their sealed replies
+-- and their framed replies
 abbrev pub replies_of : List Done → List ℕ
 replies_of [] = []
-replies_of (d ∷ earlier) = replies_of earlier ++ sealed d.answer.reply
+replies_of (d ∷ earlier) = replies_of earlier ++ framed d.answer.reply
 
 -- what a device holds before and after, where that is known
 pub record Device : Type 0 where
@@ -61,10 +61,10 @@ AuditBreaks [] audit replies = ⊥
 AuditBreaks (d ∷ earlier) audit replies = BreaksOff audit (lines_of earlier) (line_bytes d.answer.line)
     × Grows replies.before (replies_of earlier) replies.after
 
--- The device for replies failed at the newest event, behind its line: of its reply some first bytes were written.
+-- The device for replies failed at the newest event, after its line: of its reply some first bytes were written.
 abbrev pub ReplyBreaks : List Done → Device → Device → Type 0
 ReplyBreaks [] audit replies = ⊥
-ReplyBreaks (d ∷ earlier) audit replies = BreaksOff replies (replies_of earlier) (sealed d.answer.reply)
+ReplyBreaks (d ∷ earlier) audit replies = BreaksOff replies (replies_of earlier) (framed d.answer.reply)
     × Grows audit.before (lines_of (d ∷ earlier)) audit.after
 
 -- ---- what is answered
@@ -74,13 +74,13 @@ abbrev pub event_at : Origin → List ℕ → Event
 event_at origin bytes = record { addr = origin.addr; moment = origin.moment; bytes = bytes }
 
 -- At the front of the bytes stand records, none above the limit, and then this rest. Each was answered in its
--- turn, the newest first, and the past with them fits.
-pub record Serves (past : Past) (origin : Origin) (limit : ℕ) (bytes : List ℕ) (done : List Done) (rest : List ℕ) (s : Held) : Type 0 where
+-- turn, the newest first, and the history with them fits.
+pub record Serves (history : History) (origin : Origin) (limit : ℕ) (bytes : List ℕ) (done : List Done) (rest : List ℕ) (s : Held) : Type 0 where
   pub records : List (List ℕ)
   pub cut : AreRecords bytes records rest
   pub within : AllByRecursion (λ content. length content ≤ limit) records
   pub events_are : map (λ (d : Done). d.event) (reverse done) ≡ map (event_at origin) records
-  pub fits : Fits (longer past done) s
+  pub fits : Fits (longer history done) s
 
 -- what is left is less than a record, and reaches no header too long
 pub record IsLeft (rest : List ℕ) (p : Progress) : Type 0 where
@@ -109,14 +109,14 @@ Ends (Err ConnectionTaken) done rest p audit replies = ⊥
 Ends (Err UnknownConnection) done rest p audit replies = ⊥
 Ends (Err Ended) done rest p audit replies = ⊥
 
--- After this past, these bytes of a stream, the first of which were unfinished before, bring this.
-pub record Brings (past : Past) (origin : Origin) (bytes : List ℕ) (result : Result ℕ SessionFault) (s : Held) (p : Progress) (audit replies : Device) : Type 0 where
+-- After this history, these bytes of a stream, the first of which were unfinished before, bring this.
+pub record Brings (history : History) (origin : Origin) (bytes : List ℕ) (result : Result ℕ SessionFault) (s : Held) (p : Progress) (audit replies : Device) : Type 0 where
   pub done : List Done
   pub rest : List ℕ
-  pub serves : Serves past origin p.limit bytes done rest s
+  pub serves : Serves history origin p.limit bytes done rest s
   pub ends : Ends result done rest p audit replies
 
--- The same of every past that fits, and of whatever was unfinished.
+-- The same of every history that fits, and of whatever was unfinished.
 abbrev pub Feeds : Origin → List ℕ → Result ℕ SessionFault → Held → Held → Progress → Progress → Device → Device → Type 0
-Feeds origin piece result old new from to audit replies = (past : Past) → Fits past old → (text : List ℕ) → Unfinished text from
-    → Brings past origin (text ++ piece) result new to audit replies
+Feeds origin chunk result old new from to audit replies = (history : History) → Fits history old → (text : List ℕ) → Unfinished text from
+    → Brings history origin (text ++ chunk) result new to audit replies

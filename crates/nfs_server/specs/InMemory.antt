@@ -5,9 +5,9 @@ use Rattle.nfs_server.specs.declared.event.Event as seen
 use Rattle.nfs_server.specs.declared.event.Outcome as outcome
 use Rattle.nfs_server.specs.declared.event.Handled.{Handled}
 use Rattle.nfs_server.specs.declared.event.Handled.TheVariants.{Answered, NoReply}
-use Rattle.nfs_exports.specs.declared.table.Export.{Export}
+use Rattle.nfs_exports.specs.declared.export_table.Export.{Export}
 use Rattle.nfs_inodes.specs.Tree.{Tree}
-use Rattle.nfs_kept.specs.Places.{Replies}
+use Rattle.nfs_reply_cache.specs.Places.{Replies}
 use Rattle.nfs_mount.specs.declared.mount.Mount.{Mount}
 use Rattle.nfs_server.specs.Events.{Event, Answer, silence}
 use Rattle.nfs_server.specs.Fits.{Held}
@@ -20,11 +20,11 @@ abbrev pub answer_of : outcome.Outcome → Answer
 answer_of o = record { reply = option_map (λ bytes. bytes.now) o.reply; line = o.line }
 
 -- with what stands in the reply buffer, and the line of the last call
-abbrev pub told : List ℕ → Option AuditLine → Answer
-told bytes line = record { reply = Some bytes; line = line }
+abbrev pub reported : List ℕ → Option AuditLine → Answer
+reported bytes line = record { reply = Some bytes; line = line }
 
 abbrev pub answered : Handled → List ℕ → Option AuditLine → Answer
-answered Answered bytes line = told bytes line
+answered Answered bytes line = reported bytes line
 answered NoReply bytes line = silence
 
 -- the fields of a server

@@ -6,7 +6,8 @@ pub mod Events
 pub mod InMemory
 pub mod ReplyRoom
 pub mod RpcAnswers
-pub mod Repeats
+pub mod Retransmissions
+pub mod Denying
 pub mod Steps
 pub mod Fits
 pub mod OneEvent

@@ -1,4 +1,4 @@
--- What one event does to a server, said without a past and by some choice.
+-- What one event does to a server, said without a history and by some choice.
 use Rattle.std.specs.Prelude.{◌≡◌, ℕ, ◌+◌, ◌-◌, ◌≤◌, Bool, true, false, List, ◌∷◌, Option, Some, None, Result, is_some, take}
 use Rattle.std.specs.List.{find}
 use Rattle.nfs_args.specs.MountAnswers.{mount_text}
@@ -8,10 +8,10 @@ use Rattle.nfs_args.specs.declared.args.NfsArgs.{NfsArgs}
 use Rattle.nfs_args.specs.declared.mount_args.MountArgs.{MountArgs}
 use Rattle.nfs_args.specs.declared.mount_args.MountArgs.TheVariants as asked
 use Rattle.nfs_exports.specs.declared.addr.Addr.{Addr}
-use Rattle.nfs_exports.specs.declared.table.Export.{Export}
+use Rattle.nfs_exports.specs.declared.export_table.Export.{Export}
 use Rattle.nfs_inodes.specs.Tree.{Tree}
-use Rattle.nfs_kept.specs.Places.{Key, Place, kept_reply, place_for, without}
-use Rattle.nfs_mount.specs.MountAnswers.{IsMountSpelled, Mounts, dump_answer, export_answer}
+use Rattle.nfs_reply_cache.specs.Places.{Key, Place, cached_reply, place_for, without}
+use Rattle.nfs_mount.specs.MountAnswers.{IsMountEncoded, Mounts, dump_answer, export_answer}
 use Rattle.nfs_mount.specs.Mounts.{after_umnt, without_addr}
 use Rattle.nfs_mount.specs.declared.mount.Mount.{Mount}
 use Rattle.nfs_mount.specs.declared.outcome.MountOutcome.{MountOutcome}
@@ -24,7 +24,7 @@ use Rattle.nfs_rpc.specs.Calls.{Call, head_at}
 use Rattle.nfs_rpc.specs.declared.call.RpcFault.{RpcFault}
 use Rattle.nfs_server.specs.Events.{Event, Answer, Choice, granted}
 use Rattle.nfs_server.specs.Fits.{Held}
-use Rattle.nfs_server.specs.Repeats.{calls_change, is_change, is_refused, key_of}
+use Rattle.nfs_server.specs.Retransmissions.{calls_change, is_change, is_refused, key_of}
 use Rattle.nfs_server.specs.Requests.{Request, request_of}
 use Rattle.nfs_server.specs.RpcRules.{fails_rpc}
 use Rattle.nfs_server.specs.Steps.{Called, Judged, MountPerformed, Performed, State, scene_of}
@@ -37,21 +37,21 @@ Keeps true places key old answer new = (n : ℕ) × (places ≤ n + 1) × (new �
 Keeps false places key old answer new = (reply : List ℕ) × (answer.reply ≡ Some reply) × (new ≡ place_for key reply ∷ take (places - 1) old)
 
 -- By whether the call is a changing one, and the reply that is kept for it. `Anew` is what it may be answered where none is.
-abbrev pub AnswersKept : Bool → Option (List ℕ) → Type 0 → Held → Event → Answer → State → List Place → Type 0
-AnswersKept false reply Anew old event answer new kept = Anew × (kept ≡ old.kept)
-AnswersKept true (Some reply) Anew old event answer new kept = (answer ≡ granted reply) × (new ≡ old.state)
+abbrev pub AnswersCached : Bool → Option (List ℕ) → Type 0 → Held → Event → Answer → State → List Place → Type 0
+AnswersCached false reply Anew old event answer new kept = Anew × (kept ≡ old.kept)
+AnswersCached true (Some reply) Anew old event answer new kept = (answer ≡ granted reply) × (new ≡ old.state)
     × (kept ≡ place_for (key_of event) reply ∷ without (key_of event) old.kept)
-AnswersKept true None Anew old event answer new kept = Anew × Keeps (is_refused answer.line) old.setup.places (key_of event) old.kept answer kept
+AnswersCached true None Anew old event answer new kept = Anew × Keeps (is_refused answer.line) old.setup.places (key_of event) old.kept answer kept
 
 -- a call, by the first rule of RPC that fails, and what it asks for
 abbrev pub AnswersJudged : Option RpcRule → Option Request → Held → Event → Call → Answer → Held → Type 0
-AnswersJudged failure request old event call answer new = (choice : Choice) × (choice.again ≡ is_some (kept_reply (key_of event) old.kept))
-    × AnswersKept (is_change failure request) (kept_reply (key_of event) old.kept) (Judged failure request old.setup old.state event call choice answer new.state) old event answer new.state new.kept
+AnswersJudged failure request old event call answer new = (choice : Choice) × (choice.again ≡ is_some (cached_reply (key_of event) old.kept))
+    × AnswersCached (is_change failure request) (cached_reply (key_of event) old.kept) (Judged failure request old.setup old.state event call choice answer new.state) old event answer new.state new.kept
 
 -- a record
 abbrev pub AnswersCalled : Result (Call × List ℕ) RpcFault → Held → Event → Answer → Held → Type 0
-AnswersCalled head old event answer new = (choice : Choice) × (choice.again ≡ is_some (kept_reply (key_of event) old.kept))
-    × AnswersKept (calls_change event.addr head) (kept_reply (key_of event) old.kept) (Called head old.setup old.state event choice answer new.state) old event answer new.state new.kept
+AnswersCalled head old event answer new = (choice : Choice) × (choice.again ≡ is_some (cached_reply (key_of event) old.kept))
+    × AnswersCached (calls_change event.addr head) (cached_reply (key_of event) old.kept) (Called head old.setup old.state event choice answer new.state) old event answer new.state new.kept
 
 abbrev pub AnswersRecord : Held → Event → Answer → Held → Type 0
 AnswersRecord old event answer new = (new.setup ≡ old.setup) × AnswersCalled (head_at event.bytes) old event answer new
@@ -60,7 +60,7 @@ AnswersRecord old event answer new = (new.setup ≡ old.setup) × AnswersCalled 
 abbrev pub AnswersBy : List RpcRule → Held → Event → Call → List ℕ → Answer → Held → Type 0
 AnswersBy rules old event call bytes answer new = AnswersJudged (find (fails_rpc call bytes) rules) (request_of event.addr call bytes) old event call answer new
 
--- and of a call of NFS that keeps them all, whichever is chosen of a repeat
+-- and of a call of NFS that keeps them all, whichever is chosen of a retransmission
 abbrev pub AnswersCall : Scene → Call → Answer → Tree → Type 0
 AnswersCall c call answer new = (again : Bool) → (choice : Choice) × (choice.again ≡ again) × Performed (doing_of c.args) c call choice answer new
 
@@ -80,12 +80,12 @@ PerformsAnew c call answer old new = AnswersCall c call answer new.state.tree ×
 
 -- and one that may change the tree, of which a reply may be kept
 abbrev pub AnswersChange : Scene → Call → Held → Event → Answer → Held → Type 0
-AnswersChange c call old event answer new = AnswersKept true (kept_reply (key_of event) old.kept) (PerformsAnew c call answer old new) old event answer new.state new.kept
+AnswersChange c call old event answer new = AnswersCached true (cached_reply (key_of event) old.kept) (PerformsAnew c call answer old new) old event answer new.state new.kept
 
--- this is written, as it is spelled, and these are the mounts afterwards
+-- this is written, as it is encoded, and these are the mounts afterwards
 abbrev pub Leaves : MountAnswer → List Mount → MountOutcome → List Mount → Written → Written → Type 0
 Leaves result mounts came new before after =
-    (came ≡ Granted) × (new ≡ mounts) × Appends (mount_text result) before after × IsMountSpelled result
+    (came ≡ Granted) × (new ≡ mounts) × Appends (mount_text result) before after × IsMountEncoded result
 
 -- what becomes of a call of MOUNT, of the mounts, and of the room for its result
 abbrev pub MountsAs : MountArgs → Tree → List (List Export) → Addr → MountOutcome → List Mount → List Mount → Written → Written → Type 0

@@ -1,4 +1,4 @@
--- The room in which a reply is written, behind its mark, and replies that gather in front of it.
+-- The room in which a reply is written, after its mark, and replies that gather in front of it.
 use Rattle.std.specs.Prelude.{◌≡◌, ℕ, ◌+◌, ◌*◌, ◌≤◌, List, ◌++◌, Bool, true, nat_lt, length, drop}
 use Rattle.nfs_rpc.specs.Records.{fragment, header}
 use Rattle.nfs_server.specs.declared.reply_buf.ReplyBuf.TheInside.{Inside}
@@ -15,13 +15,13 @@ room_bytes = 294912
 abbrev pub most_gathered : ℕ
 most_gathered = 2 * room_bytes
 
--- what a buffer holds: the sealed replies that have gathered, and the reply; and how many bytes may gather
+-- what a buffer holds: the framed replies that have gathered, and the reply; and how many bytes may gather
 pub record Buffered : Type 0 where
   pub earlier : List ℕ
   pub reply : List ℕ
   pub most : ℕ
 
--- whether the reply, sealed, has no room behind those that have gathered
+-- whether the reply, framed, has no room after those that have gathered
 abbrev pub is_full : Buffered → Bool
 is_full b = nat_lt b.most (length (b.earlier ++ fragment true b.reply))
 
@@ -36,18 +36,18 @@ pub record IsReply (start : ℕ) (out : Written) : Type 0 where
   pub bound : length out.bytes + out.room ≤ most_gathered + room_bytes
 
 -- the mark is that of the reply
-pub record IsSealed (a : Inside) : Type 0 where
+pub record IsFramed (a : Inside) : Type 0 where
   pub reply : IsReply a.start a.out
-  pub sealed : drop a.start a.out.bytes ≡ header true (length (reply_at a.start a.out)) ++ reply_at a.start a.out
+  pub framed : drop a.start a.out.bytes ≡ header true (length (reply_at a.start a.out)) ++ reply_at a.start a.out
 
--- there is room for a reply behind its mark
+-- there is room for a reply after its mark
 abbrev pub HasReplyRoom : Written → Type 0
 HasReplyRoom out = room_bytes ≤ mark_bytes + out.room
 
--- what was written behind what stood there
-abbrev pub behind : Written → Written → List ℕ
-behind old new = drop (length old.bytes) new.bytes
+-- what was written after what stood there
+abbrev pub after : Written → Written → List ℕ
+after old new = drop (length old.bytes) new.bytes
 
--- what stood there is as it was, and what was written behind it took its room
+-- what stood there is as it was, and what was written after it took its room
 abbrev pub Adds : Written → Written → Type 0
-Adds old new = Appends (behind old new) old new
+Adds old new = Appends (after old new) old new

@@ -1,5 +1,6 @@
 -- What a call asks for, and who asks (RFC 1813, section 3.3, and appendix I, section 5.2).
 use Rattle.std.specs.Prelude.{ℕ, Bool, List, Option, Some, None, Result, Ok, Err, is_none, nat_eq, option_map, if◌then◌else◌}
+use Rattle.nfs_args.specs.Programs.{NFS}
 use Rattle.nfs_args.specs.Procedures.{procedure_number, procedures, mount_number, mount_procedures}
 use Rattle.nfs_args.specs.Reading.{args_at, mount_args_at}
 use Rattle.nfs_args.specs.declared.args.NfsArgs.{NfsArgs}
@@ -13,12 +14,6 @@ use Rattle.nfs_rules.specs.Subjects.{Caller}
 use Rattle.nfs_xdr.specs.Reading.{Read, numbered}
 
 -- ---- programs and procedures
-
-abbrev pub NFS : ℕ
-NFS = 100003
-
-abbrev pub MOUNT : ℕ
-MOUNT = 100005
 
 -- a call that keeps the rule program and is not of NFS is of MOUNT
 abbrev pub is_nfs : Call → Bool

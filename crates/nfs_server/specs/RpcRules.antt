@@ -1,13 +1,16 @@
 -- The rules of RPC (RFC 5531, section 9), and the reply of each where it is the first that fails.
-use Rattle.std.specs.Prelude.{ℕ, Bool, not, ◌||◌, ◌&&◌, List, [], ◌∷◌, ◌++◌, Option, is_none, nat_eq, nat_le, find, if◌then◌else◌, codes}
+use Rattle.std.specs.Prelude.{ℕ, Bool, not, ◌||◌, ◌&&◌, List, [], ◌∷◌, ◌++◌, Option, is_none, is_some, nat_eq, find, if◌then◌else◌, codes}
+use Rattle.nfs_args.specs.Programs.{NFS, MOUNT, version}
+use Rattle.nfs_args.specs.Procedures.{procedure_number, procedures, mount_number, mount_procedures}
 use Rattle.nfs_rpc.specs.AuthSys.{caller}
-use Rattle.nfs_rpc.specs.Calls.{Call}
+use Rattle.nfs_rpc.specs.Calls.{Call, rpc_version}
 use Rattle.nfs_rpc.specs.Replies.{accepted_text, refused_text}
 use Rattle.nfs_rpc.specs.declared.reply.Accept.TheVariants.{ProgUnavail, ProgMismatch, ProcUnavail, GarbageArgs}
 use Rattle.nfs_rpc.specs.declared.reply.Refused.TheVariants.{RpcMismatch, BadCred, RejectedCred, TooWeak}
 use Rattle.nfs_server.specs.declared.rpc_rules.RpcRule.{RpcRule}
 use Rattle.nfs_server.specs.declared.rpc_rules.RpcRule.TheVariants.{Version, Program, ProgramVersion, Procedure, Flavor, Credential, WeakCredential, Arguments}
-use Rattle.nfs_server.specs.Requests.{NFS, MOUNT, is_nfs, is_null, lacks_args}
+use Rattle.nfs_server.specs.Requests.{is_nfs, is_null, lacks_args}
+use Rattle.nfs_xdr.specs.Reading.{numbered}
 
 -- the flavors of credentials
 abbrev pub AUTH_NONE : ℕ
@@ -16,15 +19,15 @@ AUTH_NONE = 0
 abbrev pub AUTH_SYS : ℕ
 AUTH_SYS = 1
 
--- NFS has procedures up to 21, MOUNT up to 5
+-- whether a program has a procedure of the number
 abbrev pub has_procedure : ℕ → ℕ → Bool
-has_procedure prog proc = nat_le proc (if nat_eq prog NFS then 21 else 5)
+has_procedure prog proc = if nat_eq prog NFS then is_some (numbered procedure_number procedures proc) else is_some (numbered mount_number mount_procedures proc)
 
--- whether a call, with what stands behind its head, fails the rule
+-- whether a call, with what stands after its head, fails the rule
 abbrev pub fails_rpc : Call → List ℕ → RpcRule → Bool
-fails_rpc call bytes Version = not (nat_eq call.rpcvers 2)
+fails_rpc call bytes Version = not (nat_eq call.rpcvers rpc_version)
 fails_rpc call bytes Program = not (nat_eq call.prog NFS || nat_eq call.prog MOUNT)
-fails_rpc call bytes ProgramVersion = not (nat_eq call.vers 3)
+fails_rpc call bytes ProgramVersion = not (nat_eq call.vers version)
 fails_rpc call bytes Procedure = not (has_procedure call.prog call.proc)
 fails_rpc call bytes Flavor = not (is_null call) && not (nat_eq call.cred.flavor AUTH_NONE || nat_eq call.cred.flavor AUTH_SYS)
 fails_rpc call bytes Credential = not (is_null call) && (nat_eq call.cred.flavor AUTH_SYS && is_none (caller call.cred.body))

@@ -8,14 +8,14 @@ use Rattle.nfs_args.specs.declared.mount_answer.MountAnswer.TheVariants as resul
 use Rattle.nfs_args.specs.declared.mount_args.MountArgs.{MountArgs}
 use Rattle.nfs_args.specs.declared.mount_args.MountArgs.TheVariants as asked
 use Rattle.nfs_exports.specs.declared.addr.Addr.{Addr}
-use Rattle.nfs_exports.specs.declared.table.Export.{Export}
+use Rattle.nfs_exports.specs.declared.export_table.Export.{Export}
 use Rattle.nfs_inodes.specs.Tree.{Tree}
-use Rattle.nfs_mount.specs.MountAnswers.{IsMountSpelled, denied_answer, dump_answer, export_answer, granted_answer, root_of}
+use Rattle.nfs_mount.specs.MountAnswers.{IsMountEncoded, denied_answer, dump_answer, export_answer, granted_answer, root_of}
 use Rattle.nfs_mount.specs.MountRules.{mount_verdict}
 use Rattle.nfs_mount.specs.Mounts.{after_mnt, after_umnt, is_mounted, without_addr}
 use Rattle.nfs_mount.specs.declared.mount.Mount.{Mount}
 use Rattle.nfs_procs.specs.Doing.{Doing}
-use Rattle.nfs_procs.specs.Performing.{IsSpelled}
+use Rattle.nfs_procs.specs.Performing.{IsEncoded}
 use Rattle.nfs_procs.specs.Procedures.{doing_of}
 use Rattle.nfs_procs.specs.Scenes.{Scene, verdict_in, subjects_in, seen_in}
 use Rattle.nfs_rpc.specs.Calls.{Call, head_at}
@@ -27,13 +27,13 @@ use Rattle.nfs_rules.specs.Subjects.{Caller, Subject}
 use Rattle.nfs_rules.specs.declared.rule.Rule.{Rule}
 use Rattle.nfs_server.specs.AuditLines.{line_of}
 use Rattle.nfs_server.specs.Events.{Event, Answer, Choice, Done, silence, granted, denied}
-use Rattle.nfs_server.specs.Repeats.{first_reply, may_change}
+use Rattle.nfs_server.specs.Retransmissions.{first_reply, may_change}
 use Rattle.nfs_server.specs.Requests.{Request, Nothing, OfNfs, OfMount, request_of}
 use Rattle.nfs_server.specs.RpcRules.{rpc_failure_of, rpc_reply}
-use Rattle.nfs_server.specs.declared.audit_line.Reason.TheVariants as reason
+use Rattle.nfs_server.specs.declared.audit_line.DenialReason.TheVariants as reason
 use Rattle.nfs_server.specs.declared.rpc_rules.RpcRule.{RpcRule}
 
--- what stays for a server's whole life: how many replies it keeps for repeats, and what is exported to whom, in a list for each volume
+-- what stays for a server's whole life: how many replies it keeps for retransmissions, and what is exported to whom, in a list for each volume
 pub record Setup : Type 0 where
   pub places : ℕ
   pub exports : List (List Export)
@@ -49,26 +49,26 @@ pub record State : Type 0 where
 abbrev pub success : Call → List ℕ → List ℕ
 success call result = accepted_text call.xid Success ++ result
 
--- The tree has the effect of the procedure, and the reply its result, as it is spelled; both are of what the handles name.
+-- The tree has the effect of the procedure, and the reply its result, as it is encoded; both are of what the handles name.
 pub record HasDone (c : Scene) (doing : Doing) (call : Call) (tag : ℕ) (answer : Answer) (new : Tree) : Type 0 where
   pub one : Subject
   pub two : Subject
   pub subjects : subjects_in c ≡ Some (one, two)
   pub new_is : new ≡ doing.effect one two c.now tag
   pub answer_is : answer ≡ granted (success call (nfs_text (doing.granted one two new)))
-  pub spelled : IsSpelled (doing.granted one two new)
+  pub encoded : IsEncoded (doing.granted one two new)
 
--- Without memory, for its place among the kept replies or for what it adds, a call is answered SYSTEM_ERR, and the tree stays.
+-- Without memory, for its place among the cached replies or for what it adds, a call is answered SYSTEM_ERR, and the tree stays.
 pub record HasNone (c : Scene) (call : Call) (answer : Answer) (new : Tree) : Type 0 where
   pub new_is : new ≡ c.tree
   pub answer_is : answer ≡ denied (accepted_text call.xid SystemErr) (line_of c.caller.addr call reason.Memory)
 
--- The first rule that fails is answered by its status, and told by its name with the uid of the caller, where
+-- The first rule that fails is answered by its status, and reported by its name with the uid of the caller, where
 -- the rules of the handles are kept. The tree stays.
 pub record IsDenied (c : Scene) (doing : Doing) (call : Call) (rule : Rule) (answer : Answer) (new : Tree) : Type 0 where
   pub new_is : new ≡ c.tree
   pub answer_is : answer ≡ denied (success call (nfs_text (doing.denied (status_of rule) (seen_in c)))) (line_of c.caller.addr call (reason.Rule rule (option_map (λ s. s.0.ids.uid) (subjects_in c))))
-  pub spelled : IsSpelled (doing.denied (status_of rule) (seen_in c))
+  pub encoded : IsEncoded (doing.denied (status_of rule) (seen_in c))
 
 -- by the first rule that fails
 abbrev pub Decided : Option Rule → Scene → Doing → Call → ℕ → Answer → Tree → Type 0
@@ -87,17 +87,17 @@ Performed procedure c call choice answer new = Refusable (not choice.has_memory 
 
 -- ---- a call of MOUNT
 
--- The reply has this result, as it is spelled, and these are the mounts afterwards.
+-- The reply has this result, as it is encoded, and these are the mounts afterwards.
 abbrev pub MountDone : Call → State → MountAnswer → List Mount → Answer → State → Type 0
 MountDone call old result mounts answer new =
-    (answer ≡ granted (success call (mount_text result))) × (new ≡ record { tree = old.tree; mounts = mounts }) × IsMountSpelled result
+    (answer ≡ granted (success call (mount_text result))) × (new ≡ record { tree = old.tree; mounts = mounts }) × IsMountEncoded result
 
--- MNT, by the first rule that fails, and, where none does, by whether there is memory. A rule is told without
+-- MNT, by the first rule that fails, and, where none does, by whether there is memory. A rule is reported without
 -- a uid. Without memory nothing is done, which is only where the pair is new.
 abbrev pub MountDecided : Option Rule → Bool → State → Addr → List ℕ → Call → Answer → State → Type 0
 MountDecided (Some rule) has_memory old addr path call answer new =
     (answer ≡ denied (success call (mount_text (denied_answer rule))) (line_of addr call (reason.Rule rule None))) × (new ≡ old)
-    × IsMountSpelled (denied_answer rule)
+    × IsMountEncoded (denied_answer rule)
 MountDecided None true old addr path call answer new = (handle : List ℕ) × (root_of old.tree path ≡ Some handle)
     × MountDone call old (granted_answer handle) (after_mnt old.tree addr path old.mounts) answer new
 MountDecided None false old addr path call answer new = (is_mounted old.tree addr path old.mounts ≡ false)
@@ -135,16 +135,16 @@ abbrev pub Called : Result (Call × List ℕ) RpcFault → Setup → State → E
 Called (Err fault) setup old event choice answer new = (answer ≡ silence) × (new ≡ old)
 Called (Ok head) setup old event choice answer new = Judged (rpc_failure_of head.0 head.1) (request_of event.addr head.0 head.1) setup old event head.0 choice answer new
 
--- A repeat has the first reply and no line, and nothing changes.
-abbrev pub Repeated : Option (List ℕ) → Setup → State → Event → Choice → Answer → State → Type 0
-Repeated (Some reply) setup old event choice answer new = (answer ≡ granted reply) × (new ≡ old)
-Repeated None setup old event choice answer new = Called (head_at event.bytes) setup old event choice answer new
+-- A retransmission has the first reply and no line, and nothing changes.
+abbrev pub Retransmitted : Option (List ℕ) → Setup → State → Event → Choice → Answer → State → Type 0
+Retransmitted (Some reply) setup old event choice answer new = (answer ≡ granted reply) × (new ≡ old)
+Retransmitted None setup old event choice answer new = Called (head_at event.bytes) setup old event choice answer new
 
--- one event after a past, by the first case that applies
+-- one event after a history, by the first case that applies
 abbrev pub Step : Setup → List Done → State → Event → Choice → Answer → State → Type 0
-Step setup past old event choice answer new = Repeated (first_reply setup.places choice.again past event) setup old event choice answer new
+Step setup history old event choice answer new = Retransmitted (first_reply setup.places choice.again history event) setup old event choice answer new
 
--- the past, the newest event first, is a run from the opening state to this one
+-- the history, the newest event first, is a run from the opening state to this one
 abbrev pub IsRun : Setup → State → List Done → State → Type 0
 IsRun setup opening [] state = state ≡ opening
 IsRun setup opening (d ∷ before) state = (between : State) × IsRun setup opening before between × Step setup before between d.event d.choice d.answer state

@@ -4,17 +4,17 @@ use Rattle.nfs_rpc.specs.Progress.{Progress, Unfinished}
 use Rattle.nfs_rpc.specs.Records.{AreRecords}
 use Rattle.nfs_server.specs.Events.{Done}
 use Rattle.nfs_server.specs.Feeding.{Device, device, replies_of, Feeds}
-use Rattle.nfs_server.specs.Fits.{Held, Past, Fits}
+use Rattle.nfs_server.specs.Fits.{Held, History, Fits}
 use Rattle.nfs_server.specs.Runs.{longer}
 use Rattle.nfs_server.specs.declared.session_fault.SessionFault.{SessionFault}
 use Rattle.nfs_server.specs.declared.taking.Origin.{Origin}
 use Rattle.nfs_xdr.specs.Known.{Grows}
 
--- a piece that came on a connection, and what its feed answered
+-- a chunk that came on a connection, and what its feed answered
 pub record Feed : Type 0 where
   pub conn : ℕ
   pub origin : Origin
-  pub piece : List ℕ
+  pub chunk : List ℕ
   pub result : Result ℕ SessionFault
 
 -- a server, how far the stream of each connection is read, and what was written to it, where that is known
@@ -27,7 +27,7 @@ pub record Stand : Type 0 where
 pub record IsOneFeed (f : Feed) (old new : Stand) : Type 0 where
   pub log_before : Option (List ℕ)
   pub log_after : Option (List ℕ)
-  pub feeds : Feeds f.origin f.piece f.result old.server new.server (old.progress f.conn) (new.progress f.conn) (device log_before log_after) (device (old.sent f.conn) (new.sent f.conn))
+  pub feeds : Feeds f.origin f.chunk f.result old.server new.server (old.progress f.conn) (new.progress f.conn) (device log_before log_after) (device (old.sent f.conn) (new.sent f.conn))
   pub progress_stays : (other : ℕ) → other ≢ f.conn → new.progress other ≡ old.progress other
   pub sent_stays : (other : ℕ) → other ≢ f.conn → new.sent other ≡ old.sent other
 
@@ -54,9 +54,9 @@ own_events conn (a ∷ earlier) = (if nat_eq conn a.0.conn then a.1 else []) ++ 
 -- the bytes that came on it
 abbrev pub own_bytes : ℕ → List Feed → List ℕ
 own_bytes conn [] = []
-own_bytes conn (f ∷ earlier) = own_bytes conn earlier ++ (if nat_eq conn f.conn then f.piece else [])
+own_bytes conn (f ∷ earlier) = own_bytes conn earlier ++ (if nat_eq conn f.conn then f.chunk else [])
 
--- Bytes of one stream are the records of these events, in their order, and an unfinished rest. The sealed
+-- Bytes of one stream are the records of these events, in their order, and an unfinished rest. The framed
 -- replies to them were written in their order, and nothing else.
 pub record IsServed (bytes : List ℕ) (done : List Done) (p : Progress) (sent : Device) : Type 0 where
   pub rest : List ℕ
@@ -64,16 +64,16 @@ pub record IsServed (bytes : List ℕ) (done : List Done) (p : Progress) (sent :
   pub unfinished : Unfinished rest p
   pub wrote : Grows sent.before (replies_of done) sent.after
 
--- The events of all feeds, feed by feed, make the past longer. Each connection without a fault is served as if it were alone.
-pub record AreTogether (past : Past) (texts : ℕ → List ℕ) (feeds : List Feed) (old new : Stand) : Type 0 where
+-- The events of all feeds, feed by feed, make the history longer. Each connection without a fault is served as if it were alone.
+pub record AreTogether (history : History) (texts : ℕ → List ℕ) (feeds : List Feed) (old new : Stand) : Type 0 where
   pub fed : List (Feed × List Done)
   pub feeds_are : map (λ (a : Feed × List Done). a.0) fed ≡ feeds
-  pub fits : Fits (longer past (all_events fed)) new.server
+  pub fits : Fits (longer history (all_events fed)) new.server
   pub served : (conn : ℕ) → IsUnbroken conn feeds
       → IsServed (texts conn ++ own_bytes conn feeds) (own_events conn fed) (new.progress conn) (device (old.sent conn) (new.sent conn))
 
--- Feeds on any number of connections are one past, in the order in which records become whole.
-abbrev pub FeedsAreOnePast : Type 0
-FeedsAreOnePast = (feeds : List Feed) (old new : Stand) → AreFeeds feeds old new → (past : Past) → Fits past old.server
+-- Feeds on any number of connections are one history, in the order in which records become whole.
+abbrev pub FeedsAreOneHistory : Type 0
+FeedsAreOneHistory = (feeds : List Feed) (old new : Stand) → AreFeeds feeds old new → (history : History) → Fits history old.server
     → (texts : ℕ → List ℕ) → ((conn : ℕ) → Unfinished (texts conn) (old.progress conn))
-    → AreTogether past texts feeds old new
+    → AreTogether history texts feeds old new

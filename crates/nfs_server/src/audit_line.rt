@@ -12,7 +12,7 @@ use nfs_text::line::{Line, put, put_number};
 
 /// Why a call is denied.
 #[derive(Clone, Copy, Debug, PartialEq, Eq)]
-pub enum Reason {
+pub enum DenialReason {
     /// The first rule of RPC that fails.
     Rpc(RpcRule),
     /// The first rule of the procedure that fails, and the uid by which the caller is judged, where
@@ -34,12 +34,12 @@ pub struct AuditLine {
     /// The program's procedure.
     pub procedure: u32,
     /// Why it was denied.
-    pub reason: Reason,
+    pub reason: DenialReason,
 }
 
 impl AuditLine {
     /// The line of a call from this address.
-    pub(crate) fn of(addr: Addr, head: &CallHead<'_>, reason: Reason) -> AuditLine
+    pub(crate) fn of(addr: Addr, head: &CallHead<'_>, reason: DenialReason) -> AuditLine
         ensures { result ≡ line_of addr (call_of head.now) reason }
     {
         AuditLine {
@@ -68,22 +68,22 @@ impl AuditLine {
 }
 
 // Whose uid, which rule, and what the reply says.
-fn put_reason(line: &mut Line, reason: Reason)
+fn put_reason(line: &mut Line, reason: DenialReason)
     requires { array_vec_len line.old + 100 ≤ 1024 }
     ensures items { line.new.items ≡ line.old.items ++ reason_text reason }
     ensures len { array_vec_len line.new ≤ array_vec_len line.old + 100 }
 {
     match reason {
-        Reason::Rpc(rule) => put_words(line, rule.name(), rule.status_name()),
-        Reason::Rule(rule, Some(uid)) => {
+        DenialReason::Rpc(rule) => put_words(line, rule.name(), rule.status_name()),
+        DenialReason::Rule(rule, Some(uid)) => {
             put_number(line, b" uid=", u64::from(uid));
             put_rule(line, rule);
         }
-        Reason::Rule(rule, None) => {
+        DenialReason::Rule(rule, None) => {
             put(line, b" uid=-");
             put_rule(line, rule);
         }
-        Reason::Memory => put_words(line, "memory", "system-err"),
+        DenialReason::Memory => put_words(line, "memory", "system-err"),
     }
 }
 

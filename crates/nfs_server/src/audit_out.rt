@@ -1,6 +1,7 @@
 //! Where the lines of denied calls go.
-ghost use Rattle.std.specs.Prelude.{◌≡◌, ℕ, List, Option, Bool, true, OnOk, OnErr};
+ghost use Rattle.std.specs.Prelude.{◌≡◌, ℕ, List, Option, Some, Bool, true, false, OnOk, OnErr};
 ghost use Rattle.nfs_server.specs.AuditLines.{line_text};
+ghost use Rattle.nfs_server.specs.Denying.{IsSpared};
 ghost use Rattle.nfs_xdr.specs.Known.{Grows, GrowsByPart};
 
 use crate::audit_line::AuditLine;
@@ -17,7 +18,14 @@ pub trait AuditOut {
     /// Whether the last call answered the fault.
     ghost failed: { Self → Bool };
 
-    /// Takes the line of a call that was denied, of which this server was told by this event. At a
+    /// Whether no line of a call that fails a rule is taken now.
+    ghost full: { Self → Bool };
+
+    /// Whether it is full.
+    fn is_full(&self) -> bool
+        ensures { result ≡ full self.now };
+
+    /// Takes the line of a call that was denied, with the event that brought it and the server. At a
     /// fault some first bytes of it were taken.
     fn take(
         &mut self,
@@ -25,6 +33,7 @@ pub trait AuditOut {
         event: Event<'_>,
         server: &Server,
     ) -> Result<(), DeviceFault>
+        requires { full self.old ≡ true → IsSpared (Some denied.now) }
         ensures ok { OnOk result (Grows (contents self.old) (line_text denied.now) (contents self.new)) }
         ensures part { OnErr result (GrowsByPart (contents self.old) (line_text denied.now) (contents self.new)) }
         ensures fault { OnErr result (failed self.new ≡ true) };
@@ -34,6 +43,12 @@ impl<W: ByteOut> AuditOut for W {
     ghost contents = { λ w. W.contents w };
 
     ghost failed = { λ w. W.failed w };
+
+    ghost full = { λ _. false };
+
+    fn is_full(&self) -> bool {
+        false
+    }
 
     fn take(
         &mut self,

@@ -1,17 +1,17 @@
 //! A connection: a stream of records from one address.
-ghost use Rattle.std.specs.Prelude.{◌≡◌, ◌≤◌, true, false, length, IfOk, IfErr, IsTrue, OnOk, OnErr, IsErrOf, ◌↔◌};
+ghost use Rattle.std.specs.Prelude.{◌≡◌, ◌≤◌, true, false, length, drop, IfOk, IfErr, IsTrue, OnOk, OnErr, IsErrOf, ◌↔◌};
 ghost use Rattle.nfs_rpc.specs.Lent.{IsBefore};
 ghost use Rattle.nfs_rpc.specs.Stages.{begun_by};
 ghost use Rattle.nfs_server.specs.Connections.{IsAtStart};
 ghost use Rattle.nfs_server.specs.Feeding.{device, EndsWith};
-ghost use Rattle.nfs_server.specs.Taking.{FeedsSome};
+ghost use Rattle.nfs_server.specs.Taking.{FeedsSome, Waits};
 
 use crate::audit_out::AuditOut;
 use crate::reply_buf::ReplyBuf;
 use crate::reply_out::ReplyOut;
 use crate::server::Server;
 use crate::session_fault::SessionFault;
-use crate::taking::{Origin, Taken, take_piece};
+use crate::taking::{Origin, Taken, take_chunk};
 use nfs_args::limits::MAX_DATA_BYTES;
 use nfs_attrs::moment::Moment;
 use nfs_exports::addr::Addr;
@@ -72,8 +72,9 @@ impl Connection {
         self.framer.begun()
     }
 
-    /// Takes a piece of the stream, and answers each record that it makes whole. Where there is room
-    /// for so many bytes of replies alone, it stops behind the record whose reply fills it.
+    /// Takes a chunk of the stream, and answers each record that it makes whole. Where there is room
+    /// for so many bytes of replies alone, it stops after the record whose reply fills it. Where the log
+    /// is full, it stops before a call that fails a rule, and what follows waits.
     ///
     /// `Ended` where a fault ended it: then nothing is written, and nothing changes. Any other fault
     /// ends it.
@@ -82,7 +83,7 @@ impl Connection {
         server: &mut Server,
         reply: &mut ReplyBuf,
         moment: Moment,
-        piece: &[u8],
+        chunk: &[u8],
         room: Option<usize>,
         replies: &mut R,
         audit: &mut A,
@@ -97,11 +98,13 @@ impl Connection {
         ensures kind { self.old.ended ≡ false → IfErr result (EndsWith (A.failed audit.new) (R.failed replies.new reply.new)) }
         ensures setup { server.new.setup ≡ server.old.setup }
         ensures most { reply.new.most ≡ reply.old.most }
-        ensures used { IfOk result (λ taken. taken.used ≤ length piece.now) }
-        ensures feeds { self.old.ended ≡ false → FeedsSome (record { addr = self.old.addr; moment = moment }) piece.now room
+        ensures used { IfOk result (λ taken. taken.used ≤ length chunk.now) }
+        ensures feeds { self.old.ended ≡ false → FeedsSome (record { addr = self.old.addr; moment = moment }) chunk.now room
             result server.old server.new self.old.progress self.new.progress
             (device (A.contents audit.old) (A.contents audit.new))
             (device (R.contents replies.old reply.old.earlier) (R.contents replies.new reply.new.earlier)) }
+        ensures waits { IfOk result (λ taken. Waits taken.stop (A.full audit.new)
+            (record { addr = self.old.addr; moment = moment }) (drop taken.used chunk.now) server.new self.new.progress) }
     {
         if self.ended {
             return Err(SessionFault::Ended);
@@ -110,12 +113,12 @@ impl Connection {
             addr: self.addr,
             moment,
         };
-        let taken = take_piece(
+        let taken = take_chunk(
             server,
             reply,
             &mut self.framer,
             origin,
-            piece,
+            chunk,
             room,
             replies,
             audit,

@@ -1,9 +1,9 @@
 //! Laws over the definitions alone.
 ghost use Rattle.nfs_server.specs.Cases.{CallsCanBeRead, FoundHasHandle};
 ghost use Rattle.nfs_server.specs.Forward.{RunsForward};
-ghost use Rattle.nfs_server.specs.Together.{FeedsAreOnePast};
+ghost use Rattle.nfs_server.specs.Together.{FeedsAreOneHistory};
 
-/// A past has its newest event first. Read from its first event on, a run is one step after
+/// A history has its newest event first. Read from its first event on, a run is one step after
 /// another from the opening state, each after the events before it.
 pub fn runs_go_forward()
     ensures { RunsForward }
@@ -16,10 +16,10 @@ pub fn no_case_is_left()
     ensures handles { FoundHasHandle }
 {}
 
-/// Feeds on any number of connections are one past, in the order in which records become whole:
-/// the events of each feed come behind those of the feeds before it, whichever connections these
-/// were on. What is written to a connection on which no fault came is the sealed replies to the
+/// Feeds on any number of connections are one history, in the order in which records become whole:
+/// the events of each feed come after those of the feeds before it, whichever connections these
+/// were on. What is written to a connection on which no fault came is the framed replies to the
 /// records of its own stream, in their order, as if no other were there.
-pub fn feeds_are_one_past()
-    ensures { FeedsAreOnePast }
+pub fn feeds_are_one_history()
+    ensures { FeedsAreOneHistory }
 {}

@@ -1,19 +1,21 @@
 //! Calls of MOUNT (RFC 1813, appendix I, section 5.2): what they ask for, and what is done.
-ghost use Rattle.std.specs.Prelude.{◌≡◌, ◌+◌, ◌≤◌, length, None};
+ghost use Rattle.std.specs.Prelude.{◌≡◌, ◌+◌, ◌≤◌, ℕ, length, None, Some};
 ghost use Rattle.std.specs.Result.{result_ok};
+ghost use Rattle.nfs_args.specs.Procedures.{mount_number, mount_procedures};
 ghost use Rattle.nfs_rpc.specs.Calls.{call_of};
 ghost use Rattle.nfs_server.specs.OneEvent.{AnswersMount, MountsAs};
-ghost use Rattle.nfs_server.specs.ReplyRoom.{Adds, HasReplyRoom, behind};
+ghost use Rattle.nfs_server.specs.ReplyRoom.{Adds, HasReplyRoom, after};
 ghost use Rattle.nfs_server.specs.Requests.{mount_args_in};
-ghost use Rattle.nfs_server.specs.InMemory.{told};
+ghost use Rattle.nfs_server.specs.InMemory.{reported};
+ghost use Rattle.nfs_xdr.specs.Reading.{numbered};
 
-use crate::audit_line::{AuditLine, Reason};
+use crate::audit_line::{AuditLine, DenialReason};
 use crate::reply::give_up;
 use nfs_args::mount_args::{MountArgs, read_mount};
 use nfs_args::procedure::MountProcedure;
 use nfs_args::unreadable::Unreadable;
 use nfs_exports::addr::Addr;
-use nfs_exports::table::Table;
+use nfs_exports::export_table::ExportTable;
 use nfs_inodes::tree::Tree;
 use nfs_mount::exports::write_export;
 use nfs_mount::limits::MAX_DUMP_BYTES;
@@ -24,15 +26,16 @@ use nfs_rpc::reply::{Accept, write_accepted};
 use nfs_xdr::input::Input;
 use nfs_xdr::output::Output;
 
-/// Reads the arguments of the procedure of this number. What follows them is not looked at.
-/// `Unreadable` where no arguments of the procedure stand there, and where there is no such procedure.
-pub(crate) fn read_mount_args(proc: u32, input: Input<'_>) -> Result<MountArgs<'_>, Unreadable>
-    ensures { result_ok result ≡ mount_args_in proc input.entry }
+/// Reads the arguments of a procedure. What follows them is not looked at. `Unreadable` where no
+/// arguments of the procedure stand there.
+pub(crate) fn read_mount_args(
+    procedure: MountProcedure,
+    input: Input<'_>,
+) -> Result<MountArgs<'_>, Unreadable>
+    ensures { (number : ℕ) → numbered mount_number mount_procedures number ≡ Some procedure
+        → result_ok result ≡ mount_args_in number input.entry }
 {
-    match MountProcedure::of(proc) {
-        Some(procedure) => read_mount(procedure, input),
-        None => Err(Unreadable),
-    }
+    read_mount(procedure, input)
 }
 
 /// The reply to a call other than NULL: what it asks for is done where no rule fails, and there is
@@ -41,7 +44,7 @@ pub(crate) fn answer_mount(
     out: &mut Output,
     head: &CallHead<'_>,
     tree: &Tree,
-    table: &Table,
+    table: &ExportTable,
     mounts: &mut MountList,
     addr: Addr,
     args: &MountArgs<'_>,
@@ -51,19 +54,19 @@ pub(crate) fn answer_mount(
     requires line { line.old ≡ None }
     ensures adds { Adds out.old out.new }
     ensures answers { AnswersMount args.now table.now (record { tree = tree.now; mounts = mounts.old }) addr (call_of head.now)
-        (told (behind out.old out.new) line.new) mounts.new }
+        (reported (after out.old out.new) line.new) mounts.new }
 {
     let start = out.bytes().len();
     write_accepted(out, head.xid, Accept::Success);
     match mount(tree, table, mounts, addr, args, out) {
         MountOutcome::Granted => {}
         MountOutcome::Denied(rule) => {
-            let reason = Reason::Rule(rule, None);
+            let reason = DenialReason::Rule(rule, None);
             *line = Some(AuditLine::of(addr, head, reason));
         }
         MountOutcome::Memory => {
             give_up(out, start, head.xid);
-            *line = Some(AuditLine::of(addr, head, Reason::Memory));
+            *line = Some(AuditLine::of(addr, head, DenialReason::Memory));
         }
     }
 }
@@ -73,7 +76,7 @@ pub(crate) fn answer_mount(
 // before, and nothing is written.
 fn mount(
     tree: &Tree,
-    table: &Table,
+    table: &ExportTable,
     mounts: &mut MountList,
     addr: Addr,
     args: &MountArgs<'_>,

@@ -4,19 +4,19 @@ ghost use Rattle.nfs_procs.specs.Procedures.{PerformsAs, doing_of};
 ghost use Rattle.nfs_procs.specs.Scenes.{scene};
 ghost use Rattle.nfs_rpc.specs.Calls.{call_of};
 ghost use Rattle.nfs_server.specs.OneEvent.{AnswersCall};
-ghost use Rattle.nfs_server.specs.Repeats as repeats;
-ghost use Rattle.nfs_server.specs.ReplyRoom.{Adds, HasReplyRoom, behind};
-ghost use Rattle.nfs_server.specs.InMemory.{told};
+ghost use Rattle.nfs_server.specs.Retransmissions as retransmissions;
+ghost use Rattle.nfs_server.specs.ReplyRoom.{Adds, HasReplyRoom, after};
+ghost use Rattle.nfs_server.specs.InMemory.{reported};
 
-use crate::audit_line::{AuditLine, Reason};
+use crate::audit_line::{AuditLine, DenialReason};
 use crate::reply::give_up;
 use nfs_args::args::NfsArgs;
 use nfs_args::largest::MAX_RESULT_BYTES;
 use nfs_inodes::tree::Tree;
-use nfs_kept::kept_replies::MAX_KEPT_BYTES;
-use nfs_procs::call::Call;
+use nfs_procs::call_context::CallContext;
 use nfs_procs::done::Done;
 use nfs_procs::perform::perform;
+use nfs_reply_cache::reply_cache::MAX_KEPT_BYTES;
 use nfs_rpc::call::CallHead;
 use nfs_rpc::reply::{Accept, write_accepted};
 use nfs_xdr::output::Output;
@@ -24,20 +24,9 @@ use nfs_xdr::output::Output;
 /// Whether these are arguments of a procedure that may change the tree.
 #[inline(always)]
 pub(crate) fn may_change(args: &NfsArgs<'_>) -> bool
-    ensures { result ≡ repeats.may_change args.now }
+    ensures { result ≡ retransmissions.may_change args.now }
 {
-    matches!(
-        args,
-        NfsArgs::SetAttr(_)
-            | NfsArgs::Write(_)
-            | NfsArgs::Create(_)
-            | NfsArgs::MakeDir(_)
-            | NfsArgs::SymLink(_)
-            | NfsArgs::Remove(_)
-            | NfsArgs::RemoveDir(_)
-            | NfsArgs::Rename(_)
-            | NfsArgs::Link(_)
-    )
+    args.procedure().row().may_change
 }
 
 /// The reply to a call: what it asks for is done where no rule fails, and there is memory. A call that
@@ -47,45 +36,45 @@ pub(crate) fn answer_call(
     out: &mut Output,
     head: &CallHead<'_>,
     tree: &mut Tree,
-    call: &Call<'_>,
+    call: &CallContext<'_>,
     args: &NfsArgs<'_>,
     line: &mut Option<AuditLine>,
 )
     requires room { HasReplyRoom out.old }
     requires line { line.old ≡ None }
     ensures adds { Adds out.old out.new }
-    ensures short { repeats.may_change args.now ≡ true → length (behind out.old out.new) ≤ MAX_KEPT_BYTES }
+    ensures short { retransmissions.may_change args.now ≡ true → length (after out.old out.new) ≤ MAX_KEPT_BYTES }
     ensures answers { AnswersCall (scene tree.old call.now args.now) (call_of head.now)
-        (told (behind out.old out.new) line.new) tree.new }
+        (reported (after out.old out.new) line.new) tree.new }
 {
     let start = out.bytes().len();
     write_accepted(out, head.xid, Accept::Success);
     match write_result(out, tree, call, args) {
         Some(Done::Denied(rule, uid)) => {
-            let reason = Reason::Rule(rule, uid);
+            let reason = DenialReason::Rule(rule, uid);
             *line = Some(AuditLine::of(call.caller.addr, head, reason));
         }
         Some(Done::Memory) => {
             give_up(out, start, head.xid);
-            *line = Some(AuditLine::of(call.caller.addr, head, Reason::Memory));
+            *line = Some(AuditLine::of(call.caller.addr, head, DenialReason::Memory));
         }
         Some(Done::Granted) => {}
         None => {}
     }
 }
 
-// What becomes of a call, and its result, behind what stands there.
+// What becomes of a call, and its result, after what stands there.
 #[inline(always)]
 fn write_result(
     out: &mut Output,
     tree: &mut Tree,
-    call: &Call<'_>,
+    call: &CallContext<'_>,
     args: &NfsArgs<'_>,
 ) -> Option<Done>
     requires { MAX_RESULT_BYTES ≤ out.old.room }
     ensures performs { PerformsAs (scene tree.old call.now args.now) (doing_of args.now) result tree.new out.old out.new }
     ensures adds { Adds out.old out.new }
-    ensures short { repeats.may_change args.now ≡ true → length out.new.bytes ≤ length out.old.bytes + 280 }
+    ensures short { retransmissions.may_change args.now ≡ true → length out.new.bytes ≤ length out.old.bytes + 280 }
 {
     let done = perform(tree, call, args, out);
     tree.law();

@@ -2,11 +2,11 @@
 ghost use Rattle.std.specs.Prelude.{◌≡◌, ◌+◌, ◌≤◌, ◌++◌, length, take};
 ghost use Rattle.nfs_rpc.specs.Replies.{accepted_text};
 ghost use Rattle.nfs_rpc.specs.declared.reply.Accept.TheVariants.{Success, SystemErr};
-ghost use Rattle.nfs_server.specs.ReplyRoom.{Adds, HasReplyRoom, behind, room_bytes};
+ghost use Rattle.nfs_server.specs.ReplyRoom.{Adds, HasReplyRoom, after, room_bytes};
 ghost use Rattle.nfs_server.specs.RpcRules.{rpc_reply};
 
 use crate::rpc_rules::RpcRule;
-use nfs_kept::kept_replies::MAX_KEPT_BYTES;
+use nfs_reply_cache::reply_cache::MAX_KEPT_BYTES;
 use nfs_rpc::reply::{Accept, Refused, write_accepted, write_refused};
 use nfs_xdr::output::Output;
 
@@ -14,7 +14,7 @@ use nfs_xdr::output::Output;
 pub(crate) fn refuse(out: &mut Output, rule: RpcRule, xid: u32)
     requires { HasReplyRoom out.old }
     ensures adds { Adds out.old out.new }
-    ensures reply { behind out.old out.new ≡ rpc_reply rule xid }
+    ensures reply { after out.old out.new ≡ rpc_reply rule xid }
 {
     match rule {
         RpcRule::Version => write_refused(out, xid, Refused::RpcMismatch),
@@ -33,7 +33,7 @@ pub(crate) fn refuse(out: &mut Output, rule: RpcRule, xid: u32)
 pub(crate) fn succeed(out: &mut Output, xid: u32)
     requires { HasReplyRoom out.old }
     ensures adds { Adds out.old out.new }
-    ensures reply { behind out.old out.new ≡ accepted_text xid Success }
+    ensures reply { after out.old out.new ≡ accepted_text xid Success }
 {
     write_accepted(out, xid, Accept::Success);
 }
@@ -50,11 +50,11 @@ pub(crate) fn give_up(out: &mut Output, start: usize, xid: u32)
 }
 
 /// A reply that was given before.
-pub(crate) fn repeat(out: &mut Output, reply: &[u8])
+pub(crate) fn retransmission(out: &mut Output, reply: &[u8])
     requires room { HasReplyRoom out.old }
     requires short { length reply.now ≤ MAX_KEPT_BYTES }
     ensures adds { Adds out.old out.new }
-    ensures reply { behind out.old out.new ≡ reply.now }
+    ensures reply { after out.old out.new ≡ reply.now }
 {
     out.part(reply);
 }

@@ -3,19 +3,19 @@ ghost use Rattle.std.specs.Prelude.{◌≡◌, ◌+◌, ◌≤◌, ◌⊎◌, �
 ghost use Rattle.nfs_rpc.specs.Records.{fragment, header};
 ghost use Rattle.nfs_server.specs.ReplyRoom.{HasReplyRoom, IsReply, is_full, reply_at};
 
-use nfs_rpc::record::{HEADER_BYTES, seal_record};
+use nfs_rpc::record::{HEADER_BYTES, frame_record};
 use nfs_xdr::output::Output;
 use std::alloc::{AllocError, Global};
 use std::marker::Model;
 
 /// Room for one reply and the record mark in front of it, made once, so that no reply takes
-/// memory and a sealed reply goes out by one write. Sealed replies may gather in front of it, where
+/// memory and a framed reply goes out by one write. Framed replies may gather in front of it, where
 /// there is room for them, so that they go out by one write together and none is copied.
 #[derive(Drop)]
 pub struct ReplyBuf {
     // While a reply is written, its mark is not yet that of the reply.
     pub(crate) out: Output,
-    // Where the mark of the reply stands, behind the replies that have gathered.
+    // Where the mark of the reply stands, after the replies that have gathered.
     pub(crate) start: usize,
 }
 
@@ -27,7 +27,7 @@ pub const MOST_GATHERED: usize = 2 * ROOM;
 
 impl Model for ReplyBuf {
     ghost use Rattle.std.specs.Prelude.{◌+◌, ◌-◌, length, take};
-    ghost use Rattle.nfs_server.specs.ReplyRoom.{Buffered, IsSealed, reply_at, room_bytes};
+    ghost use Rattle.nfs_server.specs.ReplyRoom.{Buffered, IsFramed, reply_at, room_bytes};
 
     ghost Value = { Buffered };
 
@@ -37,7 +37,7 @@ impl Model for ReplyBuf {
       most = length a.out.bytes + a.out.room - room_bytes;
     } };
 
-    ghost invariant = { IsSealed };
+    ghost invariant = { IsFramed };
 }
 
 impl ReplyBuf {
@@ -59,7 +59,7 @@ impl ReplyBuf {
         with_room(alloc, MOST_GATHERED + ROOM)
     }
 
-    /// The sealed replies that have gathered, one after another.
+    /// The framed replies that have gathered, one after another.
     pub fn gathered(&self) -> &[u8]
         ensures all { result.now ≡ self.now.earlier }
         ensures bound { length result.now ≤ MOST_GATHERED }
@@ -75,7 +75,7 @@ impl ReplyBuf {
     }
 
     /// The reply as one record, with its mark in front.
-    pub fn sealed(&self) -> &[u8]
+    pub fn framed(&self) -> &[u8]
         ensures { result.now ≡ fragment true self.now.reply }
     {
         &self.out.bytes()[self.start..]
@@ -88,7 +88,7 @@ impl ReplyBuf {
         ensures most { self.new.most ≡ self.old.most }
     {
         begin(&mut self.out, self.start);
-        seal(&mut self.out, self.start);
+        frame(&mut self.out, self.start);
     }
 
     /// No reply, and none that has gathered.
@@ -99,10 +99,10 @@ impl ReplyBuf {
     {
         self.start = 0;
         begin(&mut self.out, 0);
-        seal(&mut self.out, 0);
+        frame(&mut self.out, 0);
     }
 
-    /// The reply gathers behind the earlier ones, and there is none then. `false` exactly where they
+    /// The reply gathers after the earlier ones, and there is none then. `false` exactly where they
     /// would be more than may gather: nothing changes.
     pub fn gather(&mut self) -> bool
         ensures done { IsTrue result → self.new.earlier ≡ self.old.earlier ++ fragment true self.old.reply }
@@ -115,7 +115,7 @@ impl ReplyBuf {
             return false;
         }
         self.start = self.out.bytes().len();
-        self.out.part(&seal_record(0));
+        self.out.part(&frame_record(0));
         true
     }
 }
@@ -129,7 +129,7 @@ fn with_room(alloc: Global, room: usize) -> Result<ReplyBuf, AllocError>
     ensures most { IfOk result (λ reply. reply.most + ROOM ≡ room) }
 {
     let mut out = Output::new(alloc, room)?;
-    out.part(&seal_record(0));
+    out.part(&frame_record(0));
     Ok(ReplyBuf { out, start: 0 })
 }
 
@@ -157,14 +157,14 @@ pub(crate) fn begin(out: &mut Output, start: usize)
 
 /// Makes the mark at a place that of the reply.
 #[inline(always)]
-pub(crate) fn seal(out: &mut Output, start: usize)
+pub(crate) fn frame(out: &mut Output, start: usize)
     requires { IsReply start out.old }
     ensures reply { IsReply start out.new }
     ensures front { take start out.new.bytes ≡ take start out.old.bytes }
-    ensures sealed { drop start out.new.bytes ≡ header true (length (reply_at start out.old)) ++ reply_at start out.old }
+    ensures framed { drop start out.new.bytes ≡ header true (length (reply_at start out.old)) ++ reply_at start out.old }
     ensures same { reply_at start out.new ≡ reply_at start out.old }
     ensures all { length out.new.bytes + out.new.room ≡ length out.old.bytes + out.old.room }
 {
     let len = out.bytes().len() - start - HEADER_BYTES;
-    out.overwrite(start, &seal_record(len as u32));
+    out.overwrite(start, &frame_record(len as u32));
 }

@@ -1,4 +1,4 @@
-//! Where sealed replies go.
+//! Where framed replies go.
 ghost use Rattle.std.specs.Prelude.{◌≡◌, ℕ, List, Option, Some, Bool, true, length, IfOk, OnOk, OnErr};
 ghost use Rattle.nfs_rpc.specs.Records.{fragment};
 ghost use Rattle.nfs_server.specs.ReplyRoom.{Buffered, is_full};
@@ -7,7 +7,7 @@ ghost use Rattle.nfs_xdr.specs.Known.{Grows, GrowsByPart};
 use crate::reply_buf::ReplyBuf;
 use nfs_xdr::device::{ByteOut, DeviceFault, write_all};
 
-/// What takes sealed replies: a device, or the buffer in which they are written.
+/// What takes framed replies: a device, or the buffer in which they are written.
 pub trait ReplyOut {
     /// The bytes that were taken, where they are known, with those that have gathered in the buffer.
     ghost contents: { Self → List ℕ → Option (List ℕ) };
@@ -15,7 +15,7 @@ pub trait ReplyOut {
     /// Whether a call may have answered the fault, with what is in the buffer then.
     ghost failed: { Self → Buffered → Bool };
 
-    /// Takes the reply in the buffer, sealed, and answers how many bytes it has. At a fault some
+    /// Takes the reply in the buffer, framed, and answers how many bytes it has. At a fault some
     /// first ones were taken.
     fn take(&mut self, reply: &mut ReplyBuf) -> Result<usize, DeviceFault>
         ensures count { IfOk result (λ n. n ≡ length (fragment true reply.old.reply)) }
@@ -33,9 +33,9 @@ impl<W: ByteOut> ReplyOut for W {
     ghost failed = { λ w reply. W.failed w };
 
     fn take(&mut self, reply: &mut ReplyBuf) -> Result<usize, DeviceFault> {
-        let sealed = reply.sealed();
-        write_all(self, sealed)?;
-        Ok(sealed.len())
+        let framed = reply.framed();
+        write_all(self, framed)?;
+        Ok(framed.len())
     }
 }
 
@@ -49,7 +49,7 @@ impl ReplyOut for Gathering {
     ghost failed = { λ g reply. is_full reply };
 
     fn take(&mut self, reply: &mut ReplyBuf) -> Result<usize, DeviceFault> {
-        let len = reply.sealed().len();
+        let len = reply.framed().len();
         if !reply.gather() {
             return Err(DeviceFault);
         }

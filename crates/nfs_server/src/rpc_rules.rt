@@ -4,11 +4,12 @@ ghost use Rattle.nfs_rpc.specs.Calls.{call_of};
 ghost use Rattle.std.specs.List.{find};
 ghost use Rattle.nfs_server.specs.Requests.{is_nfs, is_null};
 ghost use Rattle.nfs_server.specs.RpcRules.{caller_rules, fails_rpc, rpc_name, rpc_status};
-ghost use Rattle.nfs_server.specs.RpcRules as spec;
 ghost use Rattle.nfs_server.specs.RpcAnswers.{Admits, Identifies};
 
+use nfs_args::procedure::{MountProcedure, Procedure};
+use nfs_args::program::{MOUNT_PROGRAM, NFS_PROGRAM, PROGRAM_VERSION};
 use nfs_rpc::auth_sys::{Cred, read_auth_sys};
-use nfs_rpc::call::CallHead;
+use nfs_rpc::call::{CallHead, RPC_VERSION};
 
 /// A rule of RPC, in the order in which they are looked at.
 #[derive(Clone, Copy, Debug, PartialEq, Eq)]
@@ -67,36 +68,19 @@ impl RpcRule {
     }
 }
 
-// Procedures by their numbers (RFC 1813, section 3.3, and appendix I, section 5.2): that of both
-// programs, the last of NFS, and the last of MOUNT.
+// The number of NULL in both programs (RFC 1813, section 3.3.0, and appendix I, section 5.2.0).
 const NULL: u32 = 0;
 
-const COMMIT: u32 = 21;
-
-const EXPORT: u32 = 5;
-
 /// What a call is for that keeps the first four rules of RPC.
-#[derive(Clone, Copy, Debug, PartialEq, Eq)]
+#[derive(Clone, Copy)]
 pub enum Admitted {
     /// Procedure 0 of a program, which does nothing.
     Null,
     /// Another procedure of NFS.
-    Nfs,
+    Nfs(Procedure),
     /// Another procedure of MOUNT.
-    Mount,
+    Mount(MountProcedure),
 }
-
-/// The version of RPC.
-pub const RPC_VERSION: u32 = 2;
-
-/// The program number of NFS (RFC 1813, section 2.1).
-pub const NFS_PROGRAM: u32 = 100_003;
-
-/// The program number of MOUNT (RFC 1813, appendix I).
-pub const MOUNT_PROGRAM: u32 = 100_005;
-
-/// The version of both programs.
-pub const PROGRAM_VERSION: u32 = 3;
 
 /// The flavor of a credential that says nothing (RFC 5531, section 8.2).
 pub const AUTH_NONE: u32 = 0;
@@ -119,16 +103,18 @@ pub fn admit(head: &CallHead<'_>) -> Result<Admitted, RpcRule>
     if head.vers != PROGRAM_VERSION {
         return Err(RpcRule::ProgramVersion);
     }
-    if !has_procedure(head.prog, head.proc) {
-        return Err(RpcRule::Procedure);
-    }
     if head.proc == NULL {
         return Ok(Admitted::Null);
     }
     if head.prog == NFS_PROGRAM {
-        Ok(Admitted::Nfs)
-    } else {
-        Ok(Admitted::Mount)
+        return match Procedure::of(head.proc) {
+            Some(procedure) => Ok(Admitted::Nfs(procedure)),
+            None => Err(RpcRule::Procedure),
+        };
+    }
+    match MountProcedure::of(head.proc) {
+        Some(procedure) => Ok(Admitted::Mount(procedure)),
+        None => Err(RpcRule::Procedure),
     }
 }
 
@@ -153,7 +139,7 @@ pub(crate) fn identify(head: &CallHead<'_>, cred: &mut Cred) -> Result<(), RpcRu
 }
 
 /// The first of the rules flavor and credential that the call of a procedure of MOUNT other than NULL
-/// fails. Who calls is not told, since no procedure asks for it.
+/// fails. Who calls is not answered, since no procedure asks for it.
 pub(crate) fn caller_failure(head: &CallHead<'_>) -> Option<RpcRule>
     requires mount { is_nfs (call_of head.now) ≡ false }
     requires null { is_null (call_of head.now) ≡ false }
@@ -169,12 +155,4 @@ pub(crate) fn caller_failure(head: &CallHead<'_>) -> Option<RpcRule>
         Ok(_) => None,
         Err(_) => Some(RpcRule::Credential),
     }
-}
-
-// Whether a program has a procedure.
-#[inline(always)]
-fn has_procedure(prog: u32, proc: u32) -> bool
-    ensures { result ≡ spec.has_procedure prog proc }
-{
-    proc <= if prog == NFS_PROGRAM { COMMIT } else { EXPORT }
 }

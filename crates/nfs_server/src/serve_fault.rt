@@ -2,7 +2,7 @@
 ghost use Rattle.std.specs.Prelude.{◌≡◌, Bool};
 ghost use Rattle.nfs_server.specs.FaultWords.{word_of_stream};
 ghost use Rattle.nfs_server.specs.Feeding.{EndsWith};
-ghost use Rattle.nfs_server.specs.Streams.{IsToldAs};
+ghost use Rattle.nfs_server.specs.Streams.{IsReportedAs};
 
 use crate::session_fault::SessionFault;
 use std::fmt;
@@ -43,7 +43,7 @@ impl ServeFault {
     /// The same of a stream as a fault that ends a connection.
     pub fn of_session(fault: SessionFault) -> ServeFault
         requires { (audit_failed : Bool) × (replies_failed : Bool) × EndsWith audit_failed replies_failed fault }
-        ensures { IsToldAs fault result }
+        ensures { IsReportedAs fault result }
     {
         match fault {
             SessionFault::TooLong => ServeFault::TooLong,

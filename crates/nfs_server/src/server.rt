@@ -1,40 +1,47 @@
 //! A server, which takes one whole record at a time.
 ghost use Rattle.std.specs.Prelude.{◌≡◌, ℕ, ◌≤◌, List, [], ◌∷◌, ◌++◌, true, false, length, IfOk, None, Some};
 ghost use Rattle.std.specs.List.{find};
+ghost use Rattle.nfs_args.specs.Procedures.{mount_number, mount_procedures, procedure_number, procedures};
 ghost use Rattle.nfs_rpc.specs.AuthSys.{caller, credential_of};
 ghost use Rattle.nfs_rpc.specs.Calls.{call_of};
+ghost use Rattle.nfs_server.specs.Denying.{IsSpared, fails_by, fails_rule};
 ghost use Rattle.nfs_server.specs.Events.{Choice};
 ghost use Rattle.nfs_server.specs.declared.rpc_rules.RpcRule.TheVariants.{Arguments};
 ghost use Rattle.nfs_server.specs.Requests.{is_nfs, is_null};
 ghost use Rattle.nfs_server.specs.AuditLines.{line_of};
-ghost use Rattle.nfs_server.specs.declared.audit_line.Reason.TheVariants.{Rpc};
+ghost use Rattle.nfs_server.specs.declared.audit_line.DenialReason.TheVariants.{Rpc};
 ghost use Rattle.nfs_server.specs.RpcRules.{fails_rpc, caller_rules, rpc_reply, rpc_rules};
-ghost use Rattle.nfs_server.specs.InMemory.{event_of, answer_of, answered, told};
-ghost use Rattle.nfs_server.specs.Fits.{Held, Past, Fits, GoesOn};
+ghost use Rattle.nfs_server.specs.InMemory.{event_of, answer_of, answered, reported};
+ghost use Rattle.nfs_server.specs.Fits.{Held, History, Fits, GoesOn};
 ghost use Rattle.nfs_server.specs.OneEvent.{AnswersRecord, AnswersBy, AnswersChange, PerformsAnew, scene_for};
-ghost use Rattle.nfs_server.specs.Repeats as repeats;
-ghost use Rattle.nfs_server.specs.ReplyRoom.{Adds, HasReplyRoom, behind};
-ghost use Rattle.nfs_kept.specs.Places.{Key, Place, place_for};
+ghost use Rattle.nfs_server.specs.Retransmissions as retransmissions;
+ghost use Rattle.nfs_server.specs.ReplyRoom.{Adds, HasReplyRoom, after};
+ghost use Rattle.nfs_reply_cache.specs.Places.{Key, Place, place_for};
+ghost use Rattle.nfs_xdr.specs.Reading.{numbered};
 ghost use Rattle.nfs_server.specs.Runs.{events_of, RunsThrough};
 
 use crate::arguments::read_args;
-use crate::audit_line::{AuditLine, Reason};
+use crate::audit_line::{AuditLine, DenialReason};
 use crate::event::{Event, Handled, Outcome, Sink};
 use crate::mount::{answer_mount, read_mount_args};
 use crate::nfs_call::{answer_call, may_change};
-use crate::reply::{give_up, refuse, repeat, succeed};
-use crate::reply_buf::{ReplyBuf, begin, seal, written};
+use crate::reply::{give_up, refuse, retransmission, succeed};
+use crate::reply_buf::{ReplyBuf, begin, frame, written};
 use crate::rpc_rules::{Admitted, RpcRule, admit, caller_failure, identify};
 use nfs_args::args::NfsArgs;
-use nfs_exports::table::Table;
+use nfs_args::mount_args::MountArgs;
+use nfs_args::procedure::{MountProcedure, Procedure};
+use nfs_exports::export_table::ExportTable;
 use nfs_inodes::tree::Tree;
-use nfs_kept::kept_replies::KeptReplies;
 use nfs_load::loaded::Loaded;
 use nfs_mount::mount_list::MountList;
-use nfs_procs::call::Call;
+use nfs_mount::rules::mount_failure;
+use nfs_procs::call_context::CallContext;
+use nfs_reply_cache::reply_cache::ReplyCache;
 use nfs_rpc::auth_sys::Cred;
 use nfs_rpc::call::{CallHead, read_call};
 use nfs_rules::caller::Caller;
+use nfs_rules::verdict::verdict;
 use nfs_xdr::input::Input;
 use nfs_xdr::output::Output;
 use std::alloc::{AllocError, Global};
@@ -44,9 +51,9 @@ use std::marker::Model;
 #[derive(Drop)]
 pub struct Server {
     tree: Tree,
-    table: Table,
+    table: ExportTable,
     mounts: MountList,
-    kept: KeptReplies,
+    kept: ReplyCache,
     line: Option<AuditLine>,
 }
 
@@ -62,7 +69,7 @@ impl Model for Server {
 
 impl Server {
     /// A server that has seen no event, whose volumes no client mounts, with so many places for
-    /// replies to repeated calls. Refused where there is no memory; the description is then dropped.
+    /// replies to retransmissions. Refused where there is no memory; the description is then dropped.
     pub fn new(alloc: Global, loaded: Loaded, cache: usize) -> Result<Server, AllocError>
         requires some { 1 ≤ cache }
         requires few { cache ≤ 1024 }
@@ -78,7 +85,7 @@ impl Server {
             tree: loaded.tree,
             table: loaded.table,
             mounts: MountList::new(alloc),
-            kept: KeptReplies::new(alloc, cache)?,
+            kept: ReplyCache::new(alloc, cache)?,
             line: None,
         })
     }
@@ -91,7 +98,7 @@ impl Server {
     }
 
     /// To whom its volumes are exported.
-    pub fn exports(&self) -> &Table
+    pub fn exports(&self) -> &ExportTable
         ensures { result.now ≡ self.now.setup.exports }
     {
         &self.table
@@ -109,20 +116,88 @@ impl Server {
         }
     }
 
-    /// Takes one whole record. For every past that fits before, the answer is a step after it,
-    /// and the past with this event fits after.
+    /// Whether a record is a call that fails a rule, as the server stands: one of RPC, or of its
+    /// procedure. A retransmission whose reply is cached fails none. Nothing changes.
+    pub fn would_deny(&self, event: Event<'_>) -> bool
+        ensures { result ≡ fails_rule self.now (event_of event.entry) }
+    {
+        let Ok(head) = read_call(event.bytes) else {
+            return false;
+        };
+        match admit(&head) {
+            Err(_) => true,
+            Ok(Admitted::Null) => false,
+            Ok(Admitted::Nfs(procedure)) => self.would_deny_nfs(procedure, &head, event),
+            Ok(Admitted::Mount(procedure)) => self.would_deny_mount(procedure, &head, event),
+        }
+    }
+
+    // The same of a call of NFS other than NULL, by the rules of who calls and those after them.
+    fn would_deny_nfs(&self, procedure: Procedure, head: &CallHead<'_>, event: Event<'_>) -> bool
+        requires nfs { is_nfs (call_of head.now) ≡ true }
+        requires null { is_null (call_of head.now) ≡ false }
+        requires procedure { numbered procedure_number procedures head.now.proc ≡ Some procedure }
+        ensures { result ≡ fails_by (caller_rules ++ Arguments ∷ []) self.now (event_of event.entry) (call_of head.now) head.now.args }
+    {
+        let mut cred = Cred::nobody();
+        if identify(head, &mut cred).is_err() {
+            return true;
+        }
+        let mut args = NfsArgs::Null;
+        if read_args(procedure, Input::new(head.args.rest()), &mut args).is_err() {
+            return true;
+        }
+        if may_change(&args) && self.kept.holds(event.addr, event.bytes) {
+            return false;
+        }
+        let caller = Caller {
+            addr: event.addr,
+            cred: &cred,
+        };
+        verdict(&self.tree, &self.table, caller, &args).is_some()
+    }
+
+    // The same of a call of MOUNT other than NULL.
+    fn would_deny_mount(
+        &self,
+        procedure: MountProcedure,
+        head: &CallHead<'_>,
+        event: Event<'_>,
+    ) -> bool
+        requires mount { is_nfs (call_of head.now) ≡ false }
+        requires null { is_null (call_of head.now) ≡ false }
+        requires procedure { numbered mount_number mount_procedures head.now.proc ≡ Some procedure }
+        ensures { result ≡ fails_by (caller_rules ++ Arguments ∷ []) self.now (event_of event.entry) (call_of head.now) head.now.args }
+    {
+        if caller_failure(head).is_some() {
+            return true;
+        }
+        let Ok(args) = read_mount_args(procedure, Input::new(head.args.rest())) else {
+            return true;
+        };
+        match args {
+            MountArgs::Mount(path) => {
+                mount_failure(&self.tree, &self.table, event.addr, path.bytes()).is_some()
+            }
+            _ => false,
+        }
+    }
+
+    /// Takes one whole record. For every history that fits before, the answer is a step after it,
+    /// and the history with this event fits after.
     pub fn handle(&mut self, event: Event<'_>, reply: &mut ReplyBuf) -> Handled
         ensures setup { self.new.setup ≡ self.old.setup }
-        ensures step { (past : Past) → Fits past self.old → (choice : Choice)
-            × GoesOn past self.old (event_of event.entry) choice (answered result reply.new.reply self.new.line) self.new }
+        ensures step { (history : History) → Fits history self.old → (choice : Choice)
+            × GoesOn history self.old (event_of event.entry) choice (answered result reply.new.reply self.new.line) self.new }
         ensures silent { result ≡ Handled.NoReply → (reply.new.reply ≡ []) × (self.new.line ≡ None) }
+        ensures spared { fails_rule self.old (event_of event.entry) ≡ false → IsSpared (answered result reply.new.reply self.new.line).line }
         ensures earlier { reply.new.earlier ≡ reply.old.earlier }
         ensures most { reply.new.most ≡ reply.old.most }
     {
         self.answer(event, reply)
     }
 
-    /// The same, said without a past, for who keeps none.
+    /// The same, said without a history, for who keeps none.
     #[inline(always)]
     pub fn answer(&mut self, event: Event<'_>, reply: &mut ReplyBuf) -> Handled
         ensures answers { AnswersRecord self.old (event_of event.entry) (answered result reply.new.reply self.new.line) self.new }
@@ -138,7 +213,7 @@ impl Server {
         begin(&mut reply.out, reply.start);
         forget(&mut self.line);
         self.respond(&head, event, &mut reply.out);
-        seal(&mut reply.out, reply.start);
+        frame(&mut reply.out, reply.start);
         Handled::Answered
     }
 
@@ -152,32 +227,43 @@ impl Server {
         ensures adds { Adds out.old out.new }
         ensures setup { self.new.setup ≡ self.old.setup }
         ensures judged { AnswersBy rpc_rules self.old (event_of event.entry) (call_of head.now) head.now.args
-            (told (behind out.old out.new) self.new.line) self.new }
+            (reported (after out.old out.new) self.new.line) self.new }
     {
         match admit(head) {
             Err(rule) => self.deny(&head.copied(), event, rule, out),
             Ok(Admitted::Null) => succeed(out, head.xid),
-            Ok(Admitted::Nfs) => self.answer_nfs(&head.copied(), event, out),
-            Ok(Admitted::Mount) => self.answer_mount(&head.copied(), event, out),
+            Ok(Admitted::Nfs(procedure)) => {
+                self.answer_nfs(procedure, &head.copied(), event, out);
+            }
+            Ok(Admitted::Mount(procedure)) => {
+                self.answer_mount(procedure, &head.copied(), event, out);
+            }
         }
     }
 
     // The reply to a call of NFS other than NULL, and its line where it is denied.
     #[inline(always)]
-    fn answer_nfs(&mut self, head: &CallHead<'_>, event: Event<'_>, out: &mut Output)
+    fn answer_nfs(
+        &mut self,
+        procedure: Procedure,
+        head: &CallHead<'_>,
+        event: Event<'_>,
+        out: &mut Output,
+    )
         requires room { HasReplyRoom out.old }
         requires line { self.old.line ≡ None }
         requires nfs { is_nfs (call_of head.now) ≡ true }
         requires null { is_null (call_of head.now) ≡ false }
+        requires procedure { numbered procedure_number procedures head.now.proc ≡ Some procedure }
         ensures adds { Adds out.old out.new }
         ensures setup { self.new.setup ≡ self.old.setup }
         ensures judged { AnswersBy (caller_rules ++ Arguments ∷ []) self.old (event_of event.entry) (call_of head.now) head.now.args
-            (told (behind out.old out.new) self.new.line) self.new }
+            (reported (after out.old out.new) self.new.line) self.new }
     {
         let mut cred = Cred::nobody();
         match identify(head, &mut cred) {
             Err(rule) => self.deny(head, event, rule, out),
-            Ok(()) => self.answer_caller(head, event, &cred, out),
+            Ok(()) => self.answer_caller(procedure, head, event, &cred, out),
         }
     }
 
@@ -185,6 +271,7 @@ impl Server {
     #[inline(always)]
     fn answer_caller(
         &mut self,
+        procedure: Procedure,
         head: &CallHead<'_>,
         event: Event<'_>,
         cred: &Cred,
@@ -194,22 +281,23 @@ impl Server {
         requires line { self.old.line ≡ None }
         requires nfs { is_nfs (call_of head.now) ≡ true }
         requires null { is_null (call_of head.now) ≡ false }
+        requires procedure { numbered procedure_number procedures head.now.proc ≡ Some procedure }
         requires known { find (fails_rpc (call_of head.now) head.now.args) caller_rules ≡ None }
         requires cred { caller (call_of head.now).cred.body ≡ Some (credential_of cred.now) }
         ensures adds { Adds out.old out.new }
         ensures setup { self.new.setup ≡ self.old.setup }
         ensures judged { AnswersBy (caller_rules ++ Arguments ∷ []) self.old (event_of event.entry) (call_of head.now) head.now.args
-            (told (behind out.old out.new) self.new.line) self.new }
+            (reported (after out.old out.new) self.new.line) self.new }
     {
         let mut args = NfsArgs::Null;
-        match read_args(head.proc, Input::new(head.args.rest()), &mut args) {
+        match read_args(procedure, Input::new(head.args.rest()), &mut args) {
             Err(_) => self.deny(head, event, RpcRule::Arguments, out),
             Ok(()) if may_change(&args) => self.answer_change(head, event, cred, &args, out),
             Ok(()) => self.answer_anew(head, event, cred, &args, out),
         }
     }
 
-    // The reply to a call that may change the tree: that of the call that it repeats, if its reply is
+    // The reply to a call that may change the tree: that of the call that it retransmits, if its reply is
     // kept. Out of line, so that other calls pay nothing for it.
     #[inline(never)]
     fn answer_change(
@@ -222,11 +310,11 @@ impl Server {
     )
         requires room { HasReplyRoom out.old }
         requires line { self.old.line ≡ None }
-        requires change { repeats.may_change args.now ≡ true }
+        requires change { retransmissions.may_change args.now ≡ true }
         ensures adds { Adds out.old out.new }
         ensures setup { self.new.setup ≡ self.old.setup }
         ensures answers { AnswersChange (scene_for self.old (event_of event.entry) cred.now args.now) (call_of head.now) self.old
-            (event_of event.entry) (told (behind out.old out.new) self.new.line) self.new }
+            (event_of event.entry) (reported (after out.old out.new) self.new.line) self.new }
     {
         let start = out.bytes().len();
         if self.kept.find(event.addr, event.bytes) {
@@ -235,10 +323,10 @@ impl Server {
         }
         if self.kept.take_place(event.addr, event.bytes).is_err() {
             give_up(out, start, head.xid);
-            self.line = Some(AuditLine::of(event.addr, head, Reason::Memory));
+            self.line = Some(AuditLine::of(event.addr, head, DenialReason::Memory));
             return;
         }
-        let call = Call {
+        let call = CallContext {
             table: &self.table,
             caller: Caller {
                 addr: event.addr,
@@ -270,9 +358,9 @@ impl Server {
         ensures setup { self.new.setup ≡ self.old.setup }
         ensures kept { self.new.kept ≡ self.old.kept }
         ensures answers { PerformsAnew (scene_for self.old (event_of event.entry) cred.now args.now) (call_of head.now)
-            (told (behind out.old out.new) self.new.line) self.old self.new }
+            (reported (after out.old out.new) self.new.line) self.old self.new }
     {
-        let call = Call {
+        let call = CallContext {
             table: &self.table,
             caller: Caller {
                 addr: event.addr,
@@ -286,20 +374,27 @@ impl Server {
     // The reply to a call of MOUNT other than NULL, and its line where it is denied. Out of line, so
     // that calls of NFS pay nothing for it.
     #[inline(never)]
-    fn answer_mount(&mut self, head: &CallHead<'_>, event: Event<'_>, out: &mut Output)
+    fn answer_mount(
+        &mut self,
+        procedure: MountProcedure,
+        head: &CallHead<'_>,
+        event: Event<'_>,
+        out: &mut Output,
+    )
         requires room { HasReplyRoom out.old }
         requires line { self.old.line ≡ None }
         requires mount { is_nfs (call_of head.now) ≡ false }
         requires null { is_null (call_of head.now) ≡ false }
+        requires procedure { numbered mount_number mount_procedures head.now.proc ≡ Some procedure }
         ensures adds { Adds out.old out.new }
         ensures setup { self.new.setup ≡ self.old.setup }
         ensures judged { AnswersBy (caller_rules ++ Arguments ∷ []) self.old (event_of event.entry) (call_of head.now) head.now.args
-            (told (behind out.old out.new) self.new.line) self.new }
+            (reported (after out.old out.new) self.new.line) self.new }
     {
         if let Some(rule) = caller_failure(head) {
             return self.deny(head, event, rule, out);
         }
-        let Ok(args) = read_mount_args(head.proc, Input::new(head.args.rest())) else {
+        let Ok(args) = read_mount_args(procedure, Input::new(head.args.rest())) else {
             return self.deny(head, event, RpcRule::Arguments, out);
         };
         let (tree, table, mounts) = (&self.tree, &self.table, &mut self.mounts);
@@ -313,11 +408,11 @@ impl Server {
     fn deny(&mut self, head: &CallHead<'_>, event: Event<'_>, rule: RpcRule, out: &mut Output)
         requires { HasReplyRoom out.old }
         ensures adds { Adds out.old out.new }
-        ensures reply { behind out.old out.new ≡ rpc_reply rule head.now.xid }
+        ensures reply { after out.old out.new ≡ rpc_reply rule head.now.xid }
         ensures line { self.new ≡ record self.old { line = Some (line_of event.entry.addr (call_of head.now) (Rpc rule)) } }
     {
         refuse(out, rule, head.xid);
-        self.line = Some(AuditLine::of(event.addr, head, Reason::Rpc(rule)));
+        self.line = Some(AuditLine::of(event.addr, head, DenialReason::Rpc(rule)));
     }
 
     /// Takes events one after another, and hands each outcome to the sink, until a take answers
@@ -329,8 +424,8 @@ impl Server {
         sink: &mut S,
     ) -> usize
         ensures bound { result ≤ length events.now }
-        ensures run { (past : Past) → Fits past self.old
-            → RunsThrough S.takes past (events_of events.now) result sink.old sink.new self.new }
+        ensures run { (history : History) → Fits history self.old
+            → RunsThrough S.takes history (events_of events.now) result sink.old sink.new self.new }
         ensures setup { self.new.setup ≡ self.old.setup }
     {
         let mut done = 0;
@@ -355,24 +450,24 @@ fn forget(line: &mut Option<AuditLine>)
     }
 }
 
-// The kept reply at the front once more.
-fn give_again(kept: &KeptReplies, out: &mut Output)
+// The cached reply at the front once more.
+fn give_again(kept: &ReplyCache, out: &mut Output)
     requires { HasReplyRoom out.old }
     ensures adds { Adds out.old out.new }
     ensures reply { (key : Key) (reply : List ℕ) (rest : List Place) → kept.now.places ≡ place_for key reply ∷ rest
-        → behind out.old out.new ≡ reply }
+        → after out.old out.new ≡ reply }
 {
     if let Some(reply) = kept.first() {
-        repeat(out, reply);
+        retransmission(out, reply);
     }
 }
 
 // Whether a call was answered that there is no memory for it.
 fn wants_memory(line: &Option<AuditLine>) -> bool
-    ensures { result ≡ repeats.is_refused line.now }
+    ensures { result ≡ retransmissions.is_refused line.now }
 {
     match line {
-        Some(line) => line.reason == Reason::Memory,
+        Some(line) => line.reason == DenialReason::Memory,
         None => false,
     }
 }

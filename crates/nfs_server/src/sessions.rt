@@ -2,7 +2,7 @@
 ghost use Rattle.std.specs.Prelude.{◌≡◌, ◌↔◌, ◌≤◌, ◌⊎◌, true, false, [], None, length, IfOk, IfErr, IfSome, OnOk, OnErr, IsSome, IsNone, IsErrOf, Some, is_err};
 ghost use Rattle.nfs_server.specs.Connections.{IsAlive, IsAtStart, IsFed, OthersStay, at, has_ended};
 ghost use Rattle.nfs_server.specs.Feeding.{device, EndsWith, Feeds};
-ghost use Rattle.nfs_server.specs.Fits.{Past, Fits};
+ghost use Rattle.nfs_server.specs.Fits.{History, Fits};
 ghost use Rattle.nfs_server.specs.Runs.{events_of, RunsThrough};
 ghost use Rattle.nfs_server.specs.Taking.{FeedsSome};
 
@@ -11,7 +11,7 @@ use crate::event::{Event, Sink};
 use crate::reply_buf::ReplyBuf;
 use crate::server::Server;
 use crate::session_fault::SessionFault;
-use crate::taking::Taken;
+use crate::taking::{Stop, Taken};
 use indexmap::IndexMap;
 use nfs_attrs::moment::Moment;
 use nfs_exports::addr::Addr;
@@ -61,8 +61,8 @@ impl Sessions {
     /// `Server::run` on the server, which leaves the connections.
     pub fn run<S: Sink>(&mut self, events: &[Event<'_>], sink: &mut S) -> usize
         ensures bound { result ≤ length events.now }
-        ensures run { (past : Past) → Fits past self.old.server
-            → RunsThrough S.takes past (events_of events.now) result sink.old sink.new self.new.server }
+        ensures run { (history : History) → Fits history self.old.server
+            → RunsThrough S.takes history (events_of events.now) result sink.old sink.new self.new.server }
         ensures setup { self.new.server.setup ≡ self.old.server.setup }
         ensures connections { self.new.connections ≡ self.old.connections }
     {
@@ -110,7 +110,7 @@ impl Sessions {
     }
 
     /// Takes the next bytes of a connection's stream. Each record that is whole now is one event, in
-    /// the order of the stream; its audit line, where it is denied, and then its sealed reply are
+    /// the order of the stream; its audit line, where it is denied, and then its framed reply are
     /// written before the next is looked at. Answers how many records were answered.
     ///
     /// `UnknownConnection` exactly where no connection has the number, `Ended` exactly where a fault
@@ -121,7 +121,7 @@ impl Sessions {
         &mut self,
         conn: u32,
         moment: Moment,
-        piece: &[u8],
+        chunk: &[u8],
         replies: &mut W,
         audit: &mut A,
     ) -> Result<u64, SessionFault>
@@ -131,50 +131,20 @@ impl Sessions {
             (self.new ≡ self.old) × (replies.new ≡ replies.old) × (audit.new ≡ audit.old) }
         ensures fault { IsAlive (at conn self.old) → IfErr result (EndsWith (A.failed audit.new) (W.failed replies.new)) }
         ensures feeds { IfSome (at conn self.old) (λ was. was.ended ≡ false → IsFed conn was self.old self.new (is_err result)
-            (λ old new from to. Feeds (record { addr = was.addr; moment = moment }) piece.now result old new from to
+            (λ old new from to. Feeds (record { addr = was.addr; moment = moment }) chunk.now result old new from to
             (device (A.contents audit.old) (A.contents audit.new)) (device (W.contents replies.old) (W.contents replies.new)))) }
         ensures others { OthersStay conn self.old self.new }
         ensures setup { self.new.server.setup ≡ self.old.server.setup }
     {
-        Ok(
-            self.take(conn, moment, piece, None, replies, audit)?
-                .records,
-        )
+        Ok(self.take(conn, moment, chunk, replies, audit)?.records)
     }
 
-    /// The same, but that it stops behind the record with which so many bytes of replies are
-    /// written, since few bytes may ask for many. Answers how far the piece was taken.
-    pub fn feed_some<W: ByteOut, A: ByteOut>(
-        &mut self,
-        conn: u32,
-        moment: Moment,
-        piece: &[u8],
-        room: usize,
-        replies: &mut W,
-        audit: &mut A,
-    ) -> Result<Taken, SessionFault>
-        ensures unknown { IsErrOf result SessionFault.UnknownConnection ↔ IsNone (at conn self.old) }
-        ensures ended { IsErrOf result SessionFault.Ended ↔ (has_ended (at conn self.old) ≡ true) }
-        ensures idle { IsErrOf result SessionFault.UnknownConnection ⊎ IsErrOf result SessionFault.Ended →
-            (self.new ≡ self.old) × (replies.new ≡ replies.old) × (audit.new ≡ audit.old) }
-        ensures fault { IsAlive (at conn self.old) → IfErr result (EndsWith (A.failed audit.new) (W.failed replies.new)) }
-        ensures used { IfOk result (λ taken. taken.used ≤ length piece.now) }
-        ensures feeds { IfSome (at conn self.old) (λ was. was.ended ≡ false → IsFed conn was self.old self.new (is_err result)
-            (λ old new from to. FeedsSome (record { addr = was.addr; moment = moment }) piece.now (Some room) result old new from to
-            (device (A.contents audit.old) (A.contents audit.new)) (device (W.contents replies.old) (W.contents replies.new)))) }
-        ensures others { OthersStay conn self.old self.new }
-        ensures setup { self.new.server.setup ≡ self.old.server.setup }
-    {
-        self.take(conn, moment, piece, Some(room), replies, audit)
-    }
-
-    // The same, where there may be room for any replies.
+    // The same, which answers how far the chunk was taken: all of it, as no device is full.
     fn take<W: ByteOut, A: ByteOut>(
         &mut self,
         conn: u32,
         moment: Moment,
-        piece: &[u8],
-        room: Option<usize>,
+        chunk: &[u8],
         replies: &mut W,
         audit: &mut A,
     ) -> Result<Taken, SessionFault>
@@ -183,9 +153,10 @@ impl Sessions {
         ensures idle { IsErrOf result SessionFault.UnknownConnection ⊎ IsErrOf result SessionFault.Ended →
             (self.new ≡ self.old) × (replies.new ≡ replies.old) × (audit.new ≡ audit.old) }
         ensures fault { IsAlive (at conn self.old) → IfErr result (EndsWith (A.failed audit.new) (W.failed replies.new)) }
-        ensures used { IfOk result (λ taken. taken.used ≤ length piece.now) }
+        ensures used { IfOk result (λ taken. taken.used ≤ length chunk.now) }
+        ensures stop { IfOk result (λ taken. taken.stop ≡ Stop.Done) }
         ensures feeds { IfSome (at conn self.old) (λ was. was.ended ≡ false → IsFed conn was self.old self.new (is_err result)
-            (λ old new from to. FeedsSome (record { addr = was.addr; moment = moment }) piece.now room result old new from to
+            (λ old new from to. FeedsSome (record { addr = was.addr; moment = moment }) chunk.now None result old new from to
             (device (A.contents audit.old) (A.contents audit.new)) (device (W.contents replies.old) (W.contents replies.new)))) }
         ensures others { OthersStay conn self.old self.new }
         ensures setup { self.new.server.setup ≡ self.old.server.setup }
@@ -193,7 +164,7 @@ impl Sessions {
         match self.connections.get_mut(&conn) {
             Some(connection) => {
                 let (server, reply) = (&mut self.server, &mut self.reply);
-                connection.feed(server, reply, moment, piece, room, replies, audit)
+                connection.feed(server, reply, moment, chunk, None, replies, audit)
             }
             None => Err(SessionFault::UnknownConnection),
         }

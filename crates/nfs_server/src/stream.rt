@@ -2,8 +2,8 @@
 ghost use Rattle.std.specs.Prelude.{◌≡◌, ◌+◌, ◌^◌, ◌<◌, ◌≤◌, [], length, IfOk, IfErr, OnOk};
 ghost use Rattle.nfs_server.specs.Connections.{IsBetween, max_record_bytes};
 ghost use Rattle.nfs_server.specs.Feeding.{device, EndsWith};
-ghost use Rattle.nfs_server.specs.Fits.{Past, Fits};
-ghost use Rattle.nfs_server.specs.Streams.{bytes_used, calls_of, course, left_behind, served_of, FailsWith, StreamFeeds, Streams};
+ghost use Rattle.nfs_server.specs.Fits.{History, Fits};
+ghost use Rattle.nfs_server.specs.Streams.{bytes_used, calls_of, course, left_after, served_of, FailsWith, StreamFeeds, Streams};
 ghost use Rattle.nfs_rpc.specs.Progress.{Unfinished};
 ghost use Rattle.nfs_xdr.specs.Known.{IsAtEnd};
 
@@ -27,13 +27,13 @@ const READ_BYTES: usize = 8192;
 pub struct Served {
     /// The number of records that it held.
     pub calls: u64,
-    /// The number of bytes behind the last of them, those of headers too.
+    /// The number of bytes after the last of them, those of headers too.
     pub rest: u64,
 }
 
 /// Serves a stream of records from an address, from its beginning: reads it until it ends, and
-/// answers each record as it becomes whole, at the moment that the clock tells then; its audit line,
-/// where it is denied, and then its sealed reply are written before the next is looked at. One read
+/// answers each record as it becomes whole, at the moment that the clock reports then; its audit line,
+/// where it is denied, and then its framed reply are written before the next is looked at. One read
 /// asks for at most 8,192 bytes, and there are at most `turns` reads.
 ///
 /// `ReadFault`, `AuditFault` and `WriteFault` come where that device has failed, `TooLong` where a
@@ -50,7 +50,7 @@ pub fn serve_stream<R: ByteIn, W: ByteOut, A: ByteOut, C: Moments>(
     clock: &mut C,
     turns: u32,
 ) -> Result<Served, ServeFault>
-    ensures streams { (past : Past) → Fits past server.old → Streams R.gives C.tells past addr turns result server.new
+    ensures streams { (history : History) → Fits history server.old → Streams R.gives C.reports history addr turns result server.new
         (course reader.old reader.new) (course clock.old clock.new)
         (device (A.contents audit.old) (A.contents audit.new))
         (device (W.contents writer.old) (W.contents writer.new)) }
@@ -90,7 +90,7 @@ fn read_stream<R: ByteIn, W: ByteOut, A: ByteOut, C: Moments>(
     requires between { IsBetween framer.old }
     requires begins { Unfinished [] framer.old }
     requires limit { framer.old.limit ≡ max_record_bytes }
-    ensures streams { (past : Past) → Fits past server.old → Streams R.gives C.tells past addr turns result server.new
+    ensures streams { (history : History) → Fits history server.old → Streams R.gives C.reports history addr turns result server.new
         (course reader.old reader.new) (course clock.old clock.new)
         (device (A.contents audit.old) (A.contents audit.new))
         (device (W.contents writer.old) (W.contents writer.new)) }
@@ -130,7 +130,7 @@ fn read_stream<R: ByteIn, W: ByteOut, A: ByteOut, C: Moments>(
     Err(ServeFault::TurnsSpent)
 }
 
-// Takes what a read gave, behind so many unfinished bytes, and answers each record that it makes
+// Takes what a read gave, after so many unfinished bytes, and answers each record that it makes
 // whole. Answers how many these are, and how many bytes are unfinished then.
 fn take_read<W: ByteOut, A: ByteOut, C: Moments>(
     server: &mut Server,
@@ -138,20 +138,20 @@ fn take_read<W: ByteOut, A: ByteOut, C: Moments>(
     framer: &mut Framer,
     addr: Addr,
     unfinished: u64,
-    piece: &[u8],
+    chunk: &[u8],
     replies: &mut W,
     audit: &mut A,
     clock: &mut C,
 ) -> Result<Served, SessionFault>
     requires between { IsBetween framer.old }
-    requires room { unfinished + length piece.now < 2 ^ 64 }
-    ensures calls { IfOk result (λ served. served.calls ≤ length piece.now) }
-    ensures rest { IfOk result (λ served. served.rest ≤ unfinished + length piece.now) }
+    requires room { unfinished + length chunk.now < 2 ^ 64 }
+    ensures calls { IfOk result (λ served. served.calls ≤ length chunk.now) }
+    ensures rest { IfOk result (λ served. served.rest ≤ unfinished + length chunk.now) }
     ensures between { OnOk result (IsBetween framer.new) }
     ensures limit { framer.new.limit ≡ framer.old.limit }
     ensures setup { server.new.setup ≡ server.old.setup }
     ensures fault { IfErr result (EndsWith (A.failed audit.new) (W.failed replies.new)) }
-    ensures feeds { StreamFeeds C.tells addr piece.now (calls_of result) (course unfinished (left_behind result))
+    ensures feeds { StreamFeeds C.reports addr chunk.now (calls_of result) (course unfinished (left_after result))
         (course server.old server.new) (course framer.old framer.new) (course clock.old clock.new)
         (device (A.contents audit.old) (A.contents audit.new))
         (device (W.contents replies.old) (W.contents replies.new)) }
@@ -161,14 +161,14 @@ fn take_read<W: ByteOut, A: ByteOut, C: Moments>(
         calls: 0,
         rest: unfinished,
     };
-    while used < piece.len() {
+    while used < chunk.len() {
         match take_one(
             server,
             reply,
             framer,
             addr,
             taken.rest,
-            &piece[used..],
+            &chunk[used..],
             replies,
             audit,
             clock,
@@ -186,7 +186,7 @@ fn take_read<W: ByteOut, A: ByteOut, C: Moments>(
     Ok(taken)
 }
 
-// What became of a piece up to the end of the first record.
+// What became of a chunk up to the end of the first record.
 #[derive(Clone, Copy, Debug, PartialEq, Eq)]
 struct Part {
     // The number of bytes taken.
@@ -195,36 +195,36 @@ struct Part {
     served: Served,
 }
 
-// Takes a piece up to the end of the first record, behind so many unfinished bytes. The record is
-// answered at the moment that the clock tells then.
+// Takes a chunk up to the end of the first record, after so many unfinished bytes. The record is
+// answered at the moment that the clock reports then.
 fn take_one<W: ByteOut, A: ByteOut, C: Moments>(
     server: &mut Server,
     reply: &mut ReplyBuf,
     framer: &mut Framer,
     addr: Addr,
     unfinished: u64,
-    piece: &[u8],
+    chunk: &[u8],
     replies: &mut W,
     audit: &mut A,
     clock: &mut C,
 ) -> Result<Part, SessionFault>
     requires between { IsBetween framer.old }
-    requires room { unfinished + length piece.now < 2 ^ 64 }
-    ensures used { IfOk result (λ part. part.used ≤ length piece.now) }
-    ensures some { 0 < length piece.now → IfOk result (λ part. 0 < part.used) }
+    requires room { unfinished + length chunk.now < 2 ^ 64 }
+    ensures used { IfOk result (λ part. part.used ≤ length chunk.now) }
+    ensures some { 0 < length chunk.now → IfOk result (λ part. 0 < part.used) }
     ensures calls { IfOk result (λ part. part.served.calls ≤ part.used) }
     ensures rest { IfOk result (λ part. part.served.rest ≤ unfinished + part.used) }
     ensures between { OnOk result (IsBetween framer.new) }
     ensures limit { framer.new.limit ≡ framer.old.limit }
     ensures setup { server.new.setup ≡ server.old.setup }
     ensures fault { IfErr result (EndsWith (A.failed audit.new) (W.failed replies.new)) }
-    ensures feeds { StreamFeeds C.tells addr (bytes_used result piece.now) (calls_of (served_of result))
-        (course unfinished (left_behind (served_of result)))
+    ensures feeds { StreamFeeds C.reports addr (bytes_used result chunk.now) (calls_of (served_of result))
+        (course unfinished (left_after (served_of result)))
         (course server.old server.new) (course framer.old framer.new) (course clock.old clock.new)
         (device (A.contents audit.old) (A.contents audit.new))
         (device (W.contents replies.old) (W.contents replies.new)) }
 {
-    let fed = framer.feed(piece)?;
+    let fed = framer.feed(chunk)?;
     if !fed.ready {
         return Ok(Part {
             used: fed.used,

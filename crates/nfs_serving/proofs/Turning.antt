@@ -5,7 +5,7 @@ use Rattle.nfs_attrs.specs.declared.moment.Moment.{Moment}
 use Rattle.nfs_rpc.specs.Progress.{Progress}
 use Rattle.nfs_server.specs.Connections.{Joined}
 use Rattle.nfs_server.specs.Events.{Done}
-use Rattle.nfs_server.specs.Feeding.{Device, device, Ends, EndsWith, Feeds, replies_of, sealed}
+use Rattle.nfs_server.specs.Feeding.{Device, device, Ends, EndsWith, Feeds, replies_of, framed}
 use Rattle.nfs_server.specs.Fits.{Held}
 use Rattle.nfs_server.specs.ReplyRoom.{Buffered}
 use Rattle.nfs_server.specs.Taking.{FeedsSome, bytes_taken, count_taken}
@@ -13,8 +13,8 @@ use Rattle.nfs_server.specs.declared.session_fault.SessionFault.{SessionFault}
 use Rattle.nfs_server.specs.declared.session_fault.SessionFault.TheVariants.{ConnectionTaken, UnknownConnection, Ended, TooLong, Memory, AuditFault, WriteFault}
 use Rattle.nfs_server.specs.declared.taking.Origin.{Origin}
 use Rattle.nfs_server.specs.declared.taking.Taken.{Taken}
-use Rattle.nfs_serving.specs.Outgoing.{Outgoing, Passes, with_owed}
-use Rattle.nfs_serving.specs.Turns.{Standing, Gathers, StandsBy, Rests, Takes, Turns, calls_behind, origin_of, written}
+use Rattle.nfs_serving.specs.Outgoing.{Outgoing, Passes, with_pending}
+use Rattle.nfs_serving.specs.Turns.{Standing, Gathers, StandsBy, Rests, Takes, Turns, calls_after, origin_of, written}
 use Rattle.nfs_xdr.specs.Known.{Grows, Shrinks}
 use Rattle.nfs_xdr.proofs.Knowing.{Grows-then}
 
@@ -38,43 +38,43 @@ shrinks_then a b c xs ys first second before e =
     let g = second f.0 f.1 in
     (g.0, g.1, f.2 ∙ ap (λ t. xs ++ t) g.2 ∙ sym (append_assoc xs ys g.0))
 
-pub passes_none : (a : Option (List ℕ)) (owed : List ℕ) → Passes a owed a owed
-passes_none a owed = record { sent = []; owed_is = refl; grows = grows_none a }
+pub passes_none : (a : Option (List ℕ)) (pending : List ℕ) → Passes a pending a pending
+passes_none a pending = record { sent = []; pending_is = refl; grows = grows_none a }
 
 -- some first bytes were sent, and the others are left
-pub passes_some : (a b : Option (List ℕ)) (owed left bytes : List ℕ) (n : ℕ) → bytes ≡ owed → left ≡ drop n owed → Grows a (take n bytes) b → Passes a owed b left
-passes_some a b owed left bytes n same rest grows = record {
-  sent = take n owed;
-  owed_is = sym (take-append-drop n owed) ∙ ap (λ t. take n owed ++ t) (sym rest);
+pub passes_some : (a b : Option (List ℕ)) (pending left bytes : List ℕ) (n : ℕ) → bytes ≡ pending → left ≡ drop n pending → Grows a (take n bytes) b → Passes a pending b left
+passes_some a b pending left bytes n same rest grows = record {
+  sent = take n pending;
+  pending_is = sym (take-append-drop n pending) ∙ ap (λ t. take n pending ++ t) (sym rest);
   grows = subst (λ l. Grows a (take n l) b) same grows;
 }
 
 passes_on : (a b c : Option (List ℕ)) (x y z : List ℕ) → Passes a x b y → Passes b y c z → Passes a x c z
 passes_on a b c x y z f g = record {
   sent = f.sent ++ g.sent;
-  owed_is = f.owed_is ∙ ap (λ t. f.sent ++ t) g.owed_is ∙ sym (append_assoc f.sent g.sent z);
+  pending_is = f.pending_is ∙ ap (λ t. f.sent ++ t) g.pending_is ∙ sym (append_assoc f.sent g.sent z);
   grows = Grows-then a b c f.sent g.sent f.grows g.grows;
 }
 
 -- what is passed on was written before
-pub passes_keep : (a b : Option (List ℕ)) (x y : List ℕ) → Passes a x b y → Grows (with_owed a x) [] (with_owed b y)
+pub passes_keep : (a b : Option (List ℕ)) (x y : List ℕ) → Passes a x b y → Grows (with_pending a x) [] (with_pending b y)
 passes_keep None b x y p before e = absurd (none_some e)
 passes_keep (Some s) b x y p before e =
     let sent : b ≡ Some (s ++ p.sent) = p.grows s refl in
-    let all : s ++ x ≡ (s ++ p.sent) ++ y = ap (λ t. s ++ t) p.owed_is ∙ sym (append_assoc s p.sent y) in
-    ap (λ o. with_owed o y) sent ∙ ap Some (sym all ∙ some_same e ∙ sym (append-nil before))
+    let all : s ++ x ≡ (s ++ p.sent) ++ y = ap (λ t. s ++ t) p.pending_is ∙ sym (append_assoc s p.sent y) in
+    ap (λ o. with_pending o y) sent ∙ ap Some (sym all ∙ some_same e ∙ sym (append-nil before))
 
--- what has gathered stands behind what was sent
-gives_over : (a : Option (List ℕ)) (batch xs : List ℕ) → Grows (Some []) xs (Some batch) → Grows (with_owed a []) xs (with_owed a batch)
+-- what has gathered stands after what was sent
+gives_over : (a : Option (List ℕ)) (batch xs : List ℕ) → Grows (Some []) xs (Some batch) → Grows (with_pending a []) xs (with_pending a batch)
 gives_over None batch xs g before e = absurd (none_some e)
 gives_over (Some s) batch xs g before e =
     let is : batch ≡ xs = some_same (g [] refl) in
     ap (λ t. Some (s ++ t)) is ∙ ap (λ t. Some (t ++ xs)) (sym (append-nil s) ∙ some_same e)
 
--- what has gathered was sent, or is owed then
-sent_on : (a b : Option (List ℕ)) (gathered left xs : List ℕ) → Passes a gathered b left → Grows (Some []) xs (Some gathered) → Grows (with_owed a []) xs (with_owed b left)
-sent_on a b gathered left xs p g = subst (λ t. Grows (with_owed a []) t (with_owed b left)) (append-nil xs)
-    (Grows-then (with_owed a []) (with_owed a gathered) (with_owed b left) xs [] (gives_over a gathered xs g) (passes_keep a b gathered left p))
+-- what has gathered was sent, or is pending then
+sent_on : (a b : Option (List ℕ)) (gathered left xs : List ℕ) → Passes a gathered b left → Grows (Some []) xs (Some gathered) → Grows (with_pending a []) xs (with_pending b left)
+sent_on a b gathered left xs p g = subst (λ t. Grows (with_pending a []) t (with_pending b left)) (append-nil xs)
+    (Grows-then (with_pending a []) (with_pending a gathered) (with_pending b left) xs [] (gives_over a gathered xs g) (passes_keep a b gathered left p))
 
 -- ---- a feed whose replies go elsewhere
 
@@ -86,25 +86,25 @@ module _ (x y v w : Option (List ℕ)) (by : (xs : List ℕ) → Grows x xs y �
   ends_by (Err AuditFault) [] rest p e = e
   ends_by (Err AuditFault) (d ∷ earlier) rest p e = (e.0, by (replies_of earlier) e.1)
   ends_by (Err WriteFault) [] rest p e = e
-  ends_by (Err WriteFault) (d ∷ earlier) rest p e = (record { n = e.0.n; within = e.0.within; wrote = by (replies_of earlier ++ take e.0.n (sealed d.answer.reply)) e.0.wrote }, e.1)
+  ends_by (Err WriteFault) (d ∷ earlier) rest p e = (record { n = e.0.n; within = e.0.within; wrote = by (replies_of earlier ++ take e.0.n (framed d.answer.reply)) e.0.wrote }, e.1)
   ends_by (Err ConnectionTaken) done rest p e = e
   ends_by (Err UnknownConnection) done rest p e = e
   ends_by (Err Ended) done rest p e = e
 
-  feeds_by : (origin : Origin) (piece : List ℕ) (result : Result ℕ SessionFault) (old new : Held) (from to : Progress) → Feeds origin piece result old new from to audit (device x y) → Feeds origin piece result old new from to audit (device v w)
-  feeds_by origin piece result old new from to f past fits text u =
-      let b = f past fits text u in
+  feeds_by : (origin : Origin) (chunk : List ℕ) (result : Result ℕ SessionFault) (old new : Held) (from to : Progress) → Feeds origin chunk result old new from to audit (device x y) → Feeds origin chunk result old new from to audit (device v w)
+  feeds_by origin chunk result old new from to f history fits text u =
+      let b = f history fits text u in
       record { done = b.done; rest = b.rest; serves = b.serves; ends = ends_by result b.done b.rest to b.ends }
 
 -- ---- what a feed leaves
 
 abbrev pub left_of : Result Taken SessionFault → List ℕ → List ℕ
-left_of (Ok taken) piece = drop taken.used piece
-left_of (Err fault) piece = []
+left_of (Ok taken) chunk = drop taken.used chunk
+left_of (Err fault) chunk = []
 
-all_there : (result : Result Taken SessionFault) (piece left : List ℕ) → left ≡ left_of result piece → piece ++ [] ≡ bytes_taken result piece ++ left
-all_there (Ok taken) piece left e = append-nil piece ∙ sym (take-append-drop taken.used piece) ∙ ap (λ t. take taken.used piece ++ t) (sym e)
-all_there (Err fault) piece left e = ap (λ t. piece ++ t) (sym e)
+all_there : (result : Result Taken SessionFault) (chunk left : List ℕ) → left ≡ left_of result chunk → chunk ++ [] ≡ bytes_taken result chunk ++ left
+all_there (Ok taken) chunk left e = append-nil chunk ∙ sym (take-append-drop taken.used chunk) ∙ ap (λ t. take taken.used chunk ++ t) (sym e)
+all_there (Err fault) chunk left e = ap (λ t. chunk ++ t) (sym e)
 
 ended_as : (result : Result Taken SessionFault) (ended : Bool) → OnOk result (ended ≡ false) → OnErr result (ended ≡ true) → ended ≡ is_err (count_taken result)
 ended_as (Ok taken) ended ok err = ok
@@ -119,95 +119,95 @@ has_failed fault audit_failed replies_failed ends e = subst (EndsWith audit_fail
 module _ {L : Type 0} (outgoing incoming : L → Option (List ℕ)) where
   pub rests_none : (c : Standing L) → Rests outgoing incoming [] c c
   rests_none c = record {
-    comes = shrinks_none (incoming c.outlet.link);
-    piece_is = sym (append-nil c.piece);
+    comes = shrinks_none (incoming c.channel.link);
+    chunk_is = sym (append-nil c.chunk);
     connection_stays = refl;
     calls_stay = refl;
-    passes = passes_none (outgoing c.outlet.link) c.outlet.owed;
+    passes = passes_none (outgoing c.channel.link) c.channel.pending;
   }
 
   -- some bytes came
-  pub rests_came : (old new : Standing L) → old.piece ≡ [] → Shrinks (incoming old.outlet.link) new.piece (incoming new.outlet.link) → outgoing new.outlet.link ≡ outgoing old.outlet.link → new.outlet.owed ≡ old.outlet.owed → new.connection ≡ old.connection → new.calls ≡ old.calls → Rests outgoing incoming new.piece old new
-  rests_came old new none comes out owed same calls = record {
+  pub rests_came : (old new : Standing L) → old.chunk ≡ [] → Shrinks (incoming old.channel.link) new.chunk (incoming new.channel.link) → outgoing new.channel.link ≡ outgoing old.channel.link → new.channel.pending ≡ old.channel.pending → new.connection ≡ old.connection → new.calls ≡ old.calls → Rests outgoing incoming new.chunk old new
+  rests_came old new none comes out pending same calls = record {
     comes = comes;
-    piece_is = ap (λ t. t ++ new.piece) (sym none);
+    chunk_is = ap (λ t. t ++ new.chunk) (sym none);
     connection_stays = same;
     calls_stay = calls;
-    passes = subst (λ o. Passes (outgoing old.outlet.link) old.outlet.owed o new.outlet.owed) (sym out) (subst (λ l. Passes (outgoing old.outlet.link) old.outlet.owed (outgoing old.outlet.link) l) (sym owed) (passes_none (outgoing old.outlet.link) old.outlet.owed));
+    passes = subst (λ o. Passes (outgoing old.channel.link) old.channel.pending o new.channel.pending) (sym out) (subst (λ l. Passes (outgoing old.channel.link) old.channel.pending (outgoing old.channel.link) l) (sym pending) (passes_none (outgoing old.channel.link) old.channel.pending));
   }
 
-  -- nothing came, and what was owed was passed on, or the link is broken
-  pub rests_by : {X F : Type 0} (r : Result X F) (old new : Standing L) → new.piece ≡ old.piece → new.connection ≡ old.connection → new.calls ≡ old.calls → incoming new.outlet.link ≡ incoming old.outlet.link
-      → OnOk r (Passes (outgoing old.outlet.link) old.outlet.owed (outgoing new.outlet.link) new.outlet.owed)
-      → OnErr r (outgoing new.outlet.link ≡ outgoing old.outlet.link)
-      → OnErr r (new.outlet.owed ≡ old.outlet.owed)
+  -- nothing came, and what was pending was passed on, or the link is broken
+  pub rests_by : {X F : Type 0} (r : Result X F) (old new : Standing L) → new.chunk ≡ old.chunk → new.connection ≡ old.connection → new.calls ≡ old.calls → incoming new.channel.link ≡ incoming old.channel.link
+      → OnOk r (Passes (outgoing old.channel.link) old.channel.pending (outgoing new.channel.link) new.channel.pending)
+      → OnErr r (outgoing new.channel.link ≡ outgoing old.channel.link)
+      → OnErr r (new.channel.pending ≡ old.channel.pending)
       → Rests outgoing incoming [] old new
-  rests_by (Ok x) old new piece same calls come passes out owed = record {
-    comes = subst (λ o. Shrinks (incoming old.outlet.link) [] o) (sym come) (shrinks_none (incoming old.outlet.link));
-    piece_is = piece ∙ sym (append-nil old.piece);
+  rests_by (Ok x) old new chunk same calls come passes out pending = record {
+    comes = subst (λ o. Shrinks (incoming old.channel.link) [] o) (sym come) (shrinks_none (incoming old.channel.link));
+    chunk_is = chunk ∙ sym (append-nil old.chunk);
     connection_stays = same;
     calls_stay = calls;
     passes = passes;
   }
-  rests_by (Err fault) old new piece same calls come passes out owed = record {
-    comes = subst (λ o. Shrinks (incoming old.outlet.link) [] o) (sym come) (shrinks_none (incoming old.outlet.link));
-    piece_is = piece ∙ sym (append-nil old.piece);
+  rests_by (Err fault) old new chunk same calls come passes out pending = record {
+    comes = subst (λ o. Shrinks (incoming old.channel.link) [] o) (sym come) (shrinks_none (incoming old.channel.link));
+    chunk_is = chunk ∙ sym (append-nil old.chunk);
     connection_stays = same;
     calls_stay = calls;
-    passes = subst (λ o. Passes (outgoing old.outlet.link) old.outlet.owed o new.outlet.owed) (sym out) (subst (λ l. Passes (outgoing old.outlet.link) old.outlet.owed (outgoing old.outlet.link) l) (sym owed) (passes_none (outgoing old.outlet.link) old.outlet.owed));
+    passes = subst (λ o. Passes (outgoing old.channel.link) old.channel.pending o new.channel.pending) (sym out) (subst (λ l. Passes (outgoing old.channel.link) old.channel.pending (outgoing old.channel.link) l) (sym pending) (passes_none (outgoing old.channel.link) old.channel.pending));
   }
 
   pub rests_on : (came more : List ℕ) (old mid new : Standing L) → Rests outgoing incoming came old mid → Rests outgoing incoming more mid new → Rests outgoing incoming (came ++ more) old new
   rests_on came more old mid new f g = record {
-    comes = shrinks_then (incoming old.outlet.link) (incoming mid.outlet.link) (incoming new.outlet.link) came more f.comes g.comes;
-    piece_is = g.piece_is ∙ ap (λ t. t ++ more) f.piece_is ∙ append_assoc old.piece came more;
+    comes = shrinks_then (incoming old.channel.link) (incoming mid.channel.link) (incoming new.channel.link) came more f.comes g.comes;
+    chunk_is = g.chunk_is ∙ ap (λ t. t ++ more) f.chunk_is ∙ append_assoc old.chunk came more;
     connection_stays = g.connection_stays ∙ f.connection_stays;
     calls_stay = g.calls_stay ∙ f.calls_stay;
-    passes = passes_on (outgoing old.outlet.link) (outgoing mid.outlet.link) (outgoing new.outlet.link) old.outlet.owed mid.outlet.owed new.outlet.owed f.passes g.passes;
+    passes = passes_on (outgoing old.channel.link) (outgoing mid.channel.link) (outgoing new.channel.link) old.channel.pending mid.channel.pending new.channel.pending f.passes g.passes;
   }
 
   module _ (moment : Moment) (server served : Held) (audit : Device) where
     pub rests_then_takes : (came more : List ℕ) (old mid new : Standing L) → Rests outgoing incoming came old mid → Takes outgoing incoming moment more mid new server served audit → Takes outgoing incoming moment (came ++ more) old new server served audit
     rests_then_takes came more old mid new f g =
-        let o = outgoing old.outlet.link in
-        let m = outgoing mid.outlet.link in
-        let n = outgoing new.outlet.link in
-        let order : old.piece ++ (came ++ more) ≡ g.taken ++ new.piece = sym (append_assoc old.piece came more) ∙ ap (λ t. t ++ more) (sym f.piece_is) ∙ g.in_order in
-        let owed : f.passes.sent ++ (mid.outlet.owed ++ g.more) ≡ old.outlet.owed ++ g.more = sym (append_assoc f.passes.sent mid.outlet.owed g.more) ∙ ap (λ t. t ++ g.more) (sym f.passes.owed_is) in
+        let o = outgoing old.channel.link in
+        let m = outgoing mid.channel.link in
+        let n = outgoing new.channel.link in
+        let order : old.chunk ++ (came ++ more) ≡ g.taken ++ new.chunk = sym (append_assoc old.chunk came more) ∙ ap (λ t. t ++ more) (sym f.chunk_is) ∙ g.in_order in
+        let pending : f.passes.sent ++ (mid.channel.pending ++ g.more) ≡ old.channel.pending ++ g.more = sym (append_assoc f.passes.sent mid.channel.pending g.more) ∙ ap (λ t. t ++ g.more) (sym f.passes.pending_is) in
         let moved = feeds_by (written outgoing mid) (written outgoing new) (written outgoing old) (written outgoing new)
-        (λ xs grows. Grows-then (written outgoing old) (written outgoing mid) (written outgoing new) [] xs (passes_keep o m old.outlet.owed mid.outlet.owed f.passes) grows)
+        (λ xs grows. Grows-then (written outgoing old) (written outgoing mid) (written outgoing new) [] xs (passes_keep o m old.channel.pending mid.channel.pending f.passes) grows)
         audit (origin_of mid moment) g.taken g.result server served mid.connection.progress new.connection.progress g.feeds in
         record {
-          comes = shrinks_then (incoming old.outlet.link) (incoming mid.outlet.link) (incoming new.outlet.link) came more f.comes g.comes;
+          comes = shrinks_then (incoming old.channel.link) (incoming mid.channel.link) (incoming new.channel.link) came more f.comes g.comes;
           taken = g.taken;
           in_order = order;
           more = g.more;
-          settles = subst (λ t. Grows o t n) owed (Grows-then o m n f.passes.sent (mid.outlet.owed ++ g.more) f.passes.grows g.settles);
+          settles = subst (λ t. Grows o t n) pending (Grows-then o m n f.passes.sent (mid.channel.pending ++ g.more) f.passes.grows g.settles);
           result = g.result;
           alive = subst (λ (j : Joined). j.ended ≡ false) f.connection_stays g.alive;
           ended_is = g.ended_is;
           addr_stays = g.addr_stays ∙ ap (λ (j : Joined). j.addr) f.connection_stays;
           limit_stays = g.limit_stays ∙ ap (λ (j : Joined). j.progress.limit) f.connection_stays;
-          calls_are = g.calls_are ∙ ap (λ n. calls_behind n g.result) f.calls_stay;
+          calls_are = g.calls_are ∙ ap (λ n. calls_after n g.result) f.calls_stay;
           feeds = subst (λ (j : Joined). Feeds (record { addr = j.addr; moment = moment }) g.taken g.result server served j.progress new.connection.progress audit (device (written outgoing old) (written outgoing new))) f.connection_stays moved;
         }
 
     pub takes_then_rests : (came : List ℕ) (old mid new : Standing L) → Takes outgoing incoming moment came old mid server served audit → Rests outgoing incoming [] mid new → Takes outgoing incoming moment came old new server served audit
     takes_then_rests came old mid new f g =
-        let o = outgoing old.outlet.link in
-        let m = outgoing mid.outlet.link in
-        let n = outgoing new.outlet.link in
-        let piece : new.piece ≡ mid.piece = g.piece_is ∙ append-nil mid.piece in
+        let o = outgoing old.channel.link in
+        let m = outgoing mid.channel.link in
+        let n = outgoing new.channel.link in
+        let chunk : new.chunk ≡ mid.chunk = g.chunk_is ∙ append-nil mid.chunk in
         let moved = feeds_by (written outgoing old) (written outgoing mid) (written outgoing old) (written outgoing new)
         (λ xs grows. subst (λ t. Grows (written outgoing old) t (written outgoing new)) (append-nil xs)
-        (Grows-then (written outgoing old) (written outgoing mid) (written outgoing new) xs [] grows (passes_keep m n mid.outlet.owed new.outlet.owed g.passes)))
+        (Grows-then (written outgoing old) (written outgoing mid) (written outgoing new) xs [] grows (passes_keep m n mid.channel.pending new.channel.pending g.passes)))
         audit (origin_of old moment) f.taken f.result server served old.connection.progress mid.connection.progress f.feeds in
         record {
-          comes = subst (λ t. Shrinks (incoming old.outlet.link) t (incoming new.outlet.link)) (append-nil came) (shrinks_then (incoming old.outlet.link) (incoming mid.outlet.link) (incoming new.outlet.link) came [] f.comes g.comes);
+          comes = subst (λ t. Shrinks (incoming old.channel.link) t (incoming new.channel.link)) (append-nil came) (shrinks_then (incoming old.channel.link) (incoming mid.channel.link) (incoming new.channel.link) came [] f.comes g.comes);
           taken = f.taken;
-          in_order = f.in_order ∙ ap (λ t. f.taken ++ t) (sym piece);
+          in_order = f.in_order ∙ ap (λ t. f.taken ++ t) (sym chunk);
           more = f.more ++ g.passes.sent;
-          settles = subst (λ t. Grows o t n) (append_assoc old.outlet.owed f.more g.passes.sent) (Grows-then o m n (old.outlet.owed ++ f.more) g.passes.sent f.settles g.passes.grows);
+          settles = subst (λ t. Grows o t n) (append_assoc old.channel.pending f.more g.passes.sent) (Grows-then o m n (old.channel.pending ++ f.more) g.passes.sent f.settles g.passes.grows);
           result = f.result;
           alive = f.alive;
           ended_is = ap (λ (j : Joined). j.ended) g.connection_stays ∙ f.ended_is;
@@ -217,60 +217,60 @@ module _ {L : Type 0} (outgoing incoming : L → Option (List ℕ)) where
           feeds = subst (λ (j : Joined). Feeds (origin_of old moment) f.taken f.result server served old.connection.progress j.progress audit (device (written outgoing old) (written outgoing new))) (sym g.connection_stays) moved;
         }
 
-    pub gathers_fed : (old new : Standing L) (result : Result Taken SessionFault) (room : Option ℕ) (piece first : List ℕ) (reply : Buffered)
+    pub gathers_fed : (old new : Standing L) (result : Result Taken SessionFault) (room : Option ℕ) (chunk first : List ℕ) (reply : Buffered)
         → old.connection.ended ≡ false
         → OnOk result (new.connection.ended ≡ false)
         → OnErr result (new.connection.ended ≡ true)
         → new.connection.addr ≡ old.connection.addr
         → new.connection.progress.limit ≡ old.connection.progress.limit
-        → new.outlet ≡ old.outlet
-        → new.piece ≡ left_of result old.piece
-        → piece ≡ old.piece
+        → new.channel ≡ old.channel
+        → new.chunk ≡ left_of result old.chunk
+        → chunk ≡ old.chunk
         → first ≡ []
-        → FeedsSome (origin_of old moment) piece room result server served old.connection.progress new.connection.progress audit (device (Some first) (Some reply.earlier))
+        → FeedsSome (origin_of old moment) chunk room result server served old.connection.progress new.connection.progress audit (device (Some first) (Some reply.earlier))
         → StandsBy (count_taken result) reply new.end
-        → new.calls ≡ calls_behind old.calls (count_taken result)
+        → new.calls ≡ calls_after old.calls (count_taken result)
         → Gathers moment old new server served audit reply
-    gathers_fed old new result room piece first reply alive ok err addr limit outlet left whole empty feeds stands calls =
-        let emptied = subst (λ b. FeedsSome (origin_of old moment) piece room result server served old.connection.progress new.connection.progress audit (device (Some b) (Some reply.earlier))) empty feeds in
+    gathers_fed old new result room chunk first reply alive ok err addr limit channel left whole empty feeds stands calls =
+        let emptied = subst (λ b. FeedsSome (origin_of old moment) chunk room result server served old.connection.progress new.connection.progress audit (device (Some b) (Some reply.earlier))) empty feeds in
         let fed = subst (λ p. FeedsSome (origin_of old moment) p room result server served old.connection.progress new.connection.progress audit (device (Some []) (Some reply.earlier))) whole emptied in
         record {
-          taken = bytes_taken result old.piece;
-          in_order = sym (append-nil old.piece) ∙ all_there result old.piece new.piece left;
+          taken = bytes_taken result old.chunk;
+          in_order = sym (append-nil old.chunk) ∙ all_there result old.chunk new.chunk left;
           result = count_taken result;
           alive = alive;
           ended_is = ended_as result new.connection.ended ok err;
           addr_stays = addr;
           limit_stays = limit;
-          outlet_stays = outlet;
-          feeds = λ past fits text u. (fed past fits text u).0;
+          channel_stays = channel;
+          feeds = λ history fits text u. (fed history fits text u).0;
           stands = stands;
           calls_are = calls;
         }
 
     pub gathers_then_sent : (old mid new : Standing L) (reply : Buffered) → Gathers moment old mid server served audit reply
-        → old.outlet.owed ≡ []
+        → old.channel.pending ≡ []
         → new.connection ≡ mid.connection
-        → new.piece ≡ mid.piece
+        → new.chunk ≡ mid.chunk
         → new.calls ≡ mid.calls
-        → incoming new.outlet.link ≡ incoming mid.outlet.link
-        → Passes (outgoing mid.outlet.link) reply.earlier (outgoing new.outlet.link) new.outlet.owed
+        → incoming new.channel.link ≡ incoming mid.channel.link
+        → Passes (outgoing mid.channel.link) reply.earlier (outgoing new.channel.link) new.channel.pending
         → Takes outgoing incoming moment [] old new server served audit
-    gathers_then_sent old mid new reply f none same piece calls come passed =
+    gathers_then_sent old mid new reply f none same chunk calls come passed =
         let gathered = reply.earlier in
-        let a = outgoing old.outlet.link in
-        let b = outgoing new.outlet.link in
-        let passes : Passes a gathered b new.outlet.owed = subst (λ (o : Outgoing L). Passes (outgoing o.link) gathered b new.outlet.owed) f.outlet_stays passed in
-        let come_is : incoming new.outlet.link ≡ incoming old.outlet.link = come ∙ ap (λ (o : Outgoing L). incoming o.link) f.outlet_stays in
-        let moved = feeds_by (Some []) (Some gathered) (with_owed a []) (written outgoing new) (λ xs g. sent_on a b gathered new.outlet.owed xs passes g)
+        let a = outgoing old.channel.link in
+        let b = outgoing new.channel.link in
+        let passes : Passes a gathered b new.channel.pending = subst (λ (o : Outgoing L). Passes (outgoing o.link) gathered b new.channel.pending) f.channel_stays passed in
+        let come_is : incoming new.channel.link ≡ incoming old.channel.link = come ∙ ap (λ (o : Outgoing L). incoming o.link) f.channel_stays in
+        let moved = feeds_by (Some []) (Some gathered) (with_pending a []) (written outgoing new) (λ xs g. sent_on a b gathered new.channel.pending xs passes g)
         audit (origin_of old moment) f.taken f.result server served old.connection.progress mid.connection.progress f.feeds in
-        let from = subst (λ owed. Feeds (origin_of old moment) f.taken f.result server served old.connection.progress mid.connection.progress audit (device (with_owed a owed) (written outgoing new))) (sym none) moved in
+        let from = subst (λ pending. Feeds (origin_of old moment) f.taken f.result server served old.connection.progress mid.connection.progress audit (device (with_pending a pending) (written outgoing new))) (sym none) moved in
         record {
-          comes = subst (λ o. Shrinks (incoming old.outlet.link) [] o) (sym come_is) (shrinks_none (incoming old.outlet.link));
+          comes = subst (λ o. Shrinks (incoming old.channel.link) [] o) (sym come_is) (shrinks_none (incoming old.channel.link));
           taken = f.taken;
-          in_order = append-nil old.piece ∙ f.in_order ∙ ap (λ t. f.taken ++ t) (sym piece);
+          in_order = append-nil old.chunk ∙ f.in_order ∙ ap (λ t. f.taken ++ t) (sym chunk);
           more = passes.sent;
-          settles = subst (λ owed. Grows a (owed ++ passes.sent) b) (sym none) passes.grows;
+          settles = subst (λ pending. Grows a (pending ++ passes.sent) b) (sym none) passes.grows;
           result = f.result;
           alive = f.alive;
           ended_is = ap (λ (j : Joined). j.ended) same ∙ f.ended_is;
@@ -293,8 +293,8 @@ module _ {L : Type 0} (outgoing incoming : L → Option (List ℕ)) where
     came_alone old new rests same quiet = (rests.0, inl (rests.1, same, quiet))
 
     -- what a turn that takes bytes leaves, but for how it ends
-    pub takes_as : (old mid new : Standing L) → new.connection ≡ mid.connection → new.outlet ≡ mid.outlet → new.piece ≡ mid.piece → new.calls ≡ mid.calls → Takes outgoing incoming moment [] old mid server served audit → Takes outgoing incoming moment [] old new server served audit
-    takes_as old mid new same out piece calls takes =
+    pub takes_as : (old mid new : Standing L) → new.connection ≡ mid.connection → new.channel ≡ mid.channel → new.chunk ≡ mid.chunk → new.calls ≡ mid.calls → Takes outgoing incoming moment [] old mid server served audit → Takes outgoing incoming moment [] old new server served audit
+    takes_as old mid new same out chunk calls takes =
         let whole : Result (Unit {0}) SessionFault = Ok tt in
-        takes_then_rests [] old mid new takes (rests_by whole mid new piece same calls (ap (λ (o : Outgoing L). incoming o.link) out)
-        (subst (λ (o : Outgoing L). Passes (outgoing mid.outlet.link) mid.outlet.owed (outgoing o.link) o.owed) (sym out) (passes_none (outgoing mid.outlet.link) mid.outlet.owed)) tt tt)
+        takes_then_rests [] old mid new takes (rests_by whole mid new chunk same calls (ap (λ (o : Outgoing L). incoming o.link) out)
+        (subst (λ (o : Outgoing L). Passes (outgoing mid.channel.link) mid.channel.pending (outgoing o.link) o.pending) (sym out) (passes_none (outgoing mid.channel.link) mid.channel.pending)) tt tt)

@@ -4,20 +4,20 @@ use Rattle.nfs_xdr.specs.declared.link.Came.{Came}
 use Rattle.nfs_xdr.specs.declared.link.Came.TheVariants.{Bytes, Nothing, End}
 use Rattle.nfs_xdr.specs.Known.{Grows, Shrinks, IsAtEnd}
 
--- a link with what is owed on it, the replies that it has not taken yet, and whether it is broken
+-- a link with what is pending on it, the replies that it has not taken yet, and whether it is broken
 pub record Outgoing (L : Type 0) : Type 0 where
   pub link : L
-  pub owed : List ℕ
+  pub pending : List ℕ
   pub failed : Bool
 
--- what was sent, where that is known, and what is owed behind it
-abbrev pub with_owed : Option (List ℕ) → List ℕ → Option (List ℕ)
-with_owed sent owed = option_map (λ bytes. bytes ++ owed) sent
+-- what was sent, where that is known, and what is pending after it
+abbrev pub with_pending : Option (List ℕ) → List ℕ → Option (List ℕ)
+with_pending sent pending = option_map (λ bytes. bytes ++ pending) sent
 
--- some first bytes of those that are owed were sent, and the others are left
-pub record Passes (before : Option (List ℕ)) (owed : List ℕ) (after : Option (List ℕ)) (left : List ℕ) : Type 0 where
+-- some first bytes of those that are pending were sent, and the others are left
+pub record Passes (before : Option (List ℕ)) (pending : List ℕ) (after : Option (List ℕ)) (left : List ℕ) : Type 0 where
   pub sent : List ℕ
-  pub owed_is : owed ≡ sent ++ left
+  pub pending_is : pending ≡ sent ++ left
   pub grows : Grows before sent after
 
 -- how many bytes have come
@@ -28,6 +28,6 @@ came_bytes End = 0
 
 -- what has come, and the bytes that it brought
 abbrev pub Brings : Option (List ℕ) → Came → List ℕ → Option (List ℕ) → Type 0
-Brings before (Bytes n) piece after = (piece ≢ []) × Shrinks before piece after
-Brings before Nothing piece after = (piece ≡ []) × (after ≡ before)
-Brings before End piece after = (piece ≡ []) × (after ≡ before) × IsAtEnd after
+Brings before (Bytes n) chunk after = (chunk ≢ []) × Shrinks before chunk after
+Brings before Nothing chunk after = (chunk ≡ []) × (after ≡ before)
+Brings before End chunk after = (chunk ≡ []) × (after ≡ before) × IsAtEnd after

@@ -4,7 +4,7 @@ use Rattle.nfs_attrs.specs.declared.moment.Moment.{Moment}
 use Rattle.nfs_rpc.specs.Progress.{Unfinished}
 use Rattle.nfs_server.specs.Events.{Done}
 use Rattle.nfs_server.specs.Feeding.{Device, device}
-use Rattle.nfs_server.specs.Fits.{Held, Past, Fits}
+use Rattle.nfs_server.specs.Fits.{Held, History, Fits}
 use Rattle.nfs_server.specs.Runs.{longer}
 use Rattle.nfs_server.specs.Together.{IsServed}
 use Rattle.nfs_serving.specs.Turns.{Standing, TurnsBy, written}
@@ -52,26 +52,26 @@ own_events conn [] = []
 own_events conn (h ∷ earlier) = (if nat_eq conn h.conn then h.done else []) ++ own_events conn earlier
 
 -- What came on a connection is what was taken and what is not. What was taken is the records of these events,
--- in their order, and an unfinished rest; what was sent and what is owed is the sealed replies to them, in
+-- in their order, and an unfinished rest; what was sent and what is pending is the framed replies to them, in
 -- their order, and nothing else.
 pub record IsClientServed {L : Type 0} (outgoing : L → Option (List ℕ)) (bytes : List ℕ) (done : List Done) (first now : Standing L) : Type 0 where
   pub taken : List ℕ
-  pub bytes_are : bytes ≡ taken ++ now.piece
+  pub bytes_are : bytes ≡ taken ++ now.chunk
   pub serves : IsServed taken done now.connection.progress (device (written outgoing first) (written outgoing now))
 
--- a client at its beginning: nothing has come, and nothing is owed
+-- a client at its beginning: nothing has come, and nothing is pending
 pub record IsNew {L : Type 0} (c : Standing L) : Type 0 where
   pub begins : Unfinished [] c.connection.progress
-  pub nothing_came : c.piece ≡ []
+  pub nothing_came : c.chunk ≡ []
 
--- The events of all turns, in the order of the turns, make the past longer. Each connection that no fault has ended is served as if it were alone.
-pub record AreTogether {L : Type 0} (outgoing : L → Option (List ℕ)) (past : Past) (turns : List Turned) (old new : Stand L) : Type 0 where
+-- The events of all turns, in the order of the turns, make the history longer. Each connection that no fault has ended is served as if it were alone.
+pub record AreTogether {L : Type 0} (outgoing : L → Option (List ℕ)) (history : History) (turns : List Turned) (old new : Stand L) : Type 0 where
   pub heard : List Heard
-  pub fits : Fits (longer past (all_events heard)) new.server
+  pub fits : Fits (longer history (all_events heard)) new.server
   pub served : (conn : ℕ) → (new.client conn).connection.ended ≡ false
       → IsClientServed outgoing (own_bytes conn turns) (own_events conn heard) (old.client conn) (new.client conn)
 
--- The turns of any number of clients are one past.
-abbrev pub TurnsAreOnePast : {L : Type 0} → (L → Option (List ℕ)) → (L → Option (List ℕ)) → Type 0
-TurnsAreOnePast {L} outgoing incoming = (turns : List Turned) (old new : Stand L) → ((conn : ℕ) → IsNew (old.client conn))
-    → AreTurns outgoing incoming turns old new → (past : Past) → Fits past old.server → AreTogether outgoing past turns old new
+-- The turns of any number of clients are one history.
+abbrev pub TurnsAreOneHistory : {L : Type 0} → (L → Option (List ℕ)) → (L → Option (List ℕ)) → Type 0
+TurnsAreOneHistory {L} outgoing incoming = (turns : List Turned) (old new : Stand L) → ((conn : ℕ) → IsNew (old.client conn))
+    → AreTurns outgoing incoming turns old new → (history : History) → Fits history old.server → AreTogether outgoing history turns old new

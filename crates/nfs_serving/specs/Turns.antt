@@ -1,17 +1,20 @@
 -- The turns of a client.
-use Rattle.std.specs.Prelude.{◌≡◌, ◌≢◌, ◌⊎◌, ℕ, ◌+◌, ◌-◌, ◌^◌, min, true, false, List, [], ◌++◌, Option, None, Some, Result, Ok, Err, is_err}
+use Rattle.std.specs.Prelude.{◌≡◌, ◌≢◌, ◌⊎◌, ℕ, ◌+◌, ◌-◌, ◌^◌, min, Bool, true, false, List, [], ◌++◌, Option, None, Some, Result, Ok, Err, is_err}
 use Rattle.nfs_attrs.specs.declared.moment.Moment.{Moment}
 use Rattle.nfs_server.specs.Connections.{Joined}
 use Rattle.nfs_server.specs.Feeding.{Device, device, Feeds}
 use Rattle.nfs_server.specs.Fits.{Held}
 use Rattle.nfs_server.specs.ReplyRoom.{Buffered, is_full}
-use Rattle.nfs_server.specs.Streams.{IsToldAs}
+use Rattle.nfs_server.specs.Streams.{IsReportedAs}
 use Rattle.nfs_server.specs.declared.serve_fault.ServeFault.{ServeFault}
 use Rattle.nfs_server.specs.declared.serve_fault.ServeFault.TheVariants.{Memory}
 use Rattle.nfs_server.specs.declared.session_fault.SessionFault.{SessionFault}
 use Rattle.nfs_server.specs.declared.session_fault.SessionFault.TheVariants as session
+use Rattle.nfs_server.specs.Taking.{Waits}
 use Rattle.nfs_server.specs.declared.taking.Origin.{Origin}
-use Rattle.nfs_serving.specs.Outgoing.{Outgoing, Passes, with_owed}
+use Rattle.nfs_server.specs.declared.taking.Stop.{Stop}
+use Rattle.nfs_server.specs.declared.taking.Stop.TheVariants.{Done as Finished}
+use Rattle.nfs_serving.specs.Outgoing.{Outgoing, Passes, with_pending}
 use Rattle.nfs_serving.specs.declared.turn.End.{End}
 use Rattle.nfs_serving.specs.declared.turn.End.TheVariants.{Fault}
 use Rattle.nfs_serving.specs.declared.turn.Turn.{Turn}
@@ -21,57 +24,57 @@ use Rattle.nfs_xdr.specs.Known.{Grows, Shrinks}
 -- a client: its connection, the way out, what has come and is not taken, how it ended, if it did, and how many records were answered
 pub record Standing (L : Type 0) : Type 0 where
   pub connection : Joined
-  pub outlet : Outgoing L
-  pub piece : List ℕ
+  pub channel : Outgoing L
+  pub chunk : List ℕ
   pub end : Option End
   pub calls : ℕ
 
 -- how many were answered, with those of a feed that no fault has ended; at most as many as 64 bits count
-abbrev pub calls_behind : ℕ → Result ℕ SessionFault → ℕ
-calls_behind calls (Ok n) = min (calls + n) (2 ^ 64 - 1)
-calls_behind calls (Err fault) = calls
+abbrev pub calls_after : ℕ → Result ℕ SessionFault → ℕ
+calls_after calls (Ok n) = min (calls + n) (2 ^ 64 - 1)
+calls_after calls (Err fault) = calls
 
--- all that was written for a client: what was sent, where that is known, and what is owed
+-- all that was written for a client: what was sent, where that is known, and what is pending
 abbrev pub written : {L : Type 0} → (L → Option (List ℕ)) → Standing L → Option (List ℕ)
-written outgoing c = with_owed (outgoing c.outlet.link) c.outlet.owed
+written outgoing c = with_pending (outgoing c.channel.link) c.channel.pending
 
 abbrev pub origin_of : {L : Type 0} → Standing L → Moment → Origin
 origin_of c moment = record { addr = c.connection.addr; moment = moment }
 
--- These bytes came, and none was taken. Some first bytes of what was owed were sent.
+-- These bytes came, and none was taken. Some first bytes of what was pending were sent.
 pub record Rests {L : Type 0} (outgoing incoming : L → Option (List ℕ)) (came : List ℕ) (old new : Standing L) : Type 0 where
-  pub comes : Shrinks (incoming old.outlet.link) came (incoming new.outlet.link)
-  pub piece_is : new.piece ≡ old.piece ++ came
+  pub comes : Shrinks (incoming old.channel.link) came (incoming new.channel.link)
+  pub chunk_is : new.chunk ≡ old.chunk ++ came
   pub connection_stays : new.connection ≡ old.connection
   pub calls_stay : new.calls ≡ old.calls
-  pub passes : Passes (outgoing old.outlet.link) old.outlet.owed (outgoing new.outlet.link) new.outlet.owed
+  pub passes : Passes (outgoing old.channel.link) old.channel.pending (outgoing new.channel.link) new.channel.pending
 
--- These bytes came, and some were taken, in their order. That happens only behind all that was owed. What the
--- records that they make whole are answered was sent or is owed.
+-- These bytes came, and some were taken, in their order. That happens only after all that was pending. What the
+-- records that they make whole are answered was sent or is pending.
 pub record Takes {L : Type 0} (outgoing incoming : L → Option (List ℕ))
     (moment : Moment) (came : List ℕ) (old new : Standing L) (server served : Held) (audit : Device) : Type 0 where
-  pub comes : Shrinks (incoming old.outlet.link) came (incoming new.outlet.link)
+  pub comes : Shrinks (incoming old.channel.link) came (incoming new.channel.link)
   pub taken : List ℕ
-  pub in_order : old.piece ++ came ≡ taken ++ new.piece
+  pub in_order : old.chunk ++ came ≡ taken ++ new.chunk
   pub more : List ℕ
-  pub settles : Grows (outgoing old.outlet.link) (old.outlet.owed ++ more) (outgoing new.outlet.link)
+  pub settles : Grows (outgoing old.channel.link) (old.channel.pending ++ more) (outgoing new.channel.link)
   pub result : Result ℕ SessionFault
   pub alive : old.connection.ended ≡ false
   pub ended_is : new.connection.ended ≡ is_err result
   pub addr_stays : new.connection.addr ≡ old.connection.addr
   pub limit_stays : new.connection.progress.limit ≡ old.connection.progress.limit
-  pub calls_are : new.calls ≡ calls_behind old.calls result
+  pub calls_are : new.calls ≡ calls_after old.calls result
   pub feeds : Feeds (origin_of old moment) taken result server served old.connection.progress new.connection.progress audit (device (written outgoing old) (written outgoing new))
 
 -- the fault that ends a client by its records: for replies that don't gather there is no memory
 abbrev pub IsEndedBy : SessionFault → ServeFault → Type 0
 IsEndedBy session.WriteFault fault = fault ≡ Memory
-IsEndedBy other fault = IsToldAs other fault
+IsEndedBy other fault = IsReportedAs other fault
 
 -- how a client stands by what came of its records: it goes on, or their fault ends it. Replies fail to gather only where there is no room for them.
 abbrev pub StandsBy : Result ℕ SessionFault → Buffered → Option End → Type 0
 StandsBy (Ok n) reply end = end ≡ None
-StandsBy (Err fault) reply end = (told : ServeFault) × (end ≡ Some (Fault told)) × IsEndedBy fault told
+StandsBy (Err fault) reply end = (reported : ServeFault) × (end ≡ Some (Fault reported)) × IsEndedBy fault reported
     × (fault ≡ session.WriteFault → is_full reply ≡ true)
 
 -- the buffer as a device, where nothing had gathered before
@@ -81,14 +84,14 @@ gathered reply = device (Some []) (Some reply.earlier)
 -- Some of the bytes that had come were taken, in their order. What the records that they make whole are answered has gathered.
 pub record Gathers {L : Type 0} (moment : Moment) (old new : Standing L) (server served : Held) (audit : Device) (reply : Buffered) : Type 0 where
   pub taken : List ℕ
-  pub in_order : old.piece ≡ taken ++ new.piece
+  pub in_order : old.chunk ≡ taken ++ new.chunk
   pub result : Result ℕ SessionFault
   pub alive : old.connection.ended ≡ false
   pub ended_is : new.connection.ended ≡ is_err result
   pub addr_stays : new.connection.addr ≡ old.connection.addr
   pub limit_stays : new.connection.progress.limit ≡ old.connection.progress.limit
-  pub calls_are : new.calls ≡ calls_behind old.calls result
-  pub outlet_stays : new.outlet ≡ old.outlet
+  pub calls_are : new.calls ≡ calls_after old.calls result
+  pub channel_stays : new.channel ≡ old.channel
   pub feeds : Feeds (origin_of old moment) taken result server served old.connection.progress new.connection.progress audit (gathered reply)
   pub stands : StandsBy result reply new.end
 
@@ -101,10 +104,15 @@ TurnsBy outgoing incoming moment came old new server served audit =
 abbrev pub Turns : {L : Type 0} → (L → Option (List ℕ)) → (L → Option (List ℕ)) → Moment → Standing L → Standing L → Held → Held → Device → Type 0
 Turns outgoing incoming moment old new server served audit = (came : List ℕ) × TurnsBy outgoing incoming moment came old new server served audit
 
--- what a turn says of the client behind it
-abbrev pub Tells : {L : Type 0} → Turn → Standing L → Type 0
-Tells turn.Fed new = new.outlet.owed ≡ []
-Tells turn.Drained new = (new.outlet.owed ≡ []) × (new.piece ≡ [])
-Tells turn.Idle new = (new.outlet.owed ≡ []) × (new.piece ≡ [])
-Tells turn.Owing new = new.outlet.owed ≢ []
-Tells (turn.Ended end) new = (new.end ≡ Some end) × ((new.outlet.owed ≡ []) ⊎ (new.outlet.failed ≡ true))
+-- what a turn says of the client after it
+abbrev pub Reports : {L : Type 0} → Turn → Standing L → Type 0
+Reports turn.Fed new = new.channel.pending ≡ []
+Reports turn.Drained new = (new.channel.pending ≡ []) × (new.chunk ≡ [])
+Reports turn.Idle new = (new.channel.pending ≡ []) × (new.chunk ≡ [])
+Reports turn.Held new = new.channel.pending ≡ []
+Reports turn.Owing new = new.channel.pending ≢ []
+Reports (turn.Ended end) new = (new.end ≡ Some end) × ((new.channel.pending ≡ []) ⊎ (new.channel.failed ≡ true))
+
+-- a client's next record waits, since the log is full, whatever was unfinished
+abbrev pub IsHeld : {L : Type 0} → Moment → Standing L → Held → Bool → Type 0
+IsHeld moment c server full = (stop : Stop) × (stop ≢ Finished) × Waits stop full (origin_of c moment) c.chunk server c.connection.progress

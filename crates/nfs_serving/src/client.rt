@@ -3,13 +3,14 @@ ghost use Rattle.std.specs.Prelude.{◌≡◌, ◌≢◌, ◌≤◌, ◌↔◌, 
 ghost use Rattle.nfs_rpc.specs.Lent.{IsBefore};
 ghost use Rattle.nfs_server.specs.Connections.{IsAtStart};
 ghost use Rattle.nfs_server.specs.Feeding.{device, EndsWith};
-ghost use Rattle.nfs_serving.specs.Turns.{Gathers, IsEndedBy, Rests, Takes, Tells, Turns};
+ghost use Rattle.nfs_server.specs.Taking.{Waits};
+ghost use Rattle.nfs_serving.specs.Turns.{Gathers, IsEndedBy, IsHeld, Rests, Takes, Reports, Turns, origin_of};
 
-use crate::intake::Intake;
-use crate::outlet::Outlet;
-use crate::room::Room;
-use crate::turn::{End, Pace, Turn};
-use crate::window::Window;
+use crate::buffer::Buffer;
+use crate::channel::Channel;
+use crate::receive_size::ReceiveSize;
+use crate::turn::{End, Turn};
+use crate::turn_buffers::TurnBuffers;
 use nfs_attrs::moment::Moment;
 use nfs_exports::addr::Addr;
 use nfs_server::audit_out::AuditOut;
@@ -19,24 +20,25 @@ use nfs_server::reply_out::Gathering;
 use nfs_server::serve_fault::ServeFault;
 use nfs_server::server::Server;
 use nfs_server::session_fault::SessionFault;
+use nfs_server::taking::Stop;
 use nfs_xdr::device::DeviceFault;
 use nfs_xdr::link::{Came, Link};
 use std::alloc::Global;
 use std::marker::Model;
 
-// Behind the reply with which so many bytes are owed, no more is taken: so all that gather in a turn
+// After the reply with which so many bytes are pending, no more is taken: so all that gather in a turn
 // have room.
-const MOST_OWED: usize = MOST_GATHERED - ROOM;
+const MOST_PENDING: usize = MOST_GATHERED - ROOM;
 
-/// A connection over a link: what has come and is not taken yet, and what is owed.
+/// A connection over a link: what has come and is not taken yet, and what is pending.
 #[derive(Drop)]
 pub struct Client<L> {
     connection: Connection,
-    outlet: Outlet<L>,
-    piece: Window,
+    channel: Channel<L>,
+    chunk: Buffer,
     end: Option<End>,
     calls: u64,
-    intake: Intake,
+    receive_size: ReceiveSize,
 }
 
 impl<L> Model for Client<L> {
@@ -45,7 +47,7 @@ impl<L> Model for Client<L> {
 
     ghost Value = { Standing L };
 
-    ghost view = { λ c. record { connection = c.connection; outlet = c.outlet; piece = c.piece; end = c.end; calls = c.calls } };
+    ghost view = { λ c. record { connection = c.connection; channel = c.channel; chunk = c.chunk; end = c.end; calls = c.calls } };
 
     ghost invariant = { λ c. c.end ≡ None → c.connection.ended ≡ false };
 }
@@ -55,26 +57,26 @@ impl<L: Link> Client<L> {
     /// memory but its own.
     pub fn new(alloc: Global, addr: Addr, link: L) -> Client<L>
         ensures start { IsAtStart addr result.connection }
-        ensures outlet { result.outlet ≡ record { link = link; owed = []; failed = false } }
-        ensures piece { result.piece ≡ [] }
+        ensures channel { result.channel ≡ record { link = link; pending = []; failed = false } }
+        ensures chunk { result.chunk ≡ [] }
         ensures end { result.end ≡ None }
         ensures calls { result.calls ≡ 0 }
     {
         Client {
             connection: Connection::new(alloc, addr),
-            outlet: Outlet::new(alloc, link),
-            piece: Window::new(alloc),
+            channel: Channel::new(alloc, link),
+            chunk: Buffer::new(alloc),
             end: None,
             calls: 0,
-            intake: Intake::new(),
+            receive_size: ReceiveSize::new(),
         }
     }
 
     /// The link.
     pub fn link(&self) -> &L
-        ensures { result.now ≡ self.now.outlet.link }
+        ensures { result.now ≡ self.now.channel.link }
     {
-        self.outlet.link()
+        self.channel.link()
     }
 
     /// How many records were answered, but for those of a turn that a fault of its records, of the audit
@@ -85,131 +87,124 @@ impl<L: Link> Client<L> {
         self.calls
     }
 
-    /// Whether nothing is on its way: no reply is owed, and no byte of a record has come that is not
+    /// Whether nothing is on its way: no reply is pending, and no byte of a record has come that is not
     /// answered.
     pub fn is_at_rest(&self) -> bool
-        ensures owed { IsTrue result → self.now.outlet.owed ≡ [] }
-        ensures piece { IsTrue result → self.now.piece ≡ [] }
-        ensures before { IsTrue result → IsBefore self.now.connection.progress }
+        ensures { IsTrue result ↔ (self.now.channel.pending ≡ []) × (self.now.chunk ≡ []) × IsBefore self.now.connection.progress }
     {
-        self.outlet.is_settled() && self.piece.is_empty() && self.connection.is_before_record()
+        self.channel.is_settled() && self.chunk.is_empty() && self.connection.is_before_record()
     }
 
-    /// Whether replies are owed.
-    pub fn owes(&self) -> bool
-        ensures { IsTrue result ↔ (self.now.outlet.owed ≢ []) }
-    {
-        !self.outlet.is_settled()
-    }
-
-    /// Gives the client its turn: what is owed goes out first, as much as the link takes. Only where
-    /// nothing is owed any more, some bytes that have come are taken, as the pace says, each record that
-    /// they make whole is answered, its audit line, where it is denied, written before the next is looked
-    /// at, and the replies go out together, as much as the link takes.
+    /// Gives the client its turn: what is pending goes out first, as much as the link takes. Only where
+    /// nothing is pending any more, some bytes that have come are taken, each record that they make whole
+    /// is answered, its audit line, where it is denied, written before the next is looked at, and the
+    /// replies go out together, as much as the link takes. Where the log is full, nothing is taken from a
+    /// call on that fails a rule.
     ///
-    /// A fault of a record, of the audit lines or of memory ends the connection behind the replies
+    /// A fault of a record, of the audit lines or of memory ends the connection after the replies
     /// to the records before it; a fault of the link ends it at once.
     pub fn turn<A: AuditOut>(
         &mut self,
         server: &mut Server,
-        room: &mut Room,
+        room: &mut TurnBuffers,
         moment: Moment,
-        pace: Pace,
         audit: &mut A,
     ) -> Turn
         ensures turns { Turns L.outgoing L.incoming moment self.old self.new server.old server.new
             (device (A.contents audit.old) (A.contents audit.new)) }
-        ensures tells { Tells result self.new }
+        ensures reports { Reports result self.new }
+        ensures held { result ≡ Turn.Held → IsHeld moment self.new server.new (A.full audit.new) }
         ensures setup { server.new.setup ≡ server.old.setup }
     {
         if self.pass_on().is_err() {
             return self.ends(End::Fault(ServeFault::WriteFault));
         }
-        if !self.outlet.is_settled() {
+        if !self.channel.is_settled() {
             return Turn::Owing;
         }
         if let Some(end) = self.end {
             return Turn::Ended(end);
         }
-        self.take(server, room, moment, pace, audit)
+        self.take(server, room, moment, audit)
     }
 
-    // Sends what is owed, as much of it as the link takes.
+    // Sends what is pending, as much of it as the link takes.
     fn pass_on(&mut self) -> Result<(), DeviceFault>
         ensures rests { Rests L.outgoing L.incoming [] self.old self.new }
         ensures end { self.new.end ≡ self.old.end }
-        ensures fault { OnErr result (self.new.outlet.failed ≡ true) }
+        ensures fault { OnErr result (self.new.channel.failed ≡ true) }
     {
-        self.outlet.pass_on()
+        self.channel.pass_on()
     }
 
-    // Takes some bytes that have come, where nothing is owed.
+    // Takes some bytes that have come, where nothing is pending.
     fn take<A: AuditOut>(
         &mut self,
         server: &mut Server,
-        room: &mut Room,
+        room: &mut TurnBuffers,
         moment: Moment,
-        pace: Pace,
         audit: &mut A,
     ) -> Turn
-        requires owed { self.old.outlet.owed ≡ [] }
+        requires pending { self.old.channel.pending ≡ [] }
         requires alive { self.old.end ≡ None }
         ensures turns { Turns L.outgoing L.incoming moment self.old self.new server.old server.new
             (device (A.contents audit.old) (A.contents audit.new)) }
-        ensures tells { Tells result self.new }
+        ensures reports { Reports result self.new }
+        ensures held { result ≡ Turn.Held → IsHeld moment self.new server.new (A.full audit.new) }
         ensures setup { server.new.setup ≡ server.old.setup }
     {
         if room.make().is_err() {
             return self.ends(End::Fault(ServeFault::Memory));
         }
-        let turn = self.take_some(server, room, moment, pace, audit);
-        self.piece.give_back(&mut room.bytes);
+        let turn = self.take_some(server, room, moment, audit);
+        self.chunk.give_back(&mut room.bytes);
         turn
     }
 
-    // The same, where there is room for all replies to be owed, and keeps the room for what came.
+    // The same, where there is room for all replies to be pending, and keeps the room for what came.
     fn take_some<A: AuditOut>(
         &mut self,
         server: &mut Server,
-        room: &mut Room,
+        room: &mut TurnBuffers,
         moment: Moment,
-        pace: Pace,
         audit: &mut A,
     ) -> Turn
-        requires owed { self.old.outlet.owed ≡ [] }
+        requires pending { self.old.channel.pending ≡ [] }
         requires alive { self.old.end ≡ None }
-        requires room { MOST_GATHERED ≤ vec_capacity room.old.owed }
+        requires room { MOST_GATHERED ≤ vec_capacity room.old.pending }
         ensures turns { Turns L.outgoing L.incoming moment self.old self.new server.old server.new
             (device (A.contents audit.old) (A.contents audit.new)) }
-        ensures tells { Tells result self.new }
+        ensures reports { Reports result self.new }
+        ensures held { result ≡ Turn.Held → IsHeld moment self.new server.new (A.full audit.new) }
         ensures setup { server.new.setup ≡ server.old.setup }
     {
-        if self.piece.is_empty() {
+        if self.chunk.is_empty() {
             return match self.receive(&mut room.bytes) {
-                Ok(may_be_more) => self.feed(server, room, moment, pace, audit, may_be_more),
+                Ok(may_be_more) => self.feed(server, room, moment, audit, may_be_more),
                 Err(turn) => turn,
             };
         }
-        // What came since these bytes were received may have been told of already.
-        self.feed(server, room, moment, pace, audit, true)
+        // What came since these bytes were received may have been reported already.
+        self.feed(server, room, moment, audit, true)
     }
 
     // Receives what has come, in place of what was taken: whether there may be more, which is so where
     // as much came as was asked for. Where nothing has come, what becomes of the turn.
     fn receive(&mut self, room: &mut Vec<u8>) -> Result<bool, Turn>
-        requires piece { self.old.piece ≡ [] }
-        requires owed { self.old.outlet.owed ≡ [] }
+        requires chunk { self.old.chunk ≡ [] }
+        requires pending { self.old.channel.pending ≡ [] }
         requires alive { self.old.end ≡ None }
         ensures rests { (came : List ℕ) × Rests L.outgoing L.incoming came self.old self.new }
         ensures goes_on { OnOk result (self.new.end ≡ None) }
-        ensures owed { self.new.outlet.owed ≡ [] }
-        ensures tells { IfErr result (λ turn. Tells turn self.new) }
+        ensures pending { self.new.channel.pending ≡ [] }
+        ensures reports { IfErr result (λ turn. Reports turn self.new) }
+        ensures held { IfErr result (λ turn. turn ≢ Turn.Held) }
     {
-        if self.piece.borrow_room(room).is_err() {
+        if self.chunk.borrow_room(room).is_err() {
             return Err(self.ends(End::Fault(ServeFault::Memory)));
         }
-        let most = self.intake.next(self.connection.begun());
-        match self.outlet.receive(&mut self.piece, most) {
+        let most = self.receive_size.next(self.connection.begun());
+        match self.channel.receive(&mut self.chunk, most) {
             Ok(Came::Bytes(n)) => Ok(n == most),
             Ok(Came::Nothing) => Err(Turn::Idle),
             Ok(Came::End) => Err(self.ends(End::Closed)),
@@ -218,63 +213,66 @@ impl<L: Link> Client<L> {
     }
 
     // Feeds the connection with what has come, and sends the replies. There may be more to receive
-    // behind it, of which nothing will be told.
+    // after it, of which the system will report nothing.
     fn feed<A: AuditOut>(
         &mut self,
         server: &mut Server,
-        room: &mut Room,
+        room: &mut TurnBuffers,
         moment: Moment,
-        pace: Pace,
         audit: &mut A,
         may_be_more: bool,
     ) -> Turn
-        requires owed { self.old.outlet.owed ≡ [] }
+        requires pending { self.old.channel.pending ≡ [] }
         requires alive { self.old.end ≡ None }
-        requires room { MOST_GATHERED ≤ vec_capacity room.old.owed }
+        requires room { MOST_GATHERED ≤ vec_capacity room.old.pending }
         ensures takes { Takes L.outgoing L.incoming moment [] self.old self.new server.old server.new
             (device (A.contents audit.old) (A.contents audit.new)) }
-        ensures tells { Tells result self.new }
+        ensures reports { Reports result self.new }
+        ensures held { result ≡ Turn.Held → IsHeld moment self.new server.new (A.full audit.new) }
         ensures setup { server.new.setup ≡ server.old.setup }
     {
-        self.answer(server, &mut room.reply, moment, pace, audit);
-        let sent = self.outlet.send(room.reply.gathered(), &mut room.owed);
-        self.outcome(sent.is_ok(), may_be_more)
+        let stop = self.answer(server, &mut room.reply, moment, audit);
+        let sent = self.channel.send(room.reply.gathered(), &mut room.pending);
+        self.outcome(sent.is_ok(), may_be_more, stop)
     }
 
-    // What became of a turn behind which the link is whole or broken, and which took bytes behind
-    // which there may be more.
-    fn outcome(&mut self, is_whole: bool, may_be_more: bool) -> Turn
-        requires { is_whole ≡ false → self.old.outlet.failed ≡ true }
+    // What became of a turn after which the link is whole or broken, and which took bytes, up to where it
+    // stopped, after which there may be more.
+    fn outcome(&mut self, is_whole: bool, may_be_more: bool, stop: Stop) -> Turn
+        requires { is_whole ≡ false → self.old.channel.failed ≡ true }
         ensures connection { self.new.connection ≡ self.old.connection }
-        ensures outlet { self.new.outlet ≡ self.old.outlet }
-        ensures piece { self.new.piece ≡ self.old.piece }
+        ensures channel { self.new.channel ≡ self.old.channel }
+        ensures chunk { self.new.chunk ≡ self.old.chunk }
         ensures calls { self.new.calls ≡ self.old.calls }
-        ensures tells { Tells result self.new }
+        ensures reports { Reports result self.new }
+        ensures held { result ≡ Turn.Held → stop ≢ Stop.Done }
     {
         if !is_whole {
             return self.ends(End::Fault(ServeFault::WriteFault));
         }
-        if !self.outlet.is_settled() {
+        if !self.channel.is_settled() {
             return Turn::Owing;
         }
         match self.end {
             Some(end) => Turn::Ended(end),
-            None if self.piece.is_empty() && !may_be_more => Turn::Drained,
+            None if stop != Stop::Done => Turn::Held,
+            None if self.chunk.is_empty() && !may_be_more => Turn::Drained,
             None => Turn::Fed,
         }
     }
 
-    // Feeds the connection with what has come. The replies gather in the buffer in which they are
-    // written. Where they have no room there, they end it for want of memory.
+    // Feeds the connection with what has come, and answers why no more of it was taken. The replies
+    // gather in the buffer in which they are written. Where they have no room there, they end it for
+    // want of memory.
     fn answer<A: AuditOut>(
         &mut self,
         server: &mut Server,
         reply: &mut ReplyBuf,
         moment: Moment,
-        pace: Pace,
         audit: &mut A,
-    )
+    ) -> Stop
         requires alive { self.old.end ≡ None }
+        ensures waits { Waits result (A.full audit.new) (origin_of self.new moment) self.new.chunk server.new self.new.connection.progress }
         ensures gathers { Gathers moment self.old self.new server.old server.new
             (device (A.contents audit.old) (A.contents audit.new)) reply.new }
         ensures most { reply.new.most ≡ reply.old.most }
@@ -282,19 +280,21 @@ impl<L: Link> Client<L> {
     {
         reply.clear_all();
         let mut gathering = Gathering;
-        let piece = self.piece.bytes();
-        let (most, out) = (Some(most_owed(pace)), &mut gathering);
+        let chunk = self.chunk.bytes();
+        let (most, out) = (Some(MOST_PENDING), &mut gathering);
         match self
             .connection
-            .feed(server, reply, moment, piece, most, out, audit)
+            .feed(server, reply, moment, chunk, most, out, audit)
         {
             Ok(taken) => {
-                self.piece.take(taken.used);
+                self.chunk.take(taken.used);
                 self.calls = self.calls.saturating_add(taken.records);
+                taken.stop
             }
             Err(fault) => {
-                self.piece.clear();
+                self.chunk.clear();
                 self.end = Some(End::Fault(fault_of(fault)));
+                Stop::Done
             }
         }
     }
@@ -304,20 +304,12 @@ impl<L: Link> Client<L> {
         ensures turn { result ≡ Turn.Ended end }
         ensures end { self.new.end ≡ Some end }
         ensures connection { self.new.connection ≡ self.old.connection }
-        ensures outlet { self.new.outlet ≡ self.old.outlet }
-        ensures piece { self.new.piece ≡ self.old.piece }
+        ensures channel { self.new.channel ≡ self.old.channel }
+        ensures chunk { self.new.chunk ≡ self.old.chunk }
         ensures calls { self.new.calls ≡ self.old.calls }
     {
         self.end = Some(end);
         Turn::Ended(end)
-    }
-}
-
-// Behind how many bytes of replies no more records are taken.
-fn most_owed(pace: Pace) -> usize {
-    match pace {
-        Pace::Many => MOST_OWED,
-        Pace::One => 1,
     }
 }
 

@@ -1,10 +1,10 @@
 //! Clients of a server, each on a link that never waits, served in turns.
 #![tactic(auto)]
 
+pub mod buffer;
+pub mod channel;
 pub mod client;
-pub mod intake;
 pub mod laws;
-pub mod outlet;
-pub mod room;
+pub mod receive_size;
 pub mod turn;
-pub mod window;
+pub mod turn_buffers;

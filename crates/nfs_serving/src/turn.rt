@@ -10,26 +10,20 @@ pub enum End {
     Fault(ServeFault),
 }
 
-/// How much of what has come a turn takes.
-#[derive(Clone, Copy, Debug, PartialEq, Eq)]
-pub enum Pace {
-    /// As much as there is room for the replies to.
-    Many,
-    /// One record.
-    One,
-}
-
 /// What became of a turn.
 #[derive(Clone, Copy, Debug, PartialEq, Eq)]
 pub enum Turn {
-    /// Bytes were taken, and more may be there, of which nothing will be told.
+    /// Bytes were taken, and more may be there, of which the system will report nothing.
     Fed,
     /// All that had come was received in this turn, and taken.
     Drained,
     /// Nothing has come.
     Idle,
-    /// The link doesn't take all that is owed.
+    /// The next record is a call that fails a rule, and the log is full; or it is full, and there is no
+    /// memory to look at that record. The record is kept for another turn.
+    Held,
+    /// The link doesn't take all that is pending.
     Owing,
-    /// The connection has ended: nothing is owed any more, or the link is broken.
+    /// The connection has ended: nothing is pending any more, or the link is broken.
     Ended(End),
 }

@@ -1,4 +1,4 @@
--- The lines that tell how a connection ended, by its number and that of its calls.
+-- The lines that report how a connection ended, by its number and that of its calls.
 use Rattle.std.specs.Prelude.{ℕ, List, ◌++◌, codes, decimal}
 use Rattle.nfs_server.specs.FaultWords.{word_of_stream}
 use Rattle.nfs_serving.specs.declared.turn.End.{End}

@@ -105,7 +105,7 @@ impl Clients {
         self.members.try_remove(key)
     }
 
-    /// Has the client of a key wait for a turn behind the others, if it doesn't wait yet.
+    /// Has the client of a key wait for a turn after the others, if it doesn't wait yet.
     pub fn make_ready(&mut self, key: usize)
         ensures waits { is_waiting self.old key ≡ true → self.new.ready.items ≡ self.old.ready.items }
         ensures joins { is_waiting self.old key ≡ false → deque_len self.old.ready < deque_capacity self.old.ready

@@ -26,7 +26,7 @@ impl<'a, R: Clock + Log> SystemClock<'a, R> {
 }
 
 impl<R: Clock + Log> Moments for SystemClock<'_, R> {
-    ghost tells = { λ old moment new. Unit {0} };
+    ghost reports = { λ old moment new. Unit {0} };
 
     fn now(&mut self) -> Moment {
         match time_of(self.rt) {

@@ -1,4 +1,4 @@
-//! The tokens by which the system tells of clients and of the listener.
+//! The tokens by which the system reports clients and of the listener.
 ghost use Rattle.std.specs.Prelude.{◌≡◌, ◌+◌, ◌<◌, ◌^◌, Some};
 ghost use Rattle.nfs_tcp.specs.Tokens.{client_of};
 

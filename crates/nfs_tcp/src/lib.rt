@@ -6,7 +6,7 @@ pub mod clock;
 mod keys;
 pub mod limits;
 pub mod line_file;
-mod lines_told;
+mod lines_reported;
 mod refused_peers;
 pub mod report;
 pub mod saver;

@@ -59,7 +59,7 @@ impl<W: Write + Drop> LineFile<W> {
             return self.ready;
         }
         let mut source = SourceFd(&self.fd);
-        // Registered again, it is told of even where that was told before.
+        // Registered again, its readiness is reported even where that was reported before.
         let asked = poll
             .registry()
             .reregister(&mut source, FILE, Interest::WRITABLE);

@@ -1,4 +1,4 @@
-//! The lines that tell how a connection ended.
+//! The lines that report how a connection ended.
 ghost use Rattle.std.specs.Prelude.{◌≡◌, ◌+◌, ◌≤◌, ◌++◌, [], codes};
 ghost use Rattle.arrayvec.specs.ArrayVec.{array_vec_len};
 ghost use Rattle.nfs_server.specs.FaultWords.{word_of_stream};

@@ -3,7 +3,7 @@ use crate::clients::{Clients, Hold, Member};
 use crate::clock::SystemClock;
 use crate::keys::{LISTENER, key_of, token_of};
 use crate::limits::Limits;
-use crate::lines_told::LinesTold;
+use crate::lines_reported::LinesReported;
 use crate::refused_peers::RefusedPeers;
 use crate::report::end_line;
 use crate::saver::Saver;
@@ -15,12 +15,13 @@ use nfs_attrs::moment::Moment;
 use nfs_exports::addr::Addr;
 use nfs_lines::line_out::LineOut;
 use nfs_lines::lines::Lines;
+use nfs_server::audit_out::AuditOut;
 use nfs_server::moments::Moments;
 use nfs_server::serve_fault::ServeFault;
 use nfs_server::server::Server;
 use nfs_serving::client::Client;
-use nfs_serving::room::Room;
-use nfs_serving::turn::{End, Pace, Turn};
+use nfs_serving::turn::{End, Turn};
+use nfs_serving::turn_buffers::TurnBuffers;
 use std::alloc::{AllocError, Global};
 use std::io::{self, ErrorKind};
 use std::net::{Net, SocketAddr};
@@ -33,7 +34,7 @@ const EVENTS: usize = 1024;
 // How long a connection that can't be accepted waits for another try, in milliseconds.
 const RETRY_MILLIS: u64 = 100;
 
-// How long lines and clients wait for another try where the system doesn't tell, in milliseconds.
+// How long lines and clients wait for another try where the system reports nothing, in milliseconds.
 const LINES_MILLIS: u64 = 10;
 
 // How often lines that are left at the end are tried: for five seconds.
@@ -79,7 +80,7 @@ impl From<AllocError> for ServiceFault {
 // Why a connection is closed at once.
 #[derive(Debug, Drop, Error)]
 enum Refusal {
-    #[error("it is no address of IPv4")]
+    #[error("it is not an IPv4 address")]
     Address,
     #[error("there is no memory")]
     Memory,
@@ -123,7 +124,7 @@ pub struct Service<'a, R> {
     listener: Option<TcpListener>,
     waiting: Waiting,
     clients: Clients,
-    room: Room,
+    room: TurnBuffers,
     accepted: u64,
     ended: u64,
     // When silent clients were last looked for, in seconds since the service began.
@@ -131,7 +132,7 @@ pub struct Service<'a, R> {
     refused_peers: RefusedPeers,
     // Whether there may be clients that get no turn for now.
     has_held: bool,
-    lines_told: LinesTold,
+    lines_reported: LinesReported,
     // Whether a record may have come since the tree was copied, and when that was.
     is_touched: bool,
     saved: u64,
@@ -161,13 +162,13 @@ impl<'a, R: Net + Clock + Log> Service<'a, R> {
             listener: Some(listener),
             waiting: Waiting::None,
             clients: Clients::new(alloc, limits.clients)?,
-            room: Room::new(alloc)?,
+            room: TurnBuffers::new(alloc)?,
             accepted: 0,
             ended: 0,
             looked: 0,
             refused_peers: RefusedPeers::new(alloc),
             has_held: false,
-            lines_told: LinesTold::nothing(),
+            lines_reported: LinesReported::nothing(),
             is_touched: false,
             saved: 0,
         })
@@ -203,7 +204,7 @@ impl<'a, R: Net + Clock + Log> Service<'a, R> {
     ) {
         lines.pass_on();
         let seconds = self.seconds();
-        self.lines_told.tell(self.rt, lines, seconds);
+        self.lines_reported.report(self.rt, lines, seconds);
         if let Some(every) = self.limits.save_every
             && self.is_touched
             && seconds.saturating_sub(self.saved) >= every
@@ -268,7 +269,7 @@ impl<'a, R: Net + Clock + Log> Service<'a, R> {
         }
     }
 
-    // Has the clients of which something is told wait for a turn.
+    // Has the clients that the system reports ready wait for a turn.
     fn note_events(&mut self) {
         if self.waiting == Waiting::Refused {
             self.waiting = Waiting::Some;
@@ -353,7 +354,7 @@ impl<'a, R: Net + Clock + Log> Service<'a, R> {
     // Makes the other end of a connection a client.
     fn admit(&mut self, stream: TcpStream, peer: SocketAddr) {
         if self.clients.len() >= self.limits.clients {
-            warn!(self.rt; "{peer}: closed, since there are {} clients", self.limits.clients);
+            warn!(self.rt; "{peer}: closed: there are already {} clients", self.limits.clients);
             return;
         }
         match self.join(stream, peer) {
@@ -429,13 +430,12 @@ impl<'a, R: Net + Clock + Log> Service<'a, R> {
     fn turn<A: LineOut, C: LineOut>(&mut self, key: usize, lines: &mut Lines<'_, A, C>) {
         let moment = self.clock.now();
         let seconds = self.seconds();
-        let (pace, denied) = (pace_of(lines.is_full()), lines.denied());
         let Some(member) = self.clients.get_mut(key) else {
             return;
         };
         let turn = member
             .client
-            .turn(self.server, &mut self.room, moment, pace, lines);
+            .turn(self.server, &mut self.room, moment, lines);
         let is_closing = member.is_closing;
         if turn != Turn::Idle {
             member.heard = seconds;
@@ -444,19 +444,18 @@ impl<'a, R: Net + Clock + Log> Service<'a, R> {
         if let Turn::Ended(end) = turn {
             return self.end(key, end, moment, lines);
         }
-        if lines.is_full() && lines.denied() != denied {
-            self.has_held = true;
-            member.hold = Some(Hold::Lines);
-            return;
-        }
         match turn {
+            Turn::Held => {
+                self.has_held = true;
+                member.hold = Some(Hold::Lines);
+            }
             Turn::Fed => self.clients.make_ready(key),
             Turn::Drained if is_closing => self.clients.make_ready(key),
             _ => {}
         }
     }
 
-    // Takes a client away, tells how its connection ended, and has one that waits accepted.
+    // Removes a client, reports how its connection ended, and has one that waits accepted.
     fn end<A: LineOut, C: LineOut>(
         &mut self,
         key: usize,
@@ -483,7 +482,7 @@ impl<'a, R: Net + Clock + Log> Service<'a, R> {
             }
         }
         let line = end_line(member.number, member.client.calls(), end);
-        lines.tell(moment, line.as_slice());
+        lines.report(moment, line.as_slice());
     }
 
     // Ends the connections on which nothing came for too long. It looks for them once a second.
@@ -506,12 +505,6 @@ impl<'a, R: Net + Clock + Log> Service<'a, R> {
             }
         }
     }
-}
-
-// How much a turn takes. Where lines of denied calls have no room, one record at a time, so that the
-// client waits behind the first that is denied.
-fn pace_of(is_full: bool) -> Pace {
-    if is_full { Pace::One } else { Pace::Many }
 }
 
 // How a connection ended. One that its peer has reset with nothing on its way has ended as one that it

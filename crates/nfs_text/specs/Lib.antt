@@ -1,4 +1,4 @@
-pub mod Pieces
+pub mod Chunks
 pub mod Lines
 pub mod Words
 pub mod Numbers

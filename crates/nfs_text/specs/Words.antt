@@ -1,16 +1,16 @@
--- The words of a line are parted by one or more spaces.
+-- The words of a line are separated by one or more spaces.
 use Rattle.std.specs.Prelude.{ℕ, Bool, List, length, nat_lt}
 use Rattle.std.specs.List.{filter}
-use Rattle.nfs_text.specs.Pieces.{pieces, pieces_left}
+use Rattle.nfs_text.specs.Chunks.{chunks, chunks_left}
 use Rattle.nfs_text.specs.declared.words.Words.{Words}
 
 abbrev pub is_word : List ℕ → Bool
-is_word piece = nat_lt 0 (length piece)
+is_word chunk = nat_lt 0 (length chunk)
 
--- the pieces between spaces in which something stands
+-- the chunks between spaces in which something stands
 abbrev pub words : List ℕ → List (List ℕ)
-words text = filter is_word (pieces 32 text)
+words text = filter is_word (chunks 32 text)
 
 -- those that are to come
 abbrev pub words_left : Words → List (List ℕ)
-words_left it = filter is_word (pieces_left it.pieces)
+words_left it = filter is_word (chunks_left it.chunks)

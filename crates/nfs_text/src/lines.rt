@@ -2,11 +2,11 @@
 ghost use Rattle.std.specs.Prelude.{◌≡◌, option_map};
 ghost use Rattle.std.specs.Iterator.{YieldsFirstRef, item_count};
 ghost use Rattle.nfs_text.specs.Lines.{lines, lines_left};
-ghost use Rattle.nfs_text.specs.Pieces.{cut};
+ghost use Rattle.nfs_text.specs.Chunks.{cut};
 
 use memchr::memchr;
 
-// What stands before the first LF, and what stands behind it. `None` behind a text that has none.
+// What stands before the first LF, and what stands after it. `None` after a text that has none.
 #[inline(always)]
 fn cut_line(text: &[u8]) -> (&[u8], Option<&[u8]>)
     ensures { (result.0.now, option_map (λ rest. rest.now) result.1) ≡ cut 10 text.now }

@@ -3,12 +3,12 @@ ghost use Rattle.std.specs.Prelude.{◌≡◌};
 ghost use Rattle.std.specs.Iterator.{YieldsFirstRef, item_count};
 ghost use Rattle.nfs_text.specs.Words.{words, words_left};
 
-use crate::pieces::Pieces;
+use crate::chunks::Chunks;
 
 /// Gives the words of a line in turn: what stands between spaces, where something does.
 #[derive(Clone, Copy)]
 pub struct Words<'a> {
-    pieces: Pieces<'a>,
+    chunks: Chunks<'a>,
 }
 
 impl<'a> Words<'a> {
@@ -17,7 +17,7 @@ impl<'a> Words<'a> {
         ensures { words_left result ≡ words line.entry.now }
     {
         Words {
-            pieces: Pieces::new(line, b' '),
+            chunks: Chunks::new(line, b' '),
         }
     }
 }
@@ -30,9 +30,9 @@ impl<'a> Iterator for Words<'a> {
     ghost remaining = { item_count words_left };
 
     fn next(&mut self) -> Option<&'a [u8]> {
-        while let Some(piece) = self.pieces.next() {
-            if !piece.is_empty() {
-                return Some(piece);
+        while let Some(chunk) = self.chunks.next() {
+            if !chunk.is_empty() {
+                return Some(chunk);
             }
         }
         None

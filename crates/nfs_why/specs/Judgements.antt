@@ -1,7 +1,7 @@
 -- Judgements of calls.
 use Rattle.std.specs.Prelude.{◌≡◌, ◌⊎◌, ℕ, List, Option, Some, None, map}
 use Rattle.nfs_args.specs.declared.args.NfsArgs.{NfsArgs}
-use Rattle.nfs_exports.specs.declared.table.Export.{Export}
+use Rattle.nfs_exports.specs.declared.export_table.Export.{Export}
 use Rattle.nfs_inodes.specs.Tree.{Tree}
 use Rattle.nfs_rules.specs.Subjects.{Caller, Subject, subject_at}
 use Rattle.nfs_rules.specs.Table.{rules_of}

@@ -6,13 +6,13 @@ use nfs_args::byte_range::ByteRange;
 use nfs_args::create::{Create, CreateHow};
 use nfs_args::dir_op::DirOp;
 use nfs_args::link::Link;
-use nfs_args::make_dir::MakeDir;
-use nfs_args::make_node::{MakeNode, NodeData};
+use nfs_args::mkdir::Mkdir;
+use nfs_args::mknod::{Mknod, NodeData};
 use nfs_args::opaque::Opaque;
-use nfs_args::read_dir::{ReadDir, ReadDirPlus};
+use nfs_args::readdir::{Readdir, Readdirplus};
 use nfs_args::rename::Rename;
-use nfs_args::set_attr::SetAttr;
-use nfs_args::sym_link::SymLink;
+use nfs_args::setattr::Setattr;
+use nfs_args::symlink::Symlink;
 use nfs_args::write::{Stability, Write};
 use nfs_ask::operation::Operation;
 use nfs_ask::user::id;
@@ -32,7 +32,7 @@ pub struct Asked<'a> {
     pub name: &'a [u8],
     /// The name in the second.
     pub new_name: &'a [u8],
-    /// The word behind the path.
+    /// The word after the path.
     pub second: &'a [u8],
 }
 
@@ -67,21 +67,21 @@ impl<'a> Asked<'a> {
                 place: self.place(),
                 how: CreateHow::Unchecked(NOTHING),
             }),
-            Operation::MakeDir => NfsArgs::MakeDir(MakeDir {
+            Operation::Mkdir => NfsArgs::Mkdir(Mkdir {
                 place: self.place(),
                 attributes: NOTHING,
             }),
-            Operation::SymLink => NfsArgs::SymLink(SymLink {
+            Operation::Symlink => NfsArgs::Symlink(Symlink {
                 place: self.place(),
                 attributes: NOTHING,
                 path: Opaque::new(self.second),
             }),
-            Operation::MakeNode => NfsArgs::MakeNode(MakeNode {
+            Operation::Mknod => NfsArgs::Mknod(Mknod {
                 place: self.place(),
                 node: NodeData::Fifo(NOTHING),
             }),
             Operation::Remove => NfsArgs::Remove(self.place()),
-            Operation::RemoveDir => NfsArgs::RemoveDir(self.place()),
+            Operation::Rmdir => NfsArgs::Rmdir(self.place()),
             Operation::Rename => NfsArgs::Rename(Rename {
                 from: self.place(),
                 to: self.new_place(),
@@ -102,7 +102,7 @@ impl<'a> Asked<'a> {
                 file,
                 rights: ALL_RIGHTS,
             }),
-            Operation::ReadLink => NfsArgs::ReadLink(file),
+            Operation::Readlink => NfsArgs::Readlink(file),
             Operation::Read => NfsArgs::Read(ByteRange {
                 file,
                 offset: 0,
@@ -119,24 +119,24 @@ impl<'a> Asked<'a> {
                 offset: 0,
                 count: 0,
             }),
-            Operation::List => NfsArgs::ReadDir(ReadDir {
+            Operation::List => NfsArgs::Readdir(Readdir {
                 dir: file,
                 cookie: 0,
                 verifier: Opaque::new(&FIRST_PAGE),
                 count: PAGE_BYTES,
             }),
-            Operation::ListPlus => NfsArgs::ReadDirPlus(ReadDirPlus {
+            Operation::ListPlus => NfsArgs::Readdirplus(Readdirplus {
                 dir: file,
                 cookie: 0,
                 verifier: Opaque::new(&FIRST_PAGE),
                 dircount: PAGE_BYTES,
                 maxcount: PAGE_BYTES,
             }),
-            Operation::Room => NfsArgs::FsStat(file),
-            Operation::Limits => NfsArgs::FsInfo(file),
-            Operation::PathLimits => NfsArgs::PathConf(file),
-            Operation::Stat => NfsArgs::GetAttr(file),
-            _ => NfsArgs::SetAttr(SetAttr {
+            Operation::Room => NfsArgs::Fsstat(file),
+            Operation::Limits => NfsArgs::Fsinfo(file),
+            Operation::PathLimits => NfsArgs::Pathconf(file),
+            Operation::Stat => NfsArgs::Getattr(file),
+            _ => NfsArgs::Setattr(Setattr {
                 file,
                 attributes: self.attributes(operation),
                 guard: None,

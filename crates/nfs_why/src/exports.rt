@@ -1,8 +1,8 @@
 //! Who may reach which volume, as exportfs(8) prints it.
 
 use crate::grant::{put_anonymous, put_network};
+use nfs_exports::export_table::Export;
 use nfs_exports::options::{Options, Squash};
-use nfs_exports::table::Export;
 use nfs_load::loaded::Loaded;
 use nfs_words::text::Text;
 

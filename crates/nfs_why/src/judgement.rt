@@ -3,13 +3,13 @@ ghost use Rattle.std.specs.Prelude.{◌≡◌, IfNone, IfSome};
 ghost use Rattle.nfs_rules.specs.Views.{caller_of};
 ghost use Rattle.nfs_why.specs.Judgements.{IsJudged, IsUnjudged, failure_of};
 
-use crate::order::rules_of;
 use nfs_args::args::NfsArgs;
-use nfs_exports::table::Table;
+use nfs_exports::export_table::ExportTable;
 use nfs_handles::number::Number;
 use nfs_inodes::tree::Tree;
 use nfs_rules::caller::Caller;
 use nfs_rules::exported_file::ExportedFile;
+use nfs_rules::order::rules_of;
 use nfs_rules::rule::Rule;
 use nfs_rules::verdict::{first_failure, handle_failure};
 
@@ -38,7 +38,7 @@ impl Judgement {
 /// one of them names no file that the caller may see, though the call's own handles do.
 pub fn judge(
     tree: &Tree,
-    table: &Table,
+    table: &ExportTable,
     caller: Caller<'_>,
     handles: (&[u8], &[u8]),
     args: &NfsArgs<'_>,
@@ -62,7 +62,7 @@ pub fn judge(
 /// A file that lives, where its volume is exported to the caller.
 pub(crate) fn exported_file<'a>(
     tree: &'a Tree,
-    table: &'a Table,
+    table: &'a ExportTable,
     caller: Caller<'a>,
     number: Number,
 ) -> Result<ExportedFile<'a>, Rule> {

@@ -1,4 +1,4 @@
-//! Why a call is granted or denied, told rule by rule without doing what it asks for; and who may reach
+//! Why a call is granted or denied, rule by rule without doing what it asks for; and who may reach
 //! which volume.
 #![tactic(auto)]
 
@@ -9,7 +9,6 @@ pub mod judgement;
 mod meaning;
 pub mod mounting;
 mod operation;
-pub mod order;
 mod place;
 pub mod question;
 pub mod why;

@@ -2,16 +2,16 @@
 
 use nfs_handles::number::Number;
 use nfs_inodes::tree::Tree;
-use nfs_text::pieces::Pieces;
+use nfs_text::chunks::Chunks;
 
-/// A volume, and the rest of a path that goes on behind the volume's own.
+/// A volume, and the rest of a path that goes on after the volume's own.
 #[derive(Clone, Copy)]
 pub struct InVolume<'a> {
     /// The place of the volume, from 0.
     pub volume: usize,
     /// Its root.
     pub root: Number,
-    /// What stands behind the volume's path.
+    /// What stands after the volume's path.
     pub rest: &'a [u8],
 }
 
@@ -20,7 +20,7 @@ pub(crate) fn volume_holding<'a>(tree: &Tree, path: &'a [u8]) -> Option<InVolume
     let mut found: Option<InVolume<'a>> = None;
     for place in 0..tree.volumes() {
         if let Some(volume) = tree.volume(place) {
-            if let Some(rest) = rest_behind(volume.path, path) {
+            if let Some(rest) = rest_after(volume.path, path) {
                 let is_longest = match found {
                     Some(other) => rest.len() < other.rest.len(),
                     None => true,
@@ -38,8 +38,8 @@ pub(crate) fn volume_holding<'a>(tree: &Tree, path: &'a [u8]) -> Option<InVolume
     found
 }
 
-// What stands behind a volume's path in a path that goes on from it.
-fn rest_behind<'a>(volume: &[u8], path: &'a [u8]) -> Option<&'a [u8]> {
+// What stands after a volume's path in a path that goes on from it.
+fn rest_after<'a>(volume: &[u8], path: &'a [u8]) -> Option<&'a [u8]> {
     if volume == b"/".as_slice() {
         return path.strip_prefix(b"/");
     }
@@ -56,7 +56,7 @@ pub(crate) fn split_last(rest: &[u8]) -> Option<(&[u8], &[u8])> {
     let path = rest.strip_suffix(b"/").unwrap_or(rest);
     let mut start = 0usize;
     let mut end = 0usize;
-    for name in Pieces::new(path, b'/') {
+    for name in Chunks::new(path, b'/') {
         start = end;
         end = end.saturating_add(name.len()).saturating_add(1);
     }

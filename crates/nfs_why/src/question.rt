@@ -19,7 +19,7 @@ pub struct Question<'a> {
     pub operation: Operation,
     /// The path, from a volume's path on.
     pub path: &'a [u8],
-    /// What stands behind it: a further path, what a link is to hold, an owner, a group or a size.
+    /// What stands after it: a further path, what a link is to hold, an owner, a group or a size.
     pub second: Option<&'a [u8]>,
 }
 
@@ -27,19 +27,19 @@ pub struct Question<'a> {
 #[derive(Clone, Copy, Debug, PartialEq, Error)]
 pub enum BadQuestion {
     /// The address.
-    #[error("ADDRESS is no address of IPv4")]
+    #[error("ADDRESS is not an IPv4 address")]
     Address,
     /// The user.
-    #[error("UID[:GID[,GID..]] is a user's number, its group's, and those of at most 16 more groups")]
+    #[error("UID[:GID[,GID..]] has the numbers of a user, of its group, and of at most 16 more groups")]
     User,
     /// The operation.
-    #[error("OPERATION is stat, access, read, write, create, remove, mkdir, rmdir, rename, link, symlink, readlink, mknod, lookup, list, readdirplus, chmod, chown, chgrp, truncate, touch, utime, commit, df, fsinfo, pathconf or mount")]
+    #[error("OPERATION is one of stat, access, read, write, create, remove, mkdir, rmdir, rename, link, symlink, readlink, mknod, lookup, list, readdirplus, chmod, chown, chgrp, truncate, touch, utime, commit, df, fsinfo, pathconf or mount")]
     Operation,
     /// The second path.
-    #[error("this OPERATION needs a second word behind PATH")]
+    #[error("this OPERATION needs a second word after PATH")]
     NoSecond,
     /// An owner, a group or a size.
-    #[error("the second word has to be a number")]
+    #[error("the second word must be a number")]
     Number,
 }
 
@@ -76,7 +76,7 @@ impl<'a> Question<'a> {
     }
 }
 
-// What is wrong with the word behind the path.
+// What is wrong with the word after the path.
 fn second_fault(operation: Operation, second: Option<&[u8]>) -> Option<BadQuestion> {
     let Some(word) = second else {
         return if needs_second(operation) {
@@ -101,7 +101,7 @@ fn needs_second(operation: Operation) -> bool {
     match Shape::of(operation) {
         Shape::TwoNames | Shape::FileAndName => true,
         _ => match operation {
-            Operation::SymLink | Operation::SetOwner | Operation::SetGroup => true,
+            Operation::Symlink | Operation::SetOwner | Operation::SetGroup => true,
             _ => false,
         },
     }

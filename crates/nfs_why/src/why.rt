@@ -5,18 +5,19 @@ use crate::grant::put_grant;
 use crate::judgement::{Judgement, exported_file, judge};
 use crate::meaning::meaning;
 use crate::mounting::mount_failure;
-use crate::operation::{Shape, procedure_of};
-use crate::order::{HANDLE, HANDLES, MOUNT};
+use crate::operation::Shape;
 use crate::place::{split_last, volume_holding};
 use crate::question::Question;
+use nfs_args::procedure::{MountProcedure, Procedure};
 use nfs_ask::operation::Operation;
 use nfs_attrs::fattr::Fattr;
 use nfs_handles::number::Number;
 use nfs_load::loaded::Loaded;
 use nfs_rpc::auth_sys::Cred;
 use nfs_rules::caller::Caller;
+use nfs_rules::order::{MOUNT, rules_of_handle, rules_of_handles};
 use nfs_rules::rule::Rule;
-use nfs_text::pieces::Pieces;
+use nfs_text::chunks::Chunks;
 use nfs_words::text::Text;
 use std::alloc::{AllocError, Global};
 
@@ -58,7 +59,8 @@ fn put_mount(
     if let Some(volume) = loaded.tree.volume_named(question.path) {
         put_grant(out, text, loaded, volume, question.addr);
     }
-    out.put(b"MNT of ");
+    out.put(MountProcedure::Mount.name());
+    out.put(b" of ");
     out.put(question.path);
     out.put(b"\n");
     put_rules(out, &MOUNT, failure);
@@ -106,10 +108,10 @@ impl<'a> Inquiry<'a> {
         self.put_call(question, one, two, second, out);
     }
 
-    // Where a path leads. `None` where it leads nowhere, which is told as the verdict then.
+    // Where a path leads. `None` where it leads nowhere, which is the verdict then.
     fn target<'b>(&self, path: &'b [u8], is_name: bool, out: &mut Text) -> Option<Target<'b>> {
         let Some(place) = volume_holding(&self.loaded.tree, path) else {
-            out.put(b"no volume has a path that this one goes on from\n");
+            out.put(b"this path is inside no exported volume\n");
             put_verdict(out, Some(Rule::MountPath));
             return None;
         };
@@ -123,11 +125,11 @@ impl<'a> Inquiry<'a> {
         Some(Target { file, name })
     }
 
-    // The file to which names lead. Each LOOKUP on the way that is denied is told; `None` where a name is
-    // not there, which is told as the verdict then.
+    // The file to which names lead. Each LOOKUP on the way that is denied is reported; `None` where a name is
+    // not there, which is reported as the verdict then.
     fn walk(&self, root: Number, way: &[u8], out: &mut Text) -> Option<Number> {
         let mut dir = root;
-        for name in Pieces::new(way, b'/') {
+        for name in Chunks::new(way, b'/') {
             if !name.is_empty() {
                 dir = self.step(dir, name, out)?;
             }
@@ -215,13 +217,14 @@ impl<'a> Inquiry<'a> {
         let Some(judgement) = judge(tree, &self.loaded.table, self.caller, handles, &args) else {
             return;
         };
-        out.put(procedure_of(question.operation).as_bytes());
+        let procedure = args.procedure();
+        out.put(procedure.name());
         self.put_target(b" of ", one, out);
         if one.file.0 != two.file.0 || one.name != two.name {
             self.put_target(b", ", two, out);
         }
         out.put(b"\n");
-        put_judgement(out, question.operation, judgement);
+        put_judgement(out, procedure, judgement);
     }
 
     // The file of a handle, and the name in it.
@@ -261,16 +264,17 @@ fn put_claim(out: &mut Text, cred: &Cred) {
     }
 }
 
-fn put_judgement(out: &mut Text, operation: Operation, judgement: Judgement) {
-    let handles: &[Rule] = match Shape::of(operation) {
-        Shape::TwoNames | Shape::FileAndName => &HANDLES,
-        _ => &HANDLE,
+fn put_judgement(out: &mut Text, procedure: Procedure, judgement: Judgement) {
+    let handles = if procedure.row().handles == 2 {
+        rules_of_handles()
+    } else {
+        rules_of_handle()
     };
     match judgement {
         Judgement::Unreached(rule) => {
             put_rules(out, handles, Some(rule));
             out.put(b"  not looked at  the rules of ");
-            out.put(procedure_of(operation).as_bytes());
+            out.put(procedure.name());
             out.put(b"\n");
         }
         Judgement::Judged(rules, failure) => {
@@ -281,7 +285,7 @@ fn put_judgement(out: &mut Text, operation: Operation, judgement: Judgement) {
     put_verdict(out, judgement.failure());
 }
 
-// A line for each rule, in their order: those before the first that fails are passed, and those behind it
+// A line for each rule, in their order: those before the first that fails are passed, and those after it
 // are not looked at. A rule that is looked at twice in a row has one line.
 fn put_rules(out: &mut Text, rules: &[Rule], failure: Option<Rule>) {
     let mut is_decided = false;

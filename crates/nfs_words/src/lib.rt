@@ -1,8 +1,7 @@
-//! Single items in words: numbers, names and handles, times and attributes, statuses and procedures.
+//! Single items in words: numbers, names and handles, times and attributes, and statuses.
 #![tactic(auto)]
 
 pub mod attributes;
 pub mod items;
-pub mod names;
 pub mod status;
 pub mod text;

@@ -1,9 +1,9 @@
--- Readings one after another find spellings one after another.
+-- Readings one after another find encodings one after another.
 use Rattle.std.proofs.Common.{◌≡◌, ℕ, suc, ◌+◌, Bool, true, false, cond, List, [], ◌∷◌, ◌++◌, take, drop, Result, Ok, Err, refl, sym, ap, subst, ◌∙◌, append_assoc, append-nil, arith, inl, inr}
 use Rattle.std.proofs.lemmas.Bool.{cases_lt}
 use Rattle.std.proofs.lemmas.List.{length-take, get_or-drop, get_or-take, get_or_past, append_cancel_right}
 use Rattle.nfs_xdr.specs.declared.fault.XdrFault.{XdrFault}
-use Rattle.nfs_xdr.specs.Spelling.{◌⨾◌, BeginsNone, SpellsOnce}
+use Rattle.nfs_xdr.specs.Encoding.{◌⨾◌, BeginsNone, EncodesOnce}
 use Rattle.nfs_xdr.specs.Reading.{◌>>=◌, Read, Gives, Reads, AreBytes, Finds}
 
 pub AreBytes-drop : (n : ℕ) (bytes : List ℕ) → AreBytes bytes → AreBytes (drop n bytes)
@@ -35,34 +35,34 @@ ok_is x y e = cc
 no_ok : {A E : Type 0} (e : E) (r : Result A E) (x : A) → r ≡ Err e → r ≡ Ok x → ⊥
 no_ok e r x p q = absurd cc
 
--- What is found is spelled once.
-pub once : {A E : Type 0} (Spells : A → List ℕ → Type 0) (read : List ℕ → Result (A × List ℕ) E) → Finds Spells read → SpellsOnce Spells
-once {A} {E} Spells read finds v w a b x y p q e =
+-- What is found is encoded once.
+pub once : {A E : Type 0} (Encodes : A → List ℕ → Type 0) (read : List ℕ → Result (A × List ℕ) E) → Finds Encodes read → EncodesOnce Encodes
+once {A} {E} Encodes read finds v w a b x y p q e =
     let one : done {E = E} (v, x) ≡ done (w, y) = sym (finds.again v a x p) ∙ ap read e ∙ finds.again w b y q in
     let pair : (v, x) ≡ (w, y) = ok_is {E = E} (v, x) (w, y) one in
     let rests : x ≡ y = ap (λ t. t.1) pair in
     (ap (λ t. t.0) pair, append_cancel_right a b y (ap (λ t. a ++ t) (sym rests) ∙ e))
 
--- Where reading finds no value, none is spelled.
-pub finds_none : {A E : Type 0} (Spells : A → List ℕ → Type 0) (read : List ℕ → Result (A × List ℕ) E) (bytes : List ℕ) (e : E) → Finds Spells read → read bytes ≡ Err e → BeginsNone Spells bytes
-finds_none Spells read bytes e finds fault value rest begins =
-    no_ok e (read bytes) (value, rest) fault (ap read begins.bytes_are ∙ finds.again value begins.text rest begins.spelled)
+-- Where reading finds no value, none is encoded.
+pub finds_none : {A E : Type 0} (Encodes : A → List ℕ → Type 0) (read : List ℕ → Result (A × List ℕ) E) (bytes : List ℕ) (e : E) → Finds Encodes read → read bytes ≡ Err e → BeginsNone Encodes bytes
+finds_none Encodes read bytes e finds fault value rest begins =
+    no_ok e (read bytes) (value, rest) fault (ap read begins.bytes_are ∙ finds.again value begins.text rest begins.encoded)
 
--- A reader that gives what reading gives reads what is spelled.
-pub reads_by : {X A : Type 0} (view : X → A) (Spells : A → List ℕ → Type 0) (read : List ℕ → Read A) (old new : List ℕ) (result : Result X XdrFault) → Finds Spells read → AreBytes old → Gives view old new result (read old) → Reads view Spells old new result
-reads_by view Spells read old new (Ok x) finds bytes gives = finds.found old (view x) new bytes gives
-reads_by view Spells read old new (Err e) finds bytes gives = (finds_none Spells read old e finds gives.0, gives.1)
+-- A reader that gives what reading gives reads what is encoded.
+pub reads_by : {X A : Type 0} (view : X → A) (Encodes : A → List ℕ → Type 0) (read : List ℕ → Read A) (old new : List ℕ) (result : Result X XdrFault) → Finds Encodes read → AreBytes old → Gives view old new result (read old) → Reads view Encodes old new result
+reads_by view Encodes read old new (Ok x) finds bytes gives = finds.found old (view x) new bytes gives
+reads_by view Encodes read old new (Err e) finds bytes gives = (finds_none Encodes read old e finds gives.0, gives.1)
 
 -- the same relation in other words
 pub finds_as : {A E : Type 0} (S T : A → List ℕ → Type 0) (read : List ℕ → Result (A × List ℕ) E) → ((v : A) (text : List ℕ) → S v text → T v text) → ((v : A) (text : List ℕ) → T v text → S v text) → Finds S read → Finds T read
 finds_as S T read there back finds = record {
   found = λ bytes value rest are e.
       let b = finds.found bytes value rest are e in
-      record { text = b.text; spelled = there value b.text b.spelled; bytes_are = b.bytes_are };
+      record { text = b.text; encoded = there value b.text b.encoded; bytes_are = b.bytes_are };
   again = λ value text rest s. finds.again value text rest (back value text s);
 }
 
--- a spelling of a first value, and then one of what it leads to
+-- an encoding of a first value, and then one of what it leads to
 pub record Then {A B : Type 0} (S : A → List ℕ → Type 0) (T : A → B → List ℕ → Type 0) (value : B) (text : List ℕ) : Type 0 where
   pub first : A
   pub front : List ℕ
@@ -83,7 +83,7 @@ finds_then {A} {B} {E} S T read next first second = record {
       let b = (second one.0.0).found one.0.1 value rest (AreBytes-rest a.text one.0.1 (subst AreBytes a.bytes_are are)) one.2 in
       record {
         text = a.text ++ b.text;
-        spelled = record { first = one.0.0; front = a.text; front_is = a.spelled; back = b.text; back_is = b.spelled; text_is = refl };
+        encoded = record { first = one.0.0; front = a.text; front_is = a.encoded; back = b.text; back_is = b.encoded; text_is = refl };
         bytes_are = a.bytes_are ∙ ap (λ t. a.text ++ t) b.bytes_are ∙ sym (append_assoc a.text b.text rest);
       };
   again = λ value text rest s.
@@ -102,11 +102,11 @@ pub finds_done : {A E : Type 0} (v : A) → Finds {E = E} (IsDone v) (λ bytes. 
 finds_done {A} {E} v = record {
   found = λ bytes value rest are e.
       let pair : (v, bytes) ≡ (value, rest) = ok_is {E = E} (v, bytes) (value, rest) e in
-      record { text = []; spelled = record { value_is = ap (λ t. t.0) pair; text_is = refl }; bytes_are = ap (λ t. t.1) pair };
+      record { text = []; encoded = record { value_is = ap (λ t. t.0) pair; text_is = refl }; bytes_are = ap (λ t. t.1) pair };
   again = λ value text rest s. ap (λ t. done (v, t ++ rest)) s.text_is ∙ ap (λ x. done (x, rest)) s.value_is;
 }
 
--- a fault, and no spelling
+-- a fault, and no encoding
 abbrev pub IsNothing : {A : Type 0} → A → List ℕ → Type 0
 IsNothing value text = ⊥
 
@@ -116,7 +116,7 @@ finds_fault e = record {
   again = λ value text rest s. absurd s;
 }
 
--- one of two readings by a test that looks at no byte, each with its spelling
+-- one of two readings by a test that looks at no byte, each with its encoding
 abbrev pub IsEither : {A : Type 0} → Bool → (A → List ℕ → Type 0) → (A → List ℕ → Type 0) → A → List ℕ → Type 0
 IsEither true S T value text = S value text
 IsEither false S T value text = T value text

@@ -1,4 +1,4 @@
--- Reading an item finds its spelling.
+-- Reading an item finds its encoding.
 use Rattle.std.proofs.Common.{◌≡◌, ℕ, suc, zero, ◌+◌, ◌-◌, ◌^◌, ◌%◌, ◌/◌, ◌<◌, ◌≤◌, Bool, true, false, ltb, eqb, List, [], ◌∷◌, ◌++◌, length, take, drop, Option, Some, None, if◌then◌else◌, Ok, Err, refl, sym, ap, subst, ◌∙◌, append_assoc, append-nil, take-add, length-drop, arith, flat_map, get_or, set, ◌⊎◌, inl, inr}
 use Rattle.std.specs.Int.{Width, w32, w64, byte_len, from_be_bytes, to_be_bytes}
 use Rattle.std.proofs.lemmas.Bool.{cases_lt, ltb-false, ltb-true, le-ltb, eqb-true}
@@ -6,7 +6,7 @@ use Rattle.std.proofs.lemmas.Grind.{flat_map-append}
 use Rattle.std.proofs.lemmas.List.{take_at, drop_at, take-append-drop, take_more, take_more_set, take_rest, length-append, length-take}
 use Rattle.std.proofs.lemmas.Nat.{be_bytes_4, be_bytes_8, from_be_bytes-to_be_bytes_4, from_be_bytes-to_be_bytes_8}
 use Rattle.nfs_xdr.specs.declared.fault.XdrFault.TheVariants.{Short, TooLong, BadBool}
-use Rattle.nfs_xdr.specs.Spelling.{padding, number_of, fixed_text, opaque_text, numbers_text, IsNumber, IsBoolean, IsEnum, IsOptional, IsFixed, IsOpaque, AreItems, IsArray, Begins}
+use Rattle.nfs_xdr.specs.Encoding.{padding, number_of, fixed_text, opaque_text, numbers_text, IsNumber, IsBoolean, IsEnum, IsOptional, IsFixed, IsOpaque, AreItems, IsArray, Begins}
 use Rattle.nfs_xdr.specs.Reading.{Read, ◌>>=◌, AreBytes, Finds, number_at, boolean_of, boolean_at, numbered, known, enum_at, present_at, optional_at, fixed_at, opaque_at, items_at, array_at}
 use Rattle.nfs_xdr.proofs.Finding.{AreBytes-take, guard_ok, finds_as, Then, finds_then, IsDone, finds_done, IsNothing, finds_fault, IsEither, finds_either, finds_image}
 
@@ -42,7 +42,7 @@ finds_number w wide = record {
       let rest-is : drop (byte_len w) bytes ≡ rest = ap (λ (p : ℕ × List ℕ). p.1) g.1 in
       record {
         text = take (byte_len w) bytes;
-        spelled = record {
+        encoded = record {
           fits = subst (λ k. k < 256 ^ byte_len w) n-is (wide.below (take (byte_len w) bytes) (AreBytes-take (byte_len w) bytes are));
           text_is = sym (wide.back (take (byte_len w) bytes) (omega (arith, length-take (byte_len w) bytes)) (AreBytes-take (byte_len w) bytes are)) ∙ ap (to_be_bytes w) n-is;
         };
@@ -85,7 +85,7 @@ finds_fixed n = record {
       let rest-is : drop (n + padding n) bytes ≡ rest = ap (λ (p : List ℕ × List ℕ). p.1) g.1 in
       record {
         text = take n bytes ++ take (padding n) (drop n bytes);
-        spelled = record { len_is = subst (λ t. length t ≡ n) item-is three.0; pad = take (padding n) (drop n bytes); pad_len = three.1; text_is = ap (λ t. t ++ take (padding n) (drop n bytes)) item-is };
+        encoded = record { len_is = subst (λ t. length t ≡ n) item-is three.0; pad = take (padding n) (drop n bytes); pad_len = three.1; text_is = ap (λ t. t ++ take (padding n) (drop n bytes)) item-is };
         bytes_are = subst (λ t. bytes ≡ (take n bytes ++ take (padding n) (drop n bytes)) ++ t) rest-is three.2;
       };
   again = λ item text rest s.
@@ -93,7 +93,7 @@ finds_fixed n = record {
       subst (λ t. fixed_at n (t ++ rest) ≡ Ok (item, rest)) (sym s.text_is) (rw (three.0, three.1, three.2) refl);
 }
 
--- a length that is above the bound has no spelling
+-- a length that is above the bound has no encoding
 pub finds_counted : (max n : ℕ) → Finds (IsEither (ltb max n) IsNothing (IsFixed n)) (λ bytes. if ltb max n then Err TooLong else fixed_at n bytes)
 finds_counted max n = finds_either (ltb max n) IsNothing (IsFixed n) (λ bytes. Err TooLong) (fixed_at n) (finds_fault TooLong) (finds_fixed n)
 
@@ -103,7 +103,7 @@ of_counted max n false item head body text within number fixed e =
     let len : n ≡ length item = sym fixed.len_is in
     record {
       bound = omega (arith, ltb-false max n within);
-      spelled = record { front = head; first = subst (λ k. IsNumber w32 k head) len number; back = body; second = subst (λ k. IsFixed k item body) len fixed; text_is = e };
+      encoded = record { front = head; first = subst (λ k. IsNumber w32 k head) len number; back = body; second = subst (λ k. IsFixed k item body) len fixed; text_is = e };
     }
 
 to_counted : (max : ℕ) (b : Bool) (item body : List ℕ) → ltb max (length item) ≡ b → length item ≤ max → IsFixed (length item) item body → IsEither b IsNothing (IsFixed (length item)) item body
@@ -116,11 +116,11 @@ finds_opaque max =
     (λ item text s. of_counted max s.first (ltb max s.first) item s.front s.back text refl s.front_is s.back_is s.text_is)
     (λ item text s. record {
       first = length item;
-      front = s.spelled.front;
-      front_is = s.spelled.first;
-      back = s.spelled.back;
-      back_is = to_counted max (ltb max (length item)) item s.spelled.back refl s.bound s.spelled.second;
-      text_is = s.spelled.text_is;
+      front = s.encoded.front;
+      front_is = s.encoded.first;
+      back = s.encoded.back;
+      back_is = to_counted max (ltb max (length item)) item s.encoded.back refl s.bound s.encoded.second;
+      text_is = s.encoded.text_is;
     })
     (finds_then (IsNumber w32) (λ n. IsEither (ltb max n) IsNothing (IsFixed n)) (number_at w32) (λ n bytes. if ltb max n then Err TooLong else fixed_at n bytes) finds_u32 (finds_counted max))
 
@@ -180,9 +180,9 @@ numbered_is number [] n value e = absurd (not_none value e)
 numbered_is number (v ∷ values) n value e = numbered_here number n v value (eqb n (number v)) (numbered number values n) refl e (numbered_is number values n value)
 
 of_enum : {A : Type 0} (number : A → ℕ) (n : ℕ) (value : A) (front back text : List ℕ) → n ≡ number value → IsNumber w32 n front → back ≡ [] → text ≡ front ++ back → IsEnum number value text
-of_enum number n value front back text is spelled none e =
+of_enum number n value front back text is encoded none e =
     let whole : text ≡ front = e ∙ ap (λ t. front ++ t) none ∙ append-nil front in
-    subst (λ t. IsNumber w32 (number value) t) (sym whole) (subst (λ k. IsNumber w32 k front) is spelled)
+    subst (λ t. IsNumber w32 (number value) t) (sym whole) (subst (λ k. IsNumber w32 k front) is encoded)
 
 -- where each value is found by its number
 pub finds_enum : {A : Type 0} (number : A → ℕ) (values : List A) → ((value : A) → numbered number values (number value) ≡ Some value) → Finds (IsEnum number) (enum_at number values)
@@ -221,7 +221,7 @@ finds_optional S read finds =
 abbrev AreCounted : {A : Type 0} → (A → List ℕ → Type 0) → ℕ → List A → List ℕ → Type 0
 AreCounted S n items text = (length items ≡ n) × AreItems S items text
 
--- the first item is this, and the others are spelled by the text
+-- the first item is this, and the others are encoded by the text
 abbrev IsLed : {A : Type 0} → (A → List ℕ → Type 0) → ℕ → A → List A → List ℕ → Type 0
 IsLed {A} S n first items text = (others : List A) × ((first ∷ others) ≡ items) × AreCounted S n others text
 
@@ -233,15 +233,15 @@ to_led : {A : Type 0} (S : A → List ℕ → Type 0) (n : ℕ) (items : List A)
 to_led S n [] text s = absurd cc
 to_led S n (item ∷ items) text s = record { first = item; front = s.1.front; front_is = s.1.first; back = s.1.back; back_is = (items, refl, (omega (arith, s.0), s.1.second)); text_is = s.1.text_is }
 
-none_spelled : {A : Type 0} (S : A → List ℕ → Type 0) (items : List A) (text : List ℕ) → AreCounted S 0 items text → IsDone [] items text
-none_spelled S [] text s = record { value_is = refl; text_is = s.1 }
-none_spelled S (item ∷ items) text s = absurd cc
+none_encoded : {A : Type 0} (S : A → List ℕ → Type 0) (items : List A) (text : List ℕ) → AreCounted S 0 items text → IsDone [] items text
+none_encoded S [] text s = record { value_is = refl; text_is = s.1 }
+none_encoded S (item ∷ items) text s = absurd cc
 
 pub finds_items : {A : Type 0} (S : A → List ℕ → Type 0) (read : List ℕ → Read A) → Finds S read → (n : ℕ) → Finds (AreCounted S n) (items_at read n)
 finds_items S read finds zero =
     finds_as (IsDone []) (AreCounted S 0) (items_at read 0)
     (λ items text s. subst (λ xs. AreCounted S 0 xs text) s.value_is (refl, s.text_is))
-    (none_spelled S)
+    (none_encoded S)
     (finds_done [])
 finds_items S read finds (suc n) =
     finds_as (Then S (IsLed S n)) (AreCounted S (suc n)) (items_at read (suc n))
@@ -254,7 +254,7 @@ of_array : {A : Type 0} (S : A → List ℕ → Type 0) (max n : ℕ) (b : Bool)
 of_array S max n true items front back text over number none e = absurd none
 of_array S max n false items front back text within number s e = record {
   bound = omega (arith, ltb-false max n within, s.0);
-  spelled = record { front = front; first = subst (λ k. IsNumber w32 k front) (sym s.0) number; back = back; second = s.1; text_is = e };
+  encoded = record { front = front; first = subst (λ k. IsNumber w32 k front) (sym s.0) number; back = back; second = s.1; text_is = e };
 }
 
 to_array : {A : Type 0} (S : A → List ℕ → Type 0) (max : ℕ) (b : Bool) (items : List A) (back : List ℕ) → ltb max (length items) ≡ b → length items ≤ max → AreItems S items back → IsEither b IsNothing (AreCounted S (length items)) items back
@@ -268,40 +268,40 @@ finds_array S read max finds =
     (λ items text s. of_array S max s.first (ltb max s.first) items s.front s.back text refl s.front_is s.back_is s.text_is)
     (λ items text s. record {
       first = length items;
-      front = s.spelled.front;
-      front_is = s.spelled.first;
-      back = s.spelled.back;
-      back_is = to_array S max (ltb max (length items)) items s.spelled.back refl s.bound s.spelled.second;
-      text_is = s.spelled.text_is;
+      front = s.encoded.front;
+      front_is = s.encoded.first;
+      back = s.encoded.back;
+      back_is = to_array S max (ltb max (length items)) items s.encoded.back refl s.bound s.encoded.second;
+      text_is = s.encoded.text_is;
     })
     (finds_then (IsNumber w32) (λ n. IsEither (ltb max n) IsNothing (AreCounted S n)) (number_at w32) (λ n bytes. if ltb max n then Err TooLong else items_at read n bytes) finds_u32
     (λ n. finds_either (ltb max n) IsNothing (AreCounted S n) (λ bytes. Err TooLong) (items_at read n) (finds_fault TooLong) (finds_items S read finds n)))
 
 -- ---- opaque data
 
--- what a reader of opaque data of a fixed length cuts off is spelled there
+-- what a reader of opaque data of a fixed length cuts off is encoded there
 pub fixed_found : (n : ℕ) (bytes : List ℕ) → n ≤ length bytes → padding n ≤ length bytes - n → Begins (IsFixed n) (take n bytes) bytes (take (length bytes - (n + padding n)) (drop (n + padding n) bytes))
 fixed_found n bytes item pad =
     let three = cut_in_three n (padding n) bytes (omega arith) in
     record {
       text = take n bytes ++ take (padding n) (drop n bytes);
-      spelled = record { len_is = three.0; pad = take (padding n) (drop n bytes); pad_len = three.1; text_is = refl };
+      encoded = record { len_is = three.0; pad = take (padding n) (drop n bytes); pad_len = three.1; text_is = refl };
       bytes_are = subst (λ t. bytes ≡ (take n bytes ++ take (padding n) (drop n bytes)) ++ t) (sym (take_rest bytes (n + padding n))) three.2;
     }
 
 -- a length within the bound, and then so many bytes, are opaque data
 pub opaque_found : (max n : ℕ) (bytes middle item rest : List ℕ) → Begins (IsNumber w32) n bytes middle → n ≤ max → Begins (IsFixed n) item middle rest → Begins (IsOpaque max) item bytes rest
 opaque_found max n bytes middle item rest number bound fixed =
-    let len : n ≡ length item = sym fixed.spelled.len_is in
+    let len : n ≡ length item = sym fixed.encoded.len_is in
     record {
       text = number.text ++ fixed.text;
-      spelled = record {
+      encoded = record {
         bound = omega arith;
-        spelled = record {
+        encoded = record {
           front = number.text;
-          first = subst (λ k. IsNumber w32 k number.text) len number.spelled;
+          first = subst (λ k. IsNumber w32 k number.text) len number.encoded;
           back = fixed.text;
-          second = subst (λ k. IsFixed k item fixed.text) len fixed.spelled;
+          second = subst (λ k. IsFixed k item fixed.text) len fixed.encoded;
           text_is = refl;
         };
       };
@@ -318,7 +318,7 @@ fixed_written item = record { len_is = refl; pad = take (padding (length item)) 
 pub opaque_written : (max : ℕ) (item : List ℕ) → length item < 2 ^ 32 → length item ≤ max → IsOpaque max item (opaque_text item)
 opaque_written max item counted bound = record {
   bound = bound;
-  spelled = record { front = to_be_bytes w32 (length item); first = record { fits = counted; text_is = refl }; back = fixed_text item; second = fixed_written item; text_is = refl };
+  encoded = record { front = to_be_bytes w32 (length item); first = record { fits = counted; text_is = refl }; back = fixed_text item; second = fixed_written item; text_is = refl };
 }
 
 -- what a loop has after one number more
@@ -348,17 +348,17 @@ halves_text n =
     (cons_same _ _ _ _ (omega arith)
     (cons_same _ _ _ _ (omega arith) refl)))))))
 
-pub spelled_more : (ns : List ℕ) (i : ℕ)
+pub encoded_more : (ns : List ℕ) (i : ℕ)
     → ((j : ℕ) → j < i → IsNumber w32 (get_or ns j 0) (to_be_bytes w32 (get_or ns j 0)))
     → IsNumber w32 (get_or ns i 0) (to_be_bytes w32 (get_or ns i 0))
     → (j : ℕ) → j < i + 1 → IsNumber w32 (get_or ns j 0) (to_be_bytes w32 (get_or ns j 0))
-spelled_more ns i before last j below = spelled_by (cases_lt j i)
+encoded_more ns i before last j below = encoded_by (cases_lt j i)
   where
-    spelled_by : (j < i) ⊎ (i ≤ j) → IsNumber w32 (get_or ns j 0) (to_be_bytes w32 (get_or ns j 0))
-    spelled_by (inl less) = before j less
-    spelled_by (inr more) = subst (λ k. IsNumber w32 (get_or ns k 0) (to_be_bytes w32 (get_or ns k 0))) (omega (arith, below, more)) last
+    encoded_by : (j < i) ⊎ (i ≤ j) → IsNumber w32 (get_or ns j 0) (to_be_bytes w32 (get_or ns j 0))
+    encoded_by (inl less) = before j less
+    encoded_by (inr more) = subst (λ k. IsNumber w32 (get_or ns k 0) (to_be_bytes w32 (get_or ns k 0))) (omega (arith, below, more)) last
 
--- numbers that are each spelled are items one after another
+-- numbers that are each encoded are items one after another
 pub are_numbers : (ns : List ℕ)
     → ((j : ℕ) → j < length ns → IsNumber w32 (get_or ns j 0) (to_be_bytes w32 (get_or ns j 0)))
     → AreItems (IsNumber w32) ns (numbers_text ns)
@@ -375,8 +375,8 @@ pub boolean_written : (b : Bool) → IsBoolean b (to_be_bytes w32 (number_of b))
 boolean_written true = record { fits = omega arith; text_is = refl }
 boolean_written false = record { fits = omega arith; text_is = refl }
 
-pub spelled_at : (ns text : List ℕ) → AreItems (IsNumber w32) ns text → (i : ℕ) → i < length ns
+pub encoded_at : (ns text : List ℕ) → AreItems (IsNumber w32) ns text → (i : ℕ) → i < length ns
     → IsNumber w32 (get_or ns i 0) (to_be_bytes w32 (get_or ns i 0))
-spelled_at [] text are i below = absurd (omega (arith, below))
-spelled_at (n ∷ ns) text are zero below = record { fits = are.first.fits; text_is = refl }
-spelled_at (n ∷ ns) text are (suc i) below = spelled_at ns are.back are.second i (omega (arith, below))
+encoded_at [] text are i below = absurd (omega (arith, below))
+encoded_at (n ∷ ns) text are zero below = record { fits = are.first.fits; text_is = refl }
+encoded_at (n ∷ ns) text are (suc i) below = encoded_at ns are.back are.second i (omega (arith, below))

@@ -1,10 +1,10 @@
--- What is written, one item after another, is a spelling.
+-- What is written, one item after another, is an encoding.
 use Rattle.std.proofs.Common.{◌≡◌, ℕ, ◌^◌, ◌<◌, ◌≤◌, ◌+◌, ◌-◌, List, [], ◌++◌, length, take, drop, Option, Some, None, refl, ap, sym, subst, ◌∙◌, append_assoc, arith}
 use Rattle.std.proofs.lemmas.Grind.{common_steps}
 use Rattle.std.specs.Int.{Width, w32, byte_len, to_be_bytes}
 use Rattle.std.proofs.lemmas.List.{length-append, drop-take}
 use Rattle.std.proofs.Math.Seq.{take-append-add}
-use Rattle.nfs_xdr.specs.Spelling.{IsNumber, IsOptional, ◌⨾◌, optional_text}
+use Rattle.nfs_xdr.specs.Encoding.{IsNumber, IsOptional, ◌⨾◌, optional_text}
 use Rattle.nfs_xdr.specs.Written.{Written, Appends}
 
 -- two texts, one after the other

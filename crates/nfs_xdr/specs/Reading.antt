@@ -4,7 +4,7 @@ use Rattle.std.specs.Prelude.{Result, Ok, Err, if◌then◌else◌, nat_lt, nat_
 use Rattle.std.specs.Int.{Width, w32, byte_len, from_be_bytes}
 use Rattle.nfs_xdr.specs.declared.fault.XdrFault.{XdrFault}
 use Rattle.nfs_xdr.specs.declared.fault.XdrFault.TheVariants.{Short, TooLong, BadBool, BadEnum}
-use Rattle.nfs_xdr.specs.Spelling.{padding, Begins, BeginsNone}
+use Rattle.nfs_xdr.specs.Encoding.{padding, Begins, BeginsNone}
 
 -- a value and the bytes after it, or a fault
 abbrev pub Read : Type 0 → Type 0
@@ -82,16 +82,16 @@ abbrev pub Gives : {X A : Type 0} → (X → A) → List ℕ → List ℕ → Re
 Gives view old new (Ok x) read = read ≡ Ok (view x, new)
 Gives view old new (Err e) read = (read ≡ Err e) × (new ≡ old)
 
--- A reader answered a value that is spelled at the front, with the bytes after it; or no value is spelled there, and the bytes are as they were.
+-- A reader answered a value that is encoded at the front, with the bytes after it; or no value is encoded there, and the bytes are as they were.
 abbrev pub Reads : {X A : Type 0} → (X → A) → (A → List ℕ → Type 0) → List ℕ → List ℕ → Result X XdrFault → Type 0
-Reads view Spells old new (Ok x) = Begins Spells (view x) old new
-Reads view Spells old new (Err e) = BeginsNone Spells old × (new ≡ old)
+Reads view Encodes old new (Ok x) = Begins Encodes (view x) old new
+Reads view Encodes old new (Err e) = BeginsNone Encodes old × (new ≡ old)
 
 -- a list of numbers that are bytes
 abbrev pub AreBytes : List ℕ → Type 0
 AreBytes bytes = (i : ℕ) → slice_index bytes i < 256
 
--- Reading finds what is spelled, all of it, and nothing else.
-pub record Finds {A E : Type 0} (Spells : A → List ℕ → Type 0) (read : List ℕ → Result (A × List ℕ) E) : Type 0 where
-  pub found : (bytes : List ℕ) (value : A) (rest : List ℕ) → AreBytes bytes → read bytes ≡ Ok (value, rest) → Begins Spells value bytes rest
-  pub again : (value : A) (text rest : List ℕ) → Spells value text → read (text ++ rest) ≡ Ok (value, rest)
+-- Reading finds what is encoded, all of it, and nothing else.
+pub record Finds {A E : Type 0} (Encodes : A → List ℕ → Type 0) (read : List ℕ → Result (A × List ℕ) E) : Type 0 where
+  pub found : (bytes : List ℕ) (value : A) (rest : List ℕ) → AreBytes bytes → read bytes ≡ Ok (value, rest) → Begins Encodes value bytes rest
+  pub again : (value : A) (text rest : List ℕ) → Encodes value text → read (text ++ rest) ≡ Ok (value, rest)

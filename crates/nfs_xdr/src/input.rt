@@ -1,7 +1,7 @@
 //! Bytes from which XDR items are read, one after another.
 ghost use Rattle.std.specs.Prelude.{◌≡◌};
 ghost use Rattle.std.specs.Int.{w32, w64};
-ghost use Rattle.nfs_xdr.specs.Spelling.{IsNumber, IsBoolean, IsFixed, IsOpaque};
+ghost use Rattle.nfs_xdr.specs.Encoding.{IsNumber, IsBoolean, IsFixed, IsOpaque};
 ghost use Rattle.nfs_xdr.specs.Reading.{Gives, Reads, AreBytes, number_at, boolean_at, fixed_at, opaque_at};
 
 use crate::fault::XdrFault;

@@ -1,7 +1,7 @@
 //! A list of bytes to which XDR items are written, in room that was made once.
 ghost use Rattle.std.specs.Prelude.{◌≡◌, ◌+◌, ◌*◌, ◌^◌, ◌<◌, ◌≤◌, [], ◌∷◌, ◌++◌, length, take, drop, IfOk};
 ghost use Rattle.std.specs.Int.{w32, w64, to_be_bytes};
-ghost use Rattle.nfs_xdr.specs.Spelling.{IsNumber, IsBoolean, AreItems, number_of, fixed_text, opaque_text, numbers_text, padding, pad_text};
+ghost use Rattle.nfs_xdr.specs.Encoding.{IsNumber, IsBoolean, AreItems, number_of, fixed_text, opaque_text, numbers_text, padding, pad_text};
 ghost use Rattle.nfs_xdr.specs.Written.{Written, Appends};
 
 use std::alloc::{AllocError, Global};
@@ -60,7 +60,7 @@ impl Output {
     pub fn u32(&mut self, n: u32)
         requires { 4 ≤ self.old.room }
         ensures text { Appends (to_be_bytes w32 n) self.old self.new }
-        ensures spelled { IsNumber w32 n (to_be_bytes w32 n) }
+        ensures encoded { IsNumber w32 n (to_be_bytes w32 n) }
     {
         self.part(&n.to_be_bytes());
     }
@@ -70,7 +70,7 @@ impl Output {
     pub fn u64(&mut self, n: u64)
         requires { 8 ≤ self.old.room }
         ensures text { Appends (to_be_bytes w64 n) self.old self.new }
-        ensures spelled { IsNumber w64 n (to_be_bytes w64 n) }
+        ensures encoded { IsNumber w64 n (to_be_bytes w64 n) }
     {
         self.part(&n.to_be_bytes());
     }
@@ -79,18 +79,18 @@ impl Output {
     pub fn boolean(&mut self, b: bool)
         requires { 4 ≤ self.old.room }
         ensures text { Appends (to_be_bytes w32 (number_of b)) self.old self.new }
-        ensures spelled { IsBoolean b (to_be_bytes w32 (number_of b)) }
+        ensures encoded { IsBoolean b (to_be_bytes w32 (number_of b)) }
     {
         self.u32(u32::from(b));
     }
 
     /// Writes unsigned integers one after another, as a fixed-length array of them (RFC 4506,
-    /// section 4.12), in one piece.
+    /// section 4.12), in one chunk.
     #[inline(always)]
     pub fn numbers<const N: usize>(&mut self, ns: [u32; N])
         requires { 4 * N ≤ self.old.room }
         ensures text { Appends (numbers_text ns.entry) self.old self.new }
-        ensures spelled { AreItems (IsNumber w32) ns.entry (numbers_text ns.entry) }
+        ensures encoded { AreItems (IsNumber w32) ns.entry (numbers_text ns.entry) }
     {
         let mut words = [[0u8; 4]; N];
         for i in 0..N {
@@ -175,12 +175,12 @@ impl Output {
     }
 }
 
-/// The two unsigned integers by which an unsigned hyper integer is spelled (RFC 4506, section 4.5),
+/// The two unsigned integers by which an unsigned hyper integer is encoded (RFC 4506, section 4.5),
 /// for `numbers` to write it among others.
 #[inline(always)]
 pub fn halves(n: u64) -> (u32, u32)
     ensures text { numbers_text (result.0 ∷ result.1 ∷ []) ≡ to_be_bytes w64 n }
-    ensures spelled { IsNumber w64 n (to_be_bytes w64 n) }
+    ensures encoded { IsNumber w64 n (to_be_bytes w64 n) }
 {
     ((n >> 32) as u32, (n % (1 << 32)) as u32)
 }
@@ -197,7 +197,7 @@ fn put_over(place: &mut [u8], at: usize, bytes: &[u8])
 #[inline(always)]
 fn bytes_of(n: u32) -> [u8; 4]
     ensures text { result ≡ to_be_bytes w32 n }
-    ensures spelled { IsNumber w32 n (to_be_bytes w32 n) }
+    ensures encoded { IsNumber w32 n (to_be_bytes w32 n) }
 {
     n.to_be_bytes()
 }

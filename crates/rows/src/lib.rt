@@ -4,4 +4,6 @@
 pub mod answers;
 mod definitions;
 pub mod sheet;
+pub mod stutter;
+pub mod stutter_link;
 pub mod words;

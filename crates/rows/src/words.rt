@@ -59,7 +59,7 @@ pub fn bytes(alloc: Global, words: &mut SplitWhitespace<'_>) -> Option<Vec<u8>> 
     Some(bytes)
 }
 
-/// The bytes of a name: those of the next word's text, or behind `0x` those that the word says;
+/// The bytes of a name: those of the next word's text, or after `0x` those that the word says;
 /// `-` for none. `None` where there is no word or no memory.
 pub fn name(alloc: Global, words: &mut SplitWhitespace<'_>) -> Option<Vec<u8>> {
     let word = words.next()?;

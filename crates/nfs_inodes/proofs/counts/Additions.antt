@@ -81,31 +81,31 @@ module _ (k : CountedTree) (n d : ℕ) (name : List ℕ) (now : Moment) (f g p w
       let like = one_alike (tree_in k) n f.file (record f.file { ctime = now }) keeps.law.rising keeps.law.numbers (shown k n f has.at_file) (touch_alike f.file now) in
       let counted_file : at d (with_at n g k.files) ≡ Some p = at_with_other n d g k.files apart ∙ has.at_dir in
       with_back d m p w h (with_at n g k.files) counted_file e
-      (λ s is. let told = nlink_there u d n now name p.file (record f.file { ctime = now }) dir_u file_u in
+      (λ s is. let reported = nlink_there u d n now name p.file (record f.file { ctime = now }) dir_u file_u in
       let none = ap one_when is_file in
       let same : nlink u.files d p.file ≡ nlink (tree_in k).files d p.file = nlink_alike (tree_in k) u like d p.file p.file (alike_itself p.file) in
       let was = keeps.links d p has.at_dir in
       let here : nlink after m h.file ≡ nlink after d (entered p.file name n now) = ap (λ i. nlink after i h.file) s ∙ ap (nlink after d) (ap (λ (a : CountedFile). a.file) (sym is) ∙ has.entered) in
       let mine : h.nlink ≡ w.nlink = ap (λ (a : CountedFile). a.nlink) (sym is) in
       let links = has.same_links in
-      omega (arith, told, none, same, was, here, mine, links))
+      omega (arith, reported, none, same, was, here, mine, links))
       (λ o old. with_back n m f g h k.files has.at_file old
       (λ s is. let kind : is_directory h.file.kind ≡ false = ap (λ (a : CountedFile). is_directory a.file.kind) (sym is) ∙ ap (λ (a : File). is_directory a.kind) has.touched ∙ is_file in
-      let told = (nlink_elsewhere u d n now name p.file rising_u dir_u m h.file).1 kind in
+      let reported = (nlink_elsewhere u d n now name p.file rising_u dir_u m h.file).1 kind in
       let one : one_when (nat_eq n m) ≡ 1 = ap one_when (eq-eqb n m (sym s)) in
       let its : h.file ≡ record f.file { ctime = now } = ap (λ (a : CountedFile). a.file) (sym is) ∙ has.touched in
       let same : nlink u.files m h.file ≡ nlink (tree_in k).files n f.file = ap (λ i. nlink u.files i h.file) s ∙ ap (nlink u.files n) its ∙ nlink_alike (tree_in k) u like n f.file (record f.file { ctime = now }) (touch_alike f.file now) in
       let was = keeps.links n f has.at_file in
       let mine : h.nlink ≡ g.nlink = ap (λ (a : CountedFile). a.nlink) (sym is) in
       let links = has.one_more in
-      omega (arith, told, one, same, was, mine, links))
-      (λ q was. let told = nlink_elsewhere u d n now name p.file rising_u dir_u m h.file in
+      omega (arith, reported, one, same, was, mine, links))
+      (λ q was. let reported = nlink_elsewhere u d n now name p.file rising_u dir_u m h.file in
       let same : nlink u.files m h.file ≡ nlink (tree_in k).files m h.file = nlink_alike (tree_in k) u like m h.file h.file (alike_itself h.file) in
       let mine = keeps.links m h was in
       let none : one_when (nat_eq n m) ≡ 0 = one_other m (record { cookie = 0; name = name; number = n }) q in
       by_test (is_directory h.file.kind)
-      (λ y. let a = told.0 y in omega (arith, a, same, mine))
-      (λ z. let a = told.1 z in omega (arith, a, same, mine, none))))
+      (λ y. let a = reported.0 y in omega (arith, a, same, mine))
+      (λ z. let a = reported.1 z in omega (arith, a, same, mine, none))))
 
   totals_linked : (index : ℕ) → (bytes_of index (with_file u d (entered p.file name n now)).files ≡ bytes_of index (tree_in k).files) × (files_of index (with_file u d (entered p.file name n now)).files ≡ files_of index (tree_in k).files)
   totals_linked index =

@@ -48,24 +48,24 @@ agrees_entered k d n now name p f agrees at_d is_dir at_n apart law as_directory
     agrees_whole (counted_entered k d name n now p links) (agrees_recounted 0 k d p (record { file = g; nlink = p.nlink + links }) k.volumes (record {
       at_file = at_d;
       law = law;
-      here = λ o. let told = nlink_there t d n now name p.file f.file dir (shown k n f at_n) in let was = agrees.links d p apart at_d in omega (arith, told, was);
+      here = λ o. let reported = nlink_there t d n now name p.file f.file dir (shown k n f at_n) in let was = agrees.links d p apart at_d in omega (arith, reported, was);
       others = λ m h o other e. by_number m n
           (λ s. let same : f ≡ h = same_some (sym at_n ∙ ap (λ i. at i k.files) (sym s) ∙ e) in
           subst (λ (h : CountedFile). h.nlink ≡ nlink (with_file t d g).files m h.file) same (its_links m s))
-          (λ q. let told = nlink_elsewhere t d n now name p.file agrees.law.rising dir m h.file in
+          (λ q. let reported = nlink_elsewhere t d n now name p.file agrees.law.rising dir m h.file in
           let was = agrees.links m h q e in
           let none : one_when (nat_eq n m) ≡ 0 = one_other m (record { cookie = 0; name = name; number = n }) q in
-          by_test (is_directory h.file.kind) (λ y. let a = told.0 y in omega (arith, a, was)) (λ z. let a = told.1 z in omega (arith, a, was, none)));
+          by_test (is_directory h.file.kind) (λ y. let a = reported.0 y in omega (arith, a, was)) (λ z. let a = reported.1 z in omega (arith, a, was, none)));
       volumes = refl;
       totals = same_totals n k d p g agrees at_d (entered_placed p.file name n now).volume (ap length (entered_bytes p.file.kind name n));
     }))
   where
     its_links : (m : ℕ) → m ≡ n → f.nlink ≡ nlink (with_file (tree_in k) d (entered p.file name n now)).files m f.file
     its_links m s =
-        let told = nlink_elsewhere (tree_in k) d n now name p.file agrees.law.rising (shown k d p at_d, is_dir) m f.file in
+        let reported = nlink_elsewhere (tree_in k) d n now name p.file agrees.law.rising (shown k d p at_d, is_dir) m f.file in
         let one : one_when (nat_eq n m) ≡ 1 = ap one_when (eq-eqb n m (sym s)) in
         by_test (is_directory f.file.kind)
-        (λ y. as_directory y ∙ ap (λ i. nlink (tree_in k).files i f.file) (sym s) ∙ sym (told.0 y))
-        (λ z. let a = told.1 z in let b = as_file z in
+        (λ y. as_directory y ∙ ap (λ i. nlink (tree_in k).files i f.file) (sym s) ∙ sym (reported.0 y))
+        (λ z. let a = reported.1 z in let b = as_file z in
         let named : nlink (tree_in k).files m f.file ≡ names_of n (tree_in k).files = ap (λ i. nlink (tree_in k).files i f.file) s ∙ if_false _ _ z in
         omega (arith, a, b, named, one))

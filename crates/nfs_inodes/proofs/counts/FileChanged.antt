@@ -127,10 +127,10 @@ totals_moved x k files news index b n c m agrees same sums p new e =
     let r = totals_between news k.volumes index b n c m same p new e in
     let t = agrees.totals p r.old r.at_old in
     let bytes = t.bytes in let counts = t.files in
-    let told = sums p in (
+    let reported = sums p in (
       by_number p index
-          (λ s. let y = told.0 s in let z = r.here s in let y0 = y.0 in let y1 = y.1 in let z0 = z.0 in let z1 = z.1 in record { bytes = omega (arith, bytes, y0, z0); files = omega (arith, counts, y1, z1) })
-          (λ o. let y = told.1 o in let z = r.elsewhere o in record { bytes = z.0 ∙ bytes ∙ sym y.0; files = z.1 ∙ counts ∙ sym y.1 }),
+          (λ s. let y = reported.0 s in let z = r.here s in let y0 = y.0 in let y1 = y.1 in let z0 = z.0 in let z1 = z.1 in record { bytes = omega (arith, bytes, y0, z0); files = omega (arith, counts, y1, z1) })
+          (λ o. let y = reported.1 o in let z = r.elsewhere o in record { bytes = z.0 ∙ bytes ∙ sym y.0; files = z.1 ∙ counts ∙ sym y.1 }),
       subst AreLimits (sym r.volume) (agrees.limits p r.old r.at_old),
     )
 

@@ -51,10 +51,10 @@ pub totals_after : (k : CountedTree) (files : List (ℕ × File)) (index b n : �
 totals_after k files index b n keeps sums p c e =
     let r = totals_back k.volumes index b n p c e in
     let t = keeps.totals p r.was r.at_was in
-    let told = sums p in (
+    let reported = sums p in (
       by_number p index
-          (λ s. let y = told.0 s in let z = r.here s in record { bytes = z.0 ∙ ap (λ m. m + b) t.bytes ∙ sym y.0; files = z.1 ∙ ap (λ m. m + n) t.files ∙ sym y.1 })
-          (λ o. let y = told.1 o in let z = r.elsewhere o in record { bytes = z.0 ∙ t.bytes ∙ sym y.0; files = z.1 ∙ t.files ∙ sym y.1 }),
+          (λ s. let y = reported.0 s in let z = r.here s in record { bytes = z.0 ∙ ap (λ m. m + b) t.bytes ∙ sym y.0; files = z.1 ∙ ap (λ m. m + n) t.files ∙ sym y.1 })
+          (λ o. let y = reported.1 o in let z = r.elsewhere o in record { bytes = z.0 ∙ t.bytes ∙ sym y.0; files = z.1 ∙ t.files ∙ sym y.1 }),
       subst (λ (v : Volume). (v.max_bytes < 2 ^ 64) × (v.max_files < 2 ^ 64)) (sym r.volume) (keeps.limits p r.was r.at_was),
     )
 
@@ -111,30 +111,30 @@ links_made k d size name now p w new keeps has m h e =
     let apart : d ≢ k.next = live_apart t d p.file law dir_t.0 in
     let counted_file : at d (k.files ++ (k.next, new) ∷ []) ≡ Some p = at_push_other k.next d new k.files apart ∙ has.at_dir in
     with_back d m p w h (k.files ++ (k.next, new) ∷ []) counted_file e
-    (λ s is. let told = nlink_there b d k.next now name p.file new.file dir_b (new_lives t new.file law) in
+    (λ s is. let reported = nlink_there b d k.next now name p.file new.file dir_b (new_lives t new.file law) in
     let same = nlink_born t new.file d p.file law has.new_file.empty dir_t.0 in
     let was = keeps.links d p has.at_dir in
     let links = has.links in
     let here : nlink after m h.file ≡ nlink after d g = ap (λ i. nlink after i h.file) s ∙ ap (nlink after d) (ap (λ (a : CountedFile). a.file) (sym is) ∙ has.entered) in
     let mine : h.nlink ≡ w.nlink = ap (λ (a : CountedFile). a.nlink) (sym is) in
-    omega (arith, told, same, was, links, here, mine))
+    omega (arith, reported, same, was, links, here, mine))
     (λ o old. push_back k.next m new h k.files (free_number k law) old
-    (λ s is. let told = nlink_elsewhere b d k.next now name p.file law_b dir_b m h.file in
+    (λ s is. let reported = nlink_elsewhere b d k.next now name p.file law_b dir_b m h.file in
     let first = nlink_new t new.file law has.new_file.empty in
     let here : nlink b.files m h.file ≡ nlink b.files t.next new.file = ap (λ i. nlink b.files i h.file) s ∙ ap (λ (a : CountedFile). nlink b.files t.next a.file) (sym is) in
     let mine : h.nlink ≡ (if is_directory new.file.kind then 2 else 1) = ap (λ (a : CountedFile). a.nlink) (sym is) ∙ has.first_links in
     let kind : is_directory h.file.kind ≡ is_directory new.file.kind = ap (λ (a : CountedFile). is_directory a.file.kind) (sym is) in
     by_test (is_directory new.file.kind)
-    (λ y. let a = told.0 (kind ∙ y) in let two : (if is_directory new.file.kind then 2 else 0) ≡ 2 = two_when 0 y in let too : (if is_directory new.file.kind then 2 else 1) ≡ 2 = two_when 1 y in omega (arith, a, two, too, first, here, mine))
-    (λ z. let a = told.1 (kind ∙ z) in let none : (if is_directory new.file.kind then 2 else 0) ≡ 0 = else_when 0 z in let one : (if is_directory new.file.kind then 2 else 1) ≡ 1 = else_when 1 z in
+    (λ y. let a = reported.0 (kind ∙ y) in let two : (if is_directory new.file.kind then 2 else 0) ≡ 2 = two_when 0 y in let too : (if is_directory new.file.kind then 2 else 1) ≡ 2 = two_when 1 y in omega (arith, a, two, too, first, here, mine))
+    (λ z. let a = reported.1 (kind ∙ z) in let none : (if is_directory new.file.kind then 2 else 0) ≡ 0 = else_when 0 z in let one : (if is_directory new.file.kind then 2 else 1) ≡ 1 = else_when 1 z in
     let named : one_when (nat_eq k.next m) ≡ 1 = itself_named k.next m s in omega (arith, a, none, one, first, here, mine, named)))
-    (λ q was. let told = nlink_elsewhere b d k.next now name p.file law_b dir_b m h.file in
+    (λ q was. let reported = nlink_elsewhere b d k.next now name p.file law_b dir_b m h.file in
     let same = nlink_born t new.file m h.file law has.new_file.empty (shown k m h was) in
     let mine = keeps.links m h was in
     let none : one_when (nat_eq k.next m) ≡ 0 = one_other m (record { cookie = 0; name = name; number = k.next }) q in
     by_test (is_directory h.file.kind)
-    (λ y. let a = told.0 y in omega (arith, a, same, mine))
-    (λ z. let a = told.1 z in omega (arith, a, same, mine, none))))
+    (λ y. let a = reported.0 y in omega (arith, a, same, mine))
+    (λ z. let a = reported.1 z in omega (arith, a, same, mine, none))))
   where
     two_when : (n : ℕ) {b : Bool} → b ≡ true → (if b then 2 else n) ≡ 2
     two_when n e = if_true 2 n e
@@ -160,11 +160,11 @@ agree_after_make k d size name now p w new index keeps has is_place =
     let same = bytes_changed b d p.file g at_b (entered_placed p.file name k.next now).volume q in
     let no_more : length (bytes_in g.kind) ≡ length (bytes_in p.file.kind) = ap length (entered_bytes p.file.kind name k.next) in
     let counted = count_changed b d p.file g at_b (entered_placed p.file name k.next now).volume q in
-    let told = bytes_born t new.file q in let counts = files_born t new.file q in
+    let reported = bytes_born t new.file q in let counts = files_born t new.file q in
     let bytes_stay : bytes_of q (with_file b d g).files ≡ bytes_of q b.files = by_number p.file.volume q (λ s. let y = same.0 s in omega (arith, y, no_more)) (λ o. same.1 o) in
     let long = has.new_file.bytes in (
-      (λ s. let y = told.0 (home ∙ sym s) in let z = counts.0 (home ∙ sym s) in (omega (arith, bytes_stay, y, long), omega (arith, counted, z))),
-      (λ o. let y = told.1 (λ s. o (sym s ∙ home)) in let z = counts.1 (λ s. o (sym s ∙ home)) in (omega (arith, bytes_stay, y), omega (arith, counted, z))),
+      (λ s. let y = reported.0 (home ∙ sym s) in let z = counts.0 (home ∙ sym s) in (omega (arith, bytes_stay, y, long), omega (arith, counted, z))),
+      (λ o. let y = reported.1 (λ s. o (sym s ∙ home)) in let z = counts.1 (λ s. o (sym s ∙ home)) in (omega (arith, bytes_stay, y), omega (arith, counted, z))),
     )) in
     record {
       law = subst Law (sym view) (law_with_named_file t d size name new.file now has.may law has.new_file has.few);

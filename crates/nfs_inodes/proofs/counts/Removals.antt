@@ -32,12 +32,12 @@ agrees_left k d links now name f lost file agrees at_d is_dir found at_lost less
     agrees_recounted lost.number k d f (record { file = left f.file name now; nlink = links }) k.volumes (record {
       at_file = at_d;
       law = law_without_entry t d now name f.file lost agrees.law (at_dir, is_dir) found;
-      here = λ o. let told = nlink_less_there t d now name f.file lost agrees.law.rising at_dir apart found file is_dir at_lost in let was = agrees.links d f at_d in omega (arith, told, was, less);
+      here = λ o. let reported = nlink_less_there t d now name f.file lost agrees.law.rising at_dir apart found file is_dir at_lost in let was = agrees.links d f at_d in omega (arith, reported, was, less);
       others = λ m h o other e.
-          let told = nlink_less_elsewhere t d now name f.file lost agrees.law.rising at_dir apart found m h.file in
+          let reported = nlink_less_elsewhere t d now name f.file lost agrees.law.rising at_dir apart found m h.file in
           let was = agrees.links m h e in
           let none = one_other m lost other in
-          by_test (is_directory h.file.kind) (λ y. let a = told.0 y in omega (arith, a, was)) (λ z. let a = told.1 z in omega (arith, a, was, none));
+          by_test (is_directory h.file.kind) (λ y. let a = reported.0 y in omega (arith, a, was)) (λ z. let a = reported.1 z in omega (arith, a, was, none));
       volumes = refl;
       totals = same_totals 0 k d f (left f.file name now) (agrees_but_none k agrees) at_d (left_placed f.file name now).volume (ap length (left_bytes f.file.kind name));
     })

@@ -172,12 +172,12 @@ pub record HasRoom (t : Tree) (f g : File) : Type 0 where
 pub law_with_file : (x : ℕ) (t : Tree) (n : ℕ) (f g : File) → LawBut x t → Lives t n f → Alike f g → IsSound g → HasRoom t f g → LawBut x (with_file t n g)
 law_with_file x t n f g law at_n like sound has = law_alike x t (with_file t n g) law (one_alike t n f g law.rising law.numbers at_n like)
     (λ m h e. with_back n m f g h t.files at_n e (λ s is. subst IsSound is sound) (λ o was. law.sound m h was))
-    (λ index v e. let told = bytes_changed t n f g at_n like.placed.volume index in by_number f.volume index
+    (λ index v e. let reported = bytes_changed t n f g at_n like.placed.volume index in by_number f.volume index
     (λ s. let same : has.volume ≡ v = same_some (sym has.at_volume ∙ ap (slice_get t.volumes) s ∙ e) in
     let limit : has.volume.max_bytes ≡ v.max_bytes = ap (λ (k : Volume). k.max_bytes) same in
     let sums : bytes_of f.volume t.files ≡ bytes_of index t.files = ap (λ k. bytes_of k t.files) s in
-    let now = told.0 s in let room = has.room in omega (arith, limit, sums, now, room))
-    (λ o. let was = law.bytes index v e in let now = told.1 o in omega (arith, was, now)))
+    let now = reported.0 s in let room = has.room in omega (arith, limit, sums, now, room))
+    (λ o. let was = law.bytes index v e in let now = reported.1 o in omega (arith, was, now)))
 
 -- where a file has as many bytes as before, there is room
 pub room_same : (x : ℕ) (t : Tree) (n : ℕ) (f g : File) → LawBut x t → Lives t n f → bytes_in g.kind ≡ bytes_in f.kind → HasRoom t f g

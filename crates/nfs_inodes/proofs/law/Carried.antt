@@ -84,11 +84,11 @@ module _ (t : Tree) (from : ℕ) (name : List ℕ) (to : ℕ) (new_name : List �
             (All-filter (λ e. not (has_name name e)) (λ (e : Entry). e.name ≢ new_name) (entries_in may.source.kind) (subst (λ (k : File). All (λ e. e.name ≢ new_name) (entries_in k.kind)) (sym same) may.fresh));
         cookie = left_cookie may.source.kind name ∙ ap (λ (k : File). next_cookie_in k.kind) same;
         links = λ y.
-            let told = nlink_less_there t from now name may.source may.entry law.rising may.at_source.0 apart may.found may.file may.at_source.1 may.at_file in
+            let reported = nlink_less_there t from now name may.source may.entry law.rising may.at_source.0 apart may.found may.file may.at_source.1 may.at_file in
             let one = ap one_when y in
             let was = law.links from may.source may.at_source.0 in
             let here : nlink first.files to g ≡ nlink first.files from g = ap (λ k. nlink first.files k g) s in
-            omega (arith, told, one, was, here);
+            omega (arith, reported, one, was, here);
       })
       (λ o. record {
         dir = may.target;
@@ -109,15 +109,15 @@ module _ (t : Tree) (from : ℕ) (name : List ℕ) (to : ℕ) (new_name : List �
 
   names_first : names_of number first.files + 1 ≡ names_of number t.files
   names_first =
-      let told = (one_less t from now name may.source may.entry law.rising may.at_source.0 apart may.found).names number in
+      let reported = (one_less t from now name may.source may.entry law.rising may.at_source.0 apart may.found).names number in
       let one = one_same number may.entry refl in
-      omega (arith, told, one)
+      omega (arith, reported, one)
 
   unnamed : is_directory may.file.kind ≡ true → names_of number first.files ≡ 0
   unnamed y =
       let once = law.once number may.file (live_some t number may.file law may.at_file) (may.at_file, y) free in
-      let told = names_first in
-      omega (arith, once, told)
+      let reported = names_first in
+      omega (arith, once, reported)
 
   pub may_move : MayMove first number to may.file
   may_move = record {
@@ -158,9 +158,9 @@ module _ (t : Tree) (from : ℕ) (name : List ℕ) (to : ℕ) (new_name : List �
             let is_file = sym like.directory ∙ z in
             let named : nlink t.files number may.file ≡ names_of number t.files = if_false _ _ is_file in
             let was = law.links number may.file may.at_file in
-            let told = names_first in
+            let reported = names_first in
             let same = names_moved first number to now may.file may_move.at_file number in
-            omega (arith, named, was, told, same);
+            omega (arith, named, was, reported, same);
         only = λ m some other. other;
       }
 

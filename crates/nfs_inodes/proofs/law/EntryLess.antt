@@ -44,19 +44,19 @@ left_or_named name (x ∷ xs) e c = elim (head_or_tail x e xs c) [
   ]
 ]
 
-pub apart_behind : (x : Entry) (xs : List Entry) → AreApart (x ∷ xs) → AreApart xs
-apart_behind x xs apart j k d less within = apart (suc j) (suc k) d (omega (arith, less)) (omega (arith, within))
+pub apart_after : (x : Entry) (xs : List Entry) → AreApart (x ∷ xs) → AreApart xs
+apart_after x xs apart j k d less within = apart (suc j) (suc k) d (omega (arith, less)) (omega (arith, within))
 
--- no entry behind another has its name
-pub none_behind : (name : List ℕ) (x : Entry) (xs : List Entry) → AreApart (x ∷ xs) → has_name name x ≡ true → (e : Entry) → Contains xs e → has_name name e ≡ false
-none_behind name x xs apart is e c = by_test (has_name name e)
+-- no entry after another has its name
+pub none_after : (name : List ℕ) (x : Entry) (xs : List Entry) → AreApart (x ∷ xs) → has_name name x ≡ true → (e : Entry) → Contains xs e → has_name name e ≡ false
+none_after name x xs apart is e c = by_test (has_name name e)
     (λ y. let less = c.1 in absurd (apart 0 (suc c.0) e (omega arith) (omega (arith, less)) ((bytes_eq-Decides x.name name).0 is ∙ sym ((bytes_eq-Decides e.name name).0 y) ∙ ap (λ (e : Entry). e.name) (sym c.2))))
     (λ n. n)
 
-pub none_left_out : (name : List ℕ) (es : List Entry) → ((e : Entry) → Contains es e → has_name name e ≡ false) → entries_without name es ≡ es
-none_left_out name [] h = refl
-none_left_out name (x ∷ xs) h = if_true (x ∷ entries_without name xs) (entries_without name xs) (not_false (h x (in_head x xs)))
-    ∙ ap (λ l. x ∷ l) (none_left_out name xs (λ e c. h e (in_tail x e xs c)))
+pub none_skipped : (name : List ℕ) (es : List Entry) → ((e : Entry) → Contains es e → has_name name e ≡ false) → entries_without name es ≡ es
+none_skipped name [] h = refl
+none_skipped name (x ∷ xs) h = if_true (x ∷ entries_without name xs) (entries_without name xs) (not_false (h x (in_head x xs)))
+    ∙ ap (λ l. x ∷ l) (none_skipped name xs (λ e c. h e (in_tail x e xs c)))
 
 -- an entry of a name is the one that is found
 pub found_is : (name : List ℕ) (es : List Entry) (e0 e : Entry) → AreApart es → entry_named name es ≡ Some e0 → Contains es e → has_name name e ≡ true → e0 ≡ e
@@ -64,11 +64,11 @@ found_is name [] e0 e apart found c y = absurd (not_both refl found)
 found_is name (x ∷ xs) e0 e apart found c y = by_test (has_name name x)
     (λ t. elim (head_or_tail x e xs c) [
       | inl s ↦ sym (same_some (sym (if_true (Some x) (entry_named name xs) t) ∙ found)) ∙ s
-      | inr l ↦ absurd (true_and_false y (none_behind name x xs apart t e l))
+      | inr l ↦ absurd (true_and_false y (none_after name x xs apart t e l))
     ])
     (λ f. elim (head_or_tail x e xs c) [
       | inl s ↦ absurd (true_and_false (ap (has_name name) s ∙ y) f)
-      | inr l ↦ found_is name xs e0 e (apart_behind x xs apart) (sym (if_false (Some x) (entry_named name xs) f) ∙ found) l y
+      | inr l ↦ found_is name xs e0 e (apart_after x xs apart) (sym (if_false (Some x) (entry_named name xs) f) ∙ found) l y
     ])
 
 pub sum_less : (w : Entry → ℕ) (name : List ℕ) (es : List Entry) (e0 : Entry) → AreApart es → entry_named name es ≡ Some e0 → sum_by w (entries_without name es) + w e0 ≡ sum_by w es
@@ -77,9 +77,9 @@ sum_less w name (x ∷ xs) e0 apart found =
     let all = sum_by-cons w x xs in
     by_test (has_name name x)
     (λ y. let is : w x ≡ w e0 = ap w (same_some (sym (if_true (Some x) (entry_named name xs) y) ∙ found)) in
-    let rest : sum_by w (entries_without name (x ∷ xs)) ≡ sum_by w xs = ap (sum_by w) (if_false (x ∷ entries_without name xs) (entries_without name xs) (not_true y) ∙ none_left_out name xs (none_behind name x xs apart y)) in
+    let rest : sum_by w (entries_without name (x ∷ xs)) ≡ sum_by w xs = ap (sum_by w) (if_false (x ∷ entries_without name xs) (entries_without name xs) (not_true y) ∙ none_skipped name xs (none_after name x xs apart y)) in
     omega (arith, all, is, rest))
-    (λ n. let less = sum_less w name xs e0 (apart_behind x xs apart) (sym (if_false (Some x) (entry_named name xs) n) ∙ found) in
+    (λ n. let less = sum_less w name xs e0 (apart_after x xs apart) (sym (if_false (Some x) (entry_named name xs) n) ∙ found) in
     let rest : sum_by w (entries_without name (x ∷ xs)) ≡ w x + sum_by w (entries_without name xs) = ap (sum_by w) (if_true (x ∷ entries_without name xs) (entries_without name xs) (not_false n)) ∙ sum_by-cons w x (entries_without name xs) in
     omega (arith, all, less, rest))
 
@@ -109,18 +109,18 @@ law_less lost old new law less fits = record {
       (g.0, g.1, g.2.volume ∙ l.2 ∙ sym b.2.volume);
   absent = λ m e.
       let was = law.absent m (none_from (at m old.files) (λ f g. not_both e (less.forth m f g).1)) in
-      let told = less.names m in
-      omega (arith, was, told);
+      let reported = less.names m in
+      omega (arith, was, reported);
   roots = λ index v e. let l = law.roots index v (subst (λ vs. slice_get vs index ≡ Some v) less.volumes e) in
       let h = less.forth v.root l.0 l.1.0 in
-      let told = less.names v.root in
+      let reported = less.names v.root in
       let none = l.4 in
-      (h.0, (h.1, h.2.directory ∙ l.1.1), h.2.parent ∙ l.2, h.2.volume ∙ l.3, omega (arith, told, none));
+      (h.0, (h.1, h.2.directory ∙ l.1.1), h.2.parent ∙ l.2, h.2.volume ∙ l.3, omega (arith, reported, none));
   once = λ m h other dir free. let b = less.back m h dir.0 in
       let l = law.once m b.0 (live_some old m b.0 law b.1) (b.1, sym b.2.directory ∙ dir.1) (not_root old new m less.volumes free) in
       let none = one_other m lost other in
-      let told = less.names m in
-      omega (arith, l, none, told);
+      let reported = less.names m in
+      omega (arith, l, none, reported);
   parents = λ a h e g at_a in_h dir. let b = less.back a h at_a in let o = less.back e.number g dir.0 in
       o.2.parent ∙ law.parents a b.0 e o.0 b.1 (b.3 e in_h) (o.1, sym o.2.directory ∙ dir.1);
   stands = λ m h other dir free. let b = less.back m h dir.0 in
@@ -143,10 +143,10 @@ law_less lost old new law less fits = record {
       let l = law.reached m b.0 (b.1, sym b.2.directory ∙ dir.1) in
       (l.0, l.1, subst (λ vs. slice_get vs h.volume ≡ Some l.1) (sym less.volumes) (subst (λ k. slice_get old.volumes k ≡ Some l.1) (sym b.2.volume) l.2), climb_alike old.files new.files less.parents l.0 m ∙ l.3);
   named = λ m h other at_m dir. let b = less.back m h at_m in
-      let told = less.names m in
+      let reported = less.names m in
       let l = law.named m b.0 (live_some old m b.0 law b.1) b.1 (sym b.2.directory ∙ dir) in
       let none = one_other m lost other in
-      omega (arith, l, none, told);
+      omega (arith, l, none, reported);
   links = fits.links;
   volumes = subst AreVolumes (sym less.volumes) law.volumes;
   bytes = fits.bytes;

@@ -171,10 +171,10 @@ module _ (t : Tree) (n d : ℕ) (now : Moment) (f : File) (at_n : Lives t n f) w
       named = λ m h other at_m dir. subst (λ k. 1 ≤ k) (sym (names_moved m)) (law.named m h other (was_there m h other at_m) dir);
       links = λ m h e. let b = back m h e in subst (λ k. k ≤ 1000) (sym (nlink_moved m b.0 h b.2)) (law.links m b.0 b.1);
       volumes = law.volumes;
-      bytes = λ index v e. let told = bytes_changed t n f g at_n like.volume index in
+      bytes = λ index v e. let reported = bytes_changed t n f g at_n like.volume index in
           let was = law.bytes index v e in
           let same : length (bytes_in g.kind) ≡ length (bytes_in f.kind) = ap length like.bytes in
-          by_number f.volume index (λ s. let y = told.0 s in omega (arith, was, same, y)) (λ o. let z = told.1 o in omega (arith, was, z));
+          by_number f.volume index (λ s. let y = reported.0 s in omega (arith, was, same, y)) (λ o. let z = reported.1 o in omega (arith, was, z));
       count = λ index v e. subst (λ k. k ≤ v.max_files) (sym (count_changed t n f g at_n like.volume index)) (law.count index v e);
     }
 

@@ -5,7 +5,7 @@ use Rattle.nfs_attrs.specs.declared.moment.Moment.{Moment}
 use Rattle.nfs_inodes.specs.declared.new_file.NewFile.{NewFile}
 use Rattle.nfs_inodes.specs.Tree.{Tree, File, Kind, Regular, Directory, Link, Entry, on_some, is_directory, entries_in, parent_in, bytes_in, next_cookie_in}
 use Rattle.nfs_inodes.specs.Law.{Law, IsName, IsSound}
-use Rattle.nfs_inodes.specs.Changes.{after_make_file, after_make_dir, after_make_link, after_add_volume, new_file}
+use Rattle.nfs_inodes.specs.Changes.{after_make_file, after_mkdir, after_make_link, after_add_volume, new_file}
 use Rattle.nfs_inodes.specs.Changes as changes
 use Rattle.nfs_inodes.specs.Conditions.{MayMake, MayMakeDirectory, MayMakeLink, MayAddVolume, IsNew}
 use Rattle.nfs_inodes.specs.StepConditions.{IsFresh}
@@ -80,8 +80,8 @@ law_after_make_file t d tag name bytes given verifier now may fits law =
     let f = new_file (changes.volume_index t d) (Regular bytes) given verifier tag now in
     law_with_named_file t d (length bytes) name f now may law (new_here t d (length bytes) name (Regular bytes) given f may refl refl refl fits (fresh_file d bytes)) impossible
 
-pub law_after_make_dir : (t : Tree) (d tag : ℕ) (name : List ℕ) (given : NewFile) (now : Moment) → MayMakeDirectory t d name → tag < 2 ^ 32 → Law t → Law (after_make_dir t d name given tag now)
-law_after_make_dir t d tag name given now may fits law =
+pub law_after_mkdir : (t : Tree) (d tag : ℕ) (name : List ℕ) (given : NewFile) (now : Moment) → MayMakeDirectory t d name → tag < 2 ^ 32 → Law t → Law (after_mkdir t d name given tag now)
+law_after_mkdir t d tag name given now may fits law =
     let f = new_file (changes.volume_index t d) (Directory d 3 []) given None tag now in
     law_with_named_file t d 0 name f now may.make law (new_here t d 0 name (Directory d 3 []) given f may.make refl refl refl fits (fresh_directory d)) (λ y. may.links)
 

@@ -159,11 +159,11 @@ module _ (t : Tree) (from : ℕ) (name : List ℕ) (to : ℕ) (new_name : List �
     links_then : is_directory may.file.kind ≡ true → nlink after.files to dir_now < 1000
     links_then y =
         let apart = names_apart may.target (law.sound to may.target may.at_target.0) in
-        let told = nlink_less_there t to now new_name may.target old law.rising may.at_target.0 apart found_old replaced.replaced may.at_target.1 replaced.at_replaced in
+        let reported = nlink_less_there t to now new_name may.target old law.rising may.at_target.0 apart found_old replaced.replaced may.at_target.1 replaced.at_replaced in
         let one = ap one_when (replaced.alike ∙ y) in
         let was = law.links to may.target may.at_target.0 in
         let same = rest.links to dir_now not_to target_then.0 in
-        omega (arith, told, one, was, same)
+        omega (arith, reported, one, was, same)
 
     source_then : (g : File) × LivesAsDirectory after from g × (entry_named name (entries_in g.kind) ≡ Some may.entry)
     source_then = by_number from to

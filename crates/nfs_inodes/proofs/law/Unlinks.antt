@@ -54,9 +54,9 @@ module _ (t : Tree) (d : ℕ) (name : List ℕ) (now : Moment) (may : MayUnlink 
         empty = may.empty;
         unnamed = λ y.
             let once = law.once may.entry.number may.file (live_some t may.entry.number may.file law may.at_file) (may.at_file, y) free in
-            let told = (one_less t d now name may.dir may.entry law.rising may.at_dir.0 (names_apart may.dir (law.sound d may.dir may.at_dir.0)) may.found).names may.entry.number in
+            let reported = (one_less t d now name may.dir may.entry law.rising may.at_dir.0 (names_apart may.dir (law.sound d may.dir may.at_dir.0)) may.found).names may.entry.number in
             let one = one_same may.entry.number may.entry refl in
-            omega (arith, once, told, one);
+            omega (arith, once, reported, one);
         free = free;
       }
 

@@ -74,26 +74,26 @@ law_more x d n name cookie old new law more may fits =
       absent = λ m e.
           let was = law.absent m (none_from (at m old.files) (λ f g. not_both e (more.forth m f g).1)) in
           let o = one_other m e0 (λ s. not_both e ((more.forth m may.file (ap (λ k. at k old.files) s ∙ may.at_file)).1)) in
-          let told = more.names m in
-          omega (arith, was, o, told);
+          let reported = more.names m in
+          omega (arith, was, o, reported);
       roots = λ index v e. let was = subst (λ vs. slice_get vs index ≡ Some v) more.volumes e in
           let l = law.roots index v was in
           let h = more.forth v.root l.0 l.1.0 in
           let apart : v.root ≢ e0.number = λ q. may.free (index, v, was, q) in
           let none = one_other v.root e0 apart in
-          let told = more.names v.root in
+          let reported = more.names v.root in
           let zero_names = l.4 in
-          (h.0, (h.1, h.2.directory ∙ l.1.1), h.2.parent ∙ l.2, h.2.volume ∙ l.3, omega (arith, none, told, zero_names));
+          (h.0, (h.1, h.2.directory ∙ l.1.1), h.2.parent ∙ l.2, h.2.volume ∙ l.3, omega (arith, none, reported, zero_names));
       once = λ m h other dir free. let b = more.back m h dir.0 in
-          let told = more.names m in
+          let reported = more.names m in
           let was_dir = sym b.2.directory ∙ dir.1 in
           by_number m n
           (λ s. let f : may.file ≡ b.0 = same_some (sym may.at_file ∙ sym (ap (λ k. at k old.files) s) ∙ b.1) in
           let none = (may.once (ap (λ (k : File). is_directory k.kind) f ∙ was_dir)).1 in
           let same_names : names_of m old.files ≡ names_of n old.files = ap (λ k. names_of k old.files) s in
-          let one = one_same m e0 s in omega (arith, none, same_names, one, told))
+          let one = one_same m e0 s in omega (arith, none, same_names, one, reported))
           (λ o. let l = law.once m b.0 (may.only m other o) (b.1, was_dir) (not_root old new m more.volumes free) in
-          let none = one_other m e0 o in omega (arith, l, none, told));
+          let none = one_other m e0 o in omega (arith, l, none, reported));
       parents = λ a h e g at_a in_h dir. let b = more.back a h at_a in let o = more.back e.number g dir.0 in elim (b.3 e in_h) [
         | inl was ↦ o.2.parent ∙ law.parents a b.0 e o.0 b.1 was (o.1, sym o.2.directory ∙ dir.1)
         | inr is ↦ let f : may.file ≡ o.0 = same_some (sym may.at_file ∙ ap (λ (k : Entry). at k.number old.files) is.1 ∙ o.1) in
@@ -116,10 +116,10 @@ law_more x d n name cookie old new law more may fits =
           let l = law.reached m b.0 (b.1, sym b.2.directory ∙ dir.1) in
           (l.0, l.1, subst (λ vs. slice_get vs h.volume ≡ Some l.1) (sym more.volumes) (subst (λ k. slice_get old.volumes k ≡ Some l.1) (sym b.2.volume) l.2), climb_alike old.files new.files more.parents l.0 m ∙ l.3);
       named = λ m h other at_m dir. let b = more.back m h at_m in
-          let told = more.names m in
+          let reported = more.names m in
           by_number m n
-          (λ s. let one = one_same m e0 s in omega (arith, one, told))
-          (λ o. let l = law.named m b.0 (may.only m other o) b.1 (sym b.2.directory ∙ dir) in omega (arith, l, told));
+          (λ s. let one = one_same m e0 s in omega (arith, one, reported))
+          (λ o. let l = law.named m b.0 (may.only m other o) b.1 (sym b.2.directory ∙ dir) in omega (arith, l, reported));
       links = fits.links;
       volumes = subst AreVolumes (sym more.volumes) law.volumes;
       bytes = fits.bytes;
@@ -234,8 +234,8 @@ nlink_elsewhere t d n now name f rising at_d m h =
           omega (arith, a, b, same),
       λ z. let a : nlink new m h ≡ names_of m new = if_false _ _ z in
           let b : nlink t.files m h ≡ names_of m t.files = if_false _ _ z in
-          let told = (one_more t d n now name f rising at_d).names m in
-          omega (arith, a, b, told),
+          let reported = (one_more t d n now name f rising at_d).names m in
+          omega (arith, a, b, reported),
     )
 
 links_after : (x : ℕ) (t : Tree) (d n : ℕ) (now : Moment) (name : List ℕ) (law : LawBut x t) (may : MayGain x t d name n) → (m : ℕ) (h : File) → Lives (with_file t d (entered may.dir name n now)) m h → nlink (with_file t d (entered may.dir name n now)).files m h ≤ 1000
@@ -243,18 +243,18 @@ links_after x t d n now name law may m h e =
     let g : File = entered may.dir name n now in
     let files : List (ℕ × File) = (with_file t d g).files in
     with_back d m may.dir g h t.files may.at_dir.0 e
-    (λ s is. let told = nlink_there t d n now name may.dir may.file may.at_dir may.at_file in
+    (λ s is. let reported = nlink_there t d n now name may.dir may.file may.at_dir may.at_file in
     let old_links : nlink t.files d may.dir ≡ 2 + subdirectories t.files (entries_in may.dir.kind) = if_true _ _ may.at_dir.1 in
     let was = law.links d may.dir may.at_dir.0 in
     let here : nlink files m h ≡ nlink files d g = ap (λ k. nlink files k h) s ∙ ap (nlink files d) (sym is) in
     by_test (is_directory may.file.kind)
-    (λ y. let one = ap one_when y in let few = (may.once y).2 in omega (arith, told, old_links, here, one, few))
-    (λ z. let none = ap one_when z in omega (arith, told, was, here, none)))
-    (λ o old. let told = nlink_elsewhere t d n now name may.dir law.rising may.at_dir m h in
+    (λ y. let one = ap one_when y in let few = (may.once y).2 in omega (arith, reported, old_links, here, one, few))
+    (λ z. let none = ap one_when z in omega (arith, reported, was, here, none)))
+    (λ o old. let reported = nlink_elsewhere t d n now name may.dir law.rising may.at_dir m h in
     let was = law.links m h old in
     by_test (is_directory h.kind)
-    (λ y. let same = told.0 y in omega (arith, same, was))
-    (λ z. let more = told.1 z in
+    (λ y. let same = reported.0 y in omega (arith, same, was))
+    (λ z. let more = reported.1 z in
     let named : nlink t.files m h ≡ names_of m t.files = if_false _ _ z in
     by_number m n
     (λ s. let same : h ≡ may.file = same_some (sym old ∙ ap (λ k. at k t.files) s ∙ may.at_file) in
@@ -281,8 +281,8 @@ law_with_entry x t d n now name law may =
           (λ s is. subst IsSound is (entered_sound may.dir name n now may.at_dir.1 (law.sound d may.dir may.at_dir.0) may.is_name may.fresh))
           (λ o was. law.sound m h was);
       links = links_after x t d n now name law may;
-      bytes = λ index v e. let told = bytes_changed t d may.dir g may.at_dir.0 placed.volume index in
+      bytes = λ index v e. let reported = bytes_changed t d may.dir g may.at_dir.0 placed.volume index in
           let was = law.bytes index v e in
           let same : length (bytes_in g.kind) ≡ length (bytes_in may.dir.kind) = ap length (entered_bytes may.dir.kind name n) in
-          by_number may.dir.volume index (λ s. let y = told.0 s in omega (arith, was, same, y)) (λ o. let z = told.1 o in omega (arith, was, z));
+          by_number may.dir.volume index (λ s. let y = reported.0 s in omega (arith, was, same, y)) (λ o. let z = reported.1 o in omega (arith, was, z));
     }))

@@ -76,8 +76,8 @@ few_new false = omega arith
 
 links_born : (t : Tree) (f : File) → Law t → entries_in f.kind ≡ [] → (m : ℕ) (h : File) → Lives (with_new_file t f) m h → nlink (with_new_file t f).files m h ≤ 1000
 links_born t f law empty m h e = push_back t.next m f h t.files (next_free t law) e
-    (λ s is. let told : nlink (with_new_file t f).files m h ≡ (if is_directory f.kind then 2 else 0) = ap (λ k. nlink (with_new_file t f).files k h) s ∙ ap (nlink (with_new_file t f).files t.next) (sym is) ∙ nlink_new t f law empty in
-    subst (λ k. k ≤ 1000) (sym told) (few_new (is_directory f.kind)))
+    (λ s is. let reported : nlink (with_new_file t f).files m h ≡ (if is_directory f.kind then 2 else 0) = ap (λ k. nlink (with_new_file t f).files k h) s ∙ ap (nlink (with_new_file t f).files t.next) (sym is) ∙ nlink_new t f law empty in
+    subst (λ k. k ≤ 1000) (sym reported) (few_new (is_directory f.kind)))
     (λ o was. subst (λ k. k ≤ 1000) (sym (nlink_born t f m h law empty was)) (law.links m h was))
 
 -- the entries of a file, where one was born without any
@@ -151,18 +151,18 @@ law_with_new_file t f law may =
           (λ o was. subst (λ k. 1 ≤ k) (sym (names n)) (law.named n h (live_some t n h law was) was dir));
       links = links_born t f law may.empty;
       volumes = law.volumes;
-      bytes = λ index v e. let told = bytes_born t f index in by_number f.volume index
+      bytes = λ index v e. let reported = bytes_born t f index in by_number f.volume index
           (λ s. let same : may.volume ≡ v = same_some (sym may.at_volume ∙ ap (slice_get t.volumes) s ∙ e) in
           let limit : may.volume.max_bytes ≡ v.max_bytes = ap (λ (k : Volume). k.max_bytes) same in
           let sums : bytes_of f.volume t.files ≡ bytes_of index t.files = ap (λ k. bytes_of k t.files) s in
-          let now = told.0 s in let room = may.bytes in omega (arith, limit, sums, now, room))
-          (λ o. let was = law.bytes index v e in let now = told.1 o in omega (arith, was, now));
-      count = λ index v e. let told = files_born t f index in by_number f.volume index
+          let now = reported.0 s in let room = may.bytes in omega (arith, limit, sums, now, room))
+          (λ o. let was = law.bytes index v e in let now = reported.1 o in omega (arith, was, now));
+      count = λ index v e. let reported = files_born t f index in by_number f.volume index
           (λ s. let same : may.volume ≡ v = same_some (sym may.at_volume ∙ ap (slice_get t.volumes) s ∙ e) in
           let limit : may.volume.max_files ≡ v.max_files = ap (λ (k : Volume). k.max_files) same in
           let sums : files_of f.volume t.files ≡ files_of index t.files = ap (λ k. files_of k t.files) s in
-          let now = told.0 s in let room = may.count in omega (arith, limit, sums, now, room))
-          (λ o. let was = law.count index v e in let now = told.1 o in omega (arith, was, now));
+          let now = reported.0 s in let room = may.count in omega (arith, limit, sums, now, room))
+          (λ o. let was = law.count index v e in let now = reported.1 o in omega (arith, was, now));
     }
 
 -- ---- a new volume
@@ -244,17 +244,17 @@ law_with_new_volume t v f law may =
         paths = All-push (λ (w : Volume). length w.path ≤ 255) t.volumes v law.volumes.paths may.path;
         apart = all_pairs_push (λ (w u : Volume). w.path ≢ u.path) t.volumes v law.volumes.apart may.fresh;
       };
-      bytes = λ index w e. let told = bytes_born t f index in elim (get_push t.volumes v w index e) [
+      bytes = λ index w e. let reported = bytes_born t f index in elim (get_push t.volumes v w index e) [
         | inl was ↦ let low = slice_get_within t.volumes index w was in
-            let now = told.1 (λ s. let k = may.volume in omega (arith, k, s, low)) in let l = law.bytes index w was in omega (arith, l, now)
-        | inr is ↦ let now = told.0 (may.volume ∙ sym is.0) in
+            let now = reported.1 (λ s. let k = may.volume in omega (arith, k, s, low)) in let l = law.bytes index w was in omega (arith, l, now)
+        | inr is ↦ let now = reported.0 (may.volume ∙ sym is.0) in
             let none : bytes_of index t.files ≡ 0 = ap (λ k. bytes_of k t.files) is.0 ∙ no_bytes_yet t law in
             let zero_bytes : length (bytes_in f.kind) ≡ 0 = ap length may.no_bytes in omega (arith, now, none, zero_bytes)
       ];
-      count = λ index w e. let told = files_born t f index in elim (get_push t.volumes v w index e) [
+      count = λ index w e. let reported = files_born t f index in elim (get_push t.volumes v w index e) [
         | inl was ↦ let low = slice_get_within t.volumes index w was in
-            let now = told.1 (λ s. let k = may.volume in omega (arith, k, s, low)) in let l = law.count index w was in omega (arith, l, now)
-        | inr is ↦ let now = told.0 (may.volume ∙ sym is.0) in
+            let now = reported.1 (λ s. let k = may.volume in omega (arith, k, s, low)) in let l = law.count index w was in omega (arith, l, now)
+        | inr is ↦ let now = reported.0 (may.volume ∙ sym is.0) in
             let none : files_of index t.files ≡ 0 = ap (λ k. files_of k t.files) is.0 ∙ no_files_yet t law in
             let limit : v.max_files ≡ w.max_files = ap (λ (k : Volume). k.max_files) is.1 in
             let some = may.files in omega (arith, now, none, limit, some)

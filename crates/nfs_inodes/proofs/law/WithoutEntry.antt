@@ -125,8 +125,8 @@ module _ (t : Tree) (d : ℕ) (now : Moment) (name : List ℕ) (f : File) (lost 
         omega (arith, a, b, same),
     λ z. let a : nlink new.files m h ≡ names_of m new.files = if_false _ _ z in
         let b : nlink t.files m h ≡ names_of m t.files = if_false _ _ z in
-        let told = one_less.names m in
-        omega (arith, a, b, told),
+        let reported = one_less.names m in
+        omega (arith, a, b, reported),
   )
 
 -- the law of the other files
@@ -140,15 +140,15 @@ law_without_entry t d now name f lost law at_d found =
     law_less lost t (with_file t d g) law less (record {
       sound = λ m h e. with_back d m f g h t.files at_d.0 e (λ s is. subst IsSound is (left_sound f name now (law.sound d f at_d.0))) (λ o was. law.sound m h was);
       links = λ m h e. with_back d m f g h t.files at_d.0 e
-          (λ s is. let told = nlink_less_there t d now name f lost law.rising at_d.0 apart found named.0 at_d.1 named.1 in
+          (λ s is. let reported = nlink_less_there t d now name f lost law.rising at_d.0 apart found named.0 at_d.1 named.1 in
           let was = law.links d f at_d.0 in
           let here : nlink new m h ≡ nlink new d g = ap (λ k. nlink new k h) s ∙ ap (nlink new d) (sym is) in
-          omega (arith, told, was, here))
-          (λ o old. let told = nlink_less_elsewhere t d now name f lost law.rising at_d.0 apart found m h in
+          omega (arith, reported, was, here))
+          (λ o old. let reported = nlink_less_elsewhere t d now name f lost law.rising at_d.0 apart found m h in
           let was = law.links m h old in
-          by_test (is_directory h.kind) (λ y. let a = told.0 y in omega (arith, a, was)) (λ z. let a = told.1 z in omega (arith, a, was)));
-      bytes = λ index v e. let told = bytes_changed t d f g at_d.0 (left_placed f name now).volume index in
+          by_test (is_directory h.kind) (λ y. let a = reported.0 y in omega (arith, a, was)) (λ z. let a = reported.1 z in omega (arith, a, was)));
+      bytes = λ index v e. let reported = bytes_changed t d f g at_d.0 (left_placed f name now).volume index in
           let was = law.bytes index v e in
           let same : length (bytes_in g.kind) ≡ length (bytes_in f.kind) = ap length (left_bytes f.kind name) in
-          by_number f.volume index (λ s. let y = told.0 s in omega (arith, was, same, y)) (λ o. let z = told.1 o in omega (arith, was, z));
+          by_number f.volume index (λ s. let y = reported.0 s in omega (arith, was, same, y)) (λ o. let z = reported.1 o in omega (arith, was, z));
     })

@@ -37,12 +37,12 @@ root_or_not (v ∷ vs) n = by_number v.root n
     (λ s. inl (0, v, refl, s))
     (λ o. elim (root_or_not vs n) [
       | inl r ↦ inl (suc r.0, r.1, r.2, r.3)
-      | inr none ↦ inr (λ r. behind v vs n o none r.0 r.1 r.2 r.3)
+      | inr none ↦ inr (λ r. after v vs n o none r.0 r.1 r.2 r.3)
     ])
   where
-    behind : (v : Volume) (vs : List Volume) (n : ℕ) → v.root ≢ n → (IsRoot vs n → ⊥) → (index : ℕ) (w : Volume) → slice_get (v ∷ vs) index ≡ Some w → w.root ≡ n → ⊥
-    behind v vs n o none zero w e s = o (ap (λ (k : Volume). k.root) (same_some e) ∙ s)
-    behind v vs n o none (suc index) w e s = none (index, w, e, s)
+    after : (v : Volume) (vs : List Volume) (n : ℕ) → v.root ≢ n → (IsRoot vs n → ⊥) → (index : ℕ) (w : Volume) → slice_get (v ∷ vs) index ≡ Some w → w.root ≡ n → ⊥
+    after v vs n o none zero w e s = o (ap (λ (k : Volume). k.root) (same_some e) ∙ s)
+    after v vs n o none (suc index) w e s = none (index, w, e, s)
 
 -- of the other files what they are, their ways and their links stay
 pub record LeavesOthers (n : ℕ) (old new : Tree) : Type 0 where

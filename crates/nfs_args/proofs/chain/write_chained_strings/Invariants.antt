@@ -1,12 +1,12 @@
 use Rattle.std.proofs.Common.{take}
-use Rattle.nfs_xdr.specs.Spelling.{opaque_text}
+use Rattle.nfs_xdr.specs.Encoding.{opaque_text}
 use Rattle.nfs_xdr.specs.Written.{Appends}
-use Rattle.nfs_args.specs.Spelling.{IsString}
-use Rattle.nfs_args.specs.Chains.{AreSpelled, links_text}
+use Rattle.nfs_args.specs.Encoding.{IsString}
+use Rattle.nfs_args.specs.Chains.{AreEncoded, links_text}
 use Rattle.nfs_args.proofs.chain.write_chained_strings.Given as goal
 
 abbrev pub invariant-loop-string : goal.invariant-loop-string
 invariant-loop-string l = record {
   text : Appends (links_text opaque_text (take l.string-index l.strings)) l.fn.out l.out;
-  spelled : AreSpelled IsString opaque_text (take l.string-index l.strings);
+  encoded : AreEncoded IsString opaque_text (take l.string-index l.strings);
 }

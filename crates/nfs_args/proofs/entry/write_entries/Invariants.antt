@@ -1,11 +1,11 @@
 use Rattle.std.proofs.Common.{take}
 use Rattle.nfs_xdr.specs.Written.{Appends}
-use Rattle.nfs_args.specs.Chains.{AreSpelled, links_text}
+use Rattle.nfs_args.specs.Chains.{AreEncoded, links_text}
 use Rattle.nfs_args.specs.Pages.{IsEntry, entry_text}
 use Rattle.nfs_args.proofs.entry.write_entries.Given as goal
 
 abbrev pub invariant-loop-entry : goal.invariant-loop-entry
 invariant-loop-entry l = record {
   text : Appends (links_text entry_text (take l.entry-index l.entries)) l.fn.out l.out;
-  spelled : AreSpelled IsEntry entry_text (take l.entry-index l.entries);
+  encoded : AreEncoded IsEntry entry_text (take l.entry-index l.entries);
 }

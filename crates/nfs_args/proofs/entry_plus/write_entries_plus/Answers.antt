@@ -12,5 +12,5 @@ write_entry_plus-requires-clause-room c = item_room entry_plus_text c.args.entri
 pub loop-entry-preserved : goal.loop-entry-preserved
 loop-entry-preserved c = record {
   text = items_appended entry_plus_text c.args.entries.now c.loop-entry.entry-index c.entry-item.result c.args.out.now c.loop-entry.out c.write_entry_plus.new.out c.loop-entry-test.true c.entry-item.is c.loop-entry.invariant.text c.write_entry_plus.ensures.text;
-  spelled = items_each (λ (e : EntryPlus). IsEntryPlus e (entry_plus_text e)) c.args.entries.now c.loop-entry.entry-index c.entry-item.result c.loop-entry-test.true c.entry-item.is c.loop-entry.invariant.spelled c.write_entry_plus.ensures.spelled;
+  encoded = items_each (λ (e : EntryPlus). IsEntryPlus e (entry_plus_text e)) c.args.entries.now c.loop-entry.entry-index c.entry-item.result c.loop-entry-test.true c.entry-item.is c.loop-entry.invariant.encoded c.write_entry_plus.ensures.encoded;
 }

@@ -12,5 +12,5 @@ write_exported-requires-clause-room c = item_room exported_text c.args.volumes.n
 pub loop-exported-preserved : goal.loop-exported-preserved
 loop-exported-preserved c = record {
   text = items_appended exported_text c.args.volumes.now c.loop-exported.exported-index c.exported-item.result c.args.out.now c.loop-exported.out c.write_exported.new.out c.loop-exported-test.true c.exported-item.is c.loop-exported.invariant.text c.write_exported.ensures.text;
-  spelled = items_each (λ (e : Exported). IsExported e (exported_text e)) c.args.volumes.now c.loop-exported.exported-index c.exported-item.result c.loop-exported-test.true c.exported-item.is c.loop-exported.invariant.spelled c.write_exported.ensures.spelled;
+  encoded = items_each (λ (e : Exported). IsExported e (exported_text e)) c.args.volumes.now c.loop-exported.exported-index c.exported-item.result c.loop-exported-test.true c.exported-item.is c.loop-exported.invariant.encoded c.write_exported.ensures.encoded;
 }

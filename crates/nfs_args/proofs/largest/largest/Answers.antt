@@ -5,4 +5,4 @@ use Rattle.nfs_args.proofs.Lengths.{answers_within}
 use Rattle.nfs_args.proofs.largest.largest.Goals as goal
 
 pub returns-clause-bound : goal.returns-clause-bound
-returns-clause-bound c = λ answer is fits within. subst (λ n. length (nfs_text answer) ≤ n) (ap largest_of is ∙ sym c.size_of.ensures) (answers_within answer fits within)
+returns-clause-bound c = λ answer is fits within. subst (λ n. length (nfs_text answer) ≤ n) (ap largest_of is ∙ sym c.row.ensures.largest) (answers_within answer fits within)

@@ -1,5 +1,5 @@
 use Rattle.nfs_xdr.proofs.Finding.{once}
-use Rattle.nfs_args.specs.Spelling.{IsArgsOf, IsMountArgsOf}
+use Rattle.nfs_args.specs.Encoding.{IsArgsOf, IsMountArgsOf}
 use Rattle.nfs_args.specs.Reading.{args_at, mount_args_at}
 use Rattle.nfs_args.proofs.Finds.{finds_args, finds_mount_args}
 use Rattle.nfs_args.proofs.laws.arguments_are_found.Goals as goal

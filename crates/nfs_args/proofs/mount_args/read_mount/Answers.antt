@@ -1,6 +1,6 @@
 use Rattle.std.proofs.Common.{subst, ◌∙◌}
 use Rattle.nfs_xdr.specs.Reading.{AreBytes}
-use Rattle.nfs_args.specs.Spelling.{IsMountArgsOf}
+use Rattle.nfs_args.specs.Encoding.{IsMountArgsOf}
 use Rattle.nfs_args.specs.Reading.{mount_args_at}
 use Rattle.nfs_args.proofs.Finds.{finds_mount_args, found_there, none_there}
 use Rattle.nfs_args.proofs.mount_args.read_mount.Goals as goal

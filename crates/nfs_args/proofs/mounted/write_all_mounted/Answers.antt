@@ -12,5 +12,5 @@ write_mounted-requires-clause-room c = item_room mounted_text c.args.clients.now
 pub loop-mounted-preserved : goal.loop-mounted-preserved
 loop-mounted-preserved c = record {
   text = items_appended mounted_text c.args.clients.now c.loop-mounted.mounted-index c.mounted-item.result c.args.out.now c.loop-mounted.out c.write_mounted.new.out c.loop-mounted-test.true c.mounted-item.is c.loop-mounted.invariant.text c.write_mounted.ensures.text;
-  spelled = items_each (λ (e : Mounted). IsMounted e (mounted_text e)) c.args.clients.now c.loop-mounted.mounted-index c.mounted-item.result c.loop-mounted-test.true c.mounted-item.is c.loop-mounted.invariant.spelled c.write_mounted.ensures.spelled;
+  encoded = items_each (λ (e : Mounted). IsMounted e (mounted_text e)) c.args.clients.now c.loop-mounted.mounted-index c.mounted-item.result c.loop-mounted-test.true c.mounted-item.is c.loop-mounted.invariant.encoded c.write_mounted.ensures.encoded;
 }

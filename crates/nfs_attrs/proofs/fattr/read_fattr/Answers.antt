@@ -1,7 +1,7 @@
 use Rattle.std.proofs.Common.{rules, sym, ◌∙◌}
 use Rattle.nfs_xdr.specs.Reading.{Gives}
 use Rattle.nfs_attrs.specs.declared.fattr.Fattr.{Fattr}
-use Rattle.nfs_attrs.specs.Spelling.{IsFattr}
+use Rattle.nfs_attrs.specs.Encoding.{IsFattr}
 use Rattle.nfs_attrs.specs.Reading.{fattr_at}
 use Rattle.nfs_attrs.proofs.Finds.{found_there, none_there, finds_fattr}
 use Rattle.nfs_attrs.proofs.fattr.read_fattr.Goals as goal

@@ -1,7 +1,7 @@
 use Rattle.std.proofs.Common.{rules, sym, ◌∙◌, Option}
 use Rattle.nfs_xdr.specs.Reading.{Gives}
 use Rattle.nfs_attrs.specs.declared.fattr.Fattr.{Fattr}
-use Rattle.nfs_attrs.specs.Spelling.{IsPostOpAttr}
+use Rattle.nfs_attrs.specs.Encoding.{IsPostOpAttr}
 use Rattle.nfs_attrs.specs.Reading.{post_op_attr_at}
 use Rattle.nfs_attrs.proofs.Finds.{found_there, none_there, finds_post_op_attr}
 use Rattle.nfs_attrs.proofs.fattr.read_post_op_attr.Goals as goal

@@ -1,5 +1,5 @@
 use Rattle.std.proofs.Common.{sym, ◌∙◌}
-use Rattle.nfs_attrs.specs.Spelling.{IsMoment}
+use Rattle.nfs_attrs.specs.Encoding.{IsMoment}
 use Rattle.nfs_attrs.specs.Reading.{moment_at}
 use Rattle.nfs_attrs.proofs.Finds.{found_there, finds_moment}
 use Rattle.nfs_attrs.proofs.moment.read_moment.Goals as goal

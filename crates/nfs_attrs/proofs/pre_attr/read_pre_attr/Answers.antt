@@ -1,7 +1,7 @@
 use Rattle.std.proofs.Common.{rules, sym, ◌∙◌}
 use Rattle.nfs_xdr.specs.Reading.{Gives}
 use Rattle.nfs_attrs.specs.declared.pre_attr.PreAttr.{PreAttr}
-use Rattle.nfs_attrs.specs.Spelling.{IsPreAttr}
+use Rattle.nfs_attrs.specs.Encoding.{IsPreAttr}
 use Rattle.nfs_attrs.specs.Reading.{pre_attr_at}
 use Rattle.nfs_attrs.proofs.Finds.{found_there, none_there, finds_pre_attr}
 use Rattle.nfs_attrs.proofs.pre_attr.read_pre_attr.Goals as goal

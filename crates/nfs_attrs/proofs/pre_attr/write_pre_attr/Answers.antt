@@ -1,7 +1,7 @@
 use Rattle.std.proofs.Common.{[], ◌∷◌, arith, subst}
 use Rattle.nfs_xdr.specs.Written.{Appends}
 use Rattle.nfs_xdr.proofs.Writing.{followed}
-use Rattle.nfs_xdr.proofs.Items.{spelled_at}
+use Rattle.nfs_xdr.proofs.Items.{encoded_at}
 use Rattle.nfs_attrs.proofs.Writes.{pre_attr_numbers}
 use Rattle.nfs_attrs.proofs.pre_attr.write_pre_attr.Goals as goal
 
@@ -11,10 +11,10 @@ returns-clause-text c =
     (pre_attr_numbers c.args.attributes.now _ _ c.halves-size_high.ensures.text)
     c.numbers.ensures.text
 
-pub returns-clause-spelled : goal.returns-clause-spelled
-returns-clause-spelled c =
+pub returns-clause-encoded : goal.returns-clause-encoded
+returns-clause-encoded c =
     let a = c.args.attributes.now in
     let halves = c.halves-size_high.result in
-    let word = spelled_at (halves.0 ∷ halves.1 ∷ a.mtime.seconds ∷ a.mtime.nanos ∷ a.ctime.seconds ∷ a.ctime.nanos ∷ []) _ c.numbers.ensures.spelled in
-    followed _ _ _ _ c.halves-size_high.ensures.spelled
+    let word = encoded_at (halves.0 ∷ halves.1 ∷ a.mtime.seconds ∷ a.mtime.nanos ∷ a.ctime.seconds ∷ a.ctime.nanos ∷ []) _ c.numbers.ensures.encoded in
+    followed _ _ _ _ c.halves-size_high.ensures.encoded
     (followed _ _ _ _ (followed _ _ _ _ (word 2 (omega arith)) (word 3 (omega arith))) (followed _ _ _ _ (word 4 (omega arith)) (word 5 (omega arith))))

@@ -1,7 +1,7 @@
 use Rattle.std.proofs.Common.{rules, sym, ◌∙◌}
 use Rattle.nfs_xdr.specs.Reading.{Gives}
 use Rattle.nfs_attrs.specs.declared.sattr.Sattr.{Sattr}
-use Rattle.nfs_attrs.specs.Spelling.{IsSattr}
+use Rattle.nfs_attrs.specs.Encoding.{IsSattr}
 use Rattle.nfs_attrs.specs.Reading.{sattr_at}
 use Rattle.nfs_attrs.proofs.Finds.{found_there, none_there, finds_sattr}
 use Rattle.nfs_attrs.proofs.sattr.read_sattr.Goals as goal

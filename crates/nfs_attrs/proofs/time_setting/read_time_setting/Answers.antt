@@ -1,7 +1,7 @@
 use Rattle.std.proofs.Common.{rules, sym, ◌∙◌}
 use Rattle.nfs_xdr.specs.Reading.{Gives}
 use Rattle.nfs_attrs.specs.declared.time_setting.TimeSetting.{TimeSetting}
-use Rattle.nfs_attrs.specs.Spelling.{IsTimeSetting}
+use Rattle.nfs_attrs.specs.Encoding.{IsTimeSetting}
 use Rattle.nfs_attrs.specs.Reading.{time_setting_at}
 use Rattle.nfs_attrs.proofs.Finds.{found_there, none_there, finds_time_setting}
 use Rattle.nfs_attrs.proofs.time_setting.read_time_setting.Goals as goal

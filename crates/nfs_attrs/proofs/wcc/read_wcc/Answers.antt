@@ -1,7 +1,7 @@
 use Rattle.std.proofs.Common.{rules, sym, ◌∙◌}
 use Rattle.nfs_xdr.specs.Reading.{Gives}
 use Rattle.nfs_attrs.specs.declared.wcc.Wcc.{Wcc}
-use Rattle.nfs_attrs.specs.Spelling.{IsWcc}
+use Rattle.nfs_attrs.specs.Encoding.{IsWcc}
 use Rattle.nfs_attrs.specs.Reading.{wcc_at}
 use Rattle.nfs_attrs.proofs.Finds.{found_there, none_there, finds_wcc}
 use Rattle.nfs_attrs.proofs.wcc.read_wcc.Goals as goal

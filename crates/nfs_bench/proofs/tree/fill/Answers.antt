@@ -1,4 +1,4 @@
 use Rattle.nfs_bench.proofs.tree.fill.Goals as goal
 
-pub make_dir-requires : goal.make_dir-requires
-make_dir-requires c = c.may_make_dir.ensures.0 c.if-not-may_make_dir.false
+pub mkdir-requires : goal.mkdir-requires
+mkdir-requires c = c.may_mkdir.ensures.0 c.if-not-may_mkdir.false

@@ -1,5 +1,5 @@
 use Rattle.std.proofs.Common.{[], ◌∷◌, length, refl}
-use Rattle.nfs_xdr.specs.Spelling.{numbers_text}
+use Rattle.nfs_xdr.specs.Encoding.{numbers_text}
 use Rattle.nfs_client.proofs.Numbers.{room_left, one_more}
 use Rattle.nfs_client.proofs.credential.write_auth_sys.Goals as goal
 

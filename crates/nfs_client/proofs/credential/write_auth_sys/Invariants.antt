@@ -1,6 +1,6 @@
 use Rattle.std.proofs.Common.{◌≡◌, ◌≤◌, [], ◌∷◌, ◌++◌, length, take}
 use Rattle.nfs_xdr.specs.Written.{Appends}
-use Rattle.nfs_xdr.specs.Spelling.{numbers_text}
+use Rattle.nfs_xdr.specs.Encoding.{numbers_text}
 use Rattle.nfs_client.proofs.credential.write_auth_sys.Given as goal
 
 abbrev pub invariant-loop-gid : goal.invariant-loop-gid

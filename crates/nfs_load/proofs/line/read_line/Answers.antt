@@ -5,5 +5,5 @@ use Rattle.nfs_load.proofs.line.read_line.Goals as goal
 
 pub count_words-requires : goal.count_words-requires
 count_words-requires c =
-    let behind : words c.args.line.now ≡ c.in-Some.word.now ∷ words_left c.next.new.self = sym c.new-fields.ensures ∙ c.in-Some.ensures.steps in
-    omega (arith, words_few c.args.line.now, ap length behind)
+    let after : words c.args.line.now ≡ c.in-Some.word.now ∷ words_left c.next.new.self = sym c.new-fields.ensures ∙ c.in-Some.ensures.steps in
+    omega (arith, words_few c.args.line.now, ap length after)

@@ -4,7 +4,7 @@ use Rattle.nfs_xdr.specs.Known.{Grows, GrowsByPart}
 use Rattle.nfs_inodes.specs.Tree.{entries_in}
 use Rattle.nfs_inodes.specs.Views.{entries_left, entry_seen, kind_seen}
 use Rattle.nfs_load.specs.Listings.{entry_line, file_line, view_text}
-use Rattle.nfs_load.proofs.Entries.{all_behind}
+use Rattle.nfs_load.proofs.Entries.{all_after}
 use Rattle.nfs_load.proofs.Writes.{WritesBut, on_err, part_of_first, goes_on, broken_off}
 use Rattle.nfs_load.proofs.listing.write_file.Goals as goal
 
@@ -19,7 +19,7 @@ loop-entry-preserved g c = record {
       (view_text c.args.file.now) (entry_line (entry_seen c.in-Some.entry)) (flat_map entry_line (entries_left c.next.new.self))
       (subst (λ es. WritesBut (g.W.ByteOut.contents c.args.out.now) (view_text c.args.file.now) (flat_map entry_line es) (g.W.ByteOut.contents c.loop-entry.out)) c.in-Some.ensures.steps c.loop-entry.invariant.written)
       (subst (λ (l : List ℕ). Grows (g.W.ByteOut.contents c.loop-entry.out) l (g.W.ByteOut.contents c.write_all-in-Some.new.out)) (c.as_slice-in-Some.ensures.value ∙ c.put_entry.ensures) c.in_ok-write_all-2.ensures.ok);
-  short = all_behind (entry_seen c.in-Some.entry) (entries_left c.next.new.self) (entries_left c.loop-entry.entries) c.in-Some.ensures.steps c.loop-entry.invariant.short;
+  short = all_after (entry_seen c.in-Some.entry) (entries_left c.next.new.self) (entries_left c.loop-entry.entries) c.in-Some.ensures.steps c.loop-entry.invariant.short;
   alive = c.in_ok-write_all-2.ensures.alive ∙ c.loop-entry.invariant.alive;
 }
 

@@ -1,4 +1,4 @@
 use Rattle.nfs_memory.proofs.tree.operate.Goals as goal
 
-pub make_dir-requires : goal.make_dir-requires
-make_dir-requires c = c.may_make_dir.ensures.0 c.if-may_make_dir.true
+pub mkdir-requires : goal.mkdir-requires
+mkdir-requires c = c.may_mkdir.ensures.0 c.if-may_mkdir.true

@@ -2,7 +2,7 @@ use Rattle.std.proofs.Common.{◌≡◌, ◌+◌, length, map, refl, arith}
 use Rattle.std.specs.List.{range_with_len}
 use Rattle.nfs_args.specs.MountAnswers.{IsExported, exported_text}
 use Rattle.nfs_mount.specs.MountAnswers.{exported_at}
-use Rattle.nfs_mount.proofs.Listed.{place_appended, places_ended, place_spelled, places_spelled}
+use Rattle.nfs_mount.proofs.Listed.{place_appended, places_ended, place_encoded, places_encoded}
 use Rattle.nfs_mount.proofs.Patterns.{count_more, count_within}
 use Rattle.nfs_mount.proofs.exports.write_export.Goals as goal
 
@@ -15,7 +15,7 @@ write_volume-requires c =
 pub loop-index-preserved : goal.loop-index-preserved
 loop-index-preserved c = record {
   text = place_appended exported_text (exported_at c.args.tree.now c.args.table.now) c.loop-index.index c.args.out.now c.loop-index.out c.write_volume.new.out c.loop-index.invariant.text c.write_volume.ensures.text;
-  spelled = place_spelled exported_text IsExported (exported_at c.args.tree.now c.args.table.now) c.loop-index.index c.loop-index.invariant.spelled c.write_volume.ensures.spelled;
+  encoded = place_encoded exported_text IsExported (exported_at c.args.tree.now c.args.table.now) c.loop-index.index c.loop-index.invariant.encoded c.write_volume.ensures.encoded;
   room = let more = count_more c.args.table.now c.loop-index.index in omega (arith, more, c.loop-index.invariant.room, c.write_volume.ensures.room);
 }
 
@@ -29,11 +29,11 @@ returns-clause-text c =
     let all : c.loop-index.index ≡ length c.args.tree.now.volumes = omega (arith, c.loop-index-test.false, c.loop-index.auto.index-end, c.volumes-index-end.ensures) in
     places_ended exported_text (exported_at c.args.tree.now c.args.table.now) c.loop-index.index (length c.args.tree.now.volumes) c.args.out.now c.loop-index.out c.write_chain_end.new.out all c.loop-index.invariant.text c.write_chain_end.ensures.text
 
-pub returns-clause-spelled : goal.returns-clause-spelled
-returns-clause-spelled c =
+pub returns-clause-encoded : goal.returns-clause-encoded
+returns-clause-encoded c =
     let all : c.loop-index.index ≡ length c.args.tree.now.volumes = omega (arith, c.loop-index-test.false, c.loop-index.auto.index-end, c.volumes-index-end.ensures) in
     let volumes = map (exported_at c.args.tree.now c.args.table.now) (range_with_len 0 (length c.args.tree.now.volumes)) in
-    (volumes, refl, places_spelled exported_text IsExported (exported_at c.args.tree.now c.args.table.now) c.loop-index.index (length c.args.tree.now.volumes) all c.loop-index.invariant.spelled)
+    (volumes, refl, places_encoded exported_text IsExported (exported_at c.args.tree.now c.args.table.now) c.loop-index.index (length c.args.tree.now.volumes) all c.loop-index.invariant.encoded)
 
 pub returns-clause-bound : goal.returns-clause-bound
 returns-clause-bound c = let text = returns-clause-text c in

@@ -3,9 +3,9 @@ use Rattle.nfs_policy.proofs.handling.handle.Goals as goal
 use Rattle.nfs_server.specs.InMemory.{answered, event_of}
 
 pub returns-clause-confined : goal.returns-clause-confined
-returns-clause-confined c past fits = let g = c.handle.ensures.step past fits in
-    step_leaves past c.args.server.now (event_of c.args.event) g.0 (answered c.handle.result c.handle.new.reply.reply c.handle.new.self.line) c.handle.new.self fits g.1
+returns-clause-confined c history fits = let g = c.handle.ensures.step history fits in
+    step_leaves history c.args.server.now (event_of c.args.event) g.0 (answered c.handle.result c.handle.new.reply.reply c.handle.new.self.line) c.handle.new.self fits g.1
 
 pub returns-clause-names : goal.returns-clause-names
-returns-clause-names c past fits = let g = c.handle.ensures.step past fits in
-    step_names past c.args.server.now (event_of c.args.event) g.0 (answered c.handle.result c.handle.new.reply.reply c.handle.new.self.line) c.handle.new.self fits g.1
+returns-clause-names c history fits = let g = c.handle.ensures.step history fits in
+    step_names history c.args.server.now (event_of c.args.event) g.0 (answered c.handle.result c.handle.new.reply.reply c.handle.new.self.line) c.handle.new.self fits g.1

@@ -2,9 +2,9 @@ use Rattle.std.proofs.Common.{Some, Ok, refl, subst}
 use Rattle.nfs_args.specs.Results.{IsRights}
 use Rattle.nfs_args.specs.declared.answer.NfsAnswer.TheVariants as answer
 use Rattle.nfs_args.specs.declared.args.NfsArgs.TheVariants as nfs
-use Rattle.nfs_attrs.specs.Spelling.{IsPostOpAttr}
+use Rattle.nfs_attrs.specs.Encoding.{IsPostOpAttr}
 use Rattle.nfs_procs.proofs.Reading.{reads_freely, denies_handle, with_attributes}
-use Rattle.nfs_procs.proofs.Spelled.{denied_spelled}
+use Rattle.nfs_procs.proofs.Encoded.{denied_encoded}
 use Rattle.nfs_procs.specs.Performing.{AppendsAnswer}
 use Rattle.nfs_procs.specs.Readers as procedure
 use Rattle.nfs_rules.specs.Rights.{access_bits}
@@ -22,5 +22,5 @@ pub returns-in-Err : goal.returns-in-Err
 returns-in-Err c =
     denies_handle c.args.tree.now c.args.call.now (nfs.Access c.args.args.now) (procedure.access c.args.args.now) c.args.args.now.file refl c.in-Err.denial c.write_denied_attributes.result
     (with_attributes answer.Access c.in-Err.denial.rule) _ _ c.in-Err.ensures refl
-    (record { text = c.write_denied_attributes.ensures.text; spelled = denied_spelled answer.Access IsRights IsPostOpAttr _ _ c.write_denied_attributes.ensures.spelled })
+    (record { text = c.write_denied_attributes.ensures.text; encoded = denied_encoded answer.Access IsRights IsPostOpAttr _ _ c.write_denied_attributes.ensures.encoded })
     c.write_denied_attributes.ensures.done

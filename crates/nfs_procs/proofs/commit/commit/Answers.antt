@@ -2,10 +2,10 @@ use Rattle.std.proofs.Common.{Some, Ok, refl, sym, subst, ◌∙◌, ap}
 use Rattle.nfs_args.specs.Results.{IsCommitted}
 use Rattle.nfs_args.specs.declared.answer.NfsAnswer.TheVariants as answer
 use Rattle.nfs_args.specs.declared.args.NfsArgs.TheVariants as nfs
-use Rattle.nfs_attrs.specs.Spelling.{IsWcc}
+use Rattle.nfs_attrs.specs.Encoding.{IsWcc}
 use Rattle.nfs_attrs.specs.declared.fattr.Fattr.{Fattr}
 use Rattle.nfs_procs.proofs.Reading.{reads, denies, with_change}
-use Rattle.nfs_procs.proofs.Spelled.{denied_spelled}
+use Rattle.nfs_procs.proofs.Encoded.{denied_encoded}
 use Rattle.nfs_procs.specs.Doing.{no_change}
 use Rattle.nfs_procs.specs.Performing.{AppendsAnswer}
 use Rattle.nfs_procs.specs.Readers as procedure
@@ -26,4 +26,4 @@ pub returns-in-Err : goal.returns-in-Err
 returns-in-Err c =
     let a = c.args.args.now in
     denies (scene c.args.tree.now c.args.call.now (nfs.Commit a)) (procedure.commit a) a.file c.in-Err.denial c.write_denied_change.result (with_change answer.Commit c.in-Err.denial.rule) _ _ c.in-Err.ensures refl
-    (record { text = c.write_denied_change.ensures.text; spelled = denied_spelled answer.Commit IsCommitted IsWcc _ _ c.write_denied_change.ensures.spelled }) c.write_denied_change.ensures.done
+    (record { text = c.write_denied_change.ensures.text; encoded = denied_encoded answer.Commit IsCommitted IsWcc _ _ c.write_denied_change.ensures.encoded }) c.write_denied_change.ensures.done

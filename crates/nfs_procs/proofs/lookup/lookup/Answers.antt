@@ -2,11 +2,11 @@ use Rattle.std.proofs.Common.{ℕ, List, Option, [], Some, Ok, refl, sym, ap, su
 use Rattle.nfs_args.specs.Results.{IsFound}
 use Rattle.nfs_args.specs.declared.answer.NfsAnswer.TheVariants as answer
 use Rattle.nfs_args.specs.declared.args.NfsArgs.TheVariants as nfs
-use Rattle.nfs_attrs.specs.Spelling.{IsPostOpAttr}
+use Rattle.nfs_attrs.specs.Encoding.{IsPostOpAttr}
 use Rattle.nfs_attrs.specs.declared.fattr.Fattr.{Fattr}
 use Rattle.nfs_inodes.specs.Tree.{on_some}
 use Rattle.nfs_procs.proofs.Reading.{reads, denies, with_attributes}
-use Rattle.nfs_procs.proofs.Spelled.{denied_spelled}
+use Rattle.nfs_procs.proofs.Encoded.{denied_encoded}
 use Rattle.nfs_procs.specs.Performing.{AppendsAnswer}
 use Rattle.nfs_procs.specs.Readers as procedure
 use Rattle.nfs_procs.specs.Scenes.{scene}
@@ -29,4 +29,4 @@ pub returns-in-Err : goal.returns-in-Err
 returns-in-Err c =
     let a = c.args.args.now in
     denies (scene c.args.tree.now c.args.call.now (nfs.Lookup a)) (procedure.lookup a) a.dir c.in-Err.denial c.write_denied_attributes.result (with_attributes answer.Lookup c.in-Err.denial.rule) _ _ c.in-Err.ensures refl
-    (record { text = c.write_denied_attributes.ensures.text; spelled = denied_spelled answer.Lookup IsFound IsPostOpAttr _ _ c.write_denied_attributes.ensures.spelled }) c.write_denied_attributes.ensures.done
+    (record { text = c.write_denied_attributes.ensures.text; encoded = denied_encoded answer.Lookup IsFound IsPostOpAttr _ _ c.write_denied_attributes.ensures.encoded }) c.write_denied_attributes.ensures.done

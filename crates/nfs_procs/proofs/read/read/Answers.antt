@@ -2,11 +2,11 @@ use Rattle.std.proofs.Common.{take, drop, min, Ok, refl, sym, subst, ◌∙◌, 
 use Rattle.nfs_args.specs.Results.{IsReadData}
 use Rattle.nfs_args.specs.declared.answer.NfsAnswer.TheVariants as answer
 use Rattle.nfs_args.specs.declared.args.NfsArgs.TheVariants as nfs
-use Rattle.nfs_attrs.specs.Spelling.{IsPostOpAttr}
+use Rattle.nfs_attrs.specs.Encoding.{IsPostOpAttr}
 use Rattle.nfs_attrs.specs.declared.fattr.Fattr.{Fattr}
 use Rattle.nfs_inodes.specs.Reading.{bytes_at}
 use Rattle.nfs_procs.proofs.Reading.{reads, denies, with_attributes}
-use Rattle.nfs_procs.proofs.Spelled.{denied_spelled}
+use Rattle.nfs_procs.proofs.Encoded.{denied_encoded}
 use Rattle.nfs_procs.specs.Performing.{AppendsAnswer}
 use Rattle.nfs_procs.specs.Readers as procedure
 use Rattle.nfs_procs.specs.Scenes.{scene}
@@ -27,4 +27,4 @@ pub returns-in-Err : goal.returns-in-Err
 returns-in-Err c =
     let a = c.args.args.now in
     denies (scene c.args.tree.now c.args.call.now (nfs.Read a)) (procedure.read a) a.file c.in-Err.denial c.write_denied_attributes.result (with_attributes answer.Read c.in-Err.denial.rule) _ _ c.in-Err.ensures refl
-    (record { text = c.write_denied_attributes.ensures.text; spelled = denied_spelled answer.Read IsReadData IsPostOpAttr _ _ c.write_denied_attributes.ensures.spelled }) c.write_denied_attributes.ensures.done
+    (record { text = c.write_denied_attributes.ensures.text; encoded = denied_encoded answer.Read IsReadData IsPostOpAttr _ _ c.write_denied_attributes.ensures.encoded }) c.write_denied_attributes.ensures.done

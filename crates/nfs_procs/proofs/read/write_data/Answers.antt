@@ -26,4 +26,4 @@ returns c =
     (c.min-len.ensures ∙ ap (min c.saturating_sub-left.result) (c.from.ensures ∙ c.min.ensures))
     c.u32.ensures.text c.write_read_head.ensures.text
     (subst (λ bytes. Appends (take c.min-len.result (drop c.args.offset bytes)) c.write_read_head.new.out c.write_bytes.new.out) bytes c.write_bytes.ensures)
-    c.pad.ensures c.write_read_head.ensures.spelled)
+    c.pad.ensures c.write_read_head.ensures.encoded)

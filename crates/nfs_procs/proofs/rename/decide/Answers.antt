@@ -1,11 +1,10 @@
-use Rattle.std.proofs.Common.{refl, sym, subst, ◌∙◌}
+use Rattle.std.proofs.Common.{Some, refl, sym, subst}
 use Rattle.nfs_args.specs.declared.args.NfsArgs.TheVariants as nfs
-use Rattle.nfs_attrs.specs.declared.fattr.Fattr.{Fattr}
-use Rattle.nfs_inodes.specs.Conditions.{MayRename}
 use Rattle.nfs_inodes.specs.Law.{Law}
 use Rattle.nfs_procs.proofs.Pairs.{pair_denied_by_rule, pair_denied_through, pair_granted}
-use Rattle.nfs_procs.specs.Plans.{PlansRename}
-use Rattle.nfs_rules.proofs.Renames.{may_rename}
+use Rattle.nfs_procs.specs.Plans.{PlansRename, RoutesRename}
+use Rattle.nfs_rules.proofs.Renames.{may_rename_seen}
+use Rattle.nfs_rules.specs.Tests.{found}
 use Rattle.nfs_procs.proofs.rename.decide.Goals as goal
 
 pub returns-in-Ok : goal.returns-in-Ok
@@ -16,24 +15,24 @@ returns-in-Ok c =
     let u = c.in_ok-from.to in
     let named = c.in_ok-from.ensures in
     let one = named.first_is in
-    let two = named.second_is in (
+    let two = named.second_is in
+    let plan = c.plan_of.result in
+    let routes : RoutesRename s u (found s a.from.name) (found u a.to.name) plan = subst (λ o. RoutesRename s u o (found u a.to.name) plan) (sym c.in-Ok.ensures.moved)
+    (subst (λ o. RoutesRename s u (Some c.in-Ok.moved.attributes) o plan) c.in-Ok.ensures.replaced c.plan_of.ensures) in (
       s,
       u,
-      pair_granted tree c.args.call.now (nfs.Rename a) a.from.dir a.to.dir refl s u named c.in-Ok.ensures,
+      pair_granted tree c.args.call.now (nfs.Rename a) a.from.dir a.to.dir refl s u named c.in-Ok.ensures.rules,
       record {
         tree = one.tree;
-        from_is = c.of.ensures ∙ c.view.ensures.attributes;
-        to_is = (c.of-in-Ok.ensures ∙ c.view-in-Ok.ensures.attributes);
-        may = subst (λ (f : Fattr). MayRename tree f.fileid a.from.name c.of-in-Ok.result.attributes.fileid a.to.name) (sym (c.of.ensures ∙ c.view.ensures.attributes))
-            (subst (λ (f : Fattr). MayRename tree s.file.fileid a.from.name f.fileid a.to.name) (sym (c.of-in-Ok.ensures ∙ c.view-in-Ok.ensures.attributes))
-            (may_rename tree (subst Law one.tree one.law) s u one.tree two.tree one.file two.file named.volume a c.in-Ok.ensures));
+        routes = routes;
+        may = may_rename_seen tree (subst Law one.tree one.law) s u one.tree two.tree one.file two.file named.volume a c.in-Ok.ensures.rules plan.route routes.from_number routes.to_number routes.number routes.names;
       },
     )
 
 pub returns-in-Err : goal.returns-in-Err
 returns-in-Err c =
     let a = c.args.args.now in
-    pair_denied_by_rule c.args.tree.now c.args.call.now (nfs.Rename a) a.from.dir a.to.dir refl c.in_ok-from.from c.in_ok-from.to c.in_ok-from.ensures c.in-Err.rule c.of_rule.result c.in-Err.ensures c.of_rule.ensures
+    pair_denied_by_rule c.args.tree.now c.args.call.now (nfs.Rename a) a.from.dir a.to.dir refl c.in_ok-from.from c.in_ok-from.to c.in_ok-from.ensures c.in-Err.rule c.of_rule.result c.in-Err.ensures.rules c.of_rule.ensures
 
 pub returns-in_err-from : goal.returns-in_err-from
 returns-in_err-from c =

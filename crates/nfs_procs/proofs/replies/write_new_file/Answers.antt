@@ -13,10 +13,10 @@ returns-in-Some-clause-text c = subst (λ (m : Made). Appends (made_text m) c.ar
 pub returns-in-None-clause-text : goal.returns-in-None-clause-text
 returns-in-None-clause-text c = subst (λ (m : Made). Appends (made_text m) c.args.out.now c.write_made-in-None.new.out) (shows_none c.args.tree.now c.args.file.0 c.args.dir c.in-None.ensures.none) c.write_made-in-None.ensures.text
 
-pub returns-in-Some-clause-spelled : goal.returns-in-Some-clause-spelled
-returns-in-Some-clause-spelled c = subst (λ (m : Made). IsMade m (made_text m))
+pub returns-in-Some-clause-encoded : goal.returns-in-Some-clause-encoded
+returns-in-Some-clause-encoded c = subst (λ (m : Made). IsMade m (made_text m))
     (shows_seen c.args.tree.now c.args.file.0 c.args.dir c.in-Some.file c.new.result c.handle-handle.result c.attributes.result c.in-Some.ensures.some c.in-Some.ensures.number c.handle-handle.ensures (c.new.ensures ∙ c.as_slice.ensures) c.attributes.ensures)
-    c.write_made.ensures.spelled
+    c.write_made.ensures.encoded
 
-pub returns-in-None-clause-spelled : goal.returns-in-None-clause-spelled
-returns-in-None-clause-spelled c = subst (λ (m : Made). IsMade m (made_text m)) (shows_none c.args.tree.now c.args.file.0 c.args.dir c.in-None.ensures.none) c.write_made-in-None.ensures.spelled
+pub returns-in-None-clause-encoded : goal.returns-in-None-clause-encoded
+returns-in-None-clause-encoded c = subst (λ (m : Made). IsMade m (made_text m)) (shows_none c.args.tree.now c.args.file.0 c.args.dir c.in-None.ensures.none) c.write_made-in-None.ensures.encoded

@@ -4,11 +4,11 @@ use Rattle.std.specs.Prelude.{Some}
 use Rattle.nfs_args.specs.Results.{IsWritten}
 use Rattle.nfs_args.specs.declared.answer.NfsAnswer.TheVariants as answer
 use Rattle.nfs_args.specs.declared.args.NfsArgs.TheVariants as nfs
-use Rattle.nfs_attrs.specs.Spelling.{IsWcc}
+use Rattle.nfs_attrs.specs.Encoding.{IsWcc}
 use Rattle.nfs_inodes.specs.Changes.{after_write_at}
 use Rattle.nfs_procs.proofs.Reading.{denies, with_change}
-use Rattle.nfs_procs.proofs.Spelled.{denied_spelled}
-use Rattle.nfs_procs.proofs.WrittenBytes.{lives_behind, wrote, unwritten}
+use Rattle.nfs_procs.proofs.Encoded.{denied_encoded}
+use Rattle.nfs_procs.proofs.WrittenBytes.{lives_after, wrote, unwritten}
 use Rattle.nfs_procs.specs.Changers as procedure
 use Rattle.nfs_procs.specs.Changers.{after_settings, mode_alone}
 use Rattle.nfs_procs.specs.Doing.{change}
@@ -18,7 +18,7 @@ use Rattle.nfs_procs.proofs.write.write.Goals as goal
 pub set_mode-requires : goal.set_mode-requires
 set_mode-requires c =
     let plans = c.in-Ok.ensures in
-    lives_behind c.args.tree.now c.write_at.new.self c.args.args.now c.in-Ok.plan plans.0 c.bytes-bytes.result.now c.args.call.now.moment plans.2 c.in-Ok-write_at.ensures.ok
+    lives_after c.args.tree.now c.write_at.new.self c.args.args.now c.in-Ok.plan plans.0 c.bytes-bytes.result.now c.args.call.now.moment plans.2 c.in-Ok-write_at.ensures.ok
 
 pub returns : goal.returns
 returns c =
@@ -44,4 +44,4 @@ pub returns-in-Err : goal.returns-in-Err
 returns-in-Err c =
     let a = c.args.args.now in
     denies (scene c.args.tree.now c.args.call.now (nfs.Write a)) (procedure.write a) a.file c.in-Err.denial c.write_denied_change.result (with_change answer.Write c.in-Err.denial.rule) _ _ c.in-Err.ensures refl
-    (record { text = c.write_denied_change.ensures.text; spelled = denied_spelled answer.Write IsWritten IsWcc _ _ c.write_denied_change.ensures.spelled }) c.write_denied_change.ensures.done
+    (record { text = c.write_denied_change.ensures.text; encoded = denied_encoded answer.Write IsWritten IsWcc _ _ c.write_denied_change.ensures.encoded }) c.write_denied_change.ensures.done

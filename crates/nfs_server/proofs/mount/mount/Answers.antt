@@ -10,7 +10,7 @@ returns-in-Mount-clause-mounts c = of_args _ _ _ _ _ _ _ _ _ _ c.in-Mount.is
     (subst (λ path. Mounts c.args.tree.now c.args.table.now c.args.addr path c.mnt.result c.args.mounts.now c.mnt.new.self c.args.out.now c.mnt.new.out) c.bytes.ensures c.mnt.ensures)
 
 pub returns-in-Dump-clause-mounts : goal.returns-in-Dump-clause-mounts
-returns-in-Dump-clause-mounts c = of_args _ _ _ _ _ _ _ _ _ _ c.in-Dump.is (refl, refl, c.write_dump.ensures.text, c.write_dump.ensures.spelled)
+returns-in-Dump-clause-mounts c = of_args _ _ _ _ _ _ _ _ _ _ c.in-Dump.is (refl, refl, c.write_dump.ensures.text, c.write_dump.ensures.encoded)
 
 pub returns-in-Unmount-clause-mounts : goal.returns-in-Unmount-clause-mounts
 returns-in-Unmount-clause-mounts c = of_args _ _ _ _ _ _ _ _ _ _ c.in-Unmount.is
@@ -20,4 +20,4 @@ pub returns-in-UnmountAll-clause-mounts : goal.returns-in-UnmountAll-clause-moun
 returns-in-UnmountAll-clause-mounts c = of_args _ _ _ _ _ _ _ _ _ _ c.in-UnmountAll.is (refl, c.umnt_all.ensures, none_written c.args.out.now, record { value_is = refl; text_is = refl })
 
 pub returns-in-Export-clause-mounts : goal.returns-in-Export-clause-mounts
-returns-in-Export-clause-mounts c = of_args _ _ _ _ _ _ _ _ _ _ c.in-Export.is (refl, refl, c.write_export.ensures.text, c.write_export.ensures.spelled)
+returns-in-Export-clause-mounts c = of_args _ _ _ _ _ _ _ _ _ _ c.in-Export.is (refl, refl, c.write_export.ensures.text, c.write_export.ensures.encoded)

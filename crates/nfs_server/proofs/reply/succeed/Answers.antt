@@ -1,5 +1,5 @@
-use Rattle.nfs_server.proofs.Room.{behind_is}
+use Rattle.nfs_server.proofs.Room.{after_is}
 use Rattle.nfs_server.proofs.reply.succeed.Goals as goal
 
 pub returns-clause-reply : goal.returns-clause-reply
-returns-clause-reply c = behind_is c.args.out.now c.write_accepted.new.out _ c.write_accepted.ensures.bytes
+returns-clause-reply c = after_is c.args.out.now c.write_accepted.new.out _ c.write_accepted.ensures.bytes

@@ -12,7 +12,7 @@ invariant-loop-turn g l = record {
   limit : l.framer.limit ≡ max_record_bytes;
   setup : l.server.setup ≡ l.fn.server.setup;
   feeds : (reads : List (List ℕ)) × (length reads ≡ l._turn) × Reads g.R.ByteIn.gives l.fn.reader reads l.reader
-      × StreamFeeds g.C.Moments.tells l.addr (bytes_read reads) (Ok l.served.calls) (course 0 l.served.rest) (course l.fn.server l.server) (course l.fn.framer l.framer) (course l.fn.clock l.clock)
+      × StreamFeeds g.C.Moments.reports l.addr (bytes_read reads) (Ok l.served.calls) (course 0 l.served.rest) (course l.fn.server l.server) (course l.fn.framer l.framer) (course l.fn.clock l.clock)
       (device (g.A.ByteOut.contents l.fn.audit) (g.A.ByteOut.contents l.audit))
       (device (g.W.ByteOut.contents l.fn.writer) (g.W.ByteOut.contents l.writer));
 }

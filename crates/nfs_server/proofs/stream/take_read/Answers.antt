@@ -13,7 +13,7 @@ loop-used-init g c =
       between = c.requires.between;
       limit = refl;
       setup = refl;
-      feeds = stream_begins g.C.Moments.tells c.args.addr c.args.server.now c.args.framer.now c.args.framer.now c.args.clock.now _ _ [] c.args.unfinished refl c.requires.between moves;
+      feeds = stream_begins g.C.Moments.reports c.args.addr c.args.server.now c.args.framer.now c.args.framer.now c.args.clock.now _ _ [] c.args.unfinished refl c.requires.between moves;
     }
 
 pub loop-used-preserved : goal.loop-used-preserved
@@ -26,14 +26,14 @@ loop-used-preserved g c =
       between = c.in-Ok.ensures.between;
       limit = c.in-Ok.ensures.limit ∙ inv.limit;
       setup = c.in-Ok.ensures.setup ∙ inv.setup;
-      feeds = takes_on g.C.Moments.tells c.args.addr c.args.piece.now c.loop-used.used c.loop-used.taken.calls c.args.unfinished c.loop-used.taken.rest c.args.server.now c.loop-used.server c.args.framer.now c.loop-used.framer c.args.clock.now c.loop-used.clock _ _ _ _ inv.feeds
+      feeds = takes_on g.C.Moments.reports c.args.addr c.args.chunk.now c.loop-used.used c.loop-used.taken.calls c.args.unfinished c.loop-used.taken.rest c.args.server.now c.loop-used.server c.args.framer.now c.loop-used.framer c.args.clock.now c.loop-used.clock _ _ _ _ inv.feeds
           c.take_one.new.server c.take_one.new.framer c.take_one.new.clock _ _ c.in-Ok.ensures.limit c.in-Ok.part c.in-Ok.ensures.feeds;
     }
 
 pub returns-in-Err-clause-feeds : goal.returns-in-Err-clause-feeds
 returns-in-Err-clause-feeds g c =
-    breaks_on g.C.Moments.tells c.args.addr c.args.piece.now c.loop-used.used c.loop-used.taken.calls c.args.unfinished c.loop-used.taken.rest c.args.server.now c.loop-used.server c.args.framer.now c.loop-used.framer c.args.clock.now c.loop-used.clock _ _ _ _ c.loop-used.invariant.feeds
+    breaks_on g.C.Moments.reports c.args.addr c.args.chunk.now c.loop-used.used c.loop-used.taken.calls c.args.unfinished c.loop-used.taken.rest c.args.server.now c.loop-used.server c.args.framer.now c.loop-used.framer c.args.clock.now c.loop-used.clock _ _ _ _ c.loop-used.invariant.feeds
     c.take_one.new.server c.take_one.new.framer c.take_one.new.clock _ _ c.in-Err.ensures.limit c.in-Err.fault 0 c.in-Err.ensures.feeds
 
 pub returns-clause-feeds : goal.returns-clause-feeds
-returns-clause-feeds g c = all_taken g.C.Moments.tells c.args.addr c.args.piece.now c.loop-used.used c.loop-used.taken.calls c.args.unfinished c.loop-used.taken.rest c.args.server.now c.loop-used.server c.args.framer.now c.loop-used.framer c.args.clock.now c.loop-used.clock _ _ _ _ c.loop-used.invariant.feeds (omega arith)
+returns-clause-feeds g c = all_taken g.C.Moments.reports c.args.addr c.args.chunk.now c.loop-used.used c.loop-used.taken.calls c.args.unfinished c.loop-used.taken.rest c.args.server.now c.loop-used.server c.args.framer.now c.loop-used.framer c.args.clock.now c.loop-used.clock _ _ _ _ c.loop-used.invariant.feeds (omega arith)

@@ -1,5 +1,5 @@
 use Rattle.std.specs.Int.{w32}
-use Rattle.nfs_xdr.specs.Spelling.{IsNumber}
+use Rattle.nfs_xdr.specs.Encoding.{IsNumber}
 use Rattle.nfs_xdr.specs.Reading.{number_at}
 use Rattle.nfs_xdr.proofs.Items.{finds_u32, finds_u64, finds_boolean, finds_fixed, finds_opaque, finds_array}
 use Rattle.nfs_xdr.proofs.laws.items_are_found.Goals as goal

@@ -1,6 +1,6 @@
 use Rattle.std.proofs.Common.{subst, ◌∙◌}
 use Rattle.nfs_xdr.specs.Reading.{AreBytes}
-use Rattle.nfs_args.specs.Spelling.{IsArgsOf}
+use Rattle.nfs_args.specs.Encoding.{IsArgsOf}
 use Rattle.nfs_args.specs.Reading.{args_at}
 use Rattle.nfs_args.proofs.Finds.{finds_args, found_there, none_there}
 use Rattle.nfs_args.proofs.args.NfsArgs.read.Goals as goal

@@ -9,8 +9,8 @@ pub returns-then-offset-self : goal.returns-then-offset-self
 returns-then-offset-self c =
     let ps = pages_of c.self.inside.table in
     let len = shown_len ps c.self.inside.len in
-    let past = c.if-offset-self.true in
-    subst (λ (xs : List ℕ). IsFirstChunk [] (drop c.args.offset xs)) c.self.view_is (no_chunk (shown ps c.self.inside.len) c.args.offset (omega (arith, len, past)))
+    let history = c.if-offset-self.true in
+    subst (λ (xs : List ℕ). IsFirstChunk [] (drop c.args.offset xs)) c.self.view_is (no_chunk (shown ps c.self.inside.len) c.args.offset (omega (arith, len, history)))
 
 pub returns-then-first-page : goal.returns-then-first-page
 returns-then-first-page c =

@@ -3,12 +3,12 @@ use Rattle.std.specs.Prelude.{is_none}
 use Rattle.std.proofs.lemmas.Bool.Decides.{Decides-at, Decides-like}
 use Rattle.nfs_inodes.specs.Tree.{Volume}
 use Rattle.nfs_inodes.specs.Reading.{index_where}
-use Rattle.nfs_inodes.proofs.Tests.{unnamed, none_told}
+use Rattle.nfs_inodes.proofs.Tests.{unnamed, none_reported}
 use Rattle.nfs_inodes.proofs.tree.Tree.may_add_volume.Goals as goal
 
 pub returns : goal.returns
 returns c = Decides-at c.is_none.result (is_none (index_where (λ (v : Volume). bytes_eq v.path c.args.path.now) c.args.self.now.volumes))
-    (none_told c.volume_named.result c.is_none.result c.is_none.ensures ∙ ap is_none c.volume_named.ensures)
+    (none_reported c.volume_named.result c.is_none.result c.is_none.ensures ∙ ap is_none c.volume_named.ensures)
     (Decides-like (is_none (index_where (λ (v : Volume). bytes_eq v.path c.args.path.now) c.args.self.now.volumes))
     (λ fresh. record {
       few = subst (λ k. k < 64) c.volumes.ensures c.if-volumes-ge-MAX_VOLUMES.false;

@@ -6,8 +6,8 @@ use Rattle.nfs_rpc.proofs.framer.Framer.feed.Given as goal
 abbrev pub invariant-loop-used : goal.invariant-loop-used
 invariant-loop-used l = record {
   limit : l.self.limit ≡ l.fn.self.limit;
-  within : l.used ≤ length l.piece;
-  moves : Moves l.fn.self (take l.used l.piece) l.self;
+  within : l.used ≤ length l.chunk;
+  moves : Moves l.fn.self (take l.used l.chunk) l.self;
   started : l.fn.self.stage ≢ Ready;
   began : l.fn.self.stage ≢ Failed;
   alive : l.self.stage ≢ Failed;
@@ -15,4 +15,4 @@ invariant-loop-used l = record {
 }
 
 abbrev pub decreases-loop-used : goal.decreases-loop-used
-decreases-loop-used l = length l.piece - l.used
+decreases-loop-used l = length l.chunk - l.used

@@ -5,5 +5,5 @@ use Rattle.nfs_rpc.proofs.framer.Framer.take_body.Goals as goal
 
 pub returns-clause-moves : goal.returns-clause-moves
 returns-clause-moves c =
-    body_moves c.args.self.now _ c.args.last c.args.left c.min-n.result (take c.min-n.result c.args.piece.now) c.requires.stage (omega (arith, c.min-n.ensures)) (omega (arith, c.min-n.ensures, length-take c.min-n.result c.args.piece.now))
+    body_moves c.args.self.now _ c.args.last c.args.left c.min-n.result (take c.min-n.result c.args.chunk.now) c.requires.stage (omega (arith, c.min-n.ensures)) (omega (arith, c.min-n.ensures, length-take c.min-n.result c.args.chunk.now))
     (record { limit = search rules; stage_is = c.stage_before-self-inside.ensures.stage; content_is = search rules })

@@ -1,12 +1,12 @@
 use Rattle.std.proofs.Common.{◌≡◌, None, is_some, refl, ap, sym, subst, ◌∙◌}
-use Rattle.nfs_kept.specs.Places.{kept_reply}
+use Rattle.nfs_reply_cache.specs.Places.{cached_reply}
 use Rattle.nfs_rpc.specs.Calls.{head_at}
 use Rattle.nfs_server.specs.Events.{Answer, silence}
 use Rattle.nfs_server.specs.Fits.{Held}
 use Rattle.nfs_server.specs.OneEvent.{AnswersRecord, AnswersCalled}
-use Rattle.nfs_server.specs.Repeats.{key_of}
-use Rattle.nfs_server.specs.ReplyRoom.{behind, reply_at}
-use Rattle.nfs_server.specs.InMemory.{event_of, held, told}
+use Rattle.nfs_server.specs.Retransmissions.{key_of}
+use Rattle.nfs_server.specs.ReplyRoom.{after, reply_at}
+use Rattle.nfs_server.specs.InMemory.{event_of, held, reported}
 use Rattle.nfs_server.proofs.Judged.{whatever_line}
 use Rattle.nfs_server.proofs.Performed.{no_choice}
 use Rattle.nfs_server.proofs.Room.{reply_is}
@@ -18,16 +18,16 @@ returns-in_default-clause-answers c =
     let old : Held = held inside.kept inside.table inside.tree inside.mounts inside.line in
     let new : Held = held inside.kept inside.table inside.tree inside.mounts None in
     subst (λ (h : Held). AnswersRecord h event silence new) c.self.view_is
-    (refl, subst (λ head. AnswersCalled head old event silence new) (sym c.in_default.ensures.exact) (no_choice (is_some (kept_reply (key_of event) old.kept)), refl, ((refl, refl), refl)))
+    (refl, subst (λ head. AnswersCalled head old event silence new) (sym c.in_default.ensures.exact) (no_choice (is_some (cached_reply (key_of event) old.kept)), refl, ((refl, refl), refl)))
 
 pub returns-clause-answers : goal.returns-clause-answers
 returns-clause-answers c =
     let inside = c.self.inside in let event = event_of c.args.event in let new = c.respond.new.self in
     let old : Held = held inside.kept inside.table inside.tree inside.mounts inside.line in
-    let answer = told (behind c.begin.new.out c.respond.new.out) new.line in
-    let shown = reply_at _ c.seal.new.out in
-    let told_is : answer ≡ told shown new.line = ap (λ r. told r new.line) (reply_is _ c.begin.new.out c.respond.new.out c.begin.ensures.mark ∙ sym c.seal.ensures.same) in
+    let answer = reported (after c.begin.new.out c.respond.new.out) new.line in
+    let shown = reply_at _ c.frame.new.out in
+    let reported_is : answer ≡ reported shown new.line = ap (λ r. reported r new.line) (reply_is _ c.begin.new.out c.respond.new.out c.begin.ensures.mark ∙ sym c.frame.ensures.same) in
     let called : AnswersCalled (head_at c.args.event.bytes.now) old event answer new =
     whatever_line (head_at c.args.event.bytes.now) old c.forget.new.line event answer new (subst (λ head. AnswersCalled head (record old { line = c.forget.new.line }) event answer new) (sym c.in-Ok.ensures.exact) c.respond.ensures.judged) in
-    subst (λ (h : Held). AnswersRecord h event (told shown new.line) new) c.self.view_is
-    (c.respond.ensures.setup, subst (λ (a : Answer). AnswersCalled (head_at c.args.event.bytes.now) old event a new) told_is called)
+    subst (λ (h : Held). AnswersRecord h event (reported shown new.line) new) c.self.view_is
+    (c.respond.ensures.setup, subst (λ (a : Answer). AnswersCalled (head_at c.args.event.bytes.now) old event a new) reported_is called)

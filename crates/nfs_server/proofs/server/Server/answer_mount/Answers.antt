@@ -5,8 +5,8 @@ use Rattle.nfs_server.specs.Requests.{mount_args_in}
 use Rattle.nfs_server.specs.RpcRules.{caller_rules}
 use Rattle.nfs_server.specs.Fits.{Held}
 use Rattle.nfs_server.specs.OneEvent.{AnswersBy}
-use Rattle.nfs_server.specs.ReplyRoom.{behind}
-use Rattle.nfs_server.specs.InMemory.{event_of, held, told}
+use Rattle.nfs_server.specs.ReplyRoom.{after}
+use Rattle.nfs_server.specs.InMemory.{event_of, held, reported}
 use Rattle.nfs_server.specs.declared.rpc_rules.RpcRule.TheVariants.{Arguments}
 use Rattle.std.proofs.Common.{[], ◌∷◌}
 use Rattle.nfs_server.proofs.Judged.{denied_by, denied_unread, mount_lacks, mount_requested}
@@ -18,7 +18,7 @@ returns-in-Some-clause-judged c = denied_by c.args.self.now (event_of c.args.eve
 
 pub returns-in_default-read_mount_args-clause-judged : goal.returns-in_default-read_mount_args-clause-judged
 returns-in_default-read_mount_args-clause-judged c = denied_unread c.args.self.now (event_of c.args.event) (call_of c.args.head.now) c.args.head.now.args _ _ c.requires.null (sym c.caller_failure.ensures ∙ c.in_default.is)
-    (mount_lacks (call_of c.args.head.now) c.args.head.now.args c.requires.mount ∙ ap is_none (sym (c.read_mount_args.ensures ∙ ap (mount_args_in c.args.head.now.proc) (c.new.ensures ∙ c.rest.ensures.all)) ∙ ap result_ok c.in_default-read_mount_args.is))
+    (mount_lacks (call_of c.args.head.now) c.args.head.now.args c.requires.mount ∙ ap is_none (sym (c.read_mount_args.ensures c.args.head.now.proc c.requires.procedure ∙ ap (mount_args_in c.args.head.now.proc) (c.new.ensures ∙ c.rest.ensures.all)) ∙ ap result_ok c.in_default-read_mount_args.is))
     c.deny-in_default-read_mount_args.ensures.reply c.deny-in_default-read_mount_args.ensures.line
 
 pub returns-clause-judged : goal.returns-clause-judged
@@ -26,6 +26,6 @@ returns-clause-judged c =
     let inside = c.self.inside in
     let new : Held = held inside.kept inside.table inside.tree c.answer_mount.new.mounts c.answer_mount.new.line in
     let bytes = c.args.head.now.args in
-    subst (λ (h : Held). AnswersBy (caller_rules ++ Arguments ∷ []) h (event_of c.args.event) (call_of c.args.head.now) bytes (told (behind c.args.out.now c.answer_mount.new.out) c.answer_mount.new.line) new) c.self.view_is
+    subst (λ (h : Held). AnswersBy (caller_rules ++ Arguments ∷ []) h (event_of c.args.event) (call_of c.args.head.now) bytes (reported (after c.args.out.now c.answer_mount.new.out) c.answer_mount.new.line) new) c.self.view_is
     (mount_requested (held inside.kept inside.table inside.tree inside.mounts inside.line) (event_of c.args.event) (call_of c.args.head.now) bytes c.in-Ok.args _ new c.requires.mount c.requires.null (sym c.caller_failure.ensures ∙ c.in_default.is)
-    (sym (c.read_mount_args.ensures ∙ ap (mount_args_in c.args.head.now.proc) (c.new.ensures ∙ c.rest.ensures.all)) ∙ ap result_ok c.in-Ok.is) refl refl c.answer_mount.ensures.answers)
+    (sym (c.read_mount_args.ensures c.args.head.now.proc c.requires.procedure ∙ ap (mount_args_in c.args.head.now.proc) (c.new.ensures ∙ c.rest.ensures.all)) ∙ ap result_ok c.in-Ok.is) refl refl c.answer_mount.ensures.answers)

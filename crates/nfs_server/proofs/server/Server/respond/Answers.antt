@@ -5,7 +5,7 @@ use Rattle.nfs_server.specs.AuditLines.{line_of}
 use Rattle.nfs_server.specs.RpcAnswers.{Admits}
 use Rattle.nfs_server.specs.RpcRules.{head_rules, rpc_reply}
 use Rattle.nfs_server.specs.InMemory.{event_of}
-use Rattle.nfs_server.specs.declared.audit_line.Reason.TheVariants.{Rpc}
+use Rattle.nfs_server.specs.declared.audit_line.DenialReason.TheVariants.{Rpc}
 use Rattle.nfs_server.specs.declared.rpc_rules.Admitted.TheVariants.{Null, Nfs, Mount}
 use Rattle.nfs_server.proofs.Judged.{admitted, call_rules, denied_by, null_done, of_copy}
 use Rattle.nfs_server.proofs.server.Server.respond.Goals as goal
@@ -24,12 +24,12 @@ returns-in-Ok-Null-clause-judged c =
 
 pub returns-in-Ok-Nfs-clause-judged : goal.returns-in-Ok-Nfs-clause-judged
 returns-in-Ok-Nfs-clause-judged c =
-    let admits : Admits (call_of c.args.head.now) c.args.head.now.args (Ok Nfs) = subst (Admits (call_of c.args.head.now) c.args.head.now.args) (c.in-Ok-Nfs.is ∙ ap Ok c.in-Ok-Nfs.field-0-is) c.admit.ensures in
+    let admits : Admits (call_of c.args.head.now) c.args.head.now.args (Ok (Nfs c.in-Ok-Nfs.procedure)) = subst (Admits (call_of c.args.head.now) c.args.head.now.args) (c.in-Ok-Nfs.is ∙ ap Ok c.in-Ok-Nfs.field-0-is) c.admit.ensures in
     admitted c.args.self.now (event_of c.args.event) (call_of c.args.head.now) c.args.head.now.args _ c.answer_nfs.new.self admits.0
     (of_copy call_rules c.args.self.now (event_of c.args.event) (call_of c.copied-in-Ok-Nfs.result) (call_of c.args.head.now) _ _ _ c.answer_nfs.new.self c.copied-in-Ok-Nfs.ensures.call c.copied-in-Ok-Nfs.ensures.args c.answer_nfs.ensures.judged)
 
 pub returns-in-Ok-Mount-clause-judged : goal.returns-in-Ok-Mount-clause-judged
 returns-in-Ok-Mount-clause-judged c =
-    let admits : Admits (call_of c.args.head.now) c.args.head.now.args (Ok Mount) = subst (Admits (call_of c.args.head.now) c.args.head.now.args) (c.in-Ok-Mount.is ∙ ap Ok c.in-Ok-Mount.field-0-is) c.admit.ensures in
+    let admits : Admits (call_of c.args.head.now) c.args.head.now.args (Ok (Mount c.in-Ok-Mount.procedure)) = subst (Admits (call_of c.args.head.now) c.args.head.now.args) (c.in-Ok-Mount.is ∙ ap Ok c.in-Ok-Mount.field-0-is) c.admit.ensures in
     admitted c.args.self.now (event_of c.args.event) (call_of c.args.head.now) c.args.head.now.args _ c.answer_mount.new.self admits.0
     (of_copy call_rules c.args.self.now (event_of c.args.event) (call_of c.copied-in-Ok-Mount.result) (call_of c.args.head.now) _ _ _ c.answer_mount.new.self c.copied-in-Ok-Mount.ensures.call c.copied-in-Ok-Mount.ensures.args c.answer_mount.ensures.judged)

@@ -1,7 +1,7 @@
 use Rattle.std.proofs.Common.{◌≡◌, ℕ, ◌<◌, length, take, get_or}
 use Rattle.std.specs.Int.{w32, to_be_bytes}
 use Rattle.std.specs.List.{flat_map}
-use Rattle.nfs_xdr.specs.Spelling.{IsNumber, numbers_text}
+use Rattle.nfs_xdr.specs.Encoding.{IsNumber, numbers_text}
 use Rattle.nfs_xdr.proofs.output.Output.numbers.Given as goal
 
 abbrev pub invariant-loop-i : goal.invariant-loop-i

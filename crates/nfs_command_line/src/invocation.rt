@@ -1,0 +1,255 @@
+//! What the words of the command line ask for.
+
+use crate::usage::UsageFault;
+use clap::ArgMatches;
+
+/// A command with its words. A file `-` is standard input.
+#[derive(Clone, Copy)]
+pub enum Invocation<'a> {
+    /// How much a description holds.
+    Check {
+        /// The description's file.
+        tree: &'a str,
+        /// Whether a warning is a fault.
+        is_strict: bool,
+        /// Whether the lines after the first faulty one are reported too.
+        is_whole: bool,
+    },
+    /// Why a call is granted or denied.
+    Why(Why<'a>),
+    /// Who may reach which volume.
+    Exports {
+        /// The description's file.
+        tree: &'a str,
+    },
+    /// A script is run.
+    Replay(Replay<'a>),
+    /// Clients are served.
+    Serve(Serve<'a>),
+    /// A directory on disk is described.
+    Describe(Describe<'a>),
+    /// A call is served over a connection of its own.
+    SelfCall {
+        /// The description's file.
+        tree: &'a str,
+    },
+}
+
+/// The words of `why`.
+#[derive(Clone, Copy)]
+pub struct Why<'a> {
+    /// The description's file.
+    pub tree: &'a str,
+    /// The client's address.
+    pub address: &'a str,
+    /// The user, in the client's words.
+    pub user: &'a str,
+    /// What is done.
+    pub operation: &'a str,
+    /// With what.
+    pub path: &'a str,
+    /// What stands after the path.
+    pub second: Option<&'a str>,
+}
+
+/// The words of `replay`.
+#[derive(Clone, Copy)]
+pub struct Replay<'a> {
+    /// The description's file.
+    pub tree: &'a str,
+    /// The script's.
+    pub script: &'a str,
+    /// How many replies are kept.
+    pub cache: usize,
+    /// Where the tree is saved.
+    pub save: Option<&'a str>,
+    /// The key of what is saved, in 16 hexadecimal digits; without it a new one.
+    pub key: Option<&'a str>,
+    /// Whether replies are printed in words too.
+    pub is_decoded: bool,
+    /// Whether denied calls are reported with names.
+    pub is_named: bool,
+}
+
+/// The words of `serve`.
+#[derive(Clone, Copy)]
+pub struct Serve<'a> {
+    /// The description's file.
+    pub tree: &'a str,
+    /// The address that is listened at.
+    pub listen: &'a str,
+    /// Its port.
+    pub port: u16,
+    /// After how many connections it ends.
+    pub connections: Option<u64>,
+    /// How many clients are served at once.
+    pub clients: usize,
+    /// After how many seconds without a byte a connection ends.
+    pub idle: Option<u64>,
+    /// How many replies are kept.
+    pub cache: usize,
+    /// The file to which the lines of denied calls go.
+    pub audit: Option<&'a str>,
+    /// What to do when the line of a denied call can't be written.
+    pub audit_failed: AuditFailed,
+    /// The rules whose denied calls get no line, with a comma between two.
+    pub audit_skip: Option<&'a str>,
+    /// Whether the line of a denied call begins with the time.
+    pub has_times: bool,
+    /// Whether denied calls are reported with names.
+    pub is_named: bool,
+    /// Where the tree is saved.
+    pub save: Option<&'a str>,
+    /// After how many seconds it is saved again.
+    pub save_every: Option<u64>,
+    /// The key of what is saved, in 16 hexadecimal digits; without it a new one.
+    pub key: Option<&'a str>,
+    /// Whether clients that come and go are reported.
+    pub is_verbose: bool,
+}
+
+/// What to do when the line of a denied call can't be written.
+#[derive(Clone, Copy, Debug, PartialEq, Eq)]
+pub enum AuditFailed {
+    /// Calls are refused as long as none can be.
+    Refuse,
+    /// Calls are answered, and the lost lines are counted.
+    Count,
+}
+
+/// The words of `describe`.
+#[derive(Clone, Copy)]
+pub struct Describe<'a> {
+    /// The directory.
+    pub directory: &'a str,
+    /// The server's key, in 16 hexadecimal digits; without it a new one.
+    pub key: Option<&'a str>,
+    /// The path that clients mount it by.
+    pub mount: &'a str,
+    /// The volume's most bytes.
+    pub bytes: Option<u64>,
+    /// The volume's most files.
+    pub files: Option<u64>,
+    /// To whom it is exported, each as PATTERN=OPTIONS.
+    pub exports: &'a [&'a str],
+}
+
+impl<'a> Invocation<'a> {
+    /// The command of a name with its words. `None` where there is none of that name.
+    pub(crate) fn of(name: &str, words: &'a ArgMatches<'_>) -> Option<Invocation<'a>> {
+        match name {
+            "check" => Some(Invocation::Check {
+                tree: text(words, "tree"),
+                is_strict: words.get_flag("strict"),
+                is_whole: words.get_flag("all"),
+            }),
+            "why" => Some(Invocation::Why(Why::of(words))),
+            "exports" => Some(Invocation::Exports {
+                tree: text(words, "tree"),
+            }),
+            "replay" => Some(Invocation::Replay(Replay::of(words))),
+            "serve" => Some(Invocation::Serve(Serve::of(words))),
+            "describe" => Some(Invocation::Describe(Describe::of(words))),
+            "self" => Some(Invocation::SelfCall {
+                tree: text(words, "tree"),
+            }),
+            _ => None,
+        }
+    }
+
+    /// What is wrong with words that are each right, if anything.
+    pub(crate) fn fault(&self) -> Option<UsageFault> {
+        match self {
+            Invocation::Replay(words) => UsageFault::of_key(words.key),
+            Invocation::Describe(words) => UsageFault::of_key(words.key),
+            Invocation::Serve(words) => UsageFault::of_saving(words),
+            Invocation::Check { .. }
+            | Invocation::Why(_)
+            | Invocation::Exports { .. }
+            | Invocation::SelfCall { .. } => None,
+        }
+    }
+}
+
+impl<'a> Why<'a> {
+    fn of(words: &'a ArgMatches<'_>) -> Why<'a> {
+        Why {
+            tree: text(words, "tree"),
+            address: text(words, "address"),
+            user: text(words, "user"),
+            operation: text(words, "operation"),
+            path: text(words, "path"),
+            second: words.get_str("second"),
+        }
+    }
+}
+
+impl<'a> Replay<'a> {
+    fn of(words: &'a ArgMatches<'_>) -> Replay<'a> {
+        Replay {
+            tree: text(words, "tree"),
+            script: text(words, "script"),
+            cache: cache(words),
+            save: words.get_str("save"),
+            key: words.get_str("key"),
+            is_decoded: words.get_flag("decode"),
+            is_named: words.get_flag("names"),
+        }
+    }
+}
+
+impl<'a> Serve<'a> {
+    fn of(words: &'a ArgMatches<'_>) -> Serve<'a> {
+        Serve {
+            tree: text(words, "tree"),
+            listen: text(words, "listen"),
+            port: words.get_one::<u16>("port").unwrap_or(2049),
+            connections: words.get_one::<u64>("connections"),
+            clients: words.get_one::<usize>("clients").unwrap_or(1024),
+            idle: words.get_one::<u64>("idle"),
+            cache: cache(words),
+            audit: words.get_str("audit"),
+            audit_failed: audit_failed(words),
+            audit_skip: words.get_str("audit-skip"),
+            has_times: words.get_flag("times"),
+            is_named: words.get_flag("names"),
+            save: words.get_str("save"),
+            save_every: words.get_one::<u64>("save-every"),
+            key: words.get_str("key"),
+            is_verbose: words.get_flag("verbose"),
+        }
+    }
+}
+
+impl<'a> Describe<'a> {
+    fn of(words: &'a ArgMatches<'_>) -> Describe<'a> {
+        Describe {
+            directory: text(words, "directory"),
+            key: words.get_str("key"),
+            mount: text(words, "mount"),
+            bytes: words.get_one::<u64>("bytes"),
+            files: words.get_one::<u64>("files"),
+            exports: words.get_strs("export").unwrap_or(&[]),
+        }
+    }
+}
+
+// A word that has to be there.
+fn text<'a>(words: &'a ArgMatches<'_>, id: &str) -> &'a str {
+    let found = words.get_str(id);
+    match found {
+        Some(text) => text,
+        None => "",
+    }
+}
+
+fn audit_failed(words: &ArgMatches<'_>) -> AuditFailed {
+    match words.get_str("audit-failed") {
+        Some("count") => AuditFailed::Count,
+        _ => AuditFailed::Refuse,
+    }
+}
+
+fn cache(words: &ArgMatches<'_>) -> usize {
+    words.get_one::<usize>("cache").unwrap_or(128)
+}

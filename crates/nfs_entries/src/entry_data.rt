@@ -1,0 +1,60 @@
+//! What is kept of an entry.
+ghost use Rattle.std.specs.Prelude.{◌≡◌};
+
+use nfs_handles::number::{Hint, Number};
+use std::marker::Model;
+
+/// What is kept beside a name: a cookie, and the number of a file. As bytes, they need no padding, and take
+/// 20 bytes in place of 24.
+#[derive(Drop)]
+pub(crate) struct EntryData {
+    cookie: [u8; 8],
+    fileid: [u8; 8],
+    hint: Hint,
+}
+
+impl Model for EntryData {
+    ghost use Rattle.std.specs.Int.{w64, from_le_bytes};
+    ghost use Rattle.nfs_entries.specs.Listing.{KeptValue};
+
+    ghost Value = { KeptValue };
+
+    ghost view = { λ k. record { cookie = from_le_bytes w64 k.cookie; number = from_le_bytes w64 k.fileid } };
+}
+
+impl EntryData {
+    /// A cookie and a number.
+    #[inline(always)]
+    pub(crate) fn new(cookie: u64, number: Number) -> EntryData
+        ensures { result ≡ record { cookie = cookie; number = number.0 } }
+    {
+        EntryData {
+            cookie: cookie.to_le_bytes(),
+            fileid: number.0.to_le_bytes(),
+            hint: number.1,
+        }
+    }
+
+    /// Where a listing goes on after the entry.
+    #[inline(always)]
+    pub(crate) fn cookie(&self) -> u64
+        ensures { result ≡ self.now.cookie }
+    {
+        u64::from_le_bytes(self.cookie)
+    }
+
+    /// The file that the entry names.
+    #[inline(always)]
+    pub(crate) fn number(&self) -> Number
+        ensures { result.0 ≡ self.now.number }
+    {
+        Number(u64::from_le_bytes(self.fileid), self.hint)
+    }
+}
+
+/// Where the entry of a cookie is kept: in the row of this index, if that has its cookie.
+#[derive(Clone, Copy)]
+pub(crate) struct EntryPosition {
+    pub(crate) cookie: u64,
+    pub(crate) index: usize,
+}

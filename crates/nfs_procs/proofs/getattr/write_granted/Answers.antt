@@ -1,0 +1,12 @@
+use Rattle.nfs_args.specs.Results.{IsEmpty}
+use Rattle.nfs_args.specs.declared.answer.NfsAnswer.TheVariants as answer
+use Rattle.nfs_attrs.specs.Encoding.{IsFattr, fattr_text}
+use Rattle.nfs_procs.proofs.Encoded.{granted_encoded}
+use Rattle.nfs_xdr.proofs.Writing.{appends_then}
+use Rattle.nfs_procs.proofs.getattr.write_granted.Goals as goal
+
+pub returns : goal.returns
+returns c = record {
+  text = appends_then _ _ _ _ _ c.u32.ensures.text c.write_fattr.ensures.text;
+  encoded = granted_encoded answer.Getattr IsFattr IsEmpty fattr_text _ c.write_fattr.ensures.encoded;
+}

@@ -1,0 +1,58 @@
+//! READDIR: entries of a directory (RFC 1813, section 3.3.16).
+ghost use Rattle.std.specs.Prelude.{◌≤◌, Ok};
+ghost use Rattle.nfs_args.specs.declared.args.NfsArgs.TheVariants as nfs;
+ghost use Rattle.nfs_procs.specs.Denials.{Decides};
+ghost use Rattle.nfs_procs.specs.Performing.{Performs};
+ghost use Rattle.nfs_procs.specs.Plans.{PlansPage};
+ghost use Rattle.nfs_procs.specs.Readers as procedure;
+ghost use Rattle.nfs_procs.specs.Scenes.{scene};
+
+use crate::call_context::CallContext;
+use crate::denial::Denial;
+use crate::done::Done;
+use crate::limits::COOKIE_VERIFIER;
+use crate::replies::write_denied_attributes;
+use crate::subjects::subject_of;
+use nfs_args::dir_page::write_page_head;
+use nfs_args::readdir::Readdir;
+use nfs_dirs::open_page::OpenPage;
+use nfs_inodes::tree::Tree;
+use nfs_rules::subject::Subject;
+use nfs_rules::table::readdir_rules;
+use nfs_xdr::output::Output;
+
+pub(crate) fn readdir(
+    tree: &Tree,
+    call: &CallContext<'_>,
+    args: &Readdir<'_>,
+    out: &mut Output,
+) -> Done
+    requires { (procedure.readdir args.now).largest ≤ out.old.room }
+    ensures { Performs (scene tree.now call.now (nfs.Readdir args.now))
+        (procedure.readdir args.now) result tree.now out.old out.new }
+{
+    match decide(tree, call, args) {
+        Ok((dir, page)) => {
+            out.u32(0);
+            write_page_head(out, Some(&dir.attributes()), COOKIE_VERIFIER);
+            let _ = page.write(out);
+            Done::Granted
+        }
+        Err(denial) => write_denied_attributes(out, &denial),
+    }
+}
+
+fn decide<'a>(
+    tree: &'a Tree,
+    call: &CallContext<'a>,
+    args: &Readdir<'_>,
+) -> Result<(Subject<'a>, OpenPage<'a>), Denial>
+    ensures { Decides (scene tree.entry.now call.now (nfs.Readdir args.now)) args.now.dir
+        (PlansPage tree.entry.now args.now) result }
+{
+    let dir = subject_of(tree, call, &args.dir)?;
+    match readdir_rules(&dir, args) {
+        Ok(page) => Ok((dir, page)),
+        Err(rule) => Err(Denial::of_rule(&dir, rule)),
+    }
+}

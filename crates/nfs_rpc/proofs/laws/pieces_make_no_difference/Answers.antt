@@ -1,5 +1,0 @@
-use Rattle.nfs_rpc.proofs.Streams.{records_grow, records_close, readers_keep}
-use Rattle.nfs_rpc.proofs.laws.pieces_make_no_difference.Goals as goal
-
-pub returns : goal.returns
-returns c = record { grow = records_grow; close = records_close; readers = readers_keep }

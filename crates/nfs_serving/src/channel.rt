@@ -1,0 +1,126 @@
+//! The way out to a client.
+ghost use Rattle.std.specs.Prelude.{◌≡◌, ◌<◌, ◌≤◌, ◌↔◌, [], true, false, length, take, vec_capacity, IsTrue, IfOk, OnOk, OnErr};
+ghost use Rattle.nfs_serving.specs.Outgoing.{Passes, Brings};
+ghost use Rattle.nfs_xdr.specs.Known.{Grows};
+
+use crate::buffer::Buffer;
+use nfs_xdr::device::DeviceFault;
+use nfs_xdr::link::{Came, Link};
+use std::alloc::Global;
+use std::marker::Model;
+
+/// A link, and the replies that it has not taken yet: they are pending.
+#[derive(Drop)]
+pub struct Channel<L> {
+    link: L,
+    pending: Buffer,
+    ended: bool,
+}
+
+impl<L> Model for Channel<L> {
+    ghost use Rattle.nfs_serving.specs.Outgoing.{Outgoing};
+
+    ghost Value = { Outgoing L };
+
+    ghost view = { λ o. record { link = o.link; pending = o.pending; failed = o.ended } };
+}
+
+impl<L: Link> Channel<L> {
+    /// A link on which nothing is pending.
+    pub fn new(alloc: Global, link: L) -> Channel<L>
+        ensures { result ≡ record { link = link; pending = []; failed = false } }
+    {
+        Channel {
+            link,
+            pending: Buffer::new(alloc),
+            ended: false,
+        }
+    }
+
+    /// The link.
+    pub fn link(&self) -> &L
+        ensures { result.now ≡ self.now.link }
+    {
+        &self.link
+    }
+
+    /// Whether nothing is pending.
+    pub fn is_settled(&self) -> bool
+        ensures { IsTrue result ↔ (self.now.pending ≡ []) }
+    {
+        self.pending.is_empty()
+    }
+
+    /// Sends what is pending, as much of it as the link takes now. Where nothing is pending any more, it
+    /// holds no memory for it.
+    pub fn pass_on(&mut self) -> Result<(), DeviceFault>
+        ensures passes { OnOk result (Passes (L.outgoing self.old.link) self.old.pending (L.outgoing self.new.link) self.new.pending) }
+        ensures incoming { L.incoming self.new.link ≡ L.incoming self.old.link }
+        ensures alive { OnOk result (self.new.failed ≡ self.old.failed) }
+        ensures fault { OnErr result (self.new.failed ≡ true) }
+        ensures outgoing { OnErr result (L.outgoing self.new.link ≡ L.outgoing self.old.link) }
+        ensures pending { OnErr result (self.new.pending ≡ self.old.pending) }
+    {
+        let n = send_some(&mut self.link, &mut self.ended, self.pending.bytes())?;
+        self.pending.take(n);
+        self.pending.let_go();
+        Ok(())
+    }
+
+    /// Sends these bytes, where nothing is pending, as much of them as the link takes now. The others are
+    /// pending then, all of them where the link is broken, in a list that has room for them, in whose
+    /// stead another comes.
+    pub fn send(&mut self, bytes: &[u8], room: &mut Vec<u8>) -> Result<(), DeviceFault>
+        requires pending { self.old.pending ≡ [] }
+        requires room { length bytes.now ≤ vec_capacity room.old }
+        ensures passes { Passes (L.outgoing self.old.link) bytes.now (L.outgoing self.new.link) self.new.pending }
+        ensures incoming { L.incoming self.new.link ≡ L.incoming self.old.link }
+        ensures alive { OnOk result (self.new.failed ≡ self.old.failed) }
+        ensures fault { OnErr result (self.new.failed ≡ true) }
+    {
+        match send_some(&mut self.link, &mut self.ended, bytes) {
+            Ok(n) => {
+                self.pending.hold(room, &bytes[n..]);
+                Ok(())
+            }
+            Err(fault) => {
+                self.pending.hold(room, bytes);
+                Err(fault)
+            }
+        }
+    }
+
+    /// Receives what has come, as much as a chunk has room for and at most so many bytes.
+    pub fn receive(&mut self, chunk: &mut Buffer, most: usize) -> Result<Came, DeviceFault>
+        requires { 0 < most }
+        ensures came { IfOk result (λ came. Brings (L.incoming self.old.link) came chunk.new (L.incoming self.new.link)) }
+        ensures most { length chunk.new ≤ most }
+        ensures outgoing { L.outgoing self.new.link ≡ L.outgoing self.old.link }
+        ensures same { (self.new.pending ≡ self.old.pending) × (self.new.failed ≡ self.old.failed) }
+        ensures fault { OnErr result (L.failed self.new.link ≡ true) }
+        ensures incoming { OnErr result (L.incoming self.new.link ≡ L.incoming self.old.link) }
+        ensures chunk { OnErr result (chunk.new ≡ []) }
+    {
+        chunk.receive(&mut self.link, most)
+    }
+}
+
+// Sends some first bytes of these, as many as the link takes now, unless it is broken.
+fn send_some<L: Link>(link: &mut L, ended: &mut bool, bytes: &[u8]) -> Result<usize, DeviceFault>
+    ensures count { IfOk result (λ n. n ≤ length bytes.now) }
+    ensures sent { IfOk result (λ n. Grows (L.outgoing link.old) (take n bytes.now) (L.outgoing link.new)) }
+    ensures incoming { L.incoming link.new ≡ L.incoming link.old }
+    ensures alive { OnOk result (ended.new ≡ ended.old) }
+    ensures fault { OnErr result (ended.new ≡ true) }
+    ensures outgoing { OnErr result (L.outgoing link.new ≡ L.outgoing link.old) }
+{
+    if *ended {
+        return Err(DeviceFault);
+    }
+    if bytes.is_empty() {
+        return Ok(0);
+    }
+    let sent = link.send(bytes);
+    *ended = sent.is_err();
+    sent
+}
