@@ -135,7 +135,7 @@ static void drop(const struct file *f) {
     s.count--;
 }
 
-/* ---- procedures: each is answered behind its status */
+/* ---- procedures: each is answered after its status */
 
 static unsigned char *do_access(struct call *c, unsigned char *at) {
     const struct file *f = NULL;
@@ -344,7 +344,7 @@ static unsigned char *do_rename(struct call *c, unsigned char *at) {
     return wcc(wcc(put(at, status), &one), &two);
 }
 
-/* ---- kept replies: by address and record, hashed by its first 64 bytes, in the order of their last use */
+/* ---- cached replies: by address and record, hashed by its first 64 bytes, in the order of their last use */
 
 enum { PLACES = 128, BUCKETS = 256 };
 

@@ -5,7 +5,7 @@
  * asked for. With idle in place of WORK the clients connect and say nothing until standard input ends.
  * The description is that of bench/tree, and the key in its handles that of NFS3D_KEY (clients/key.h). A call of missing is a
  * LOOKUP of a name that isn't there, and one of denied a GETATTR of file 6: the root of a volume that isn't exported here,
- * which stands behind bench/tree's own. */
+ * which stands after bench/tree's own. */
 #include <arpa/inet.h>
 #include <errno.h>
 #include <fcntl.h>

@@ -1,8 +1,8 @@
 /* The baselines of the measures: the same work, written plainly.
  *
- * copy: 64 KiB in pieces of 8 KiB, copied one after another into one buffer.
+ * copy: 64 KiB in chunks of 8 KiB, copied one after another into one buffer.
  * copy-131072: 128 KiB so, into a buffer of as many.
- * copy-4096: 4 KiB, copied in one piece.
+ * copy-4096: 4 KiB, copied in one chunk.
  * null: a NULL call, from its record to its reply: the head is read word by word with its bounds
  *       tested, the rules of RPC are tested, and the reply is written with its record mark. It is
  *       kept out of line; a compiler that makes a copy of it for this record's length may drop

@@ -158,7 +158,7 @@ static unsigned char *do_access(const struct ids *ids, const struct file *f, uin
     return put(shown(put(at, 0), f), ((r & 4 ? 1 : 0) | (r & 2 ? 12 : 0) | (r & 1 ? 32 : 0)) & asked);
 }
 
-/* what stands behind a handle: a name, or words; of the words of a SETATTR the mode alone counts */
+/* what stands after a handle: a name, or words; of the words of a SETATTR the mode alone counts */
 struct rest {
     struct bytes name, dir, new_name;
     uint32_t words[9];

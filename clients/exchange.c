@@ -4,13 +4,14 @@
  *   bytes K HEX..     these bytes, one by one
  *   both K L HEX..    these bytes on two connections, one by one in turn
  *   flood K N HEX.. = HEX..  N times these bytes, and nothing is read until the socket takes no more
- *                     for half a second, as it has to; then N times the bytes behind = come
+ *                     for half a second, as it has to; then N times the bytes after = come
  *   want K N HEX..    N times these bytes come next, and no others before them
  *   half K            ends this side; the other may still send
  *   end K             nothing more comes, and the other side ends
  *   close K, reset K  closes the connection, as usual or by a reset
+ *   quiet K MILLIS    nothing comes for so long
  *   rest MILLIS       waits
- * It tells the first line that isn't so, with status 1. */
+ * It reports the first line that isn't so, with status 1. */
 #include <arpa/inet.h>
 #include <netinet/in.h>
 #include <netinet/tcp.h>
@@ -105,7 +106,7 @@ int main(int count, char **words) {
         }
         if (k < 0 || k >= PEERS) wrong(line, "no such number");
         int both = strcmp(verb, "both") == 0, floods = strcmp(verb, "flood") == 0;
-        int times = both || floods || strcmp(verb, "send") == 0 || strcmp(verb, "want") == 0;
+        int times = both || floods || strcmp(verb, "send") == 0 || strcmp(verb, "want") == 0 || strcmp(verb, "quiet") == 0;
         if (times) {
             int more = 0;
             sscanf(text + used, "%d%n", &n, &more);
@@ -127,7 +128,10 @@ int main(int count, char **words) {
         else if (both) for (int i = 0; i < length; i++) put(peers[k], bytes + i, 1, line), put(peers[n], bytes + i, 1, line);
         else if (floods) flood(peers[k], n, length, replied, reply_length, line);
         else if (strcmp(verb, "want") == 0) for (int i = 0; i < n; i++) want(peers[k], length, line);
-        else if (strcmp(verb, "half") == 0) shutdown(peers[k], SHUT_WR);
+        else if (strcmp(verb, "quiet") == 0) {
+            struct pollfd peer = {.fd = peers[k], .events = POLLIN};
+            if (poll(&peer, 1, n) != 0) wrong(line, "something comes");
+        } else if (strcmp(verb, "half") == 0) shutdown(peers[k], SHUT_WR);
         else if (strcmp(verb, "close") == 0) close(peers[k]);
         else if (strcmp(verb, "end") == 0) {
             if (recv(peers[k], came, 1, 0) != 0) wrong(line, "it doesn't end");

@@ -7,7 +7,7 @@
  * lives ask PORT STATE CASES SEED LABEL walks the tree as it is now, by READDIRPLUS and by LOOKUP; then sends GETATTR, and READ
  *                                       for a regular file, for CASES random handles of STATE
  * Each of them has to be stale, or to name the file that has the handle's path now, with its bytes, which are the path of one
- * of its names. All else is told, with status 1. `ask` prints how many handles were live and stale: all, those that were
+ * of its names. All else is reported, with status 1. `ask` prints how many handles were live and stale: all, those that were
  * described and made, and those that were described under LABEL and under other labels. */
 #include <arpa/inet.h>
 #include <netinet/in.h>
@@ -68,7 +68,7 @@ static File *more(Files *files) {
     return files->all + files->count++;
 }
 
-/* xorshift64*, so that a seed tells all cases. */
+/* xorshift64*, so that a seed determines all cases. */
 static uint64_t seed;
 static uint32_t any(uint32_t below) {
     seed ^= seed >> 12, seed ^= seed << 25, seed ^= seed >> 27;
@@ -91,7 +91,7 @@ static void opaque(const void *bytes, size_t length) {
     filled += (length + 3) & ~(size_t)3;
 }
 
-/* Begins a call as the user 0; what is put behind it are its arguments, until `done`. */
+/* Begins a call as the user 0; what is put after it are its arguments, until `done`. */
 static void begin(uint32_t program, uint32_t procedure) {
     if (pending == WINDOW) fail("too many calls", 0);
     start = filled;
@@ -133,7 +133,7 @@ static const unsigned char *next_opaque(Reply *r, uint32_t *length) {
     return r->bytes + r->at - all;
 }
 
-/* Sends the calls, and takes a reply to each: what stands behind the head of RPC is left. */
+/* Sends the calls, and takes a reply to each: what stands after the head of RPC is left. */
 static unsigned send_all(void) {
     for (size_t at = 0; at < filled;) {
         ssize_t n = send(peer, out + at, filled - at, MSG_NOSIGNAL);
@@ -257,7 +257,7 @@ static const File *find(const char *path) {
     return bsearch(&key, tree.all, tree.count, sizeof(File), by_path);
 }
 
-/* Each path goes by LOOKUP to the file that READDIRPLUS tells, and the bytes of each regular file are read. */
+/* Each path goes by LOOKUP to the file that READDIRPLUS reports, and the bytes of each regular file are read. */
 static void compare(void) {
     qsort(tree.all, tree.count, sizeof(File), by_path);
     for (size_t i = 0, n; i < tree.count; i += n) {

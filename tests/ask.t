@@ -1,0 +1,21 @@
+#!/bin/sh
+# Lines `ask` of a script, and replies and audit lines in words (`--decode`, `--names`).
+# golden files: tests/ask
+# shellcheck source=tests/lib.sh
+. "$(dirname "$0")/lib.sh"
+
+tests/ask/compare "$program" >"$work/out"
+status=$?
+note "$(tail -n 1 "$work/out")"
+ok "$status" "each ask line of tests/ask/calls is the same call as in hexadecimal"
+
+run replay examples/e.tree examples/words.script --decode --names
+golden tests/ask/words.out && quiet && ended 0
+ok $? "--decode prints replies in words, and --names what denied calls name"
+
+run replay examples/e.tree tests/ask/replies.script --decode
+grep -v '^\(reply\|deny\) ' "$work/out" >"$work/words"
+golden tests/ask/replies.words "$work/words" && quiet && ended 0
+ok $? "--decode prints a reply of each procedure in words"
+
+plan

@@ -1,0 +1,66 @@
+#!/bin/sh
+# What `describe` prints of a directory on disk, beside what find and od print.
+# shellcheck source=tests/lib.sh
+. "$(dirname "$0")/lib.sh"
+
+disk=$work/disk
+tests/describe/fill "$disk"
+run describe "$disk" --mount /share --export 10.0.0.0/24=rw,no_root_squash --export '*' --key 6e66733364000001
+ended 0 && quiet && [ -s "$work/out" ]
+ok $? "describe of a directory of 300 files"
+mv "$work/out" "$work/disk.tree"
+run describe "$disk" --mount /share --export 10.0.0.0/24=rw,no_root_squash --export '*' --key 6e66733364000001
+[ -s "$work/out" ] && same "$work/disk.tree" "$work/out"
+ok $? "describe prints the same again under the same key"
+
+for time in 1 2 3; do
+    run describe "$disk" --mount /share --export 10.0.0.0/24=rw,no_root_squash --export '*'
+    mv "$work/out" "$work/keyed$time"
+done
+tests/describe/new-keys "$work/disk.tree" "$work/keyed1" "$work/keyed2" "$work/keyed3"
+ok $? "describe without --key gives a new key each time, and else the same"
+
+# Its first lines, its files and its bytes, as find and od print them.
+cat >"$work/wanted" <<END
+server 6e66733364000001
+volume /share 1000000000 100000 $(find "$disk" -maxdepth 0 -printf '%m %U %G')
+export 10.0.0.0/24 rw,no_root_squash
+export * ro
+END
+sed -n '1,4p' "$work/disk.tree" | sed '2s/ 0\([0-7]*\( [0-9]*\)\{2\}\)$/ \1/' | same "$work/wanted" -
+ok $? "the first lines: the key, the volume with its mode and owners, the exports"
+bytes=$(find "$disk" -type f -printf '%i %s\n' | sort -u | awk '{ all += $2 } END { print all }')
+run check "$work/disk.tree"
+says "ok volumes=1 files=$(find "$disk" -printf '%i\n' | sort -u | grep -c .) bytes=$bytes"
+ok $? "the description has as many files and bytes as the directory"
+echo show >"$work/show"
+run replay "$work/disk.tree" "$work/show"
+tests/describe/paths "$work/out" | sed 's/^1//; s/\(mode=\)0*/\1/' | awk '$2 == "dir" { $6 = "" } { print }' | sort >"$work/shown"
+find "$disk" \( -type d -printf '/%P dir mode=%m uid=%U gid=%G \n' \) -o \( -type l -printf '/%P link mode=%m uid=%U gid=%G nlink=%n size=%s\n' \) \
+    -o -printf '/%P file mode=%m uid=%U gid=%G nlink=%n size=%s\n' | sort | same "$work/shown" -
+ok $? "the description has the names, modes, owners, links and sizes that find prints"
+find "$disk" -type f -links 1 ! -empty -printf 'file /%P %m %U %G ' -exec sh -c 'od -An -v -tx1 "$1" | tr -d " \n"; echo' sh {} \; | sort >"$work/wanted"
+awk '$1 == "hard" { twice[$3] } { line[NR] = $0 } END { for (i = 1; i <= NR; i++) { split(line[i], w); if (w[1] == "file" && w[6] != "-" && !(w[2] in twice)) print line[i] } }' \
+    "$work/disk.tree" | sed 's/^\(file [^ ]* \)0*/\1/' | sort | same "$work/wanted" -
+ok $? "the description has the bytes that od prints"
+
+# What a description can't hold is skipped.
+mkdir "$work/odd" && mkfifo "$work/odd/pipe" && : >"$work/odd/with space" && : >"$work/odd/per%cent" && ln -s "to nowhere" "$work/odd/link" &&
+    head -c 16777217 /dev/zero >"$work/odd/large" && echo fine >"$work/odd/fine"
+run describe "$work/odd" --mount /odd
+ended 0 && [ "$(grep -c '^nfs3d: skipped: ' "$work/err")" -eq 5 ] && [ "$(grep -c '^file ' "$work/out")" -eq 1 ] &&
+    grep -qx 'file /fine 0[0-7]* [0-9]* [0-9]* 66696e650a' "$work/out" && [ "$(grep -vc '^\(server\|volume\|file\) ' "$work/out")" -eq 0 ]
+ok $? "describe skips what a description can't hold, with a warning"
+run describe "$work/none" --mount /odd
+echo "nfs3d: cannot read $work/none: No such file or directory (os error 2)" >"$work/wanted"
+same "$work/wanted" "$work/err" && ended 3
+ok $? "describe of a directory that isn't there"
+for words in "--mount odd" "--mount /odd --export 10.0.0.0/33=ro" "--mount /odd --export *=rw,ro" "--mount /odd --key 12" "--mount /odd --key 0123456789abcdeg" \
+    "--mount /odd --key 0123456789abcdef0" "--mount /odd --files 0" ""; do
+    # shellcheck disable=SC2086
+    (set -f; run describe "$work/odd" $words)
+    ended 2 && [ ! -s "$work/out" ] && [ -s "$work/err" ]
+    ok $? "describe refuses the words '$words'"
+done
+
+plan

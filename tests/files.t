@@ -1,0 +1,92 @@
+#!/bin/sh
+# Files, pipes and devices: what the program reads or writes without success or without an end.
+# shellcheck source=tests/lib.sh
+. "$(dirname "$0")/lib.sh"
+
+null="0000002a 00000000 00000002 000186a3 00000003 00000000 00000000 00000000 00000000 00000000"
+
+run replay examples/e.tree - <examples/read.script
+same examples/read.out "$work/out"
+ok $? "replay of a script from standard input"
+run --version
+grep -qx 'nfs3d [0-9]*\.[0-9]*\.[0-9]*' "$work/out" && ended 0
+ok $? "--version prints the version"
+run check
+ended 2
+ok $? "check without a description has the status 2"
+
+# Where a pipe's reader has gone the program ends without a word, as one that SIGPIPE ends. 5 is the reader, 6 the writer.
+mkfifo "$work/closed"
+closed() {
+    # shellcheck disable=SC2094
+    exec 5<>"$work/closed" 6>"$work/closed" 5<&-
+    echo "$*" >"$work/ran"
+    "$program" "$@" >&6 2>"$work/err"
+    echo $? >"$work/status"
+    exec 6>&-
+    ended 141 && quiet
+    ok $? "$1 ends quietly where nobody reads its output"
+}
+closed check examples/e.tree
+closed replay examples/e.tree examples/read.script
+closed exports examples/farm.tree
+closed why examples/farm.tree 10.1.4.7 500 write /tools/bin/cc
+closed describe examples --mount /examples --export '*=ro'
+
+# refuses TEXT WHAT: whether the last run printed nothing but this fault, and had the status 3.
+refuses() {
+    echo "nfs3d: $1" >"$work/wanted"
+    brings /dev/null "$work/wanted" 3
+    ok $? "$2"
+}
+run check "$work/none"
+refuses "cannot read $work/none: No such file or directory (os error 2)" "check of a description that isn't there"
+run replay examples/e.tree "$work/none"
+refuses "cannot read $work/none: No such file or directory (os error 2)" "replay of a script that isn't there"
+run check docs
+refuses "cannot read docs: Is a directory (os error 21)" "check of a directory in place of a description"
+run check /dev/zero
+refuses "/dev/zero is longer than 1 GiB" "check of a description without an end"
+{ echo "dir /d 0755 0 0"; cat /dev/zero; } 2>/dev/null | run check -
+refuses "- is longer than 1 GiB" "check of a description without an end that has a faulty line"
+run replay examples/e.tree /dev/zero
+refuses "/dev/zero is longer than 1 GiB" "replay of a script without an end"
+
+mkfifo "$work/pipe"
+printf 'server 0102030405060708\nvolume /a 10 10' >"$work/pipe" &
+run check "$work/pipe"
+says "line 2: FieldCount"
+ok $? "check of a pipe that stops within a line"
+printf 'server 0102030405060708\nvolume /a 1000000000 1000000 0755 0 0\n' >"$work/tree"
+timeout 2 sh -c 'while :; do echo "# more"; done' >>"$work/tree" &
+growing=$!
+grows() { [ "$(wc -l <"$work/tree")" -gt 100 ]; }
+wait_until 10 grows
+run check "$work/tree"
+says "ok volumes=1 files=1 bytes=0"
+ok $? "check of a description that grows while it is read"
+wait "$growing"
+echo "tree" >"$work/tree"
+run replay "$work/tree" "$work/none"
+says "line 1: UnknownWord"
+ok $? "replay reports a faulty description before a missing script"
+
+# An output that fails at once, and one that takes one block of bytes, of 40 replies.
+yes "call 10.0.0.1 1 $null" | head -n 40 >"$work/calls"
+yes reply 0000002a0000000100000000000000000000000000000000 | head -n 40 >"$work/all"
+echo "nfs3d: write fault" >"$work/wanted"
+"$program" replay examples/e.tree "$work/calls" >/dev/full 2>"$work/err"
+[ $? -eq 3 ] && same "$work/wanted" "$work/err"
+ok $? "replay whose output fails at once"
+(
+    trap '' XFSZ
+    ulimit -f 1
+    "$program" replay examples/e.tree "$work/calls" >"$work/out" 2>"$work/err"
+)
+status=$?
+size=$(wc -c <"$work/out")
+[ "$status" -eq 3 ] && same "$work/wanted" "$work/err" && head -c "$size" "$work/all" | same "$work/out" - &&
+    [ "$size" -ge 512 ] && [ "$size" -lt "$(wc -c <"$work/all")" ]
+ok $? "replay whose output fails after its first block"
+
+plan

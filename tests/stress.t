@@ -1,0 +1,30 @@
+#!/bin/sh
+# Clients that mean harm: spoiled records, calls that are cut, and clients that take no replies.
+# shellcheck source=tests/lib.sh
+. "$(dirname "$0")/lib.sh"
+
+tests/stress/run 100000 1 >"$work/out" 2>"$work/err" && quiet
+ok $? "100,000 spoiled records: the calls between them are answered as ever"
+note "$(cat "$work/out")"
+after=$(sed -n 's/.* then \([0-9]*\) KiB$/\1/p' "$work/out")
+[ "${after:-65536}" -lt 65536 ]
+ok $? "100,000 spoiled records: the server has less than 64 MiB then"
+
+tests/stress/cut >"$work/out" 2>"$work/err" && quiet
+ok $? "a call of each procedure, cut at each byte, with each byte made ff, and with four bytes more"
+note "$(tail -n 1 "$work/out")"
+
+# What 64 clients can make the server keep: at most 1 MiB each.
+compiles load bench/load.c
+compiles greedy tests/stress/greedy.c
+bench/tree >"$work/tree"
+serving "$work/tree"
+most() { sed -n 's/^VmHWM:[^0-9]*\([0-9]*\).*/\1/p' "/proc/$(server_process)/status"; }
+before=$(most)
+"$work/greedy" "$port" 64 2>"$work/err" && after=$(most) && [ $((after - before)) -lt 65536 ]
+ok $? "64 clients that take no reply cost the server less than 1 MiB each"
+note "$before KiB, then $after KiB"
+"$work/load" "$port" null 1 1 10 >"$work/out" 2>&1
+ok $? "and another client is answered then"
+
+plan
