@@ -54,6 +54,6 @@ sayable_below t p = filter (has_words t) (places_below t p)
 abbrev pub skipped_below : Tree → ℕ → FilePath → List Skipped
 skipped_below t volume p = map (skipped_at volume) (filter (lacks_words t) (places_below t p))
 
--- A walk that skips what it has no words for, and so all that is below it.
+-- A walk that skips what a description can't hold, and so all that is below it.
 abbrev pub IsSayableWalk : Tree → ℕ → List FilePath → Type 0
 IsSayableWalk t root places = places ≡ record { path = []; number = root } ∷ flat_map (sayable_below t) places

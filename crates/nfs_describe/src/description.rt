@@ -28,8 +28,8 @@ pub const MAX_DESCRIPTION_BYTES: usize = 1 << 30;
 pub struct Described {
     /// The description.
     pub text: Vec<u8>,
-    /// What a description has no words for, volume by volume, in the order in which directories are
-    /// gone through. What is below a directory that is skipped isn't there.
+    /// What a description can't hold, volume by volume, in the order in which directories are gone
+    /// through. What is below a directory that is skipped isn't there.
     pub skipped: Vec<Skipped>,
 }
 
@@ -37,8 +37,8 @@ pub struct Described {
 /// and its files, directory by directory, each by its first name and then `hard` for the others.
 /// Times are not described, and neither are the mode of a link and the numbers of files.
 ///
-/// `Unsayable` for the first path that a description has no words for, or for the first of a link
-/// that holds what no word says; `TooLong`, `Memory`.
+/// `Unsayable` for the first path that a description can't hold, or for the first of a link that
+/// holds what no word says; `TooLong`, `Memory`.
 pub fn describe(alloc: Global, tree: &Tree, table: &ExportTable) -> Result<Vec<u8>, DescribeFault>
     ensures says { IfOk result (λ text. Says tree.now table.now text.items) }
     ensures short { IfOk result (λ text. length text.items ≤ 1073741824) }

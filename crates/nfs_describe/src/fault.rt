@@ -7,7 +7,7 @@ use thiserror::Error;
 /// Why a tree isn't described.
 #[derive(Debug, Drop, Error)]
 pub enum DescribeFault {
-    /// A description has no words for a path, or for what the link of this path holds.
+    /// A description can't hold this path, or what the link of this path holds.
     #[error("a description can't hold {0}")]
     Unsayable(ShownPath),
     /// The text would be longer than a description may be.

@@ -1,10 +1,10 @@
-//! What a description has no words for.
+//! What a description can't hold.
 
 use crate::fault::ShownPath;
 use std::marker::Model;
 
-/// A name that a description has no words for, by its path from the root of its volume on, or by that
-/// of a link which holds what no word says.
+/// A name that a description can't hold, by its path from the root of its volume on, or by that of a
+/// link which holds what no word says.
 #[derive(Debug, Drop)]
 pub struct Skipped {
     /// The place of its volume among the tree's.

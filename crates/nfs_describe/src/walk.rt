@@ -25,8 +25,7 @@ pub(crate) struct Below {
 }
 
 /// The places below the root of the volume at a place: the root, then what stands in it, then what
-/// stands in each directory of these, and so on, but for what a description has no words for.
-/// `Memory`.
+/// stands in each directory of these, and so on, but for what a description can't hold. `Memory`.
 pub(crate) fn walk(
     alloc: Global,
     tree: &Tree,

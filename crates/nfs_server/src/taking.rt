@@ -262,7 +262,7 @@ fn take_fed<R: ReplyOut, A: AuditOut>(
 fn copy_where(is_wanted: bool, framer: &Framer) -> Result<Option<Framer>, AllocError>
     ensures some { IfOk result (λ copy. IfSome copy (λ before. (before ≡ framer.now) × (is_wanted ≡ true))) }
     ensures wanted { is_wanted ≡ true → IfOk result IsSome }
-    ensures ready { is_wanted ≡ false → result ≡ Ok None }
+    ensures unwanted { is_wanted ≡ false → result ≡ Ok None }
 {
     if !is_wanted {
         return Ok(None);
