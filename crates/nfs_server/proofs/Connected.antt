@@ -79,7 +79,7 @@ ended_as (Err e) ended ok err = err
 pub none_waits : (stop : Stop) (origin : Origin) (left : List ℕ) (s : Held) (p : Progress) → Waits stop false origin left s p → stop ≡ Finished
 none_waits Finished origin left s p waits = refl
 none_waits Denied origin left s p waits = absurd (false≢true waits.0)
-none_waits NoMemory origin left s p waits = absurd (false≢true waits)
+none_waits NoMemory origin left s p waits = absurd (false≢true waits.0)
 
 pub all_finished : (result : Result Taken SessionFault) (origin : Origin) (chunk : List ℕ) (s : Held) (p : Progress) → IfOk result (λ taken. Waits taken.stop false origin (drop taken.used chunk) s p)
     → IfOk result (λ taken. taken.stop ≡ Finished)

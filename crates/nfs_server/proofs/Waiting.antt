@@ -49,7 +49,7 @@ pub waits_on : (stop : Stop) (full : Bool) (origin : Origin) (chunk : List ℕ) 
     → Waits stop full origin (drop (i + used) chunk) s p
 waits_on Finished full origin chunk i used s p holds waits = tt
 waits_on Denied full origin chunk i used s p holds waits = subst (λ left. Waits Denied full origin left s p) (take_rest chunk i ∙ ap (λ k. drop k chunk) (omega (arith, holds))) waits
-waits_on NoMemory full origin chunk i used s p holds waits = waits
+waits_on NoMemory full origin chunk i used s p holds waits = subst (λ left. Waits NoMemory full origin left s p) (take_rest chunk i ∙ ap (λ k. drop k chunk) (omega (arith, holds))) waits
 
 -- whether more is taken, as a number
 abbrev pub going : Stop → ℕ

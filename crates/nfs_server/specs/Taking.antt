@@ -1,5 +1,6 @@
 -- The steps by which a chunk of a stream is taken.
 use Rattle.std.specs.Prelude.{◌≡◌, ℕ, Bool, true, ◌-◌, ◌≤◌, ◌<◌, List, [], ◌∷◌, ◌++◌, take, length, Option, None, Some, IfOk, Result, Ok, Err}
+use Rattle.nfs_rpc.specs.Lent.{HasNoneAtFront, IsBefore}
 use Rattle.nfs_rpc.specs.Progress.{Progress, Unfinished}
 use Rattle.nfs_rpc.specs.Records.{IsRecord}
 use Rattle.nfs_server.specs.Connections.{IsBetween}
@@ -113,8 +114,9 @@ Holds NoMemory used = used ≡ 0
 abbrev pub IsNext : List ℕ → List ℕ → Type 0
 IsNext content bytes = (after : List ℕ) × Begins IsRecord content bytes after
 
--- A record waits only where lines have no room, whatever was unfinished: the next one is a call that fails a rule, or there is no memory to look at it.
+-- A record waits only where lines have no room, whatever was unfinished: the next one is a call that fails a rule, or there is no memory to look at it,
+-- which takes memory only where it doesn't stand whole, in one fragment, at the front of what is left.
 abbrev pub Waits : Stop → Bool → Origin → List ℕ → Held → Progress → Type 0
 Waits Finished full origin left s p = Unit {0}
 Waits Denied full origin left s p = (full ≡ true) × ((text : List ℕ) → Unfinished text p → (content : List ℕ) × IsNext content (text ++ left) × (fails_rule s (event_at origin content) ≡ true))
-Waits NoMemory full origin left s p = full ≡ true
+Waits NoMemory full origin left s p = (full ≡ true) × (IsBefore p → HasNoneAtFront p.limit left)

@@ -1,5 +1,6 @@
 //! Bytes of a stream, whose records are answered as they become whole.
 ghost use Rattle.std.specs.Prelude.{◌≡◌, ◌<◌, ◌≤◌, ◌↔◌, length, drop, IfOk, IfErr, IfSome, OnOk, OnErr, IsSome, IsTrue, Some, None, true, false};
+ghost use Rattle.nfs_rpc.specs.Lent.{HasNoneAtFront, IsBefore};
 ghost use Rattle.nfs_server.specs.Connections.{IsBetween};
 ghost use Rattle.nfs_server.specs.Feeding.{device, event_at, EndsWith};
 ghost use Rattle.nfs_server.specs.Denying.{IsSpared, fails_rule};
@@ -36,7 +37,8 @@ pub enum Stop {
     Done,
     /// The next record is a call that would be denied, and its line has no room.
     Denied,
-    /// Lines have no room, and there is no memory to look at the next record.
+    /// Lines have no room, and there is no memory to look at the next record, which doesn't stand
+    /// whole, in one fragment, in the chunk.
     Memory,
 }
 
@@ -211,7 +213,8 @@ fn take_fed<R: ReplyOut, A: AuditOut>(
     replies: &mut R,
     audit: &mut A,
 ) -> Result<Step, SessionFault>
-    requires { IsBetween framer.old }
+    requires between { IsBetween framer.old }
+    requires none { IsBefore framer.old → HasNoneAtFront framer.old.limit chunk.now }
     ensures used { IfOk result (λ step. step.used ≤ length chunk.now) }
     ensures some { 0 < length chunk.now → IfOk result (λ step. step.stop ≡ Stop.Done → 0 < step.used) }
     ensures counted { IfOk result (λ step. step.records ≤ step.used) }

@@ -13,7 +13,7 @@ pub returns-in_err-fed-clause-feeds : goal.returns-in_err-fed-clause-feeds
 returns-in_err-fed-clause-feeds g c = passed_on (λ r. FeedsOne c.args.origin c.args.chunk.now r c.args.server.now c.args.server.now c.args.framer.now c.feed.new.self
     (device (g.A.AuditOut.contents c.args.audit.now) (g.A.AuditOut.contents c.args.audit.now))
     (device (g.R.ReplyOut.contents c.args.replies.now c.args.reply.now.earlier) (g.R.ReplyOut.contents c.args.replies.now c.args.reply.now.earlier))) _ _ c.from_residual.ensures.1
-    (feeds_frame_fault c.args.origin c.args.server.now c.args.framer.now c.feed.new.self _ _ _ (tt, tt) c.in_err-fed.field-0.0 c.args.chunk.now c.in_err-fed.ensures.limit (λ e. c.in_err-fed.ensures.too_long (ap Err e)) (λ e. c.in_err-fed.ensures.memory (ap Err e)) (λ e. c.requires.1 (c.in_err-fed.ensures.failed.0 (ap Err e))))
+    (feeds_frame_fault c.args.origin c.args.server.now c.args.framer.now c.feed.new.self _ _ _ (tt, tt) c.in_err-fed.field-0.0 c.args.chunk.now c.in_err-fed.ensures.limit (λ e. c.in_err-fed.ensures.too_long (ap Err e)) (λ e. c.in_err-fed.ensures.memory (ap Err e)) (λ e. c.requires.between.1 (c.in_err-fed.ensures.failed.0 (ap Err e))))
 
 pub returns-then-not-fed-clause-feeds : goal.returns-then-not-fed-clause-feeds
 returns-then-not-fed-clause-feeds g c =
@@ -34,12 +34,12 @@ returns-clause-feeds g c =
     feeds_whole c.args.origin c.args.server.now c.answer_record.new.server c.args.framer.now c.feed.new.self c.answer_record.new.framer _ _ ready c.answer_record.ensures.limit _ _ c.in_ok-fed.ensures.moves c.answer_record.ensures.next c.in_ok-replied.ensures.answers
 
 pub returns-in-Err-clause-feeds : goal.returns-in-Err-clause-feeds
-returns-in-Err-clause-feeds g c = feeds_held c.args.origin c.args.server.now c.args.framer.now c.args.framer.now _ _ NoMemory c.held.result c.args.chunk.now c.held.ensures refl c.requires
+returns-in-Err-clause-feeds g c = feeds_held c.args.origin c.args.server.now c.args.framer.now c.args.framer.now _ _ NoMemory c.held.result c.args.chunk.now c.held.ensures refl c.requires.between
 
 pub returns-then-would_deny-clause-feeds : goal.returns-then-would_deny-clause-feeds
 returns-then-would_deny-clause-feeds g c =
     let before : (c.in-Some.before ≡ c.args.framer.now) × (c.is_full.result ≡ true) = subst (λ o. IfSome o (λ p. (p ≡ c.args.framer.now) × (c.is_full.result ≡ true))) c.in-Some.is c.in-Ok.ensures.some in
-    feeds_held c.args.origin c.args.server.now c.args.framer.now c.in-Some.before _ _ Denied c.held-then-would_deny.result c.args.chunk.now c.held-then-would_deny.ensures before.0 c.requires
+    feeds_held c.args.origin c.args.server.now c.args.framer.now c.in-Some.before _ _ Denied c.held-then-would_deny.result c.args.chunk.now c.held-then-would_deny.ensures before.0 c.requires.between
 
 pub returns-then-would_deny-clause-waits : goal.returns-then-would_deny-clause-waits
 returns-then-would_deny-clause-waits g c =
