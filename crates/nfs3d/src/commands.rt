@@ -1,26 +1,27 @@
 //! The commands.
 
-use crate::check::check_file;
-use crate::describing::describe_directory;
-use crate::diagnostic::Diagnostic;
-use crate::exports::print_exports;
-use crate::fault::Fault;
-use crate::replay::replay_files;
 use crate::self_calling::call_self;
 use crate::serve::serve_tree;
-use crate::why::print_why;
 use log::Log;
 use nfs_command_line::invocation::Invocation;
 use nfs_command_line::words::{Reported, Words};
+use nfs_questions::check::check_file;
+use nfs_questions::exports::print_exports;
+use nfs_questions::why::print_why;
+use nfs_runs::describing::describe_directory;
+use nfs_runs::replay::replay_files;
+use nfs_source::diagnostic::Diagnostic;
+use nfs_source::fault::Fault;
 use std::alloc::{AllocError, Global};
 use std::fs::File;
+use std::mem::forget;
 use std::net::{Net, TcpListener, TcpStream};
 use std::process::ExitCode;
 use std::random::RandomSource;
 use std::rt::Files;
 use std::time::Clock;
 
-/// Does what the words ask for.
+/// Does what the words ask for. What they were read into is not given back, since the process ends.
 pub(crate) fn run<R>(rt: &R, alloc: Global, words: &[String]) -> Result<ExitCode, Diagnostic>
 where
     R: Files<File = File>
@@ -34,7 +35,11 @@ where
         + Log,
 {
     match Words::read(rt, alloc, words) {
-        Ok(words) => answer(rt, alloc, words.request()),
+        Ok(words) => {
+            let done = answer(rt, alloc, words.request());
+            forget(words);
+            done
+        }
         Err(Reported::All(code)) => Ok(code),
         Err(Reported::Write) => Err(Fault::Write.into()),
         Err(Reported::Memory) => Err(AllocError.into()),

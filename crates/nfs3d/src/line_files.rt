@@ -1,8 +1,8 @@
 //! Where the lines of a service go.
 
-use crate::fault::Fault;
 use nfs_command_line::invocation::{AuditFailed, Serve};
 use nfs_lines::wording::{WhenFailed, Wording};
+use nfs_source::fault::Fault;
 use nfs_tcp::line_file::{LineFile, STANDARD_OUTPUT};
 use std::alloc::Global;
 use std::fs::{File, OpenOptions};

@@ -1,28 +1,13 @@
 //! `nfs3d`: an NFS version 3 server with its MOUNT service, in memory.
 #![tactic(auto)]
 
-mod check;
 mod commands;
-mod describing;
-mod description;
-mod diagnostic;
-mod exports;
-mod exposure;
-mod fault;
-mod key;
-mod life;
 mod line_files;
-mod output;
-mod replay;
 mod saver;
-mod saving;
 mod self_calling;
 mod serve;
-mod source;
-mod totals;
-mod why;
 
-use crate::fault::Fault;
+use nfs_source::fault::Fault;
 use std::alloc::AllocError;
 use std::process::ExitCode;
 use std::rt::Env;

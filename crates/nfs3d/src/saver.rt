@@ -1,148 +1,22 @@
-//! Where and when the tree of a server is saved.
+//! The tree of a server, saved while it is served.
 
-use crate::diagnostic::Diagnostic;
-use crate::fault::Fault;
-use crate::key::{KEY_BYTES, given_key};
-use crate::saving::{save, save_changed, try_place};
-use log::{Log, info, warn};
+use log::Log;
+use nfs_saving::copies::CopySaver;
 use nfs_server::server::Server;
 use nfs_tcp::saver::Saver;
-use std::alloc::Global;
-use std::io;
-use std::process::ExitCode;
 use std::random::RandomSource;
 use std::rt::Files;
-use std::time::{Clock, Duration, Instant};
-
-// A saving that takes longer is warned of, since no client is answered meanwhile.
-const LONG_MILLIS: u128 = 1_000;
-
-/// Where the tree is saved, if it is to be.
-#[derive(Clone, Copy)]
-pub(crate) struct Copies<'a> {
-    name: Option<&'a str>,
-    // Without it a new one each time.
-    key: Option<[u8; KEY_BYTES]>,
-}
-
-impl<'a> Copies<'a> {
-    /// As the words say: the file, and the key in hexadecimal digits. The fault of `try_place`, so that
-    /// nothing is served or run first.
-    pub(crate) fn of<R: Files>(
-        rt: &R,
-        alloc: Global,
-        name: Option<&'a str>,
-        key: Option<&str>,
-    ) -> Result<Copies<'a>, Diagnostic> {
-        if let Some(name) = name {
-            if let Err(fault) = try_place(rt, alloc, name) {
-                return Err(Diagnostic::of_saving(alloc, fault));
-            }
-        }
-        Ok(Copies {
-            name,
-            key: key.and_then(given_key),
-        })
-    }
-
-    /// Saves the tree at the end of a service that had begun, also where a fault ended it, which is then
-    /// reported. Warns of what is skipped, and the status is 1 then. The fault of the service, or else that
-    /// of `save`; where there are both, that of `save` is reported first.
-    pub(crate) fn save_last<R: Files + RandomSource + Eprint>(
-        &self,
-        rt: &R,
-        alloc: Global,
-        server: &Server,
-        served: Result<(), Fault>,
-    ) -> Result<ExitCode, Diagnostic> {
-        let saved = self.save_now(rt, alloc, server);
-        match (served, saved) {
-            (Ok(()), saved) => saved,
-            (Err(fault), Ok(_)) => Err(fault.into()),
-            (Err(fault), Err(unsaved)) => {
-                unsaved.report(rt);
-                Err(fault.into())
-            }
-        }
-    }
-
-    // Saves the tree, if it is to be.
-    fn save_now<R: Files + RandomSource + Eprint>(
-        &self,
-        rt: &R,
-        alloc: Global,
-        server: &Server,
-    ) -> Result<ExitCode, Diagnostic> {
-        let Some(name) = self.name else {
-            return Ok(ExitCode::SUCCESS);
-        };
-        match save(rt, alloc, name, server, self.key) {
-            Ok(saved) => {
-                saved.warn(rt, name);
-                Ok(saved.status())
-            }
-            Err(fault) => Err(Diagnostic::of_saving(alloc, fault)),
-        }
-    }
-
-    /// What saves the tree while it is served.
-    pub(crate) fn saver<'b, R>(&'b self, rt: &'b R, alloc: Global) -> CopySaver<'b, R> {
-        CopySaver {
-            rt,
-            alloc,
-            name: self.name,
-            key: self.key,
-            saved: None,
-        }
-    }
-}
+use std::time::Clock;
 
 /// What saves the tree while it is served.
 #[derive(Drop)]
-pub(crate) struct CopySaver<'a, R> {
-    rt: &'a R,
-    alloc: Global,
-    name: Option<&'a str>,
-    key: Option<[u8; KEY_BYTES]>,
-    // The digest of what was saved last.
-    saved: Option<[u8; 32]>,
+pub(crate) struct ServedSaver<'a, R> {
+    /// How.
+    pub(crate) copies: CopySaver<'a, R>,
 }
 
-impl<R: Files + RandomSource + Clock + Log> Saver for CopySaver<'_, R> {
-    // Logs how long it took. A fault, and what is skipped, is a warning. A tree that is as it was saved last
-    // is not saved again.
+impl<R: Files + RandomSource + Clock + Log> Saver for ServedSaver<'_, R> {
     fn save(&mut self, server: &Server) {
-        let Some(name) = self.name else {
-            return;
-        };
-        let began = Instant::now(self.rt);
-        let (rt, alloc, saved) = (self.rt, self.alloc, &mut self.saved);
-        match save_changed(rt, alloc, name, server, self.key, saved) {
-            Ok(Some(saved)) => {
-                for unsaid in &saved.skipped {
-                    warn!(self.rt; "{name}: {unsaid}");
-                }
-                log_time(self.rt, name, began);
-            }
-            Ok(None) => {}
-            Err(fault) => warn!(self.rt; "{fault}"),
-        }
+        self.copies.save(server);
     }
-}
-
-// Logs how long a saving took; nothing where the clock fails.
-fn log_time<R: Clock + Log>(rt: &R, name: &str, began: io::Result<Instant>) {
-    let Ok(took) = elapsed(rt, began) else {
-        return;
-    };
-    let millis = took.as_millis();
-    if millis > LONG_MILLIS {
-        warn!(rt; "{name}: saved in {millis} ms, during which no client was served");
-    } else {
-        info!(rt; "{name}: saved in {millis} ms");
-    }
-}
-
-fn elapsed<R: Clock>(rt: &R, began: io::Result<Instant>) -> io::Result<Duration> {
-    began?.elapsed(rt)
 }

@@ -1,16 +1,15 @@
 //! A call that a server sends to itself.
 
-use crate::description::load_tree;
-use crate::diagnostic::Diagnostic;
-use crate::fault::Fault;
 use crate::serve::fault_of;
 use log::Log;
+use nfs_runs::lending::{ServerUse, lend_tree};
 use nfs_server::server::Server;
+use nfs_source::diagnostic::Diagnostic;
+use nfs_source::fault::Fault;
 use nfs_tcp::self_call::self_call;
 use nfs_xdr::device::Device;
 use std::alloc::Global;
 use std::io;
-use std::mem::forget;
 use std::net::{Ipv4Addr, Net, SocketAddr, SocketAddrV4, TcpListener, TcpStream};
 use std::process::ExitCode;
 use std::rt::Files;
@@ -27,12 +26,24 @@ where
         + Clock
         + Log,
 {
-    let loaded = load_tree(rt, alloc, name)?;
-    let mut server = Server::new(alloc, loaded, 1)?;
-    let done = call_server(rt, alloc, &mut server);
-    forget(server);
-    done?;
-    Ok(ExitCode::SUCCESS)
+    lend_tree(rt, alloc, name, &OwnCall { rt, alloc })
+}
+
+// A call that a server sends to itself.
+#[derive(Drop)]
+struct OwnCall<'a, R> {
+    rt: &'a R,
+    alloc: Global,
+}
+
+impl<R> ServerUse for OwnCall<'_, R>
+where
+    R: Print + Net<Listener = TcpListener, Stream = TcpStream> + Clock + Log,
+{
+    fn run(&self, server: &mut Server) -> Result<ExitCode, Diagnostic> {
+        call_server(self.rt, self.alloc, server)?;
+        Ok(ExitCode::SUCCESS)
+    }
 }
 
 // Serves NULL over a connection of its own, and prints the reply.

@@ -1,11 +1,6 @@
 //! Serving over TCP.
-use crate::description::load_life;
-use crate::diagnostic::Diagnostic;
-use crate::exposure::warn_of_open_volumes;
-use crate::fault::Fault;
-use crate::life::begin;
 use crate::line_files::{audit_file, output, wording_of};
-use crate::saver::Copies;
+use crate::saver::ServedSaver;
 use log::sink::Console;
 use log::{Level, Log, Logged};
 use mio::net::TcpListener;
@@ -13,14 +8,17 @@ use nfs_command_line::invocation::Serve;
 use nfs_lines::line_out::LineOut;
 use nfs_lines::lines::Lines;
 use nfs_lines::rule_names::first_unknown;
+use nfs_runs::lending::{ServerUse, lend_life};
+use nfs_saving::copies::Copies;
 use nfs_server::moments::Moments;
 use nfs_server::server::Server;
+use nfs_source::diagnostic::Diagnostic;
+use nfs_source::fault::Fault;
 use nfs_tcp::clock::SystemClock;
 use nfs_tcp::limits::Limits;
 use nfs_tcp::service::{Service, ServiceFault};
 use std::alloc::{AllocError, Global};
 use std::fs::File;
-use std::mem::forget;
 use std::net::{IpAddr, Net, SocketAddr};
 use std::process::ExitCode;
 use std::random::RandomSource;
@@ -42,23 +40,34 @@ where
         return Ok(ExitCode::from(2));
     };
     let copies = Copies::of(rt, alloc, words.save, words.key)?;
-    let mut server = server_for(rt, alloc, words, ip)?;
-    let address = SocketAddr::new(ip, words.port);
-    let done = serve_and_save(rt, alloc, &mut server, address, words, &copies);
-    forget(server);
-    done
+    let service = ServiceAt {
+        rt,
+        alloc,
+        address: SocketAddr::new(ip, words.port),
+        words,
+        copies: &copies,
+    };
+    lend_life(rt, alloc, words.tree, words.cache, ip, &service)
 }
 
-// The server of the description, of whose open volumes it is warned.
-fn server_for<R: Files + Input + Eprint + Clock>(
-    rt: &R,
+// A service at an address.
+#[derive(Drop)]
+struct ServiceAt<'a, R> {
+    rt: &'a R,
     alloc: Global,
-    words: &Serve<'_>,
-    ip: IpAddr,
-) -> Result<Server, Diagnostic> {
-    let life = load_life(rt, alloc, words.tree)?;
-    warn_of_open_volumes(rt, ip, &life.loaded);
-    Ok(begin(rt, alloc, life, words.cache)?)
+    address: SocketAddr,
+    words: &'a Serve<'a>,
+    copies: &'a Copies<'a>,
+}
+
+impl<R> ServerUse for ServiceAt<'_, R>
+where
+    R: Files<File = File> + Print + Eprint + Net + Clock + RandomSource,
+{
+    fn run(&self, server: &mut Server) -> Result<ExitCode, Diagnostic> {
+        let (address, words) = (self.address, self.words);
+        serve_and_save(self.rt, self.alloc, server, address, words, self.copies)
+    }
 }
 
 // Serves, and then saves the tree where the words ask for it.
@@ -75,15 +84,32 @@ fn serve_and_save<R: Files<File = File> + Print + Eprint + Net + Clock + RandomS
     let done = match words.audit {
         Some(name) => {
             let audit = audit_file(rt, alloc, name)?;
-            let mut lines = Lines::new(alloc, wording_of(words), audit, Some(out));
-            served.run(rt, server, &mut lines, copies)
+            let lines = Lines::new(alloc, wording_of(words), audit, Some(out));
+            run_with(served, rt, server, lines, copies)
         }
         None => {
-            let mut lines = Lines::alone(alloc, wording_of(words), out);
-            served.run(rt, server, &mut lines, copies)
+            let lines = Lines::alone(alloc, wording_of(words), out);
+            run_with(served, rt, server, lines, copies)
         }
     };
     copies.save_last(rt, alloc, server, done)
+}
+
+// Serves with these lines, which are let go then.
+fn run_with<R, A, C>(
+    served: Served,
+    rt: &R,
+    server: &mut Server,
+    lines: Lines<'_, A, C>,
+    copies: &Copies<'_>,
+) -> Result<(), Fault>
+where
+    R: Files + Eprint + Net + Clock + RandomSource,
+    A: LineOut + Drop,
+    C: LineOut + Drop,
+{
+    let mut lines = lines;
+    served.run(rt, server, &mut lines, copies)
 }
 
 // The address that is listened at; none, which is reported, where a word is faulty.
@@ -164,7 +190,9 @@ impl Served {
         let address = self.address;
         let logged = Logged::new(rt, self.level, Console(rt));
         announce(&logged, self.alloc, &self.listener, address, lines)?;
-        let mut saver = copies.saver(&logged, self.alloc);
+        let mut saver = ServedSaver {
+            copies: copies.saver(&logged, self.alloc),
+        };
         let done = match Service::new(&logged, self.alloc, server, self.listener, self.limits) {
             Ok(mut service) => service.run(lines, &mut saver),
             Err(fault) => Err(fault),

@@ -17,16 +17,17 @@ const LONG_LINE_BYTES: usize = 4_096;
 
 /// A description: what it says, and its text, in which long contents are skipped.
 #[derive(Drop)]
-pub(crate) struct Description<'a> {
+pub struct Description<'a> {
     /// Its text.
-    pub(crate) source: Source<'a>,
+    pub source: Source<'a>,
     /// What it says.
-    pub(crate) loaded: Loaded,
+    pub loaded: Loaded,
 }
 
 impl<'a> Description<'a> {
-    /// The description of this name. Its first fault where there is one, but only once all of it was read.
-    pub(crate) fn read<R: Files + Input>(
+    /// The description of this name. `CannotRead` where the system reads no more of it, `TooLong` above
+    /// 1 GiB, `Description` with its first faulty line, but only once all of it was read, `Memory`.
+    pub fn read<R: Files + Input>(
         rt: &R,
         alloc: Global,
         name: &'a str,
@@ -38,20 +39,17 @@ impl<'a> Description<'a> {
 
 /// What a server serves that begins its life: what a description says, and the key of its handles.
 #[derive(Drop)]
-pub(crate) struct Life {
+pub struct Life {
     /// What the description says.
-    pub(crate) loaded: Loaded,
+    pub loaded: Loaded,
     /// The key of each life of a server whose description has this key, and names the same paths in the
     /// same order.
-    pub(crate) key: [u8; 8],
+    pub key: [u8; 8],
 }
 
-/// The life that begins with a text of this name; the text is let go.
-pub(crate) fn load_life<R: Files + Input>(
-    rt: &R,
-    alloc: Global,
-    name: &str,
-) -> Result<Life, Diagnostic> {
+/// The life that begins with a text of this name; the text is let go. The faults of
+/// `Description::read`.
+pub fn load_life<R: Files + Input>(rt: &R, alloc: Global, name: &str) -> Result<Life, Diagnostic> {
     let (description, paths) = read_with(rt, alloc, name, Some(PathDigest::new()))?;
     let Description { loaded, .. } = description;
     let own = loaded.tree.key();
@@ -75,8 +73,9 @@ fn read_with<'a, R: Files + Input>(
     reader.described(alloc, name)
 }
 
-/// The tree that a text of this name describes; the text is let go.
-pub(crate) fn load_tree<R: Files + Input>(
+/// The tree that a text of this name describes; the text is let go. The faults of
+/// `Description::read`.
+pub fn load_tree<R: Files + Input>(
     rt: &R,
     alloc: Global,
     name: &str,

@@ -17,16 +17,17 @@ const CHUNK_BYTES: usize = 1 << 16;
 
 /// A text with its name, `-` for standard input.
 #[derive(Drop)]
-pub(crate) struct Source<'a> {
+pub struct Source<'a> {
     /// The name.
-    pub(crate) name: &'a str,
+    pub name: &'a str,
     /// Its bytes.
-    pub(crate) text: Vec<u8>,
+    pub text: Vec<u8>,
 }
 
 impl<'a> Source<'a> {
-    /// The whole text of this name.
-    pub(crate) fn read<R: Files + Input>(
+    /// The whole text of this name. `CannotRead` where the system reads no more of it, `TooLong` above
+    /// 1 GiB, which an endless one reaches, `Memory`.
+    pub fn read<R: Files + Input>(
         rt: &R,
         alloc: Global,
         name: &'a str,
@@ -36,8 +37,8 @@ impl<'a> Source<'a> {
         Ok(Source { name, text })
     }
 
-    /// What the text describes, or its first fault.
-    pub(crate) fn load(&self, alloc: Global) -> Result<Loaded, Diagnostic> {
+    /// What the text describes. `Description` with its first faulty line, `Memory`.
+    pub fn load(&self, alloc: Global) -> Result<Loaded, Diagnostic> {
         match load(alloc, self.text.as_slice()) {
             Ok(loaded) => Ok(loaded),
             Err(error) => Err(Diagnostic::of_description(alloc, error, self)),

@@ -1,6 +1,5 @@
 //! The tree that a server has, kept as a description.
 
-use crate::fault::Fault;
 use crate::key::{KEY_BYTES, new_key};
 use nfs_describe::description::{Described, describe_sayable};
 use nfs_describe::fault::{DescribeFault, ShownPath};
@@ -8,6 +7,7 @@ use nfs_describe::sayable::is_sayable;
 use nfs_describe::skipped::Skipped;
 use nfs_inodes::tree::Tree;
 use nfs_server::server::Server;
+use nfs_source::fault::Fault;
 use sha2::{Digest, Sha256};
 use std::alloc::{AllocError, Global};
 use std::fs::{self, OpenFile};
@@ -19,14 +19,14 @@ use thiserror::Error;
 
 /// What a file that was written lacks of the tree.
 #[derive(Drop)]
-pub(crate) struct Saved {
+pub struct Saved {
     /// What was skipped, in the order of the description.
-    pub(crate) skipped: Vec<Unsaid>,
+    pub skipped: Vec<Unsaid>,
 }
 
-/// What a description has no words for, by the path that clients see. It prints with what to do.
+/// What a description can't hold, by the path that clients see. It prints with what to do.
 #[derive(Debug, Drop, Error)]
-pub(crate) enum Unsaid {
+pub enum Unsaid {
     /// A path.
     #[error("skipped {0}: a description can't hold this name; rename it and save again")]
     Name(ShownPath),
@@ -37,14 +37,14 @@ pub(crate) enum Unsaid {
 
 impl Saved {
     /// Warns of what was skipped on standard error.
-    pub(crate) fn warn<R: Eprint>(&self, rt: &R, name: &str) {
+    pub fn warn<R: Eprint>(&self, rt: &R, name: &str) {
         for unsaid in &self.skipped {
             let _ = eprintln!(rt; "nfs3d: warning: {name}: {unsaid}");
         }
     }
 
     /// 0 where nothing was skipped, otherwise 1.
-    pub(crate) fn status(&self) -> ExitCode {
+    pub fn status(&self) -> ExitCode {
         if self.skipped.is_empty() {
             ExitCode::SUCCESS
         } else {
@@ -54,13 +54,13 @@ impl Saved {
 }
 
 /// Writes the description of a server's tree and exports under a key, or under a new one: to a file
-/// beside the one of this name, which it then replaces. What a description has no words for is
+/// beside the one of this name, which it then replaces. What a description can't hold is
 /// skipped.
 ///
 /// `CannotWrite` where the system refuses a step, `Undescribed` where the description is too long,
 /// `CannotRead` where the system has no new key, `Memory`. The file of that name is then as it was, with
 /// nothing beside it; only where its directory can't be synced it is the new one.
-pub(crate) fn save<R: Files + RandomSource>(
+pub fn save<R: Files + RandomSource>(
     rt: &R,
     alloc: Global,
     name: &str,
@@ -73,7 +73,7 @@ pub(crate) fn save<R: Files + RandomSource>(
 
 /// The same, unless the tree is described as it was when this digest was taken, whatever the key is; the
 /// digest is that of the new file then. Nothing is saved where there is no answer.
-pub(crate) fn save_changed<R: Files + RandomSource>(
+pub fn save_changed<R: Files + RandomSource>(
     rt: &R,
     alloc: Global,
     name: &str,
@@ -133,7 +133,7 @@ fn write_described<R: Files>(
 
 /// Makes the file beside the one of this name, and takes it away again. `CannotWrite` where the system
 /// refuses that, or where something else than a file has the name; `Memory`.
-pub(crate) fn try_place<R: Files>(rt: &R, alloc: Global, name: &str) -> Result<(), Fault> {
+pub fn try_place<R: Files>(rt: &R, alloc: Global, name: &str) -> Result<(), Fault> {
     let part = part_of(alloc, name)?;
     match make_and_remove(rt, part.as_str(), name) {
         Ok(()) => Ok(()),

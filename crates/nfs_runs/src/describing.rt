@@ -1,8 +1,5 @@
 //! `nfs3d describe`: a directory on disk, as a description.
 
-use crate::fault::Fault;
-use crate::key::key_of;
-use crate::output::print;
 use nfs_command_line::invocation::Describe;
 use nfs_describe::description::describe;
 use nfs_describe::fault::DescribeFault;
@@ -13,6 +10,9 @@ use nfs_disk::survey::Survey;
 use nfs_load::description::load;
 use nfs_load::load_error::LoadError;
 use nfs_load::loaded::Loaded;
+use nfs_saving::key::key_of;
+use nfs_source::fault::Fault;
+use nfs_source::output::print;
 use std::alloc::{AllocError, Global};
 use std::mem::forget;
 use std::process::ExitCode;
@@ -20,9 +20,10 @@ use std::random::RandomSource;
 use std::rt::Files;
 
 /// Prints the description of the directory that the words name. What is skipped of it is reported on
-/// standard error. `CannotRead` where there is no such directory, or the system has no key,
-/// `Undescribed`, `Write`, `Memory`; the status 2 where a word is faulty.
-pub(crate) fn describe_directory<R: Files + Print + Eprint + RandomSource + AllocGlobal>(
+/// standard error. `CannotRead` where there is no such directory, or the system has no key, `Undescribed`
+/// where a description can't hold it, `Write` and `Closed` where the output fails, `Memory`; the status 2
+/// where a word is faulty.
+pub fn describe_directory<R: Files + Print + Eprint + RandomSource + AllocGlobal>(
     rt: &R,
     alloc: Global,
     words: &Describe<'_>,

@@ -1,10 +1,10 @@
 //! `nfs3d why`: why a call is granted or denied.
 
-use crate::description::Description;
-use crate::diagnostic::Diagnostic;
-use crate::output::print;
 use nfs_command_line::invocation::Why;
 use nfs_load::loaded::Loaded;
+use nfs_source::description::Description;
+use nfs_source::diagnostic::Diagnostic;
+use nfs_source::output::print;
 use nfs_why::question::{BadQuestion, Question};
 use nfs_why::why::put_answer;
 use nfs_words::text::Text;
@@ -14,8 +14,9 @@ use std::process::ExitCode;
 use std::rt::Files;
 
 /// Prints why the call that the words describe is granted or denied; the status is 2 where one of them
-/// is faulty.
-pub(crate) fn print_why<R: Files + Input + Print + Eprint>(
+/// is faulty. `CannotRead` and `TooLong` where the description can't be read, `Description` with its first
+/// faulty line, `Write` and `Closed` where the output fails, `Memory`.
+pub fn print_why<R: Files + Input + Print + Eprint>(
     rt: &R,
     alloc: Global,
     words: &Why<'_>,

@@ -1,9 +1,9 @@
 //! The life of a server, which begins when it starts.
 
-use crate::description::Life;
-use crate::fault::Fault;
 use nfs_lives::opening::open_server;
 use nfs_server::server::Server;
+use nfs_source::description::Life;
+use nfs_source::fault::Fault;
 use std::alloc::Global;
 use std::time::{Clock, SystemTime, UNIX_EPOCH};
 

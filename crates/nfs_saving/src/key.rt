@@ -1,15 +1,15 @@
 //! The keys of descriptions that are written.
 
-use crate::fault::Fault;
+use nfs_source::fault::Fault;
 use std::alloc::Global;
 use std::random::RandomSource;
 
 /// How many bytes a key has.
-pub(crate) const KEY_BYTES: usize = 8;
+pub const KEY_BYTES: usize = 8;
 
 /// The key of these hexadecimal digits, or a new one where there are none, or not 16. `CannotRead`
 /// where the system has no random bytes, `Memory`.
-pub(crate) fn key_of<R: RandomSource>(
+pub fn key_of<R: RandomSource>(
     rt: &R,
     alloc: Global,
     digits: Option<&str>,
@@ -21,7 +21,7 @@ pub(crate) fn key_of<R: RandomSource>(
 }
 
 /// The key of 16 hexadecimal digits.
-pub(crate) fn given_key(digits: &str) -> Option<[u8; KEY_BYTES]> {
+pub fn given_key(digits: &str) -> Option<[u8; KEY_BYTES]> {
     let mut key = [0; KEY_BYTES];
     match hex::decode_to_slice(digits, &mut key) {
         Ok(()) => Some(key),
@@ -30,7 +30,7 @@ pub(crate) fn given_key(digits: &str) -> Option<[u8; KEY_BYTES]> {
 }
 
 /// A key that no other description has. `CannotRead` where the system has no random bytes, `Memory`.
-pub(crate) fn new_key<R: RandomSource>(rt: &R, alloc: Global) -> Result<[u8; KEY_BYTES], Fault> {
+pub fn new_key<R: RandomSource>(rt: &R, alloc: Global) -> Result<[u8; KEY_BYTES], Fault> {
     let mut key = [0; KEY_BYTES];
     match rt.fill_bytes(&mut key) {
         Ok(()) => Ok(key),

@@ -2,8 +2,8 @@
 use Rattle.std.specs.Prelude.{◌≡◌, ℕ}
 use Rattle.nfs_load.specs.declared.load_error.LoadError.{LoadError}
 use Rattle.nfs_load.specs.declared.load_error.LoadError.TheVariants as error
-use Rattle.nfs3d.specs.declared.fault.Fault.{Fault}
-use Rattle.nfs3d.specs.declared.fault.Fault.TheVariants.{Description, Script, NoText, CannotRead, TooLong, CannotWrite, Undescribed, Network, NoTime, Write, Closed, Memory}
+use Rattle.nfs_source.specs.declared.fault.Fault.{Fault}
+use Rattle.nfs_source.specs.declared.fault.Fault.TheVariants.{Description, Script, NoText, CannotRead, TooLong, CannotWrite, Undescribed, Network, NoTime, Write, Closed, Memory}
 
 -- 1 where the description or the script is at fault, 2 where the words are, 3 where the machine is, 141 where nobody reads
 abbrev pub status_of : Fault → ℕ

@@ -1,9 +1,9 @@
 //! `nfs3d exports`: who may reach which volume.
 
-use crate::description::load_tree;
-use crate::diagnostic::Diagnostic;
-use crate::output::print;
 use nfs_load::loaded::Loaded;
+use nfs_source::description::load_tree;
+use nfs_source::diagnostic::Diagnostic;
+use nfs_source::output::print;
 use nfs_why::exports::put_exports;
 use nfs_words::text::Text;
 use std::alloc::{AllocError, Global};
@@ -11,8 +11,9 @@ use std::mem::forget;
 use std::process::ExitCode;
 use std::rt::Files;
 
-/// Prints the exports of the description of this name.
-pub(crate) fn print_exports<R: Files + Input + Print>(
+/// Prints the exports of the description of this name. `CannotRead` and `TooLong` where it can't be read,
+/// `Description` with its first faulty line, `Write` and `Closed` where the output fails, `Memory`.
+pub fn print_exports<R: Files + Input + Print>(
     rt: &R,
     alloc: Global,
     name: &str,

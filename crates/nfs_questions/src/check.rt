@@ -1,13 +1,13 @@
 //! `nfs3d check`: whether a description is in order, and how much it holds.
 
-use crate::description::Description;
-use crate::diagnostic::Diagnostic;
-use crate::source::Source;
 use crate::totals::print_totals;
 use nfs_advice::every::{Faulty, every_fault};
 use nfs_advice::warnings::{Warning, warnings};
 use nfs_load::load_error::LoadError;
 use nfs_load::loaded::Loaded;
+use nfs_source::description::Description;
+use nfs_source::diagnostic::Diagnostic;
+use nfs_source::source::Source;
 use std::alloc::{AllocError, Global};
 use std::mem::forget;
 use std::process::ExitCode;
@@ -15,8 +15,9 @@ use std::rt::Files;
 
 /// Prints what a description holds, and on standard error what it says that may not be meant; the
 /// status is 1 then where that is strict. Where the whole of it is looked at, its faulty lines are all
-/// reported.
-pub(crate) fn check_file<R: Files + Input + Print + Eprint>(
+/// reported, with the status 1. `CannotRead` and `TooLong` where it can't be read, `Description` with its
+/// first faulty line, `Write` and `Closed` where the output fails, `Memory`.
+pub fn check_file<R: Files + Input + Print + Eprint>(
     rt: &R,
     alloc: Global,
     name: &str,

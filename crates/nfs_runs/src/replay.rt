@@ -1,16 +1,16 @@
 //! `nfs3d replay`: a script, run over a description.
 
-use crate::description::load_tree;
-use crate::diagnostic::Diagnostic;
-use crate::output::fault_of;
-use crate::saver::Copies;
-use crate::source::Source;
 use nfs_command_line::invocation::Replay;
 use nfs_load::loaded::Loaded;
 use nfs_replay::fault::ScriptFault;
 use nfs_replay::replay::replay;
 use nfs_replay::shown::Shown;
+use nfs_saving::copies::Copies;
 use nfs_server::sessions::Sessions;
+use nfs_source::description::load_tree;
+use nfs_source::diagnostic::Diagnostic;
+use nfs_source::output::fault_of;
+use nfs_source::source::Source;
 use nfs_xdr::device::Device;
 use std::alloc::{AllocError, Global};
 use std::io::{self, BufWriter, Write};
@@ -23,8 +23,10 @@ use std::rt::Files;
 const RUN_BYTES: usize = 65_536;
 
 /// Runs a script over a description, and saves the tree as it then is where the words ask for it. The
-/// status is 1 where a description has no words for all of it.
-pub(crate) fn replay_files<R: Files + Input + Print + Eprint + RandomSource>(
+/// status is 1 where a description can't hold all of it. The faults of `Copies::of`, `Description::read`
+/// and `Copies::save_last`; `CannotRead` and `TooLong` where the script can't be read, `Script` with its
+/// first faulty line, `Write` and `Closed` where the output fails, `Memory`.
+pub fn replay_files<R: Files + Input + Print + Eprint + RandomSource>(
     rt: &R,
     alloc: Global,
     words: &Replay<'_>,

@@ -1,9 +1,9 @@
 //! What a description holds, in one line.
 
-use crate::fault::Fault;
-use crate::output::print;
 use nfs_inodes::tree::Tree;
 use nfs_inodes::volumes::Totals;
+use nfs_source::fault::Fault;
+use nfs_source::output::print;
 use std::alloc::Global;
 
 /// Prints `ok volumes=V files=F bytes=B`: how many volumes there are, and what they have together: files

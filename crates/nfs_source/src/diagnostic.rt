@@ -17,19 +17,15 @@ const WORDS_BEFORE_USER: usize = 3;
 
 /// A fault, and the line that says where in a description or a script it is and what would be right.
 #[derive(Drop)]
-pub(crate) struct Diagnostic {
+pub struct Diagnostic {
     /// The fault.
-    pub(crate) fault: Fault,
+    pub fault: Fault,
     advice: Option<String>,
 }
 
 impl Diagnostic {
     /// A fault of a description. Without memory for the advice there is none.
-    pub(crate) fn of_description(
-        alloc: Global,
-        error: LoadError,
-        description: &Source<'_>,
-    ) -> Diagnostic {
+    pub fn of_description(alloc: Global, error: LoadError, description: &Source<'_>) -> Diagnostic {
         let advice = match error {
             LoadError::Fault { line, cause } => {
                 let advice = advise(description.text.as_slice(), line, cause);
@@ -44,7 +40,7 @@ impl Diagnostic {
     }
 
     /// A fault of what is saved, with what to do. Without memory for that there is none.
-    pub(crate) fn of_saving(alloc: Global, fault: Fault) -> Diagnostic {
+    pub fn of_saving(alloc: Global, fault: Fault) -> Diagnostic {
         let advice = match &fault {
             Fault::CannotWrite { error, .. } => saving_advice(alloc, error.kind()),
             _ => None,
@@ -53,7 +49,7 @@ impl Diagnostic {
     }
 
     /// Reports it on standard error, unless nobody listens.
-    pub(crate) fn report<R: Eprint>(&self, rt: &R) {
+    pub fn report<R: Eprint>(&self, rt: &R) {
         match self.fault {
             Fault::Closed => {}
             _ => {
@@ -63,7 +59,7 @@ impl Diagnostic {
     }
 
     /// A fault of a script. Without memory for the advice there is none.
-    pub(crate) fn of_script(alloc: Global, fault: ScriptFault, script: &Source<'_>) -> Diagnostic {
+    pub fn of_script(alloc: Global, fault: ScriptFault, script: &Source<'_>) -> Diagnostic {
         let advice = match fault {
             ScriptFault::Line { line, cause } => {
                 script_advice(alloc, script.name, script.text.as_slice(), line, cause)

@@ -1,6 +1,6 @@
 //! Why the program ends without having done all of its job.
 ghost use Rattle.std.specs.Prelude.{◌≡◌};
-ghost use Rattle.nfs3d.specs.Status.{status_of};
+ghost use Rattle.nfs_source.specs.Status.{status_of};
 
 use nfs_describe::fault::DescribeFault;
 use nfs_load::cause::Cause;
@@ -52,7 +52,7 @@ pub enum Fault {
         /// What the system says.
         error: io::Error,
     },
-    /// The tree has what a description has no words for.
+    /// The tree has what a description can't hold.
     #[error("nfs3d: {0}")]
     Undescribed(DescribeFault),
     /// The network fails.
@@ -99,7 +99,7 @@ impl Fault {
 }
 
 impl From<LoadError> for Fault {
-    ghost use Rattle.nfs3d.specs.Status.{IsReportedAs};
+    ghost use Rattle.nfs_source.specs.Status.{IsReportedAs};
 
     ghost from_gives = { IsReportedAs };
 

@@ -1,0 +1,9 @@
+//! The texts that words of the command line name, and the faults that end the program, with what
+//! stands after their lines.
+#![tactic(auto)]
+
+pub mod description;
+pub mod diagnostic;
+pub mod fault;
+pub mod output;
+pub mod source;
