@@ -1,9 +1,9 @@
 //! The tree of a server, saved while it is served.
 
 use log::Log;
+use nfs_loop::saver::Saver;
 use nfs_saving::copies::CopySaver;
 use nfs_server::server::Server;
-use nfs_tcp::saver::Saver;
 use std::random::RandomSource;
 use std::rt::Files;
 use std::time::Clock;

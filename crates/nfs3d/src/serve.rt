@@ -8,6 +8,9 @@ use nfs_command_line::invocation::Serve;
 use nfs_lines::line_out::LineOut;
 use nfs_lines::lines::Lines;
 use nfs_lines::rule_names::first_unknown;
+use nfs_loop::limits::Limits;
+use nfs_loop::saver::Saver;
+use nfs_loop::service::Service;
 use nfs_runs::lending::{ServerUse, lend_life};
 use nfs_saving::copies::Copies;
 use nfs_server::moments::Moments;
@@ -15,8 +18,8 @@ use nfs_server::server::Server;
 use nfs_source::diagnostic::Diagnostic;
 use nfs_source::fault::Fault;
 use nfs_tcp::clock::SystemClock;
-use nfs_tcp::limits::Limits;
-use nfs_tcp::service::{Service, ServiceFault};
+use nfs_tcp::network::TcpNetwork;
+use nfs_tcp::service_fault::ServiceFault;
 use std::alloc::{AllocError, Global};
 use std::fs::File;
 use std::net::{IpAddr, Net, SocketAddr};
@@ -193,14 +196,33 @@ impl Served {
         let mut saver = ServedSaver {
             copies: copies.saver(&logged, self.alloc),
         };
-        let done = match Service::new(&logged, self.alloc, server, self.listener, self.limits) {
-            Ok(mut service) => service.run(lines, &mut saver),
-            Err(fault) => Err(fault),
-        };
+        let done = self.serve(&logged, server, lines, &mut saver);
         match done {
             Ok(()) if lines.lost_some() => Err(Fault::Write),
             Ok(()) => Ok(()),
             Err(fault) => Err(fault_of(address, fault)),
+        }
+    }
+
+    // Serves the clients of the listener.
+    fn serve<R, A, C, S>(
+        self,
+        rt: &R,
+        server: &mut Server,
+        lines: &mut Lines<'_, A, C>,
+        saver: &mut S,
+    ) -> Result<(), ServiceFault>
+    where
+        R: Net + Clock + Log,
+        A: LineOut,
+        C: LineOut,
+        S: Saver,
+    {
+        let mut net = TcpNetwork::new(rt, self.alloc, self.listener)?;
+        let mut service = Service::new(self.alloc, self.limits)?;
+        match service.serve(rt, server, &mut net, lines, saver) {
+            Ok(()) => Ok(()),
+            Err(error) => Err(error.into()),
         }
     }
 }

@@ -1,10 +1,11 @@
 -- What was put in a queue, as lines are put and passed on.
-use Rattle.std.proofs.Common.{◌≡◌, ℕ, zero, suc, zero-add, ◌+◌, ◌-◌, List, [], ◌∷◌, ◌++◌, length, take, drop, Option, Some, None, option_map, Result, Ok, Err, OnOk, OnErr, append_assoc, append-nil, sym, ap, subst, ◌∙◌, refl, arith}
+use Rattle.std.proofs.Common.{◌≡◌, ℕ, zero, suc, zero-add, ◌+◌, ◌-◌, Bool, true, false, List, [], ◌∷◌, ◌++◌, length, take, drop, Option, Some, None, option_map, if◌then◌else◌, Result, Ok, Err, OnOk, OnErr, append_assoc, append-nil, sym, ap, subst, ◌∙◌, refl, arith}
 use Rattle.std.proofs.lemmas.Grind.{common_steps}
+use Rattle.std.proofs.lemmas.Bool.{true≢false}
 use Rattle.std.proofs.lemmas.List.{take-append-drop, take_all}
 use Rattle.std.proofs.Math.Seq.{take-length, drop-nil}
 use Rattle.nfs_xdr.specs.Known.{Grows, GrowsByPart}
-use Rattle.nfs_lines.specs.Queued.{Queued, put}
+use Rattle.nfs_lines.specs.Queued.{Queued, PutsPart, put, put_plainly}
 
 abbrev with_pending : Option (List ℕ) → List ℕ → Option (List ℕ)
 with_pending taken pending = option_map (λ bytes. bytes ++ pending) taken
@@ -61,3 +62,25 @@ on_ok (Err e) p = tt
 pub on_err : {X E : Type 0} {P : Type 0} (r : Result X E) → P → OnErr r P
 on_err (Ok x) p = tt
 on_err (Err e) p = p
+
+-- ---- lines of connections
+
+grows_same : (a : Option (List ℕ)) → Grows a [] a
+grows_same a before e = e ∙ ap Some (sym (append-nil before))
+
+-- none of a line was put
+pub puts_none : {D : Type 0} (taken : D → Option (List ℕ)) (is_plain : Bool) (line : List ℕ) (old new : Queued D) → new.pending ≡ old.pending → new.device ≡ old.device → PutsPart taken is_plain line false old new
+puts_none taken is_plain line old new pending device =
+    let same : put_plainly taken is_plain new ≡ put_plainly taken is_plain old =
+    ap (λ d. if is_plain then option_map (λ bytes. bytes ++ new.pending) (taken d) else None) device ∙ ap (λ p. if is_plain then option_map (λ bytes. bytes ++ p) (taken old.device) else None) pending in
+    record { n = 0; within = omega arith; grows = subst (λ o. Grows (put_plainly taken is_plain old) [] o) (sym same) (grows_same (put_plainly taken is_plain old)); whole = λ e. absurd (true≢false (sym e)) }
+
+-- all of it was
+pub puts_all : {D : Type 0} (taken : D → Option (List ℕ)) (is_plain : Bool) (line : List ℕ) (is_whole : Bool) (old new : Queued D) → (is_plain ≡ true → Grows (put taken old) line (put taken new)) → PutsPart taken is_plain line is_whole old new
+puts_all taken true line is_whole old new grows = record { n = length line; within = omega arith; grows = subst (λ l. Grows (put taken old) l (put taken new)) (sym (take-length line)) (grows refl); whole = λ e. take-length line }
+puts_all taken false line is_whole old new grows = record { n = length line; within = omega arith; grows = λ before e. cc; whole = λ e. take-length line }
+
+-- a line that is put as it is is put so too where that is not known
+pub puts_as : {D : Type 0} (taken : D → Option (List ℕ)) (as_it_is is_plain : Bool) (line : List ℕ) (is_whole : Bool) (old new : Queued D) → (is_plain ≡ true → as_it_is ≡ true) → PutsPart taken as_it_is line is_whole old new → PutsPart taken is_plain line is_whole old new
+puts_as taken as_it_is true line is_whole old new is p = subst (λ b. PutsPart taken b line is_whole old new) (is refl) p
+puts_as taken as_it_is false line is_whole old new is p = record { n = p.n; within = p.within; grows = λ before e. cc; whole = p.whole }

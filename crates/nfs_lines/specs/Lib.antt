@@ -1,2 +1,3 @@
 pub mod Queued
+pub mod Written
 pub mod Wordings

@@ -1,6 +1,7 @@
 //! The lines that a server writes while it serves: of denied calls, and of connections that ended.
 #![tactic(auto)]
 
+pub mod denied_lines;
 pub mod line_out;
 pub mod line_queue;
 pub mod lines;

@@ -1,9 +1,11 @@
 //! Lines that wait for their device.
 ghost use Rattle.std.specs.Prelude.{◌≡◌, ◌++◌, [], ℕ, List, Option, true, false, length, IsTrue, OnOk, OnErr, ◌↔◌};
 ghost use Rattle.nfs_xdr.specs.Known.{Grows};
-ghost use Rattle.nfs_lines.specs.Queued.{put};
+ghost use Rattle.nfs_lines.specs.Queued.{PutsPart, put};
 
 use crate::line_out::LineOut;
+use crate::timestamp::timestamp;
+use nfs_attrs::moment::Moment;
 use std::alloc::{AllocError, Global};
 use std::marker::Model;
 
@@ -73,6 +75,28 @@ impl<D: LineOut> LineQueue<D> {
         self.lines.extend_from_slice(line)
     }
 
+    /// Puts a line after the others, as it is, or with its moment before it. Refused without memory, and
+    /// then nothing changes.
+    pub fn put_line(
+        &mut self,
+        as_it_is: bool,
+        moment: Moment,
+        line: &[u8],
+    ) -> Result<(), AllocError>
+        ensures pending { OnOk result (as_it_is ≡ true → self.new.pending ≡ self.old.pending ++ line.now) }
+        ensures device { self.new.device ≡ self.old.device }
+        ensures failed { self.new.failed ≡ self.old.failed }
+        ensures err { OnErr result (self.new.pending ≡ self.old.pending) }
+    {
+        if as_it_is {
+            return self.put(line);
+        }
+        let mut text = timestamp(self.alloc, moment)?.into_bytes();
+        text.push(b' ')?;
+        text.extend_from_slice(line)?;
+        self.put(text.as_slice())
+    }
+
     /// Passes lines on, as much as the device takes now; none where it has failed. What was put
     /// stays what was put.
     pub fn pass_on(&mut self)
@@ -87,6 +111,32 @@ impl<D: LineOut> LineQueue<D> {
                 self.tidy();
             }
             Err(_) => self.ended = true,
+        }
+    }
+
+    /// How many bytes the device has not taken yet, of those that it may still take.
+    pub fn pending_if_alive(&self) -> usize {
+        if self.ended {
+            return 0;
+        }
+        self.pending()
+    }
+
+    /// Whether a line was put, as it is or with its moment before it, and passed on as far as the device
+    /// takes it now. It is not where the queue is full, the device fails or has failed, or there is no
+    /// memory.
+    pub fn report(&mut self, as_it_is: bool, moment: Moment, line: &[u8]) -> bool
+        ensures { PutsPart D.taken as_it_is line.now result self.old self.new }
+    {
+        if self.ended || self.pending() >= MOST_PENDING {
+            return false;
+        }
+        match self.put_line(as_it_is, moment, line) {
+            Ok(()) => {
+                self.pass_on();
+                !self.ended
+            }
+            Err(_) => false,
         }
     }
 

@@ -1,3 +1,3 @@
 pub mod Turning
-pub mod Together
+pub mod Service
 pub mod Windows

@@ -1,5 +1,5 @@
 -- What a turn does, step by step.
-use Rattle.std.proofs.Common.{◌≡◌, ℕ, Bool, true, false, List, [], ◌∷◌, ◌++◌, take, drop, Option, Some, None, Result, Ok, Err, OnOk, OnErr, is_err, inl, inr, refl, sym, ap, subst, ◌∙◌, append_assoc, append-nil}
+use Rattle.std.proofs.Common.{◌≡◌, ◌⊎◌, ℕ, Bool, true, false, List, [], ◌∷◌, ◌++◌, take, drop, Option, Some, None, Result, Ok, Err, OnOk, OnErr, is_err, inl, inr, refl, sym, ap, subst, ◌∙◌, append_assoc, append-nil}
 use Rattle.std.proofs.lemmas.List.{take-append-drop}
 use Rattle.nfs_attrs.specs.declared.moment.Moment.{Moment}
 use Rattle.nfs_rpc.specs.Progress.{Progress}
@@ -14,7 +14,10 @@ use Rattle.nfs_server.specs.declared.session_fault.SessionFault.TheVariants.{Con
 use Rattle.nfs_server.specs.declared.taking.Origin.{Origin}
 use Rattle.nfs_server.specs.declared.taking.Taken.{Taken}
 use Rattle.nfs_serving.specs.Outgoing.{Outgoing, Passes, with_pending}
-use Rattle.nfs_serving.specs.Turns.{Standing, Gathers, StandsBy, Rests, Takes, Turns, calls_after, origin_of, written}
+use Rattle.nfs_serving.specs.Turns.{Standing, Gathers, IsEndBy, StandsBy, StandsAfter, Rests, Takes, Turns, calls_after, origin_of, written}
+use Rattle.nfs_serving.specs.declared.turn.End.{End}
+use Rattle.nfs_serving.specs.declared.turn.End.TheVariants.{Fault}
+use Rattle.nfs_server.specs.declared.serve_fault.ServeFault.TheVariants as reported
 use Rattle.nfs_xdr.specs.Known.{Grows, Shrinks}
 use Rattle.nfs_xdr.proofs.Knowing.{Grows-then}
 
@@ -29,10 +32,10 @@ some_same e = cc
 pub grows_none : (a : Option (List ℕ)) → Grows a [] a
 grows_none a before e = e ∙ ap Some (sym (append-nil before))
 
-shrinks_none : (a : Option (List ℕ)) → Shrinks a [] a
+pub shrinks_none : (a : Option (List ℕ)) → Shrinks a [] a
 shrinks_none a before e = (before, e, refl)
 
-shrinks_then : (a b c : Option (List ℕ)) (xs ys : List ℕ) → Shrinks a xs b → Shrinks b ys c → Shrinks a (xs ++ ys) c
+pub shrinks_then : (a b c : Option (List ℕ)) (xs ys : List ℕ) → Shrinks a xs b → Shrinks b ys c → Shrinks a (xs ++ ys) c
 shrinks_then a b c xs ys first second before e =
     let f = first before e in
     let g = second f.0 f.1 in
@@ -114,6 +117,19 @@ ended_as (Err fault) ended ok err = err
 pub has_failed : (fault : SessionFault) (audit_failed replies_failed : Bool) → EndsWith audit_failed replies_failed fault → fault ≡ WriteFault → replies_failed ≡ true
 has_failed fault audit_failed replies_failed ends e = subst (EndsWith audit_failed replies_failed) e ends
 
+-- ---- how a client stands
+
+stands_ended : (result : Result ℕ SessionFault) (reply : Buffered) (end : Option End) → StandsBy result reply end → IsEndBy result end
+stands_ended (Ok n) reply end s = s
+stands_ended (Err fault) reply end s = s.0
+
+-- also after the channel's own end
+stands_on : {L : Type 0} (result : Result ℕ SessionFault) (mid new : Standing L) → new.channel ≡ mid.channel → StandsAfter result mid
+    → (new.end ≡ mid.end) ⊎ ((new.end ≡ Some (Fault reported.WriteFault)) × (new.channel.failed ≡ true)) → StandsAfter result new
+stands_on result mid new out stands (inr broken) = inl broken
+stands_on {L} result mid new out (inl broken) (inl same) = inl (same ∙ broken.0, ap (λ (o : Outgoing L). o.failed) out ∙ broken.1)
+stands_on result mid new out (inr by) (inl same) = inr (subst (IsEndBy result) (sym same) by)
+
 -- ---- turns
 
 module _ {L : Type 0} (outgoing incoming : L → Option (List ℕ)) where
@@ -189,11 +205,12 @@ module _ {L : Type 0} (outgoing incoming : L → Option (List ℕ)) where
           addr_stays = g.addr_stays ∙ ap (λ (j : Joined). j.addr) f.connection_stays;
           limit_stays = g.limit_stays ∙ ap (λ (j : Joined). j.progress.limit) f.connection_stays;
           calls_are = g.calls_are ∙ ap (λ n. calls_after n g.result) f.calls_stay;
+          stands = g.stands;
           feeds = subst (λ (j : Joined). Feeds (record { addr = j.addr; moment = moment }) g.taken g.result server served j.progress new.connection.progress audit (device (written outgoing old) (written outgoing new))) f.connection_stays moved;
         }
 
-    pub takes_then_rests : (came : List ℕ) (old mid new : Standing L) → Takes outgoing incoming moment came old mid server served audit → Rests outgoing incoming [] mid new → Takes outgoing incoming moment came old new server served audit
-    takes_then_rests came old mid new f g =
+    pub takes_then_rests : (came : List ℕ) (old mid new : Standing L) (takes : Takes outgoing incoming moment came old mid server served audit) → Rests outgoing incoming [] mid new → StandsAfter takes.result new → Takes outgoing incoming moment came old new server served audit
+    takes_then_rests came old mid new f g stands =
         let o = outgoing old.channel.link in
         let m = outgoing mid.channel.link in
         let n = outgoing new.channel.link in
@@ -214,6 +231,7 @@ module _ {L : Type 0} (outgoing incoming : L → Option (List ℕ)) where
           addr_stays = ap (λ (j : Joined). j.addr) g.connection_stays ∙ f.addr_stays;
           limit_stays = ap (λ (j : Joined). j.progress.limit) g.connection_stays ∙ f.limit_stays;
           calls_are = g.calls_stay ∙ f.calls_are;
+          stands = stands;
           feeds = subst (λ (j : Joined). Feeds (origin_of old moment) f.taken f.result server served old.connection.progress j.progress audit (device (written outgoing old) (written outgoing new))) (sym g.connection_stays) moved;
         }
 
@@ -253,10 +271,11 @@ module _ {L : Type 0} (outgoing incoming : L → Option (List ℕ)) where
         → new.connection ≡ mid.connection
         → new.chunk ≡ mid.chunk
         → new.calls ≡ mid.calls
+        → new.end ≡ mid.end
         → incoming new.channel.link ≡ incoming mid.channel.link
         → Passes (outgoing mid.channel.link) reply.earlier (outgoing new.channel.link) new.channel.pending
         → Takes outgoing incoming moment [] old new server served audit
-    gathers_then_sent old mid new reply f none same chunk calls come passed =
+    gathers_then_sent old mid new reply f none same chunk calls end come passed =
         let gathered = reply.earlier in
         let a = outgoing old.channel.link in
         let b = outgoing new.channel.link in
@@ -277,6 +296,7 @@ module _ {L : Type 0} (outgoing incoming : L → Option (List ℕ)) where
           addr_stays = ap (λ (j : Joined). j.addr) same ∙ f.addr_stays;
           limit_stays = ap (λ (j : Joined). j.progress.limit) same ∙ f.limit_stays;
           calls_are = calls ∙ f.calls_are;
+          stands = inr (subst (IsEndBy f.result) (sym end) (stands_ended f.result reply mid.end f.stands));
           feeds = subst (λ (j : Joined). Feeds (origin_of old moment) f.taken f.result server served old.connection.progress j.progress audit (device (written outgoing old) (written outgoing new))) (sym same) from;
         }
 
@@ -292,9 +312,12 @@ module _ {L : Type 0} (outgoing incoming : L → Option (List ℕ)) where
     pub came_alone : (old new : Standing L) → (came : List ℕ) × Rests outgoing incoming came old new → served ≡ server → audit.after ≡ audit.before → Turns outgoing incoming moment old new server served audit
     came_alone old new rests same quiet = (rests.0, inl (rests.1, same, quiet))
 
-    -- what a turn that takes bytes leaves, but for how it ends
-    pub takes_as : (old mid new : Standing L) → new.connection ≡ mid.connection → new.channel ≡ mid.channel → new.chunk ≡ mid.chunk → new.calls ≡ mid.calls → Takes outgoing incoming moment [] old mid server served audit → Takes outgoing incoming moment [] old new server served audit
-    takes_as old mid new same out chunk calls takes =
+    -- what a turn that takes bytes leaves, by how it ends
+    pub takes_as : (old mid new : Standing L) → new.connection ≡ mid.connection → new.channel ≡ mid.channel → new.chunk ≡ mid.chunk → new.calls ≡ mid.calls
+        → (new.end ≡ mid.end) ⊎ ((new.end ≡ Some (Fault reported.WriteFault)) × (new.channel.failed ≡ true))
+        → Takes outgoing incoming moment [] old mid server served audit → Takes outgoing incoming moment [] old new server served audit
+    takes_as old mid new same out chunk calls end takes =
         let whole : Result (Unit {0}) SessionFault = Ok tt in
         takes_then_rests [] old mid new takes (rests_by whole mid new chunk same calls (ap (λ (o : Outgoing L). incoming o.link) out)
         (subst (λ (o : Outgoing L). Passes (outgoing mid.channel.link) mid.channel.pending (outgoing o.link) o.pending) (sym out) (passes_none (outgoing mid.channel.link) mid.channel.pending)) tt tt)
+        (stands_on takes.result mid new out takes.stands end)

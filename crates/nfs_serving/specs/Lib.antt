@@ -1,4 +1,4 @@
 pub mod Asked
 pub mod Outgoing
 pub mod Turns
-pub mod Together
+pub mod Service

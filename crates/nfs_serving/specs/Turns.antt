@@ -7,7 +7,7 @@ use Rattle.nfs_server.specs.Fits.{Held}
 use Rattle.nfs_server.specs.ReplyRoom.{Buffered, is_full}
 use Rattle.nfs_server.specs.Streams.{IsReportedAs}
 use Rattle.nfs_server.specs.declared.serve_fault.ServeFault.{ServeFault}
-use Rattle.nfs_server.specs.declared.serve_fault.ServeFault.TheVariants.{Memory}
+use Rattle.nfs_server.specs.declared.serve_fault.ServeFault.TheVariants.{ReadFault, WriteFault, AuditFault, TooLong, TurnsSpent, Memory}
 use Rattle.nfs_server.specs.declared.session_fault.SessionFault.{SessionFault}
 use Rattle.nfs_server.specs.declared.session_fault.SessionFault.TheVariants as session
 use Rattle.nfs_server.specs.Taking.{Waits}
@@ -16,10 +16,10 @@ use Rattle.nfs_server.specs.declared.taking.Stop.{Stop}
 use Rattle.nfs_server.specs.declared.taking.Stop.TheVariants.{Done as Finished}
 use Rattle.nfs_serving.specs.Outgoing.{Outgoing, Passes, with_pending}
 use Rattle.nfs_serving.specs.declared.turn.End.{End}
-use Rattle.nfs_serving.specs.declared.turn.End.TheVariants.{Fault}
+use Rattle.nfs_serving.specs.declared.turn.End.TheVariants.{Closed, Fault}
 use Rattle.nfs_serving.specs.declared.turn.Turn.{Turn}
 use Rattle.nfs_serving.specs.declared.turn.Turn.TheVariants as turn
-use Rattle.nfs_xdr.specs.Known.{Grows, Shrinks}
+use Rattle.nfs_xdr.specs.Known.{Grows, Shrinks, IsAtEnd}
 
 -- a client: its connection, the way out, what has come and is not taken, how it ended, if it did, and how many records were answered
 pub record Standing (L : Type 0) : Type 0 where
@@ -49,6 +49,20 @@ pub record Rests {L : Type 0} (outgoing incoming : L → Option (List ℕ)) (cam
   pub calls_stay : new.calls ≡ old.calls
   pub passes : Passes (outgoing old.channel.link) old.channel.pending (outgoing new.channel.link) new.channel.pending
 
+-- the fault that ends a client by its records: for replies that don't gather there is no memory
+abbrev pub IsEndedBy : SessionFault → ServeFault → Type 0
+IsEndedBy session.WriteFault fault = fault ≡ Memory
+IsEndedBy other fault = IsReportedAs other fault
+
+-- how what came of its records has ended a client, if it did
+abbrev pub IsEndBy : Result ℕ SessionFault → Option End → Type 0
+IsEndBy (Ok n) end = end ≡ None
+IsEndBy (Err fault) end = (reported : ServeFault) × (end ≡ Some (Fault reported)) × IsEndedBy fault reported
+
+-- how a client stands then: its link is broken, or it stands by what came of its records
+abbrev pub StandsAfter : {L : Type 0} → Result ℕ SessionFault → Standing L → Type 0
+StandsAfter result c = ((c.end ≡ Some (Fault WriteFault)) × (c.channel.failed ≡ true)) ⊎ IsEndBy result c.end
+
 -- These bytes came, and some were taken, in their order. That happens only after all that was pending. What the
 -- records that they make whole are answered was sent or is pending.
 pub record Takes {L : Type 0} (outgoing incoming : L → Option (List ℕ))
@@ -64,18 +78,13 @@ pub record Takes {L : Type 0} (outgoing incoming : L → Option (List ℕ))
   pub addr_stays : new.connection.addr ≡ old.connection.addr
   pub limit_stays : new.connection.progress.limit ≡ old.connection.progress.limit
   pub calls_are : new.calls ≡ calls_after old.calls result
+  pub stands : StandsAfter result new
   pub feeds : Feeds (origin_of old moment) taken result server served old.connection.progress new.connection.progress audit (device (written outgoing old) (written outgoing new))
-
--- the fault that ends a client by its records: for replies that don't gather there is no memory
-abbrev pub IsEndedBy : SessionFault → ServeFault → Type 0
-IsEndedBy session.WriteFault fault = fault ≡ Memory
-IsEndedBy other fault = IsReportedAs other fault
 
 -- how a client stands by what came of its records: it goes on, or their fault ends it. Replies fail to gather only where there is no room for them.
 abbrev pub StandsBy : Result ℕ SessionFault → Buffered → Option End → Type 0
 StandsBy (Ok n) reply end = end ≡ None
-StandsBy (Err fault) reply end = (reported : ServeFault) × (end ≡ Some (Fault reported)) × IsEndedBy fault reported
-    × (fault ≡ session.WriteFault → is_full reply ≡ true)
+StandsBy (Err fault) reply end = IsEndBy (Err fault) end × (fault ≡ session.WriteFault → is_full reply ≡ true)
 
 -- the buffer as a device, where nothing had gathered before
 abbrev pub gathered : Buffered → Device
@@ -116,3 +125,29 @@ Reports (turn.Ended end) new = (new.end ≡ Some end) × ((new.channel.pending �
 -- a client's next record waits, since the log is full, whatever was unfinished
 abbrev pub IsHeld : {L : Type 0} → Moment → Standing L → Held → Bool → Type 0
 IsHeld moment c server full = (stop : Stop) × (stop ≢ Finished) × Waits stop full (origin_of c moment) c.chunk server c.connection.progress
+
+-- What ended a client: its link told its end or a fault, a fault of its records ended the connection, the log failed at the last line that it was given, or there was no memory.
+abbrev pub IsCause : {L : Type 0} → (L → Option (List ℕ)) → (L → Bool) → Bool → Option End → Standing L → Type 0
+IsCause incoming broken audit_failed None c = Unit {0}
+IsCause incoming broken audit_failed (Some Closed) c = IsAtEnd (incoming c.channel.link)
+IsCause incoming broken audit_failed (Some (Fault ReadFault)) c = broken c.channel.link ≡ true
+IsCause incoming broken audit_failed (Some (Fault WriteFault)) c = c.channel.failed ≡ true
+IsCause incoming broken audit_failed (Some (Fault AuditFault)) c = (c.connection.ended ≡ true) × (audit_failed ≡ true)
+IsCause incoming broken audit_failed (Some (Fault TooLong)) c = c.connection.ended ≡ true
+IsCause incoming broken audit_failed (Some (Fault Memory)) c = Unit {0}
+IsCause incoming broken audit_failed (Some (Fault TurnsSpent)) c = ⊥
+
+-- the causes that lie in a client's records
+abbrev pub IsCauseInRecords : Bool → Bool → Option End → Type 0
+IsCauseInRecords ended audit_failed None = Unit {0}
+IsCauseInRecords ended audit_failed (Some Closed) = ⊥
+IsCauseInRecords ended audit_failed (Some (Fault ReadFault)) = ⊥
+IsCauseInRecords ended audit_failed (Some (Fault WriteFault)) = ⊥
+IsCauseInRecords ended audit_failed (Some (Fault AuditFault)) = (ended ≡ true) × (audit_failed ≡ true)
+IsCauseInRecords ended audit_failed (Some (Fault TooLong)) = ended ≡ true
+IsCauseInRecords ended audit_failed (Some (Fault Memory)) = Unit {0}
+IsCauseInRecords ended audit_failed (Some (Fault TurnsSpent)) = ⊥
+
+-- a client ends only for a cause that came, unless it had ended already
+abbrev pub EndsForCause : {L : Type 0} → (L → Option (List ℕ)) → (L → Bool) → Bool → Standing L → Standing L → Type 0
+EndsForCause incoming broken audit_failed old new = (new.end ≡ old.end) ⊎ IsCause incoming broken audit_failed new.end new

@@ -1,10 +1,10 @@
 //! A client of a server.
-ghost use Rattle.std.specs.Prelude.{◌≡◌, ◌≢◌, ◌≤◌, ◌↔◌, Bool, vec_capacity, ℕ, List, [], None, Some, true, false, IsTrue, IfErr, OnOk, OnErr};
+ghost use Rattle.std.specs.Prelude.{◌≡◌, ◌≢◌, ◌⊎◌, ◌≤◌, ◌↔◌, Bool, vec_capacity, ℕ, List, [], None, Some, true, false, IsTrue, IfErr, OnOk, OnErr};
 ghost use Rattle.nfs_rpc.specs.Lent.{IsBefore};
 ghost use Rattle.nfs_server.specs.Connections.{IsAtStart};
 ghost use Rattle.nfs_server.specs.Feeding.{device, EndsWith};
 ghost use Rattle.nfs_server.specs.Taking.{Waits};
-ghost use Rattle.nfs_serving.specs.Turns.{Gathers, IsEndedBy, IsHeld, Rests, Takes, Reports, Turns, origin_of};
+ghost use Rattle.nfs_serving.specs.Turns.{EndsForCause, Gathers, IsCause, IsCauseInRecords, IsEndBy, IsEndedBy, IsHeld, Rests, Takes, Reports, Turns, origin_of};
 
 use crate::buffer::Buffer;
 use crate::channel::Channel;
@@ -87,6 +87,13 @@ impl<L: Link> Client<L> {
         self.calls
     }
 
+    /// How its connection ended, if it has.
+    pub fn end(&self) -> Option<End>
+        ensures { result ≡ self.now.end }
+    {
+        self.end
+    }
+
     /// Whether nothing is on its way: no reply is pending, and no byte of a record has come that is not
     /// answered.
     pub fn is_at_rest(&self) -> bool
@@ -115,6 +122,7 @@ impl<L: Link> Client<L> {
         ensures reports { Reports result self.new }
         ensures held { result ≡ Turn.Held → IsHeld moment self.new server.new (A.full audit.new) }
         ensures setup { server.new.setup ≡ server.old.setup }
+        ensures cause { EndsForCause L.incoming L.failed (A.failed audit.new) self.old self.new }
     {
         if self.pass_on().is_err() {
             return self.ends(End::Fault(ServeFault::WriteFault));
@@ -152,6 +160,7 @@ impl<L: Link> Client<L> {
         ensures reports { Reports result self.new }
         ensures held { result ≡ Turn.Held → IsHeld moment self.new server.new (A.full audit.new) }
         ensures setup { server.new.setup ≡ server.old.setup }
+        ensures cause { IsCause L.incoming L.failed (A.failed audit.new) self.new.end self.new }
     {
         if room.make().is_err() {
             return self.ends(End::Fault(ServeFault::Memory));
@@ -177,6 +186,7 @@ impl<L: Link> Client<L> {
         ensures reports { Reports result self.new }
         ensures held { result ≡ Turn.Held → IsHeld moment self.new server.new (A.full audit.new) }
         ensures setup { server.new.setup ≡ server.old.setup }
+        ensures cause { IsCause L.incoming L.failed (A.failed audit.new) self.new.end self.new }
     {
         if self.chunk.is_empty() {
             return match self.receive(&mut room.bytes) {
@@ -199,6 +209,7 @@ impl<L: Link> Client<L> {
         ensures pending { self.new.channel.pending ≡ [] }
         ensures reports { IfErr result (λ turn. Reports turn self.new) }
         ensures held { IfErr result (λ turn. turn ≢ Turn.Held) }
+        ensures cause { (audit_failed : Bool) → IsCause L.incoming L.failed audit_failed self.new.end self.new }
     {
         if self.chunk.borrow_room(room).is_err() {
             return Err(self.ends(End::Fault(ServeFault::Memory)));
@@ -230,6 +241,7 @@ impl<L: Link> Client<L> {
         ensures reports { Reports result self.new }
         ensures held { result ≡ Turn.Held → IsHeld moment self.new server.new (A.full audit.new) }
         ensures setup { server.new.setup ≡ server.old.setup }
+        ensures cause { IsCause L.incoming L.failed (A.failed audit.new) self.new.end self.new }
     {
         let stop = self.answer(server, &mut room.reply, moment, audit);
         let sent = self.channel.send(room.reply.gathered(), &mut room.pending);
@@ -246,6 +258,8 @@ impl<L: Link> Client<L> {
         ensures calls { self.new.calls ≡ self.old.calls }
         ensures reports { Reports result self.new }
         ensures held { result ≡ Turn.Held → stop ≢ Stop.Done }
+        ensures ends { (self.new.end ≡ self.old.end) ⊎ ((self.new.end ≡ Some (End.Fault ServeFault.WriteFault)) × (self.new.channel.failed ≡ true)) }
+        ensures cause { (audit_failed : Bool) → IsCauseInRecords self.old.connection.ended audit_failed self.old.end → IsCause L.incoming L.failed audit_failed self.new.end self.new }
     {
         if !is_whole {
             return self.ends(End::Fault(ServeFault::WriteFault));
@@ -276,6 +290,7 @@ impl<L: Link> Client<L> {
         ensures gathers { Gathers moment self.old self.new server.old server.new
             (device (A.contents audit.old) (A.contents audit.new)) reply.new }
         ensures most { reply.new.most ≡ reply.old.most }
+        ensures cause { IsCauseInRecords self.new.connection.ended (A.failed audit.new) self.new.end }
         ensures setup { server.new.setup ≡ server.old.setup }
     {
         reply.clear_all();

@@ -1,12 +1,14 @@
 //! Laws over the definitions alone.
-ghost use Rattle.nfs_serving.specs.Together.{TurnsAreOneHistory};
+ghost use Rattle.nfs_serving.specs.Service.{ServiceIsOneHistory};
 
 use nfs_xdr::link::Link;
 
-/// The turns of any number of clients are one history, in the order of the turns. What was sent to a
-/// client on whose connection no fault came, and what is pending to it, is the framed replies to the
-/// records of its own stream, in their order, as if no other were there: so what was sent is a first
-/// part of them, and all of them where nothing is pending.
-pub fn turns_are_one_history<L: Link>()
-    ensures { TurnsAreOneHistory L.outgoing L.incoming }
+/// Whatever changes a service that begins with no client, by clients that join, have turns and leave:
+/// all its events are one history, in the order of the turns, each from the address from which its
+/// client joined and at the moment of its turn. The log has exactly the lines of these events, in their
+/// order, cut only in the turn that a fault of its device ended. What was written for each client, also
+/// for one that left, is a first part of the framed replies to the records of all that came from it, and
+/// where no fault of its records has ended it, exactly these replies, as if no other were there.
+pub fn service_is_one_history<L: Link>()
+    ensures { ServiceIsOneHistory L.outgoing L.incoming }
 {}

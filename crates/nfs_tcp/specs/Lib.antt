@@ -1,4 +1,3 @@
 pub mod Tokens
-pub mod Peers
-pub mod Reports
-pub mod Queues
+pub mod Clock
+pub mod Unwaiting

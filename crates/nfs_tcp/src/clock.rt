@@ -1,8 +1,12 @@
 //! The system's clock.
+ghost use Rattle.std.specs.Prelude.{◌≡◌};
+ghost use Rattle.std.specs.Duration.{as_nanos};
+ghost use Rattle.nfs_tcp.specs.Clock.{moment_at};
+
 use log::{Log, warn};
 use nfs_attrs::moment::Moment;
 use nfs_server::moments::Moments;
-use std::time::{Clock, SystemTime, UNIX_EPOCH};
+use std::time::{Clock, Duration, SystemTime, UNIX_EPOCH};
 
 /// The system's time since 1970. Where it has none that fits, the last that it had, at first 0, and
 /// a warning.
@@ -29,19 +33,28 @@ impl<R: Clock + Log> Moments for SystemClock<'_, R> {
     ghost reports = { λ old moment new. Unit {0} };
 
     fn now(&mut self) -> Moment {
-        match time_of(self.rt) {
-            Some(moment) => self.last = moment,
+        match since_1970(self.rt) {
+            Some(since) => self.last = moment_of(since, self.last),
             None => warn!(self.rt; "clock"),
         }
         self.last
     }
 }
 
-// The time since 1970, where it fits.
-fn time_of<R: Clock>(rt: &R) -> Option<Moment> {
-    let since = SystemTime::now(rt).ok()?.duration_since(UNIX_EPOCH).ok()?;
-    Some(Moment {
-        seconds: u32::try_from(since.as_secs()).ok()?,
-        nanos: since.subsec_nanos(),
-    })
+// How long ago 1970 began, by the system.
+fn since_1970<R: Clock>(rt: &R) -> Option<Duration> {
+    SystemTime::now(rt).ok()?.duration_since(UNIX_EPOCH).ok()
+}
+
+/// The moment of so long since 1970, or the last one where it doesn't fit.
+pub fn moment_of(since: Duration, last: Moment) -> Moment
+    ensures { result ≡ moment_at (as_nanos since) last }
+{
+    match u32::try_from(since.as_secs()) {
+        Ok(seconds) => Moment {
+            seconds,
+            nanos: since.subsec_nanos(),
+        },
+        Err(_) => last,
+    }
 }

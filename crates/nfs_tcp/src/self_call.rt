@@ -1,10 +1,10 @@
 //! A call that a server sends to itself.
 use crate::clock::SystemClock;
-use crate::service::ServiceFault;
-use crate::socket::addr_of;
+use crate::service_fault::ServiceFault;
 use hex::encode;
 use log::Log;
 use nfs_exports::addr::Addr;
+use nfs_loop::addresses::addr_of;
 use nfs_server::serve_fault::ServeFault;
 use nfs_server::server::Server;
 use nfs_server::stream::serve_stream;

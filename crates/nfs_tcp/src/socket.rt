@@ -1,14 +1,11 @@
 //! Sockets that never wait.
 ghost use Rattle.std.specs.Prelude.{◌≡◌, None, false, IfOk};
-ghost use Rattle.std.specs.Net.Socket.{socket_ip};
-ghost use Rattle.nfs_tcp.specs.Peers.{IsAddrOf};
 
+use crate::unwaiting::{receive, send};
 use mio::net::TcpStream;
-use nfs_exports::addr::Addr;
 use nfs_xdr::device::DeviceFault;
 use nfs_xdr::link::{Came, Link};
-use std::io::{self, ErrorKind, Read, Write};
-use std::net::{IpAddr, SocketAddr};
+use std::io::{self, ErrorKind};
 
 /// A link over a socket, of whose bytes nothing is known.
 #[derive(Drop)]
@@ -32,7 +29,9 @@ impl Socket {
     }
 
     /// Whether its peer has reset the connection, in place of ending its side.
-    pub fn was_reset(&self) -> bool {
+    pub fn was_reset(&self) -> bool
+        ensures { result ≡ self.now.reset }
+    {
         self.reset
     }
 }
@@ -45,39 +44,23 @@ impl Link for Socket {
     ghost failed = { λ s. s.failed };
 
     fn send(&mut self, bytes: &[u8]) -> Result<usize, DeviceFault> {
-        match self.stream.write(bytes) {
+        match send(&mut self.stream, bytes) {
             Ok(n) => Ok(n),
-            Err(error) if error.kind() == ErrorKind::WouldBlock => Ok(0),
-            Err(_) => {
+            Err(fault) => {
                 self.failed = true;
-                Err(DeviceFault)
+                Err(fault)
             }
         }
     }
 
     fn receive(&mut self, buffer: &mut [u8]) -> Result<Came, DeviceFault> {
-        match self.stream.read(buffer) {
-            Ok(0) => Ok(Came::End),
-            Ok(n) => Ok(Came::Bytes(n)),
-            Err(error) => match error.kind() {
-                ErrorKind::WouldBlock => Ok(Came::Nothing),
-                kind => {
-                    self.failed = true;
-                    self.reset = kind == ErrorKind::ConnectionReset;
-                    Err(DeviceFault)
-                }
-            },
+        match receive(&mut self.stream, buffer) {
+            Ok(came) => Ok(came),
+            Err(kind) => {
+                self.failed = true;
+                self.reset = kind == ErrorKind::ConnectionReset;
+                Err(DeviceFault)
+            }
         }
     }
-}
-
-/// The address of a peer: one of IPv4, or one that is mapped into IPv6.
-pub fn addr_of(peer: SocketAddr) -> Option<Addr>
-    ensures { IsAddrOf (socket_ip peer) result }
-{
-    let ip = match peer.ip() {
-        IpAddr::V4(ip) => ip,
-        IpAddr::V6(ip) => ip.to_ipv4_mapped()?,
-    };
-    Some(Addr(u32::from_be_bytes(ip.octets())))
 }

@@ -22,4 +22,4 @@ returns-in-Err-clause-gathers g c =
     let new : Standing g.row.L.Denot = record { connection = c.feed.new.self; channel = c.self.inside.channel; chunk = c.clear.new.self; end = Some (Fault c.fault_of.result); calls = c.self.inside.calls } in
     subst (λ (s : Standing g.row.L.Denot). Gathers c.args.moment s new c.args.server.now c.feed.new.server (device (g.A.AuditOut.contents c.args.audit.now) (g.A.AuditOut.contents c.feed.new.audit)) c.feed.new.reply) c.self.view_is
     (gathers_fed g.L.Link.outgoing g.L.Link.incoming c.args.moment c.args.server.now c.feed.new.server (device (g.A.AuditOut.contents c.args.audit.now) (g.A.AuditOut.contents c.feed.new.audit)) old new (Err c.in-Err.fault) (Some _) c.bytes-chunk.result.now c.clear_all.new.self.earlier c.feed.new.reply
-    alive tt c.in-Err.ensures.fault c.in-Err.ensures.addr c.in-Err.ensures.limit refl c.clear.ensures c.bytes-chunk.ensures c.clear_all.ensures.earlier (c.in-Err.ensures.feeds alive) (c.fault_of.result, refl, c.fault_of.ensures, has_failed c.in-Err.fault (g.A.AuditOut.failed c.feed.new.audit) (is_full c.feed.new.reply) (c.in-Err.ensures.kind alive)) refl)
+    alive tt c.in-Err.ensures.fault c.in-Err.ensures.addr c.in-Err.ensures.limit refl c.clear.ensures c.bytes-chunk.ensures c.clear_all.ensures.earlier (c.in-Err.ensures.feeds alive) ((c.fault_of.result, refl, c.fault_of.ensures), has_failed c.in-Err.fault (g.A.AuditOut.failed c.feed.new.audit) (is_full c.feed.new.reply) (c.in-Err.ensures.kind alive)) refl)

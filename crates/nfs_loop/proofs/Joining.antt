@@ -1,0 +1,88 @@
+-- Who joins, and who leaves without a turn.
+use Rattle.std.proofs.Common.{◌≡◌, ℕ, ◌+◌, List, [], ◌∷◌, take, Bool, Option, Some, None, option_map, inl, inr, if◌then◌else◌, refl, sym, ap, subst, ◌∙◌}
+use Rattle.std.specs.declared.net.ip_addr.IpAddr.{IpAddr}
+use Rattle.slab.specs.Slab.{Slab, get, Updates}
+use Rattle.nfs_lines.specs.Written.{Written, Reported}
+use Rattle.nfs_exports.specs.declared.addr.Addr.{Addr}
+use Rattle.nfs_loop.specs.Peers.{IsAddrOf}
+use Rattle.nfs_loop.specs.declared.member.Member.{Member}
+use Rattle.nfs_loop.specs.Told.{Told, came, Hears, Accounts}
+use Rattle.nfs_loop.specs.Stages.{stage, state, seat_of, Goes, JoinsOrNot}
+use Rattle.nfs_loop.proofs.Telling.{accounts_then, accounts_one}
+use Rattle.nfs_loop.proofs.Changing.{nothing}
+use Rattle.nfs_server.specs.Connections.{IsAtStart}
+use Rattle.nfs_server.specs.Fits.{Held}
+use Rattle.nfs_serving.specs.Service.{joins, leaves, LeavesBy, end_text}
+use Rattle.nfs_serving.specs.declared.turn.End.{End}
+use Rattle.nfs_xdr.specs.Known.{Grows}
+
+module _ {L : Type 0} (outgoing incoming : L → Option (List ℕ)) where
+  pub joined_by : (told heard hears : Option (List Told)) (key : ℕ) (peer : IpAddr) (old new : Slab (Member L)) (joined now : ℕ) → Hears told (came key peer) heard → Accounts heard [] hears → JoinsOrNot key peer old joined new now
+      → (server : Held) (lines : Written) → Goes outgoing incoming (λ changes. Accounts told changes hears) (stage server old joined lines) (stage server new now lines)
+  joined_by told heard hears key peer old new joined now hear more (inl not) server lines =
+      nothing outgoing incoming told hears server old new joined now lines not.0 not.1 (accounts_then told heard hears [] [] (accounts_one told heard (came key peer) hear) more)
+  joined_by told heard hears key peer old new joined now hear more (inr j) server lines = record {
+    changes = joins key now j.member.client.connection.addr ∷ [];
+    are_changes = (
+      state (stage server old joined lines),
+      refl,
+      record {
+        client = j.member.client;
+        free = ap (option_map seat_of) j.free;
+        sits = ap (option_map seat_of) j.sits.changed ∙ ap (λ n. Some (record { number = n; client = j.member.client })) (sym j.joined_is);
+        begins = j.begins;
+        addr_is = refl;
+        number_is = j.joined_is ∙ j.number_is;
+        joined_is = refl;
+        others = λ other differ. ap (option_map seat_of) (j.sits.others other differ);
+        server_stays = refl;
+        log_stays = refl;
+        lines_stay = refl;
+        complete_stays = refl;
+      },
+    );
+    shared_stays = refl;
+    such = accounts_then told heard hears (joins key now j.member.client.connection.addr ∷ []) [] (λ before e. (came key peer ∷ [], hear before e, ([], [], record { peer = peer; addr_is = j.addr_is; told = refl }, tt))) more;
+  }
+
+  -- one leaves that had no turn
+  pub left_by : (told heard : Option (List Told)) (server : Held) (key : ℕ) (member : Member L) (old new : Slab (Member L)) (joined : ℕ) (w v : Written) → get old key ≡ Some member → Updates old new key None → Accounts told [] heard
+      → (by : End) × LeavesBy member.client by × Reported (end_text member.number member.client.calls by) w v
+      → Goes outgoing incoming (λ changes. Accounts told changes heard) (stage server old joined w) (stage server new joined v)
+  left_by told heard server key member old new joined w v was away accounts (by, ended, reported) = record {
+    changes = leaves key member.number member.client.calls by ∷ [];
+    are_changes = (
+      state (stage server old joined w),
+      refl,
+      record {
+        client = member.client;
+        sat = ap (option_map seat_of) was;
+        calls_are = refl;
+        ended = ended;
+        gone = ap (option_map seat_of) away.changed;
+        line = take reported.n (end_text member.number member.client.calls by);
+        part = (reported.n, reported.within, refl);
+        whole = reported.whole;
+        lines_grow = reported.lines_grow;
+        log_grows = subst (λ (s : Bool). Grows w.log (if s then take reported.n (end_text member.number member.client.calls by) else []) v.log) reported.shared_stays reported.log_grows;
+        others = λ other differ. ap (option_map seat_of) (away.others other differ);
+        joined_stays = refl;
+        server_stays = refl;
+      },
+    );
+    shared_stays = reported.shared_stays;
+    such = accounts;
+  }
+
+-- a new member has joined
+pub joins_as : {L : Type 0} (key : ℕ) (peer : IpAddr) (old new : Slab (Member L)) (joined : ℕ) (member : Member L) (addr : Addr) → key ≡ old.vacant_key → get old old.vacant_key ≡ None → Updates old new old.vacant_key (Some member)
+    → IsAtStart addr member.client.connection → member.client.chunk ≡ [] → IsAddrOf peer (Some addr) → member.number ≡ joined + 1 → JoinsOrNot key peer old joined new member.number
+joins_as key peer old new joined member addr at free sits start nothing_came from number = inr (record {
+  member = member;
+  free = ap (get old) at ∙ free;
+  sits = subst (λ k. Updates old new k (Some member)) (sym at) sits;
+  begins = record { begins = start.begins; nothing_came = nothing_came };
+  addr_is = subst (λ a. IsAddrOf peer (Some a)) (sym start.addr_is) from;
+  number_is = number;
+  joined_is = refl;
+})

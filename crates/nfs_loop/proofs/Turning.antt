@@ -1,0 +1,124 @@
+-- What a turn of the first client of a queue brings.
+use Rattle.std.proofs.Common.{◌≡◌, ◌≢◌, ℕ, Bool, true, false, List, [], ◌∷◌, ◌++◌, take, Option, Some, option_map, inl, inr, if◌then◌else◌, nat_eq, refl, sym, ap, subst, ◌∙◌, append-nil}
+use Rattle.std.proofs.lemmas.Bool.{eqb-true, eq-eqb}
+use Rattle.slab.specs.Slab.{Updates}
+use Rattle.nfs_attrs.specs.declared.moment.Moment.{Moment}
+use Rattle.nfs_lines.specs.Written.{Written, Reported}
+use Rattle.nfs_queue.specs.Queues.{Waiting, IsCalled, with_key}
+use Rattle.nfs_loop.specs.declared.member.Member.{Member}
+use Rattle.nfs_loop.specs.Told.{Told, at, Hears, Accounts}
+use Rattle.nfs_loop.specs.Stages.{stage, state, seat_of, seats, turned, Sleeps, IsAgain, TurnsFirst, Goes}
+use Rattle.nfs_loop.proofs.Telling.{accounts_then}
+use Rattle.nfs_server.specs.Feeding.{device}
+use Rattle.nfs_server.specs.Fits.{Held}
+use Rattle.nfs_serving.specs.Service.{Seat, ServiceState, Change, turns, leaves, LeavesBy, end_text}
+use Rattle.nfs_serving.specs.Turns.{Standing, Turns}
+use Rattle.nfs_serving.specs.declared.turn.End.{End}
+use Rattle.nfs_xdr.specs.Known.{Grows}
+
+not_same : (a b : ℕ) (t : Bool) → nat_eq a b ≡ t → a ≢ b → nat_eq a b ≡ false
+not_same a b true e differ = absurd (differ (eqb-true a b e))
+not_same a b false e differ = e
+
+-- the queue after a turn
+queue_after : {L : Type 0} (key : ℕ) (rest queue : List ℕ) (waits : Bool) (seat : Option (Seat L)) → queue ≡ with_key waits key rest → (waits ≡ false → Sleeps seat) → (again : List ℕ) × (queue ≡ rest ++ again) × IsAgain key again seat
+queue_after key rest queue true seat e sleeps = (key ∷ [], e, inl refl)
+queue_after key rest queue false seat e sleeps = ([], e ∙ sym (append-nil rest), inr (refl, sleeps refl))
+
+-- a member as it comes back from its turn
+abbrev pub with_client : {L : Type 0} → Member L → Standing L → Member L
+with_client m now = record { client = now; number = m.number; peer = m.peer; addr = m.addr }
+
+module _ {L : Type 0} (outgoing incoming : L → Option (List ℕ)) (moment : Moment) (old mid : Waiting (Member L)) (key : ℕ) (member : Member L) (c : IsCalled old mid key member)
+    (server served : Held) (joined : ℕ) (w v : Written) (shared : v.shared ≡ w.shared) (lines : v.lines ≡ w.lines) (complete : v.complete ≡ w.complete)
+    (told first heard : Option (List Told)) (before : Accounts told [] first) (hear : Hears first (at moment) heard)
+    (now : Standing L) (turn : Turns outgoing incoming moment member.client now server served (device w.log v.log)) where
+  turn_told : Accounts told (turns key moment turn.0 ∷ []) heard
+  turn_told = accounts_then told first heard [] (turns key moment turn.0 ∷ []) before (λ news e. (at moment ∷ [], hear news e, ([], [], refl, tt)))
+
+  first_turns : (seat : ℕ → Option (Seat L)) (changes : List Change) (queue : List ℕ) → turned changes ≡ key ∷ [] → (again : List ℕ) × (queue ≡ mid.1.0 ++ again) × IsAgain key again (seat key) → TurnsFirst seat old.1.0 changes queue
+  first_turns seat changes queue e again = subst (λ q. TurnsFirst seat q changes queue) (sym c.first) (e, again)
+
+  -- it comes back
+  pub comes_back : (new : Waiting (Member L)) (waits : Bool) → Updates mid.0 new.0 key (Some (with_client member now)) → new.1.0 ≡ with_key waits key mid.1.0
+      → (waits ≡ false → Sleeps (Some (seat_of (with_client member now))))
+      → Goes outgoing incoming (λ changes. TurnsFirst (seats new.0) old.1.0 changes new.1.0 × Accounts told changes heard) (stage server old.0 joined w) (stage served new.0 joined v)
+  comes_back new waits back queue sleeps = record {
+    changes = turns key moment turn.0 ∷ [];
+    are_changes = (
+      state (stage server old.0 joined w),
+      refl,
+      record {
+        number = member.number;
+        was = member.client;
+        now = now;
+        sat = ap (option_map seat_of) c.was;
+        sits = ap (option_map seat_of) back.changed;
+        turn = turn.1;
+        others = λ other differ. ap (option_map seat_of) (back.others other differ ∙ c.away.others other differ);
+        joined_stays = refl;
+        lines_stay = lines;
+        complete_stays = complete;
+      },
+    );
+    shared_stays = shared;
+    such = (first_turns (seats new.0) (turns key moment turn.0 ∷ []) new.1.0 refl (queue_after key mid.1.0 new.1.0 waits (seats new.0 key) queue (λ e. subst Sleeps (sym (ap (option_map seat_of) back.changed)) (sleeps e))), turn_told);
+  }
+
+  -- it leaves
+  abbrev seats_between : ℕ → Option (Seat L)
+  seats_between k = if nat_eq k key then Some (record { number = member.number; client = now }) else seats old.0 k
+
+  abbrev between : ServiceState L
+  between = record { server = served; seat = seats_between; joined = joined; log = v.log; lines = v.lines; complete = v.complete }
+
+  there : seats_between key ≡ Some (record { number = member.number; client = now })
+  there = ap (λ (t : Bool). if t then Some (record { number = member.number; client = now }) else seats old.0 key) (eq-eqb key key refl)
+
+  elsewhere : (other : ℕ) → other ≢ key → seats_between other ≡ seats old.0 other
+  elsewhere other differ = ap (λ (t : Bool). if t then Some (record { number = member.number; client = now }) else seats old.0 other) (not_same other key (nat_eq other key) refl differ)
+
+  pub goes_away : (u : Written) (last : Option (List Told)) → Accounts heard [] last → (by : End) × LeavesBy now by × Reported (end_text member.number now.calls by) v u
+      → Goes outgoing incoming (λ changes. TurnsFirst (seats mid.0) old.1.0 changes mid.1.0 × Accounts told changes last) (stage server old.0 joined w) (stage served mid.0 joined u)
+  goes_away u last rest (by, ended, reported) = record {
+    changes = leaves key member.number now.calls by ∷ turns key moment turn.0 ∷ [];
+    are_changes = (
+      between,
+      (
+        state (stage server old.0 joined w),
+        refl,
+        record {
+          number = member.number;
+          was = member.client;
+          now = now;
+          sat = ap (option_map seat_of) c.was;
+          sits = there;
+          turn = turn.1;
+          others = elsewhere;
+          joined_stays = refl;
+          lines_stay = lines;
+          complete_stays = complete;
+        },
+      ),
+      record {
+        client = now;
+        sat = there;
+        calls_are = refl;
+        ended = ended;
+        gone = ap (option_map seat_of) c.away.changed;
+        line = take reported.n (end_text member.number now.calls by);
+        part = (reported.n, reported.within, refl);
+        whole = reported.whole;
+        lines_grow = reported.lines_grow;
+        log_grows = subst (λ (s : Bool). Grows v.log (if s then take reported.n (end_text member.number now.calls by) else []) u.log) (reported.shared_stays ∙ shared) reported.log_grows;
+        others = λ other differ. ap (option_map seat_of) (c.away.others other differ) ∙ sym (elsewhere other differ);
+        joined_stays = refl;
+        server_stays = refl;
+      },
+    );
+    shared_stays = reported.shared_stays ∙ shared;
+    such = (
+      first_turns (seats mid.0) (leaves key member.number now.calls by ∷ turns key moment turn.0 ∷ []) mid.1.0 refl ([], sym (append-nil mid.1.0), inr (refl, subst Sleeps (sym (ap (option_map seat_of) c.away.changed)) tt)),
+      accounts_then told heard last (leaves key member.number now.calls by ∷ turns key moment turn.0 ∷ []) [] turn_told rest,
+    );
+  }

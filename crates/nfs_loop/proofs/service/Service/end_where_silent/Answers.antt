@@ -1,0 +1,11 @@
+use Rattle.std.proofs.Common.{[]}
+use Rattle.nfs_loop.specs.Told.{at}
+use Rattle.nfs_loop.proofs.Joining.{left_by}
+use Rattle.nfs_loop.proofs.Telling.{accounts_one, accounts_then}
+use Rattle.nfs_loop.proofs.service.Service.end_where_silent.Goals as goal
+
+pub returns-in-Some : goal.returns-in-Some
+returns-in-Some g c = record {
+  goes = λ server. left_by g.L.Link.outgoing g.L.Link.incoming _ _ server c.args.key c.in-Some.member c.args.self.now.clients.0 c.remove.new.self.0 c.args.self.now.joined _ _
+      c.in-Some.ensures.value.0 c.in-Some.ensures.away (accounts_then _ _ _ [] [] (accounts_one _ _ (at c.now-moment.result) c.now-moment.ensures) c.leave.ensures.told) c.leave.ensures.lines;
+}

@@ -1,0 +1,17 @@
+use Rattle.std.proofs.Common.{◌≡◌, Some, None, slice_index_or, ap, subst, ◌∙◌}
+use Rattle.slab.specs.Slab.{get}
+use Rattle.nfs_loop.specs.Telling.{TellsReady}
+use Rattle.nfs_loop.specs.Stages.{noted}
+use Rattle.nfs_loop.proofs.Lengthening.{notes_on}
+use Rattle.nfs_loop.proofs.service.Service.note.Goals as goal
+
+pub loop-left-preserved : goal.loop-left-preserved
+loop-left-preserved g c = record {
+  members = c.note_client.ensures.members ∙ c.loop-left.invariant.members;
+  joined = c.note_client.ensures.joined ∙ c.loop-left.invariant.joined;
+  holds = c.note_client.ensures.holds ∙ c.loop-left.invariant.holds;
+  notes = notes_on c.args.self.now.clients.0 c.args.self.now.housekeeping.watches.holds.items c.in-Some-Client.key c.args.self.now.clients.1.0 c.loop-left.self.clients.1.0 c.note_client.new.self.clients.1.0 _ _ _ c.loop-left.invariant.notes
+      (subst (λ m. c.note_client.new.self.clients.1.0 ≡ noted (get m c.in-Some-Client.key) (slice_index_or c.args.self.now.housekeeping.watches.holds.items c.in-Some-Client.key None) c.in-Some-Client.key c.loop-left.self.clients.1.0) c.loop-left.invariant.members
+      (subst (λ h. c.note_client.new.self.clients.1.0 ≡ noted (get c.loop-left.self.clients.0 c.in-Some-Client.key) (slice_index_or h c.in-Some-Client.key None) c.in-Some-Client.key c.loop-left.self.clients.1.0) (ap (λ v. v.items) c.loop-left.invariant.holds) c.note_client.ensures.queue))
+      (subst (λ r. TellsReady (g.N.Network.told c.loop-left.net) (Some r) (g.N.Network.told c.ready.new.self)) c.in-Some-Client.field-0-is c.in-Some-Client.ensures);
+}

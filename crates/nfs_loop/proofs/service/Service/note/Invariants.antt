@@ -1,0 +1,14 @@
+use Rattle.std.proofs.Common.{◌≡◌}
+use Rattle.nfs_loop.specs.Stages.{Notes}
+use Rattle.nfs_loop.proofs.service.Service.note.Given as goal
+
+abbrev pub invariant-loop-left : goal.invariant-loop-left
+invariant-loop-left g l = record {
+  members : l.self.clients.0 ≡ l.fn.self.clients.0;
+  joined : l.self.joined ≡ l.fn.self.joined;
+  holds : l.self.housekeeping.watches.holds ≡ l.fn.self.housekeeping.watches.holds;
+  notes : Notes l.fn.self.clients.0 l.fn.self.housekeeping.watches.holds.items l.fn.self.clients.1.0 l.self.clients.1.0 (g.N.Network.told l.fn.net) (g.N.Network.told l.net);
+}
+
+abbrev pub decreases-loop-left : goal.decreases-loop-left
+decreases-loop-left g l = l.left

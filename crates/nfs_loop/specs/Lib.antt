@@ -1,0 +1,4 @@
+pub mod Peers
+pub mod Told
+pub mod Telling
+pub mod Stages

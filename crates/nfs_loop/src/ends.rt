@@ -1,0 +1,84 @@
+//! How clients leave.
+ghost use Rattle.std.specs.Prelude.{◌≡◌, []};
+ghost use Rattle.nfs_lines.specs.Written.{Reported, written};
+ghost use Rattle.nfs_loop.specs.Told.{Accounts};
+ghost use Rattle.nfs_serving.specs.Service.{LeavesBy, end_text};
+ghost use Rattle.nfs_serving.specs.declared.turn.End.{End};
+
+use crate::housekeeping::Housekeeping;
+use crate::member::Member;
+use crate::network::Network;
+use crate::report::end_line;
+use log::{Log, info};
+use nfs_attrs::moment::Moment;
+use nfs_exports::addr::Addr;
+use nfs_lines::line_out::LineOut;
+use nfs_lines::lines::Lines;
+use nfs_server::serve_fault::ServeFault;
+use nfs_serving::turn::End;
+use nfs_xdr::link::Link;
+
+impl Housekeeping {
+    /// Reports how the connection of a client ended that has left, and has one that waits accepted.
+    pub(crate) fn leave<L: Link + Drop, R: Log, N: Network<Stream = L>, A: LineOut, C: LineOut>(
+        &mut self,
+        rt: &R,
+        net: &mut N,
+        lines: &mut Lines<'_, A, C>,
+        member: Member<L>,
+        moment: Moment,
+        end: End,
+    )
+        requires ended { LeavesBy member.client end }
+        ensures told { Accounts (N.told net.old) [] (N.told net.new) }
+        ensures lines { (by : End) × LeavesBy member.client by
+            × Reported (end_text member.number member.client.calls by) (written A.taken C.taken lines.old) (written A.taken C.taken lines.new) }
+    {
+        let end = end_of(net, &member, end);
+        say(rt, &member, end);
+        self.count_end();
+        self.refuse_where_denied(net, member.addr, end);
+        let line = end_line(member.number, member.client.calls(), end);
+        lines.report(moment, line.as_slice());
+    }
+
+    // Counts a connection that has ended, and has one that waits accepted.
+    fn count_end(&mut self) {
+        self.ended = self.ended.saturating_add(1);
+        self.retry();
+    }
+
+    // Where a denied call was refused since its line could not be written, has the next connections from
+    // that address wait.
+    fn refuse_where_denied<N: Network>(&mut self, net: &mut N, addr: Addr, end: End)
+        ensures told { Accounts (N.told net.old) [] (N.told net.new) }
+    {
+        if end == End::Fault(ServeFault::AuditFault) {
+            self.refused_peers.add(addr, net.millis());
+        }
+    }
+}
+
+// Says how a connection ended, where that is asked for.
+fn say<R: Log, L>(rt: &R, member: &Member<L>, end: End) {
+    match end {
+        End::Closed => info!(rt; "{}: connection {} ended", member.peer, member.number),
+        End::Fault(fault) => {
+            info!(rt; "{}: connection {} ended: {fault}", member.peer, member.number);
+        }
+    }
+}
+
+// How a connection ended. One that its peer has reset with nothing on its way has ended as one that it
+// closed.
+fn end_of<L: Link, N: Network<Stream = L>>(net: &N, member: &Member<L>, end: End) -> End
+    requires { LeavesBy member.now.client end }
+    ensures { LeavesBy member.now.client result }
+{
+    let is_reset = end == End::Fault(ServeFault::ReadFault) && net.was_reset(member.client.link());
+    if is_reset && member.client.is_at_rest() {
+        End::Closed
+    } else {
+        end
+    }
+}

@@ -1,0 +1,178 @@
+//! What a service keeps beside its clients.
+ghost use Rattle.std.specs.Prelude.{◌≡◌, []};
+ghost use Rattle.nfs_lines.specs.Written.{PassedOn, written};
+ghost use Rattle.nfs_loop.specs.Told.{Accounts};
+
+use crate::limits::Limits;
+use crate::lines_reported::LinesReported;
+use crate::network::Network;
+use crate::refused_peers::RefusedPeers;
+use crate::saver::Saver;
+use crate::watches::{Hold, Watches};
+use log::Log;
+use nfs_exports::addr::Addr;
+use nfs_lines::line_out::LineOut;
+use nfs_lines::lines::Lines;
+use nfs_server::server::Server;
+use std::alloc::Global;
+use std::time::Duration;
+
+// How long a connection that can't be accepted waits for another try, in milliseconds.
+const RETRY_MILLIS: u64 = 100;
+
+/// How long lines and clients wait for another try where the system reports nothing, in milliseconds.
+pub(crate) const LINES_MILLIS: u64 = 10;
+
+/// Whether connections wait to be accepted.
+#[derive(Clone, Copy, PartialEq, Eq)]
+pub(crate) enum Waiting {
+    /// None is known of.
+    None,
+    /// Some may.
+    Some,
+    /// Some do, for which there are too many open files.
+    Refused,
+}
+
+/// What a service keeps beside its clients: its limits, whom it watches and holds, and when it last
+/// looked, reported and saved. Times are in seconds since the service began.
+#[derive(Drop)]
+pub(crate) struct Housekeeping {
+    /// How much the service takes on.
+    pub(crate) limits: Limits,
+    /// What is known of the clients by their keys.
+    pub(crate) watches: Watches,
+    /// Whether connections wait to be accepted.
+    pub(crate) waiting: Waiting,
+    /// How many connections have ended.
+    pub(crate) ended: u64,
+    // When silent clients were last looked for.
+    looked: u64,
+    /// The addresses whose next connections have to wait.
+    pub(crate) refused_peers: RefusedPeers,
+    /// Whether some clients get no turn for now.
+    pub(crate) has_held: bool,
+    /// Whether the tree may have changed since it was saved.
+    pub(crate) is_touched: bool,
+    lines_reported: LinesReported,
+    // When the tree was last saved.
+    saved: u64,
+}
+
+impl Housekeeping {
+    /// That of a service that begins.
+    pub(crate) fn new(alloc: Global, limits: Limits) -> Housekeeping {
+        Housekeeping {
+            limits,
+            watches: Watches::new(alloc),
+            waiting: Waiting::None,
+            ended: 0,
+            looked: 0,
+            refused_peers: RefusedPeers::new(alloc),
+            has_held: false,
+            is_touched: false,
+            lines_reported: LinesReported::nothing(),
+            saved: 0,
+        }
+    }
+
+    /// Whether all connections that there may be have ended.
+    pub(crate) fn is_done(&self) -> bool {
+        match self.limits.connections {
+            Some(connections) => self.ended >= connections,
+            None => false,
+        }
+    }
+
+    /// For how long a service with so many clients waits, of which none waits for a turn: until something
+    /// is ready; not for long where lines wait.
+    pub(crate) fn timeout(&self, clients: usize, has_lines: bool) -> Option<Duration> {
+        if self.waiting == Waiting::Some {
+            Some(Duration::ZERO)
+        } else if has_lines || self.has_held {
+            Some(Duration::from_millis(LINES_MILLIS))
+        } else if self.waiting == Waiting::Refused {
+            Some(Duration::from_millis(RETRY_MILLIS))
+        } else if self.looks_at_the_clock(clients) {
+            Some(Duration::from_secs(1))
+        } else {
+            None
+        }
+    }
+
+    // Whether there is something to do once a second.
+    fn looks_at_the_clock(&self, clients: usize) -> bool {
+        let may_be_silent = self.limits.idle.is_some() && clients > 0;
+        let may_be_saved = self.limits.save_every.is_some() && self.is_touched;
+        may_be_silent || may_be_saved
+    }
+
+    /// Has a connection accepted that could not be accepted before.
+    pub(crate) fn retry(&mut self)
+        ensures { self.new.watches ≡ self.old.watches }
+    {
+        if self.waiting == Waiting::Refused {
+            self.waiting = Waiting::Some;
+        }
+    }
+
+    /// Since when a client has to have been silent for its connection to be ended, where it is time to look
+    /// for such ones, so many seconds after the service began: once a second.
+    pub(crate) fn silent_since(&mut self, seconds: u64) -> Option<u64> {
+        let idle = self.limits.idle?;
+        if seconds == self.looked {
+            return None;
+        }
+        self.looked = seconds;
+        seconds.checked_sub(idle)
+    }
+
+    /// Begins to watch a new client from this address, which gets no turn for now where a denied call from
+    /// there was refused lately.
+    pub(crate) fn watch(&mut self, key: usize, addr: Addr, millis: u64) {
+        let hold = match self.refused_peers.until(addr, millis) {
+            Some(until) => Some(Hold::Until(until)),
+            None => None,
+        };
+        self.has_held |= hold.is_some();
+        self.watches.begin(key, millis / 1_000, hold);
+    }
+
+    /// Passes on lines that wait, says what can't be written, and has the tree saved where it is time.
+    pub(crate) fn attend<R: Log, N: Network, A: LineOut, C: LineOut, S: Saver>(
+        &mut self,
+        rt: &R,
+        server: &Server,
+        net: &mut N,
+        lines: &mut Lines<'_, A, C>,
+        saver: &mut S,
+    )
+        ensures told { Accounts (N.told net.old) [] (N.told net.new) }
+        ensures lines { PassedOn (written A.taken C.taken lines.old) (written A.taken C.taken lines.new) }
+    {
+        lines.pass_on();
+        let seconds = net.millis() / 1_000;
+        self.lines_reported.report(rt, lines, seconds);
+        self.save(server, net, saver, seconds);
+    }
+
+    // Has the tree saved where it is time, so many seconds after the service began.
+    fn save<N: Network, S: Saver>(
+        &mut self,
+        server: &Server,
+        net: &mut N,
+        saver: &mut S,
+        seconds: u64,
+    )
+        ensures told { Accounts (N.told net.old) [] (N.told net.new) }
+    {
+        if let Some(every) = self.limits.save_every
+            && self.is_touched
+            && seconds.saturating_sub(self.saved) >= every
+        {
+            saver.save(server);
+            self.is_touched = false;
+            self.saved = net.millis() / 1_000;
+        }
+    }
+}

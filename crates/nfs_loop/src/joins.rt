@@ -1,0 +1,135 @@
+//! How clients join.
+ghost use Rattle.std.specs.Prelude.{◌≡◌, ◌+◌, ◌<◌, ◌^◌, []};
+ghost use Rattle.std.specs.Net.Socket.{socket_ip};
+ghost use Rattle.nfs_loop.specs.Stages.{Goes, JoinsOrNot, stage};
+ghost use Rattle.nfs_loop.specs.Told.{Accounts, CameFrom, Hears, came};
+ghost use Rattle.nfs_lines.specs.Written.{Written};
+ghost use Rattle.nfs_server.specs.Fits.{Held};
+
+use crate::addresses::addr_of;
+use crate::housekeeping::Waiting;
+use crate::member::Member;
+use crate::network::{Accepted, Network};
+use crate::service::{EVENTS, Service};
+use log::{Log, info, warn};
+use nfs_exports::addr::Addr;
+use nfs_serving::client::Client;
+use nfs_xdr::link::Link;
+use std::net::SocketAddr;
+use thiserror::Error;
+
+// Why a connection is closed at once.
+#[derive(Clone, Copy, Debug, Error)]
+enum Refusal {
+    #[error("it is not an IPv4 address")]
+    Address,
+    #[error("there is no memory")]
+    Memory,
+}
+
+impl<L: Link + Drop> Service<L> {
+    /// Accepts the connections that wait.
+    pub(crate) fn accept_some<R: Log, N: Network<Stream = L>>(&mut self, rt: &R, net: &mut N)
+        ensures goes { (server : Held) → (lines : Written) → Goes L.outgoing L.incoming (λ changes. Accounts (N.told net.old) changes (N.told net.new))
+            (stage server self.old.clients.0 self.old.joined lines) (stage server self.new.clients.0 self.new.joined lines) }
+        ensures queue { self.new.clients.1.0 ≡ self.old.clients.1.0 }
+    {
+        let mut left = EVENTS;
+        while left > 0 && self.housekeeping.waiting == Waiting::Some {
+            left -= 1;
+            self.accept(rt, net);
+        }
+    }
+
+    // Accepts a connection, if one waits and there may be more.
+    fn accept<R: Log, N: Network<Stream = L>>(&mut self, rt: &R, net: &mut N)
+        ensures goes { (server : Held) → (lines : Written) → Goes L.outgoing L.incoming (λ changes. Accounts (N.told net.old) changes (N.told net.new))
+            (stage server self.old.clients.0 self.old.joined lines) (stage server self.new.clients.0 self.new.joined lines) }
+        ensures queue { self.new.clients.1.0 ≡ self.old.clients.1.0 }
+    {
+        if self.housekeeping.limits.connections == Some(self.joined) {
+            net.close_listener();
+            self.housekeeping.waiting = Waiting::None;
+            return;
+        }
+        let key = self.clients.next_key();
+        if key == usize::MAX || self.joined == u64::MAX {
+            self.housekeeping.waiting = Waiting::Refused;
+            return;
+        }
+        match net.accept(key) {
+            Accepted::Connection(stream, peer) => self.admit(rt, net, key, stream, peer),
+            Accepted::None => self.housekeeping.waiting = Waiting::None,
+            Accepted::Gone => {}
+            Accepted::Refused(error) => {
+                warn!(rt; "no connection can be accepted: {error}");
+                self.housekeeping.waiting = Waiting::Refused;
+            }
+            Accepted::Closed(peer, error) => warn!(rt; "{peer}: closed: {error}"),
+        }
+    }
+
+    // Makes the other end of a connection a client.
+    fn admit<R: Log, N: Network<Stream = L>>(
+        &mut self,
+        rt: &R,
+        net: &mut N,
+        key: usize,
+        stream: L,
+        peer: SocketAddr,
+    )
+        requires key { key ≡ self.old.clients.0.vacant_key }
+        requires joined { self.old.joined + 1 < 2 ^ 64 }
+        ensures joins { JoinsOrNot key (socket_ip peer) self.old.clients.0 self.old.joined self.new.clients.0 self.new.joined }
+        ensures queue { self.new.clients.1.0 ≡ self.old.clients.1.0 }
+        ensures told { Accounts (N.told net.old) [] (N.told net.new) }
+    {
+        if self.clients.len() >= self.housekeeping.limits.clients {
+            warn!(rt; "{peer}: closed: there are already {} clients", self.housekeeping.limits.clients);
+            return;
+        }
+        match self.join(net, key, stream, peer) {
+            Ok(()) => info!(rt; "{peer}: connection {}", self.joined),
+            Err(refusal) => warn!(rt; "{peer}: closed: {refusal}"),
+        }
+    }
+
+    // Adds a client of this peer.
+    fn join<N: Network<Stream = L>>(
+        &mut self,
+        net: &mut N,
+        key: usize,
+        stream: L,
+        peer: SocketAddr,
+    ) -> Result<(), Refusal>
+        requires key { key ≡ self.old.clients.0.vacant_key }
+        requires joined { self.old.joined + 1 < 2 ^ 64 }
+        ensures joins { JoinsOrNot key (socket_ip peer) self.old.clients.0 self.old.joined self.new.clients.0 self.new.joined }
+        ensures queue { self.new.clients.1.0 ≡ self.old.clients.1.0 }
+        ensures told { Accounts (N.told net.old) [] (N.told net.new) }
+    {
+        let Some(addr) = addr_of(peer) else {
+            return Err(Refusal::Address);
+        };
+        if self.housekeeping.watches.make_room(key).is_err() {
+            return Err(Refusal::Memory);
+        }
+        let millis = net.millis();
+        let number = self.joined + 1;
+        let client = Client::new(self.alloc, addr, stream);
+        let member = Member {
+            client,
+            number,
+            peer,
+            addr,
+        };
+        match self.clients.add(member) {
+            Ok(()) => {
+                self.joined = number;
+                self.housekeeping.watch(key, addr, millis);
+                Ok(())
+            }
+            Err(_) => Err(Refusal::Memory),
+        }
+    }
+}

@@ -1,0 +1,18 @@
+//! A service that gives its clients turns, over whatever network there is.
+#![tactic(auto)]
+
+pub mod addresses;
+mod ends;
+mod housekeeping;
+mod joins;
+pub mod limits;
+mod lines_reported;
+pub mod member;
+pub mod network;
+mod refused_peers;
+pub mod report;
+mod rounds;
+pub mod saver;
+pub mod service;
+mod silence;
+mod watches;

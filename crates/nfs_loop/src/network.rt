@@ -1,0 +1,77 @@
+//! What a service hears: a network and a clock.
+ghost use Rattle.std.specs.Prelude.{◌≡◌, ◌+◌, ◌<◌, ◌^◌, ℕ, List, Option};
+ghost use Rattle.std.specs.Net.Socket.{socket_ip};
+ghost use Rattle.nfs_loop.specs.Told.{Told, at, since, Hears};
+ghost use Rattle.nfs_loop.specs.Telling.{TellsReady, TellsAccepted};
+
+use nfs_attrs::moment::Moment;
+use nfs_xdr::link::Link;
+use std::io;
+use std::net::SocketAddr;
+use std::time::Duration;
+
+/// What a network reports.
+#[derive(Clone, Copy)]
+pub enum Ready {
+    /// Connections may wait to be accepted.
+    Listener,
+    /// The client of a key may have sent something, take more, or have ended its side.
+    Client {
+        /// The key.
+        key: usize,
+        /// Whether its peer is known to have ended its side.
+        is_closing: bool,
+    },
+}
+
+/// What became of the next connection.
+#[derive(Drop)]
+pub enum Accepted<S> {
+    /// It was accepted, from this peer.
+    Connection(S, SocketAddr),
+    /// None waits.
+    None,
+    /// It is gone. Another may wait.
+    Gone,
+    /// It can't be accepted for now.
+    Refused(io::Error),
+    /// It was accepted from this peer, and closed, since nothing can be heard of it.
+    Closed(SocketAddr, io::Error),
+}
+
+/// A network and a clock. Any answer is one that may come.
+pub trait Network {
+    /// The stream of a connection.
+    type Stream: Link;
+
+    /// What was told, the newest first, where that is known.
+    ghost told: { Self → Option (List Told) };
+
+    /// Waits until something is ready, for so long at most.
+    fn wait(&mut self, timeout: Option<Duration>) -> io::Result<()>
+        ensures { told self.new ≡ told self.old };
+
+    /// Something that is ready and was not handed out yet.
+    fn ready(&mut self) -> Option<Ready>
+        ensures { TellsReady (told self.old) result (told self.new) };
+
+    /// The next connection. What is reported of it from now on has this key.
+    fn accept(&mut self, key: usize) -> Accepted<Self::Stream>
+        requires { key + 1 < 2 ^ 64 }
+        ensures { TellsAccepted (told self.old) key result (told self.new) };
+
+    /// Accepts no more connections.
+    fn close_listener(&mut self)
+        ensures { told self.new ≡ told self.old };
+
+    /// Whether its peer has reset this stream's connection, in place of ending its side.
+    fn was_reset(&self, stream: &Self::Stream) -> bool;
+
+    /// The moment of now.
+    fn now(&mut self) -> Moment
+        ensures { Hears (told self.old) (at result) (told self.new) };
+
+    /// How many milliseconds the service has run.
+    fn millis(&mut self) -> u64
+        ensures { Hears (told self.old) (since result) (told self.new) };
+}

@@ -1,0 +1,154 @@
+//! A service that serves many clients at once, in turns.
+ghost use Rattle.std.specs.Prelude.{◌≡◌, ℕ, None, IfOk};
+ghost use Rattle.slab.specs.Slab.{get};
+ghost use Rattle.nfs_lines.specs.Written.{PassedOn, written};
+ghost use Rattle.nfs_loop.specs.Stages.{Goes, Lived, stage};
+ghost use Rattle.nfs_loop.specs.Told.{Accounts};
+ghost use Rattle.nfs_server.specs.Fits.{History, Fits};
+
+use crate::housekeeping::{Housekeeping, LINES_MILLIS};
+use crate::limits::Limits;
+use crate::member::Member;
+use crate::network::Network;
+use crate::saver::Saver;
+use log::Log;
+use nfs_lines::line_out::LineOut;
+use nfs_lines::lines::Lines;
+use nfs_queue::clients::Clients;
+use nfs_server::server::Server;
+use nfs_serving::laws::service_is_one_history;
+use nfs_serving::turn_buffers::TurnBuffers;
+use nfs_xdr::link::Link;
+use std::alloc::{AllocError, Global};
+use std::io;
+use std::time::Duration;
+
+/// How many events are taken at once.
+pub(crate) const EVENTS: u32 = 1_024;
+
+// How often lines that are left at the end are tried: for five seconds.
+const LAST_TRIES: u32 = 500;
+
+/// The clients of a service, and what it keeps beside them.
+#[derive(Drop)]
+pub struct Service<L> {
+    pub(crate) alloc: Global,
+    /// The clients.
+    pub clients: Clients<Member<L>>,
+    /// How many have joined.
+    pub joined: u64,
+    pub(crate) room: TurnBuffers,
+    pub(crate) housekeeping: Housekeeping,
+}
+
+impl<L: Link + Drop> Service<L> {
+    /// A service with no clients.
+    pub fn new(alloc: Global, limits: Limits) -> Result<Service<L>, AllocError>
+        ensures members { IfOk result (λ service. (key : ℕ) → get service.clients.0 key ≡ None) }
+        ensures joined { IfOk result (λ service. service.joined ≡ 0) }
+    {
+        Ok(Service {
+            alloc,
+            clients: Clients::new(alloc),
+            joined: 0,
+            room: TurnBuffers::new(alloc)?,
+            housekeeping: Housekeeping::new(alloc, limits),
+        })
+    }
+
+    /// Serves clients until as many connections have ended as there may be. Each connection's end is
+    /// written as a line, and so is each denied call. Lines that can't be written end no service.
+    ///
+    /// Whatever the network answers, all that changes is one history and one log, also where the network
+    /// fails, which is the only fault.
+    pub fn serve<R: Log, N: Network<Stream = L>, A: LineOut, C: LineOut, S: Saver>(
+        &mut self,
+        rt: &R,
+        server: &mut Server,
+        net: &mut N,
+        lines: &mut Lines<'_, A, C>,
+        saver: &mut S,
+    ) -> io::Result<()>
+        ensures lived { ((key : ℕ) → get self.old.clients.0 key ≡ None) → (history : History) → Fits history server.old
+            → Lived L.outgoing L.incoming history (N.told net.old) (N.told net.new)
+            (stage server.old self.old.clients.0 self.old.joined (written A.taken C.taken lines.old))
+            (stage server.new self.new.clients.0 self.new.joined (written A.taken C.taken lines.new)) }
+    {
+        service_is_one_history::<L>();
+        self.run(rt, server, net, lines, saver)
+    }
+
+    // The same, as changes.
+    fn run<R: Log, N: Network<Stream = L>, A: LineOut, C: LineOut, S: Saver>(
+        &mut self,
+        rt: &R,
+        server: &mut Server,
+        net: &mut N,
+        lines: &mut Lines<'_, A, C>,
+        saver: &mut S,
+    ) -> io::Result<()>
+        ensures goes { Goes L.outgoing L.incoming (λ changes. Accounts (N.told net.old) changes (N.told net.new))
+            (stage server.old self.old.clients.0 self.old.joined (written A.taken C.taken lines.old))
+            (stage server.new self.new.clients.0 self.new.joined (written A.taken C.taken lines.new)) }
+    {
+        let mut left = u64::MAX;
+        while left > 0 && !self.housekeeping.is_done() {
+            left -= 1;
+            let timeout = self.timeout(lines.pending() > 0);
+            if let Err(error) = net.wait(timeout) {
+                return Err(error);
+            }
+            self.step(rt, server, net, lines, saver);
+        }
+        self.finish(net, lines)
+    }
+
+    // What is done after each wait.
+    fn step<R: Log, N: Network<Stream = L>, A: LineOut, C: LineOut, S: Saver>(
+        &mut self,
+        rt: &R,
+        server: &mut Server,
+        net: &mut N,
+        lines: &mut Lines<'_, A, C>,
+        saver: &mut S,
+    )
+        ensures goes { Goes L.outgoing L.incoming (λ changes. Accounts (N.told net.old) changes (N.told net.new))
+            (stage server.old self.old.clients.0 self.old.joined (written A.taken C.taken lines.old))
+            (stage server.new self.new.clients.0 self.new.joined (written A.taken C.taken lines.new)) }
+    {
+        self.note(net);
+        self.accept_some(rt, net);
+        self.release(net, lines);
+        self.round(rt, server, net, lines);
+        self.end_silent(rt, net, lines);
+        self.housekeeping.attend(rt, server, net, lines, saver);
+    }
+
+    // Passes on the lines that are left, as long as somebody may read them.
+    fn finish<N: Network<Stream = L>, A: LineOut, C: LineOut>(
+        &self,
+        net: &mut N,
+        lines: &mut Lines<'_, A, C>,
+    ) -> io::Result<()>
+        ensures told { N.told net.new ≡ N.told net.old }
+        ensures lines { PassedOn (written A.taken C.taken lines.old) (written A.taken C.taken lines.new) }
+    {
+        let mut left = LAST_TRIES;
+        while left > 0 && lines.pending() > 0 {
+            left -= 1;
+            if let Err(error) = net.wait(Some(Duration::from_millis(LINES_MILLIS))) {
+                return Err(error);
+            }
+            lines.pass_on();
+        }
+        Ok(())
+    }
+
+    // For how long to wait: not at all where a client waits for a turn.
+    fn timeout(&self, has_lines: bool) -> Option<Duration> {
+        if self.clients.is_any_waiting() {
+            return Some(Duration::ZERO);
+        }
+        self.housekeeping.timeout(self.clients.len(), has_lines)
+    }
+}

@@ -1,0 +1,64 @@
+//! Connections on which nothing comes.
+ghost use Rattle.std.specs.Prelude.{◌≡◌};
+ghost use Rattle.nfs_lines.specs.Written.{written};
+ghost use Rattle.nfs_loop.specs.Stages.{Goes, stage};
+ghost use Rattle.nfs_loop.specs.Told.{Accounts};
+ghost use Rattle.nfs_server.specs.Fits.{Held};
+
+use crate::network::Network;
+use crate::service::Service;
+use log::Log;
+use nfs_lines::line_out::LineOut;
+use nfs_lines::lines::Lines;
+use nfs_serving::turn::End;
+use nfs_xdr::link::Link;
+
+impl<L: Link + Drop> Service<L> {
+    /// Ends the connections on which nothing came for too long. It looks for them once a second.
+    pub(crate) fn end_silent<R: Log, N: Network<Stream = L>, A: LineOut, C: LineOut>(
+        &mut self,
+        rt: &R,
+        net: &mut N,
+        lines: &mut Lines<'_, A, C>,
+    )
+        ensures goes { (server : Held) → Goes L.outgoing L.incoming (λ changes. Accounts (N.told net.old) changes (N.told net.new))
+            (stage server self.old.clients.0 self.old.joined (written A.taken C.taken lines.old))
+            (stage server self.new.clients.0 self.new.joined (written A.taken C.taken lines.new)) }
+    {
+        let millis = net.millis();
+        let Some(since) = self.housekeeping.silent_since(millis / 1_000) else {
+            return;
+        };
+        let mut left = self.clients.keys();
+        while left > 0 {
+            left -= 1;
+            self.end_where_silent(rt, net, lines, left, since);
+        }
+    }
+
+    // Ends the connection of a key's client where nothing was heard of it since then, and it could have
+    // been: it doesn't wait for a turn, and is not kept from one.
+    fn end_where_silent<R: Log, N: Network<Stream = L>, A: LineOut, C: LineOut>(
+        &mut self,
+        rt: &R,
+        net: &mut N,
+        lines: &mut Lines<'_, A, C>,
+        key: usize,
+        since: u64,
+    )
+        ensures goes { (server : Held) → Goes L.outgoing L.incoming (λ changes. Accounts (N.told net.old) changes (N.told net.new))
+            (stage server self.old.clients.0 self.old.joined (written A.taken C.taken lines.old))
+            (stage server self.new.clients.0 self.new.joined (written A.taken C.taken lines.new)) }
+    {
+        if !self.housekeeping.watches.is_silent(key, since)
+            || self.housekeeping.watches.hold(key).is_some()
+        {
+            return;
+        }
+        if let Some(member) = self.clients.remove(key) {
+            let end = member.client.end().unwrap_or(End::Closed);
+            let moment = net.now();
+            self.housekeeping.leave(rt, net, lines, member, moment, end);
+        }
+    }
+}

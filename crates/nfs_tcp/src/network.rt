@@ -1,0 +1,132 @@
+//! The network of the system.
+ghost use Rattle.std.specs.Prelude.{◌+◌, ◌<◌, ◌^◌, None};
+
+use crate::clock::SystemClock;
+use crate::keys::{LISTENER, key_of, token_of};
+use crate::service_fault::ServiceFault;
+use crate::socket::Socket;
+use log::Log;
+use mio::net::{TcpListener, TcpStream};
+use mio::{Events, Interest, Poll};
+use nfs_attrs::moment::Moment;
+use nfs_loop::network::{Accepted, Network, Ready};
+use nfs_server::moments::Moments;
+use std::alloc::Global;
+use std::collections::VecDeque;
+use std::io::{self, ErrorKind};
+use std::net::Net;
+use std::time::{Clock, Duration, Instant};
+
+// How many events are taken at once.
+const EVENTS: usize = 1_024;
+
+/// A listener, the streams of its connections, and the clock, by the system, of which nothing is known.
+#[derive(Drop)]
+pub struct TcpNetwork<'a, R> {
+    rt: &'a R,
+    clock: SystemClock<'a, R>,
+    began: Instant,
+    poll: Poll,
+    events: Events,
+    // Those of the events that were not handed out.
+    ready: VecDeque<Ready>,
+    listener: Option<TcpListener>,
+}
+
+impl<'a, R: Net + Clock + Log> TcpNetwork<'a, R> {
+    /// The network of a listener.
+    pub fn new(
+        rt: &'a R,
+        alloc: Global,
+        mut listener: TcpListener,
+    ) -> Result<TcpNetwork<'a, R>, ServiceFault> {
+        let poll = Poll::new(rt)?;
+        poll.registry()
+            .register(&mut listener, LISTENER, Interest::READABLE)?;
+        Ok(TcpNetwork {
+            rt,
+            clock: SystemClock::new(rt),
+            began: Instant::now(rt)?,
+            poll,
+            events: Events::with_capacity(alloc, EVENTS)?,
+            ready: VecDeque::with_capacity(alloc, EVENTS)?,
+            listener: Some(listener),
+        })
+    }
+
+    // Has what is reported of a stream have a token of this key.
+    fn register(&self, mut stream: TcpStream, key: usize) -> io::Result<Socket>
+        requires { key + 1 < 2 ^ 64 }
+    {
+        let interest = Interest::READABLE | Interest::WRITABLE;
+        self.poll
+            .registry()
+            .register(&mut stream, token_of(key), interest)?;
+        Socket::new(stream)
+    }
+}
+
+impl<R: Net + Clock + Log> Network for TcpNetwork<'_, R> {
+    type Stream = Socket;
+
+    ghost told = { λ n. None };
+
+    fn wait(&mut self, timeout: Option<Duration>) -> io::Result<()> {
+        self.ready.clear();
+        match self.poll.poll(&mut self.events, timeout) {
+            Err(error) if error.kind() != ErrorKind::Interrupted => return Err(error),
+            _ => {}
+        }
+        for event in self.events.iter() {
+            let ready = match key_of(event.token()) {
+                None => Ready::Listener,
+                Some(key) => Ready::Client {
+                    key,
+                    is_closing: event.is_read_closed() || event.is_error(),
+                },
+            };
+            self.ready.push_back(ready)?;
+        }
+        Ok(())
+    }
+
+    fn ready(&mut self) -> Option<Ready> {
+        self.ready.pop_front()
+    }
+
+    fn accept(&mut self, key: usize) -> Accepted<Socket> {
+        let Some(listener) = &self.listener else {
+            return Accepted::None;
+        };
+        match listener.accept() {
+            Ok((stream, peer)) => match self.register(stream, key) {
+                Ok(socket) => Accepted::Connection(socket, peer),
+                Err(error) => Accepted::Closed(peer, error),
+            },
+            Err(error) => match error.kind() {
+                ErrorKind::WouldBlock => Accepted::None,
+                ErrorKind::ConnectionAborted | ErrorKind::Interrupted => Accepted::Gone,
+                _ => Accepted::Refused(error),
+            },
+        }
+    }
+
+    fn close_listener(&mut self) {
+        self.listener = None;
+    }
+
+    fn was_reset(&self, stream: &Socket) -> bool {
+        stream.was_reset()
+    }
+
+    fn now(&mut self) -> Moment {
+        self.clock.now()
+    }
+
+    fn millis(&mut self) -> u64 {
+        match self.began.elapsed(self.rt) {
+            Ok(elapsed) => u64::try_from(elapsed.as_millis()).unwrap_or(u64::MAX),
+            Err(_) => 0,
+        }
+    }
+}
