@@ -104,6 +104,10 @@ static void make_calls(const char *work) {
         call_size = words(call, begin(call, 8, 2), made, 9), reply_size = 28 + 4 + 32 + 88 + 28 + 88;
         other_size = words(other, begin(other, 12, 2), gone, 2), reply2_size = 28 + 4 + 28 + 88;
         finish(other, other_size);
+    } else if (strcmp(work, "list") == 0) {
+        /* READDIRPLUS from the beginning, of as much as there may be: the entries ., .., f4, f64 and f128. */
+        uint32_t page[] = {0, 0, 0, 0, 131072, 131072};
+        call_size = words(call, begin(call, 17, 2), page, 6), reply_size = 28 + 4 + 88 + 8 + 5 * (4 + 8 + 8 + 8 + 88 + 32) + 8;
     } else if (strcmp(work, "missing") == 0) {
         uint32_t name[] = {4, 0x6e6f6e65};
         call_size = words(call, begin(call, 3, 2), name, 2), reply_size = 28 + 4 + 88;

@@ -182,6 +182,12 @@ run replay "$work/tree" examples/null.script --save "$work/same.tree" --key 0102
 ended 0 && same "$work/same.tree" "$work/left.tree"
 ok $? "serve --save writes the tree that clients leave"
 
+compiles touch clients/touch.c
+printf 'server 0102030405060708\nvolume /a 1000000 20 0755 0 0\nexport 127.0.0.0/8 rw,no_root_squash\n' >"$work/small.tree"
+serving "$work/small.tree" --connections 1 --save "$work/left.tree"
+"$work/touch" "$port" 127.0.0.1 /a left && server_ends 0 && grep -qx 'file /left 0644 0 0 -' "$work/left.tree" && [ "$(wc -l <"$work/left.tree")" -eq 4 ]
+ok $? "serve --save writes a file that a client made and left"
+
 # Between turns the tree is saved only where it has changed. Each description that is written has another key.
 serving "$work/tree" --save "$work/copy.tree" --save-every 1
 "$work/load" "$port" getattr 1 1 10 >"$work/out"

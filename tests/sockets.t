@@ -28,12 +28,27 @@ done <<'WORK'
 null 10 16 10000
 getattr 10 7 1000
 read64 1 16 1000
+read128 1 16 500
+list 1 16 500
 read64 10 16 100
 write64 10 3 100
 make 10 1 1000
 WORK
-[ "$(grep -c '^connection [0-9]* calls=' "$work/served")" -eq 51 ] && [ "$(wc -l <"$work/served")" -eq 52 ]
+[ "$(grep -c '^connection [0-9]* calls=' "$work/served")" -eq 53 ] && [ "$(wc -l <"$work/served")" -eq 54 ]
 ok $? "each connection has its line"
+
+# Each client has the rights of its own address, and the times that a call sets are those of the clock.
+compiles touch clients/touch.c
+printf 'server 0102030405060708\nvolume /a 1000000 20 0755 0 0\nexport 127.0.0.2 rw,no_root_squash\n' >"$work/tree"
+serving "$work/tree" --connections 3
+"$work/touch" "$port" 127.0.0.1 /a none 2>"$work/wrong"
+[ $? -eq 3 ] && grep -q 'MNT is refused' "$work/wrong"
+ok $? "a client of 127.0.0.1 can't mount what is exported to 127.0.0.2"
+"$work/touch" "$port" 127.0.0.2 /a left 2>"$work/wrong"
+ok $? "a client of 127.0.0.2 can, and SETATTR by the server's clock sets the time of now"
+"$work/touch" "$port" 127.0.0.3 /a none 2>"$work/wrong"
+[ $? -eq 3 ] && server_ends 0 && [ "$(sed -n 's/^deny addr=\([0-9.]*\) .* rule=export status=13$/\1/p' "$work/served" | tr '\n' ' ')" = "127.0.0.1 127.0.0.3 " ]
+ok $? "and each denied call has its client's address in its line"
 
 # 3,000 connections that come and go, and more at once than there may be open files.
 serving examples/e.tree --connections 3000

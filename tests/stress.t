@@ -27,4 +27,12 @@ note "$before KiB, then $after KiB"
 "$work/load" "$port" null 1 1 10 >"$work/out" 2>&1
 ok $? "and another client is answered then"
 
+# A million removals leave no memory behind.
+serving "$work/tree"
+"$work/load" "$port" make 4 1 5000 >"$work/out" 2>&1
+before=$(most)
+"$work/load" "$port" make 4 1 500000 >"$work/out" 2>&1 && after=$(most) && [ $((after - before)) -lt 1024 ]
+ok $? "a million files that are made and removed cost the server less than 1 MiB"
+note "$before KiB, then $after KiB"
+
 plan

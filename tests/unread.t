@@ -21,4 +21,18 @@ unread tests/unread/calls tests/unread/read
 [ $? -eq 1 ]
 ok $? "one more call, which reads it, prints the difference"
 
+# The same of files of one to nine bytes, each with zeros in one description and with other bits in the other.
+for bits in 01 80ff 7f0180 aa55aa55 0101010101 fe01fe01fe01 00000000000001 8000000000000000 ffffffffffffffffff; do
+    zeros=$(echo "$bits" | tr '0-9a-f' '0')
+    sed "s/ 68656c6c6f\$/ $zeros/" tests/unread/one.tree >"$work/zeros.tree"
+    sed "s/ 68656c6c6f\$/ $bits/" tests/unread/one.tree >"$work/bits.tree"
+    for tree in zeros bits; do
+        run replay "$work/$tree.tree" tests/unread/calls
+        mv "$work/out" "$work/$tree"
+        ended 0 && quiet || break
+    done
+    grep -q '^reply ' "$work/zeros" && cmp -s "$work/zeros" "$work/bits"
+    ok $? "calls that may not read a file print the same whether it has the bytes $zeros or $bits"
+done
+
 plan
