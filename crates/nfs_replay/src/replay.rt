@@ -1,9 +1,9 @@
 //! A script, run against a server of its own.
 ghost use Rattle.std.specs.Prelude.{◌≤◌, IfErr};
-ghost use Rattle.nfs_replay.specs.ScriptFaults.{IsNumbered};
+ghost use Rattle.nfs_script.specs.ScriptFaults.{IsNumbered};
 
 use crate::captured::{Captured, split_record};
-use crate::fault::{LineCause, RunFault, ScriptFault};
+use crate::fault::RunFault;
 use crate::heard::Heard;
 use crate::hexadecimal::{HexFault, push_bytes};
 use crate::printing::{Printer, Replies};
@@ -18,6 +18,7 @@ use nfs_inodes::tree::Tree;
 use nfs_lines::names::{name_in, names_of};
 use nfs_load::listing::listing;
 use nfs_load::loaded::Loaded;
+use nfs_script::fault::{LineCause, ScriptFault};
 use nfs_server::event::Event;
 use nfs_server::server::Server;
 use nfs_server::session_fault::SessionFault;

@@ -2,10 +2,10 @@
 
 use nfs_command_line::invocation::Replay;
 use nfs_load::loaded::Loaded;
-use nfs_replay::fault::ScriptFault;
 use nfs_replay::replay::replay;
 use nfs_replay::shown::Shown;
 use nfs_saving::copies::Copies;
+use nfs_script::fault::ScriptFault;
 use nfs_server::sessions::Sessions;
 use nfs_source::description::load_tree;
 use nfs_source::diagnostic::Diagnostic;

@@ -7,7 +7,7 @@ use nfs_advice::description::advise;
 use nfs_advice::script::{advise_bytes, advise_file, advise_line};
 use nfs_ask::fault::Wanted;
 use nfs_load::load_error::LoadError;
-use nfs_replay::fault::{LineCause, ScriptFault};
+use nfs_script::fault::{LineCause, ScriptFault};
 use std::alloc::{AllocError, Global};
 use std::fmt;
 use std::io::ErrorKind;

@@ -5,7 +5,7 @@ ghost use Rattle.nfs_source.specs.Status.{status_of};
 use nfs_describe::fault::DescribeFault;
 use nfs_load::cause::Cause;
 use nfs_load::load_error::LoadError;
-use nfs_replay::fault::{LineCause, ScriptFault};
+use nfs_script::fault::{LineCause, ScriptFault};
 use std::alloc::AllocError;
 use std::io;
 use std::net::SocketAddr;
