@@ -72,7 +72,6 @@ impl<R: Net + Clock + Log> Network for TcpNetwork<'_, R> {
     ghost told = { λ n. None };
 
     fn wait(&mut self, timeout: Option<Duration>) -> io::Result<()> {
-        self.ready.clear();
         match self.poll.poll(&mut self.events, timeout) {
             Err(error) if error.kind() != ErrorKind::Interrupted => return Err(error),
             _ => {}
