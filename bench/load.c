@@ -1,11 +1,14 @@
-/* Loads a server over TCP: load PORT WORK CLIENTS DEPTH CALLS [echo], where WORK is null, getattr,
- * lookup, read4, read64, read128, write64, write128, make, missing or denied. Each client has up to DEPTH calls under way. Each reply is
- * looked at: its length, and that its number is that of the client's oldest call. It prints the
- * microseconds a call, and the 99th of a hundred times of a call. With echo, the sizes alone are
- * asked for. With idle in place of WORK the clients connect and say nothing until standard input ends.
- * The description is that of bench/tree, and the key in its handles that of NFS3D_KEY (clients/key.h). A call of missing is a
- * LOOKUP of a name that isn't there, and one of denied a GETATTR of file 6: the root of a volume that isn't exported here,
- * which stands after bench/tree's own. */
+/* Loads a server over TCP: load PORT WORK CLIENTS DEPTH CALLS [echo|alike], where WORK is null, getattr,
+ * lookup, read4, read64, read128, write64, write128, make, list, pages, missing or denied. Each client has
+ * up to DEPTH calls under way. Each reply is looked at: its length, and that its number is that of the
+ * client's oldest call. It prints the microseconds a call, and the 99th of a hundred times of a call. With
+ * echo, the sizes alone are asked for. With alike, all replies must be equal but for their numbers. With
+ * idle in place of WORK the clients connect and say nothing until standard input ends.
+ *
+ * The description is that of bench/tree, and the key in its handles that of NFS3D_KEY (clients/key.h). A
+ * call of missing is a LOOKUP of a name that isn't there, and one of denied a GETATTR of file 6: the root of
+ * a volume that isn't exported here, which stands after bench/tree's own. With pages, file 6 is a directory
+ * with more entries than a reply holds, whose names have 1 to 4 bytes. */
 #include <arpa/inet.h>
 #include <errno.h>
 #include <fcntl.h>
@@ -29,6 +32,7 @@ typedef struct {
     size_t out, in;            /* bytes of the call under way, and of the reply */
     double *begun;             /* when each call under way began */
     unsigned char head[8];
+    uint64_t sum, first;       /* of the bytes of the reply under way, and of the first reply */
 } Client;
 
 static unsigned char call[MOST], room[MOST], other[MOST];
@@ -108,6 +112,10 @@ static void make_calls(const char *work) {
         /* READDIRPLUS from the beginning, of as much as there may be: the entries ., .., f4, f64 and f128. */
         uint32_t page[] = {0, 0, 0, 0, 131072, 131072};
         call_size = words(call, begin(call, 17, 2), page, 6), reply_size = 28 + 4 + 88 + 8 + 5 * (4 + 8 + 8 + 8 + 88 + 32) + 8;
+    } else if (strcmp(work, "pages") == 0) {
+        /* The longest reply of READDIRPLUS: of its 65,536 bytes 104 are no entry's, and an entry has 148. */
+        uint32_t page[] = {0, 0, 0, 0, 131072, 131072};
+        call_size = words(call, begin(call, 17, 6), page, 6), reply_size = 28 + 4 + 88 + 8 + 442 * (4 + 8 + 8 + 8 + 88 + 32) + 8;
     } else if (strcmp(work, "missing") == 0) {
         uint32_t name[] = {4, 0x6e6f6e65};
         call_size = words(call, begin(call, 3, 2), name, 2), reply_size = 28 + 4 + 88;
@@ -159,11 +167,18 @@ static void send_calls(Client *c, int client, unsigned depth, unsigned calls) {
     }
 }
 
-static void take(Client *c, int client, const unsigned char *bytes, size_t n, unsigned depth, int echo) {
+/* Adds some bytes of a reply to its sum, without those of its number. */
+static void add(Client *c, const unsigned char *bytes, size_t n) {
+    for (size_t i = 0; i < n; i++)
+        if (c->in + i < 4 || c->in + i >= 8) c->sum = (c->sum ^ bytes[i]) * 1099511628211u;
+}
+
+static void take(Client *c, int client, const unsigned char *bytes, size_t n, unsigned depth, int echo, int alike) {
     while (n > 0) {
         size_t whole = other_size > 0 && c->got % 2 ? reply2_size : reply_size;
         size_t some = whole - c->in < n ? whole - c->in : n;
         for (size_t i = c->in; i < 8 && i < c->in + some; i++) c->head[i] = bytes[i - c->in];
+        if (alike) add(c, bytes, some);
         c->in += some, bytes += some, n -= some;
         uint32_t mark, xid;
         memcpy(&mark, c->head, 4);
@@ -173,6 +188,9 @@ static void take(Client *c, int client, const unsigned char *bytes, size_t n, un
             memcpy(&xid, c->head + 4, 4);
             if (ntohl(xid) != (((uint32_t)client << 20) ^ (c->got & 0xfffff))) fail("a reply to another call");
         }
+        if (alike && c->got == 0) c->first = c->sum;
+        if (alike && c->sum != c->first) fail("a reply unlike the first");
+        c->sum = 0;
         if (measured < TIMES) times[measured++] = now() - c->begun[c->got % depth];
         c->got++, c->in = 0;
     }
@@ -184,8 +202,8 @@ static int by_size(const void *a, const void *b) {
 }
 
 int main(int count, char **w) {
-    if (count < 6) fail("load PORT WORK CLIENTS DEPTH CALLS [echo]");
-    int clients = atoi(w[3]), echo = count > 6, poll = epoll_create1(0), left = clients;
+    if (count < 6) fail("load PORT WORK CLIENTS DEPTH CALLS [echo|alike]");
+    int clients = atoi(w[3]), echo = count > 6 && strcmp(w[6], "echo") == 0, alike = count > 6 && !echo, poll = epoll_create1(0), left = clients;
     unsigned depth = (unsigned)atoi(w[4]), calls = (unsigned)atoi(w[5]);
     static unsigned char in[1 << 18];
     struct sockaddr_in to = {.sin_family = AF_INET, .sin_port = htons((unsigned short)atoi(w[1]))};
@@ -222,7 +240,7 @@ int main(int count, char **w) {
             for (ssize_t got; (got = recv(c->peer, in, sizeof in, 0)) != 0;) {
                 if (got < 0 && errno == EAGAIN) break;
                 if (got < 0) fail("it can't be read");
-                take(c, client, in, (size_t)got, depth, echo);
+                take(c, client, in, (size_t)got, depth, echo, alike);
                 send_calls(c, client, depth, calls);
             }
             if (c->got >= calls) left--, close(c->peer);

@@ -37,6 +37,14 @@ WORK
 [ "$(grep -c '^connection [0-9]* calls=' "$work/served")" -eq 53 ] && [ "$(wc -l <"$work/served")" -eq 54 ]
 ok $? "each connection has its line"
 
+# The longest replies, sixteen under way, and all alike: pages of 442 entries with their files, and 128 KiB of a file.
+{ bench/tree; echo 'dir /e 0777 0 0'; seq 1000 | sed 's|.*|file /e/& 0644 0 0 -|'; } >"$work/tree"
+serving "$work/tree" --connections 8
+"$work/load" "$port" pages 4 16 500 alike >"$work/out" 2>&1
+ok $? "the longest replies of READDIRPLUS, sixteen under way"
+"$work/load" "$port" read128 4 16 500 alike >"$work/out" 2>&1 && server_ends 0
+ok $? "the longest replies of READ, sixteen under way"
+
 # Each client has the rights of its own address, and the times that a call sets are those of the clock.
 compiles touch clients/touch.c
 printf 'server 0102030405060708\nvolume /a 1000000 20 0755 0 0\nexport 127.0.0.2 rw,no_root_squash\n' >"$work/tree"

@@ -1,3 +1,4 @@
 pub mod Places
 pub mod Lines
 pub mod Texts
+pub mod Faults

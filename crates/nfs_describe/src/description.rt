@@ -1,9 +1,10 @@
 //! The description of a tree with its exports.
-ghost use Rattle.std.specs.Prelude.{◌≡◌, ℕ, List, [], ◌++◌, ◌<◌, ◌≤◌, IfOk, OnOk, length};
+ghost use Rattle.std.specs.Prelude.{◌≡◌, ℕ, List, [], ◌++◌, ◌<◌, ◌≤◌, IfOk, IfErr, OnOk, length};
 ghost use Rattle.std.specs.List.{flat_map};
 ghost use Rattle.nfs_describe.specs.Lines.{export_line};
 ghost use Rattle.nfs_describe.specs.Places as spec;
 ghost use Rattle.nfs_describe.specs.Texts.{IsSayableText, Says, SaysSayable, root_text};
+ghost use Rattle.nfs_describe.specs.Faults.{IsNotDescribed, IsNotSayable};
 ghost use Rattle.nfs_inodes.specs.Changes.{with_key};
 ghost use Rattle.nfs_inodes.specs.Reading.{attributes_at};
 ghost use Rattle.nfs_inodes.specs.Views.{volume_seen};
@@ -38,8 +39,9 @@ pub struct Described {
 /// Times are not described, and neither are the mode of a link and the numbers of files.
 ///
 /// `Unsayable` for the first path that a description can't hold, or for the first of a link that
-/// holds what no word says; `TooLong`, `Memory`.
+/// holds what no word says; `TooLong` where the text would have more than 1 GiB; `Memory`.
 pub fn describe(alloc: Global, tree: &Tree, table: &ExportTable) -> Result<Vec<u8>, DescribeFault>
+    ensures fault { IfErr result (IsNotDescribed tree.now table.now) }
     ensures says { IfOk result (λ text. Says tree.now table.now text.items) }
     ensures short { IfOk result (λ text. length text.items ≤ 1073741824) }
 {
@@ -54,13 +56,14 @@ pub fn describe(alloc: Global, tree: &Tree, table: &ExportTable) -> Result<Vec<u
 /// The description of a tree under a key, as `describe` makes it, of all that a description has words
 /// for. A name whose path has none is skipped, and so is one of a link that holds what no word says:
 /// with all that is below it, and alone among the names of its file, whose next one is then its first.
-/// `TooLong`, `Memory`.
+/// `TooLong` where the text would have more than 1 GiB, `Memory`.
 pub fn describe_sayable(
     alloc: Global,
     tree: &Tree,
     table: &ExportTable,
     key: [u8; 8],
 ) -> Result<Described, DescribeFault>
+    ensures fault { IfErr result (IsNotSayable tree.now table.now key) }
     ensures sayable { IfOk result (λ d. SaysSayable tree.now table.now key d.skipped.items d.text.items) }
     ensures whole { IfOk result (λ d. d.skipped.items ≡ [] → Says (with_key tree.now key) table.now d.text.items) }
     ensures short { IfOk result (λ d. length d.text.items ≤ 1073741824) }
@@ -86,7 +89,7 @@ fn put_volume(
     table: &ExportTable,
     place: usize,
     described: &mut Described,
-) -> Result<(), DescribeFault>
+) -> Result<(), AllocError>
     requires { place < length tree.now.volumes }
     ensures { OnOk result ((part : List ℕ) × (more : List spec.Skipped) × IsSayableText tree.now table.now place more part
         × (described.new.text.items ≡ described.old.text.items ++ part) × (described.new.skipped.items ≡ described.old.skipped.items ++ more)) }

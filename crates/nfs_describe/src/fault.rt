@@ -1,6 +1,6 @@
 //! Why a tree isn't described.
 
-use std::alloc::{AllocError, AllocFailed};
+use std::alloc::AllocError;
 use std::fmt;
 use thiserror::Error;
 
@@ -36,13 +36,12 @@ impl fmt::Display for ShownPath {
 }
 
 impl From<AllocError> for DescribeFault {
-    fn from(_error: AllocError) -> DescribeFault {
-        DescribeFault::Memory
-    }
-}
+    ghost use Rattle.std.specs.Prelude.{◌≡◌};
+    ghost use Rattle.nfs_describe.specs.declared.fault.DescribeFault.TheVariants as fault;
 
-impl<T: Drop> From<AllocFailed<T>> for DescribeFault {
-    fn from(_error: AllocFailed<T>) -> DescribeFault {
+    ghost from_gives = { λ _ e. e ≡ fault.Memory };
+
+    fn from(_error: AllocError) -> DescribeFault {
         DescribeFault::Memory
     }
 }

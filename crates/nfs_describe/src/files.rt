@@ -6,7 +6,6 @@ ghost use Rattle.nfs_inodes.specs.Views.{bytes_seen};
 ghost use Rattle.nfs_describe.specs.Lines.{link_line};
 ghost use Rattle.nfs_describe.specs.Texts.{files_text, given_of, kept_name, named_text, node_line, own_text};
 
-use crate::fault::DescribeFault;
 use crate::file_path::FilePath;
 use crate::lines::{put_dir, put_file, put_hard, put_link};
 use nfs_attrs::fattr::Fattr;
@@ -18,13 +17,13 @@ use std::alloc::{AllocError, Global};
 use std::collections::BTreeMap;
 
 /// A line for each place after the root: the file by its first name, and a `hard` line for each
-/// other name. `Memory`.
+/// other name. Refused without memory.
 pub(crate) fn put_files(
     alloc: Global,
     tree: &Tree,
     places: &[FilePath],
     text: &mut Vec<u8>,
-) -> Result<(), DescribeFault>
+) -> Result<(), AllocError>
     ensures { OnOk result (text.new.items ≡ text.old.items ++ files_text tree.now [] places.now) }
 {
     let mut first_names = BTreeMap::new(alloc);
@@ -41,14 +40,14 @@ fn put_place<'a>(
     place: &'a FilePath,
     first_names: &mut BTreeMap<u64, &'a [u8]>,
     text: &mut Vec<u8>,
-) -> Result<(), DescribeFault>
+) -> Result<(), AllocError>
     ensures text { OnOk result (text.new.items ≡ text.old.items ++
         named_text tree.now place.entry.now (kept_name first_names.old.entries place.entry.now.number)) }
     ensures names { OnOk result ((n : ℕ) → kept_name first_names.new.entries n ≡
         option_or (kept_name first_names.old.entries n) (cond (nat_eq place.entry.now.number n) (Some place.entry.now.path) None)) }
 {
     match first_names.get(&place.number.0).copied() {
-        Some(first) => Ok(put_hard(text, place.path.as_slice(), first)?),
+        Some(first) => put_hard(text, place.path.as_slice(), first),
         None => {
             put_own(alloc, tree, place, text)?;
             first_names.insert(place.number.0, place.path.as_slice())?;
@@ -63,7 +62,7 @@ fn put_own(
     tree: &Tree,
     place: &FilePath,
     text: &mut Vec<u8>,
-) -> Result<(), DescribeFault>
+) -> Result<(), AllocError>
     ensures { OnOk result (text.new.items ≡ text.old.items ++ own_text tree.now place.now) }
 {
     let path = place.path.as_slice();
@@ -75,8 +74,8 @@ fn put_own(
         return Ok(());
     };
     match tree.link_path(place.number) {
-        Some(target) => Ok(put_target(path, &file.attributes(), target, text)?),
-        None => Ok(put_node(alloc, path, &file, text)?),
+        Some(target) => put_target(path, &file.attributes(), target, text),
+        None => put_node(alloc, path, &file, text),
     }
 }
 

@@ -7,13 +7,13 @@ ghost use Rattle.nfs_describe.specs.Lines as lines;
 ghost use Rattle.nfs_describe.specs.Places as spec;
 ghost use Rattle.nfs_describe.specs.Places.{IsSayableWalk, lacks_words, sayable_below, skipped_at, skipped_below};
 
-use crate::fault::{DescribeFault, ShownPath};
+use crate::fault::ShownPath;
 use crate::file_path::FilePath;
 use crate::sayable::{is_sayable, is_target};
 use crate::skipped::Skipped;
 use nfs_handles::number::Number;
 use nfs_inodes::tree::Tree;
-use std::alloc::Global;
+use std::alloc::{AllocError, Global};
 
 /// What stands below a root or a directory.
 #[derive(Drop)]
@@ -25,13 +25,14 @@ pub(crate) struct Below {
 }
 
 /// The places below the root of the volume at a place: the root, then what stands in it, then what
-/// stands in each directory of these, and so on, but for what a description can't hold. `Memory`.
+/// stands in each directory of these, and so on, but for what a description can't hold. Refused without
+/// memory.
 pub(crate) fn walk(
     alloc: Global,
     tree: &Tree,
     volume: usize,
     root: Number,
-) -> Result<Below, DescribeFault>
+) -> Result<Below, AllocError>
     ensures walk { IfOk result (λ walk. IsSayableWalk tree.now root.0 walk.places.items) }
     ensures skipped { IfOk result (λ walk. walk.skipped.items ≡ flat_map (skipped_below tree.now volume) walk.places.items) }
 {
@@ -49,7 +50,7 @@ pub(crate) fn walk(
         places.append(&mut below.places)?;
         skipped.append(&mut below.skipped)?;
     }
-    Err(DescribeFault::Memory)
+    Err(AllocError)
 }
 
 // The entries of a directory, in their order; none of another file.
@@ -58,7 +59,7 @@ fn walk_below(
     tree: &Tree,
     volume: usize,
     place: &FilePath,
-) -> Result<Below, DescribeFault>
+) -> Result<Below, AllocError>
     ensures places { IfOk result (λ below. below.places.items ≡ sayable_below tree.now place.now) }
     ensures skipped { IfOk result (λ below. below.skipped.items ≡ skipped_below tree.now volume place.now) }
 {
@@ -82,7 +83,7 @@ fn walk_below(
 
 impl Below {
     // Puts a place after the others that have words, or after those that are skipped.
-    fn put(&mut self, tree: &Tree, volume: usize, place: FilePath) -> Result<(), DescribeFault>
+    fn put(&mut self, tree: &Tree, volume: usize, place: FilePath) -> Result<(), AllocError>
         ensures places { OnOk result (self.new.places.items ≡ self.old.places.items ++ filter (spec.has_words tree.now) (place ∷ [])) }
         ensures skipped { OnOk result (self.new.skipped.items ≡
             self.old.skipped.items ++ map (skipped_at volume) (filter (lacks_words tree.now) (place ∷ []))) }
@@ -117,7 +118,7 @@ fn is_said(tree: &Tree, number: Number) -> bool
 }
 
 // The path of a name in the directory at a place.
-fn path_below(alloc: Global, place: &FilePath, name: &[u8]) -> Result<Vec<u8>, DescribeFault>
+fn path_below(alloc: Global, place: &FilePath, name: &[u8]) -> Result<Vec<u8>, AllocError>
     ensures { IfOk result (λ path. path.items ≡ place.now.path ++ 47 ∷ name.now) }
 {
     let mut path = Vec::new(alloc);

@@ -1,9 +1,9 @@
 //! The lines of denied calls.
-ghost use Rattle.std.specs.Prelude.{◌≡◌, List, ℕ, Option, [], true, false, length, ◌≤◌, OnOk, OnErr};
+ghost use Rattle.std.specs.Prelude.{◌≡◌, ◌⊎◌, List, ℕ, Option, [], true, false, length, ◌≤◌, OnOk, OnErr};
 ghost use Rattle.nfs_lines.specs.Queued.{PutsPart, is_full, put, put_plainly};
 ghost use Rattle.nfs_lines.specs.Wordings.{is_plain};
 ghost use Rattle.nfs_server.specs.AuditLines.{line_text};
-ghost use Rattle.nfs_xdr.specs.Known.{Grows, GrowsByPart};
+ghost use Rattle.nfs_xdr.specs.Known.{Grows, GrowsByPart, StaysFailed};
 
 use crate::line_out::LineOut;
 use crate::line_queue::{LineQueue, MOST_PENDING};
@@ -72,6 +72,7 @@ impl<'a, A: LineOut> DeniedLines<'a, A> {
     /// Passes on what waits, as much as the device takes now.
     pub(crate) fn pass_on(&mut self)
         ensures denied { Grows (put_plainly A.taken self.old.is_plain self.old.queue) [] (put_plainly A.taken self.new.is_plain self.new.queue) }
+        ensures failed { self.old.queue.failed ≡ true → self.new.queue.failed ≡ true }
     {
         self.queue.pass_on();
     }
@@ -80,6 +81,7 @@ impl<'a, A: LineOut> DeniedLines<'a, A> {
     /// has failed, or there is no memory.
     pub(crate) fn report(&mut self, moment: Moment, line: &[u8]) -> bool
         ensures puts { PutsPart A.taken self.new.is_plain line.now result self.old.queue self.new.queue }
+        ensures stays { self.old.queue.failed ≡ true → self.new.queue ≡ self.old.queue }
         ensures plain { self.new.is_plain ≡ self.old.is_plain }
     {
         let as_it_is = self.is_plain || !self.wording.has_times;
@@ -98,6 +100,10 @@ impl<'a, A: LineOut> DeniedLines<'a, A> {
             (put_plainly A.taken self.new.is_plain self.new.queue)) }
         ensures part { OnErr result (GrowsByPart (put_plainly A.taken self.old.is_plain self.old.queue) (line_text denied.now)
             (put_plainly A.taken self.new.is_plain self.new.queue)) }
+        ensures cut { OnErr result (Grows (put_plainly A.taken self.old.is_plain self.old.queue) [] (put_plainly A.taken self.new.is_plain self.new.queue)
+            ⊎ (self.new.queue.failed ≡ true)) }
+        ensures stays { StaysFailed self.old.queue.failed (put_plainly A.taken self.old.is_plain self.old.queue) self.new.queue.failed
+            (put_plainly A.taken self.new.is_plain self.new.queue) }
     {
         let mut line = Line::new();
         denied.put(&mut line);
@@ -113,6 +119,9 @@ impl<'a, A: LineOut> DeniedLines<'a, A> {
         ensures ok { OnOk result (Grows (put_plainly A.taken true self.old.queue) line.now (put_plainly A.taken true self.new.queue)) }
         ensures part { OnErr result (GrowsByPart (put_plainly A.taken true self.old.queue) line.now
             (put_plainly A.taken true self.new.queue)) }
+        ensures cut { OnErr result (Grows (put_plainly A.taken true self.old.queue) [] (put_plainly A.taken true self.new.queue)
+            ⊎ (self.new.queue.failed ≡ true)) }
+        ensures stays { self.old.queue.failed ≡ true → self.new.queue ≡ self.old.queue }
     {
         if self.queue.has_failed() {
             return Err(DeviceFault);
@@ -127,6 +136,8 @@ impl<'a, A: LineOut> DeniedLines<'a, A> {
     fn pass_on_denied(&mut self) -> Result<(), DeviceFault>
         ensures plain { self.new.is_plain ≡ self.old.is_plain }
         ensures put { Grows (put A.taken self.old.queue) [] (put A.taken self.new.queue) }
+        ensures failed { self.old.queue.failed ≡ true → self.new.queue.failed ≡ true }
+        ensures fault { OnErr result (self.new.queue.failed ≡ true) }
     {
         self.queue.pass_on();
         if self.queue.has_failed() {
@@ -143,7 +154,8 @@ impl<'a, A: LineOut> DeniedLines<'a, A> {
         event: Event<'_>,
         server: &Server,
     ) -> Result<(), DeviceFault>
-        ensures { self.new.is_plain ≡ self.old.is_plain }
+        ensures plain { self.new.is_plain ≡ self.old.is_plain }
+        ensures failed { self.old.queue.failed ≡ true → self.new.queue.failed ≡ true }
     {
         if self.wording.skips(denied.reason) {
             return Ok(());
@@ -159,7 +171,8 @@ impl<'a, A: LineOut> DeniedLines<'a, A> {
 
     // What becomes of a denied call whose line isn't written.
     fn count(&mut self) -> Result<(), DeviceFault>
-        ensures { self.new.is_plain ≡ self.old.is_plain }
+        ensures plain { self.new.is_plain ≡ self.old.is_plain }
+        ensures queue { self.new.queue ≡ self.old.queue }
     {
         match self.wording.when_failed {
             WhenFailed::Refuse => Err(DeviceFault),
@@ -172,7 +185,8 @@ impl<'a, A: LineOut> DeniedLines<'a, A> {
 
     // Puts a line with the names that belong to it, where these are asked for.
     fn word(&mut self, line: &[u8], event: Event<'_>, server: &Server) -> Result<(), AllocError>
-        ensures { self.new.is_plain ≡ self.old.is_plain }
+        ensures plain { self.new.is_plain ≡ self.old.is_plain }
+        ensures failed { self.new.queue.failed ≡ self.old.queue.failed }
     {
         if !self.wording.has_names {
             return self.put_in_words(event.moment, line);
@@ -187,7 +201,8 @@ impl<'a, A: LineOut> DeniedLines<'a, A> {
 
     // Puts a line, after its moment where that is asked for.
     fn put_in_words(&mut self, moment: Moment, line: &[u8]) -> Result<(), AllocError>
-        ensures { self.new.is_plain ≡ self.old.is_plain }
+        ensures plain { self.new.is_plain ≡ self.old.is_plain }
+        ensures failed { self.new.queue.failed ≡ self.old.queue.failed }
     {
         self.queue.put_line(!self.wording.has_times, moment, line)
     }
@@ -197,6 +212,8 @@ impl<A: LineOut> AuditOut for DeniedLines<'_, A> {
     ghost contents = { λ l. put_plainly A.taken l.is_plain l.queue };
 
     ghost failed = { λ l. l.was_refused };
+
+    ghost broken = { λ l. l.queue.failed };
 
     ghost full = { λ l. is_full l.queue };
 

@@ -100,7 +100,8 @@ impl<D: LineOut> LineQueue<D> {
     /// Passes lines on, as much as the device takes now; none where it has failed. What was put
     /// stays what was put.
     pub fn pass_on(&mut self)
-        ensures { Grows (put D.taken self.old) [] (put D.taken self.new) }
+        ensures grows { Grows (put D.taken self.old) [] (put D.taken self.new) }
+        ensures failed { self.old.failed ≡ true → self.new.failed ≡ true }
     {
         if self.ended || self.sent == self.lines.len() {
             return;
@@ -126,7 +127,8 @@ impl<D: LineOut> LineQueue<D> {
     /// takes it now. It is not where the queue is full, the device fails or has failed, or there is no
     /// memory.
     pub fn report(&mut self, as_it_is: bool, moment: Moment, line: &[u8]) -> bool
-        ensures { PutsPart D.taken as_it_is line.now result self.old self.new }
+        ensures puts { PutsPart D.taken as_it_is line.now result self.old self.new }
+        ensures stays { self.old.failed ≡ true → self.new ≡ self.old }
     {
         if self.ended || self.pending() >= MOST_PENDING {
             return false;

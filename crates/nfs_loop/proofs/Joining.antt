@@ -7,7 +7,7 @@ use Rattle.nfs_exports.specs.declared.addr.Addr.{Addr}
 use Rattle.nfs_loop.specs.Peers.{IsAddrOf}
 use Rattle.nfs_loop.specs.declared.member.Member.{Member}
 use Rattle.nfs_loop.specs.Told.{Told, came, Hears, Accounts}
-use Rattle.nfs_loop.specs.Stages.{stage, state, seat_of, Goes, JoinsOrNot}
+use Rattle.nfs_loop.specs.Stages.{stage, state, seat_of, Goes, JoinsOrNot, WithoutTurns}
 use Rattle.nfs_loop.proofs.Telling.{accounts_then, accounts_one}
 use Rattle.nfs_loop.proofs.Changing.{nothing}
 use Rattle.nfs_server.specs.Connections.{IsAtStart}
@@ -18,7 +18,7 @@ use Rattle.nfs_xdr.specs.Known.{Grows}
 
 module _ {L : Type 0} (outgoing incoming : L → Option (List ℕ)) where
   pub joined_by : (told heard hears : Option (List Told)) (key : ℕ) (peer : IpAddr) (old new : Slab (Member L)) (joined now : ℕ) → Hears told (came key peer) heard → Accounts heard [] hears → JoinsOrNot key peer old joined new now
-      → (server : Held) (lines : Written) → Goes outgoing incoming (λ changes. Accounts told changes hears) (stage server old joined lines) (stage server new now lines)
+      → (server : Held) (lines : Written) → Goes outgoing incoming (λ changes. WithoutTurns told changes hears) (stage server old joined lines) (stage server new now lines)
   joined_by told heard hears key peer old new joined now hear more (inl not) server lines =
       nothing outgoing incoming told hears server old new joined now lines not.0 not.1 (accounts_then told heard hears [] [] (accounts_one told heard (came key peer) hear) more)
   joined_by told heard hears key peer old new joined now hear more (inr j) server lines = record {
@@ -38,17 +38,18 @@ module _ {L : Type 0} (outgoing incoming : L → Option (List ℕ)) where
         server_stays = refl;
         log_stays = refl;
         lines_stay = refl;
+        broken_stays = refl;
         complete_stays = refl;
       },
     );
     shared_stays = refl;
-    such = accounts_then told heard hears (joins key now j.member.client.connection.addr ∷ []) [] (λ before e. (came key peer ∷ [], hear before e, ([], [], record { peer = peer; addr_is = j.addr_is; told = refl }, tt))) more;
+    such = (refl, accounts_then told heard hears (joins key now j.member.client.connection.addr ∷ []) [] (λ before e. (came key peer ∷ [], hear before e, ([], [], record { peer = peer; addr_is = j.addr_is; told = refl }, tt))) more);
   }
 
   -- one leaves that had no turn
   pub left_by : (told heard : Option (List Told)) (server : Held) (key : ℕ) (member : Member L) (old new : Slab (Member L)) (joined : ℕ) (w v : Written) → get old key ≡ Some member → Updates old new key None → Accounts told [] heard
       → (by : End) × LeavesBy member.client by × Reported (end_text member.number member.client.calls by) w v
-      → Goes outgoing incoming (λ changes. Accounts told changes heard) (stage server old joined w) (stage server new joined v)
+      → Goes outgoing incoming (λ changes. WithoutTurns told changes heard) (stage server old joined w) (stage server new joined v)
   left_by told heard server key member old new joined w v was away accounts (by, ended, reported) = record {
     changes = leaves key member.number member.client.calls by ∷ [];
     are_changes = (
@@ -65,13 +66,14 @@ module _ {L : Type 0} (outgoing incoming : L → Option (List ℕ)) where
         whole = reported.whole;
         lines_grow = reported.lines_grow;
         log_grows = subst (λ (s : Bool). Grows w.log (if s then take reported.n (end_text member.number member.client.calls by) else []) v.log) reported.shared_stays reported.log_grows;
+        log_stays = reported.log_stays;
         others = λ other differ. ap (option_map seat_of) (away.others other differ);
         joined_stays = refl;
         server_stays = refl;
       },
     );
     shared_stays = reported.shared_stays;
-    such = accounts;
+    such = (refl, accounts);
   }
 
 -- a new member has joined

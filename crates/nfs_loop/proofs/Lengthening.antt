@@ -6,7 +6,7 @@ use Rattle.std.proofs.lemmas.List.Folds.{list_any-append}
 use Rattle.slab.specs.Slab.{Slab, get}
 use Rattle.nfs_queue.specs.Queues.{is_waiting, with_ready}
 use Rattle.nfs_loop.specs.declared.watches.Hold.{Hold}
-use Rattle.nfs_loop.specs.Told.{Told, ready, came, at, since, Hears, Accounts}
+use Rattle.nfs_loop.specs.Told.{Told, ready, listener_ready, nothing_ready, came, at, since, Hears, Accounts}
 use Rattle.nfs_loop.specs.Stages.{Longer, IsNoted, Notes, noted}
 
 pub longer_none : (queue : List ℕ) → Longer queue queue
@@ -40,6 +40,8 @@ module _ {M : Type 0} (members : Slab M) (holds : List (Option Hold)) where
   noted_on (ready key) queue added (inl none) = inl none
   noted_on (ready key) queue added (inr (inl held)) = inr (inl held)
   noted_on (ready key) queue added (inr (inr waits)) = inr (inr (waits_on key queue added waits))
+  noted_on listener_ready queue added n = tt
+  noted_on nothing_ready queue added n = tt
   noted_on (came key peer) queue added n = tt
   noted_on (at moment) queue added n = tt
   noted_on (since millis) queue added n = tt
@@ -63,8 +65,13 @@ module _ {M : Type 0} (members : Slab M) (holds : List (Option Hold)) where
   pub notes_none : (queue : List ℕ) (told : Option (List Told)) → Notes members holds queue queue told told
   notes_none queue told = record { added = []; after = sym (append-nil queue); all_noted = λ before e. ([], e, tt) }
 
-  pub notes_same : (old queue : List ℕ) (told heard hears : Option (List Told)) → Notes members holds old queue told heard → hears ≡ heard → Notes members holds old queue told hears
-  notes_same old queue told heard hears n same = subst (Notes members holds old queue told) (sym same) n
+  -- more is told, of no client
+  pub notes_more : (t : Told) (old queue : List ℕ) (told heard hears : Option (List Told)) → IsNoted members holds queue t → Notes members holds old queue told heard → Hears heard t hears → Notes members holds old queue told hears
+  notes_more t old queue told heard hears is n hear = record {
+    added = n.added;
+    after = n.after;
+    all_noted = λ before known. let m = n.all_noted before known in (t ∷ m.0, hear (m.0 ++ before) m.1, (is, m.2));
+  }
 
   pub notes_on : (key : ℕ) (old queue now : List ℕ) (told heard hears : Option (List Told)) → Notes members holds old queue told heard → now ≡ noted (get members key) (slice_index_or holds key None) key queue → Hears heard (ready key) hears → Notes members holds old now told hears
   notes_on key old queue now told heard hears n e hear =

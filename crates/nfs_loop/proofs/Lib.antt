@@ -4,3 +4,6 @@ pub mod Changing
 pub mod Turning
 pub mod Rounding
 pub mod Joining
+pub mod Passing
+pub mod Asking
+pub mod Leaving

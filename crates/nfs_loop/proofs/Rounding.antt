@@ -3,15 +3,9 @@ use Rattle.std.proofs.Common.{◌≡◌, ℕ, ◌-◌, ◌<◌, List, [], ◌∷
 use Rattle.nfs_loop.specs.Told.{Told, Accounts}
 use Rattle.nfs_loop.specs.Stages.{Stage, turned, TurnsFirst, InRound, Goes}
 use Rattle.nfs_loop.proofs.Telling.{accounts_then, accounts_none}
-use Rattle.nfs_loop.proofs.Changing.{both_change}
-use Rattle.nfs_serving.specs.Service.{Seat, Change, joins, turns, leaves, passes}
-
-turned_then : (earlier later : List Change) → turned (later ++ earlier) ≡ turned earlier ++ turned later
-turned_then earlier [] = sym (append-nil (turned earlier))
-turned_then earlier (joins key number addr ∷ later) = turned_then earlier later
-turned_then earlier (turns key moment bytes ∷ later) = ap (λ l. l ++ key ∷ []) (turned_then earlier later) ∙ append_assoc (turned earlier) (turned later) (key ∷ [])
-turned_then earlier (leaves key number calls end ∷ later) = turned_then earlier later
-turned_then earlier (passes ∷ later) = turned_then earlier later
+use Rattle.nfs_loop.proofs.Changing.{both_change, turned_then}
+use Rattle.nfs_xdr.specs.declared.link.Came.{Came}
+use Rattle.nfs_serving.specs.Service.{Seat, Change}
 
 round_begins : (queue : List ℕ) → InRound queue queue (length queue) []
 round_begins queue = record { rest = queue; again = []; first_is = refl; queue_is = sym (append-nil queue); left_is = refl }
@@ -30,10 +24,10 @@ none_left left e l = omega (arith, e, l)
 one_less : (rest : List ℕ) (key left : ℕ) → length (key ∷ rest) ≡ left → length rest ≡ left - 1
 one_less rest key left e = omega (arith, e)
 
-step : {L : Type 0} (seat : ℕ → Option (Seat L)) (first queue now rest again : List ℕ) (left : ℕ) (changes later : List Change) → first ≡ turned changes ++ rest → queue ≡ rest ++ again → length rest ≡ left → 0 < left → TurnsFirst seat queue later now → InRound first now (left - 1) (later ++ changes)
-step seat first queue now [] again left changes later f q l some t = absurd (none_left left l some)
-step seat first queue now (key ∷ rest) again left changes later f q l some t =
-    let s : TurnsFirst seat (key ∷ (rest ++ again)) later now = subst (λ x. TurnsFirst seat x later now) q t in
+step : {L : Type 0} (incoming : L → Option (List ℕ)) (reports : L → ℕ → Came → L → Type 0) (seat : ℕ → Option (Seat L)) (first queue now rest again : List ℕ) (left : ℕ) (changes later : List Change) → first ≡ turned changes ++ rest → queue ≡ rest ++ again → length rest ≡ left → 0 < left → TurnsFirst incoming reports seat queue later now → InRound first now (left - 1) (later ++ changes)
+step incoming reports seat first queue now [] again left changes later f q l some t = absurd (none_left left l some)
+step incoming reports seat first queue now (key ∷ rest) again left changes later f q l some t =
+    let s : TurnsFirst incoming reports seat (key ∷ (rest ++ again)) later now = subst (λ x. TurnsFirst incoming reports seat x later now) q t in
     record {
       rest = rest;
       again = again ++ s.1.0;
@@ -48,14 +42,14 @@ done first (key ∷ rest) changes f l = absurd (none_left (length (key ∷ rest)
 
 module _ {L : Type 0} (outgoing incoming : L → Option (List ℕ)) (first queue : List ℕ) (left : ℕ) (told heard : Option (List Told)) (old mid : Stage L)
     (before : Goes outgoing incoming (λ changes. InRound first queue left changes × Accounts told changes heard) old mid) where
-  pub round_on : (seat : ℕ → Option (Seat L)) (now : List ℕ) (hears : Option (List Told)) (new : Stage L) → 0 < left → Goes outgoing incoming (λ changes. TurnsFirst seat queue changes now × Accounts heard changes hears) mid new
+  pub round_on : (reports : L → ℕ → Came → L → Type 0) (seat : ℕ → Option (Seat L)) (now : List ℕ) (hears : Option (List Told)) (new : Stage L) → 0 < left → Goes outgoing incoming (λ changes. TurnsFirst incoming reports seat queue changes now × Accounts heard changes hears) mid new
       → Goes outgoing incoming (λ changes. InRound first now (left - 1) changes × Accounts told changes hears) old new
-  round_on seat now hears new some turn = record {
+  round_on reports seat now hears new some turn = record {
     changes = turn.changes ++ before.changes;
-    are_changes = both_change outgoing incoming (λ changes. InRound first queue left changes × Accounts told changes heard) (λ changes. TurnsFirst seat queue changes now × Accounts heard changes hears) old mid new before turn;
+    are_changes = both_change outgoing incoming (λ changes. InRound first queue left changes × Accounts told changes heard) (λ changes. TurnsFirst incoming reports seat queue changes now × Accounts heard changes hears) old mid new before turn;
     shared_stays = turn.shared_stays ∙ before.shared_stays;
     such = (
-      step seat first queue now before.such.0.rest before.such.0.again left before.changes turn.changes before.such.0.first_is before.such.0.queue_is before.such.0.left_is some turn.such.0,
+      step incoming reports seat first queue now before.such.0.rest before.such.0.again left before.changes turn.changes before.such.0.first_is before.such.0.queue_is before.such.0.left_is some turn.such.0,
       accounts_then told heard hears before.changes turn.changes before.such.1 turn.such.1,
     );
   }
@@ -67,7 +61,3 @@ module _ {L : Type 0} (outgoing incoming : L → Option (List ℕ)) (first queue
     shared_stays = before.shared_stays;
     such = (done first before.such.0.rest before.changes before.such.0.first_is (before.such.0.left_is ∙ none), before.such.1);
   }
-
--- a round, as changes
-pub round_as : {L : Type 0} (outgoing incoming : L → Option (List ℕ)) (a b : Option (List Told)) (queue : List ℕ) (old new : Stage L) → Goes outgoing incoming (λ changes. (turned changes ≡ queue) × Accounts a changes b) old new → Goes outgoing incoming (λ changes. Accounts a changes b) old new
-round_as outgoing incoming a b queue old new g = record { changes = g.changes; are_changes = g.are_changes; shared_stays = g.shared_stays; such = g.such.1 }

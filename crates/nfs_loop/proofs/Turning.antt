@@ -14,35 +14,36 @@ use Rattle.nfs_server.specs.Fits.{Held}
 use Rattle.nfs_serving.specs.Service.{Seat, ServiceState, Change, turns, leaves, LeavesBy, end_text}
 use Rattle.nfs_serving.specs.Turns.{Standing, Turns}
 use Rattle.nfs_serving.specs.declared.turn.End.{End}
-use Rattle.nfs_xdr.specs.Known.{Grows}
+use Rattle.nfs_xdr.specs.Known.{Grows, StaysFailed}
+use Rattle.nfs_xdr.specs.declared.link.Came.{Came}
 
 not_same : (a b : ℕ) (t : Bool) → nat_eq a b ≡ t → a ≢ b → nat_eq a b ≡ false
 not_same a b true e differ = absurd (differ (eqb-true a b e))
 not_same a b false e differ = e
 
 -- the queue after a turn
-queue_after : {L : Type 0} (key : ℕ) (rest queue : List ℕ) (waits : Bool) (seat : Option (Seat L)) → queue ≡ with_key waits key rest → (waits ≡ false → Sleeps seat) → (again : List ℕ) × (queue ≡ rest ++ again) × IsAgain key again seat
-queue_after key rest queue true seat e sleeps = (key ∷ [], e, inl refl)
-queue_after key rest queue false seat e sleeps = ([], e ∙ sym (append-nil rest), inr (refl, sleeps refl))
+queue_after : {L : Type 0} (incoming : L → Option (List ℕ)) (reports : L → ℕ → Came → L → Type 0) (key : ℕ) (rest queue : List ℕ) (waits : Bool) (seat : Option (Seat L)) → queue ≡ with_key waits key rest → (waits ≡ false → Sleeps incoming reports seat) → (again : List ℕ) × (queue ≡ rest ++ again) × IsAgain incoming reports key again seat
+queue_after incoming reports key rest queue true seat e sleeps = (key ∷ [], e, inl refl)
+queue_after incoming reports key rest queue false seat e sleeps = ([], e ∙ sym (append-nil rest), inr (refl, sleeps refl))
 
 -- a member as it comes back from its turn
 abbrev pub with_client : {L : Type 0} → Member L → Standing L → Member L
 with_client m now = record { client = now; number = m.number; peer = m.peer; addr = m.addr }
 
-module _ {L : Type 0} (outgoing incoming : L → Option (List ℕ)) (moment : Moment) (old mid : Waiting (Member L)) (key : ℕ) (member : Member L) (c : IsCalled old mid key member)
-    (server served : Held) (joined : ℕ) (w v : Written) (shared : v.shared ≡ w.shared) (lines : v.lines ≡ w.lines) (complete : v.complete ≡ w.complete)
+module _ {L : Type 0} (outgoing incoming : L → Option (List ℕ)) (reports : L → ℕ → Came → L → Type 0) (moment : Moment) (old mid : Waiting (Member L)) (key : ℕ) (member : Member L) (c : IsCalled old mid key member)
+    (server served : Held) (joined : ℕ) (w v : Written) (stays : StaysFailed w.broken w.log v.broken v.log) (shared : v.shared ≡ w.shared) (lines : v.lines ≡ w.lines) (complete : v.complete ≡ w.complete)
     (told first heard : Option (List Told)) (before : Accounts told [] first) (hear : Hears first (at moment) heard)
     (now : Standing L) (turn : Turns outgoing incoming moment member.client now server served (device w.log v.log)) where
   turn_told : Accounts told (turns key moment turn.0 ∷ []) heard
   turn_told = accounts_then told first heard [] (turns key moment turn.0 ∷ []) before (λ news e. (at moment ∷ [], hear news e, ([], [], refl, tt)))
 
-  first_turns : (seat : ℕ → Option (Seat L)) (changes : List Change) (queue : List ℕ) → turned changes ≡ key ∷ [] → (again : List ℕ) × (queue ≡ mid.1.0 ++ again) × IsAgain key again (seat key) → TurnsFirst seat old.1.0 changes queue
-  first_turns seat changes queue e again = subst (λ q. TurnsFirst seat q changes queue) (sym c.first) (e, again)
+  first_turns : (seat : ℕ → Option (Seat L)) (changes : List Change) (queue : List ℕ) → turned changes ≡ key ∷ [] → (again : List ℕ) × (queue ≡ mid.1.0 ++ again) × IsAgain incoming reports key again (seat key) → TurnsFirst incoming reports seat old.1.0 changes queue
+  first_turns seat changes queue e again = subst (λ q. TurnsFirst incoming reports seat q changes queue) (sym c.first) (e, again)
 
   -- it comes back
   pub comes_back : (new : Waiting (Member L)) (waits : Bool) → Updates mid.0 new.0 key (Some (with_client member now)) → new.1.0 ≡ with_key waits key mid.1.0
-      → (waits ≡ false → Sleeps (Some (seat_of (with_client member now))))
-      → Goes outgoing incoming (λ changes. TurnsFirst (seats new.0) old.1.0 changes new.1.0 × Accounts told changes heard) (stage server old.0 joined w) (stage served new.0 joined v)
+      → (waits ≡ false → Sleeps incoming reports (Some (seat_of (with_client member now))))
+      → Goes outgoing incoming (λ changes. TurnsFirst incoming reports (seats new.0) old.1.0 changes new.1.0 × Accounts told changes heard) (stage server old.0 joined w) (stage served new.0 joined v)
   comes_back new waits back queue sleeps = record {
     changes = turns key moment turn.0 ∷ [];
     are_changes = (
@@ -55,6 +56,7 @@ module _ {L : Type 0} (outgoing incoming : L → Option (List ℕ)) (moment : Mo
         sat = ap (option_map seat_of) c.was;
         sits = ap (option_map seat_of) back.changed;
         turn = turn.1;
+        log_stays = stays;
         others = λ other differ. ap (option_map seat_of) (back.others other differ ∙ c.away.others other differ);
         joined_stays = refl;
         lines_stay = lines;
@@ -62,7 +64,7 @@ module _ {L : Type 0} (outgoing incoming : L → Option (List ℕ)) (moment : Mo
       },
     );
     shared_stays = shared;
-    such = (first_turns (seats new.0) (turns key moment turn.0 ∷ []) new.1.0 refl (queue_after key mid.1.0 new.1.0 waits (seats new.0 key) queue (λ e. subst Sleeps (sym (ap (option_map seat_of) back.changed)) (sleeps e))), turn_told);
+    such = (first_turns (seats new.0) (turns key moment turn.0 ∷ []) new.1.0 refl (queue_after incoming reports key mid.1.0 new.1.0 waits (seats new.0 key) queue (λ e. subst (Sleeps incoming reports) (sym (ap (option_map seat_of) back.changed)) (sleeps e))), turn_told);
   }
 
   -- it leaves
@@ -70,7 +72,7 @@ module _ {L : Type 0} (outgoing incoming : L → Option (List ℕ)) (moment : Mo
   seats_between k = if nat_eq k key then Some (record { number = member.number; client = now }) else seats old.0 k
 
   abbrev between : ServiceState L
-  between = record { server = served; seat = seats_between; joined = joined; log = v.log; lines = v.lines; complete = v.complete }
+  between = record { server = served; seat = seats_between; joined = joined; log = v.log; lines = v.lines; broken = v.broken; complete = v.complete }
 
   there : seats_between key ≡ Some (record { number = member.number; client = now })
   there = ap (λ (t : Bool). if t then Some (record { number = member.number; client = now }) else seats old.0 key) (eq-eqb key key refl)
@@ -79,7 +81,7 @@ module _ {L : Type 0} (outgoing incoming : L → Option (List ℕ)) (moment : Mo
   elsewhere other differ = ap (λ (t : Bool). if t then Some (record { number = member.number; client = now }) else seats old.0 other) (not_same other key (nat_eq other key) refl differ)
 
   pub goes_away : (u : Written) (last : Option (List Told)) → Accounts heard [] last → (by : End) × LeavesBy now by × Reported (end_text member.number now.calls by) v u
-      → Goes outgoing incoming (λ changes. TurnsFirst (seats mid.0) old.1.0 changes mid.1.0 × Accounts told changes last) (stage server old.0 joined w) (stage served mid.0 joined u)
+      → Goes outgoing incoming (λ changes. TurnsFirst incoming reports (seats mid.0) old.1.0 changes mid.1.0 × Accounts told changes last) (stage server old.0 joined w) (stage served mid.0 joined u)
   goes_away u last rest (by, ended, reported) = record {
     changes = leaves key member.number now.calls by ∷ turns key moment turn.0 ∷ [];
     are_changes = (
@@ -94,6 +96,7 @@ module _ {L : Type 0} (outgoing incoming : L → Option (List ℕ)) (moment : Mo
           sat = ap (option_map seat_of) c.was;
           sits = there;
           turn = turn.1;
+          log_stays = stays;
           others = elsewhere;
           joined_stays = refl;
           lines_stay = lines;
@@ -111,6 +114,7 @@ module _ {L : Type 0} (outgoing incoming : L → Option (List ℕ)) (moment : Mo
         whole = reported.whole;
         lines_grow = reported.lines_grow;
         log_grows = subst (λ (s : Bool). Grows v.log (if s then take reported.n (end_text member.number now.calls by) else []) u.log) (reported.shared_stays ∙ shared) reported.log_grows;
+        log_stays = reported.log_stays;
         others = λ other differ. ap (option_map seat_of) (c.away.others other differ) ∙ sym (elsewhere other differ);
         joined_stays = refl;
         server_stays = refl;
@@ -118,7 +122,7 @@ module _ {L : Type 0} (outgoing incoming : L → Option (List ℕ)) (moment : Mo
     );
     shared_stays = reported.shared_stays ∙ shared;
     such = (
-      first_turns (seats mid.0) (leaves key member.number now.calls by ∷ turns key moment turn.0 ∷ []) mid.1.0 refl ([], sym (append-nil mid.1.0), inr (refl, subst Sleeps (sym (ap (option_map seat_of) c.away.changed)) tt)),
+      first_turns (seats mid.0) (leaves key member.number now.calls by ∷ turns key moment turn.0 ∷ []) mid.1.0 refl ([], sym (append-nil mid.1.0), inr (refl, subst (Sleeps incoming reports) (sym (ap (option_map seat_of) c.away.changed)) tt)),
       accounts_then told heard last (leaves key member.number now.calls by ∷ turns key moment turn.0 ∷ []) [] turn_told rest,
     );
   }

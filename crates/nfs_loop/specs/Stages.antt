@@ -1,18 +1,20 @@
 -- What a service is, and what its turns bring.
-use Rattle.std.specs.Prelude.{◌≡◌, ◌≢◌, ◌⊎◌, ℕ, ◌+◌, Bool, true, List, [], ◌∷◌, ◌++◌, length, Option, Some, None, IsSome, option_map, slice_index_or}
+use Rattle.std.specs.Prelude.{◌≡◌, ◌≢◌, ◌⊎◌, ℕ, ◌+◌, ◌/◌, ◌<◌, Bool, true, List, [], ◌∷◌, ◌++◌, length, Option, Some, None, IsSome, option_map, slice_index_or}
 use Rattle.std.specs.List.{AllByRecursion}
 use Rattle.std.specs.declared.net.ip_addr.IpAddr.{IpAddr}
 use Rattle.slab.specs.Slab.{Slab, get, Updates, SameValues}
 use Rattle.nfs_attrs.specs.declared.moment.Moment.{Moment}
 use Rattle.nfs_lines.specs.Written.{Written}
 use Rattle.nfs_loop.specs.Peers.{IsAddrOf}
-use Rattle.nfs_loop.specs.Told.{Told, ready, came, at, since, Accounts}
+use Rattle.nfs_loop.specs.Told.{Told, ready, listener_ready, nothing_ready, came, at, since, Hears, Accounts}
 use Rattle.nfs_loop.specs.declared.member.Member.{Member}
 use Rattle.nfs_loop.specs.declared.watches.Hold.{Hold}
 use Rattle.nfs_queue.specs.Queues.{is_waiting, with_ready}
 use Rattle.nfs_server.specs.Fits.{Held, History}
 use Rattle.nfs_serving.specs.Service.{Seat, ServiceState, IsNew, Change, joins, turns, leaves, passes, AreChanges, IsOneHistory}
+use Rattle.nfs_serving.specs.Outgoing.{IsExhausted}
 use Rattle.nfs_serving.specs.Turns.{IsHeld}
+use Rattle.nfs_xdr.specs.declared.link.Came.{Came}
 
 abbrev pub seat_of : {L : Type 0} → Member L → Seat L
 seat_of m = record { number = m.number; client = m.client }
@@ -31,7 +33,7 @@ abbrev pub stage : {L : Type 0} → Held → Slab (Member L) → ℕ → Written
 stage server members joined written = record { server = server; members = members; joined = joined; written = written }
 
 abbrev pub state : {L : Type 0} → Stage L → ServiceState L
-state s = record { server = s.server; seat = seats s.members; joined = s.joined; log = s.written.log; lines = s.written.lines; complete = s.written.complete }
+state s = record { server = s.server; seat = seats s.members; joined = s.joined; log = s.written.log; lines = s.written.lines; broken = s.written.broken; complete = s.written.complete }
 
 -- the keys of those that had turns, in their order
 abbrev pub turned : List Change → List ℕ
@@ -41,19 +43,25 @@ turned (turns key moment bytes ∷ earlier) = turned earlier ++ key ∷ []
 turned (leaves key number calls end ∷ earlier) = turned earlier
 turned (passes ∷ earlier) = turned earlier
 
--- whoever has its turn and stays sleeps only where it is owed an event or room for lines: replies are pending that the link did not take, all that was received was taken, or its next record is held
-abbrev pub Sleeps : {L : Type 0} → Option (Seat L) → Type 0
-Sleeps None = Unit {0}
-Sleeps (Some seat) = (seat.client.channel.pending ≢ []) ⊎ ((seat.client.chunk ≡ []) ⊎ ((moment : Moment) × (server : Held) × (full : Bool) × IsHeld moment seat.client server full))
+-- Whoever has its turn and stays sleeps only where it is owed an event or room for lines: replies are pending that the link did not take; all that was received was taken, and the link reported that nothing more was there; or its next record is held.
+abbrev pub Sleeps : {L : Type 0} → (L → Option (List ℕ)) → (L → ℕ → Came → L → Type 0) → Option (Seat L) → Type 0
+Sleeps incoming reports None = Unit {0}
+Sleeps incoming reports (Some seat) = (seat.client.channel.pending ≢ [])
+    ⊎ (((seat.client.chunk ≡ []) × IsExhausted incoming reports seat.client.channel.link)
+    ⊎ ((moment : Moment) × (server : Held) × (full : Bool) × IsHeld moment seat.client server full))
 
 -- it waits again, or it sleeps
-abbrev pub IsAgain : {L : Type 0} → ℕ → List ℕ → Option (Seat L) → Type 0
-IsAgain key again seat = (again ≡ key ∷ []) ⊎ ((again ≡ []) × Sleeps seat)
+abbrev pub IsAgain : {L : Type 0} → (L → Option (List ℕ)) → (L → ℕ → Came → L → Type 0) → ℕ → List ℕ → Option (Seat L) → Type 0
+IsAgain incoming reports key again seat = (again ≡ key ∷ []) ⊎ ((again ≡ []) × Sleeps incoming reports seat)
 
 -- The first of the queue has its turn. It may wait again then, after all others.
-abbrev pub TurnsFirst : {L : Type 0} → (ℕ → Option (Seat L)) → List ℕ → List Change → List ℕ → Type 0
-TurnsFirst seat [] changes queue = (changes ≡ []) × (queue ≡ [])
-TurnsFirst seat (key ∷ rest) changes queue = (turned changes ≡ key ∷ []) × ((again : List ℕ) × (queue ≡ rest ++ again) × IsAgain key again (seat key))
+abbrev pub TurnsFirst : {L : Type 0} → (L → Option (List ℕ)) → (L → ℕ → Came → L → Type 0) → (ℕ → Option (Seat L)) → List ℕ → List Change → List ℕ → Type 0
+TurnsFirst incoming reports seat [] changes queue = (changes ≡ []) × (queue ≡ [])
+TurnsFirst incoming reports seat (key ∷ rest) changes queue = (turned changes ≡ key ∷ []) × ((again : List ℕ) × (queue ≡ rest ++ again) × IsAgain incoming reports key again (seat key))
+
+-- changes by what was told in between, in which nobody has a turn
+abbrev pub WithoutTurns : Option (List Told) → List Change → Option (List Told) → Type 0
+WithoutTurns told changes heard = (turned changes ≡ []) × Accounts told changes heard
 
 -- such changes lead from one stage to the other
 pub record Goes {L : Type 0} (outgoing incoming : L → Option (List ℕ)) (Such : List Change → Type 0) (old new : Stage L) : Type 0 where
@@ -74,12 +82,6 @@ pub record InRound (first queue : List ℕ) (left : ℕ) (changes : List Change)
 pub record Longer (old new : List ℕ) : Type 0 where
   pub added : List ℕ
   pub after : new ≡ old ++ added
-
--- what changed, by what was told, is one history and one log, and each client is served as if it were alone
-pub record Lived {L : Type 0} (outgoing incoming : L → Option (List ℕ)) (history : History) (told heard : Option (List Told)) (old new : Stage L) : Type 0 where
-  pub changes : List Change
-  pub one_history : IsOneHistory outgoing incoming old.written.shared history changes (state old) (state new)
-  pub accounts : Accounts told changes heard
 
 -- a client of this peer has joined under a key, after so many others
 pub record HasJoined {L : Type 0} (key : ℕ) (peer : IpAddr) (old : Slab (Member L)) (joined : ℕ) (new : Slab (Member L)) (now : ℕ) : Type 0 where
@@ -102,6 +104,8 @@ noted member (Some hold) key queue = queue
 -- whoever was reported ready waits, or gets no turn for now, or is not there
 abbrev pub IsNoted : {M : Type 0} → Slab M → List (Option Hold) → List ℕ → Told → Type 0
 IsNoted members holds queue (ready key) = (get members key ≡ None) ⊎ (IsSome (slice_index_or holds key None) ⊎ (is_waiting key queue ≡ true))
+IsNoted members holds queue listener_ready = Unit {0}
+IsNoted members holds queue nothing_ready = Unit {0}
 IsNoted members holds queue (came key peer) = Unit {0}
 IsNoted members holds queue (at moment) = Unit {0}
 IsNoted members holds queue (since millis) = Unit {0}
@@ -111,3 +115,71 @@ pub record Notes {M : Type 0} (members : Slab M) (holds : List (Option Hold)) (o
   pub added : List ℕ
   pub after : new ≡ old ++ added
   pub all_noted : (before : List Told) → told ≡ Some before → (news : List Told) × (heard ≡ Some (news ++ before)) × AllByRecursion (IsNoted members holds new) news
+
+-- the newest that was told is that nothing more is ready, or so much was told
+abbrev pub IsAsked : ℕ → List Told → Type 0
+IsAsked most [] = most ≡ 0
+IsAsked most (t ∷ earlier) = (t ≡ nothing_ready) ⊎ (length (t ∷ earlier) ≡ most)
+
+-- it was asked what is ready until nothing more was, or so many times
+abbrev pub AsksAll : ℕ → Option (List Told) → Option (List Told) → Type 0
+AsksAll most told heard = (before : List Told) → told ≡ Some before → (news : List Told) × (heard ≡ Some (news ++ before)) × IsAsked most news
+
+-- ---- silent clients
+
+-- only the client of this key leaves, and only where nothing was heard of it since then
+abbrev pub LeavesIfSilent : {M : Type 0} → List ℕ → ℕ → ℕ → Slab M → Slab M → Type 0
+LeavesIfSilent heard key start old new = (k : ℕ) → (get new k ≡ get old k) ⊎ ((k ≡ key) × (slice_index_or heard key start < start))
+
+-- Who leaves has been silent: so many seconds after the service began, nothing was heard of it for more than so many.
+abbrev pub OnlySilentLeave : {M : Type 0} → List ℕ → Option ℕ → ℕ → Slab M → Slab M → Type 0
+OnlySilentLeave heard None seconds old new = (key : ℕ) → get new key ≡ get old key
+OnlySilentLeave heard (Some idle) seconds old new = (key : ℕ) → (get new key ≡ get old key) ⊎ ((start : ℕ) × (start + idle ≡ seconds) × (slice_index_or heard key start < start))
+
+-- the same, as the clock told
+abbrev pub OnlySilentLeaveBy : {M : Type 0} → List ℕ → Option ℕ → Option (List Told) → Slab M → Slab M → Type 0
+OnlySilentLeaveBy heard idle told old new = (millis : ℕ) × (mid : Option (List Told)) × Hears told (since millis) mid × OnlySilentLeave heard idle (millis / 1000) old new
+
+-- ---- the passes of the loop
+
+-- A pass: those of which something was reported wait after those that waited, unless they get no turn for now, and others may after them. Then each who waits has one turn, in that order.
+pub record IsPass {L : Type 0} (outgoing incoming : L → Option (List ℕ)) (changes : List Change) (told heard : Option (List Told)) (waited : List ℕ) (old new : Stage L) : Type 0 where
+  pub are_changes : AreChanges outgoing incoming old.written.shared changes (state old) (state new)
+  pub shared_stays : new.written.shared ≡ old.written.shared
+  pub accounts : Accounts told changes heard
+  pub holds : List (Option Hold)
+  pub between : Option (List Told)
+  pub reported : List ℕ
+  pub notes : Notes old.members holds waited reported told between
+  pub first : List ℕ
+  pub longer : Longer reported first
+  pub turned_are : turned changes ≡ first
+
+-- one pass after another, the newest first: whoever waits at the end of one waits in that order when the next begins
+abbrev pub ArePasses : {L : Type 0} → (L → Option (List ℕ)) → (L → Option (List ℕ)) → List (List Change) → Option (List Told) → List ℕ → Stage L → Option (List Told) → List ℕ → Stage L → Type 0
+ArePasses outgoing incoming [] told waited old heard waits new = (new ≡ old) × (heard ≡ told) × (waits ≡ waited)
+ArePasses {L} outgoing incoming (changes ∷ earlier) told waited old heard waits new = (before : Option (List Told)) × (queue : List ℕ) × (between : Stage L)
+    × ArePasses outgoing incoming earlier told waited old before queue between × IsPass outgoing incoming changes before heard queue between new
+
+-- the changes of passes
+abbrev pub changes_of : List (List Change) → List Change
+changes_of [] = []
+changes_of (changes ∷ earlier) = changes ++ changes_of earlier
+
+-- passes, and after them changes in which nobody has a turn
+pub record Passes {L : Type 0} (outgoing incoming : L → Option (List ℕ)) (told : Option (List Told)) (waited : List ℕ) (old : Stage L) (changes : List Change) : Type 0 where
+  pub passes : List (List Change)
+  pub heard : Option (List Told)
+  pub waits : List ℕ
+  pub last : Stage L
+  pub are_passes : ArePasses outgoing incoming passes told waited old heard waits last
+  pub after : List Change
+  pub no_turns : turned after ≡ []
+  pub changes_are : changes ≡ after ++ changes_of passes
+
+-- What changed, by what was told, is one history and one log, and each client is served as if it were alone. Each pass of the loop gives one turn to each who waits.
+pub record Lived {L : Type 0} (outgoing incoming : L → Option (List ℕ)) (history : History) (told heard : Option (List Told)) (waited : List ℕ) (old new : Stage L) : Type 0 where
+  pub changes : List Change
+  pub one_history : IsOneHistory outgoing incoming old.written.shared history changes (state old) (state new)
+  pub accounts : Accounts told changes heard
+  pub passes : Passes outgoing incoming told waited old changes

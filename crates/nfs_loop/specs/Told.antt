@@ -6,9 +6,11 @@ use Rattle.nfs_exports.specs.declared.addr.Addr.{Addr}
 use Rattle.nfs_loop.specs.Peers.{IsAddrOf}
 use Rattle.nfs_serving.specs.Service.{Change, joins, turns, leaves, passes}
 
--- something is ready for the client of a key; a connection came from a peer, and its client has this key; it was asked for the moment, or how many milliseconds the service has run
+-- something is ready for the client of a key; connections may wait; nothing more is ready; a connection came from a peer, and its client has this key; it was asked for the moment, or how many milliseconds the service has run
 pub data Told : Type 0 where
   ready : ℕ → Told
+  listener_ready : Told
+  nothing_ready : Told
   came : ℕ → IpAddr → Told
   at : Moment → Told
   since : ℕ → Told

@@ -31,6 +31,7 @@ impl Housekeeping {
     )
         requires ended { LeavesBy member.client end }
         ensures told { Accounts (N.told net.old) [] (N.told net.new) }
+        ensures watches { self.new.watches ≡ self.old.watches }
         ensures lines { (by : End) × LeavesBy member.client by
             × Reported (end_text member.number member.client.calls by) (written A.taken C.taken lines.old) (written A.taken C.taken lines.new) }
     {
@@ -43,7 +44,9 @@ impl Housekeeping {
     }
 
     // Counts a connection that has ended, and has one that waits accepted.
-    fn count_end(&mut self) {
+    fn count_end(&mut self)
+        ensures { self.new.watches ≡ self.old.watches }
+    {
         self.ended = self.ended.saturating_add(1);
         self.retry();
     }
@@ -52,6 +55,7 @@ impl Housekeeping {
     // that address wait.
     fn refuse_where_denied<N: Network>(&mut self, net: &mut N, addr: Addr, end: End)
         ensures told { Accounts (N.told net.old) [] (N.told net.new) }
+        ensures watches { self.new.watches ≡ self.old.watches }
     {
         if end == End::Fault(ServeFault::AuditFault) {
             self.refused_peers.add(addr, net.millis());

@@ -1,5 +1,5 @@
 //! What a service keeps beside its clients.
-ghost use Rattle.std.specs.Prelude.{◌≡◌, []};
+ghost use Rattle.std.specs.Prelude.{◌≡◌, ◌+◌, ℕ, [], Some, IfSome};
 ghost use Rattle.nfs_lines.specs.Written.{PassedOn, written};
 ghost use Rattle.nfs_loop.specs.Told.{Accounts};
 
@@ -118,7 +118,10 @@ impl Housekeeping {
 
     /// Since when a client has to have been silent for its connection to be ended, where it is time to look
     /// for such ones, so many seconds after the service began: once a second.
-    pub(crate) fn silent_since(&mut self, seconds: u64) -> Option<u64> {
+    pub(crate) fn silent_since(&mut self, seconds: u64) -> Option<u64>
+        ensures since { IfSome result (λ since. (idle : ℕ) × (self.old.limits.idle ≡ Some idle) × (since + idle ≡ seconds)) }
+        ensures watches { self.new.watches ≡ self.old.watches }
+    {
         let idle = self.limits.idle?;
         if seconds == self.looked {
             return None;

@@ -1,7 +1,7 @@
 //! How clients join.
 ghost use Rattle.std.specs.Prelude.{◌≡◌, ◌+◌, ◌<◌, ◌^◌, []};
 ghost use Rattle.std.specs.Net.Socket.{socket_ip};
-ghost use Rattle.nfs_loop.specs.Stages.{Goes, JoinsOrNot, stage};
+ghost use Rattle.nfs_loop.specs.Stages.{Goes, JoinsOrNot, WithoutTurns, stage};
 ghost use Rattle.nfs_loop.specs.Told.{Accounts, CameFrom, Hears, came};
 ghost use Rattle.nfs_lines.specs.Written.{Written};
 ghost use Rattle.nfs_server.specs.Fits.{Held};
@@ -9,8 +9,8 @@ ghost use Rattle.nfs_server.specs.Fits.{Held};
 use crate::addresses::addr_of;
 use crate::housekeeping::Waiting;
 use crate::member::Member;
-use crate::network::{Accepted, Network};
-use crate::service::{EVENTS, Service};
+use crate::network::{Accepted, EVENTS, Network};
+use crate::service::Service;
 use log::{Log, info, warn};
 use nfs_exports::addr::Addr;
 use nfs_serving::client::Client;
@@ -30,7 +30,7 @@ enum Refusal {
 impl<L: Link + Drop> Service<L> {
     /// Accepts the connections that wait.
     pub(crate) fn accept_some<R: Log, N: Network<Stream = L>>(&mut self, rt: &R, net: &mut N)
-        ensures goes { (server : Held) → (lines : Written) → Goes L.outgoing L.incoming (λ changes. Accounts (N.told net.old) changes (N.told net.new))
+        ensures goes { (server : Held) → (lines : Written) → Goes L.outgoing L.incoming (λ changes. WithoutTurns (N.told net.old) changes (N.told net.new))
             (stage server self.old.clients.0 self.old.joined lines) (stage server self.new.clients.0 self.new.joined lines) }
         ensures queue { self.new.clients.1.0 ≡ self.old.clients.1.0 }
     {
@@ -43,7 +43,7 @@ impl<L: Link + Drop> Service<L> {
 
     // Accepts a connection, if one waits and there may be more.
     fn accept<R: Log, N: Network<Stream = L>>(&mut self, rt: &R, net: &mut N)
-        ensures goes { (server : Held) → (lines : Written) → Goes L.outgoing L.incoming (λ changes. Accounts (N.told net.old) changes (N.told net.new))
+        ensures goes { (server : Held) → (lines : Written) → Goes L.outgoing L.incoming (λ changes. WithoutTurns (N.told net.old) changes (N.told net.new))
             (stage server self.old.clients.0 self.old.joined lines) (stage server self.new.clients.0 self.new.joined lines) }
         ensures queue { self.new.clients.1.0 ≡ self.old.clients.1.0 }
     {

@@ -10,6 +10,9 @@ use std::io;
 use std::net::SocketAddr;
 use std::time::Duration;
 
+/// How many events are taken at once.
+pub const EVENTS: u32 = 1_024;
+
 /// What a network reports.
 #[derive(Clone, Copy)]
 pub enum Ready {

@@ -2,12 +2,12 @@
 ghost use Rattle.std.specs.Prelude.{◌≡◌, ◌↔◌, [], None, false, slice_index_or};
 ghost use Rattle.slab.specs.Slab.{get};
 ghost use Rattle.nfs_lines.specs.Written.{written};
-ghost use Rattle.nfs_loop.specs.Stages.{Goes, Longer, Notes, TurnsFirst, noted, seats, stage, turned};
+ghost use Rattle.nfs_loop.specs.Stages.{AsksAll, Goes, Longer, Notes, TurnsFirst, noted, seats, stage, turned};
 ghost use Rattle.nfs_loop.specs.Told.{Accounts};
 
 use crate::housekeeping::Waiting;
-use crate::network::{Network, Ready};
-use crate::service::{EVENTS, Service};
+use crate::network::{EVENTS, Network, Ready};
+use crate::service::Service;
 use crate::watches::Hold;
 use log::Log;
 use nfs_lines::line_out::LineOut;
@@ -24,6 +24,7 @@ impl<L: Link + Drop> Service<L> {
         ensures members { self.new.clients.0 ≡ self.old.clients.0 }
         ensures joined { self.new.joined ≡ self.old.joined }
         ensures notes { Notes self.old.clients.0 self.old.housekeeping.watches.holds.items self.old.clients.1.0 self.new.clients.1.0 (N.told net.old) (N.told net.new) }
+        ensures all { AsksAll 1024 (N.told net.old) (N.told net.new) }
     {
         self.housekeeping.retry();
         let mut left = EVENTS;
@@ -123,7 +124,7 @@ impl<L: Link + Drop> Service<L> {
         net: &mut N,
         lines: &mut Lines<'_, A, C>,
     )
-        ensures goes { Goes L.outgoing L.incoming (λ changes. TurnsFirst (seats self.new.clients.0) self.old.clients.1.0 changes self.new.clients.1.0 × Accounts (N.told net.old) changes (N.told net.new))
+        ensures goes { Goes L.outgoing L.incoming (λ changes. TurnsFirst L.incoming L.reports (seats self.new.clients.0) self.old.clients.1.0 changes self.new.clients.1.0 × Accounts (N.told net.old) changes (N.told net.new))
             (stage server.old self.old.clients.0 self.old.joined (written A.taken C.taken lines.old))
             (stage server.new self.new.clients.0 self.new.joined (written A.taken C.taken lines.new)) }
     {

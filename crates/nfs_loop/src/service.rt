@@ -1,10 +1,11 @@
 //! A service that serves many clients at once, in turns.
-ghost use Rattle.std.specs.Prelude.{◌≡◌, ℕ, None, IfOk};
+ghost use Rattle.std.specs.Prelude.{◌≡◌, ℕ, List, None, IfOk};
 ghost use Rattle.slab.specs.Slab.{get};
 ghost use Rattle.nfs_lines.specs.Written.{PassedOn, written};
-ghost use Rattle.nfs_loop.specs.Stages.{Goes, Lived, stage};
+ghost use Rattle.nfs_loop.specs.Stages.{Goes, IsPass, Lived, Passes, stage};
 ghost use Rattle.nfs_loop.specs.Told.{Accounts};
 ghost use Rattle.nfs_server.specs.Fits.{History, Fits};
+ghost use Rattle.nfs_serving.specs.Service.{Change};
 
 use crate::housekeeping::{Housekeeping, LINES_MILLIS};
 use crate::limits::Limits;
@@ -22,9 +23,6 @@ use nfs_xdr::link::Link;
 use std::alloc::{AllocError, Global};
 use std::io;
 use std::time::Duration;
-
-/// How many events are taken at once.
-pub(crate) const EVENTS: u32 = 1_024;
 
 // How often lines that are left at the end are tried: for five seconds.
 const LAST_TRIES: u32 = 500;
@@ -60,7 +58,8 @@ impl<L: Link + Drop> Service<L> {
     /// written as a line, and so is each denied call. Lines that can't be written end no service.
     ///
     /// Whatever the network answers, all that changes is one history and one log, also where the network
-    /// fails, which is the only fault.
+    /// fails, which is the only fault. In each pass of the loop everyone who waits has one turn, in the
+    /// order of the queue, so that who stands at place i waits for i turns of others.
     pub fn serve<R: Log, N: Network<Stream = L>, A: LineOut, C: LineOut, S: Saver>(
         &mut self,
         rt: &R,
@@ -70,7 +69,7 @@ impl<L: Link + Drop> Service<L> {
         saver: &mut S,
     ) -> io::Result<()>
         ensures lived { ((key : ℕ) → get self.old.clients.0 key ≡ None) → (history : History) → Fits history server.old
-            → Lived L.outgoing L.incoming history (N.told net.old) (N.told net.new)
+            → Lived L.outgoing L.incoming history (N.told net.old) (N.told net.new) self.old.clients.1.0
             (stage server.old self.old.clients.0 self.old.joined (written A.taken C.taken lines.old))
             (stage server.new self.new.clients.0 self.new.joined (written A.taken C.taken lines.new)) }
     {
@@ -87,7 +86,9 @@ impl<L: Link + Drop> Service<L> {
         lines: &mut Lines<'_, A, C>,
         saver: &mut S,
     ) -> io::Result<()>
-        ensures goes { Goes L.outgoing L.incoming (λ changes. Accounts (N.told net.old) changes (N.told net.new))
+        ensures goes { Goes L.outgoing L.incoming
+            (λ changes. Passes L.outgoing L.incoming (N.told net.old) self.old.clients.1.0 (stage server.old self.old.clients.0 self.old.joined (written A.taken C.taken lines.old)) changes
+            × Accounts (N.told net.old) changes (N.told net.new))
             (stage server.old self.old.clients.0 self.old.joined (written A.taken C.taken lines.old))
             (stage server.new self.new.clients.0 self.new.joined (written A.taken C.taken lines.new)) }
     {
@@ -98,13 +99,13 @@ impl<L: Link + Drop> Service<L> {
             if let Err(error) = net.wait(timeout) {
                 return Err(error);
             }
-            self.step(rt, server, net, lines, saver);
+            self.pass(rt, server, net, lines, saver);
         }
         self.finish(net, lines)
     }
 
-    // What is done after each wait.
-    fn step<R: Log, N: Network<Stream = L>, A: LineOut, C: LineOut, S: Saver>(
+    // One pass: what is done after each wait.
+    fn pass<R: Log, N: Network<Stream = L>, A: LineOut, C: LineOut, S: Saver>(
         &mut self,
         rt: &R,
         server: &mut Server,
@@ -112,7 +113,7 @@ impl<L: Link + Drop> Service<L> {
         lines: &mut Lines<'_, A, C>,
         saver: &mut S,
     )
-        ensures goes { Goes L.outgoing L.incoming (λ changes. Accounts (N.told net.old) changes (N.told net.new))
+        ensures pass { (changes : List Change) × IsPass L.outgoing L.incoming changes (N.told net.old) (N.told net.new) self.old.clients.1.0
             (stage server.old self.old.clients.0 self.old.joined (written A.taken C.taken lines.old))
             (stage server.new self.new.clients.0 self.new.joined (written A.taken C.taken lines.new)) }
     {

@@ -1,8 +1,7 @@
 //! Connections on which nothing comes.
 ghost use Rattle.std.specs.Prelude.{◌≡◌};
 ghost use Rattle.nfs_lines.specs.Written.{written};
-ghost use Rattle.nfs_loop.specs.Stages.{Goes, stage};
-ghost use Rattle.nfs_loop.specs.Told.{Accounts};
+ghost use Rattle.nfs_loop.specs.Stages.{Goes, LeavesIfSilent, OnlySilentLeaveBy, WithoutTurns, stage};
 ghost use Rattle.nfs_server.specs.Fits.{Held};
 
 use crate::network::Network;
@@ -21,9 +20,11 @@ impl<L: Link + Drop> Service<L> {
         net: &mut N,
         lines: &mut Lines<'_, A, C>,
     )
-        ensures goes { (server : Held) → Goes L.outgoing L.incoming (λ changes. Accounts (N.told net.old) changes (N.told net.new))
+        ensures goes { (server : Held) → Goes L.outgoing L.incoming (λ changes. WithoutTurns (N.told net.old) changes (N.told net.new))
             (stage server self.old.clients.0 self.old.joined (written A.taken C.taken lines.old))
             (stage server self.new.clients.0 self.new.joined (written A.taken C.taken lines.new)) }
+        ensures queue { self.new.clients.1.0 ≡ self.old.clients.1.0 }
+        ensures silent { OnlySilentLeaveBy self.old.housekeeping.watches.heard.items self.old.housekeeping.limits.idle (N.told net.old) self.old.clients.0 self.new.clients.0 }
     {
         let millis = net.millis();
         let Some(since) = self.housekeeping.silent_since(millis / 1_000) else {
@@ -46,9 +47,12 @@ impl<L: Link + Drop> Service<L> {
         key: usize,
         since: u64,
     )
-        ensures goes { (server : Held) → Goes L.outgoing L.incoming (λ changes. Accounts (N.told net.old) changes (N.told net.new))
+        ensures goes { (server : Held) → Goes L.outgoing L.incoming (λ changes. WithoutTurns (N.told net.old) changes (N.told net.new))
             (stage server self.old.clients.0 self.old.joined (written A.taken C.taken lines.old))
             (stage server self.new.clients.0 self.new.joined (written A.taken C.taken lines.new)) }
+        ensures queue { self.new.clients.1.0 ≡ self.old.clients.1.0 }
+        ensures silent { LeavesIfSilent self.old.housekeeping.watches.heard.items key since self.old.clients.0 self.new.clients.0 }
+        ensures watches { self.new.housekeeping.watches ≡ self.old.housekeeping.watches }
     {
         if !self.housekeeping.watches.is_silent(key, since)
             || self.housekeeping.watches.hold(key).is_some()

@@ -1,5 +1,5 @@
 //! Members by keys, and a queue of those that wait for a turn.
-ghost use Rattle.std.specs.Prelude.{length, ◌≡◌, ◌≢◌, ◌⊎◌, ◌↔◌, ◌<◌, ◌≤◌, ℕ, [], ◌∷◌, ◌++◌, None, Some, true, false, IsTrue, IsNone, IfNone, IfOk, OnOk, OnErr, OnSome, IfSome, IsSome, option_copied, ◌+◌};
+ghost use Rattle.std.specs.Prelude.{length, ◌≡◌, ◌≢◌, ◌⊎◌, ◌↔◌, ◌<◌, ◌≤◌, ℕ, [], ◌∷◌, ◌++◌, None, Some, true, false, IsTrue, IsNone, IfNone, IfOk, OnOk, OnErr, OnSome, IfSome, IsSome, ◌+◌};
 ghost use Rattle.slab.specs.Slab.{get, slab_len, Updates, SameValues, HasRoomFor};
 ghost use Rattle.nfs_queue.specs.Queues.{is_waiting, with_ready, with_key, IsCalled};
 
@@ -79,13 +79,6 @@ impl<M: Drop> Clients<M> {
         ensures { result ≡ self.now.0.vacant_key }
     {
         self.members.vacant_key()
-    }
-
-    /// The member of a key.
-    pub fn get(&self, key: usize) -> Option<&M>
-        ensures { option_copied result ≡ get self.now.0 key }
-    {
-        self.members.get(key)
     }
 
     /// Adds a member, which doesn't wait. Refused, and the member dropped, where there is no memory.

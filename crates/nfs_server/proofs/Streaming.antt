@@ -199,24 +199,24 @@ reported_ends UnknownConnection reported reads done rest p audit replies limit i
 reported_ends Ended reported reads done rest p audit replies limit is e = absurd is
 
 -- after a fault of its records no more is read
-reported_reads : {R : Type 0} (gives : R → List ℕ → R → Type 0) (fault : SessionFault) (reported : ServeFault) (turns reads : ℕ) (reader : R) → IsReportedAs fault reported → reads ≤ turns → ReadsEnd gives (Err reported) turns reads (course reader reader)
-reported_reads gives TooLong reported turns reads reader is le = subst (λ t. ReadsEnd gives (Err t) turns reads (course reader reader)) (sym is) (le, refl)
-reported_reads gives Memory reported turns reads reader is le = subst (λ t. ReadsEnd gives (Err t) turns reads (course reader reader)) (sym is) (le, refl)
-reported_reads gives AuditFault reported turns reads reader is le = subst (λ t. ReadsEnd gives (Err t) turns reads (course reader reader)) (sym is) (le, refl)
-reported_reads gives WriteFault reported turns reads reader is le = subst (λ t. ReadsEnd gives (Err t) turns reads (course reader reader)) (sym is) (le, refl)
-reported_reads gives ConnectionTaken reported turns reads reader is le = absurd is
-reported_reads gives UnknownConnection reported turns reads reader is le = absurd is
-reported_reads gives Ended reported turns reads reader is le = absurd is
+reported_reads : {R : Type 0} (gives : R → List ℕ → R → Type 0) (breaks : R → R → Type 0) (fault : SessionFault) (reported : ServeFault) (turns reads : ℕ) (reader : R) → IsReportedAs fault reported → reads ≤ turns → ReadsEnd gives breaks (Err reported) turns reads (course reader reader)
+reported_reads gives breaks TooLong reported turns reads reader is le = subst (λ t. ReadsEnd gives breaks (Err t) turns reads (course reader reader)) (sym is) (le, refl)
+reported_reads gives breaks Memory reported turns reads reader is le = subst (λ t. ReadsEnd gives breaks (Err t) turns reads (course reader reader)) (sym is) (le, refl)
+reported_reads gives breaks AuditFault reported turns reads reader is le = subst (λ t. ReadsEnd gives breaks (Err t) turns reads (course reader reader)) (sym is) (le, refl)
+reported_reads gives breaks WriteFault reported turns reads reader is le = subst (λ t. ReadsEnd gives breaks (Err t) turns reads (course reader reader)) (sym is) (le, refl)
+reported_reads gives breaks ConnectionTaken reported turns reads reader is le = absurd is
+reported_reads gives breaks UnknownConnection reported turns reads reader is le = absurd is
+reported_reads gives breaks Ended reported turns reads reader is le = absurd is
 
 ok_left : (result : Result ℕ SessionFault) (text rest : List ℕ) (n : ℕ) → length text ≡ 0 → IfOk result (λ k. length text ≡ 0 → length rest ≡ n) → IfOk result (λ k. length rest ≡ n)
 ok_left (Ok k) text rest n e f = f e
 ok_left (Err fault) text rest n e f = tt
 
-module _ {R C : Type 0} (gives : R → List ℕ → R → Type 0) (reports : C → Moment → C → Type 0) (addr : Addr) (turns : ℕ) (old new : Held) (from to : Progress) (x y : C) (audit replies : Device) (begins : Unfinished [] from) (limit : to.limit ≡ max_record_bytes) (first last after : R) where
-  ended : (result : Result Served ServeFault) (part : Result ℕ SessionFault) (n : ℕ) (reads : List (List ℕ)) → Reads gives first reads last → ReadsEnd gives result turns (length reads) (course last after)
+module _ {R C : Type 0} (gives : R → List ℕ → R → Type 0) (breaks : R → R → Type 0) (reports : C → Moment → C → Type 0) (addr : Addr) (turns : ℕ) (old new : Held) (from to : Progress) (x y : C) (audit replies : Device) (begins : Unfinished [] from) (limit : to.limit ≡ max_record_bytes) (first last after : R) where
+  ended : (result : Result Served ServeFault) (part : Result ℕ SessionFault) (n : ℕ) (reads : List (List ℕ)) → Reads gives first reads last → ReadsEnd gives breaks result turns (length reads) (course last after)
       → StreamFeeds reports addr (bytes_read reads) part (course 0 n) (course old new) (course from to) (course x y) audit replies
       → ((done : List Done) (rest : List ℕ) → Ends part done rest to audit replies → IfOk part (λ k. length rest ≡ n) → StreamEnds result reads done rest audit replies)
-      → (history : History) → Fits history old → Streams gives reports history addr turns result new (course first after) (course x y) audit replies
+      → (history : History) → Fits history old → Streams gives breaks reports history addr turns result new (course first after) (course x y) audit replies
   ended result part n reads read stops feeds ends history fits =
       let b = feeds history fits [] begins in
       record {
@@ -231,32 +231,32 @@ module _ {R C : Type 0} (gives : R → List ℕ → R → Type 0) (reports : C �
         ends = ends b.0.done b.0.rest b.0.ends (ok_left part [] b.0.rest n refl b.1);
       }
 
-  pub streams_served : (served : Served) (reads : List (List ℕ)) → Reads gives first reads last → ReadsEnd gives (Ok served) turns (length reads) (course last after)
+  pub streams_served : (served : Served) (reads : List (List ℕ)) → Reads gives first reads last → ReadsEnd gives breaks (Ok served) turns (length reads) (course last after)
       → StreamFeeds reports addr (bytes_read reads) (Ok served.calls) (course 0 served.rest) (course old new) (course from to) (course x y) audit replies
-      → (history : History) → Fits history old → Streams gives reports history addr turns (Ok served) new (course first after) (course x y) audit replies
+      → (history : History) → Fits history old → Streams gives breaks reports history addr turns (Ok served) new (course first after) (course x y) audit replies
   streams_served served reads read stops feeds = ended (Ok served) (Ok served.calls) served.rest reads read stops feeds (λ done rest e len. (e.0, sym len, is_rest rest to limit e.1, e.2))
 
-  pub streams_unread : (calls n : ℕ) (reads : List (List ℕ)) → Reads gives first reads last → ReadsEnd gives (Err serve.ReadFault) turns (length reads) (course last after)
+  pub streams_unread : (calls n : ℕ) (reads : List (List ℕ)) → Reads gives first reads last → ReadsEnd gives breaks (Err serve.ReadFault) turns (length reads) (course last after)
       → StreamFeeds reports addr (bytes_read reads) (Ok calls) (course 0 n) (course old new) (course from to) (course x y) audit replies
-      → (history : History) → Fits history old → Streams gives reports history addr turns (Err serve.ReadFault) new (course first after) (course x y) audit replies
+      → (history : History) → Fits history old → Streams gives breaks reports history addr turns (Err serve.ReadFault) new (course first after) (course x y) audit replies
   streams_unread calls n reads read stops feeds = ended (Err serve.ReadFault) (Ok calls) n reads read stops feeds (λ done rest e len. (is_rest rest to limit e.1, e.2))
 
-  pub streams_spent : (calls n : ℕ) (reads : List (List ℕ)) → Reads gives first reads last → ReadsEnd gives (Err serve.TurnsSpent) turns (length reads) (course last after)
+  pub streams_spent : (calls n : ℕ) (reads : List (List ℕ)) → Reads gives first reads last → ReadsEnd gives breaks (Err serve.TurnsSpent) turns (length reads) (course last after)
       → StreamFeeds reports addr (bytes_read reads) (Ok calls) (course 0 n) (course old new) (course from to) (course x y) audit replies
-      → (history : History) → Fits history old → Streams gives reports history addr turns (Err serve.TurnsSpent) new (course first after) (course x y) audit replies
+      → (history : History) → Fits history old → Streams gives breaks reports history addr turns (Err serve.TurnsSpent) new (course first after) (course x y) audit replies
   streams_spent calls n reads read stops feeds = ended (Err serve.TurnsSpent) (Ok calls) n reads read stops feeds (λ done rest e len. (is_rest rest to limit e.1, e.2))
 
-module _ {R C : Type 0} (gives : R → List ℕ → R → Type 0) (reports : C → Moment → C → Type 0) (addr : Addr) (turns : ℕ) (old new : Held) (from to : Progress) (x y : C) (audit replies : Device) (begins : Unfinished [] from) (limit : to.limit ≡ max_record_bytes) (first last : R) where
+module _ {R C : Type 0} (gives : R → List ℕ → R → Type 0) (breaks : R → R → Type 0) (reports : C → Moment → C → Type 0) (addr : Addr) (turns : ℕ) (old new : Held) (from to : Progress) (x y : C) (audit replies : Device) (begins : Unfinished [] from) (limit : to.limit ≡ max_record_bytes) (first last : R) where
   pub streams_broken : (fault : SessionFault) (reported : ServeFault) → IsReportedAs fault reported → (n : ℕ) (reads : List (List ℕ)) → length reads ≤ turns → Reads gives first reads last
       → StreamFeeds reports addr (bytes_read reads) (Err fault) (course 0 n) (course old new) (course from to) (course x y) audit replies
-      → (history : History) → Fits history old → Streams gives reports history addr turns (Err reported) new (course first last) (course x y) audit replies
-  streams_broken fault reported is n reads le read feeds = ended gives reports addr turns old new from to x y audit replies begins limit first last last (Err reported) (Err fault) n reads read (reported_reads gives fault reported turns (length reads) last is le) feeds
+      → (history : History) → Fits history old → Streams gives breaks reports history addr turns (Err reported) new (course first last) (course x y) audit replies
+  streams_broken fault reported is n reads le read feeds = ended gives breaks reports addr turns old new from to x y audit replies begins limit first last last (Err reported) (Err fault) n reads read (reported_reads gives breaks fault reported turns (length reads) last is le) feeds
       (λ done rest e len. reported_ends fault reported reads done rest to audit replies limit is e)
 
 -- no memory for the replies
-pub streams_refused : {R C : Type 0} (gives : R → List ℕ → R → Type 0) (reports : C → Moment → C → Type 0) (addr : Addr) (turns : ℕ) (s : Held) (reader : R) (clock : C) (a v : Option (List ℕ)) → (history : History) → Fits history s
-    → Streams gives reports history addr turns (Err serve.Memory) s (course reader reader) (course clock clock) (device a a) (device v v)
-streams_refused gives reports addr turns s reader clock a v history fits = record {
+pub streams_refused : {R C : Type 0} (gives : R → List ℕ → R → Type 0) (breaks : R → R → Type 0) (reports : C → Moment → C → Type 0) (addr : Addr) (turns : ℕ) (s : Held) (reader : R) (clock : C) (a v : Option (List ℕ)) → (history : History) → Fits history s
+    → Streams gives breaks reports history addr turns (Err serve.Memory) s (course reader reader) (course clock clock) (device a a) (device v v)
+streams_refused gives breaks reports addr turns s reader clock a v history fits = record {
   reads = [];
   between = reader;
   read = refl;
@@ -270,7 +270,7 @@ streams_refused gives reports addr turns s reader clock a v history fits = recor
 
 -- ---- one read more
 
-module _ {R C : Type 0} (gives : R → List ℕ → R → Type 0) (reports : C → Moment → C → Type 0) (addr : Addr) (turns i calls left : ℕ) (old mid new : Held) (from between to : Progress) (x y z : C) (a b c u v w : Option (List ℕ)) (first before last : R) (chunk : List ℕ)
+module _ {R C : Type 0} (gives : R → List ℕ → R → Type 0) (breaks : R → R → Type 0) (reports : C → Moment → C → Type 0) (addr : Addr) (turns i calls left : ℕ) (old mid new : Held) (from between to : Progress) (x y z : C) (a b c u v w : Option (List ℕ)) (first before last : R) (chunk : List ℕ)
     (so_far : (reads : List (List ℕ)) × (length reads ≡ i) × Reads gives first reads before × StreamFeeds reports addr (bytes_read reads) (Ok calls) (course 0 left) (course old mid) (course from between) (course x y) (device a b) (device u v))
     (gave : gives before chunk last) (some : 0 < length chunk) (few : length chunk ≤ read_bytes) (limit : to.limit ≡ between.limit) where
   one_more : (reads : List (List ℕ)) → length reads ≡ i → length (chunk ∷ reads) ≡ i + 1
@@ -288,7 +288,7 @@ module _ {R C : Type 0} (gives : R → List ℕ → R → Type 0) (reports : C �
   read_on n m one = (chunk ∷ so_far.0, one_more so_far.0 so_far.1, next_read, next_feeds (Ok n) m one)
 
   pub read_broken : Unfinished [] from → to.limit ≡ max_record_bytes → i < turns → (fault : SessionFault) (reported : ServeFault) → IsReportedAs fault reported → (n : ℕ) → StreamFeeds reports addr chunk (Err fault) (course left n) (course mid new) (course between to) (course y z) (device b c) (device v w)
-      → (history : History) → Fits history old → Streams gives reports history addr turns (Err reported) new (course first last) (course x z) (device a c) (device u w)
+      → (history : History) → Fits history old → Streams gives breaks reports history addr turns (Err reported) new (course first last) (course x z) (device a c) (device u w)
   read_broken begins most lt fault reported is n one =
       let le : length (chunk ∷ so_far.0) ≤ turns = omega (arith, one_more so_far.0 so_far.1, lt) in
-      streams_broken gives reports addr turns old new from to x z (device a c) (device u w) begins most first last fault reported is n (chunk ∷ so_far.0) le next_read (next_feeds (Err fault) n one)
+      streams_broken gives breaks reports addr turns old new from to x z (device a c) (device u w) begins most first last fault reported is n (chunk ∷ so_far.0) le next_read (next_feeds (Err fault) n one)

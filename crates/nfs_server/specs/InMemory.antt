@@ -1,5 +1,5 @@
 -- Events and answers as they are in memory.
-use Rattle.std.specs.Prelude.{ℕ, List, Option, Some}
+use Rattle.std.specs.Prelude.{ℕ, Bool, true, false, List, Option, Some}
 use Rattle.std.specs.Option.{option_map}
 use Rattle.nfs_server.specs.declared.event.Event as seen
 use Rattle.nfs_server.specs.declared.event.Outcome as outcome
@@ -22,6 +22,11 @@ answer_of o = record { reply = option_map (λ bytes. bytes.now) o.reply; line = 
 -- with what stands in the reply buffer, and the line of the last call
 abbrev pub reported : List ℕ → Option AuditLine → Answer
 reported bytes line = record { reply = Some bytes; line = line }
+
+-- whether a record has no reply
+abbrev pub is_silent : Handled → Bool
+is_silent Answered = false
+is_silent NoReply = true
 
 abbrev pub answered : Handled → List ℕ → Option AuditLine → Answer
 answered Answered bytes line = reported bytes line

@@ -73,24 +73,24 @@ StreamEnds (Err Memory) reads done rest audit replies = ((reads ≡ []) ⊎ Reac
 StreamEnds (Err AuditFault) reads done rest audit replies = AuditBreaks done audit replies
 StreamEnds (Err WriteFault) reads done rest audit replies = ReplyBreaks done audit replies
 
--- Of at most so many reads these many gave bytes. After them one more read gave the end or failed, or there was none more.
-abbrev pub ReadsEnd : {R : Type 0} → (R → List ℕ → R → Type 0) → Result Served ServeFault → ℕ → ℕ → Course R → Type 0
-ReadsEnd gives (Ok served) turns reads reader = (reads < turns) × gives reader.before [] reader.after
-ReadsEnd gives (Err ReadFault) turns reads reader = reads < turns
-ReadsEnd gives (Err TurnsSpent) turns reads reader = (reads ≡ turns) × (reader.after ≡ reader.before)
-ReadsEnd gives (Err TooLong) turns reads reader = (reads ≤ turns) × (reader.after ≡ reader.before)
-ReadsEnd gives (Err Memory) turns reads reader = (reads ≤ turns) × (reader.after ≡ reader.before)
-ReadsEnd gives (Err AuditFault) turns reads reader = (reads ≤ turns) × (reader.after ≡ reader.before)
-ReadsEnd gives (Err WriteFault) turns reads reader = (reads ≤ turns) × (reader.after ≡ reader.before)
+-- Of at most so many reads these many gave bytes. After them one more read gave the end, or failed and gave nothing, or there was none more.
+abbrev pub ReadsEnd : {R : Type 0} → (R → List ℕ → R → Type 0) → (R → R → Type 0) → Result Served ServeFault → ℕ → ℕ → Course R → Type 0
+ReadsEnd gives breaks (Ok served) turns reads reader = (reads < turns) × gives reader.before [] reader.after
+ReadsEnd gives breaks (Err ReadFault) turns reads reader = (reads < turns) × breaks reader.before reader.after
+ReadsEnd gives breaks (Err TurnsSpent) turns reads reader = (reads ≡ turns) × (reader.after ≡ reader.before)
+ReadsEnd gives breaks (Err TooLong) turns reads reader = (reads ≤ turns) × (reader.after ≡ reader.before)
+ReadsEnd gives breaks (Err Memory) turns reads reader = (reads ≤ turns) × (reader.after ≡ reader.before)
+ReadsEnd gives breaks (Err AuditFault) turns reads reader = (reads ≤ turns) × (reader.after ≡ reader.before)
+ReadsEnd gives breaks (Err WriteFault) turns reads reader = (reads ≤ turns) × (reader.after ≡ reader.before)
 
 -- After this history, a stream from this address that is read by so many turns at most brings this.
-pub record Streams {R C : Type 0} (gives : R → List ℕ → R → Type 0) (reports : C → Moment → C → Type 0)
+pub record Streams {R C : Type 0} (gives : R → List ℕ → R → Type 0) (breaks : R → R → Type 0) (reports : C → Moment → C → Type 0)
     (history : History) (addr : Addr) (turns : ℕ) (result : Result Served ServeFault) (s : Held)
     (reader : Course R) (clock : Course C) (audit replies : Device) : Type 0 where
   pub reads : List (List ℕ)
   pub between : R
   pub read : Reads gives reader.before reads between
-  pub read_ends : ReadsEnd gives result turns (length reads) (course between reader.after)
+  pub read_ends : ReadsEnd gives breaks result turns (length reads) (course between reader.after)
   pub done : List Done
   pub rest : List ℕ
   pub serves : StreamServes history addr max_record_bytes (bytes_read reads) done rest s

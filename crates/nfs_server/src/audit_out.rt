@@ -1,8 +1,8 @@
 //! Where the lines of denied calls go.
-ghost use Rattle.std.specs.Prelude.{◌≡◌, ℕ, List, Option, Some, Bool, true, false, OnOk, OnErr};
+ghost use Rattle.std.specs.Prelude.{◌≡◌, ◌⊎◌, ℕ, List, [], Option, Some, Bool, true, false, OnOk, OnErr};
 ghost use Rattle.nfs_server.specs.AuditLines.{line_text};
 ghost use Rattle.nfs_server.specs.Denying.{IsSpared};
-ghost use Rattle.nfs_xdr.specs.Known.{Grows, GrowsByPart};
+ghost use Rattle.nfs_xdr.specs.Known.{Grows, GrowsByPart, StaysFailed};
 
 use crate::audit_line::AuditLine;
 use crate::event::Event;
@@ -18,6 +18,9 @@ pub trait AuditOut {
     /// Whether the last call answered the fault.
     ghost failed: { Self → Bool };
 
+    /// Whether its device has failed for good, and takes nothing more.
+    ghost broken: { Self → Bool };
+
     /// Whether no line of a call that fails a rule is taken now.
     ghost full: { Self → Bool };
 
@@ -26,7 +29,7 @@ pub trait AuditOut {
         ensures { result ≡ full self.now };
 
     /// Takes the line of a call that was denied, with the event that brought it and the server. At a
-    /// fault some first bytes of it were taken.
+    /// fault some first bytes of it were taken, none unless the device failed in this call.
     fn take(
         &mut self,
         denied: &AuditLine,
@@ -36,6 +39,8 @@ pub trait AuditOut {
         requires { full self.old ≡ true → IsSpared (Some denied.now) }
         ensures ok { OnOk result (Grows (contents self.old) (line_text denied.now) (contents self.new)) }
         ensures part { OnErr result (GrowsByPart (contents self.old) (line_text denied.now) (contents self.new)) }
+        ensures cut { OnErr result (Grows (contents self.old) [] (contents self.new) ⊎ (broken self.new ≡ true)) }
+        ensures stays { StaysFailed (broken self.old) (contents self.old) (broken self.new) (contents self.new) }
         ensures fault { OnErr result (failed self.new ≡ true) };
 }
 
@@ -43,6 +48,8 @@ impl<W: ByteOut> AuditOut for W {
     ghost contents = { λ w. W.contents w };
 
     ghost failed = { λ w. W.failed w };
+
+    ghost broken = { λ w. W.failed w };
 
     ghost full = { λ _. false };
 

@@ -5,6 +5,7 @@ ghost use Rattle.nfs_rpc.specs.Stages.{begun_by};
 ghost use Rattle.nfs_server.specs.Connections.{IsAtStart};
 ghost use Rattle.nfs_server.specs.Feeding.{device, EndsWith};
 ghost use Rattle.nfs_server.specs.Taking.{FeedsSome, Waits};
+ghost use Rattle.nfs_xdr.specs.Known.{StaysFailed};
 
 use crate::audit_out::AuditOut;
 use crate::reply_buf::ReplyBuf;
@@ -96,6 +97,7 @@ impl Connection {
         ensures addr { self.new.addr ≡ self.old.addr }
         ensures limit { self.new.progress.limit ≡ self.old.progress.limit }
         ensures kind { self.old.ended ≡ false → IfErr result (EndsWith (A.failed audit.new) (R.failed replies.new reply.new)) }
+        ensures stays { StaysFailed (A.broken audit.old) (A.contents audit.old) (A.broken audit.new) (A.contents audit.new) }
         ensures setup { server.new.setup ≡ server.old.setup }
         ensures most { reply.new.most ≡ reply.old.most }
         ensures used { IfOk result (λ taken. taken.used ≤ length chunk.now) }

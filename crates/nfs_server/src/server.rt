@@ -1,9 +1,9 @@
 //! A server, which takes one whole record at a time.
-ghost use Rattle.std.specs.Prelude.{◌≡◌, ℕ, ◌≤◌, List, [], ◌∷◌, ◌++◌, true, false, length, IfOk, None, Some};
+ghost use Rattle.std.specs.Prelude.{◌≡◌, ℕ, ◌≤◌, List, [], ◌∷◌, ◌++◌, true, false, length, IfOk, None, Some, is_err};
 ghost use Rattle.std.specs.List.{find};
 ghost use Rattle.nfs_args.specs.Procedures.{mount_number, mount_procedures, procedure_number, procedures};
 ghost use Rattle.nfs_rpc.specs.AuthSys.{caller, credential_of};
-ghost use Rattle.nfs_rpc.specs.Calls.{call_of};
+ghost use Rattle.nfs_rpc.specs.Calls.{call_of, head_at};
 ghost use Rattle.nfs_server.specs.Denying.{IsSpared, fails_by, fails_rule};
 ghost use Rattle.nfs_server.specs.Events.{Choice};
 ghost use Rattle.nfs_server.specs.declared.rpc_rules.RpcRule.TheVariants.{Arguments};
@@ -11,7 +11,7 @@ ghost use Rattle.nfs_server.specs.Requests.{is_nfs, is_null};
 ghost use Rattle.nfs_server.specs.AuditLines.{line_of};
 ghost use Rattle.nfs_server.specs.declared.audit_line.DenialReason.TheVariants.{Rpc};
 ghost use Rattle.nfs_server.specs.RpcRules.{fails_rpc, caller_rules, rpc_reply, rpc_rules};
-ghost use Rattle.nfs_server.specs.InMemory.{event_of, answer_of, answered, reported};
+ghost use Rattle.nfs_server.specs.InMemory.{event_of, answer_of, answered, is_silent, reported};
 ghost use Rattle.nfs_server.specs.Fits.{Held, History, Fits, GoesOn};
 ghost use Rattle.nfs_server.specs.OneEvent.{AnswersRecord, AnswersBy, AnswersChange, PerformsAnew, scene_for};
 ghost use Rattle.nfs_server.specs.Retransmissions as retransmissions;
@@ -184,12 +184,14 @@ impl Server {
     }
 
     /// Takes one whole record. For every history that fits before, the answer is a step after it,
-    /// and the history with this event fits after.
+    /// and the history with this event fits after. There is no reply exactly where no head of a call can be
+    /// read.
     pub fn handle(&mut self, event: Event<'_>, reply: &mut ReplyBuf) -> Handled
         ensures setup { self.new.setup ≡ self.old.setup }
         ensures step { (history : History) → Fits history self.old → (choice : Choice)
             × GoesOn history self.old (event_of event.entry) choice (answered result reply.new.reply self.new.line) self.new }
         ensures silent { result ≡ Handled.NoReply → (reply.new.reply ≡ []) × (self.new.line ≡ None) }
+        ensures unreadable { is_silent result ≡ is_err (head_at event.entry.bytes.now) }
         ensures spared { fails_rule self.old (event_of event.entry) ≡ false → IsSpared (answered result reply.new.reply self.new.line).line }
         ensures earlier { reply.new.earlier ≡ reply.old.earlier }
         ensures most { reply.new.most ≡ reply.old.most }
@@ -202,6 +204,7 @@ impl Server {
     pub fn answer(&mut self, event: Event<'_>, reply: &mut ReplyBuf) -> Handled
         ensures answers { AnswersRecord self.old (event_of event.entry) (answered result reply.new.reply self.new.line) self.new }
         ensures silent { result ≡ Handled.NoReply → (reply.new.reply ≡ []) × (self.new.line ≡ None) }
+        ensures unreadable { is_silent result ≡ is_err (head_at event.entry.bytes.now) }
         ensures earlier { reply.new.earlier ≡ reply.old.earlier }
         ensures most { reply.new.most ≡ reply.old.most }
     {

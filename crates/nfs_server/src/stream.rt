@@ -50,7 +50,7 @@ pub fn serve_stream<R: ByteIn, W: ByteOut, A: ByteOut, C: Moments>(
     clock: &mut C,
     turns: u32,
 ) -> Result<Served, ServeFault>
-    ensures streams { (history : History) → Fits history server.old → Streams R.gives C.reports history addr turns result server.new
+    ensures streams { (history : History) → Fits history server.old → Streams R.gives R.breaks C.reports history addr turns result server.new
         (course reader.old reader.new) (course clock.old clock.new)
         (device (A.contents audit.old) (A.contents audit.new))
         (device (W.contents writer.old) (W.contents writer.new)) }
@@ -90,7 +90,7 @@ fn read_stream<R: ByteIn, W: ByteOut, A: ByteOut, C: Moments>(
     requires between { IsBetween framer.old }
     requires begins { Unfinished [] framer.old }
     requires limit { framer.old.limit ≡ max_record_bytes }
-    ensures streams { (history : History) → Fits history server.old → Streams R.gives C.reports history addr turns result server.new
+    ensures streams { (history : History) → Fits history server.old → Streams R.gives R.breaks C.reports history addr turns result server.new
         (course reader.old reader.new) (course clock.old clock.new)
         (device (A.contents audit.old) (A.contents audit.new))
         (device (W.contents writer.old) (W.contents writer.new)) }

@@ -8,6 +8,7 @@ ghost use Rattle.nfs_server.specs.InMemory as seen;
 ghost use Rattle.nfs_server.specs.InMemory.{reported};
 ghost use Rattle.nfs_server.specs.Taking.{AnswersEvent, BeginsAnew, FeedsOne, FeedsSome, Holds, Waits, Writes};
 ghost use Rattle.nfs_server.specs.Taking.{room_after as room_left};
+ghost use Rattle.nfs_xdr.specs.Known.{StaysFailed};
 
 use crate::audit_out::AuditOut;
 use crate::event::{Event, Handled};
@@ -99,6 +100,7 @@ pub(crate) fn take_chunk<R: ReplyOut, A: AuditOut>(
     ensures limit { framer.new.limit ≡ framer.old.limit }
     ensures setup { server.new.setup ≡ server.old.setup }
     ensures fault { IfErr result (EndsWith (A.failed audit.new) (R.failed replies.new reply.new)) }
+    ensures stays { StaysFailed (A.broken audit.old) (A.contents audit.old) (A.broken audit.new) (A.contents audit.new) }
     ensures most { reply.new.most ≡ reply.old.most }
     ensures feeds { FeedsSome origin chunk.now room result server.old server.new framer.old framer.new
         (device (A.contents audit.old) (A.contents audit.new))
@@ -177,6 +179,7 @@ fn take_record<R: ReplyOut, A: AuditOut>(
     ensures limit { framer.new.limit ≡ framer.old.limit }
     ensures setup { server.new.setup ≡ server.old.setup }
     ensures fault { IfErr result (EndsWith (A.failed audit.new) (R.failed replies.new reply.new)) }
+    ensures stays { StaysFailed (A.broken audit.old) (A.contents audit.old) (A.broken audit.new) (A.contents audit.new) }
     ensures most { reply.new.most ≡ reply.old.most }
     ensures feeds { FeedsOne origin chunk.now result server.old server.new framer.old framer.new
         (device (A.contents audit.old) (A.contents audit.new))
@@ -222,6 +225,7 @@ fn take_fed<R: ReplyOut, A: AuditOut>(
     ensures limit { framer.new.limit ≡ framer.old.limit }
     ensures setup { server.new.setup ≡ server.old.setup }
     ensures fault { IfErr result (EndsWith (A.failed audit.new) (R.failed replies.new reply.new)) }
+    ensures stays { StaysFailed (A.broken audit.old) (A.contents audit.old) (A.broken audit.new) (A.contents audit.new) }
     ensures most { reply.new.most ≡ reply.old.most }
     ensures feeds { FeedsOne origin chunk.now result server.old server.new framer.old framer.new
         (device (A.contents audit.old) (A.contents audit.new))
@@ -293,6 +297,7 @@ pub(crate) fn answer_record<R: ReplyOut, A: AuditOut>(
     ensures limit { framer.new.limit ≡ framer.old.limit }
     ensures setup { server.new.setup ≡ server.old.setup }
     ensures fault { IfErr result (EndsWith (A.failed audit.new) (R.failed replies.new reply.new)) }
+    ensures stays { StaysFailed (A.broken audit.old) (A.contents audit.old) (A.broken audit.new) (A.contents audit.new) }
     ensures most { reply.new.most ≡ reply.old.most }
     ensures answers { AnswersEvent (event_at origin framer.old.content) result server.old server.new
         (device (A.contents audit.old) (A.contents audit.new))
@@ -320,6 +325,7 @@ fn answer_event<R: ReplyOut, A: AuditOut>(
     requires { A.full audit.old ≡ true → fails_rule server.old (seen.event_of event) ≡ false }
     ensures setup { server.new.setup ≡ server.old.setup }
     ensures fault { IfErr result (EndsWith (A.failed audit.new) (R.failed replies.new reply.new)) }
+    ensures stays { StaysFailed (A.broken audit.old) (A.contents audit.old) (A.broken audit.new) (A.contents audit.new) }
     ensures most { reply.new.most ≡ reply.old.most }
     ensures answers { AnswersEvent (seen.event_of event.entry) result server.old server.new
         (device (A.contents audit.old) (A.contents audit.new))
@@ -342,6 +348,7 @@ fn write_answer<R: ReplyOut, A: AuditOut>(
 ) -> Result<usize, SessionFault>
     requires { A.full audit.old ≡ true → IsSpared server.now.line }
     ensures fault { IfErr result (EndsWith (A.failed audit.new) (R.failed replies.new reply.new)) }
+    ensures stays { StaysFailed (A.broken audit.old) (A.contents audit.old) (A.broken audit.new) (A.contents audit.new) }
     ensures most { reply.new.most ≡ reply.old.most }
     ensures writes { Writes (reported reply.old.reply server.now.line) result
         (device (A.contents audit.old) (A.contents audit.new))

@@ -1,3 +1,4 @@
 pub mod Turning
 pub mod Service
 pub mod Windows
+pub mod Failed

@@ -265,7 +265,7 @@ module _ {L : Type 0} (outgoing incoming : L → Option (List ℕ)) where
       outcomes_are = ap (λ cs. passes ∷ cs) before.outcomes_are;
       are_outcomes = ((refl, refl, refl), before.are_outcomes);
       fits = subst (λ s. Fits (longer history (all_events before.outcomes)) s) (sym p.server_stays) before.fits;
-      log_is = Grows-then old.log between.log new.log (log_of before.outcomes) [] before.log_is p.log_stays;
+      log_is = Grows-then old.log between.log new.log (log_of before.outcomes) [] before.log_is p.log_is;
       lines_are = Grows-then old.lines between.lines new.lines (lines_written before.outcomes) [] before.lines_are p.lines_stay;
       whole = whole_still p.complete_stays;
       seats_served = λ k. still k (ap (λ (seats : ℕ → Option (Seat L)). seats k) p.seats_stay);

@@ -1,5 +1,7 @@
 -- What a turn does, step by step.
-use Rattle.std.proofs.Common.{◌≡◌, ◌⊎◌, ℕ, Bool, true, false, List, [], ◌∷◌, ◌++◌, take, drop, Option, Some, None, Result, Ok, Err, OnOk, OnErr, is_err, inl, inr, refl, sym, ap, subst, ◌∙◌, append_assoc, append-nil}
+use Rattle.std.proofs.Common.{◌≡◌, ◌⊎◌, ◌<◌, ◌≤◌, ℕ, Bool, true, false, List, [], ◌∷◌, ◌++◌, take, drop, Option, Some, None, Result, Ok, Err, OnOk, OnErr, is_err, nat_eq, inl, inr, refl, sym, ap, subst, ◌∙◌, append_assoc, append-nil}
+use Rattle.std.proofs.Math.Nat.{eq-or-lt_of_le}
+use Rattle.std.proofs.lemmas.Bool.{eqb-false}
 use Rattle.std.proofs.lemmas.List.{take-append-drop}
 use Rattle.nfs_attrs.specs.declared.moment.Moment.{Moment}
 use Rattle.nfs_rpc.specs.Progress.{Progress}
@@ -26,6 +28,13 @@ none_some e = cc
 
 some_same : {X : Type 0} {x y : X} → Some x ≡ Some y → x ≡ y
 some_same e = cc
+
+pub fewer : (n room : ℕ) → n ≤ room → nat_eq n room ≡ false → n < room
+fewer n room le differ = by_case (eq-or-lt_of_le le)
+  where
+    by_case : (n ≡ room) ⊎ (n < room) → n < room
+    by_case (inl same) = absurd (eqb-false n room differ same)
+    by_case (inr less) = less
 
 -- ---- what is known of bytes
 

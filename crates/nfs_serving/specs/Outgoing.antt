@@ -1,5 +1,5 @@
 -- What goes out on a link, and what comes in.
-use Rattle.std.specs.Prelude.{◌≡◌, ◌≢◌, ℕ, Bool, List, [], ◌++◌, Option, option_map}
+use Rattle.std.specs.Prelude.{◌≡◌, ◌≢◌, ◌⊎◌, ℕ, ◌<◌, Bool, List, [], ◌++◌, Option, option_map}
 use Rattle.nfs_xdr.specs.declared.link.Came.{Came}
 use Rattle.nfs_xdr.specs.declared.link.Came.TheVariants.{Bytes, Nothing, End}
 use Rattle.nfs_xdr.specs.Known.{Grows, Shrinks, IsAtEnd}
@@ -31,3 +31,16 @@ abbrev pub Brings : Option (List ℕ) → Came → List ℕ → Option (List ℕ
 Brings before (Bytes n) chunk after = (chunk ≢ []) × Shrinks before chunk after
 Brings before Nothing chunk after = (chunk ≡ []) × (after ≡ before)
 Brings before End chunk after = (chunk ≡ []) × (after ≡ before) × IsAtEnd after
+
+-- ---- that nothing more is there
+
+-- the link reported last that nothing has come
+abbrev pub IsQuiet : {L : Type 0} → (L → ℕ → Came → L → Type 0) → L → Type 0
+IsQuiet {L} reports link = (before : L) × (room : ℕ) × reports before room Nothing link
+
+-- the link reported fewer bytes than there was room for, and nothing was received since
+abbrev pub IsDrained : {L : Type 0} → (L → Option (List ℕ)) → (L → ℕ → Came → L → Type 0) → L → Type 0
+IsDrained {L} incoming reports link = (before after : L) × (room n : ℕ) × (n < room) × reports before room (Bytes n) after × (incoming link ≡ incoming after)
+
+abbrev pub IsExhausted : {L : Type 0} → (L → Option (List ℕ)) → (L → ℕ → Came → L → Type 0) → L → Type 0
+IsExhausted incoming reports link = IsQuiet reports link ⊎ IsDrained incoming reports link

@@ -16,7 +16,7 @@ use Rattle.nfs_server.specs.declared.serve_fault.ServeFault.TheVariants.{ReadFau
 use Rattle.nfs_serving.specs.Turns.{Standing, TurnsBy, written}
 use Rattle.nfs_serving.specs.declared.turn.End.{End}
 use Rattle.nfs_serving.specs.declared.turn.End.TheVariants.{Closed, Fault}
-use Rattle.nfs_xdr.specs.Known.{Grows, Shrinks}
+use Rattle.nfs_xdr.specs.Known.{Grows, Shrinks, StaysFailed}
 
 -- ---- what is
 
@@ -25,13 +25,14 @@ pub record Seat (L : Type 0) : Type 0 where
   pub number : ℕ
   pub client : Standing L
 
--- a server, the clients by their keys, how many have joined, what was written to the log of denied calls and as lines of ended connections, where that is known, and whether each of these lines was written to its end
+-- a server, the clients by their keys, how many have joined, what was written to the log of denied calls and as lines of ended connections, where that is known, whether the log's device has failed, and whether each line of a connection was written to its end
 pub record ServiceState (L : Type 0) : Type 0 where
   pub server : Held
   pub seat : ℕ → Option (Seat L)
   pub joined : ℕ
   pub log : Option (List ℕ)
   pub lines : Option (List ℕ)
+  pub broken : Bool
   pub complete : Bool
 
 -- a client at its beginning: nothing has come, and nothing is pending
@@ -77,6 +78,7 @@ pub record Joins {L : Type 0} (key number : ℕ) (addr : Addr) (old new : Servic
   pub server_stays : new.server ≡ old.server
   pub log_stays : new.log ≡ old.log
   pub lines_stay : new.lines ≡ old.lines
+  pub broken_stays : new.broken ≡ old.broken
   pub complete_stays : new.complete ≡ old.complete
 
 pub record HasTurn {L : Type 0} (outgoing incoming : L → Option (List ℕ)) (key : ℕ) (moment : Moment) (came : List ℕ) (old new : ServiceState L) : Type 0 where
@@ -86,6 +88,7 @@ pub record HasTurn {L : Type 0} (outgoing incoming : L → Option (List ℕ)) (k
   pub sat : old.seat key ≡ Some (record { number = number; client = was })
   pub sits : new.seat key ≡ Some (record { number = number; client = now })
   pub turn : TurnsBy outgoing incoming moment came was now old.server new.server (device old.log new.log)
+  pub log_stays : StaysFailed old.broken old.log new.broken new.log
   pub others : OthersSit key old new
   pub joined_stays : new.joined ≡ old.joined
   pub lines_stay : new.lines ≡ old.lines
@@ -111,6 +114,7 @@ pub record Leaves {L : Type 0} (shared : Bool) (key number calls : ℕ) (end : E
   pub whole : new.complete ≡ true → (old.complete ≡ true) × (line ≡ end_text number calls end)
   pub lines_grow : Grows old.lines line new.lines
   pub log_grows : Grows old.log (if shared then line else []) new.log
+  pub log_stays : StaysFailed old.broken old.log new.broken new.log
   pub others : OthersSit key old new
   pub joined_stays : new.joined ≡ old.joined
   pub server_stays : new.server ≡ old.server
@@ -120,7 +124,8 @@ pub record PassesOn {L : Type 0} (old new : ServiceState L) : Type 0 where
   pub server_stays : new.server ≡ old.server
   pub seats_stay : new.seat ≡ old.seat
   pub joined_stays : new.joined ≡ old.joined
-  pub log_stays : Grows old.log [] new.log
+  pub log_is : Grows old.log [] new.log
+  pub log_stays : StaysFailed old.broken old.log new.broken new.log
   pub lines_stay : Grows old.lines [] new.lines
   pub complete_stays : new.complete ≡ old.complete
 
@@ -272,3 +277,7 @@ pub record IsOneHistory {L : Type 0} (outgoing incoming : L → Option (List ℕ
 abbrev pub ServiceIsOneHistory : {L : Type 0} → (L → Option (List ℕ)) → (L → Option (List ℕ)) → Type 0
 ServiceIsOneHistory {L} outgoing incoming = (shared : Bool) (changes : List Change) (old new : ServiceState L) → ((key : ℕ) → old.seat key ≡ None)
     → AreChanges outgoing incoming shared changes old new → (history : History) → Fits history old.server → IsOneHistory outgoing incoming shared history changes old new
+
+-- whatever changes a service whose log has failed, it has failed, and nothing more is written to it
+abbrev pub FailedLogsStay : {L : Type 0} → (L → Option (List ℕ)) → (L → Option (List ℕ)) → Type 0
+FailedLogsStay {L} outgoing incoming = (shared : Bool) (changes : List Change) (old new : ServiceState L) → AreChanges outgoing incoming shared changes old new → StaysFailed old.broken old.log new.broken new.log

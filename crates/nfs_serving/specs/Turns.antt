@@ -14,12 +14,13 @@ use Rattle.nfs_server.specs.Taking.{Waits}
 use Rattle.nfs_server.specs.declared.taking.Origin.{Origin}
 use Rattle.nfs_server.specs.declared.taking.Stop.{Stop}
 use Rattle.nfs_server.specs.declared.taking.Stop.TheVariants.{Done as Finished}
-use Rattle.nfs_serving.specs.Outgoing.{Outgoing, Passes, with_pending}
+use Rattle.nfs_serving.specs.Outgoing.{Outgoing, IsDrained, IsQuiet, Passes, with_pending}
 use Rattle.nfs_serving.specs.declared.turn.End.{End}
 use Rattle.nfs_serving.specs.declared.turn.End.TheVariants.{Closed, Fault}
 use Rattle.nfs_serving.specs.declared.turn.Turn.{Turn}
 use Rattle.nfs_serving.specs.declared.turn.Turn.TheVariants as turn
 use Rattle.nfs_xdr.specs.Known.{Grows, Shrinks, IsAtEnd}
+use Rattle.nfs_xdr.specs.declared.link.Came.{Came}
 
 -- a client: its connection, the way out, what has come and is not taken, how it ended, if it did, and how many records were answered
 pub record Standing (L : Type 0) : Type 0 where
@@ -121,6 +122,15 @@ Reports turn.Idle new = (new.channel.pending ≡ []) × (new.chunk ≡ [])
 Reports turn.Held new = new.channel.pending ≡ []
 Reports turn.Owing new = new.channel.pending ≢ []
 Reports (turn.Ended end) new = (new.end ≡ Some end) × ((new.channel.pending ≡ []) ⊎ (new.channel.failed ≡ true))
+
+-- a turn after which nothing more is there has asked the link
+abbrev pub HasAsked : {L : Type 0} → (L → Option (List ℕ)) → (L → ℕ → Came → L → Type 0) → Turn → Standing L → Type 0
+HasAsked incoming reports turn.Fed new = Unit {0}
+HasAsked incoming reports turn.Drained new = IsDrained incoming reports new.channel.link
+HasAsked incoming reports turn.Idle new = IsQuiet reports new.channel.link
+HasAsked incoming reports turn.Held new = Unit {0}
+HasAsked incoming reports turn.Owing new = Unit {0}
+HasAsked incoming reports (turn.Ended end) new = Unit {0}
 
 -- a client's next record waits, since the log is full, whatever was unfinished
 abbrev pub IsHeld : {L : Type 0} → Moment → Standing L → Held → Bool → Type 0

@@ -19,6 +19,15 @@ pub struct Buffer {
     to: usize,
 }
 
+/// What has come on a link.
+#[derive(Clone, Copy)]
+pub struct Received {
+    /// What it reported.
+    pub came: Came,
+    /// For how many bytes there was room.
+    pub room: usize,
+}
+
 impl Model for Buffer {
     ghost use Rattle.std.specs.Prelude.{◌-◌, ◌≤◌, ℕ, List, take, drop, vec_len};
 
@@ -127,9 +136,11 @@ impl Buffer {
 
     /// Receives what has come on a link, as much as there is room for and at most so many bytes, in
     /// place of what it has.
-    pub fn receive<L: Link>(&mut self, link: &mut L, most: usize) -> Result<Came, DeviceFault>
+    pub fn receive<L: Link>(&mut self, link: &mut L, most: usize) -> Result<Received, DeviceFault>
         requires { 0 < most }
-        ensures came { IfOk result (λ came. Brings (L.incoming link.old) came self.new (L.incoming link.new)) }
+        ensures came { IfOk result (λ received. Brings (L.incoming link.old) received.came self.new (L.incoming link.new)) }
+        ensures reports { IfOk result (λ received. L.reports link.old received.room received.came link.new) }
+        ensures within { IfOk result (λ received. came_bytes received.came ≤ received.room) }
         ensures most { length self.new ≤ most }
         ensures outgoing { L.outgoing link.new ≡ L.outgoing link.old }
         ensures fault { OnErr result ((L.failed link.new ≡ true) × (L.incoming link.new ≡ L.incoming link.old) × (self.new ≡ [])) }
@@ -137,9 +148,17 @@ impl Buffer {
         self.from = 0;
         self.to = 0;
         match receive_some(link, self.bytes.as_mut_slice(), most) {
-            Ok(Came::Bytes(n)) => {
+            Ok(
+                Received {
+                    came: Came::Bytes(n),
+                    room,
+                },
+            ) => {
                 self.to = n;
-                Ok(Came::Bytes(n))
+                Ok(Received {
+                    came: Came::Bytes(n),
+                    room,
+                })
             }
             none => none,
         }
@@ -147,12 +166,21 @@ impl Buffer {
 }
 
 // Receives what has come on a link, as much as there is room for and at most so many bytes.
-fn receive_some<L: Link>(link: &mut L, buffer: &mut [u8], most: usize) -> Result<Came, DeviceFault>
-    ensures came { IfOk result (λ came. Receives (L.incoming link.old) buffer.new came (L.incoming link.new)) }
-    ensures most { IfOk result (λ came. came_bytes came ≤ most) }
+fn receive_some<L: Link>(
+    link: &mut L,
+    buffer: &mut [u8],
+    most: usize,
+) -> Result<Received, DeviceFault>
+    ensures came { IfOk result (λ received. Receives (L.incoming link.old) buffer.new received.came (L.incoming link.new)) }
+    ensures reports { IfOk result (λ received. L.reports link.old received.room received.came link.new) }
+    ensures within { IfOk result (λ received. came_bytes received.came ≤ received.room) }
+    ensures most { IfOk result (λ received. came_bytes received.came ≤ most) }
     ensures outgoing { L.outgoing link.new ≡ L.outgoing link.old }
     ensures fault { OnErr result ((L.failed link.new ≡ true) × (L.incoming link.new ≡ L.incoming link.old)) }
 {
     let room = most.min(buffer.len());
-    link.receive(&mut buffer[..room])
+    match link.receive(&mut buffer[..room]) {
+        Ok(came) => Ok(Received { came, room }),
+        Err(fault) => Err(fault),
+    }
 }

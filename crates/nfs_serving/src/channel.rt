@@ -1,11 +1,11 @@
 //! The way out to a client.
 ghost use Rattle.std.specs.Prelude.{◌≡◌, ◌<◌, ◌≤◌, ◌↔◌, [], true, false, length, take, vec_capacity, IsTrue, IfOk, OnOk, OnErr};
-ghost use Rattle.nfs_serving.specs.Outgoing.{Passes, Brings};
+ghost use Rattle.nfs_serving.specs.Outgoing.{Passes, Brings, came_bytes};
 ghost use Rattle.nfs_xdr.specs.Known.{Grows};
 
-use crate::buffer::Buffer;
+use crate::buffer::{Buffer, Received};
 use nfs_xdr::device::DeviceFault;
-use nfs_xdr::link::{Came, Link};
+use nfs_xdr::link::Link;
 use std::alloc::Global;
 use std::marker::Model;
 
@@ -91,9 +91,11 @@ impl<L: Link> Channel<L> {
     }
 
     /// Receives what has come, as much as a chunk has room for and at most so many bytes.
-    pub fn receive(&mut self, chunk: &mut Buffer, most: usize) -> Result<Came, DeviceFault>
+    pub fn receive(&mut self, chunk: &mut Buffer, most: usize) -> Result<Received, DeviceFault>
         requires { 0 < most }
-        ensures came { IfOk result (λ came. Brings (L.incoming self.old.link) came chunk.new (L.incoming self.new.link)) }
+        ensures came { IfOk result (λ received. Brings (L.incoming self.old.link) received.came chunk.new (L.incoming self.new.link)) }
+        ensures reports { IfOk result (λ received. L.reports self.old.link received.room received.came self.new.link) }
+        ensures within { IfOk result (λ received. came_bytes received.came ≤ received.room) }
         ensures most { length chunk.new ≤ most }
         ensures outgoing { L.outgoing self.new.link ≡ L.outgoing self.old.link }
         ensures same { (self.new.pending ≡ self.old.pending) × (self.new.failed ≡ self.old.failed) }

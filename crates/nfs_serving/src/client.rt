@@ -1,10 +1,12 @@
 //! A client of a server.
-ghost use Rattle.std.specs.Prelude.{◌≡◌, ◌≢◌, ◌⊎◌, ◌≤◌, ◌↔◌, Bool, vec_capacity, ℕ, List, [], None, Some, true, false, IsTrue, IfErr, OnOk, OnErr};
+ghost use Rattle.std.specs.Prelude.{◌≡◌, ◌≢◌, ◌⊎◌, ◌≤◌, ◌↔◌, Bool, vec_capacity, ℕ, List, [], None, Some, true, false, IsTrue, IfOk, IfErr, OnOk, OnErr};
 ghost use Rattle.nfs_rpc.specs.Lent.{IsBefore};
 ghost use Rattle.nfs_server.specs.Connections.{IsAtStart};
 ghost use Rattle.nfs_server.specs.Feeding.{device, EndsWith};
 ghost use Rattle.nfs_server.specs.Taking.{Waits};
-ghost use Rattle.nfs_serving.specs.Turns.{EndsForCause, Gathers, IsCause, IsCauseInRecords, IsEndBy, IsEndedBy, IsHeld, Rests, Takes, Reports, Turns, origin_of};
+ghost use Rattle.nfs_serving.specs.Outgoing.{IsDrained};
+ghost use Rattle.nfs_serving.specs.Turns.{EndsForCause, Gathers, HasAsked, IsCause, IsCauseInRecords, IsEndBy, IsEndedBy, IsHeld, Rests, Takes, Reports, Turns, origin_of};
+ghost use Rattle.nfs_xdr.specs.Known.{StaysFailed};
 
 use crate::buffer::Buffer;
 use crate::channel::Channel;
@@ -106,7 +108,7 @@ impl<L: Link> Client<L> {
     /// nothing is pending any more, some bytes that have come are taken, each record that they make whole
     /// is answered, its audit line, where it is denied, written before the next is looked at, and the
     /// replies go out together, as much as the link takes. Where the log is full, nothing is taken from a
-    /// call on that fails a rule.
+    /// call on that fails a rule; where its device has failed, nothing more is written to it.
     ///
     /// A fault of a record, of the audit lines or of memory ends the connection after the replies
     /// to the records before it; a fault of the link ends it at once.
@@ -121,7 +123,9 @@ impl<L: Link> Client<L> {
             (device (A.contents audit.old) (A.contents audit.new)) }
         ensures reports { Reports result self.new }
         ensures held { result ≡ Turn.Held → IsHeld moment self.new server.new (A.full audit.new) }
+        ensures asked { HasAsked L.incoming L.reports result self.new }
         ensures setup { server.new.setup ≡ server.old.setup }
+        ensures stays { StaysFailed (A.broken audit.old) (A.contents audit.old) (A.broken audit.new) (A.contents audit.new) }
         ensures cause { EndsForCause L.incoming L.failed (A.failed audit.new) self.old self.new }
     {
         if self.pass_on().is_err() {
@@ -159,7 +163,9 @@ impl<L: Link> Client<L> {
             (device (A.contents audit.old) (A.contents audit.new)) }
         ensures reports { Reports result self.new }
         ensures held { result ≡ Turn.Held → IsHeld moment self.new server.new (A.full audit.new) }
+        ensures asked { HasAsked L.incoming L.reports result self.new }
         ensures setup { server.new.setup ≡ server.old.setup }
+        ensures stays { StaysFailed (A.broken audit.old) (A.contents audit.old) (A.broken audit.new) (A.contents audit.new) }
         ensures cause { IsCause L.incoming L.failed (A.failed audit.new) self.new.end self.new }
     {
         if room.make().is_err() {
@@ -185,7 +191,9 @@ impl<L: Link> Client<L> {
             (device (A.contents audit.old) (A.contents audit.new)) }
         ensures reports { Reports result self.new }
         ensures held { result ≡ Turn.Held → IsHeld moment self.new server.new (A.full audit.new) }
+        ensures asked { HasAsked L.incoming L.reports result self.new }
         ensures setup { server.new.setup ≡ server.old.setup }
+        ensures stays { StaysFailed (A.broken audit.old) (A.contents audit.old) (A.broken audit.new) (A.contents audit.new) }
         ensures cause { IsCause L.incoming L.failed (A.failed audit.new) self.new.end self.new }
     {
         if self.chunk.is_empty() {
@@ -199,7 +207,7 @@ impl<L: Link> Client<L> {
     }
 
     // Receives what has come, in place of what was taken: whether there may be more, which is so where
-    // as much came as was asked for. Where nothing has come, what becomes of the turn.
+    // as much came as there was room for. Where nothing has come, what becomes of the turn.
     fn receive(&mut self, room: &mut Vec<u8>) -> Result<bool, Turn>
         requires chunk { self.old.chunk ≡ [] }
         requires pending { self.old.channel.pending ≡ [] }
@@ -209,17 +217,21 @@ impl<L: Link> Client<L> {
         ensures pending { self.new.channel.pending ≡ [] }
         ensures reports { IfErr result (λ turn. Reports turn self.new) }
         ensures held { IfErr result (λ turn. turn ≢ Turn.Held) }
+        ensures drained { IfOk result (λ may_be_more. may_be_more ≡ false → IsDrained L.incoming L.reports self.new.channel.link) }
+        ensures asked { IfErr result (λ turn. HasAsked L.incoming L.reports turn self.new) }
         ensures cause { (audit_failed : Bool) → IsCause L.incoming L.failed audit_failed self.new.end self.new }
     {
         if self.chunk.borrow_room(room).is_err() {
             return Err(self.ends(End::Fault(ServeFault::Memory)));
         }
         let most = self.receive_size.next(self.connection.begun());
-        match self.channel.receive(&mut self.chunk, most) {
-            Ok(Came::Bytes(n)) => Ok(n == most),
-            Ok(Came::Nothing) => Err(Turn::Idle),
-            Ok(Came::End) => Err(self.ends(End::Closed)),
-            Err(_) => Err(self.ends(End::Fault(ServeFault::ReadFault))),
+        let Ok(received) = self.channel.receive(&mut self.chunk, most) else {
+            return Err(self.ends(End::Fault(ServeFault::ReadFault)));
+        };
+        match received.came {
+            Came::Bytes(n) => Ok(n == received.room),
+            Came::Nothing => Err(Turn::Idle),
+            Came::End => Err(self.ends(End::Closed)),
         }
     }
 
@@ -236,11 +248,14 @@ impl<L: Link> Client<L> {
         requires pending { self.old.channel.pending ≡ [] }
         requires alive { self.old.end ≡ None }
         requires room { MOST_GATHERED ≤ vec_capacity room.old.pending }
+        requires drained { may_be_more ≡ false → IsDrained L.incoming L.reports self.old.channel.link }
         ensures takes { Takes L.outgoing L.incoming moment [] self.old self.new server.old server.new
             (device (A.contents audit.old) (A.contents audit.new)) }
         ensures reports { Reports result self.new }
         ensures held { result ≡ Turn.Held → IsHeld moment self.new server.new (A.full audit.new) }
+        ensures asked { HasAsked L.incoming L.reports result self.new }
         ensures setup { server.new.setup ≡ server.old.setup }
+        ensures stays { StaysFailed (A.broken audit.old) (A.contents audit.old) (A.broken audit.new) (A.contents audit.new) }
         ensures cause { IsCause L.incoming L.failed (A.failed audit.new) self.new.end self.new }
     {
         let stop = self.answer(server, &mut room.reply, moment, audit);
@@ -251,13 +266,15 @@ impl<L: Link> Client<L> {
     // What became of a turn after which the link is whole or broken, and which took bytes, up to where it
     // stopped, after which there may be more.
     fn outcome(&mut self, is_whole: bool, may_be_more: bool, stop: Stop) -> Turn
-        requires { is_whole ≡ false → self.old.channel.failed ≡ true }
+        requires whole { is_whole ≡ false → self.old.channel.failed ≡ true }
+        requires drained { may_be_more ≡ false → IsDrained L.incoming L.reports self.old.channel.link }
         ensures connection { self.new.connection ≡ self.old.connection }
         ensures channel { self.new.channel ≡ self.old.channel }
         ensures chunk { self.new.chunk ≡ self.old.chunk }
         ensures calls { self.new.calls ≡ self.old.calls }
         ensures reports { Reports result self.new }
         ensures held { result ≡ Turn.Held → stop ≢ Stop.Done }
+        ensures asked { HasAsked L.incoming L.reports result self.new }
         ensures ends { (self.new.end ≡ self.old.end) ⊎ ((self.new.end ≡ Some (End.Fault ServeFault.WriteFault)) × (self.new.channel.failed ≡ true)) }
         ensures cause { (audit_failed : Bool) → IsCauseInRecords self.old.connection.ended audit_failed self.old.end → IsCause L.incoming L.failed audit_failed self.new.end self.new }
     {
@@ -292,6 +309,7 @@ impl<L: Link> Client<L> {
         ensures most { reply.new.most ≡ reply.old.most }
         ensures cause { IsCauseInRecords self.new.connection.ended (A.failed audit.new) self.new.end }
         ensures setup { server.new.setup ≡ server.old.setup }
+        ensures stays { StaysFailed (A.broken audit.old) (A.contents audit.old) (A.broken audit.new) (A.contents audit.new) }
     {
         reply.clear_all();
         let mut gathering = Gathering;

@@ -1,5 +1,5 @@
 //! Laws over the definitions alone.
-ghost use Rattle.nfs_serving.specs.Service.{ServiceIsOneHistory};
+ghost use Rattle.nfs_serving.specs.Service.{FailedLogsStay, ServiceIsOneHistory};
 
 use nfs_xdr::link::Link;
 
@@ -11,4 +11,9 @@ use nfs_xdr::link::Link;
 /// where no fault of its records has ended it, exactly these replies, as if no other were there.
 pub fn service_is_one_history<L: Link>()
     ensures { ServiceIsOneHistory L.outgoing L.incoming }
+{}
+
+/// Whatever changes a service, once its log's device has failed, nothing more is written to it.
+pub fn failed_logs_stay<L: Link>()
+    ensures { FailedLogsStay L.outgoing L.incoming }
 {}

@@ -9,16 +9,13 @@ use log::Log;
 use mio::net::{TcpListener, TcpStream};
 use mio::{Events, Interest, Poll};
 use nfs_attrs::moment::Moment;
-use nfs_loop::network::{Accepted, Network, Ready};
+use nfs_loop::network::{Accepted, EVENTS, Network, Ready};
 use nfs_server::moments::Moments;
 use std::alloc::Global;
 use std::collections::VecDeque;
 use std::io::{self, ErrorKind};
 use std::net::Net;
 use std::time::{Clock, Duration, Instant};
-
-// How many events are taken at once.
-const EVENTS: usize = 1_024;
 
 /// A listener, the streams of its connections, and the clock, by the system, of which nothing is known.
 #[derive(Drop)]
@@ -48,8 +45,8 @@ impl<'a, R: Net + Clock + Log> TcpNetwork<'a, R> {
             clock: SystemClock::new(rt),
             began: Instant::now(rt)?,
             poll,
-            events: Events::with_capacity(alloc, EVENTS)?,
-            ready: VecDeque::with_capacity(alloc, EVENTS)?,
+            events: Events::with_capacity(alloc, EVENTS as usize)?,
+            ready: VecDeque::with_capacity(alloc, EVENTS as usize)?,
             listener: Some(listener),
         })
     }

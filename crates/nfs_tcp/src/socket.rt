@@ -43,6 +43,8 @@ impl Link for Socket {
 
     ghost failed = { λ s. s.failed };
 
+    ghost reports = { λ _ _ _ _. Unit {0} };
+
     fn send(&mut self, bytes: &[u8]) -> Result<usize, DeviceFault> {
         match send(&mut self.stream, bytes) {
             Ok(n) => Ok(n),

@@ -1,5 +1,5 @@
 -- What reads and writes do to the bytes that a device holds or has left, where these are known.
-use Rattle.std.specs.Prelude.{◌≡◌, ℕ, ◌<◌, ◌≤◌, List, [], ◌++◌, length, take, Option, Some}
+use Rattle.std.specs.Prelude.{◌≡◌, ℕ, ◌<◌, ◌≤◌, Bool, true, List, [], ◌++◌, length, take, Option, Some}
 use Rattle.nfs_xdr.specs.declared.link.Came.{Came}
 use Rattle.nfs_xdr.specs.declared.link.Came.TheVariants.{Bytes, Nothing, End}
 
@@ -10,6 +10,10 @@ Grows old bytes new = (before : List ℕ) → old ≡ Some before → new ≡ So
 -- the same, with some first bytes of the new ones alone
 abbrev pub GrowsByPart : Option (List ℕ) → List ℕ → Option (List ℕ) → Type 0
 GrowsByPart old bytes new = (n : ℕ) × (n ≤ length bytes) × Grows old (take n bytes) new
+
+-- a device that had failed has failed, and took nothing more
+abbrev pub StaysFailed : Bool → Option (List ℕ) → Bool → Option (List ℕ) → Type 0
+StaysFailed was old is new = was ≡ true → (is ≡ true) × Grows old [] new
 
 -- where the bytes that are left are known, they were these and then those that are left now
 abbrev pub Shrinks : Option (List ℕ) → List ℕ → Option (List ℕ) → Type 0

@@ -1,6 +1,6 @@
 //! Devices that take or give bytes, and may fail: sockets, files, memory, and fakes for tests.
 ghost use Rattle.std.specs.Prelude.{◌≡◌, ℕ, ◌<◌, ◌≤◌, List, [], Option, Bool, true, false, length, take, IfOk, OnOk, OnErr, IsErr};
-ghost use Rattle.nfs_xdr.specs.Known.{Grows, GrowsByPart, Shrinks, IsAtEnd};
+ghost use Rattle.nfs_xdr.specs.Known.{Grows, GrowsByPart, Shrinks, StaysFailed, IsAtEnd};
 
 use std::io::{Read, Write};
 use std::marker::Model;
@@ -20,13 +20,18 @@ pub trait ByteIn {
     /// That a call which gave these bytes leads from one state to another.
     ghost gives: { Self → List ℕ → Self → Type 0 };
 
-    /// Gives some bytes; none, where there is room for some, only at the end.
+    /// That a call which answered the fault leads from one state to another.
+    ghost breaks: { Self → Self → Type 0 };
+
+    /// Gives some bytes; none, where there is room for some, only at the end. A call that answers the fault
+    /// gives none.
     fn read(&mut self, buffer: &mut [u8]) -> Result<usize, DeviceFault>
         ensures count { IfOk result (λ n. n ≤ length buffer.new) }
         ensures gives { IfOk result (λ n. gives self.old (take n buffer.new) self.new) }
         ensures given { IfOk result (λ n. Shrinks (remaining self.old) (take n buffer.new) (remaining self.new)) }
         ensures end { IfOk result (λ n. n ≡ 0 → 0 < length buffer.new → IsAtEnd (remaining self.new)) }
         ensures alive { OnOk result ((failed self.old ≡ false) × (failed self.new ≡ false)) }
+        ensures breaks { OnErr result (breaks self.old self.new) }
         ensures fault { OnErr result ((failed self.new ≡ true) × Shrinks (remaining self.old) [] (remaining self.new)) };
 }
 
@@ -49,12 +54,13 @@ pub trait ByteOut {
 }
 
 /// Writes all of the bytes, in as many calls as the device wants. At a fault some first ones
-/// were written.
+/// were written; none where the device had failed before.
 pub fn write_all<W: ByteOut>(out: &mut W, bytes: &[u8]) -> Result<(), DeviceFault>
     ensures ok { OnOk result (Grows (W.contents out.old) bytes.now (W.contents out.new)) }
     ensures part { OnErr result (GrowsByPart (W.contents out.old) bytes.now (W.contents out.new)) }
     ensures fault { OnErr result (W.failed out.new ≡ true) }
     ensures alive { OnOk result (W.failed out.new ≡ W.failed out.old) }
+    ensures stays { StaysFailed (W.failed out.old) (W.contents out.old) (W.failed out.new) (W.contents out.new) }
 {
     let mut at = 0;
     while at < bytes.len() {
@@ -108,6 +114,8 @@ impl<D: Read> ByteIn for Device<D> {
     ghost failed = { λ d. d.failed };
 
     ghost gives = { λ old bytes new. Shrinks (D.remaining old.inner) bytes (D.remaining new.inner) };
+
+    ghost breaks = { λ old new. Shrinks (D.remaining old.inner) [] (D.remaining new.inner) };
 
     fn read(&mut self, buffer: &mut [u8]) -> Result<usize, DeviceFault>
         ensures count { IfOk result (λ n. n ≤ length buffer.new) }

@@ -17,6 +17,8 @@ pub enum Came {
 
 /// A stream of bytes to a peer and from it, which never waits.
 pub trait Link {
+    ghost use Rattle.nfs_xdr.specs.declared.link.Came.{Came};
+
     /// The bytes that were sent, where they are known.
     ghost outgoing: { Self → Option (List ℕ) };
 
@@ -25,6 +27,10 @@ pub trait Link {
 
     /// Whether a call answered the fault.
     ghost failed: { Self → Bool };
+
+    /// That a call of `receive` with room for so many bytes, which reported this, leads from one state to
+    /// another.
+    ghost reports: { Self → ℕ → Came → Self → Type 0 };
 
     /// Sends some first bytes, as many as are taken now, which may be none.
     fn send(&mut self, bytes: &[u8]) -> Result<usize, DeviceFault>
@@ -36,6 +42,7 @@ pub trait Link {
     /// Gives what has come, as much of it as there is room for.
     fn receive(&mut self, buffer: &mut [u8]) -> Result<Came, DeviceFault>
         ensures came { IfOk result (λ came. Receives (incoming self.old) buffer.new came (incoming self.new)) }
+        ensures reports { IfOk result (λ came. reports self.old (length buffer.old) came self.new) }
         ensures outgoing { outgoing self.new ≡ outgoing self.old }
         ensures fault { OnErr result ((failed self.new ≡ true) × (incoming self.new ≡ incoming self.old)) };
 }

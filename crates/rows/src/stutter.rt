@@ -105,6 +105,8 @@ impl<D: ByteIn> ByteIn for Stutter<D> {
 
     ghost gives = { λ old bytes new. D.gives old.inner bytes new.inner };
 
+    ghost breaks = { λ old new. D.breaks old.inner new.inner ⊎ (new.inner ≡ old.inner) };
+
     fn read(&mut self, buffer: &mut [u8]) -> Result<usize, DeviceFault>
         ensures count { IfOk result (λ n. n ≤ length buffer.new) }
         ensures gives { IfOk result (λ n. D.gives self.old.inner (take n buffer.new) self.new.inner) }
@@ -112,6 +114,7 @@ impl<D: ByteIn> ByteIn for Stutter<D> {
         ensures end { IfOk result (λ n. n ≡ 0 → 0 < length buffer.new → IsAtEnd (D.remaining self.new.inner)) }
         ensures alive { OnOk result ((self.old.failed ≡ false) × (self.new.failed ≡ false)) }
         ensures fault { OnErr result ((self.new.failed ≡ true) × Shrinks (D.remaining self.old.inner) [] (D.remaining self.new.inner)) }
+        ensures breaks { OnErr result (D.breaks self.old.inner self.new.inner ⊎ (self.new.inner ≡ self.old.inner)) }
         ensures step { IfOk result (λ n. n ≤ self.old.step) }
         ensures turn { OnOk result (self.old.left ≡ self.new.left + 1) }
         ensures same { self.new.step ≡ self.old.step }

@@ -77,6 +77,8 @@ impl Link for StutterLink<'_> {
 
     ghost failed = { λ s. s.failed };
 
+    ghost reports = { λ _ _ _ _. Unit {0} };
+
     fn send(&mut self, bytes: &[u8]) -> Result<usize, DeviceFault> {
         let n = self.most()?.min(bytes.len());
         match self.outgoing.extend_from_slice(&bytes[..n]) {

@@ -21,7 +21,7 @@ returns-in-Err-clause-streams g c =
     let len : length (take c.in-Ok.n c.read.new.buffer) ≡ c.in-Ok.n = taken_len c.in-Ok.n c.read.new.buffer c.in-Ok.ensures.count in
     let some : 0 < length (take c.in-Ok.n c.read.new.buffer) = omega (arith, len, c.if-n-eq0.false) in
     let few : length (take c.in-Ok.n c.read.new.buffer) ≤ read_bytes = omega (arith, len, c.in-Ok.ensures.count, c.read.auto.buffer) in
-    read_broken g.R.ByteIn.gives g.C.Moments.reports c.args.addr c.args.turns c.loop-turn._turn c.loop-turn.served.calls c.loop-turn.served.rest c.args.server.now c.loop-turn.server c.take_read.new.server c.args.framer.now c.loop-turn.framer c.take_read.new.framer c.args.clock.now c.loop-turn.clock c.take_read.new.clock _ _ _ _ _ _
+    read_broken g.R.ByteIn.gives g.R.ByteIn.breaks g.C.Moments.reports c.args.addr c.args.turns c.loop-turn._turn c.loop-turn.served.calls c.loop-turn.served.rest c.args.server.now c.loop-turn.server c.take_read.new.server c.args.framer.now c.loop-turn.framer c.take_read.new.framer c.args.clock.now c.loop-turn.clock c.take_read.new.clock _ _ _ _ _ _
     c.args.reader.now c.loop-turn.reader c.read.new.self (take c.in-Ok.n c.read.new.buffer) c.loop-turn.invariant.feeds c.in-Ok.ensures.gives some few c.in-Err.ensures.limit
     c.requires.begins (c.in-Err.ensures.limit ∙ c.loop-turn.invariant.limit) c.loop-turn-test.true c.in-Err.fault c.of_session.result c.of_session.ensures 0 c.in-Err.ensures.feeds
 
@@ -37,7 +37,7 @@ loop-turn-preserved g c =
       between = c.in-Ok-take_read.ensures.between;
       limit = c.in-Ok-take_read.ensures.limit ∙ inv.limit;
       setup = c.in-Ok-take_read.ensures.setup ∙ inv.setup;
-      feeds = read_on g.R.ByteIn.gives g.C.Moments.reports c.args.addr c.args.turns c.loop-turn._turn c.loop-turn.served.calls c.loop-turn.served.rest c.args.server.now c.loop-turn.server c.take_read.new.server c.args.framer.now c.loop-turn.framer c.take_read.new.framer c.args.clock.now c.loop-turn.clock c.take_read.new.clock _ _ _ _ _ _
+      feeds = read_on g.R.ByteIn.gives g.R.ByteIn.breaks g.C.Moments.reports c.args.addr c.args.turns c.loop-turn._turn c.loop-turn.served.calls c.loop-turn.served.rest c.args.server.now c.loop-turn.server c.take_read.new.server c.args.framer.now c.loop-turn.framer c.take_read.new.framer c.args.clock.now c.loop-turn.clock c.take_read.new.clock _ _ _ _ _ _
           c.args.reader.now c.loop-turn.reader c.read.new.self (take c.in-Ok.n c.read.new.buffer) inv.feeds c.in-Ok.ensures.gives some few c.in-Ok-take_read.ensures.limit
           c.in-Ok-take_read.taken.calls c.in-Ok-take_read.taken.rest c.in-Ok-take_read.ensures.feeds;
     }

@@ -4,6 +4,7 @@ use Rattle.nfs_rpc.specs.Progress.{Moves, Unfinished}
 use Rattle.nfs_server.proofs.ChunkByChunk.{room_none, steps_on, stops_on, ends_here}
 use Rattle.nfs_server.proofs.Waiting.{waits_on}
 use Rattle.nfs_server.proofs.OneRecord.{feeds_none}
+use Rattle.nfs_xdr.proofs.Knowing.{stays_none, stays_then}
 use Rattle.nfs_server.proofs.taking.take_chunk.Goals as goal
 
 pub loop-stop-init : goal.loop-stop-init
@@ -17,6 +18,7 @@ loop-stop-init g c =
       setup = refl;
       most = refl;
       feeds = feeds_none _ c.args.origin c.args.server.now c.args.framer.now c.args.framer.now _ _ (room_none c.args.room) [] c.requires moves;
+      stays = stays_none _ _;
       waits = tt;
     }
 
@@ -32,8 +34,12 @@ loop-stop-preserved g c =
       most = c.in-Ok.ensures.most ∙ inv.most;
       feeds = steps_on c.args.origin c.args.chunk.now c.args.room c.loop-stop.left c.loop-stop.used c.loop-stop.records c.args.server.now c.loop-stop.server c.args.framer.now c.loop-stop.framer _ _ _ _ inv.feeds
           c.take_record.new.server c.take_record.new.framer _ _ c.in-Ok.ensures.limit (λ e. absurd (false≢true (c.if-not-is_used_up.ensures.1 e))) c.in-Ok.step c.room_after-left.result c.room_after-left.ensures c.in-Ok.ensures.feeds;
+      stays = stays_then _ _ _ _ _ _ inv.stays c.in-Ok.ensures.stays;
       waits = waits_on c.in-Ok.step.stop (g.A.AuditOut.full c.take_record.new.audit) c.args.origin c.args.chunk.now c.loop-stop.used c.in-Ok.step.used c.take_record.new.server c.take_record.new.framer c.in-Ok.ensures.waits.0 c.in-Ok.ensures.waits.1;
     }
+
+pub returns-in-Err-clause-stays : goal.returns-in-Err-clause-stays
+returns-in-Err-clause-stays g c = stays_then _ _ _ _ _ _ c.loop-stop.invariant.stays c.in-Err.ensures.stays
 
 pub returns-in-Err-clause-feeds : goal.returns-in-Err-clause-feeds
 returns-in-Err-clause-feeds g c =

@@ -2,6 +2,7 @@ use Rattle.std.proofs.Common.{◌≡◌, ◌+◌, ◌-◌, ◌≤◌, length, dr
 use Rattle.nfs_server.specs.Connections.{IsBetween}
 use Rattle.nfs_server.specs.Feeding.{device}
 use Rattle.nfs_server.specs.Taking.{FeedsWith, IsRoomLeft, Waits}
+use Rattle.nfs_xdr.specs.Known.{StaysFailed}
 use Rattle.nfs_server.proofs.Waiting.{going}
 use Rattle.nfs_server.proofs.taking.take_chunk.Given as goal
 
@@ -16,6 +17,7 @@ invariant-loop-stop g l = record {
   feeds : FeedsWith (IsRoomLeft l.fn.room l.left) l.origin (take l.used l.chunk) (Ok l.records) l.fn.server l.server l.fn.framer l.framer
       (device (g.A.AuditOut.contents l.fn.audit) (g.A.AuditOut.contents l.audit))
       (device (g.R.ReplyOut.contents l.fn.replies l.fn.reply.earlier) (g.R.ReplyOut.contents l.replies l.reply.earlier));
+  stays : StaysFailed (g.A.AuditOut.broken l.fn.audit) (g.A.AuditOut.contents l.fn.audit) (g.A.AuditOut.broken l.audit) (g.A.AuditOut.contents l.audit);
   waits : Waits l.stop (g.A.AuditOut.full l.audit) l.origin (drop l.used l.chunk) l.server l.framer;
 }
 

@@ -4,8 +4,8 @@ use Rattle.nfs_lines.specs.Queued.{Queued, put}
 use Rattle.nfs_lines.proofs.Putting.{passed_on, to_end}
 use Rattle.nfs_lines.proofs.line_queue.LineQueue.pass_on.Goals as goal
 
-pub returns-in-Ok : goal.returns-in-Ok
-returns-in-Ok g c =
+pub returns-in-Ok-clause-grows : goal.returns-in-Ok-clause-grows
+returns-in-Ok-clause-grows g c =
     let all = c.self.inside.lines.items in
     let from = c.self.inside.sent in
     let was : Queued g.row.D.Denot = record { device = c.self.inside.device; pending = drop from all; failed = c.self.inside.ended } in

@@ -1,5 +1,6 @@
 use Rattle.std.proofs.Common.{◌≡◌}
 use Rattle.nfs_loop.specs.Stages.{Notes}
+use Rattle.nfs_loop.proofs.Asking.{AsksSome}
 use Rattle.nfs_loop.proofs.service.Service.note.Given as goal
 
 abbrev pub invariant-loop-left : goal.invariant-loop-left
@@ -8,6 +9,7 @@ invariant-loop-left g l = record {
   joined : l.self.joined ≡ l.fn.self.joined;
   holds : l.self.housekeeping.watches.holds ≡ l.fn.self.housekeeping.watches.holds;
   notes : Notes l.fn.self.clients.0 l.fn.self.housekeeping.watches.holds.items l.fn.self.clients.1.0 l.self.clients.1.0 (g.N.Network.told l.fn.net) (g.N.Network.told l.net);
+  asked : AsksSome 1024 l.left (g.N.Network.told l.fn.net) (g.N.Network.told l.net);
 }
 
 abbrev pub decreases-loop-left : goal.decreases-loop-left

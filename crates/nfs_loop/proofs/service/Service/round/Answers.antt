@@ -7,5 +7,5 @@ loop-left-init g c = record { goes = round_starts g.L.Link.outgoing g.L.Link.inc
 pub loop-left-preserved : goal.loop-left-preserved
 loop-left-preserved g c = record {
   goes = round_on g.L.Link.outgoing g.L.Link.incoming c.args.self.now.clients.1.0 c.loop-left.self.clients.1.0 c.loop-left.left _ _ _ _ c.loop-left.invariant.goes
-      _ c.turn.new.self.clients.1.0 _ _ c.loop-left-test.true c.turn.ensures.goes;
+      g.L.Link.reports _ c.turn.new.self.clients.1.0 _ _ c.loop-left-test.true c.turn.ensures.goes;
 }
