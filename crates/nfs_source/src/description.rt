@@ -1,15 +1,15 @@
 //! Descriptions that are loaded while they are read.
-ghost use Rattle.std.specs.Prelude.{◌≡◌, ℕ, ◌≤◌, List, [], ◌∷◌, ◌++◌, length, true, None, Ok, ⊤, IfOk, IfErr, OnOk, MatchOption};
+ghost use Rattle.std.specs.Prelude.{◌≡◌, ◌⊎◌, ℕ, ◌≤◌, List, [], ◌∷◌, ◌++◌, length, true, None, Ok, ⊤, IfOk, IfErr, OnOk, MatchOption};
 ghost use Rattle.nfs_load.specs.Descriptions.{Describes};
 ghost use Rattle.nfs_load.specs.Loadings.{LineTaken};
 ghost use Rattle.nfs_lives.specs.Rows.{HasTaken};
 ghost use Rattle.nfs_text.specs.Lines.{lines};
 ghost use Rattle.nfs_source.specs.Readings.{Begins, HasRead, HasText, IsCut, is_open, outcome_of, taken_or};
-ghost use Rattle.nfs_source.specs.Sources.{Takes};
-ghost use Rattle.nfs_source.specs.Status.{IsOfReading, Reports};
+ghost use Rattle.nfs_source.specs.Sources.{IsRest, Takes};
+ghost use Rattle.nfs_source.specs.Status.{IsOfReading, Reports, status_of};
 
 use crate::diagnostic::Diagnostic;
-use crate::source::{Sink, Source, read_text};
+use crate::source::{Sink, Source, open_text, read_all};
 use memchr::memchr;
 use nfs_advice::skipped::{content_of, put_mark};
 use nfs_lives::path_digest::PathDigest;
@@ -18,6 +18,7 @@ use nfs_load::loaded::Loaded;
 use nfs_load::loading::Loading;
 use nfs_text::line::Line;
 use std::alloc::{AllocError, Global};
+use std::io::Read;
 use std::rt::Files;
 
 // Of a line with more bytes the content is skipped of the text once it is loaded.
@@ -91,8 +92,24 @@ fn read_with<'a, R: Files + Input, D: LineDigest>(
     ensures described { IfOk result (λ it. (text : List ℕ) × Describes text (Ok it.0.loaded) × D.has it.1 (lines text)) }
     ensures fault { IfErr result (λ it. IsOfReading it.fault) }
 {
+    read_from(alloc, &mut open_text(rt, alloc, name)?, name, digest)
+}
+
+// The description that a reader of this name has left.
+fn read_from<'a, I: Read, D: LineDigest>(
+    alloc: Global,
+    file: &mut I,
+    name: &'a str,
+    digest: D,
+) -> Result<(Description<'a>, D), Diagnostic>
+    requires { D.has digest [] }
+    ensures described { IfOk result (λ it. (text : List ℕ) × IsRest (I.remaining file.old) text (I.remaining file.new)
+        × Describes text (Ok it.0.loaded) × D.has it.1 (lines text)) }
+    ensures fault { IfErr result (λ it. (status_of it.fault ≡ 3) ⊎ ((text : List ℕ)
+        × IsRest (I.remaining file.old) text (I.remaining file.new) × Reports text it.fault)) }
+{
     let mut reader = Reader::new(alloc, digest);
-    read_text(rt, alloc, name, &mut reader)?;
+    read_all(alloc, file, name, &mut reader)?;
     let reading = reader.end()?;
     reading.described(alloc, name)
 }

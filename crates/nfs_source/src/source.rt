@@ -36,8 +36,16 @@ impl<'a> Source<'a> {
         ensures short { IfOk result (λ source. length source.text.items ≤ 1073741824) }
         ensures name { IfOk result (λ source. source.name.now ≡ name.now) }
     {
+        Source::read_from(alloc, &mut open_text(rt, alloc, name)?, name)
+    }
+
+    // What a reader of this name has left.
+    fn read_from<I: Read>(alloc: Global, file: &mut I, name: &'a str) -> Result<Source<'a>, Fault>
+        ensures text { IfOk result (λ source. IsRest (I.remaining file.old) source.text.items (I.remaining file.new)) }
+        ensures name { IfOk result (λ source. source.name.now ≡ name.now) }
+    {
         let mut text = Vec::new(alloc);
-        read_text(rt, alloc, name, &mut text)?;
+        read_all(alloc, file, name, &mut text)?;
         Ok(Source { name, text })
     }
 
@@ -71,28 +79,43 @@ impl Sink for Vec<u8> {
     }
 }
 
-/// Hands on the text of a file, or of a pipe up to its end. `CannotRead` where the system reads no
-/// more of it, `TooLong` above 1 GiB, which an endless one reaches, `Memory`.
-pub(crate) fn read_text<R: Files + Input, S: Sink>(
+/// Standard input, or a file.
+#[derive(Drop)]
+pub(crate) enum TextFile<I, F> {
+    Standard(I),
+    Named(F),
+}
+
+impl<I: Read, F: Read> Read for TextFile<I, F> {
+    fn read(&mut self, buf: &mut [u8]) -> io::Result<usize> {
+        match self {
+            TextFile::Standard(input) => input.read(buf),
+            TextFile::Named(file) => file.read(buf),
+        }
+    }
+}
+
+/// The text of this name, which is read up to its end, so a pipe may be named too. `CannotRead` where the
+/// system doesn't open it, `Memory`.
+pub(crate) fn open_text<R: Files + Input>(
     rt: &R,
     alloc: Global,
     name: &str,
-    sink: &mut S,
-) -> Result<(), Fault>
-    ensures taken { OnOk result ((text : List ℕ) × (length text ≤ 1073741824) × Takes S.has sink.old text sink.new) }
-    ensures machine { IfErr result (λ fault. status_of fault ≡ 3) }
+) -> Result<TextFile<R::Reader, R::File>, Fault>
+    ensures { IfErr result (λ fault. status_of fault ≡ 3) }
 {
     if name == "-" {
-        return read_all(alloc, &mut rt.reader(), name, sink);
+        return Ok(TextFile::Standard(rt.reader()));
     }
     match fs::open(rt, name) {
-        Ok(mut file) => read_all(alloc, &mut file, name, sink),
+        Ok(file) => Ok(TextFile::Named(file)),
         Err(error) => Err(cannot_read(alloc, name, error)),
     }
 }
 
-// Hands on all bytes that a reader of this name gives, up to its end.
-fn read_all<I: Read, S: Sink>(
+/// Hands on all bytes that a reader of this name gives, up to its end. `CannotRead` where the system
+/// reads no more of it, `TooLong` above 1 GiB, which an endless one reaches, `Memory`.
+pub(crate) fn read_all<I: Read, S: Sink>(
     alloc: Global,
     file: &mut I,
     name: &str,
