@@ -1,5 +1,6 @@
 -- What is saved of a server, and in the place of what.
-use Rattle.std.specs.Prelude.{◌≡◌, ◌⊎◌, ℕ, List, [], ◌∷◌, length, Option, Some, None, ⊤, ◌==◌, if◌then◌else◌}
+use Rattle.std.specs.Prelude.{◌≡◌, ◌⊎◌, ℕ, zero, suc, List, [], ◌∷◌, length, Option, Some, None, ⊤, ◌==◌, if◌then◌else◌}
+use Rattle.std.specs.Borrow.{Bor}
 use Rattle.nfs_describe.specs.Places.{Skipped}
 use Rattle.nfs_describe.specs.Texts.{SaysSayable}
 use Rattle.nfs_server.specs.Fits.{Held}
@@ -25,6 +26,23 @@ after_key (byte ∷ rest) = if byte == 10 then byte ∷ rest else after_key rest
 
 abbrev pub digest_of : List ℕ → List ℕ
 digest_of text = sha256 (after_key text)
+
+-- as much is skipped as the description of a server's tree skips
+pub record Skips (given : Option (List ℕ)) (server : Held) (count : ℕ) : Type 0 where
+  pub text : List ℕ
+  pub skipped : List Skipped
+  pub describes : IsDescription given server skipped text
+  pub counted : count ≡ length skipped
+
+-- 0 where nothing is skipped
+abbrev pub status_for : ℕ → ℕ
+status_for zero = 0
+status_for (suc n) = 1
+
+-- the status of a tree that was saved under a name, if it was to be
+abbrev pub IsStatus : Option (Bor (List ℕ)) → Option (List ℕ) → Held → ℕ → Type 0
+IsStatus None given server status = status ≡ 0
+IsStatus (Some name) given server status = (count : ℕ) × Skips given server count × (status ≡ status_for count)
 
 -- ---- the file
 

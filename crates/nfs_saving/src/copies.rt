@@ -1,6 +1,7 @@
 //! Where and when the tree of a server is saved.
-ghost use Rattle.std.specs.Prelude.{◌≡◌, ◌⊎◌, Some, IsSome};
-ghost use Rattle.nfs_saving.specs.Saving.{IsDigest};
+ghost use Rattle.std.specs.Prelude.{◌≡◌, ◌⊎◌, IfOk, IsErr};
+ghost use Rattle.std.specs.Process.{exit_status};
+ghost use Rattle.nfs_saving.specs.Saving.{IsDigest, IsStatus};
 
 use crate::key::{KEY_BYTES, given_key};
 use crate::saved_file::try_place;
@@ -56,7 +57,10 @@ impl<'a> Copies<'a> {
         alloc: Global,
         server: &Server,
         served: Result<(), Fault>,
-    ) -> Result<ExitCode, Diagnostic> {
+    ) -> Result<ExitCode, Diagnostic>
+        ensures served { IsErr served → IsErr result }
+        ensures saved { IfOk result (λ code. IsStatus self.now.name self.now.key server.now (exit_status code)) }
+    {
         let saved = self.save_now(rt, alloc, server);
         match (served, saved) {
             (Ok(()), saved) => saved,
@@ -74,7 +78,9 @@ impl<'a> Copies<'a> {
         rt: &R,
         alloc: Global,
         server: &Server,
-    ) -> Result<ExitCode, Diagnostic> {
+    ) -> Result<ExitCode, Diagnostic>
+        ensures { IfOk result (λ code. IsStatus self.now.name self.now.key server.now (exit_status code)) }
+    {
         let Some(name) = self.name else {
             return Ok(ExitCode::SUCCESS);
         };

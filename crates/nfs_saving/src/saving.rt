@@ -1,7 +1,8 @@
 //! The tree that a server has, kept as a description.
 ghost use Rattle.std.specs.Prelude.{◌≡◌, ◌⊎◌, ℕ, List, Some, None, IfOk, IfSome, OnOk, OnErr, length};
 ghost use Rattle.nfs_saving.specs.Saving as spec;
-ghost use Rattle.nfs_saving.specs.Saving.{IsDescription, IsDigest, IsRefused, IsSaved, MayReplace, Replaces, digest_of};
+ghost use Rattle.nfs_saving.specs.Saving.{IsDescription, IsDigest, IsRefused, IsSaved, MayReplace, Replaces, Skips, digest_of, status_for};
+ghost use Rattle.std.specs.Process.{exit_status};
 
 use crate::key::{KEY_BYTES, given_or_new};
 use crate::saved_file::{DiskFile, SavedFile, replace};
@@ -47,7 +48,9 @@ impl Saved {
     }
 
     /// 0 where nothing was skipped, otherwise 1.
-    pub fn status(&self) -> ExitCode {
+    pub fn status(&self) -> ExitCode
+        ensures { exit_status result ≡ status_for (length self.now.skipped.items) }
+    {
         if self.skipped.is_empty() {
             ExitCode::SUCCESS
         } else {
@@ -69,7 +72,9 @@ pub fn save<R: Files + RandomSource>(
     name: &str,
     server: &Server,
     key: Option<[u8; KEY_BYTES]>,
-) -> Result<Saved, Fault> {
+) -> Result<Saved, Fault>
+    ensures skips { IfOk result (λ saved. Skips key server.now (length saved.skipped.items)) }
+{
     let mut file = DiskFile::new(rt, alloc, name)?;
     save_to(rt, alloc, &mut file, server, key)
 }
