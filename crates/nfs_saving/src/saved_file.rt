@@ -1,5 +1,6 @@
 //! Files that are replaced as a whole.
 ghost use Rattle.std.specs.Prelude.{◌≡◌, ℕ, List, Option, Some, None, OnOk, OnErr};
+ghost use Rattle.std.specs.Io.KnownBytes.{Appends};
 ghost use Rattle.nfs_saving.specs.Saving.{MayReplace, Replaces};
 
 use nfs_source::fault::Fault;
@@ -87,9 +88,7 @@ impl<R: Files> SavedFile for DiskFile<'_, R> {
     ghost beside = { λ _. None };
 
     fn write(&mut self, text: &[u8]) -> io::Result<()> {
-        let mut file = fs::create(self.rt, self.part.as_str())?;
-        file.write_all(text)?;
-        file.sync_all()
+        write_synced(&mut fs::create(self.rt, self.part.as_str())?, text)
     }
 
     // The directory is opened before, so that the file isn't replaced where that is refused.
@@ -106,6 +105,14 @@ impl<R: Files> SavedFile for DiskFile<'_, R> {
     fn fault(&self, error: io::Error) -> Fault {
         cannot_write(self.alloc, self.name, error)
     }
+}
+
+// Writes all of a text, and on disk.
+fn write_synced<W: Write + OpenFile>(file: &mut W, text: &[u8]) -> io::Result<()>
+    ensures { OnOk result (Appends (W.contents file.old) (W.contents file.new) text.now) }
+{
+    file.write_all(text)?;
+    file.sync_all()
 }
 
 /// Makes the file beside the one of this name, and takes it away again. `CannotWrite` where the system
