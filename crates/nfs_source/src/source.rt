@@ -1,7 +1,7 @@
 //! The texts that words of the command name.
 ghost use Rattle.std.specs.Prelude.{◌≡◌, ℕ, ◌<◌, ◌≤◌, List, Ok, IfOk, IfErr, OnOk, length, take};
 ghost use Rattle.nfs_load.specs.Descriptions.{Describes};
-ghost use Rattle.nfs_source.specs.Sources.{IsRest, Takes};
+ghost use Rattle.nfs_source.specs.Sources.{IsRest, Takes, left_of};
 ghost use Rattle.nfs_source.specs.Status.{Reports, status_of};
 ghost use Rattle.nfs_xdr.specs.Known.{Shrinks, IsAtEnd};
 
@@ -87,6 +87,8 @@ pub(crate) enum TextFile<I, F> {
 }
 
 impl<I: Read, F: Read> Read for TextFile<I, F> {
+    ghost remaining = { λ it. left_of I.remaining F.remaining it };
+
     fn read(&mut self, buf: &mut [u8]) -> io::Result<usize> {
         match self {
             TextFile::Standard(input) => input.read(buf),
