@@ -1,7 +1,11 @@
 //! Where and when the tree of a server is saved.
+ghost use Rattle.std.specs.Prelude.{◌≡◌, ◌⊎◌, IfOk, IsErr};
+ghost use Rattle.std.specs.Process.{exit_status};
+ghost use Rattle.nfs_saving.specs.Saving.{IsDigest, IsStatus};
 
 use crate::key::{KEY_BYTES, given_key};
-use crate::saving::{save, save_changed, try_place};
+use crate::saved_file::try_place;
+use crate::saving::{Saved, save, save_changed};
 use log::{Log, info, warn};
 use nfs_server::server::Server;
 use nfs_source::diagnostic::Diagnostic;
@@ -53,7 +57,10 @@ impl<'a> Copies<'a> {
         alloc: Global,
         server: &Server,
         served: Result<(), Fault>,
-    ) -> Result<ExitCode, Diagnostic> {
+    ) -> Result<ExitCode, Diagnostic>
+        ensures served { IsErr served → IsErr result }
+        ensures saved { IfOk result (λ code. IsStatus self.now.name self.now.key server.now (exit_status code)) }
+    {
         let saved = self.save_now(rt, alloc, server);
         match (served, saved) {
             (Ok(()), saved) => saved,
@@ -71,7 +78,9 @@ impl<'a> Copies<'a> {
         rt: &R,
         alloc: Global,
         server: &Server,
-    ) -> Result<ExitCode, Diagnostic> {
+    ) -> Result<ExitCode, Diagnostic>
+        ensures { IfOk result (λ code. IsStatus self.now.name self.now.key server.now (exit_status code)) }
+    {
         let Some(name) = self.name else {
             return Ok(ExitCode::SUCCESS);
         };
@@ -110,22 +119,34 @@ pub struct CopySaver<'a, R> {
 impl<R: Files + RandomSource + Clock + Log> CopySaver<'_, R> {
     /// Saves the tree, and logs how long it took. A fault, and what is skipped, is a warning. A tree that is
     /// as it was saved last is not saved again.
-    pub fn save(&mut self, server: &Server) {
+    pub fn save(&mut self, server: &Server)
+        ensures { (self.new.saved ≡ self.old.saved) ⊎ IsDigest self.old.key server.now self.new.saved }
+    {
         let Some(name) = self.name else {
             return;
         };
         let began = Instant::now(self.rt);
-        let (rt, alloc, saved) = (self.rt, self.alloc, &mut self.saved);
-        match save_changed(rt, alloc, name, server, self.key, saved) {
-            Ok(Some(saved)) => {
-                for unsaid in &saved.skipped {
-                    warn!(self.rt; "{name}: {unsaid}");
-                }
-                log_time(self.rt, name, began);
+        let done = save_changed(self.rt, self.alloc, name, server, self.key, &mut self.saved);
+        log_saved(self.rt, name, began, done);
+    }
+}
+
+// Logs what is saved, and how long it took, or why it isn't.
+fn log_saved<R: Clock + Log>(
+    rt: &R,
+    name: &str,
+    began: io::Result<Instant>,
+    done: Result<Option<Saved>, Fault>,
+) {
+    match done {
+        Ok(Some(saved)) => {
+            for unsaid in &saved.skipped {
+                warn!(rt; "{name}: {unsaid}");
             }
-            Ok(None) => {}
-            Err(fault) => warn!(self.rt; "{fault}"),
+            log_time(rt, name, began);
         }
+        Ok(None) => {}
+        Err(fault) => warn!(rt; "{fault}"),
     }
 }
 

@@ -1,4 +1,6 @@
 //! The keys of descriptions that are written.
+ghost use Rattle.std.specs.Prelude.{IfOk};
+ghost use Rattle.nfs_saving.specs.Saving.{IsKey};
 
 use nfs_source::fault::Fault;
 use std::alloc::Global;
@@ -14,7 +16,18 @@ pub fn key_of<R: RandomSource>(
     alloc: Global,
     digits: Option<&str>,
 ) -> Result<[u8; KEY_BYTES], Fault> {
-    match digits.and_then(given_key) {
+    given_or_new(rt, alloc, digits.and_then(given_key))
+}
+
+/// The key that is given, or a new one. The faults of `new_key`.
+pub fn given_or_new<R: RandomSource>(
+    rt: &R,
+    alloc: Global,
+    given: Option<[u8; KEY_BYTES]>,
+) -> Result<[u8; KEY_BYTES], Fault>
+    ensures { IfOk result (λ key. IsKey given key) }
+{
+    match given {
         Some(key) => Ok(key),
         None => new_key(rt, alloc),
     }

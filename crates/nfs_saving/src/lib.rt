@@ -3,4 +3,5 @@
 
 pub mod copies;
 pub mod key;
+pub mod saved_file;
 pub mod saving;

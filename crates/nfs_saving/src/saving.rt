@@ -1,6 +1,12 @@
 //! The tree that a server has, kept as a description.
+ghost use Rattle.std.specs.Prelude.{◌≡◌, ◌⊎◌, ℕ, List, Some, None, IfOk, IfSome, OnOk, OnErr, length};
+ghost use Rattle.nfs_saving.specs.Saving as spec;
+ghost use Rattle.nfs_saving.specs.Saving.{IsDescription, IsDigest, IsRefused, IsSaved, MayReplace, Replaces, Skips, digest_of, status_for};
+ghost use Rattle.std.specs.Process.{exit_status};
 
-use crate::key::{KEY_BYTES, new_key};
+use crate::key::{KEY_BYTES, given_or_new};
+use crate::saved_file::{DiskFile, SavedFile, replace};
+use memchr::memchr;
 use nfs_describe::description::{Described, describe_sayable};
 use nfs_describe::fault::{DescribeFault, ShownPath};
 use nfs_describe::sayable::is_sayable;
@@ -10,8 +16,6 @@ use nfs_server::server::Server;
 use nfs_source::fault::Fault;
 use sha2::{Digest, Sha256};
 use std::alloc::{AllocError, Global};
-use std::fs::{self, OpenFile};
-use std::io::{self, ErrorKind, Write};
 use std::process::ExitCode;
 use std::random::RandomSource;
 use std::rt::Files;
@@ -44,7 +48,9 @@ impl Saved {
     }
 
     /// 0 where nothing was skipped, otherwise 1.
-    pub fn status(&self) -> ExitCode {
+    pub fn status(&self) -> ExitCode
+        ensures { exit_status result ≡ status_for (length self.now.skipped.items) }
+    {
         if self.skipped.is_empty() {
             ExitCode::SUCCESS
         } else {
@@ -66,13 +72,31 @@ pub fn save<R: Files + RandomSource>(
     name: &str,
     server: &Server,
     key: Option<[u8; KEY_BYTES]>,
-) -> Result<Saved, Fault> {
-    let described = describe_server(rt, alloc, server, key)?;
-    write_described(rt, alloc, name, server.tree(), &described)
+) -> Result<Saved, Fault>
+    ensures skips { IfOk result (λ saved. Skips key server.now (length saved.skipped.items)) }
+{
+    let mut file = DiskFile::new(rt, alloc, name)?;
+    save_to(rt, alloc, &mut file, server, key)
 }
 
-/// The same, unless the tree is described as it was when this digest was taken, whatever the key is; the
-/// digest is that of the new file then. Nothing is saved where there is no answer.
+/// The same in the place of this file.
+pub fn save_to<R: RandomSource, F: SavedFile>(
+    rt: &R,
+    alloc: Global,
+    file: &mut F,
+    server: &Server,
+    key: Option<[u8; KEY_BYTES]>,
+) -> Result<Saved, Fault>
+    ensures saved { IfOk result (λ saved. (text : List ℕ)
+        × IsSaved key server.now (length saved.skipped.items) text (F.named file.old) (F.named file.new)) }
+    ensures refused { OnErr result (IsRefused key server.now (F.named file.old) (F.named file.new)) }
+{
+    let described = describe_server(rt, alloc, server, key)?;
+    write_described(alloc, file, server.tree(), &described)
+}
+
+/// The same as `save`, unless the tree is described as it was when this digest was taken, whatever the key is;
+/// the digest is that of the new file then. Nothing is saved where there is no answer.
 pub fn save_changed<R: Files + RandomSource>(
     rt: &R,
     alloc: Global,
@@ -80,24 +104,49 @@ pub fn save_changed<R: Files + RandomSource>(
     server: &Server,
     key: Option<[u8; KEY_BYTES]>,
     saved: &mut Option<[u8; 32]>,
-) -> Result<Option<Saved>, Fault> {
+) -> Result<Option<Saved>, Fault>
+    ensures digest { OnOk result (IsDigest key server.now saved.new) }
+    ensures unchanged { IfOk result (λ done. done ≡ None → saved.new ≡ saved.old) }
+    ensures refused { OnErr result (saved.new ≡ saved.old) }
+{
+    let mut file = DiskFile::new(rt, alloc, name)?;
+    save_changed_to(rt, alloc, &mut file, server, key, saved)
+}
+/// The same in the place of this file.
+pub fn save_changed_to<R: RandomSource, F: SavedFile>(
+    rt: &R,
+    alloc: Global,
+    file: &mut F,
+    server: &Server,
+    key: Option<[u8; KEY_BYTES]>,
+    saved: &mut Option<[u8; 32]>,
+) -> Result<Option<Saved>, Fault>
+    ensures unchanged { IfOk result (λ done. done ≡ None
+        → IsDigest key server.now saved.old × (saved.new ≡ saved.old) × (F.named file.new ≡ F.named file.old)) }
+    ensures saved { IfOk result (λ done. IfSome done (λ it. (text : List ℕ)
+        × IsSaved key server.now (length it.skipped.items) text (F.named file.old) (F.named file.new)
+        × (saved.new ≡ Some (digest_of text)))) }
+    ensures refused { OnErr result ((saved.new ≡ saved.old)
+        × IsRefused key server.now (F.named file.old) (F.named file.new)) }
+{
     let described = describe_server(rt, alloc, server, key)?;
-    let digest = digest_after_key(described.text.as_slice());
+    let digest = Sha256::digest(after_key(described.text.as_slice()));
     if *saved == Some(digest) {
         return Ok(None);
     }
-    let written = write_described(rt, alloc, name, server.tree(), &described)?;
+    let written = write_described(alloc, file, server.tree(), &described)?;
     *saved = Some(digest);
     Ok(Some(written))
 }
 
-// The digest of what stands after the first line of a description, which has the key.
-fn digest_after_key(text: &[u8]) -> [u8; 32] {
-    let key_line = match text.iter().position(|byte| *byte == b'\n') {
-        Some(end) => end,
-        None => 0,
-    };
-    Sha256::digest(&text[key_line..])
+// What stands after the first line of a description, which has the key, from its LF on.
+fn after_key(text: &[u8]) -> &[u8]
+    ensures { result.now ≡ spec.after_key text.now }
+{
+    match memchr(b'\n', text) {
+        Some(end) => &text[end..],
+        None => &[],
+    }
 }
 
 // The description of a server's tree and exports under a key, or under a new one.
@@ -106,11 +155,10 @@ fn describe_server<R: RandomSource>(
     alloc: Global,
     server: &Server,
     key: Option<[u8; KEY_BYTES]>,
-) -> Result<Described, Fault> {
-    let key = match key {
-        Some(key) => key,
-        None => new_key(rt, alloc)?,
-    };
+) -> Result<Described, Fault>
+    ensures { IfOk result (λ it. IsDescription key server.now it.skipped.items it.text.items) }
+{
+    let key = given_or_new(rt, alloc, key)?;
     match describe_sayable(alloc, server.tree(), server.exports(), key) {
         Ok(described) => Ok(described),
         Err(DescribeFault::Memory) => Err(Fault::Memory(AllocError)),
@@ -118,46 +166,26 @@ fn describe_server<R: RandomSource>(
     }
 }
 
-// Writes a description in the place of the file of this name.
-fn write_described<R: Files>(
-    rt: &R,
+// Puts a description in the place of the file.
+fn write_described<F: SavedFile>(
     alloc: Global,
-    name: &str,
+    file: &mut F,
     tree: &Tree,
     described: &Described,
-) -> Result<Saved, Fault> {
+) -> Result<Saved, Fault>
+    ensures counted { IfOk result (λ saved. length saved.skipped.items ≡ length described.now.skipped.items) }
+    ensures replaced { OnOk result (Replaces (F.named file.old) described.now.text.items (F.named file.new)) }
+    ensures refused { OnErr result ((F.named file.new ≡ F.named file.old)
+        ⊎ MayReplace (F.named file.old) described.now.text.items (F.named file.new)) }
+{
     let skipped = all_unsaid(alloc, tree, described.skipped.as_slice())?;
-    replace(rt, alloc, name, described.text.as_slice())?;
+    replace(file, described.text.as_slice())?;
     Ok(Saved { skipped })
 }
 
-/// Makes the file beside the one of this name, and takes it away again. `CannotWrite` where the system
-/// refuses that, or where something else than a file has the name; `Memory`.
-pub fn try_place<R: Files>(rt: &R, alloc: Global, name: &str) -> Result<(), Fault> {
-    let part = part_of(alloc, name)?;
-    match make_and_remove(rt, part.as_str(), name) {
-        Ok(()) => Ok(()),
-        Err(error) => Err(cannot_write(alloc, name, error)),
-    }
-}
-
-fn make_and_remove<R: Files>(rt: &R, part: &str, name: &str) -> io::Result<()> {
-    if is_taken(rt, name) {
-        return Err(io::Error::new(ErrorKind::IsADirectory, "it is not a regular file"));
-    }
-    let _file = fs::create(rt, part)?;
-    fs::remove_file(rt, part)
-}
-
-// Whether a directory or a device has the name, which no file is to replace.
-fn is_taken<R: Files>(rt: &R, name: &str) -> bool {
-    match fs::metadata(rt, name) {
-        Ok(found) => !found.is_file(),
-        Err(_) => false,
-    }
-}
-
-fn all_unsaid(alloc: Global, tree: &Tree, skipped: &[Skipped]) -> Result<Vec<Unsaid>, AllocError> {
+fn all_unsaid(alloc: Global, tree: &Tree, skipped: &[Skipped]) -> Result<Vec<Unsaid>, AllocError>
+    ensures { IfOk result (λ all. length all.items ≡ length skipped.now) }
+{
     let mut all = Vec::new(alloc);
     for one in skipped {
         all.push(unsaid_of(alloc, tree, one)?)?;
@@ -177,48 +205,5 @@ fn unsaid_of(alloc: Global, tree: &Tree, skipped: &Skipped) -> Result<Unsaid, Al
         Ok(Unsaid::Target(ShownPath(path)))
     } else {
         Ok(Unsaid::Name(ShownPath(path)))
-    }
-}
-
-// The file of this name has this text then. Where a step is refused nothing is left beside it.
-fn replace<R: Files>(rt: &R, alloc: Global, name: &str, text: &[u8]) -> Result<(), Fault> {
-    let part = part_of(alloc, name)?;
-    match write_and_rename(rt, part.as_str(), name, text) {
-        Ok(()) => Ok(()),
-        Err(error) => {
-            let _ = fs::remove_file(rt, part.as_str());
-            Err(cannot_write(alloc, name, error))
-        }
-    }
-}
-
-// Writes a file, and gives it another name of the same directory once it is on disk. The directory is
-// opened before, so that a file isn't replaced where that is refused.
-fn write_and_rename<R: Files>(rt: &R, part: &str, name: &str, text: &[u8]) -> io::Result<()> {
-    let mut file = fs::create(rt, part)?;
-    file.write_all(text)?;
-    file.sync_all()?;
-    let directory = fs::open(rt, directory_of(name))?;
-    fs::rename(rt, part, name)?;
-    directory.sync_all()
-}
-
-fn part_of(alloc: Global, name: &str) -> Result<String, AllocError> {
-    format!(in alloc; "{name}.part")
-}
-
-// The directory of a path: `.` where it has no slash.
-fn directory_of(name: &str) -> &str {
-    match name.rsplit_once('/') {
-        Some(("", _)) => "/",
-        Some((directory, _)) => directory,
-        None => ".",
-    }
-}
-
-fn cannot_write(alloc: Global, name: &str, error: io::Error) -> Fault {
-    match name.to_string(alloc) {
-        Ok(name) => Fault::CannotWrite { name, error },
-        Err(error) => Fault::Memory(error),
     }
 }

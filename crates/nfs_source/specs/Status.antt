@@ -1,5 +1,6 @@
 -- Exit statuses.
-use Rattle.std.specs.Prelude.{◌≡◌, ℕ}
+use Rattle.std.specs.Prelude.{◌≡◌, ◌⊎◌, ℕ, List, Err}
+use Rattle.nfs_load.specs.Descriptions.{Describes}
 use Rattle.nfs_load.specs.declared.load_error.LoadError.{LoadError}
 use Rattle.nfs_load.specs.declared.load_error.LoadError.TheVariants as error
 use Rattle.nfs_source.specs.declared.fault.Fault.{Fault}
@@ -24,3 +25,11 @@ status_of (Memory e) = 3
 abbrev pub IsReportedAs : LoadError → Fault → Type 0
 IsReportedAs (error.Fault line cause) fault = fault ≡ Description line cause
 IsReportedAs error.Memory fault = status_of fault ≡ 3
+
+-- the fault of a text is reported: its first faulty line, or want of memory
+abbrev pub Reports : List ℕ → Fault → Type 0
+Reports text fault = (error : LoadError) × Describes text (Err error) × IsReportedAs error fault
+
+-- the machine is at fault, or a text
+abbrev pub IsOfReading : Fault → Type 0
+IsOfReading fault = (status_of fault ≡ 3) ⊎ ((text : List ℕ) × Reports text fault)

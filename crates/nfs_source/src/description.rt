@@ -1,15 +1,24 @@
 //! Descriptions that are loaded while they are read.
+ghost use Rattle.std.specs.Prelude.{◌≡◌, ◌⊎◌, ℕ, ◌≤◌, List, [], ◌∷◌, ◌++◌, length, true, None, Ok, ⊤, IfOk, IfErr, OnOk, MatchOption};
+ghost use Rattle.nfs_load.specs.Descriptions.{Describes};
+ghost use Rattle.nfs_load.specs.Loadings.{LineTaken};
+ghost use Rattle.nfs_lives.specs.Rows.{HasTaken};
+ghost use Rattle.nfs_text.specs.Lines.{lines};
+ghost use Rattle.nfs_source.specs.Readings.{Begins, HasRead, HasText, IsCut, is_open, outcome_of, taken_or};
+ghost use Rattle.nfs_source.specs.Sources.{IsRest, Takes};
+ghost use Rattle.nfs_source.specs.Status.{IsOfReading, Reports, status_of};
 
 use crate::diagnostic::Diagnostic;
-use crate::source::{Sink, Source, read_text};
+use crate::source::{Sink, Source, open_text, read_all};
+use memchr::memchr;
 use nfs_advice::skipped::{content_of, put_mark};
 use nfs_lives::path_digest::PathDigest;
 use nfs_load::load_error::LoadError;
 use nfs_load::loaded::Loaded;
 use nfs_load::loading::Loading;
 use nfs_text::line::Line;
-use nfs_text::lines::Lines;
 use std::alloc::{AllocError, Global};
+use std::io::Read;
 use std::rt::Files;
 
 // Of a line with more bytes the content is skipped of the text once it is loaded.
@@ -31,8 +40,11 @@ impl<'a> Description<'a> {
         rt: &R,
         alloc: Global,
         name: &'a str,
-    ) -> Result<Description<'a>, Diagnostic> {
-        let (description, _) = read_with(rt, alloc, name, None)?;
+    ) -> Result<Description<'a>, Diagnostic>
+        ensures described { IfOk result (λ it. (text : List ℕ) × Describes text (Ok it.loaded)) }
+        ensures fault { IfErr result (λ it. IsOfReading it.fault) }
+    {
+        let (description, _) = read_with(rt, alloc, name, NoDigest)?;
         Ok(description)
     }
 }
@@ -49,132 +61,210 @@ pub struct Life {
 
 /// The life that begins with a text of this name; the text is let go. The faults of
 /// `Description::read`.
-pub fn load_life<R: Files + Input>(rt: &R, alloc: Global, name: &str) -> Result<Life, Diagnostic> {
-    let (description, paths) = read_with(rt, alloc, name, Some(PathDigest::new()))?;
+pub fn load_life<R: Files + Input>(rt: &R, alloc: Global, name: &str) -> Result<Life, Diagnostic>
+    ensures begins { IfOk result (λ life. (text : List ℕ) × Begins text life) }
+    ensures fault { IfErr result (λ it. IsOfReading it.fault) }
+{
+    let (description, paths) = read_with(rt, alloc, name, PathDigest::new())?;
     let Description { loaded, .. } = description;
-    let own = loaded.tree.key();
-    let key = match paths {
-        Some(paths) => paths.finish(own),
-        None => own,
-    };
+    let key = paths.finish(loaded.tree.key());
     Ok(Life { loaded, key })
-}
-
-// The description of this name, and the digest of its paths where one is to be made.
-fn read_with<'a, R: Files + Input>(
-    rt: &R,
-    alloc: Global,
-    name: &'a str,
-    paths: Option<PathDigest>,
-) -> Result<(Description<'a>, Option<PathDigest>), Diagnostic> {
-    let mut reader = Reader::new(alloc, paths);
-    read_text(rt, alloc, name, &mut reader)?;
-    reader.end()?;
-    reader.described(alloc, name)
 }
 
 /// The tree that a text of this name describes; the text is let go. The faults of
 /// `Description::read`.
-pub fn load_tree<R: Files + Input>(
-    rt: &R,
-    alloc: Global,
-    name: &str,
-) -> Result<Loaded, Diagnostic> {
+pub fn load_tree<R: Files + Input>(rt: &R, alloc: Global, name: &str) -> Result<Loaded, Diagnostic>
+    ensures described { IfOk result (λ loaded. (text : List ℕ) × Describes text (Ok loaded)) }
+    ensures fault { IfErr result (λ it. IsOfReading it.fault) }
+{
     let Description { loaded, .. } = Description::read(rt, alloc, name)?;
     Ok(loaded)
 }
 
-// A description, as far as it was read.
+// The description of this name, and what is made of its lines beside.
+fn read_with<'a, R: Files + Input, D: LineDigest>(
+    rt: &R,
+    alloc: Global,
+    name: &'a str,
+    digest: D,
+) -> Result<(Description<'a>, D), Diagnostic>
+    requires { D.has digest [] }
+    ensures described { IfOk result (λ it. (text : List ℕ) × Describes text (Ok it.0.loaded) × D.has it.1 (lines text)) }
+    ensures fault { IfErr result (λ it. IsOfReading it.fault) }
+{
+    read_from(alloc, &mut open_text(rt, alloc, name)?, name, digest)
+}
+
+// The description that a reader of this name has left.
+fn read_from<'a, I: Read, D: LineDigest>(
+    alloc: Global,
+    file: &mut I,
+    name: &'a str,
+    digest: D,
+) -> Result<(Description<'a>, D), Diagnostic>
+    requires { D.has digest [] }
+    ensures described { IfOk result (λ it. (text : List ℕ) × IsRest (I.remaining file.old) text (I.remaining file.new)
+        × Describes text (Ok it.0.loaded) × D.has it.1 (lines text)) }
+    ensures fault { IfErr result (λ it. (status_of it.fault ≡ 3) ⊎ ((text : List ℕ)
+        × IsRest (I.remaining file.old) text (I.remaining file.new) × Reports text it.fault)) }
+{
+    let mut reader = Reader::new(alloc, digest);
+    read_all(alloc, file, name, &mut reader)?;
+    let reading = reader.end()?;
+    reading.described(alloc, name)
+}
+
+// What is made of the lines of a description, beside what they say.
+trait LineDigest: Drop {
+    // That these lines may be those that were taken.
+    ghost has: { Self → List (List ℕ) → Type 0 };
+
+    // Takes the next line.
+    fn take(&mut self, line: &[u8])
+        ensures { (done : List (List ℕ)) → has self.old done → has self.new (done ++ line.now ∷ []) };
+}
+
+impl LineDigest for PathDigest {
+    ghost has = { HasTaken };
+
+    fn take(&mut self, line: &[u8]) {
+        PathDigest::take(self, line);
+    }
+}
+
+// Nothing is made of them.
 #[derive(Drop)]
-struct Reader {
+struct NoDigest;
+
+impl LineDigest for NoDigest {
+    ghost has = { λ _ _. ⊤ };
+
+    fn take(&mut self, _line: &[u8]) {}
+}
+
+// The lines of a description, as far as they were read.
+#[derive(Drop)]
+struct Reading<D> {
     loading: Loading,
     // The lines that were taken, the first faulty one last. Nothing after that is kept.
     text: Vec<u8>,
-    // What was read of the line that has not ended yet.
-    line: Vec<u8>,
     fault: Option<LoadError>,
-    // The digest of the paths of the lines that were taken, where one is made.
-    paths: Option<PathDigest>,
+    digest: D,
 }
 
-impl Reader {
-    fn new(alloc: Global, paths: Option<PathDigest>) -> Reader {
-        Reader {
-            loading: Loading::new(alloc),
-            text: Vec::new(alloc),
-            line: Vec::new(alloc),
-            fault: None,
-            paths,
-        }
-    }
-
-    // The last line may lack its LF.
-    fn end(&mut self) -> Result<(), AllocError> {
-        if self.fault.is_none() && !self.line.is_empty() {
-            self.end_line(&[])?;
-        }
+impl<D: LineDigest> Reading<D> {
+    // Takes the next line.
+    fn take(&mut self, line: &[u8]) -> Result<(), AllocError>
+        requires { self.old.fault ≡ None }
+        ensures { OnOk result ((done : List (List ℕ)) → HasRead D.has self.old done → HasRead D.has self.new (done ++ line.now ∷ [])) }
+    {
+        self.digest.take(line);
+        self.fault = load_line(&mut self.loading, &mut self.text, line)?;
         Ok(())
     }
 
-    // Loads the line that has ended, of which this is the last part; mostly it is the whole line.
-    fn end_line(&mut self, part: &[u8]) -> Result<(), AllocError> {
-        if self.line.is_empty() {
-            digest_line(&mut self.paths, part);
-            self.fault = load_line(&mut self.loading, &mut self.text, part)?;
-            return Ok(());
-        }
-        self.line.extend_from_slice(part)?;
-        digest_line(&mut self.paths, self.line.as_slice());
-        self.fault = load_line(&mut self.loading, &mut self.text, self.line.as_slice())?;
-        self.line.clear();
-        Ok(())
-    }
-
-    fn described<'a>(
-        self,
-        alloc: Global,
-        name: &'a str,
-    ) -> Result<(Description<'a>, Option<PathDigest>), Diagnostic> {
-        let Reader {
+    // What all lines describe, and what was made of them. The first fault otherwise.
+    fn described<'a>(self, alloc: Global, name: &'a str) -> Result<(Description<'a>, D), Diagnostic>
+        ensures described { IfOk result (λ it. (text : List ℕ) → length text ≤ 1073741824 → HasRead D.has self (lines text)
+            → Describes text (Ok it.0.loaded) × D.has it.1 (lines text)) }
+        ensures fault { IfErr result (λ it. (text : List ℕ) → length text ≤ 1073741824 → HasRead D.has self (lines text) → Reports text it.fault) }
+    {
+        let Reading {
             loading,
             text,
             fault,
-            paths,
-            ..
+            digest,
         } = self;
         let source = Source { name, text };
         match outcome(loading, fault) {
-            Ok(loaded) => Ok((Description { source, loaded }, paths)),
+            Ok(loaded) => Ok((Description { source, loaded }, digest)),
             Err(error) => Err(Diagnostic::of_description(alloc, error, &source)),
         }
     }
 }
 
-impl Sink for Reader {
-    fn take(&mut self, span: &[u8]) -> Result<(), AllocError> {
-        let mut last: Option<&[u8]> = None;
-        for line in Lines::new(span) {
-            if let Some(ended) = last {
-                self.end_line(ended)?;
-            }
-            if self.fault.is_some() {
-                return Ok(());
-            }
-            last = Some(line);
+// A description, as far as it was read.
+#[derive(Drop)]
+struct Reader<D> {
+    reading: Reading<D>,
+    // What was read of the line that has not ended yet.
+    line: Vec<u8>,
+}
+
+impl<D: LineDigest> Reader<D> {
+    fn new(alloc: Global, digest: D) -> Reader<D>
+        requires { D.has digest [] }
+        ensures { HasText D.has result [] }
+    {
+        Reader {
+            reading: Reading {
+                loading: Loading::new(alloc),
+                text: Vec::new(alloc),
+                fault: None,
+                digest,
+            },
+            line: Vec::new(alloc),
         }
-        let last = last.unwrap_or(&[]);
-        if span.ends_with(b"\n") {
-            self.end_line(last)
-        } else {
-            self.line.extend_from_slice(last)
+    }
+
+    // Takes the last part of the line; mostly it is the whole line.
+    fn end_line(&mut self, part: &[u8]) -> Result<(), AllocError>
+        requires in_order { self.old.reading.fault ≡ None }
+        requires part { is_open part.now ≡ true }
+        ensures { OnOk result (Takes (HasText D.has) self.old (part.now ++ 10 ∷ []) self.new) }
+    {
+        if self.line.is_empty() {
+            return self.reading.take(part);
         }
+        self.line.extend_from_slice(part)?;
+        self.reading.take(self.line.as_slice())?;
+        self.line.clear();
+        Ok(())
+    }
+
+    // All lines; the last may lack its LF.
+    fn end(self) -> Result<Reading<D>, AllocError>
+        ensures { IfOk result (λ reading. (text : List ℕ) → HasText D.has self text → HasRead D.has reading (lines text)) }
+    {
+        let Reader { reading, line } = self;
+        let mut all = reading;
+        if all.fault.is_some() {
+            return Ok(all);
+        }
+        if line.is_empty() {
+            return Ok(all);
+        }
+        all.take(line.as_slice())?;
+        Ok(all)
     }
 }
 
-// Takes a line into the digest of paths, where one is made.
-fn digest_line(paths: &mut Option<PathDigest>, line: &[u8]) {
-    if let Some(paths) = paths {
-        paths.take(line);
+impl<D: LineDigest> Sink for Reader<D> {
+    ghost has = { λ it text. HasText D.has it text };
+
+    fn take(&mut self, span: &[u8]) -> Result<(), AllocError> {
+        let mut rest = span;
+        while self.reading.fault.is_none() {
+            match cut_line(rest) {
+                Some((part, after)) => {
+                    self.end_line(part)?;
+                    rest = after;
+                }
+                None => return self.line.extend_from_slice(rest),
+            }
+        }
+        Ok(())
+    }
+}
+
+// What stands before the first LF, and what stands after it.
+#[inline(always)]
+fn cut_line(text: &[u8]) -> Option<(&[u8], &[u8])>
+    ensures { MatchOption result (is_open text.now ≡ true) (λ cut. IsCut text.now cut.0.now cut.1.now) }
+{
+    match memchr(b'\n', text) {
+        Some(end) => Some((&text[..end], &text[end + 1..])),
+        None => None,
     }
 }
 
@@ -183,22 +273,26 @@ fn load_line(
     loading: &mut Loading,
     text: &mut Vec<u8>,
     line: &[u8],
-) -> Result<Option<LoadError>, AllocError> {
-    let fault = match loading.take(line) {
+) -> Result<Option<LoadError>, AllocError>
+    ensures { IfOk result (λ fault. LineTaken loading.old line.now (taken_or fault) loading.new) }
+{
+    match loading.take(line) {
         Ok(()) => {
             keep(text, line)?;
-            None
+            text.push(b'\n')?;
+            Ok(None)
         }
         Err(error) => {
             text.extend_from_slice(line)?;
-            Some(error)
+            text.push(b'\n')?;
+            Ok(Some(error))
         }
-    };
-    text.push(b'\n')?;
-    Ok(fault)
+    }
 }
 
-fn outcome(loading: Loading, fault: Option<LoadError>) -> Result<Loaded, LoadError> {
+fn outcome(loading: Loading, fault: Option<LoadError>) -> Result<Loaded, LoadError>
+    ensures { result ≡ outcome_of fault loading }
+{
     match fault {
         Some(error) => Err(error),
         None => loading.finish(),

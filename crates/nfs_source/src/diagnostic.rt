@@ -1,4 +1,6 @@
 //! A fault with what stands after its line.
+ghost use Rattle.std.specs.Prelude.{◌≡◌};
+ghost use Rattle.nfs_source.specs.Status.{IsReportedAs};
 
 use crate::fault::Fault;
 use crate::source::Source;
@@ -25,7 +27,9 @@ pub struct Diagnostic {
 
 impl Diagnostic {
     /// A fault of a description. Without memory for the advice there is none.
-    pub fn of_description(alloc: Global, error: LoadError, description: &Source<'_>) -> Diagnostic {
+    pub fn of_description(alloc: Global, error: LoadError, description: &Source<'_>) -> Diagnostic
+        ensures { IsReportedAs error result.fault }
+    {
         let advice = match error {
             LoadError::Fault { line, cause } => {
                 let advice = advise(description.text.as_slice(), line, cause);
@@ -159,6 +163,8 @@ impl fmt::Display for Diagnostic {
 }
 
 impl From<Fault> for Diagnostic {
+    ghost from_gives = { λ fault it. it.fault ≡ fault };
+
     fn from(fault: Fault) -> Diagnostic {
         Diagnostic {
             fault,
@@ -168,6 +174,11 @@ impl From<Fault> for Diagnostic {
 }
 
 impl From<AllocError> for Diagnostic {
+    ghost use Rattle.std.specs.Prelude.{◌≡◌};
+    ghost use Rattle.nfs_source.specs.declared.fault.Fault.TheVariants.{Memory};
+
+    ghost from_gives = { λ error it. it.fault ≡ Memory error };
+
     fn from(error: AllocError) -> Diagnostic {
         Diagnostic {
             fault: Fault::Memory(error),

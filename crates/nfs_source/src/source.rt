@@ -1,4 +1,9 @@
 //! The texts that words of the command name.
+ghost use Rattle.std.specs.Prelude.{◌≡◌, ℕ, ◌<◌, ◌≤◌, List, Ok, IfOk, IfErr, OnOk, length, take};
+ghost use Rattle.nfs_load.specs.Descriptions.{Describes};
+ghost use Rattle.nfs_source.specs.Sources.{IsRest, Takes, left_of};
+ghost use Rattle.nfs_source.specs.Status.{Reports, status_of};
+ghost use Rattle.nfs_xdr.specs.Known.{Shrinks, IsAtEnd};
 
 use crate::diagnostic::Diagnostic;
 use crate::fault::Fault;
@@ -27,18 +32,28 @@ pub struct Source<'a> {
 impl<'a> Source<'a> {
     /// The whole text of this name. `CannotRead` where the system reads no more of it, `TooLong` above
     /// 1 GiB, which an endless one reaches, `Memory`.
-    pub fn read<R: Files + Input>(
-        rt: &R,
-        alloc: Global,
-        name: &'a str,
-    ) -> Result<Source<'a>, Fault> {
+    pub fn read<R: Files + Input>(rt: &R, alloc: Global, name: &'a str) -> Result<Source<'a>, Fault>
+        ensures short { IfOk result (λ source. length source.text.items ≤ 1073741824) }
+        ensures name { IfOk result (λ source. source.name.now ≡ name.now) }
+    {
+        Source::read_from(alloc, &mut open_text(rt, alloc, name)?, name)
+    }
+
+    // What a reader of this name has left.
+    fn read_from<I: Read>(alloc: Global, file: &mut I, name: &'a str) -> Result<Source<'a>, Fault>
+        ensures text { IfOk result (λ source. IsRest (I.remaining file.old) source.text.items (I.remaining file.new)) }
+        ensures name { IfOk result (λ source. source.name.now ≡ name.now) }
+    {
         let mut text = Vec::new(alloc);
-        read_text(rt, alloc, name, &mut text)?;
+        read_all(alloc, file, name, &mut text)?;
         Ok(Source { name, text })
     }
 
     /// What the text describes. `Description` with its first faulty line, `Memory`.
-    pub fn load(&self, alloc: Global) -> Result<Loaded, Diagnostic> {
+    pub fn load(&self, alloc: Global) -> Result<Loaded, Diagnostic>
+        ensures loaded { IfOk result (λ loaded. Describes self.now.text.items (Ok loaded)) }
+        ensures fault { IfErr result (λ it. Reports self.now.text.items it.fault) }
+    {
         match load(alloc, self.text.as_slice()) {
             Ok(loaded) => Ok(loaded),
             Err(error) => Err(Diagnostic::of_description(alloc, error, self)),
@@ -48,64 +63,139 @@ impl<'a> Source<'a> {
 
 /// What takes a text chunk by chunk.
 pub(crate) trait Sink {
+    /// That these bytes may be what was taken.
+    ghost has: { Self → List ℕ → Type 0 };
+
     /// Takes the next chunk. Refused without memory.
-    fn take(&mut self, span: &[u8]) -> Result<(), AllocError>;
+    fn take(&mut self, span: &[u8]) -> Result<(), AllocError>
+        ensures { OnOk result (Takes has self.old span.now self.new) };
 }
 
 impl Sink for Vec<u8> {
+    ghost has = { λ taken text. taken.items ≡ text };
+
     fn take(&mut self, span: &[u8]) -> Result<(), AllocError> {
         self.extend_from_slice(span)
     }
 }
 
-/// Hands on the text of a file, or of a pipe up to its end. `CannotRead` where the system reads no
-/// more of it, `TooLong` above 1 GiB, which an endless one reaches, `Memory`.
-pub(crate) fn read_text<R: Files + Input, S: Sink>(
+/// Standard input, or a file.
+#[derive(Drop)]
+pub(crate) enum TextFile<I, F> {
+    Standard(I),
+    Named(F),
+}
+
+impl<I: Read, F: Read> Read for TextFile<I, F> {
+    ghost remaining = { λ it. left_of I.remaining F.remaining it };
+
+    fn read(&mut self, buf: &mut [u8]) -> io::Result<usize> {
+        match self {
+            TextFile::Standard(input) => input.read(buf),
+            TextFile::Named(file) => file.read(buf),
+        }
+    }
+}
+
+/// The text of this name, which is read up to its end, so a pipe may be named too. `CannotRead` where the
+/// system doesn't open it, `Memory`.
+pub(crate) fn open_text<R: Files + Input>(
     rt: &R,
     alloc: Global,
     name: &str,
-    sink: &mut S,
-) -> Result<(), Fault> {
+) -> Result<TextFile<R::Reader, R::File>, Fault>
+    ensures { IfErr result (λ fault. status_of fault ≡ 3) }
+{
     if name == "-" {
-        return read_all(alloc, &mut rt.reader(), name, sink);
+        return Ok(TextFile::Standard(rt.reader()));
     }
     match fs::open(rt, name) {
-        Ok(mut file) => read_all(alloc, &mut file, name, sink),
+        Ok(file) => Ok(TextFile::Named(file)),
         Err(error) => Err(cannot_read(alloc, name, error)),
     }
 }
 
-// Hands on all bytes that a reader of this name gives.
-fn read_all<I: Read, S: Sink>(
+/// Hands on all bytes that a reader of this name gives, up to its end. `CannotRead` where the system
+/// reads no more of it, `TooLong` above 1 GiB, which an endless one reaches, `Memory`.
+pub(crate) fn read_all<I: Read, S: Sink>(
     alloc: Global,
     file: &mut I,
     name: &str,
     sink: &mut S,
-) -> Result<(), Fault> {
+) -> Result<(), Fault>
+    ensures taken { OnOk result ((text : List ℕ)
+        × IsRest (I.remaining file.old) text (I.remaining file.new) × Takes S.has sink.old text sink.new) }
+    ensures machine { IfErr result (λ fault. status_of fault ≡ 3) }
+{
     let mut span = Vec::new(alloc);
-    span.resize(CHUNK_BYTES, 0)?;
+    span.resize(CHUNK_BYTES, 0).map_err(Fault::Memory)?;
+    hand_on(alloc, file, name, span.as_mut_slice(), sink)
+}
+
+// The same, with room for what is read at once.
+fn hand_on<I: Read, S: Sink>(
+    alloc: Global,
+    file: &mut I,
+    name: &str,
+    span: &mut [u8],
+    sink: &mut S,
+) -> Result<(), Fault>
+    requires { 0 < length span.old }
+    ensures taken { OnOk result ((text : List ℕ)
+        × IsRest (I.remaining file.old) text (I.remaining file.new) × Takes S.has sink.old text sink.new) }
+    ensures machine { IfErr result (λ fault. status_of fault ≡ 3) }
+{
     let mut len = 0usize;
     for _ in 0..u64::MAX {
         if len > MOST_BYTES {
             break;
         }
-        match file.read(span.as_mut_slice()) {
+        match read_some(file, span) {
             Ok(0) => return Ok(()),
             Ok(n) => {
                 len = len.saturating_add(n);
-                sink.take(&span[..n])?;
+                if let Err(error) = sink.take(&span[..n]) {
+                    return Err(Fault::Memory(error));
+                }
             }
-            Err(error) if error.kind() == ErrorKind::Interrupted => {}
             Err(error) => return Err(cannot_read(alloc, name, error)),
         }
     }
-    Err(Fault::TooLong(name.to_string(alloc)?))
+    Err(too_long(alloc, name))
+}
+
+// How many bytes were read into a span, none only at the end. Where the system is interrupted, which
+// loses nothing, it is asked again.
+fn read_some<I: Read>(file: &mut I, span: &mut [u8]) -> io::Result<usize>
+    ensures count { IfOk result (λ n. n ≤ length span.new) }
+    ensures comes { IfOk result (λ n. Shrinks (I.remaining file.old) (take n span.new) (I.remaining file.new)) }
+    ensures at_end { IfOk result (λ n. n ≡ 0 → 0 < length span.new → IsAtEnd (I.remaining file.new)) }
+{
+    for _ in 0..u64::MAX {
+        match file.read(span) {
+            Err(error) if error.kind() == ErrorKind::Interrupted => {}
+            done => return done,
+        }
+    }
+    Err(io::Error::from(ErrorKind::Interrupted))
 }
 
 // That a file can't be read, and what the system says of it.
-fn cannot_read(alloc: Global, name: &str, error: io::Error) -> Fault {
+fn cannot_read(alloc: Global, name: &str, error: io::Error) -> Fault
+    ensures { status_of result ≡ 3 }
+{
     match name.to_string(alloc) {
         Ok(name) => Fault::CannotRead { name, error },
+        Err(error) => Fault::Memory(error),
+    }
+}
+
+// That a file is longer than any that is read.
+fn too_long(alloc: Global, name: &str) -> Fault
+    ensures { status_of result ≡ 3 }
+{
+    match name.to_string(alloc) {
+        Ok(name) => Fault::TooLong(name),
         Err(error) => Fault::Memory(error),
     }
 }

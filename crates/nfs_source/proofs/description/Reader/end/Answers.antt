@@ -1,0 +1,15 @@
+use Rattle.std.proofs.Common.{ℕ, List, [], ◌∷◌, ◌++◌, sym, subst, ◌∙◌}
+use Rattle.nfs_source.specs.Readings.{HasRead}
+use Rattle.nfs_source.proofs.Readings.{ends_faulty, ends_last, is_in_order, some_by_len}
+use Rattle.nfs_source.proofs.description.Reader.end.Goals as goal
+
+pub returns-then-is_some : goal.returns-then-is_some
+returns-then-is_some g c = λ text. ends_faulty g.D.LineDigest.has c.args.self text (sym c.if-is_some.ensures)
+
+pub returns : goal.returns
+returns g c = λ text.
+    let it = c.args.self in
+    let has = g.D.LineDigest.has in
+    ends_last has it c.take.new.self text (is_in_order it.reading.fault (sym c.is_some.ensures ∙ c.if-is_some.false))
+    (some_by_len it.line.items c.as_slice.result.now it.line.len c.as_slice.ensures.value c.as_slice.ensures.len (sym c.is_empty.ensures ∙ c.if-is_empty.false))
+    (subst (λ (line : List ℕ). (done : List (List ℕ)) → HasRead has it.reading done → HasRead has c.take.new.self (done ++ line ∷ [])) c.as_slice.ensures.value c.in_ok-take.ensures)
