@@ -1,9 +1,11 @@
 -- What is printed of the outcomes of a run.
-use Rattle.std.specs.Prelude.{◌≡◌, ℕ, Bool, true, false, List, [], ◌∷◌, ◌++◌, codes, Option, Some, None, Result, Ok, Err, IsSome}
+use Rattle.std.specs.Prelude.{◌≡◌, ◌⊎◌, ℕ, zero, suc, length, map, reverse, take, Bool, true, false, List, [], ◌∷◌, ◌++◌, codes, Option, Some, None, Result, Ok, Err, IsSome, IsNone}
 use Rattle.std.specs.Str.{IsTrimAsciiEnd}
 use Rattle.hex.specs.Hex.{encode_lower}
 use Rattle.nfs_server.specs.AuditLines.{line_text}
-use Rattle.nfs_server.specs.Events.{Answer}
+use Rattle.nfs_server.specs.Events.{Event, Answer, Done}
+use Rattle.nfs_server.specs.Fits.{Held, History, Fits}
+use Rattle.nfs_server.specs.Runs.{longer}
 use Rattle.nfs_server.specs.declared.audit_line.AuditLine.{AuditLine}
 use Rattle.nfs_replay.specs.declared.fault.RunFault.{RunFault}
 use Rattle.nfs_replay.specs.declared.queued_call.QueuedCall.{QueuedCall}
@@ -63,3 +65,27 @@ Says text false was fault before after = IsSome fault × GrowsByPart before text
 
 abbrev pub Takes : Bool → List QueuedCall → Answer → Bool → Option RunFault → Option RunFault → Option (List ℕ) → Option (List ℕ) → Type 0
 Takes decoded calls a said was fault before after = (text : List ℕ) × IsPrinted decoded (next_names calls) a text × Says text said was fault before after
+
+-- ---- a run
+
+-- the calls after so many
+abbrev pub after_calls : ℕ → List QueuedCall → List QueuedCall
+after_calls zero calls = calls
+after_calls (suc n) calls = later (after_calls n calls)
+
+-- what is printed of answers, the newest first: of each its own, one after another
+abbrev pub ArePrinted : Bool → List QueuedCall → List Done → List ℕ → Type 0
+ArePrinted decoded calls [] text = text ≡ []
+ArePrinted decoded calls (d ∷ earlier) text = (before own : List ℕ) × ArePrinted decoded calls earlier before
+    × IsPrinted decoded (next_names (after_calls (length earlier) calls)) d.answer own × (text ≡ before ++ own)
+
+-- The first n events are answered, after a history that fits, and what each is answered is printed: of all of them, but where a fault ends the run.
+pub record RunsPrinted (decoded : Bool) (calls : List QueuedCall) (history : History) (events : List Event) (n : ℕ)
+    (was fault : Option RunFault) (before after : Option (List ℕ)) (s : Held) : Type 0 where
+  pub done : List Done
+  pub events_are : map (λ (d : Done). d.event) (reverse done) ≡ take n events
+  pub fits : Fits (longer history done) s
+  pub text : List ℕ
+  pub printed : ArePrinted decoded calls done text
+  pub ends : ((fault ≡ was) × Grows before text after) ⊎ (IsSome fault × GrowsByPart before text after)
+  pub all : IsNone fault → n ≡ length events

@@ -1,10 +1,12 @@
 //! The lines that the program prints.
-ghost use Rattle.std.specs.Prelude.{◌≡◌, ℕ, List, [], ◌∷◌, ◌++◌, option_map};
+ghost use Rattle.std.specs.Prelude.{◌≡◌, ℕ, ◌≤◌, List, [], ◌∷◌, ◌++◌, length, option_map};
 ghost use Rattle.std.specs.Str.{IsTrimAsciiEnd};
 ghost use Rattle.hex.specs.Hex.{encode_lower};
-ghost use Rattle.nfs_replay.specs.Printed.{IsAudit, IsNamedLine, IsPrinted, IsReply, Prints, Takes, later, next_names};
+ghost use Rattle.nfs_replay.specs.Printed.{IsAudit, IsNamedLine, IsPrinted, IsReply, Prints, RunsPrinted, Takes, later, next_names};
 ghost use Rattle.nfs_server.specs.AuditLines.{line_text};
+ghost use Rattle.nfs_server.specs.Fits.{Fits, History};
 ghost use Rattle.nfs_server.specs.InMemory.{answer_of};
+ghost use Rattle.nfs_server.specs.Runs.{events_of};
 
 use crate::fault::RunFault;
 use crate::hexadecimal::push_digits;
@@ -12,7 +14,8 @@ use crate::queued_call::QueuedCall;
 use crate::shown::Shown;
 use nfs_decode::reply::put_reply;
 use nfs_server::audit_line::AuditLine;
-use nfs_server::event::{Outcome, Sink};
+use nfs_server::event::{Event, Outcome, Sink};
+use nfs_server::sessions::Sessions;
 use nfs_text::line::Line;
 use nfs_words::text::Text;
 use nfs_xdr::device::{ByteOut, write_all};
@@ -149,6 +152,16 @@ pub struct Replies<'a, W: ByteOut> {
 }
 
 impl<W: ByteOut> Replies<'_, W> {
+    /// Runs these events, one for each of the calls, and prints what each is answered.
+    pub(crate) fn run(&mut self, sessions: &mut Sessions, events: &[Event<'_>]) -> usize
+        ensures bound { result ≤ length events.now }
+        ensures printed { (history : History) → Fits history sessions.old.server
+            → RunsPrinted self.old.shown.is_decoded self.old.calls.now history (events_of events.now) result self.old.fault self.new.fault
+            (W.contents self.old.out.now) (W.contents self.new.out.now) sessions.new.server }
+    {
+        sessions.run(events, self)
+    }
+
     // The audit line of an outcome, with the names of its call, and then its reply.
     fn print(&mut self, outcome: &Outcome<'_>) -> Result<(), RunFault>
         ensures prints { (text : List ℕ) × IsPrinted self.old.shown.is_decoded (next_names self.old.calls.now) (answer_of outcome.now) text
