@@ -1,12 +1,13 @@
 -- A row more, with its place.
-use Rattle.std.proofs.Common.{◌≡◌, ℕ, suc, Some, None, List, [], ◌∷◌, ◌++◌, length, refl, sym, ap, subst, ◌∙◌, arith}
+use Rattle.std.proofs.Common.{inl, inr, ◌≡◌, ℕ, suc, Some, None, List, [], ◌∷◌, ◌++◌, length, refl, sym, ap, subst, ◌∙◌, arith}
 use Rattle.std.specs.Prelude.{slice_get, Contains}
 use Rattle.std.specs.List.{cons_option}
+use Rattle.std.proofs.lemmas.List.{length_push}
 use Rattle.std.proofs.lemmas.Option.{slice_get_past}
 use Rattle.std.proofs.lemmas.List.Elements.{filter_map-append, Contains-append_left, Contains-push}
 use Rattle.std.proofs.lemmas.Slice.Eq.{bytes_eq-Decides}
 use Rattle.nfs_entries.specs.declared.entry_data.EntryPosition.{EntryPosition}
-use Rattle.nfs_entries.specs.Listing.{Row, entry_of, of_cookie, standing, listed, place_of, IsKept, HasNo}
+use Rattle.nfs_entries.specs.Listing.{Row, AreFew, entry_of, of_cookie, standing, listed, place_of, IsKept, HasNo}
 use Rattle.nfs_entries.proofs.Cases.{by_number, if_false, same_some, true_and_false, in_head, in_tail}
 use Rattle.nfs_entries.proofs.Keys.{push_other, push_last}
 use Rattle.nfs_entries.proofs.Places.{not_equal, push_rises}
@@ -62,3 +63,14 @@ module _ (rows : List Row) (ps : List EntryPosition) (r : Row) (kept : IsKept ro
         (λ jj. absurd (differs i s (was i s io at_i) (ap (λ (r : Row). r.0.items) (is_new j t jj at_j) ∙ sym same)))
         (λ jo. kept.apart i j s t (was i s io at_i) (was j t jo at_j) same));
   }
+
+  pub few_more : AreFew rows ps → AreFew more (ps ++ at ∷ [])
+  few_more few =
+      let shown : length (listed more (ps ++ at ∷ [])) ≡ length (listed rows ps ++ entry_of r ∷ []) = ap length listed_more in
+      let entries = length_push (listed rows ps) (entry_of r) in
+      let places = length_push ps at in
+      let all = length_push rows r in
+      elim few [
+        | inl each ↦ inl (omega (arith, shown, entries, places, each))
+        | inr some ↦ inr (omega (arith, places, all, some))
+      ]

@@ -248,3 +248,16 @@ without_none name [] none = refl
 without_none name (e ∷ es) none = by_test (has_name name e)
     (λ y. absurd (not_both none (if_true (Some e) (find (has_name name) es) y)))
     (λ n. if_true (e ∷ without name es) (without name es) (ap not n) ∙ ap (λ l. e ∷ l) (without_none name es (sym (if_false (Some e) (find (has_name name) es) n) ∙ none)))
+
+-- ---- memory that is kept
+
+counted : (o : Option Entry) (es : List Entry) → is_some o ≡ true → length (cons_option o es) ≡ suc (length es)
+counted None es y = cc
+counted (Some e) es y = refl
+
+-- where dead places are gone, each has its entry
+pub each_live : (rows : List Row) (ps : List EntryPosition) → length (listed rows (filter (is_live rows) ps)) ≡ length (filter (is_live rows) ps)
+each_live rows [] = refl
+each_live rows (p ∷ ps) = let rest = filter (is_live rows) ps in by_test (is_live rows p)
+    (λ y. subst (λ qs. length (listed rows qs) ≡ length qs) (sym (if_true (p ∷ rest) rest y)) (counted (standing rows p) (listed rows rest) y ∙ ap suc (each_live rows ps)))
+    (λ n. subst (λ qs. length (listed rows qs) ≡ length qs) (sym (if_false (p ∷ rest) rest n)) (each_live rows ps))

@@ -1,7 +1,7 @@
 -- A directory's entries by rising cookie, and how they are kept.
-use Rattle.std.specs.Prelude.{◌≡◌, ℕ, Bool, true, false, List, Option, None, Some, Contains, is_some, map, nat_eq, bytes_eq, slice_get, option_map, find, filter, nat_lt, not, cond}
+use Rattle.std.specs.Prelude.{◌≡◌, ◌⊎◌, ℕ, ◌+◌, ◌*◌, Bool, true, false, List, Option, None, Some, Contains, is_some, map, nat_eq, bytes_eq, slice_get, option_map, find, filter, nat_lt, not, cond}
 use Rattle.std.specs.List.{filter_map}
-use Rattle.std.specs.Prelude.{Vec, suc, [], ◌∷◌, ◌≤◌}
+use Rattle.std.specs.Prelude.{Vec, suc, [], ◌∷◌, ◌≤◌, length}
 use Rattle.std.specs.Global.{Global}
 use Rattle.nfs_entries.specs.declared.entry_data.EntryPosition.{EntryPosition}
 
@@ -98,3 +98,7 @@ pub record IsKept (rows : List Row) (places : List EntryPosition) (next : ℕ) :
   pub rises : Rises 0 places next
   pub placed : (i : ℕ) (r : Row) → slice_get rows i ≡ Some r → Contains places (place_of r i)
   pub apart : (i j : ℕ) (r s : Row) → slice_get rows i ≡ Some r → slice_get rows j ≡ Some s → r.0.items ≡ s.0.items → i ≡ j
+
+-- Memory that is kept: no place is dead, or half of the places, rounded down, are at most 16 more than the rows.
+abbrev pub AreFew : List Row → List EntryPosition → Type 0
+AreFew rows places = (length (listed rows places) ≡ length places) ⊎ (length places ≤ 2 * length rows + 33)

@@ -3,7 +3,7 @@
 ghost use Rattle.std.specs.Prelude.{ℕ, IsTrue, ◌↔◌, ◌≡◌, ◌+◌, ◌<◌, ◌≤◌, ◌++◌, ◌∷◌, [], false, OnOk, OnErr, IfSome, IfNone, ◌⊎◌, None};
 ghost use Rattle.std.specs.Prelude.{nat_le, nat_lt, option_map, slice_get, filter, vec_len, vec_capacity, ◌^◌};
 ghost use Rattle.std.specs.Iterator.{YieldsFirstBy, item_count};
-ghost use Rattle.nfs_entries.specs.Listing.{entries_beyond, entry_named, number_named, without, listed, led, is_live, settled, IsRowOf, HasNo, Rises};
+ghost use Rattle.nfs_entries.specs.Listing.{AreFew, entries_beyond, entry_named, number_named, without, listed, led, is_live, settled, IsRowOf, HasNo, Rises};
 ghost use Rattle.nfs_entries.specs.Listing as spec;
 ghost use Rattle.nfs_entries.specs.Seen.{entry_seen, entries_left};
 
@@ -38,7 +38,7 @@ pub struct DirectoryEntries {
 impl Model for DirectoryEntries {
     ghost use Rattle.std.specs.Prelude.{◌-◌, min, vec_len, vec_capacity};
     ghost use Rattle.indexmap.specs.IndexMap.{spare as room};
-    ghost use Rattle.nfs_entries.specs.Listing.{Listed, listed, IsKept};
+    ghost use Rattle.nfs_entries.specs.Listing.{Listed, listed, AreFew, IsKept};
 
     ghost Value = { Listed };
 
@@ -48,7 +48,7 @@ impl Model for DirectoryEntries {
       spare = min (room m.rows) (vec_capacity m.places - vec_len m.places);
     } };
 
-    ghost invariant = { λ m. IsKept m.rows.entries m.places.items m.next };
+    ghost invariant = { λ m. IsKept m.rows.entries m.places.items m.next × AreFew m.rows.entries m.places.items };
 }
 
 impl DirectoryEntries {
@@ -283,6 +283,7 @@ fn lead_by_halving(places: &mut Vec<EntryPosition>, cookie: u64, index: usize)
 // Takes the dead places out where they are more than half, in no memory.
 fn thin(places: &mut Vec<EntryPosition>, rows: &IndexMap<Vec<u8>, EntryData>)
     ensures items { places.new.items ≡ places.old.items ⊎ places.new.items ≡ filter (is_live rows.now.entries) places.old.items }
+    ensures few { AreFew rows.now.entries places.new.items }
     ensures len { vec_len places.new ≤ vec_len places.old }
     ensures capacity { vec_capacity places.new ≡ vec_capacity places.old }
 {

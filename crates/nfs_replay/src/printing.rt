@@ -1,9 +1,12 @@
 //! The lines that the program prints.
-ghost use Rattle.std.specs.Prelude.{[], ◌∷◌, ◌++◌, OnOk};
+ghost use Rattle.std.specs.Prelude.{◌≡◌, ℕ, ◌≤◌, List, [], ◌∷◌, ◌++◌, length, option_map};
+ghost use Rattle.std.specs.Str.{IsTrimAsciiEnd};
 ghost use Rattle.hex.specs.Hex.{encode_lower};
-ghost use Rattle.nfs_xdr.specs.Known.{Grows};
+ghost use Rattle.nfs_replay.specs.Printed.{IsAudit, IsNamedLine, IsPrinted, IsReply, Prints, RunsPrinted, Takes, later, next_names};
 ghost use Rattle.nfs_server.specs.AuditLines.{line_text};
-ghost use Rattle.nfs_server.specs.Events.{Answer};
+ghost use Rattle.nfs_server.specs.Fits.{Fits, History};
+ghost use Rattle.nfs_server.specs.InMemory.{answer_of};
+ghost use Rattle.nfs_server.specs.Runs.{events_of};
 
 use crate::fault::RunFault;
 use crate::hexadecimal::push_digits;
@@ -11,7 +14,8 @@ use crate::queued_call::QueuedCall;
 use crate::shown::Shown;
 use nfs_decode::reply::put_reply;
 use nfs_server::audit_line::AuditLine;
-use nfs_server::event::{Outcome, Sink};
+use nfs_server::event::{Event, Outcome, Sink};
+use nfs_server::sessions::Sessions;
 use nfs_text::line::Line;
 use nfs_words::text::Text;
 use nfs_xdr::device::{ByteOut, write_all};
@@ -35,7 +39,7 @@ impl Printer {
 
     /// Prints a text.
     pub(crate) fn text<W: ByteOut>(&mut self, out: &mut W, text: &str) -> Result<(), RunFault>
-        ensures { OnOk result (Grows (W.contents out.old) (text.now ++ 10 ∷ []) (W.contents out.new)) }
+        ensures { Prints (W.contents out.old) (text.now ++ 10 ∷ []) result (W.contents out.new) }
     {
         self.line.clear();
         self.line.extend_from_slice(text.as_bytes())?;
@@ -49,7 +53,7 @@ impl Printer {
         text: &str,
         bytes: &[u8],
     ) -> Result<(), RunFault>
-        ensures { OnOk result (Grows (W.contents out.old) (text.now ++ encode_lower bytes.now ++ 10 ∷ []) (W.contents out.new)) }
+        ensures { Prints (W.contents out.old) (text.now ++ encode_lower bytes.now ++ 10 ∷ []) result (W.contents out.new) }
     {
         self.line.clear();
         self.line.extend_from_slice(text.as_bytes())?;
@@ -63,7 +67,10 @@ impl Printer {
         out: &mut W,
         denied: &AuditLine,
         names: &[u8],
-    ) -> Result<(), RunFault> {
+    ) -> Result<(), RunFault>
+        ensures { (front : List ℕ) × IsTrimAsciiEnd (line_text denied.now) front
+            × Prints (W.contents out.old) (front ++ names.now ++ 10 ∷ []) result (W.contents out.new) }
+    {
         let mut line = Line::new();
         denied.put(&mut line);
         self.named(out, line.as_slice().trim_ascii_end(), names)
@@ -76,7 +83,7 @@ impl Printer {
         line: &[u8],
         names: &[u8],
     ) -> Result<(), RunFault>
-        ensures { OnOk result (Grows (W.contents out.old) (line.now ++ names.now ++ 10 ∷ []) (W.contents out.new)) }
+        ensures { Prints (W.contents out.old) (line.now ++ names.now ++ 10 ∷ []) result (W.contents out.new) }
     {
         self.line.clear();
         self.line.extend_from_slice(line)?;
@@ -90,7 +97,9 @@ impl Printer {
         out: &mut W,
         call: &[u8],
         reply: &[u8],
-    ) -> Result<(), RunFault> {
+    ) -> Result<(), RunFault>
+        ensures { (words : List ℕ) × Prints (W.contents out.old) words result (W.contents out.new) }
+    {
         let mut text = Text::new(self.alloc);
         put_reply(call, reply, &mut text);
         let text = text.into_bytes()?;
@@ -106,7 +115,7 @@ impl Printer {
         out: &mut W,
         denied: &AuditLine,
     ) -> Result<(), RunFault>
-        ensures { OnOk result (Grows (W.contents out.old) (line_text denied.now) (W.contents out.new)) }
+        ensures { Prints (W.contents out.old) (line_text denied.now) result (W.contents out.new) }
     {
         let mut line = Line::new();
         denied.put(&mut line);
@@ -118,7 +127,7 @@ impl Printer {
 
     // Prints the line that was made.
     fn end<W: ByteOut>(&mut self, out: &mut W) -> Result<(), RunFault>
-        ensures { OnOk result (Grows (W.contents out.old) (self.old.line.items ++ 10 ∷ []) (W.contents out.new)) }
+        ensures { Prints (W.contents out.old) (self.old.line.items ++ 10 ∷ []) result (W.contents out.new) }
     {
         self.line.push(b'\n')?;
         match write_all(out, self.line.as_slice()) {
@@ -143,32 +152,59 @@ pub struct Replies<'a, W: ByteOut> {
 }
 
 impl<W: ByteOut> Replies<'_, W> {
-    fn print(&mut self, outcome: &Outcome<'_>) -> Result<(), RunFault> {
-        let (call, names) = match self.calls.split_first() {
-            Some((call, others)) => {
-                self.calls = others;
-                (call.bytes.as_slice(), call.names.as_slice())
-            }
-            None => (b"".as_slice(), b"".as_slice()),
-        };
-        if let Some(denied) = &outcome.line {
-            self.audit(denied, names)?;
-        }
-        match outcome.reply {
-            Some(reply) => self.reply(call, reply),
+    /// Runs these events, one for each of the calls, and prints what each is answered.
+    pub(crate) fn run(&mut self, sessions: &mut Sessions, events: &[Event<'_>]) -> usize
+        ensures bound { result ≤ length events.now }
+        ensures printed { (history : History) → Fits history sessions.old.server
+            → RunsPrinted self.old.shown.is_decoded self.old.calls.now history (events_of events.now) result self.old.fault self.new.fault
+            (W.contents self.old.out.now) (W.contents self.new.out.now) sessions.new.server }
+    {
+        sessions.run(events, self)
+    }
+
+    // The audit line of an outcome, with the names of its call, and then its reply.
+    fn print(&mut self, outcome: &Outcome<'_>) -> Result<(), RunFault>
+        ensures prints { (text : List ℕ) × IsPrinted self.old.shown.is_decoded (next_names self.old.calls.now) (answer_of outcome.now) text
+            × Prints (W.contents self.old.out.now) text result (W.contents self.new.out.now) }
+        ensures out { self.new.out.ghost_name ≡ self.old.out.ghost_name }
+        ensures calls { self.new.calls.now ≡ later self.old.calls.now }
+        ensures shown { self.new.shown ≡ self.old.shown }
+        ensures fault { self.new.fault ≡ self.old.fault }
+    {
+        let (call, names) = next_of(self.calls);
+        self.calls = after_next(self.calls);
+        self.audit(&outcome.line, names)?;
+        self.reply(call, outcome.reply)
+    }
+
+    // The line of a call, if it was denied.
+    fn audit(&mut self, line: &Option<AuditLine>, names: &[u8]) -> Result<(), RunFault>
+        ensures prints { (text : List ℕ) × IsAudit line.now names.now text
+            × Prints (W.contents self.old.out.now) text result (W.contents self.new.out.now) }
+        ensures out { self.new.out.ghost_name ≡ self.old.out.ghost_name }
+        ensures calls { self.new.calls.now ≡ self.old.calls.now }
+        ensures shown { self.new.shown ≡ self.old.shown }
+        ensures fault { self.new.fault ≡ self.old.fault }
+    {
+        match line {
             None => Ok(()),
+            Some(denied) if names.is_empty() => self.printer.audit(self.out, denied),
+            Some(denied) => self.printer.named_audit(self.out, denied, names),
         }
     }
 
-    fn audit(&mut self, denied: &AuditLine, names: &[u8]) -> Result<(), RunFault> {
-        if names.is_empty() {
-            self.printer.audit(self.out, denied)
-        } else {
-            self.printer.named_audit(self.out, denied, names)
-        }
-    }
-
-    fn reply(&mut self, call: &[u8], reply: &[u8]) -> Result<(), RunFault> {
+    // A reply, if there is one, and what it says to a call where that is asked for.
+    fn reply(&mut self, call: &[u8], reply: Option<&[u8]>) -> Result<(), RunFault>
+        ensures prints { (text : List ℕ) × IsReply self.old.shown.is_decoded (option_map (λ bytes. bytes.now) reply.entry) text
+            × Prints (W.contents self.old.out.now) text result (W.contents self.new.out.now) }
+        ensures out { self.new.out.ghost_name ≡ self.old.out.ghost_name }
+        ensures calls { self.new.calls.now ≡ self.old.calls.now }
+        ensures shown { self.new.shown ≡ self.old.shown }
+        ensures fault { self.new.fault ≡ self.old.fault }
+    {
+        let Some(reply) = reply else {
+            return Ok(());
+        };
         self.printer.bytes(self.out, "reply ", reply)?;
         if self.shown.is_decoded {
             self.printer.words(self.out, call, reply)?;
@@ -177,8 +213,30 @@ impl<W: ByteOut> Replies<'_, W> {
     }
 }
 
+// The bytes and the names of the call whose outcome comes next; none where none is left.
+fn next_of(calls: &[QueuedCall]) -> (&[u8], &[u8])
+    ensures { result.1.now ≡ next_names calls.now }
+{
+    match calls.first() {
+        Some(call) => (call.bytes.as_slice(), call.names.as_slice()),
+        None => (&[], &[]),
+    }
+}
+
+// The calls after it.
+fn after_next(calls: &[QueuedCall]) -> &[QueuedCall]
+    ensures { result.now ≡ later calls.now }
+{
+    match calls.split_first() {
+        Some((_, others)) => others,
+        None => &[],
+    }
+}
+
 impl<W: ByteOut> Sink for Replies<'_, W> {
-    ghost takes = { λ old answer said new. Unit {0} };
+    ghost takes = { λ old answer said new. Takes old.shown.is_decoded old.calls.now answer said old.fault new.fault
+        (W.contents old.out.now) (W.contents new.out.now) × (new.out.ghost_name ≡ old.out.ghost_name)
+        × (new.calls.now ≡ later old.calls.now) × (new.shown ≡ old.shown) };
 
     fn take(&mut self, outcome: Outcome<'_>) -> bool {
         match self.print(&outcome) {

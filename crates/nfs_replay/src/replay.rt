@@ -277,7 +277,7 @@ impl Player {
             calls: calls.as_slice(),
             fault: None,
         };
-        self.sessions.run(events.as_slice(), &mut replies);
+        replies.run(&mut self.sessions, events.as_slice());
         let Replies {
             out: _,
             printer,

@@ -1,5 +1,5 @@
 -- What the replies that are kept show, and what is counted of them.
-use Rattle.std.specs.Prelude.{◌≡◌, ℕ, zero, suc, ◌+◌, ◌*◌, ◌%◌, ◌<◌, true, false, List, [], ◌∷◌, ◌++◌, map, length, take, drop, nat_eq, nat_lt, slice_index, slice_index_or, if◌then◌else◌}
+use Rattle.std.specs.Prelude.{◌≡◌, ℕ, zero, suc, ◌+◌, ◌*◌, ◌%◌, ◌<◌, true, false, List, [], ◌∷◌, ◌++◌, map, length, take, drop, max, nat_eq, nat_lt, slice_index, slice_index_or, if◌then◌else◌}
 use Rattle.std.specs.List.{remove}
 use Rattle.nfs_reply_cache.specs.declared.cached_reply.CachedReply.{CachedReply}
 use Rattle.nfs_reply_cache.specs.Places.{Key, Place, place_for, same}
@@ -12,6 +12,10 @@ place_of k = place_for (key_of k) k.reply.value.items
 
 abbrev pub places_of : List CachedReply → List Place
 places_of ks = map place_of ks
+
+-- the most room of the list of a record with so many bytes: twice as many and one more, or 256
+abbrev pub most_room : ℕ → ℕ
+most_room len = max 256 (2 * len + 1)
 
 -- ---- buckets, which distinguish most records
 

@@ -1,7 +1,7 @@
 //! A reply that is kept.
-ghost use Rattle.std.specs.Prelude.{◌≡◌, ◌+◌, ◌≤◌, [], ◌++◌, true, length, vec_len, vec_capacity, IfOk, OnOk, OnErr};
+ghost use Rattle.std.specs.Prelude.{◌≡◌, ◌≤◌, [], true, length, vec_len, vec_capacity, IfOk, OnOk, OnErr};
 ghost use Rattle.nfs_reply_cache.specs.Places.{place_for, same};
-ghost use Rattle.nfs_reply_cache.specs.Shown.{IsBucketed, bucket_of, key_of, place_of};
+ghost use Rattle.nfs_reply_cache.specs.Shown.{IsBucketed, bucket_of, key_of, most_room, place_of};
 
 use arrayvec::ArrayVec;
 use nfs_exports::addr::Addr;
@@ -37,7 +37,7 @@ impl CachedReply {
         ensures bucket { IfOk result (λ kept. kept.bucket ≡ bucket) }
         ensures bucketed { IfOk result IsBucketed }
     {
-        let mut record = Vec::with_capacity(alloc, bytes.len().max(LEAST_ROOM))?;
+        let mut record = list_for(alloc, bytes.len())?;
         append(&mut record, bytes);
         Ok(CachedReply {
             addr,
@@ -66,15 +66,9 @@ impl CachedReply {
         ensures bucketed { OnOk result (IsBucketed self.new) }
         ensures err { OnErr result (self.new ≡ self.old) }
     {
-        if !suits(self.record.capacity(), bytes.len()) {
-            self.record = Vec::with_capacity(
-                *self.record.allocator(),
-                bytes.len().max(LEAST_ROOM),
-            )?;
-        }
+        make_room(&mut self.record, bytes.len())?;
         self.addr = addr;
         self.bucket = bucket;
-        self.record.clear();
         append(&mut self.record, bytes);
         self.reply.clear();
         Ok(())
@@ -92,10 +86,37 @@ impl CachedReply {
     }
 }
 
+// An empty list with room for so many bytes, and at most for twice as many, or 256.
+fn list_for(alloc: Global, len: usize) -> Result<Vec<u8>, AllocError>
+    ensures empty { IfOk result (λ list. list.items ≡ []) }
+    ensures len { IfOk result (λ list. vec_len list ≡ 0) }
+    ensures room { IfOk result (λ list. len ≤ vec_capacity list) }
+    ensures most { IfOk result (λ list. vec_capacity list ≤ most_room len) }
+{
+    Vec::with_capacity(alloc, len.max(LEAST_ROOM))
+}
+
+// Makes a list such a one. Refused where there is no memory; it is then as before.
+fn make_room(list: &mut Vec<u8>, len: usize) -> Result<(), AllocError>
+    ensures empty { OnOk result (list.new.items ≡ []) }
+    ensures len { OnOk result (vec_len list.new ≡ 0) }
+    ensures room { OnOk result (len ≤ vec_capacity list.new) }
+    ensures most { OnOk result (vec_capacity list.new ≤ most_room len) }
+    ensures err { OnErr result (list.new ≡ list.old) }
+{
+    if suits(list.capacity(), len) {
+        list.clear();
+    } else {
+        *list = list_for(*list.allocator(), len)?;
+    }
+    Ok(())
+}
+
 // Whether a list with so much room is taken for so many bytes: where they fit, and take half of it, or
 // it is a small one.
 fn suits(room: usize, len: usize) -> bool
-    ensures { result ≡ true → len ≤ room }
+    ensures fits { result ≡ true → len ≤ room }
+    ensures most { result ≡ true → room ≤ most_room len }
 {
     len <= room && (room <= LEAST_ROOM || room / 2 <= len)
 }

@@ -10,5 +10,5 @@ returns c =
     let places = c.self.inside.places.items in
     let seen = ap (λ (v : Listed). v.entries) c.self.view_is in (
       λ y. sym seen ∙ ap (λ rows. listed rows places) (none_long rows (c.is_empty.ensures.0 y)) ∙ none_of places,
-      λ none. c.is_empty.ensures.1 (ap (λ (rows : List Row). length rows) (some_of rows places c.self.inside.next c.self.invariant (seen ∙ none))),
+      λ none. c.is_empty.ensures.1 (ap (λ (rows : List Row). length rows) (some_of rows places c.self.inside.next c.self.invariant.0 (seen ∙ none))),
     )

@@ -3,11 +3,11 @@ use Rattle.std.specs.Prelude.{find, is_ok}
 use Rattle.std.proofs.lemmas.Result.{IfOk-at_ok}
 use Rattle.indexmap.specs.IndexMap.{insert_entry}
 use Rattle.indexmap.proofs.CallerLemmas.{insert_entry-new}
-use Rattle.nfs_entries.specs.Listing.{Listed, KeptValue, Row, listed, has_name, place_of, IsKept, HasNo}
+use Rattle.nfs_entries.specs.Listing.{AreFew, Listed, KeptValue, Row, listed, has_name, place_of, IsKept, HasNo}
 use Rattle.nfs_entries.proofs.Cases.{flipped}
 use Rattle.nfs_entries.proofs.Keys.{unlooked}
 use Rattle.nfs_entries.proofs.Rows.{absent_from}
-use Rattle.nfs_entries.proofs.Pushes.{listed_more, kept_more}
+use Rattle.nfs_entries.proofs.Pushes.{few_more, listed_more, kept_more}
 use Rattle.nfs_entries.proofs.directory_entries.DirectoryEntries.push.Goals as goal
 
 pub invariant_of-self : goal.invariant_of-self
@@ -16,15 +16,18 @@ invariant_of-self c =
     let places = c.self.inside.places.items in
     let kept : KeptValue = record { cookie = c.self.inside.next; number = c.args.number.0 } in
     let row : Row = (c.args.name, kept) in
-    let absent : HasNo rows c.args.name.items = absent_from c.args.name.items rows places c.self.inside.next c.self.invariant (ap (λ (v : Listed). find (has_name c.args.name.items) v.entries) c.self.view_is ∙ c.requires.absent) in
+    let absent : HasNo rows c.args.name.items = absent_from c.args.name.items rows places c.self.inside.next c.self.invariant.0 (ap (λ (v : Listed). find (has_name c.args.name.items) v.entries) c.self.view_is ∙ c.requires.absent) in
     let eq = λ (a b : Vec ℕ Global). bytes_eq a.items b.items in
     let inserted : c.insert.new.self.entries ≡ insert_entry eq rows c.args.name kept = IfOk-at_ok (λ _. c.insert.new.self.entries ≡ insert_entry eq rows c.args.name c.new.result) c.unwrap.ensures c.insert.ensures.entries ∙ ap (insert_entry eq rows c.args.name) c.new.ensures in
     let new_rows : c.insert.new.self.entries ≡ rows ++ row ∷ [] = inserted ∙ insert_entry-new eq c.self.inside.rows c.args.name kept (unlooked (eq c.args.name) rows (λ i r at. flipped c.args.name.items r.0.items ∙ absent i r at)) in
     let pushed : c.push.new.self.items ≡ places ++ (record { cookie = c.self.inside.next; index = c.len-index.result }) ∷ [] = c.push.ensures.items ∙ ap (λ r. if is_ok r then places ++ (record { cookie = c.self.inside.next; index = c.len-index.result }) ∷ [] else places) c.unwrap-2.ensures in
-    let new_places : c.push.new.self.items ≡ places ++ place_of row (length rows) ∷ [] = pushed ∙ ap (λ n. places ++ (record { cookie = c.self.inside.next; index = n }) ∷ []) c.len-index.ensures.len in
-    subst (λ n. IsKept c.insert.new.self.entries c.push.new.self.items n) (omega arith)
-    (subst (λ ps. IsKept c.insert.new.self.entries ps (suc c.self.inside.next)) (sym new_places)
-    (subst (λ rs. IsKept rs (places ++ place_of row (length rows) ∷ []) (suc c.self.inside.next)) (sym new_rows) (kept_more rows places row c.self.invariant absent)))
+    let new_places : c.push.new.self.items ≡ places ++ place_of row (length rows) ∷ [] = pushed ∙ ap (λ n. places ++ (record { cookie = c.self.inside.next; index = n }) ∷ []) c.len-index.ensures.len in (
+      subst (λ n. IsKept c.insert.new.self.entries c.push.new.self.items n) (omega arith)
+          (subst (λ ps. IsKept c.insert.new.self.entries ps (suc c.self.inside.next)) (sym new_places)
+          (subst (λ rs. IsKept rs (places ++ place_of row (length rows) ∷ []) (suc c.self.inside.next)) (sym new_rows) (kept_more rows places row c.self.invariant.0 absent))),
+      subst (λ ps. AreFew c.insert.new.self.entries ps) (sym new_places)
+          (subst (λ rs. AreFew rs (places ++ place_of row (length rows) ∷ [])) (sym new_rows) (few_more rows places row c.self.invariant.0 absent c.self.invariant.1)),
+    )
 
 pub returns-clause-entries : goal.returns-clause-entries
 returns-clause-entries c =
@@ -32,11 +35,11 @@ returns-clause-entries c =
     let places = c.self.inside.places.items in
     let kept : KeptValue = record { cookie = c.self.inside.next; number = c.args.number.0 } in
     let row : Row = (c.args.name, kept) in
-    let absent : HasNo rows c.args.name.items = absent_from c.args.name.items rows places c.self.inside.next c.self.invariant (ap (λ (v : Listed). find (has_name c.args.name.items) v.entries) c.self.view_is ∙ c.requires.absent) in
+    let absent : HasNo rows c.args.name.items = absent_from c.args.name.items rows places c.self.inside.next c.self.invariant.0 (ap (λ (v : Listed). find (has_name c.args.name.items) v.entries) c.self.view_is ∙ c.requires.absent) in
     let eq = λ (a b : Vec ℕ Global). bytes_eq a.items b.items in
     let inserted : c.insert.new.self.entries ≡ insert_entry eq rows c.args.name kept = IfOk-at_ok (λ _. c.insert.new.self.entries ≡ insert_entry eq rows c.args.name c.new.result) c.unwrap.ensures c.insert.ensures.entries ∙ ap (insert_entry eq rows c.args.name) c.new.ensures in
     let new_rows : c.insert.new.self.entries ≡ rows ++ row ∷ [] = inserted ∙ insert_entry-new eq c.self.inside.rows c.args.name kept (unlooked (eq c.args.name) rows (λ i r at. flipped c.args.name.items r.0.items ∙ absent i r at)) in
     let pushed : c.push.new.self.items ≡ places ++ (record { cookie = c.self.inside.next; index = c.len-index.result }) ∷ [] = c.push.ensures.items ∙ ap (λ r. if is_ok r then places ++ (record { cookie = c.self.inside.next; index = c.len-index.result }) ∷ [] else places) c.unwrap-2.ensures in
     let new_places : c.push.new.self.items ≡ places ++ place_of row (length rows) ∷ [] = pushed ∙ ap (λ n. places ++ (record { cookie = c.self.inside.next; index = n }) ∷ []) c.len-index.ensures.len in
-    (λ i. listed (new_rows i) (new_places i)) ∙ listed_more rows places row c.self.invariant absent
+    (λ i. listed (new_rows i) (new_places i)) ∙ listed_more rows places row c.self.invariant.0 absent
     ∙ ap (λ (v : Listed). v.entries ++ (record { cookie = v.next; name = c.args.name.items; number = c.args.number.0 }) ∷ []) c.self.view_is

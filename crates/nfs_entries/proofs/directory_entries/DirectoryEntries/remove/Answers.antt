@@ -11,10 +11,13 @@ returns-in_default-clause-others c =
     ∙ ap (λ (v : Listed). without c.args.name.now v.entries) c.self.view_is
 
 pub invariant_of-self : goal.invariant_of-self
-invariant_of-self c = (removed c.args.name.now c.self.inside.rows.entries c.swap_remove_index.new.self.entries c.self.inside.places.items c.settle.new.places.items c.thin.new.places.items c.self.inside.next _ _ c.self.invariant c.in-Some.ensures.found
-    c.swap_remove_index.result c.swap_remove_index.ensures.entry c.swap_remove_index.ensures.entries c.settle.ensures.items c.thin.ensures.items).1
+invariant_of-self c = (
+  (removed c.args.name.now c.self.inside.rows.entries c.swap_remove_index.new.self.entries c.self.inside.places.items c.settle.new.places.items c.thin.new.places.items c.self.inside.next _ _ c.self.invariant.0 c.in-Some.ensures.found
+      c.swap_remove_index.result c.swap_remove_index.ensures.entry c.swap_remove_index.ensures.entries c.settle.ensures.items c.thin.ensures.items).1,
+  c.thin.ensures.few,
+)
 
 pub returns-clause-others : goal.returns-clause-others
-returns-clause-others c = (removed c.args.name.now c.self.inside.rows.entries c.swap_remove_index.new.self.entries c.self.inside.places.items c.settle.new.places.items c.thin.new.places.items c.self.inside.next _ _ c.self.invariant c.in-Some.ensures.found
+returns-clause-others c = (removed c.args.name.now c.self.inside.rows.entries c.swap_remove_index.new.self.entries c.self.inside.places.items c.settle.new.places.items c.thin.new.places.items c.self.inside.next _ _ c.self.invariant.0 c.in-Some.ensures.found
     c.swap_remove_index.result c.swap_remove_index.ensures.entry c.swap_remove_index.ensures.entries c.settle.ensures.items c.thin.ensures.items).0
     ∙ ap (λ (v : Listed). without c.args.name.now v.entries) c.self.view_is

@@ -1,4 +1,4 @@
-use Rattle.std.proofs.Common.{◌≡◌, length, is_some, None, false, true, sym, ap, subst, ◌∙◌}
+use Rattle.std.proofs.Common.{◌≡◌, is_some, false, true, sym, ap, subst, ◌∙◌}
 use Rattle.std.proofs.lemmas.Bool.Decides.{Decides-eqb}
 use Rattle.nfs_reply_cache.specs.Places.{Key, Replies, cached_reply}
 use Rattle.nfs_reply_cache.specs.Shown.{bucket_of, count_at, in_bucket}
