@@ -38,7 +38,7 @@ WORK
 ok $? "each connection has its line"
 
 # The longest replies, sixteen under way, and all alike: pages of 442 entries with their files, and 128 KiB of a file.
-{ bench/tree; echo 'dir /e 0777 0 0'; seq 1000 | sed 's|.*|file /e/& 0644 0 0 -|'; } >"$work/tree"
+{ bench/tree; echo 'dir /e 0777 0 0'; seq 900 | sed 's|.*|file /e/& 0644 0 0 -|'; } >"$work/tree"
 serving "$work/tree" --connections 8
 "$work/load" "$port" pages 4 16 500 alike >"$work/out" 2>&1
 ok $? "the longest replies of READDIRPLUS, sixteen under way"

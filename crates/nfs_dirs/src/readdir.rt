@@ -41,7 +41,7 @@ pub fn page(
 
 impl<'a> OpenPage<'a> {
     /// Writes the entries of the page, with what follows them: as many as fit, the first at least.
-    #[inline(always)]
+    #[inline(never)]
     pub fn write(self, out: &mut Output) -> WrittenPage
         requires open { IsOpen (left_in self) (self.room + page_head_bytes) 0 self }
         requires bound { self.room + page_head_bytes ≤ max_page }

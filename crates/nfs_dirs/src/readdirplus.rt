@@ -47,7 +47,7 @@ pub fn page_plus(
 impl<'a> OpenPagePlus<'a> {
     /// Writes the entries of the page, with what follows them: as many as fit, of which the numbers, names
     /// and cookies of two or more have at most `dircount` bytes, and the first at least.
-    #[inline(always)]
+    #[inline(never)]
     pub fn write(self, tree: &Tree, dircount: u32, out: &mut Output) -> WrittenPage
         requires open { IsOpen (left_in self.page) (self.page.room + page_head_bytes) (plus_bytes self.searchable)
             self.page }
