@@ -5,7 +5,7 @@ ghost use Rattle.nfs_args.specs.Chains.{Each, AreEncoded, chained_text, links_te
 ghost use Rattle.nfs_args.specs.Pages.{IsEntry, entry_text, EntryFits};
 
 use crate::opaque::Opaque;
-use nfs_xdr::output::Output;
+use nfs_xdr::output::{Output, halves};
 
 /// An entry of a directory (RFC 1813, section 3.3.16, entry3).
 #[derive(Drop)]
@@ -26,9 +26,10 @@ pub fn write_entry(out: &mut Output, entry: &Entry<'_>)
     ensures text { Appends (chained_text entry_text entry.now) out.old out.new }
     ensures encoded { IsEntry entry.now (entry_text entry.now) }
 {
-    out.u32(1);
-    out.u64(entry.fileid);
-    out.opaque(entry.name.bytes());
+    let (fileid_high, fileid_low) = halves(entry.fileid);
+    let name = entry.name.bytes();
+    out.numbers([1, fileid_high, fileid_low, name.len() as u32]);
+    out.fixed(name);
     out.u64(entry.cookie);
 }
 
