@@ -128,7 +128,7 @@ for number in 0 x -1 ""; do
     ok $? "--jobs '$number' is refused"
 done
 tested --update
-refuses "--update wants names"
+refuses "--update needs names"
 ok $? "--update without a name is refused"
 tested --update good
 refuses "good has no golden files"
