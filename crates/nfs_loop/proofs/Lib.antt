@@ -4,6 +4,6 @@ pub mod Changing
 pub mod Turning
 pub mod Rounding
 pub mod Joining
-pub mod Passing
+pub mod Repeating
 pub mod Asking
 pub mod Leaving

@@ -14,6 +14,7 @@ use Rattle.nfs_server.specs.Fits.{Held, History}
 use Rattle.nfs_serving.specs.Service.{Seat, ServiceState, IsNew, Change, joins, turns, leaves, passes, AreChanges, IsOneHistory}
 use Rattle.nfs_serving.specs.Outgoing.{IsExhausted}
 use Rattle.nfs_serving.specs.Turns.{IsHeld}
+use Rattle.nfs_xdr.specs.Known.{StaysFailed}
 use Rattle.nfs_xdr.specs.declared.link.Came.{Came}
 
 abbrev pub seat_of : {L : Type 0} → Member L → Seat L
@@ -121,6 +122,10 @@ abbrev pub IsAsked : ℕ → List Told → Type 0
 IsAsked most [] = most ≡ 0
 IsAsked most (t ∷ earlier) = (t ≡ nothing_ready) ⊎ (length (t ∷ earlier) ≡ most)
 
+-- how many times a round asks what is ready, at most
+abbrev pub most_asked : ℕ
+most_asked = 1024
+
 -- it was asked what is ready until nothing more was, or so many times
 abbrev pub AsksAll : ℕ → Option (List Told) → Option (List Told) → Type 0
 AsksAll most told heard = (before : List Told) → told ≡ Some before → (news : List Told) × (heard ≡ Some (news ++ before)) × IsAsked most news
@@ -140,10 +145,10 @@ OnlySilentLeave heard (Some idle) seconds old new = (key : ℕ) → (get new key
 abbrev pub OnlySilentLeaveBy : {M : Type 0} → List ℕ → Option ℕ → Option (List Told) → Slab M → Slab M → Type 0
 OnlySilentLeaveBy heard idle told old new = (millis : ℕ) × (mid : Option (List Told)) × Hears told (since millis) mid × OnlySilentLeave heard idle (millis / 1000) old new
 
--- ---- the passes of the loop
+-- ---- the rounds of the loop
 
--- A pass: those of which something was reported wait after those that waited, unless they get no turn for now, and others may after them. Then each who waits has one turn, in that order.
-pub record IsPass {L : Type 0} (outgoing incoming : L → Option (List ℕ)) (changes : List Change) (told heard : Option (List Told)) (waited : List ℕ) (old new : Stage L) : Type 0 where
+-- A round: the network is asked what is ready. Those of which something was reported wait after those that waited, unless they get no turn for now, and others may after them. Then each who waits has one turn, in that order.
+pub record IsRound {L : Type 0} (outgoing incoming : L → Option (List ℕ)) (changes : List Change) (told heard : Option (List Told)) (waited : List ℕ) (old new : Stage L) : Type 0 where
   pub are_changes : AreChanges outgoing incoming old.written.shared changes (state old) (state new)
   pub shared_stays : new.written.shared ≡ old.written.shared
   pub accounts : Accounts told changes heard
@@ -151,35 +156,37 @@ pub record IsPass {L : Type 0} (outgoing incoming : L → Option (List ℕ)) (ch
   pub between : Option (List Told)
   pub reported : List ℕ
   pub notes : Notes old.members holds waited reported told between
+  pub asked : AsksAll most_asked told between
   pub first : List ℕ
   pub longer : Longer reported first
   pub turned_are : turned changes ≡ first
+  pub log_stays : StaysFailed old.written.broken old.written.log new.written.broken new.written.log
 
--- one pass after another, the newest first: whoever waits at the end of one waits in that order when the next begins
-abbrev pub ArePasses : {L : Type 0} → (L → Option (List ℕ)) → (L → Option (List ℕ)) → List (List Change) → Option (List Told) → List ℕ → Stage L → Option (List Told) → List ℕ → Stage L → Type 0
-ArePasses outgoing incoming [] told waited old heard waits new = (new ≡ old) × (heard ≡ told) × (waits ≡ waited)
-ArePasses {L} outgoing incoming (changes ∷ earlier) told waited old heard waits new = (before : Option (List Told)) × (queue : List ℕ) × (between : Stage L)
-    × ArePasses outgoing incoming earlier told waited old before queue between × IsPass outgoing incoming changes before heard queue between new
+-- one round after another, the newest first: whoever waits at the end of one waits in that order when the next begins
+abbrev pub AreRounds : {L : Type 0} → (L → Option (List ℕ)) → (L → Option (List ℕ)) → List (List Change) → Option (List Told) → List ℕ → Stage L → Option (List Told) → List ℕ → Stage L → Type 0
+AreRounds outgoing incoming [] told waited old heard waits new = (new ≡ old) × (heard ≡ told) × (waits ≡ waited)
+AreRounds {L} outgoing incoming (changes ∷ earlier) told waited old heard waits new = (before : Option (List Told)) × (queue : List ℕ) × (between : Stage L)
+    × AreRounds outgoing incoming earlier told waited old before queue between × IsRound outgoing incoming changes before heard queue between new
 
--- the changes of passes
+-- the changes of rounds
 abbrev pub changes_of : List (List Change) → List Change
 changes_of [] = []
 changes_of (changes ∷ earlier) = changes ++ changes_of earlier
 
--- passes, and after them changes in which nobody has a turn
-pub record Passes {L : Type 0} (outgoing incoming : L → Option (List ℕ)) (told : Option (List Told)) (waited : List ℕ) (old : Stage L) (changes : List Change) : Type 0 where
-  pub passes : List (List Change)
+-- rounds, and after them changes in which nobody has a turn
+pub record Rounds {L : Type 0} (outgoing incoming : L → Option (List ℕ)) (told : Option (List Told)) (waited : List ℕ) (old : Stage L) (changes : List Change) : Type 0 where
+  pub rounds : List (List Change)
   pub heard : Option (List Told)
   pub waits : List ℕ
   pub last : Stage L
-  pub are_passes : ArePasses outgoing incoming passes told waited old heard waits last
+  pub are_rounds : AreRounds outgoing incoming rounds told waited old heard waits last
   pub after : List Change
   pub no_turns : turned after ≡ []
-  pub changes_are : changes ≡ after ++ changes_of passes
+  pub changes_are : changes ≡ after ++ changes_of rounds
 
--- What changed, by what was told, is one history and one log, and each client is served as if it were alone. Each pass of the loop gives one turn to each who waits.
+-- What changed, by what was told, is one history and one log, and each client is served as if it were alone. Each round gives one turn to each who waits.
 pub record Lived {L : Type 0} (outgoing incoming : L → Option (List ℕ)) (history : History) (told heard : Option (List Told)) (waited : List ℕ) (old new : Stage L) : Type 0 where
   pub changes : List Change
   pub one_history : IsOneHistory outgoing incoming old.written.shared history changes (state old) (state new)
   pub accounts : Accounts told changes heard
-  pub passes : Passes outgoing incoming told waited old changes
+  pub rounds : Rounds outgoing incoming told waited old changes

@@ -2,7 +2,7 @@
 ghost use Rattle.std.specs.Prelude.{◌≡◌, ◌↔◌, [], None, false, slice_index_or};
 ghost use Rattle.slab.specs.Slab.{get};
 ghost use Rattle.nfs_lines.specs.Written.{written};
-ghost use Rattle.nfs_loop.specs.Stages.{AsksAll, Goes, Longer, Notes, TurnsFirst, noted, seats, stage, turned};
+ghost use Rattle.nfs_loop.specs.Stages.{AsksAll, Goes, Longer, Notes, TurnsFirst, most_asked, noted, seats, stage, turned};
 ghost use Rattle.nfs_loop.specs.Told.{Accounts};
 
 use crate::housekeeping::Waiting;
@@ -24,7 +24,7 @@ impl<L: Link + Drop> Service<L> {
         ensures members { self.new.clients.0 ≡ self.old.clients.0 }
         ensures joined { self.new.joined ≡ self.old.joined }
         ensures notes { Notes self.old.clients.0 self.old.housekeeping.watches.holds.items self.old.clients.1.0 self.new.clients.1.0 (N.told net.old) (N.told net.new) }
-        ensures all { AsksAll 1024 (N.told net.old) (N.told net.new) }
+        ensures all { AsksAll most_asked (N.told net.old) (N.told net.new) }
     {
         self.housekeeping.retry();
         let mut left = EVENTS;
@@ -98,7 +98,7 @@ impl<L: Link + Drop> Service<L> {
     }
 
     /// Gives each client that waits a turn, in the order in which they wait.
-    pub(crate) fn round<R: Log, N: Network<Stream = L>, A: LineOut, C: LineOut>(
+    pub(crate) fn turns<R: Log, N: Network<Stream = L>, A: LineOut, C: LineOut>(
         &mut self,
         rt: &R,
         server: &mut Server,

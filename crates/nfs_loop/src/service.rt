@@ -2,7 +2,7 @@
 ghost use Rattle.std.specs.Prelude.{◌≡◌, ℕ, List, None, IfOk};
 ghost use Rattle.slab.specs.Slab.{get};
 ghost use Rattle.nfs_lines.specs.Written.{PassedOn, written};
-ghost use Rattle.nfs_loop.specs.Stages.{Goes, IsPass, Lived, Passes, stage};
+ghost use Rattle.nfs_loop.specs.Stages.{Goes, IsRound, Lived, Rounds, stage};
 ghost use Rattle.nfs_loop.specs.Told.{Accounts};
 ghost use Rattle.nfs_server.specs.Fits.{History, Fits};
 ghost use Rattle.nfs_serving.specs.Service.{Change};
@@ -58,8 +58,8 @@ impl<L: Link + Drop> Service<L> {
     /// written as a line, and so is each denied call. Lines that can't be written end no service.
     ///
     /// Whatever the network answers, all that changes is one history and one log, also where the network
-    /// fails, which is the only fault. In each pass of the loop everyone who waits has one turn, in the
-    /// order of the queue, so that who stands at place i waits for i turns of others.
+    /// fails, which is the only fault. In each round the network is asked what is ready, and then each client
+    /// that waits has one turn, in the order of the queue: the one at place i waits for i turns of others.
     pub fn serve<R: Log, N: Network<Stream = L>, A: LineOut, C: LineOut, S: Saver>(
         &mut self,
         rt: &R,
@@ -87,7 +87,7 @@ impl<L: Link + Drop> Service<L> {
         saver: &mut S,
     ) -> io::Result<()>
         ensures goes { Goes L.outgoing L.incoming
-            (λ changes. Passes L.outgoing L.incoming (N.told net.old) self.old.clients.1.0 (stage server.old self.old.clients.0 self.old.joined (written A.taken C.taken lines.old)) changes
+            (λ changes. Rounds L.outgoing L.incoming (N.told net.old) self.old.clients.1.0 (stage server.old self.old.clients.0 self.old.joined (written A.taken C.taken lines.old)) changes
             × Accounts (N.told net.old) changes (N.told net.new))
             (stage server.old self.old.clients.0 self.old.joined (written A.taken C.taken lines.old))
             (stage server.new self.new.clients.0 self.new.joined (written A.taken C.taken lines.new)) }
@@ -99,13 +99,13 @@ impl<L: Link + Drop> Service<L> {
             if let Err(error) = net.wait(timeout) {
                 return Err(error);
             }
-            self.pass(rt, server, net, lines, saver);
+            self.round(rt, server, net, lines, saver);
         }
         self.finish(net, lines)
     }
 
-    // One pass: what is done after each wait.
-    fn pass<R: Log, N: Network<Stream = L>, A: LineOut, C: LineOut, S: Saver>(
+    // One round: what is done after each wait.
+    fn round<R: Log, N: Network<Stream = L>, A: LineOut, C: LineOut, S: Saver>(
         &mut self,
         rt: &R,
         server: &mut Server,
@@ -113,14 +113,14 @@ impl<L: Link + Drop> Service<L> {
         lines: &mut Lines<'_, A, C>,
         saver: &mut S,
     )
-        ensures pass { (changes : List Change) × IsPass L.outgoing L.incoming changes (N.told net.old) (N.told net.new) self.old.clients.1.0
+        ensures round { (changes : List Change) × IsRound L.outgoing L.incoming changes (N.told net.old) (N.told net.new) self.old.clients.1.0
             (stage server.old self.old.clients.0 self.old.joined (written A.taken C.taken lines.old))
             (stage server.new self.new.clients.0 self.new.joined (written A.taken C.taken lines.new)) }
     {
         self.note(net);
         self.accept_some(rt, net);
         self.release(net, lines);
-        self.round(rt, server, net, lines);
+        self.turns(rt, server, net, lines);
         self.end_silent(rt, net, lines);
         self.housekeeping.attend(rt, server, net, lines, saver);
     }

@@ -1,11 +1,20 @@
-use Rattle.nfs_loop.proofs.Rounding.{round_on, round_starts}
+use Rattle.std.proofs.Common.{ap, subst, sym}
+use Rattle.slab.specs.Slab.{get}
+use Rattle.nfs_loop.specs.Stages.{Longer}
+use Rattle.nfs_loop.proofs.Changing.{goes_then, nothing, passed}
+use Rattle.nfs_loop.proofs.Lengthening.{notes_account}
+use Rattle.nfs_loop.proofs.Repeating.{round_of}
 use Rattle.nfs_loop.proofs.service.Service.round.Goals as goal
 
-pub loop-left-init : goal.loop-left-init
-loop-left-init g c = record { goes = round_starts g.L.Link.outgoing g.L.Link.incoming _ _ c.args.self.now.clients.1.0 c.waiting-left.result c.waiting-left.ensures }
-
-pub loop-left-preserved : goal.loop-left-preserved
-loop-left-preserved g c = record {
-  goes = round_on g.L.Link.outgoing g.L.Link.incoming c.args.self.now.clients.1.0 c.loop-left.self.clients.1.0 c.loop-left.left _ _ _ _ c.loop-left.invariant.goes
-      g.L.Link.reports _ c.turn.new.self.clients.1.0 _ _ c.loop-left-test.true c.turn.ensures.goes;
-}
+pub returns : goal.returns
+returns g c =
+    let out = g.L.Link.outgoing in
+    let come = g.L.Link.incoming in
+    record {
+      round = round_of out come _ _ _ _ _ _ _ _ _ _ _ _ _ c.note.ensures.notes c.note.ensures.all (subst (λ q. Longer q c.release.new.self.clients.1.0) c.accept_some.ensures.queue c.release.ensures.queue)
+          (goes_then out come _ _ _ _ _ _ (nothing out come _ _ _ _ _ _ _ _ (λ key. ap (λ m. get m key) c.note.ensures.members) c.note.ensures.joined (notes_account _ _ _ _ _ _ c.note.ensures.notes))
+          (goes_then out come _ _ _ _ _ _ (c.accept_some.ensures.goes _ _)
+          (nothing out come _ _ _ _ _ _ _ _ (λ key. ap (λ m. get m key) c.release.ensures.members) c.release.ensures.joined c.release.ensures.told)))
+          c.turns.ensures.goes
+          (goes_then out come _ _ _ _ _ _ (c.end_silent.ensures.goes _) (passed out come _ _ _ _ _ _ _ c.attend.ensures.lines c.attend.ensures.told));
+    }

@@ -8,6 +8,6 @@ returns g c = record {
     changes = c.run.ensures.goes.changes;
     one_history = c.service_is_one_history.ensures _ c.run.ensures.goes.changes _ _ (λ key. ap (option_map seat_of) (none key)) c.run.ensures.goes.are_changes history fits;
     accounts = c.run.ensures.goes.such.1;
-    passes = c.run.ensures.goes.such.0;
+    rounds = c.run.ensures.goes.such.0;
   };
 }

@@ -1,7 +1,7 @@
 use Rattle.nfs_lines.specs.Written.{written}
 use Rattle.nfs_loop.specs.Told.{Accounts}
 use Rattle.nfs_loop.specs.Stages.{stage, Goes, InRound}
-use Rattle.nfs_loop.proofs.service.Service.round.Given as goal
+use Rattle.nfs_loop.proofs.service.Service.turns.Given as goal
 
 abbrev pub invariant-loop-left : goal.invariant-loop-left
 invariant-loop-left g l = record {
