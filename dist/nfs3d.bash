@@ -2,7 +2,7 @@
 _nfs3d() {
     local word=${COMP_WORDS[COMP_CWORD]} before=${COMP_WORDS[COMP_CWORD - 1]}
     if [ "$COMP_CWORD" -eq 1 ]; then
-        COMPREPLY=($(compgen -W "describe check why exports replay serve self help --help --version" -- "$word"))
+        COMPREPLY=($(compgen -W "describe extract check why exports replay serve self help --help --version" -- "$word"))
         return
     fi
     case $before in
@@ -16,10 +16,11 @@ _nfs3d() {
         return
     fi
     case ${COMP_WORDS[1]}:$word in
-    check:-*) COMPREPLY=($(compgen -W "--strict --all --help" -- "$word")) ;;
-    serve:-*) COMPREPLY=($(compgen -W "--listen --port --connections --clients --idle --cache --audit --audit-failed --audit-skip --times --names --save --save-every --key --verbose --help" -- "$word")) ;;
-    describe:-*) COMPREPLY=($(compgen -W "--mount --export --bytes --files --key --help" -- "$word")) ;;
-    replay:-*) COMPREPLY=($(compgen -W "--cache --save --key --decode --names --help" -- "$word")) ;;
+    check:-*) COMPREPLY=($(compgen -W "--mount --export --bytes --files --chown --strict --all --help" -- "$word")) ;;
+    serve:-*) COMPREPLY=($(compgen -W "--mount --export --bytes --files --chown --strict --listen --port --connections --clients --idle --cache --audit --audit-failed --audit-skip --times --names --save --save-every --key --verbose --help" -- "$word")) ;;
+    describe:-*) COMPREPLY=($(compgen -W "--mount --export --bytes --files --chown --strict --key --help" -- "$word")) ;;
+    replay:-*) COMPREPLY=($(compgen -W "--mount --export --bytes --files --chown --cache --save --key --decode --names --help" -- "$word")) ;;
+    why:-* | exports:-* | extract:-*) COMPREPLY=($(compgen -W "--mount --export --bytes --files --chown --help" -- "$word")) ;;
     *:-*) COMPREPLY=($(compgen -W "--help" -- "$word")) ;;
     *) COMPREPLY=($(compgen -f -- "$word")) ;;
     esac

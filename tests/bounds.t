@@ -83,6 +83,24 @@ checks "ok volumes=1 files=999 bytes=0" "a directory of 1,000 links"
 echo "dir /d 0755 0 0" >>"$work/tree"
 checks "line 1001: Full" "a directory of 1,001 links"
 advises "a directory of 1,001 links" '1001:5: "/d" is one directory too many; a directory has at most 998 subdirectories'
+
+# A line of limits allows more.
+raised() { printf 'server 0102030405060708\nlimits %s\nvolume /a 1000000000 1000000 0755 0 0\n' "$1"; }
+{ raised link-path=4095; echo "link /l 0 0 $(letters 4095)"; } >"$work/tree"
+checks "ok volumes=1 files=2 bytes=0" "a link of 4,095 bytes"
+{ raised link-path=4095; echo "link /l 0 0 $(letters 4096)"; } >"$work/tree"
+checks "line 4: BadContent" "a link of 4,096 bytes"
+advises "a link of 4,096 bytes" "4:13: \"$(letters 60)..\" is too long; a link holds at most 4,095 bytes"
+{ raised file-size=16777217; printf 'file /f 0644 0 0 '; yes 00 | head -n 16777217 | tr -d '\n'; } >"$work/tree"
+checks "ok volumes=1 files=2 bytes=16777217" "a file of 16,777,217 bytes where they are allowed"
+{ raised links=1001; echo "file /f 0644 0 0 -"; seq 1000 | sed 's|.*|hard /h& /f|'; } >"$work/tree"
+checks "ok volumes=1 files=2 bytes=0" "a file of 1,001 names where they are allowed"
+{ raised links=1001; seq 999 | sed 's|.*|dir /d& 0755 0 0|'; } >"$work/tree"
+checks "ok volumes=1 files=1000 bytes=0" "a directory of 1,001 links where they are allowed"
+echo "dir /d 0755 0 0" >>"$work/tree"
+checks "line 1003: Full" "a directory of 1,002 links"
+advises "a directory of 1,002 links" '1003:5: "/d" is one directory too many; a directory has at most 999 subdirectories'
+
 { begun; printf '#'; letters 1000000; } >"$work/tree"
 checks "ok volumes=1 files=1 bytes=0" "a comment of a megabyte"
 { begun; letters 1000000; } >"$work/tree"

@@ -46,17 +46,58 @@ ok $? "the description has the bytes that od prints"
 
 # What a description can't hold is skipped.
 mkdir "$work/odd" && mkfifo "$work/odd/pipe" && : >"$work/odd/with space" && : >"$work/odd/per%cent" && ln -s "to nowhere" "$work/odd/link" &&
-    head -c 16777217 /dev/zero >"$work/odd/large" && echo fine >"$work/odd/fine"
+    truncate -s 536870913 "$work/odd/large" && echo fine >"$work/odd/fine"
 run describe "$work/odd" --mount /odd
 ended 0 && [ "$(grep -c '^nfs3d: skipped: ' "$work/err")" -eq 5 ] && [ "$(grep -c '^file ' "$work/out")" -eq 1 ] &&
     grep -qx 'file /fine 0[0-7]* [0-9]* [0-9]* 66696e650a' "$work/out" && [ "$(grep -vc '^\(server\|volume\|file\) ' "$work/out")" -eq 0 ]
 ok $? "describe skips what a description can't hold, with a warning"
+grep -qx "nfs3d: skipped: $work/odd/large: more than 536870912 bytes" "$work/err"
+ok $? "the warning of a file that is too large"
+grep -qx "nfs3d: skipped: $work/odd/with%20space: a description can't hold the name, or the path is too long" "$work/err" &&
+    grep -qx "nfs3d: skipped: $work/odd/per%25cent: a description can't hold the name, or the path is too long" "$work/err"
+ok $? "names in warnings have %xx for the bytes that a description can't hold"
+grep '^nfs3d: skipped in all: ' "$work/err" | sort >"$work/counts"
+printf '%s\n' "nfs3d: skipped in all: 1: a description can't hold what the link holds" "nfs3d: skipped in all: 1: a device, a socket or a pipe" \
+    "nfs3d: skipped in all: 1: more than 536870912 bytes" "nfs3d: skipped in all: 2: a description can't hold the name, or the path is too long" |
+    same "$work/counts" -
+ok $? "what was skipped is counted for each reason"
+run describe "$work/odd" --mount /odd --strict
+ended 1 && [ -s "$work/out" ]
+ok $? "describe --strict prints the description, and ends with status 1 if anything was skipped"
+run describe "$work/odd" --mount /odd --chown 5:6
+ended 0 && awk '$1 == "volume" && ($6 != 5 || $7 != 6) || $1 == "file" && ($4 != 5 || $5 != 6) { bad = 1 } END { exit bad }' "$work/out"
+ok $? "describe --chown gives all files one owner and group"
+run describe "$work/odd" --mount /odd --chown 5
+ended 2 && grep -q "^error: invalid value for '--chown <UID:GID>'" "$work/err"
+ok $? "describe --chown with one number"
+
+# Limits above the defaults, where the directory needs them.
+mkdir "$work/wide" && (cd "$work/wide" && seq 1005 | xargs mkdir) && truncate -s 17825792 "$work/wide/large"
+run describe "$work/wide" --mount /wide --key 6e66733364000001
+ended 0 && quiet
+ok $? "describe of a directory with 1,005 subdirectories and a file of 17 MiB"
+mv "$work/out" "$work/wide.tree"
+echo "limits file-size=17825792 links=1007" >"$work/wanted"
+sed -n 2p "$work/wide.tree" | same "$work/wanted" -
+ok $? "its line of limits has what is above the defaults"
+run check "$work/wide.tree"
+says "ok volumes=1 files=1007 bytes=17825792"
+ok $? "its description is in order"
+run describe "$work/wide" --mount /wide --key 6e66733364000001
+[ -s "$work/out" ] && same "$work/wide.tree" "$work/out"
+ok $? "it is described the same again"
+run describe "$work/odd" --mount /odd --files 2000000 --key 6e66733364000001
+ended 0 && [ "$(sed -n 2p "$work/out")" = "limits files=2000000" ] && sed -n 3p "$work/out" | grep -q '^volume /odd 1000000000 2000000 '
+ok $? "describe --files above the default"
+run describe "$work/odd"
+[ "$(sed -n 2p "$work/out" | cut -d ' ' -f 1-2)" = "volume /odd" ] && ended 0
+ok $? "describe without --mount takes the directory's name"
 run describe "$work/none" --mount /odd
 echo "nfs3d: cannot read $work/none: No such file or directory (os error 2)" >"$work/wanted"
 same "$work/wanted" "$work/err" && ended 3
 ok $? "describe of a directory that isn't there"
 for words in "--mount odd" "--mount /odd --export 10.0.0.0/33=ro" "--mount /odd --export *=rw,ro" "--mount /odd --key 12" "--mount /odd --key 0123456789abcdeg" \
-    "--mount /odd --key 0123456789abcdef0" "--mount /odd --files 0" ""; do
+    "--mount /odd --key 0123456789abcdef0" "--mount /odd --files 0" "--mount /odd --files 100000001" "--mount /odd --bytes 1099511627777"; do
     # shellcheck disable=SC2086
     (set -f; run describe "$work/odd" $words)
     ended 2 && [ ! -s "$work/out" ] && [ -s "$work/err" ]

@@ -43,8 +43,6 @@ run check "$work/none"
 refuses "cannot read $work/none: No such file or directory (os error 2)" "check of a description that isn't there"
 run replay examples/e.tree "$work/none"
 refuses "cannot read $work/none: No such file or directory (os error 2)" "replay of a script that isn't there"
-run check docs
-refuses "cannot read docs: Is a directory (os error 21)" "check of a directory in place of a description"
 run check /dev/zero
 refuses "/dev/zero is longer than 1 GiB" "check of a description without an end"
 { echo "dir /d 0755 0 0"; cat /dev/zero; } 2>/dev/null | run check -

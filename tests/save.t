@@ -53,7 +53,7 @@ sattr="00000001 000001ff 00000000 00000000 00000000 00000000 00000000"
     for path in /v/with%20space /v/per%25cent /v/%c3%a9 /v/a%20b /v/su%20b; do
         echo "nfs3d: warning: $work/saved: skipped $path: a description can't hold this name; rename it and save again"
     done
-    echo "nfs3d: warning: $work/saved: skipped the link /v/d/link: a description can't hold what it holds; make it anew and save again"
+    echo "nfs3d: warning: $work/saved: skipped the link /v/d/link: a description can't hold its target; make the link again and save again"
 } | sort >"$work/skipped"
 {
     echo "server 00112233445566ff"

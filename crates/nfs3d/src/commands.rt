@@ -9,6 +9,7 @@ use nfs_questions::check::check_file;
 use nfs_questions::exports::print_exports;
 use nfs_questions::why::print_why;
 use nfs_runs::describing::describe_directory;
+use nfs_runs::extracting::extract_tree;
 use nfs_runs::replay::replay_files;
 use nfs_source::diagnostic::Diagnostic;
 use nfs_source::fault::Fault;
@@ -66,12 +67,13 @@ where
                 is_strict,
                 is_whole,
             },
-        ) => check_file(rt, alloc, tree, is_strict, is_whole),
+        ) => check_file(rt, alloc, &tree, is_strict, is_whole),
         Some(Invocation::Why(words)) => print_why(rt, alloc, &words),
-        Some(Invocation::Exports { tree }) => print_exports(rt, alloc, tree),
+        Some(Invocation::Exports { tree }) => print_exports(rt, alloc, &tree),
         Some(Invocation::Replay(words)) => replay_files(rt, alloc, &words),
         Some(Invocation::Serve(words)) => serve_tree(rt, alloc, &words),
         Some(Invocation::Describe(words)) => Ok(describe_directory(rt, alloc, &words)?),
+        Some(Invocation::Extract(words)) => extract_tree(rt, alloc, &words),
         Some(Invocation::SelfCall { tree }) => call_self(rt, alloc, tree),
         None => Ok(ExitCode::SUCCESS),
     }

@@ -28,7 +28,7 @@ use std::random::RandomSource;
 use std::rt::Files;
 use std::time::Clock;
 
-/// Serves a description: says where it is listened, and serves clients until as many connections have
+/// Serves a description or a directory: says where it is listened, and serves clients until as many connections have
 /// ended as there may be. The tree that they leave is saved where the words ask for it, also where a
 /// fault ends the service once it has begun. The status is 2 where a word is faulty.
 pub(crate) fn serve_tree<R>(
@@ -37,7 +37,7 @@ pub(crate) fn serve_tree<R>(
     words: &Serve<'_>,
 ) -> Result<ExitCode, Diagnostic>
 where
-    R: Files<File = File> + Input + Print + Eprint + Net + Clock + RandomSource,
+    R: Files<File = File> + Input + Print + Eprint + Net + Clock + RandomSource + AllocGlobal,
 {
     let Some(ip) = address_of(rt, words) else {
         return Ok(ExitCode::from(2));
@@ -50,7 +50,7 @@ where
         words,
         copies: &copies,
     };
-    lend_life(rt, alloc, words.tree, words.cache, ip, &service)
+    lend_life(rt, alloc, words, ip, &service)
 }
 
 // A service at an address.

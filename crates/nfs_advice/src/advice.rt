@@ -8,6 +8,7 @@ use crate::counts::CountReason;
 use crate::earlier::EarlierReason;
 use crate::keys::KeyReason;
 use crate::keywords::KeywordReason;
+use crate::limit_fields::LimitFieldReason;
 use crate::limits::LimitReason;
 use crate::numbers::NumberReason;
 use crate::options::OptionReason;
@@ -59,8 +60,10 @@ pub enum AdviceReason {
     Content(ContentReason),
     /// What a line above has made, or hasn't.
     Earlier(EarlierReason),
-    /// A limit.
+    /// A limit that is reached.
     Limit(LimitReason),
+    /// A field that sets a limit.
+    LimitField(LimitFieldReason),
     /// A line of a script.
     Script(ScriptReason),
     /// A word that is in order, and may not be meant.
@@ -130,9 +133,10 @@ impl fmt::Display for AdviceReason {
             AdviceReason::Number(reason) => reason.fmt(f),
             AdviceReason::Pattern(reason) => f.write_str(reason.text()),
             AdviceReason::Option(reason) => f.write_str(reason.text()),
-            AdviceReason::Content(reason) => f.write_str(reason.text()),
+            AdviceReason::Content(reason) => reason.fmt(f),
             AdviceReason::Earlier(reason) => f.write_str(reason.text()),
             AdviceReason::Limit(reason) => reason.fmt(f),
+            AdviceReason::LimitField(reason) => f.write_str(reason.text()),
             AdviceReason::Script(reason) => f.write_str(reason.text()),
             AdviceReason::Warning(reason) => reason.fmt(f),
         }

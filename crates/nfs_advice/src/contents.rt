@@ -2,7 +2,10 @@
 ghost use Rattle.std.specs.Prelude.{◌≡◌};
 
 use crate::advice::{Advice, AdviceReason};
+use crate::grouped::write_grouped;
+use crate::limit_fields::limits_above;
 use crate::span::Span;
+use std::fmt;
 
 /// Why a word is no content.
 #[derive(Clone, Copy)]
@@ -15,37 +18,52 @@ pub enum ContentReason {
     NoDigit,
     /// Its digits are not pairs.
     Odd,
-    /// It says more than 16,777,216 bytes.
-    Long,
-    /// What a link holds has more than 1,024 bytes.
-    LongTarget,
+    /// It says more bytes than a file may have: so many.
+    Long(u64),
+    /// A link is given more bytes than one may hold: so many.
+    LongTarget(u64),
 }
 
-impl ContentReason {
-    /// What is reported.
-    pub(crate) fn text(self) -> &'static str {
+impl fmt::Display for ContentReason {
+    fn fmt<W: fmt::Write>(&self, f: &mut fmt::Formatter<W>) -> fmt::Result {
         match self {
-            ContentReason::Prefix => "is not a content; write its digits without 0x",
-            ContentReason::Quote => {
-                "is not a content; write two hexadecimal digits for each byte, or - for an empty file"
+            ContentReason::Prefix => {
+                f.write_str("is not a content; write its digits without 0x")
             }
-            ContentReason::NoDigit => {
-                "is not a hexadecimal digit; a content has two for each byte, and an empty one is -"
+            ContentReason::Quote => f.write_str(
+                "is not a content; write two hexadecimal digits for each byte, or - for an empty file",
+            ),
+            ContentReason::NoDigit => f.write_str(
+                "is not a hexadecimal digit; a content has two for each byte, and an empty one is -",
+            ),
+            ContentReason::Odd => {
+                f.write_str("has an odd number of digits; write two for each byte")
             }
-            ContentReason::Odd => "has an odd number of digits; write two for each byte",
-            ContentReason::Long => "is too long; a file has at most 16,777,216 bytes",
-            ContentReason::LongTarget => "is too long; a link holds at most 1,024 bytes",
+            ContentReason::Long(most) => {
+                f.write_str("is too long; a file has at most ")?;
+                write_grouped(f, *most)?;
+                f.write_str(" bytes")
+            }
+            ContentReason::LongTarget(most) => {
+                f.write_str("is too long; a link holds at most ")?;
+                write_grouped(f, *most)?;
+                f.write_str(" bytes")
+            }
         }
     }
 }
 
 /// What a line gives a file or a link to hold, which is none.
-pub(crate) fn bad_content(line: Span<'_>) -> Advice<'_>
+pub(crate) fn bad_content<'a>(text: &[u8], number: u64, line: Span<'a>) -> Advice<'a>
     ensures { result.span.line.now ≡ line.entry.line.now }
 {
     if line.word(0).unwrap_or(line).bytes() == b"link".as_slice() {
         let target = line.word(4).unwrap_or(line);
-        return Advice::new(target, AdviceReason::Content(ContentReason::LongTarget));
+        let most = limits_above(text, number).link_path as u64;
+        return Advice::new(
+            target,
+            AdviceReason::Content(ContentReason::LongTarget(most)),
+        );
     }
     let word = line.word(5).unwrap_or(line);
     let digits = word.bytes();
@@ -64,7 +82,7 @@ pub(crate) fn bad_content(line: Span<'_>) -> Advice<'_>
     let reason = if digits.len() % 2 == 1 {
         ContentReason::Odd
     } else {
-        ContentReason::Long
+        ContentReason::Long(limits_above(text, number).file_size as u64)
     };
     Advice::new(word, AdviceReason::Content(reason))
 }

@@ -10,6 +10,7 @@ use crate::counts::field_count;
 use crate::earlier::{Above, name_taken, no_parent, no_target, volume_twice};
 use crate::keys::bad_key;
 use crate::keywords::unknown_word;
+use crate::limit_fields::bad_limit;
 use crate::limits::full;
 use crate::numbers::bad_number;
 use crate::options::bad_options;
@@ -33,14 +34,17 @@ pub fn advise(text: &[u8], number: u64, cause: Cause) -> Advice<'_>
         Cause::BadByte => bad_byte(line),
         Cause::UnknownWord => unknown_word(line),
         Cause::FieldCount => field_count(line),
-        Cause::NoServer | Cause::ServerTwice | Cause::NoVolume => out_of_order(text, line, cause),
+        Cause::NoServer | Cause::ServerTwice | Cause::NoVolume | Cause::LimitsLate => {
+            out_of_order(text, line, cause)
+        }
         Cause::BadKey => bad_key(line),
+        Cause::BadLimit => bad_limit(text, number, line),
         Cause::BadVolumePath => bad_volume_path(line),
-        Cause::BadNumber => bad_number(line),
+        Cause::BadNumber => bad_number(text, number, line),
         Cause::BadPattern => bad_pattern(line),
         Cause::BadOptions => bad_options(line),
         Cause::BadPath => bad_path(bad_path_of(line)),
-        Cause::BadContent => bad_content(line),
+        Cause::BadContent => bad_content(text, number, line),
         Cause::VolumeTwice => volume_twice(above, line),
         Cause::NoParent => no_parent(above, line),
         Cause::NameTaken => name_taken(above, line),

@@ -33,8 +33,8 @@ pub struct Faults {
 
 /// The faulty lines of a text, if it has one: the first, and of those after it each that is faulty
 /// whatever the faulty ones before it should have said. So nothing is reported after a faulty line of the
-/// server, nor after one of a volume up to the next volume; and what should have been there, and isn't,
-/// is reported of the first faulty line alone. At most 100 are looked at. Refused without memory.
+/// server or of limits, nor after one of a volume up to the next volume; and what should have been there,
+/// and isn't, is reported of the first faulty line alone. At most 100 are looked at. Refused without memory.
 pub fn every_fault(alloc: Global, text: &[u8]) -> Result<Option<Faults>, AllocError>
     ensures first { IfOk result (HasFirst text.now) }
 {
@@ -81,7 +81,11 @@ fn is_missed(cause: Cause) -> bool {
 // Makes a comment of a faulty line, and of those after it that belong to it. Not where all lines do.
 fn take_away(text: &mut [u8], faulty: Faulty) -> bool {
     let first = Words::new(line_at(text, faulty.line).bytes()).next();
-    if first.is_none() || first == Some(b"server") || faulty.cause == Cause::NoServer {
+    if first.is_none()
+        || first == Some(b"server")
+        || first == Some(b"limits")
+        || faulty.cause == Cause::NoServer
+    {
         return false;
     }
     let end = if first == Some(b"volume") {

@@ -29,6 +29,14 @@ pub enum Field {
     Content,
     /// What a link holds.
     Target,
+    /// The bytes that a regular file may have.
+    FileSize,
+    /// The links that a file may have.
+    Links,
+    /// The bytes that a link may hold.
+    LinkPath,
+    /// The files that any volume may have.
+    MostFiles,
 }
 
 impl Field {
@@ -47,11 +55,23 @@ impl Field {
             Field::Old => "OLD",
             Field::Content => "CONTENT",
             Field::Target => "TARGET",
+            Field::FileSize => "file-size=N",
+            Field::Links => "links=N",
+            Field::LinkPath => "link-path=N",
+            Field::MostFiles => "files=N",
         }
     }
 }
 
 const SERVER: [Field; 1] = [Field::Key];
+
+// Any of these, in any order.
+const LIMITS: [Field; 4] = [
+    Field::FileSize,
+    Field::Links,
+    Field::LinkPath,
+    Field::MostFiles,
+];
 
 const VOLUME: [Field; 6] = [
     Field::VolumePath,
@@ -82,6 +102,7 @@ const HARD: [Field; 2] = [Field::Path, Field::Old];
 pub(crate) fn fields_after(keyword: &[u8]) -> &'static [Field] {
     match keyword {
         b"server" => &SERVER,
+        b"limits" => &LIMITS,
         b"volume" => &VOLUME,
         b"export" => &EXPORT,
         b"dir" => &DIR,

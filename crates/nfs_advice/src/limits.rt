@@ -3,6 +3,8 @@ ghost use Rattle.std.specs.Prelude.{◌≡◌};
 
 use crate::advice::{Advice, AdviceReason, Remedy};
 use crate::earlier::{first_word, word_of};
+use crate::grouped::write_grouped;
+use crate::limit_fields::limits_above;
 use crate::skipped::bytes_of;
 use crate::span::Span;
 use nfs_text::lines::Lines;
@@ -20,10 +22,10 @@ pub enum LimitReason {
     Files(u64),
     /// The bytes of the volume: so many, of which so many are left.
     Bytes(u64, u64),
-    /// The names of a file.
-    Names,
-    /// The directories in a directory.
-    Directories,
+    /// The names of a file: so many.
+    Names(u64),
+    /// The directories in a directory: so many.
+    Directories(u64),
 }
 
 impl fmt::Display for LimitReason {
@@ -43,12 +45,16 @@ impl fmt::Display for LimitReason {
                 f,
                 "has too many bytes; the volume has {left} of its {limit} bytes left"
             ),
-            LimitReason::Names => f.write_str(
-                "already has 1,000 names, the most that a file may have",
-            ),
-            LimitReason::Directories => f.write_str(
-                "is one directory too many; a directory has at most 998 subdirectories",
-            ),
+            LimitReason::Names(limit) => {
+                f.write_str("already has ")?;
+                write_grouped(f, *limit)?;
+                f.write_str(" names, the most that a file may have")
+            }
+            LimitReason::Directories(limit) => {
+                f.write_str("is one directory too many; a directory has at most ")?;
+                write_grouped(f, *limit)?;
+                f.write_str(" subdirectories")
+            }
         }
     }
 }
@@ -129,26 +135,33 @@ pub(crate) fn full<'a>(text: &'a [u8], number: u64, line: Span<'a>) -> Advice<'a
         b"export" => Advice::new(word, AdviceReason::Limit(LimitReason::Patterns)),
         b"hard" => {
             let old = line.word(2).unwrap_or(line);
-            Advice::new(old, AdviceReason::Limit(LimitReason::Names))
+            let links = limits_above(text, number).links;
+            Advice::new(
+                old,
+                AdviceReason::Limit(LimitReason::Names(u64::from(links))),
+            )
         }
         keyword => {
             let held = Held::above(text, number);
-            let reason = reason_of(&held, keyword == b"dir".as_slice());
+            // A directory has two links beside those of its subdirectories.
+            let directories = u64::from(limits_above(text, number).links) - 2;
+            let is_directory = keyword == b"dir".as_slice();
+            let reason = reason_of(&held, is_directory, directories);
             let advice = Advice::new(word, AdviceReason::Limit(reason));
             match reason {
-                LimitReason::Directories => advice,
+                LimitReason::Directories(_) => advice,
                 _ => advice.with(Remedy::Line(held.line)),
             }
         }
     }
 }
 
-// The limit of a volume that a new file reaches.
-fn reason_of(held: &Held, is_directory: bool) -> LimitReason {
+// The limit that a new file reaches: one of the volume, or how many directories its own may have.
+fn reason_of(held: &Held, is_directory: bool, directories: u64) -> LimitReason {
     if held.files >= held.max_files {
         LimitReason::Files(held.max_files)
     } else if is_directory {
-        LimitReason::Directories
+        LimitReason::Directories(directories)
     } else {
         LimitReason::Bytes(held.max_bytes, held.max_bytes.saturating_sub(held.bytes))
     }

@@ -3,9 +3,15 @@ ghost use Rattle.std.specs.Prelude.{◌≤◌, length, ◌≡◌};
 
 use crate::advice::{Advice, AdviceReason};
 use crate::field::{Field, fields_after};
+use crate::grouped::write_grouped;
+use crate::limit_fields::{faulty_field, limits_above};
 use crate::span::Span;
+use nfs_inodes::limits::{MAX_FILE_BYTES, MAX_FILES, MAX_LINKS, MAX_PATH_BYTES, MAX_VOLUME_BYTES};
+use nfs_load::cause::Cause;
 use nfs_load::fields::Fields;
-use nfs_load::limits::{MAX_FILES, MAX_MODE_DIGITS, MAX_VOLUME_BYTES};
+use nfs_load::limits::{MAX_ID, MAX_MODE_DIGITS};
+use nfs_text::chunks::cut;
+use nfs_text::number::decimal;
 use nfs_text::words::Words;
 use std::fmt;
 
@@ -39,8 +45,10 @@ pub enum NumberFault {
     NoDigit,
     /// A volume has no file.
     NoFile,
-    /// It is above the field's bound.
-    Large,
+    /// It is below the field's least number.
+    Small(u64),
+    /// It is above the field's largest number.
+    Large(u64),
 }
 
 impl NumberFault {
@@ -56,7 +64,8 @@ impl NumberFault {
             NumberFault::Name => "write the number that id prints, not the name",
             NumberFault::NoDigit => "write only decimal digits",
             NumberFault::NoFile => "a volume has at least one file, its root",
-            NumberFault::Large => "it is too large",
+            NumberFault::Small(_) => "it is too small, below ",
+            NumberFault::Large(_) => "it is too large, above ",
         }
     }
 }
@@ -67,25 +76,29 @@ impl fmt::Display for NumberReason {
         f.write_str(self.field.name())?;
         f.write_str("; ")?;
         f.write_str(self.fault.text())?;
-        match (self.fault, self.field) {
-            (NumberFault::Large, Field::Bytes) => f.write_str(", above 1,099,511,627,776"),
-            (NumberFault::Large, Field::Files) => f.write_str(", above 1,000,000"),
-            (NumberFault::Large, _) => f.write_str(", above 4,294,967,295"),
+        match self.fault {
+            NumberFault::Small(bound) | NumberFault::Large(bound) => write_grouped(f, bound),
             _ => Ok(()),
         }
     }
 }
 
 /// The first number of a line that is none of its field.
-pub(crate) fn bad_number(line: Span<'_>) -> Advice<'_>
+pub(crate) fn bad_number<'a>(text: &[u8], number: u64, line: Span<'a>) -> Advice<'a>
     ensures { result.span.line.now ≡ line.entry.line.now }
 {
-    let fields = fields_after(line.word(0).unwrap_or(line).bytes());
+    let keyword = line.word(0).unwrap_or(line).bytes();
+    if keyword == b"limits".as_slice() {
+        return bad_limit_number(text, number, line);
+    }
+    let most_files = limits_above(text, number).files;
+    let fields = fields_after(keyword);
     for place in 0..fields.len() {
         let field = fields[place];
+        let bounds = bounds_of(field, most_files);
         let word = line.word(place + 1).unwrap_or(line);
-        if is_refused(field, word.bytes()) {
-            let fault = fault_of(field, word.bytes());
+        if is_refused(field, word.bytes(), bounds) {
+            let fault = fault_of(field, word.bytes(), bounds);
             return Advice::new(word, AdviceReason::Number(NumberReason { field, fault }));
         }
     }
@@ -96,32 +109,61 @@ pub(crate) fn bad_number(line: Span<'_>) -> Advice<'_>
     Advice::new(line, AdviceReason::Number(reason))
 }
 
-// Whether a word is refused as a number of a field.
-fn is_refused(field: Field, word: &[u8]) -> bool {
+// The first field of a line of limits whose number is none.
+fn bad_limit_number<'a>(text: &[u8], number: u64, line: Span<'a>) -> Advice<'a>
+    ensures { result.span.line.now ≡ line.entry.line.now }
+{
+    let word = faulty_field(text, number, line, Cause::BadNumber);
+    let (name, value) = cut(word.bytes(), b'=');
+    let field = match name {
+        b"file-size" => Field::FileSize,
+        b"links" => Field::Links,
+        b"link-path" => Field::LinkPath,
+        _ => Field::MostFiles,
+    };
+    let fault = fault_of(field, value.unwrap_or(&[]), bounds_of(field, MAX_FILES));
+    Advice::new(word, AdviceReason::Number(NumberReason { field, fault }))
+}
+
+// The least number of a field and the largest, where a volume may have so many files.
+fn bounds_of(field: Field, most_files: u64) -> (u64, u64) {
+    match field {
+        Field::Bytes => (0, MAX_VOLUME_BYTES),
+        Field::Files => (1, most_files),
+        Field::FileSize => (0, MAX_FILE_BYTES as u64),
+        Field::Links => (2, u64::from(MAX_LINKS)),
+        Field::LinkPath => (0, MAX_PATH_BYTES as u64),
+        Field::MostFiles => (0, MAX_FILES),
+        _ => (0, MAX_ID),
+    }
+}
+
+// Whether a word is refused as a number of a field with these bounds.
+fn is_refused(field: Field, word: &[u8], bounds: (u64, u64)) -> bool {
     let mut fields = Fields::new(Words::new(word));
     match field {
         Field::Mode => fields.mode().is_err(),
         Field::Uid | Field::Gid => fields.id().is_err(),
-        Field::Bytes => fields.number(0, MAX_VOLUME_BYTES).is_err(),
-        Field::Files => fields.number(1, MAX_FILES).is_err(),
+        Field::Bytes | Field::Files => fields.number(bounds.0, bounds.1).is_err(),
         _ => false,
     }
 }
 
-fn fault_of(field: Field, word: &[u8]) -> NumberFault {
+fn fault_of(field: Field, word: &[u8], bounds: (u64, u64)) -> NumberFault {
     if has_prefix(word) {
         return NumberFault::Prefix;
     }
     if word.starts_with(b"-") && field != Field::Mode || word.starts_with(b"+") {
         return NumberFault::Sign;
     }
-    let are_digits = count_digits(word) == word.len();
+    let are_digits = !word.is_empty() && count_digits(word) == word.len();
     match field {
         Field::Mode if !are_digits => NumberFault::SymbolicMode,
         Field::Mode if word.len() > MAX_MODE_DIGITS => NumberFault::LongMode,
         Field::Mode => NumberFault::NotOctal,
         Field::Files if are_digits && is_zero(word) => NumberFault::NoFile,
-        _ if are_digits => NumberFault::Large,
+        _ if are_digits && decimal(word, bounds.1).is_some() => NumberFault::Small(bounds.0),
+        _ if are_digits => NumberFault::Large(bounds.1),
         _ => fault_of_letters(field, word),
     }
 }

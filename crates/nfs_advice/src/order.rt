@@ -19,6 +19,8 @@ pub enum OrderReason {
     BeforeVolume,
     /// The text has no volume's line.
     NoVolume,
+    /// A volume's line stands above.
+    AfterVolume,
 }
 
 impl OrderReason {
@@ -38,6 +40,8 @@ impl OrderReason {
             OrderReason::NoVolume => {
                 "the text has no volume; write volume PATH BYTES FILES MODE UID GID"
             }
+            OrderReason::AfterVolume =>
+                "stands after a volume; write limits before the first volume",
         }
     }
 }
@@ -55,6 +59,10 @@ pub(crate) fn out_of_order<'a>(text: &'a [u8], line: Span<'a>, cause: Cause) -> 
             Advice::new(word, AdviceReason::Order(OrderReason::BeforeVolume))
         }
         (None, Cause::NoVolume) => Advice::new(line, AdviceReason::Order(OrderReason::NoVolume)),
+        (Some(word), Cause::LimitsLate) => Advice::new(
+            word,
+            AdviceReason::Order(OrderReason::AfterVolume),
+        ).with(Remedy::Line(first_line_of(text, b"volume"))),
         (word, _) => Advice::new(
             word.unwrap_or(line),
             AdviceReason::Order(OrderReason::SecondServer),

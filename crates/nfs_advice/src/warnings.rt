@@ -63,7 +63,7 @@ impl fmt::Display for WarningReason {
                 "is read as octal digits; as a decimal number it would be {meant:04o}"
             ),
             WarningReason::SetId => f.write_str(
-                "has a set-id bit, and the volume is exported to * with no_root_squash, where anybody can be root",
+                "has a set-id bit, and the volume is exported to * with no_root_squash, where anyone can be root",
             ),
         }
     }

@@ -1,5 +1,6 @@
 pub mod Unions
 pub mod Finds
+pub mod Counted
 pub mod Once
 pub mod Chains
 pub mod OnceAnswers

@@ -1,5 +1,5 @@
 -- Which bytes encode which arguments (RFC 1813, section 3.3, and appendix I, section 5.2).
-use Rattle.std.specs.Prelude.{◌≡◌, ℕ, List, [], length}
+use Rattle.std.specs.Prelude.{◌≡◌, ℕ, ◌^◌, ◌<◌, List, [], length}
 use Rattle.std.specs.Int.{w32, w64}
 use Rattle.nfs_xdr.specs.Encoding.{IsNumber, IsEnum, IsFixed, IsOpaque, IsOptional, ◌⨾◌}
 use Rattle.nfs_attrs.specs.declared.file_type.FileType.{FileType}
@@ -87,6 +87,11 @@ stability_number FileSync = 2
 -- WRITE3args, whose count is the number of the bytes
 abbrev pub IsWrite : Write → List ℕ → Type 0
 IsWrite a = IsHandle a.file ⨾ IsNumber w64 a.offset ⨾ IsNumber w32 (length a.content) ⨾ IsEnum stability_number a.stable ⨾ IsString a.content
+
+-- bytes to be written, if any are asked to be, of which a word can say how many they are
+abbrev pub HasCountedBytes : NfsArgs → Type 0
+HasCountedBytes (asked.Write a) = length a.content < 2 ^ 32
+HasCountedBytes other = Unit {0}
 
 -- createmode3
 pub data CreateMode : Type 0 where

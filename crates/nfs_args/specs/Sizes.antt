@@ -12,7 +12,7 @@ abbrev pub max_data : ℕ
 max_data = 131072
 
 abbrev pub max_path : ℕ
-max_path = 1024
+max_path = 4096
 
 abbrev pub max_page : ℕ
 max_page = 65536

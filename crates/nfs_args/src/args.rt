@@ -1,7 +1,7 @@
 //! The arguments of the procedures of NFS (RFC 1813, section 3.3).
 ghost use Rattle.std.specs.Prelude.{◌≡◌, ℕ, List, IfOk, OnOk, IsErr};
 ghost use Rattle.nfs_xdr.specs.Encoding.{Begins, BeginsNone};
-ghost use Rattle.nfs_args.specs.Encoding.{IsArgsOf, procedure_of};
+ghost use Rattle.nfs_args.specs.Encoding.{IsArgsOf, HasCountedBytes, procedure_of};
 ghost use Rattle.nfs_args.specs.Reading.{Answers, Fills, TakesInto, args_at};
 
 use crate::access::{Access, access_of};
@@ -123,6 +123,7 @@ impl<'a> NfsArgs<'a> {
     pub fn read(&mut self, proc: Procedure, input: Input<'a>) -> Result<(), Unreadable>
         ensures exact { Fills self.old self.new result (args_at proc input.entry) }
         ensures read { OnOk result ((rest : List ℕ) × Begins (IsArgsOf proc) self.new input.entry rest) }
+        ensures counted { OnOk result (HasCountedBytes self.new) }
         ensures unreadable { IsErr result → BeginsNone (IsArgsOf proc) input.entry }
     {
         // Read where they are to stand, since a result as large as these is copied at each step that

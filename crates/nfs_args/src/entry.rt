@@ -26,6 +26,7 @@ pub fn write_entry(out: &mut Output, entry: &Entry<'_>)
     ensures text { Appends (chained_text entry_text entry.now) out.old out.new }
     ensures encoded { IsEntry entry.now (entry_text entry.now) }
 {
+    // What stands before the name goes as one chunk, since a page has hundreds of entries.
     let (fileid_high, fileid_low) = halves(entry.fileid);
     let name = entry.name.bytes();
     out.numbers([1, fileid_high, fileid_low, name.len() as u32]);

@@ -7,8 +7,8 @@ pub const MAX_HANDLE_BYTES: usize = 64;
 /// section 3.3.19, rtmax and wtmax).
 pub const MAX_DATA_BYTES: usize = 131_072;
 
-/// The most bytes of the path of a symbolic link.
-pub const MAX_PATH_BYTES: usize = 1_024;
+/// The most bytes of the path that READLINK answers, with its padding.
+pub const MAX_PATH_BYTES: usize = 4_096;
 
 /// The most bytes of what READDIR and READDIRPLUS answer after their status: attributes, verifier,
 /// entries and what follows them (RFC 1813, section 3.3.16, `count`).

@@ -90,7 +90,7 @@ fn measure<R: Clock + Print + AllocGlobal>(rt: &R, name: &str) -> io::Result<()>
             },
             &OF_FILES,
         ),
-        // A volume has at most 1,000,000 files, its root and its directories among them.
+        // 1,000,000 files, the root and the directories among them.
         "files-1000000" => sizes::measure_each(
             rt,
             Size {

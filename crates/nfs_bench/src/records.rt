@@ -90,6 +90,7 @@ pub(crate) fn served_many(alloc: Global, dirs: u32, files: u32) -> io::Result<Se
 
 fn make(tree: &mut Tree, bytes: Vec<u8>) -> Result<(), AllocError> {
     if tree.may_make(Number::new(PUB), b"large", bytes.len()) {
+        tree.law();
         let content = NewContent {
             pages: Pages::of(tree.allocator(), bytes)?,
             verifier: None,

@@ -4,7 +4,7 @@ use nfs_attrs::moment::Moment;
 use nfs_conditions::bytes::may_write;
 use nfs_content::pages::Pages;
 use nfs_handles::number::{Hint, Number};
-use nfs_inodes::limits::MAX_FILE_BYTES;
+use nfs_inodes::limits::Limits;
 use nfs_inodes::new_file::{NewContent, NewFile};
 use nfs_inodes::tree::Tree;
 use nfs_inodes::volumes::Totals;
@@ -103,16 +103,21 @@ pub(crate) fn hold_names<R: Print + AllocGlobal>(rt: &R, dirs: u32, names: u32) 
 /// Holds so many files of 16 MiB with a byte at their ends, and prints the bytes of their volume.
 pub(crate) fn hold_sparse<R: Print + AllocGlobal>(rt: &R, files: u32) -> io::Result<()> {
     let mut tree = grown(rt.alloc(), 0)?;
-    fill(&mut tree, 0, files, MAX_FILE_BYTES - 1, &[7])?;
+    let last = tree.limits().file_size.saturating_sub(1);
+    fill(&mut tree, 0, files, last, &[7])?;
     let bytes = tree.totals(0).map_or(0, |totals: Totals| totals.bytes);
     println!(rt; "held {bytes} bytes")
 }
 
 /// A volume with so many directories of a thousand empty files each.
 pub(crate) fn grown(alloc: Global, thousands: u32) -> Result<Tree, AllocError> {
-    let mut tree = Tree::new(alloc, [0; 8]);
-    if tree.may_add_volume(b"/", 2_000_000) {
-        tree.add_volume(b"/", 10_000_000_000, 2_000_000, &GIVEN, START)?;
+    let limits = Limits {
+        files: 2_000_000,
+        ..Limits::standard()
+    };
+    let mut tree = Tree::with_limits(alloc, [0; 8], limits);
+    if tree.may_add_volume(b"/", 10_000_000_000, limits.files) {
+        tree.add_volume(b"/", 10_000_000_000, limits.files, &GIVEN, START)?;
     }
     grow(&mut tree, thousands, FILES, 0, &[])?;
     Ok(tree)

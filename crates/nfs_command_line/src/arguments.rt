@@ -1,76 +1,105 @@
-//! The arguments that more than one command takes.
+//! The words and options that more than one command takes.
 
-use clap::{Arg, ArgAction, value_parser};
-use std::alloc::Global;
-
-/// A word that has to be there.
-pub(crate) fn word<'a>(alloc: Global, id: &'a str, name: &'a str, help: &'a str) -> Arg<'a> {
-    Arg::new(alloc, id)
-        .value_name(name)
-        .required(true)
-        .help(help)
-}
-
-/// An option with a value, `--id NAME`.
-pub(crate) fn option<'a>(alloc: Global, id: &'a str, name: &'a str, help: &'a str) -> Arg<'a> {
-    Arg::new(alloc, id).long(id).value_name(name).help(help)
-}
-
-/// An option without a value, `--id`.
-pub(crate) fn flag<'a>(alloc: Global, id: &'a str, help: &'a str) -> Arg<'a> {
-    Arg::new(alloc, id)
-        .long(id)
-        .action(ArgAction::SetTrue)
-        .help(help)
-}
+use crate::rows::{ArgRow, Takes};
 
 /// The description.
-pub(crate) fn tree<'a>(alloc: Global) -> Arg<'a> {
-    word(
-        alloc,
-        "tree",
-        "TREE",
-        "The description: a text of volumes, files and exports (docs/DESCRIPTION.md); - is standard input",
-    )
-}
+pub(crate) const DESCRIPTION: ArgRow = ArgRow {
+    id: "tree",
+    value: "TREE",
+    help: "The description: a text of volumes, files and exports (docs/DESCRIPTION.md); - is standard input",
+    takes: Takes::Word,
+};
+
+/// The description, or a directory.
+pub(crate) const TREE: ArgRow = ArgRow {
+    id: "tree",
+    value: "TREE",
+    help: "The description: a text of volumes, files and exports (docs/DESCRIPTION.md), - for standard input; or a directory on disk",
+    takes: Takes::Word,
+};
+
+/// The path of a directory's volume.
+pub(crate) const MOUNT: ArgRow = ArgRow {
+    id: "mount",
+    value: "PATH",
+    help: "The path that clients mount a directory by [default: its name]",
+    takes: Takes::Text,
+};
+
+/// To whom it is exported.
+pub(crate) const EXPORT: ArgRow = ArgRow {
+    id: "export",
+    value: "PATTERN=OPTIONS",
+    help: "Exports the directory to PATTERN, for example 10.1.0.0/16=ro; may be repeated",
+    takes: Takes::Texts,
+};
+
+/// How many bytes its volume may hold.
+pub(crate) const BYTES: ArgRow = ArgRow {
+    id: "bytes",
+    value: "N",
+    help: "The most bytes that the volume may hold [default: twice what was found, at least 1000000000]",
+    takes: Takes::Number,
+};
+
+/// How many files its volume may hold.
+pub(crate) const FILES: ArgRow = ArgRow {
+    id: "files",
+    value: "N",
+    help: "The most files that the volume may hold [default: twice what was found, at least 100000]",
+    takes: Takes::Number,
+};
+
+/// Who owns its files.
+pub(crate) const CHOWN: ArgRow = ArgRow {
+    id: "chown",
+    value: "UID:GID",
+    help: "Gives every file this owner and group, for example 1000:1000",
+    takes: Takes::Text,
+};
+
+/// Whether something of it may be skipped.
+pub(crate) const STRICT: ArgRow = ArgRow {
+    id: "strict",
+    value: "",
+    help: "Ends with status 1 if anything of the directory is skipped",
+    takes: Takes::Flag,
+};
 
 /// How many replies are kept.
-pub(crate) fn cache<'a>(alloc: Global) -> Arg<'a> {
-    option(
-        alloc,
-        "cache",
-        "C",
-        "How many replies the reply cache holds for retransmissions, 1 to 1024",
-    )
-    .value_parser(value_parser!(u32).range(1..=1024))
-    .default_value("128")
-}
+pub(crate) const CACHE: ArgRow = ArgRow {
+    id: "cache",
+    value: "C",
+    help: "How many replies the reply cache holds for retransmissions, 1 to 1024",
+    takes: Takes::BetweenOr(1, 1024, "128"),
+};
 
 /// Where the tree is saved.
-pub(crate) fn save<'a>(alloc: Global) -> Arg<'a> {
-    option(
-        alloc,
-        "save",
-        "FILE",
-        "Writes the tree at the end to FILE, as a description",
-    )
-}
+pub(crate) const SAVE: ArgRow = ArgRow {
+    id: "save",
+    value: "FILE",
+    help: "Writes the tree at the end to FILE, as a description",
+    takes: Takes::Text,
+};
 
 /// The key of a description that is written.
-pub(crate) fn key<'a>(alloc: Global) -> Arg<'a> {
-    option(
-        alloc,
-        "key",
-        "KEY",
-        "The server's key in what is written, 16 hexadecimal digits [default: a new one each time]",
-    )
-}
+pub(crate) const KEY: ArgRow = ArgRow {
+    id: "key",
+    value: "KEY",
+    help: "The server's key in the description, 16 hexadecimal digits [default: a new random one]",
+    takes: Takes::Text,
+};
+
+/// The same of a tree that is saved.
+pub(crate) const SAVED_KEY: ArgRow = ArgRow {
+    takes: Takes::TextBeside("save"),
+    ..KEY
+};
 
 /// Whether denied calls are reported with names.
-pub(crate) fn names<'a>(alloc: Global) -> Arg<'a> {
-    flag(
-        alloc,
-        "names",
-        "Adds the procedure's name and the file's path to the line of a denied call",
-    )
-}
+pub(crate) const NAMES: ArgRow = ArgRow {
+    id: "names",
+    value: "",
+    help: "Adds the procedure's name and the file's path to each line of a denied call",
+    takes: Takes::Flag,
+};

@@ -8,8 +8,8 @@ use clap::ArgMatches;
 pub enum Invocation<'a> {
     /// How much a description holds.
     Check {
-        /// The description's file.
-        tree: &'a str,
+        /// What is checked.
+        tree: TreeWords<'a>,
         /// Whether a warning is a fault.
         is_strict: bool,
         /// Whether the lines after the first faulty one are reported too.
@@ -19,8 +19,8 @@ pub enum Invocation<'a> {
     Why(Why<'a>),
     /// Who may reach which volume.
     Exports {
-        /// The description's file.
-        tree: &'a str,
+        /// What has the volumes.
+        tree: TreeWords<'a>,
     },
     /// A script is run.
     Replay(Replay<'a>),
@@ -28,6 +28,8 @@ pub enum Invocation<'a> {
     Serve(Serve<'a>),
     /// A directory on disk is described.
     Describe(Describe<'a>),
+    /// A tree is written as a directory on disk.
+    Extract(Extract<'a>),
     /// A call is served over a connection of its own.
     SelfCall {
         /// The description's file.
@@ -35,11 +37,35 @@ pub enum Invocation<'a> {
     },
 }
 
+/// The word TREE: the file of a description, or a directory on disk with how it is shared.
+#[derive(Clone, Copy)]
+pub struct TreeWords<'a> {
+    /// Its name on disk.
+    pub name: &'a str,
+    /// How it is shared, where it is a directory.
+    pub sharing: Sharing<'a>,
+}
+
+/// How a directory on disk is shared as a volume.
+#[derive(Clone, Copy)]
+pub struct Sharing<'a> {
+    /// The path that clients mount; without it the directory's name.
+    pub mount: Option<&'a str>,
+    /// The volume's most bytes.
+    pub bytes: Option<u64>,
+    /// The volume's most files.
+    pub files: Option<u64>,
+    /// To whom it is exported, each as PATTERN=OPTIONS.
+    pub exports: &'a [&'a str],
+    /// The owner and group of all files, as UID:GID; without it those on disk.
+    pub chown: Option<&'a str>,
+}
+
 /// The words of `why`.
 #[derive(Clone, Copy)]
 pub struct Why<'a> {
-    /// The description's file.
-    pub tree: &'a str,
+    /// What is asked about.
+    pub tree: TreeWords<'a>,
     /// The client's address.
     pub address: &'a str,
     /// The user, in the client's words.
@@ -55,8 +81,8 @@ pub struct Why<'a> {
 /// The words of `replay`.
 #[derive(Clone, Copy)]
 pub struct Replay<'a> {
-    /// The description's file.
-    pub tree: &'a str,
+    /// What the script begins with.
+    pub tree: TreeWords<'a>,
     /// The script's.
     pub script: &'a str,
     /// How many replies are kept.
@@ -74,8 +100,8 @@ pub struct Replay<'a> {
 /// The words of `serve`.
 #[derive(Clone, Copy)]
 pub struct Serve<'a> {
-    /// The description's file.
-    pub tree: &'a str,
+    /// What is served.
+    pub tree: TreeWords<'a>,
     /// The address that is listened at.
     pub listen: &'a str,
     /// Its port.
@@ -106,6 +132,8 @@ pub struct Serve<'a> {
     pub key: Option<&'a str>,
     /// Whether clients that come and go are reported.
     pub is_verbose: bool,
+    /// Whether nothing is served where something of a directory is skipped.
+    pub is_strict: bool,
 }
 
 /// What to do when the line of a denied call can't be written.
@@ -122,16 +150,41 @@ pub enum AuditFailed {
 pub struct Describe<'a> {
     /// The directory.
     pub directory: &'a str,
+    /// How it is shared.
+    pub sharing: Sharing<'a>,
     /// The server's key, in 16 hexadecimal digits; without it a new one.
     pub key: Option<&'a str>,
-    /// The path that clients mount it by.
-    pub mount: &'a str,
-    /// The volume's most bytes.
-    pub bytes: Option<u64>,
-    /// The volume's most files.
-    pub files: Option<u64>,
-    /// To whom it is exported, each as PATTERN=OPTIONS.
-    pub exports: &'a [&'a str],
+    /// Whether the status is 1 where something was skipped.
+    pub is_strict: bool,
+}
+
+/// The words of `extract`.
+#[derive(Clone, Copy)]
+pub struct Extract<'a> {
+    /// What is written.
+    pub tree: TreeWords<'a>,
+    /// The directory, which is made.
+    pub directory: &'a str,
+}
+
+/// The owner and the group of a file.
+#[derive(Clone, Copy)]
+pub struct Owner {
+    /// The user's number.
+    pub uid: u32,
+    /// The group's number.
+    pub gid: u32,
+}
+
+impl Owner {
+    /// The owner that UID:GID names. `None` where the text is not two numbers.
+    pub fn of_text(text: &str) -> Option<Owner> {
+        let (uid, gid) = text.split_once(':')?;
+        Some(Owner {
+            uid: uid.parse::<u32>().ok()?,
+            gid: gid.parse::<u32>().ok()?,
+        })
+    }
 }
 
 impl<'a> Invocation<'a> {
@@ -139,17 +192,21 @@ impl<'a> Invocation<'a> {
     pub(crate) fn of(name: &str, words: &'a ArgMatches<'_>) -> Option<Invocation<'a>> {
         match name {
             "check" => Some(Invocation::Check {
-                tree: text(words, "tree"),
+                tree: TreeWords::of(words),
                 is_strict: words.get_flag("strict"),
                 is_whole: words.get_flag("all"),
             }),
             "why" => Some(Invocation::Why(Why::of(words))),
             "exports" => Some(Invocation::Exports {
-                tree: text(words, "tree"),
+                tree: TreeWords::of(words),
             }),
             "replay" => Some(Invocation::Replay(Replay::of(words))),
             "serve" => Some(Invocation::Serve(Serve::of(words))),
             "describe" => Some(Invocation::Describe(Describe::of(words))),
+            "extract" => Some(Invocation::Extract(Extract {
+                tree: TreeWords::of(words),
+                directory: text(words, "directory"),
+            })),
             "self" => Some(Invocation::SelfCall {
                 tree: text(words, "tree"),
             }),
@@ -160,13 +217,36 @@ impl<'a> Invocation<'a> {
     /// What is wrong with words that are each right, if anything.
     pub(crate) fn fault(&self) -> Option<UsageFault> {
         match self {
-            Invocation::Replay(words) => UsageFault::of_key(words.key),
-            Invocation::Describe(words) => UsageFault::of_key(words.key),
-            Invocation::Serve(words) => UsageFault::of_saving(words),
-            Invocation::Check { .. }
-            | Invocation::Why(_)
-            | Invocation::Exports { .. }
-            | Invocation::SelfCall { .. } => None,
+            Invocation::Replay(words) => UsageFault::of_keyed(&words.tree.sharing, words.key),
+            Invocation::Describe(words) => UsageFault::of_keyed(&words.sharing, words.key),
+            Invocation::Serve(words) => UsageFault::of_serving(words),
+            Invocation::Check { tree, .. } | Invocation::Exports { tree } => {
+                UsageFault::of_sharing(&tree.sharing)
+            }
+            Invocation::Why(words) => UsageFault::of_sharing(&words.tree.sharing),
+            Invocation::Extract(words) => UsageFault::of_sharing(&words.tree.sharing),
+            Invocation::SelfCall { .. } => None,
+        }
+    }
+}
+
+impl<'a> TreeWords<'a> {
+    fn of(words: &'a ArgMatches<'_>) -> TreeWords<'a> {
+        TreeWords {
+            name: text(words, "tree"),
+            sharing: Sharing::of(words),
+        }
+    }
+}
+
+impl<'a> Sharing<'a> {
+    fn of(words: &'a ArgMatches<'_>) -> Sharing<'a> {
+        Sharing {
+            mount: words.get_str("mount"),
+            bytes: words.get_one::<u64>("bytes"),
+            files: words.get_one::<u64>("files"),
+            exports: words.get_strs("export").unwrap_or(&[]),
+            chown: words.get_str("chown"),
         }
     }
 }
@@ -174,7 +254,7 @@ impl<'a> Invocation<'a> {
 impl<'a> Why<'a> {
     fn of(words: &'a ArgMatches<'_>) -> Why<'a> {
         Why {
-            tree: text(words, "tree"),
+            tree: TreeWords::of(words),
             address: text(words, "address"),
             user: text(words, "user"),
             operation: text(words, "operation"),
@@ -187,7 +267,7 @@ impl<'a> Why<'a> {
 impl<'a> Replay<'a> {
     fn of(words: &'a ArgMatches<'_>) -> Replay<'a> {
         Replay {
-            tree: text(words, "tree"),
+            tree: TreeWords::of(words),
             script: text(words, "script"),
             cache: cache(words),
             save: words.get_str("save"),
@@ -201,7 +281,7 @@ impl<'a> Replay<'a> {
 impl<'a> Serve<'a> {
     fn of(words: &'a ArgMatches<'_>) -> Serve<'a> {
         Serve {
-            tree: text(words, "tree"),
+            tree: TreeWords::of(words),
             listen: text(words, "listen"),
             port: words.get_one::<u16>("port").unwrap_or(2049),
             connections: words.get_one::<u64>("connections"),
@@ -217,6 +297,7 @@ impl<'a> Serve<'a> {
             save_every: words.get_one::<u64>("save-every"),
             key: words.get_str("key"),
             is_verbose: words.get_flag("verbose"),
+            is_strict: words.get_flag("strict"),
         }
     }
 }
@@ -225,11 +306,9 @@ impl<'a> Describe<'a> {
     fn of(words: &'a ArgMatches<'_>) -> Describe<'a> {
         Describe {
             directory: text(words, "directory"),
+            sharing: Sharing::of(words),
             key: words.get_str("key"),
-            mount: text(words, "mount"),
-            bytes: words.get_one::<u64>("bytes"),
-            files: words.get_one::<u64>("files"),
-            exports: words.get_strs("export").unwrap_or(&[]),
+            is_strict: words.get_flag("strict"),
         }
     }
 }

@@ -4,6 +4,7 @@
 mod arguments;
 pub mod invocation;
 mod questions;
+mod rows;
 mod runs;
 mod usage;
 pub mod words;

@@ -1,58 +1,87 @@
-//! The commands that say something of a description.
+//! The commands that say something of a tree.
 
-use crate::arguments::{flag, tree, word};
-use clap::{Arg, Command};
-use std::alloc::{AllocError, Global};
+use crate::arguments::{BYTES, CHOWN, EXPORT, FILES, MOUNT, TREE};
+use crate::rows::{ArgRow, CommandRow, Takes};
 
-/// `check TREE [--strict] [--all]`.
-pub(crate) fn check<'a>(alloc: Global) -> Result<Command<'a>, AllocError> {
-    Command::new(alloc, "check")
-        .about("Checks a description, and prints how many volumes, files and bytes it has")
-        .arg(tree(alloc))?
-        .arg(flag(alloc, "strict", "Exits with status 1 if there is a warning"))?
-        .arg(flag(
-            alloc,
-            "all",
-            "Goes on after the first faulty line, and reports the others too",
-        ))
-}
+/// `check`.
+pub(crate) const CHECK: CommandRow = CommandRow {
+    name: "check",
+    about: "Checks a description, and prints how many volumes, files and bytes it has",
+    args: &CHECK_ARGS,
+};
 
-/// `why TREE ADDRESS USER OPERATION PATH [PATH2]`.
-pub(crate) fn why<'a>(alloc: Global) -> Result<Command<'a>, AllocError> {
-    Command::new(alloc, "why")
-        .about("Explains rule by rule why a call is granted or denied, without a client")
-        .arg(tree(alloc))?
-        .arg(word(alloc, "address", "ADDRESS", "The client's address"))?
-        .arg(word(
-            alloc,
-            "user",
-            "UID[:GID[,GID..]]",
-            "The user that the client names: the numbers of the user, its group and more groups",
-        ))?
-        .arg(word(
-            alloc,
-            "operation",
-            "OPERATION",
-            "What the call does: read, write, create, remove, mkdir, rename, list, chmod, mount and others",
-        ))?
-        .arg(word(
-            alloc,
-            "path",
-            "PATH",
-            "Which file: a path that begins with that of a volume, as clients see it",
-        ))?
-        .arg(second(alloc))
-}
+const CHECK_ARGS: [ArgRow; 8] = [
+    TREE,
+    ArgRow {
+        id: "strict",
+        value: "",
+        help: "Exits with status 1 if there is a warning, or anything of the directory is skipped",
+        takes: Takes::Flag,
+    },
+    ArgRow {
+        id: "all",
+        value: "",
+        help: "Continues after the first faulty line and reports the others too",
+        takes: Takes::Flag,
+    },
+    MOUNT,
+    EXPORT,
+    BYTES,
+    FILES,
+    CHOWN,
+];
 
-fn second<'a>(alloc: Global) -> Arg<'a> {
-    Arg::new(alloc, "second").value_name("PATH2").help(
-        "The new path of rename and link, what a symlink holds, an owner, a group or a size",
-    )
-}
+/// `why`.
+pub(crate) const WHY: CommandRow = CommandRow {
+    name: "why",
+    about: "Explains rule by rule why a call is granted or denied, without a client",
+    args: &WHY_ARGS,
+};
 
-/// `exports TREE`.
-pub(crate) fn exports<'a>(alloc: Global) -> Result<Command<'a>, AllocError> {
-    Command::new(alloc, "exports")
-        .about("Prints who may reach which volume with which options, as exportfs -v does")
-        .arg(tree(alloc))
-}
+const WHY_ARGS: [ArgRow; 11] = [
+    TREE,
+    ArgRow {
+        id: "address",
+        value: "ADDRESS",
+        help: "The client's address",
+        takes: Takes::Word,
+    },
+    ArgRow {
+        id: "user",
+        value: "UID[:GID[,GID..]]",
+        help: "The user that the client names: the numbers of the user, its group and more groups",
+        takes: Takes::Word,
+    },
+    ArgRow {
+        id: "operation",
+        value: "OPERATION",
+        help: "What the call does: read, write, create, remove, mkdir, rename, list, chmod, mount and others",
+        takes: Takes::Word,
+    },
+    ArgRow {
+        id: "path",
+        value: "PATH",
+        help: "Which file: a path that begins with that of a volume, as clients see it",
+        takes: Takes::Word,
+    },
+    ArgRow {
+        id: "second",
+        value: "PATH2",
+        help: "The new path of rename and link, what a symlink holds, an owner, a group or a size",
+        takes: Takes::OptionalWord,
+    },
+    MOUNT,
+    EXPORT,
+    BYTES,
+    FILES,
+    CHOWN,
+];
+
+/// `exports`.
+pub(crate) const EXPORTS: CommandRow = CommandRow {
+    name: "exports",
+    about: "Prints who may reach which volume with which options, as exportfs -v does",
+    args: &EXPORTS_ARGS,
+};
+
+const EXPORTS_ARGS: [ArgRow; 6] = [TREE, MOUNT, EXPORT, BYTES, FILES, CHOWN];

@@ -1,6 +1,6 @@
 //! What is wrong with words that the commands take.
 
-use crate::invocation::Serve;
+use crate::invocation::{Owner, Serve, Sharing};
 use thiserror::Error;
 
 /// What is wrong with words, and what to do.
@@ -9,6 +9,9 @@ pub(crate) enum UsageFault {
     /// A key isn't 16 hexadecimal digits.
     #[error("invalid value for '--key <KEY>': it must be 16 hexadecimal digits, such as 0123456789abcdef")]
     Key,
+    /// An owner isn't two numbers.
+    #[error("invalid value for '--chown <UID:GID>': it must be two numbers, such as 1000:1000")]
+    Owner,
     /// A service is never saved, since it doesn't end.
     #[error("--save FILE writes when the service ends: add --connections N, or --save-every SECONDS")]
     NeverSaved,
@@ -23,13 +26,29 @@ impl UsageFault {
         }
     }
 
-    /// Of where and when a service is saved.
-    pub(crate) fn of_saving(words: &Serve<'_>) -> Option<UsageFault> {
+    /// Of how a directory is shared.
+    pub(crate) fn of_sharing(sharing: &Sharing<'_>) -> Option<UsageFault> {
+        match sharing.chown {
+            Some(owner) if Owner::of_text(owner).is_none() => Some(UsageFault::Owner),
+            _ => None,
+        }
+    }
+
+    /// Of how it is shared, and of a key, if any.
+    pub(crate) fn of_keyed(sharing: &Sharing<'_>, key: Option<&str>) -> Option<UsageFault> {
+        match UsageFault::of_sharing(sharing) {
+            Some(fault) => Some(fault),
+            None => UsageFault::of_key(key),
+        }
+    }
+
+    /// Of what is served, and of where and when it is saved.
+    pub(crate) fn of_serving(words: &Serve<'_>) -> Option<UsageFault> {
         let is_saved = words.connections.is_some() || words.save_every.is_some();
         if words.save.is_some() && !is_saved {
             return Some(UsageFault::NeverSaved);
         }
-        UsageFault::of_key(words.key)
+        UsageFault::of_keyed(&words.tree.sharing, words.key)
     }
 }
 

@@ -1,8 +1,9 @@
 //! The words that the program was started with, once they are understood.
 
 use crate::invocation::Invocation;
-use crate::questions::{check, exports, why};
-use crate::runs::{describe, replay, self_call, serve};
+use crate::questions::{CHECK, EXPORTS, WHY};
+use crate::rows::{CommandRow, command_of};
+use crate::runs::{DESCRIBE, EXTRACT, REPLAY, SELF_CALL, SERVE};
 use crate::usage::UsageFault;
 use clap::error::ErrorKind;
 use clap::{ArgMatches, Command};
@@ -11,6 +12,11 @@ use std::process::ExitCode;
 
 // What `--version` prints after the program's name.
 const VERSION: &str = "1.0.0";
+
+// The commands, in the order of the help.
+const COMMANDS: [CommandRow; 8] = [
+    CHECK, WHY, EXPORTS, REPLAY, SERVE, DESCRIBE, EXTRACT, SELF_CALL,
+];
 
 /// Words that ask for something.
 #[derive(Drop)]
@@ -75,33 +81,17 @@ impl<'a> Words<'a> {
 }
 
 fn command<'a>(alloc: Global) -> Result<Command<'a>, AllocError> {
-    let command = Command::new(alloc, "nfs3d")
+    let mut command = Command::new(alloc, "nfs3d")
         .bin_name("nfs3d")?
         .version(VERSION)
-        .about(
-            "An NFS version 3 server with its MOUNT service, in memory, with access rules proved",
-        )
+        .about("An in-memory NFS version 3 server with its MOUNT service and proved access rules")
         .after_help(
-            "Try first, in the repository: nfs3d replay examples/e.tree examples/read.script",
+            "To try it, in the repository: nfs3d replay examples/e.tree examples/read.script",
         )
         .subcommand_required(true)
         .arg_required_else_help(true);
-    with_runs(alloc, with_questions(alloc, command)?)
-}
-
-// With the commands that say something of a description.
-fn with_questions<'a>(alloc: Global, command: Command<'a>) -> Result<Command<'a>, AllocError> {
-    command
-        .subcommand(check(alloc)?)?
-        .subcommand(why(alloc)?)?
-        .subcommand(exports(alloc)?)
-}
-
-// With those that serve one, or make one.
-fn with_runs<'a>(alloc: Global, command: Command<'a>) -> Result<Command<'a>, AllocError> {
-    command
-        .subcommand(replay(alloc)?)?
-        .subcommand(serve(alloc)?)?
-        .subcommand(describe(alloc)?)?
-        .subcommand(self_call(alloc)?)
+    for row in &COMMANDS {
+        command = command.subcommand(command_of(alloc, row)?)?;
+    }
+    Ok(command)
 }

@@ -34,11 +34,11 @@ module _ (t : Tree) (n : ℕ) (a : Fattr) (e : Some a ≡ attributes_at t n) whe
       (λ (near : IsNear t n d). subst (IsDirectoryIn t d) (sym (fsid t n a e near.file near.at_file)) near.directory)
       directory
 
-  pub link_there : Decides (nat_lt a.nlink 1000) (MayHaveLink t n)
-  link_there = Decides-like (nat_lt a.nlink 1000)
-      (λ (few : a.nlink < 1000). λ dir at_d. subst (λ m. m < 1000) (links t n a e dir at_d) few)
-      (λ (may : MayHaveLink t n). let l = lives t n a e in subst (λ m. m < 1000) (sym (links t n a e l.0 l.1)) (may l.0 l.1))
-      (Decides-ltb a.nlink 1000)
+  pub link_there : Decides (nat_lt a.nlink t.limits.links) (MayHaveLink t n)
+  link_there = Decides-like (nat_lt a.nlink t.limits.links)
+      (λ (few : a.nlink < t.limits.links). λ dir at_d. subst (λ m. m < t.limits.links) (links t n a e dir at_d) few)
+      (λ (may : MayHaveLink t n). let l = lives t n a e in subst (λ m. m < t.limits.links) (sym (links t n a e l.0 l.1)) (may l.0 l.1))
+      (Decides-ltb a.nlink t.limits.links)
 
   -- file n gives its place to another one
   pub replaces_there : (m : ℕ) (b : Bool) → is_directory_type a.file_type ≡ is_directory_at t m → Decides b (entries_at t n ≡ []) → (f : File) × Lives t m f → Decides b (ReplacesFile t n m)
@@ -131,7 +131,7 @@ may_go t from to name new_name may =
       free = λ none. (
         λ apart y dir at_dir. elim (may.links (sym found_to ∙ none) (sym (directory_is t n may.file may.at_file) ∙ y)) [
           | inl s ↦ absurd (apart s)
-          | inr few ↦ subst (λ (f : File). nlink t.files to f < 1000) (same_some (sym may.at_target.0 ∙ at_dir)) few
+          | inr few ↦ subst (λ (f : File). nlink t.files to f < t.limits.links) (same_some (sym may.at_target.0 ∙ at_dir)) few
         ],
         arrives (λ old is. absurd (not_both none is)),
       );

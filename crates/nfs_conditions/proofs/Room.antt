@@ -45,7 +45,7 @@ module _ (t : Tree) (n : ℕ) (a : Fattr) (e : Some a ≡ attributes_at t n) whe
 
   -- ---- bytes
 
-  pub writes_there : (offset count more : ℕ) (b : Bool) → TakesBytes a offset count → 0 < count → more ≡ offset + count - a.size → Decides b (HasSpace t (a.fsid - 1) more) → Decides b (MayWrite t n offset count)
+  pub writes_there : (offset count more : ℕ) (b : Bool) → TakesBytes t.limits a offset count → 0 < count → more ≡ offset + count - a.size → Decides b (HasSpace t (a.fsid - 1) more) → Decides b (MayWrite t n offset count)
   writes_there offset count more b takes some is space =
       let l = lives t n a e in
       let y : is_regular l.0.kind ≡ true = sym (regular t n a e l.0 l.1) ∙ takes.0 in
@@ -66,11 +66,11 @@ module _ (t : Tree) (n : ℕ) (a : Fattr) (e : Some a ≡ attributes_at t n) whe
       })
       space
 
-  pub written_to : (offset count : ℕ) → MayWrite t n offset count → TakesBytes a offset count
+  pub written_to : (offset count : ℕ) → MayWrite t n offset count → TakesBytes t.limits a offset count
   written_to offset count may = (regular t n a e may.file may.at_file ∙ may.regular, may.large)
 
   -- no bytes need no room
-  pub writes_none : Law t → (offset : ℕ) → TakesBytes a offset 0 → MayWrite t n offset 0
+  pub writes_none : Law t → (offset : ℕ) → TakesBytes t.limits a offset 0 → MayWrite t n offset 0
   writes_none law offset takes =
       let l = lives t n a e in
       let v = law.placed n l.0 l.1 in
@@ -86,7 +86,7 @@ module _ (t : Tree) (n : ℕ) (a : Fattr) (e : Some a ≡ attributes_at t n) whe
 
   -- ---- a size
 
-  pub resizes_there : (end more : ℕ) (b : Bool) → TakesBytes a 0 end → more ≡ end - a.size → Decides b (HasSpace t (a.fsid - 1) more) → Decides b (MayResize t n end)
+  pub resizes_there : (end more : ℕ) (b : Bool) → TakesBytes t.limits a 0 end → more ≡ end - a.size → Decides b (HasSpace t (a.fsid - 1) more) → Decides b (MayResize t n end)
   resizes_there end more b takes is space =
       let l = lives t n a e in
       let y : is_regular l.0.kind ≡ true = sym (regular t n a e l.0 l.1) ∙ takes.0 in
@@ -107,5 +107,5 @@ module _ (t : Tree) (n : ℕ) (a : Fattr) (e : Some a ≡ attributes_at t n) whe
       })
       space
 
-  pub resized_to : (end : ℕ) → MayResize t n end → TakesBytes a 0 end
+  pub resized_to : (end : ℕ) → MayResize t n end → TakesBytes t.limits a 0 end
   resized_to end may = let large = may.large in (regular t n a e may.file may.at_file ∙ may.regular, λ some. omega (arith, large))

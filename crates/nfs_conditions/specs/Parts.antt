@@ -1,7 +1,7 @@
 -- The parts of conditions, each of which is tested by itself.
 use Rattle.std.specs.Prelude.{◌≡◌, ◌≢◌, ℕ, ◌+◌, ◌-◌, ◌<◌, ◌≤◌, ◌^◌, Bool, true, false, nat_le, List, Some, None, slice_get}
 use Rattle.nfs_attrs.specs.declared.fattr.Fattr.{Fattr}
-use Rattle.nfs_inodes.specs.Limits.{max_file_bytes, max_links}
+use Rattle.nfs_inodes.specs.declared.limits.Limits.{Limits}
 use Rattle.nfs_inodes.specs.Tree.{Tree, File, Entry, Volume, at, on_some, is_directory, next_cookie_in, nlink, bytes_of}
 use Rattle.nfs_inodes.specs.Law.{IsName, Lives, LivesAsDirectory}
 use Rattle.nfs_inodes.specs.Conditions.{MayReplace, IsOff}
@@ -10,8 +10,8 @@ use Rattle.nfs_inodes.specs.Reading.{entry_at, is_regular_type, totals_at}
 -- ---- bytes
 
 -- a file is regular, and so many bytes at an offset, if any, are within the limit
-abbrev pub TakesBytes : Fattr → ℕ → ℕ → Type 0
-TakesBytes f offset count = (is_regular_type f.file_type ≡ true) × (0 < count → offset + count ≤ max_file_bytes)
+abbrev pub TakesBytes : Limits → Fattr → ℕ → ℕ → Type 0
+TakesBytes limits f offset count = (is_regular_type f.file_type ≡ true) × (0 < count → offset + count ≤ limits.file_size)
 
 -- whether the volume of this index may have so many bytes more
 abbrev pub has_space : Tree → ℕ → ℕ → Bool
@@ -52,7 +52,7 @@ IsOffDirectory t d n = (file : File) → LivesAsDirectory t n file → IsOff t d
 
 -- directory d may have a link more
 abbrev pub MayHaveLink : Tree → ℕ → Type 0
-MayHaveLink t d = (dir : File) → Lives t d dir → nlink t.files d dir < max_links
+MayHaveLink t d = (dir : File) → Lives t d dir → nlink t.files d dir < t.limits.links
 
 -- directory d may have a link more where file n of directory from, a directory, comes into another
 abbrev pub HasLinkFor : Tree → ℕ → ℕ → ℕ → Type 0

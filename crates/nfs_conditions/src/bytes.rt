@@ -8,7 +8,6 @@ use crate::attributes::volume_index;
 use nfs_attrs::fattr::Fattr;
 use nfs_attrs::file_type::FileType;
 use nfs_handles::number::Number;
-use nfs_inodes::limits::MAX_FILE_BYTES;
 use nfs_inodes::tree::Tree;
 
 /// Whether so many bytes may be put at an offset of the file `number`: no bytes at any offset of a
@@ -19,7 +18,7 @@ pub fn may_write(tree: &Tree, number: Number, offset: usize, count: usize) -> bo
     tree.law();
     match tree.attributes(number) {
         Some(file) => {
-            if !takes_bytes(&file, offset, count) {
+            if !takes_bytes(tree, &file, offset, count) {
                 return false;
             }
             if count == 0 {
@@ -38,7 +37,7 @@ pub fn may_resize(tree: &Tree, number: Number, size: usize) -> bool
 {
     match tree.attributes(number) {
         Some(file) => {
-            if !takes_bytes(&file, 0, size) {
+            if !takes_bytes(tree, &file, 0, size) {
                 return false;
             }
             let growth = (size as u64).saturating_sub(file.size);
@@ -49,10 +48,11 @@ pub fn may_resize(tree: &Tree, number: Number, size: usize) -> bool
 }
 
 // Whether a file is regular, and so many bytes at an offset, if any, are within the limit.
-fn takes_bytes(file: &Fattr, offset: usize, count: usize) -> bool
-    ensures { IsTrue result ↔ TakesBytes file.now offset count }
+fn takes_bytes(tree: &Tree, file: &Fattr, offset: usize, count: usize) -> bool
+    ensures { IsTrue result ↔ TakesBytes tree.now.limits file.now offset count }
 {
-    if count > 0 && (offset > MAX_FILE_BYTES || count > MAX_FILE_BYTES - offset) {
+    let most = tree.limits().file_size;
+    if count > 0 && (offset > most || count > most - offset) {
         return false;
     }
     match file.file_type {

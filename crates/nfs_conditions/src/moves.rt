@@ -10,7 +10,6 @@ ghost use Rattle.nfs_inodes.specs.Tree.{File};
 use crate::attributes::is_directory;
 use crate::entries::{entry, is_empty};
 use nfs_handles::number::Number;
-use nfs_inodes::limits::MAX_LINKS;
 use nfs_inodes::name::is_name;
 use nfs_inodes::tree::Tree;
 
@@ -153,7 +152,7 @@ fn may_have_link(tree: &Tree, dir: Number) -> bool
     ensures { IsTrue result ↔ MayHaveLink tree.now dir.0 }
 {
     match tree.attributes(dir) {
-        Some(file) => file.nlink < MAX_LINKS,
+        Some(file) => file.nlink < tree.limits().links,
         None => true,
     }
 }

@@ -3,7 +3,7 @@ use Rattle.std.specs.Prelude.{◌≡◌, ◌≢◌, ℕ, ◌+◌, ◌-◌, ◌/�
 use Rattle.std.specs.List.{range_with_len}
 use Rattle.std.specs.Prelude.{Vec}
 use Rattle.std.specs.Global.{Global}
-use Rattle.nfs_content.specs.Limits.{page_bytes, row_pages}
+use Rattle.nfs_content.specs.Limits.{page_bytes, row_pages, block_pages}
 
 -- ---- lists by their places
 
@@ -33,6 +33,16 @@ kept rows k = items_at (items_at rows (k / row_pages)) (k % row_pages)
 -- how many bytes page k has room for
 abbrev pub room : List (Vec (Vec ℕ Global) Global) → ℕ → ℕ
 room rows k = room_at (items_at rows (k / row_pages)) (k % row_pages)
+
+-- ---- pages in blocks of rows
+
+-- the bytes that are kept of page k
+abbrev pub far : List (Vec (Vec (Vec ℕ Global) Global) Global) → ℕ → List ℕ
+far blocks k = kept (items_at blocks (k / block_pages)) (k % block_pages)
+
+-- how many bytes page k has room for
+abbrev pub far_room : List (Vec (Vec (Vec ℕ Global) Global) Global) → ℕ → ℕ
+far_room blocks k = room (items_at blocks (k / block_pages)) (k % block_pages)
 
 -- ---- pages by their places, each as the bytes that are kept of it
 

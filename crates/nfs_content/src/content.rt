@@ -5,7 +5,7 @@ ghost use Rattle.nfs_content.specs.Limits.{max_content};
 
 use std::alloc::AllocError;
 
-/// The bytes of a regular file, at most 16,777,216.
+/// The bytes of a regular file, at most 1,099,511,627,776.
 pub trait Content {
     /// The bytes.
     ghost bytes: { Self → List ℕ };

@@ -1,6 +1,7 @@
 //! The content of a regular file: bytes, whole or in pages.
 #![tactic(auto)]
 
+mod blocks;
 mod chunks;
 pub mod content;
 pub mod limits;

@@ -1,21 +1,27 @@
-//! The pages of a content: the first alone, or any in rows.
-ghost use Rattle.std.specs.Prelude.{◌≡◌, ◌+◌, ◌<◌, ◌≤◌, ◌∷◌, [], IfOk, OnErr, OnOk, length, take};
-ghost use Rattle.nfs_content.specs.Limits.{page_bytes};
-ghost use Rattle.nfs_content.specs.Paged.{items_at, kept, room, room_at, Keeps, MoreRoom, Puts, SameElsewhere, SamePages};
+//! The pages of a content: the first alone, those of the first block in rows, or any in blocks.
+ghost use Rattle.std.specs.Prelude.{◌≡◌, ◌+◌, ◌<◌, ◌≤◌, ◌∷◌, [], IfOk, OnErr, OnOk, length, take, vec_capacity};
+ghost use Rattle.nfs_content.specs.Limits.{block_rows, page_bytes};
+ghost use Rattle.nfs_content.specs.Paged.{far, far_room, items_at, kept, room, room_at, Keeps, MoreRoom, Puts, SameElsewhere, SamePages};
 ghost use Rattle.nfs_content.specs.Tables.{pages_of, room_of};
 
+use crate::blocks::{
+    Block, far_page_at, held_far, keep_far, make_far_room, put_in_far, shorten_far,
+};
+use crate::limits::{BLOCK_PAGES, BLOCK_ROWS};
 use crate::page::{put_into, widen};
 use crate::rows::{Row, held, keep, make_room, page_at, put_in, shorten};
 use std::alloc::{AllocError, Global};
 use std::mem::replace;
 
-/// Pages by their places. A content of one page needs no rows.
+/// Pages by their places. A content of one page needs no rows, and one of up to 1 GiB no blocks.
 #[derive(Drop)]
 pub(crate) enum PageTable {
     /// The first page.
     One(Vec<u8>),
-    /// Pages in rows.
+    /// Pages in the rows of one block.
     Rows(Vec<Row>),
+    /// Pages in blocks.
+    Blocks(Vec<Block>),
 }
 
 impl PageTable {
@@ -28,6 +34,7 @@ impl PageTable {
             PageTable::One(page) if place == 0 => page.as_slice(),
             PageTable::One(_) => &[],
             PageTable::Rows(rows) => page_at(rows.as_slice(), place),
+            PageTable::Blocks(blocks) => far_page_at(blocks.as_slice(), place),
         }
     }
 
@@ -44,16 +51,19 @@ impl PageTable {
         ensures room { MoreRoom (room_of self.old) (room_of self.new) }
     {
         match self {
-            PageTable::Rows(rows) => make_room(rows, alloc, place, size),
+            PageTable::One(page) if place == 0 => widen(page, size),
             PageTable::One(page) => {
-                if place == 0 {
-                    return widen(page, size);
-                }
-                let mut rows = in_rows(alloc, page)?;
-                let made = make_room(&mut rows, alloc, place, size);
-                *self = PageTable::Rows(rows);
+                let (table, made) = grown(alloc, in_rows(alloc, page)?, place, size);
+                *self = table;
                 made
             }
+            PageTable::Rows(rows) if place < BLOCK_PAGES => make_room(rows, alloc, place, size),
+            PageTable::Rows(rows) => {
+                let (table, made) = grown(alloc, replace(rows, Vec::new(alloc)), place, size);
+                *self = table;
+                made
+            }
+            PageTable::Blocks(blocks) => make_far_room(blocks, alloc, place, size),
         }
     }
 
@@ -68,6 +78,7 @@ impl PageTable {
         match self {
             PageTable::One(page) => put_into(page, at, bytes),
             PageTable::Rows(rows) => put_in(rows, place, at, bytes),
+            PageTable::Blocks(blocks) => put_in_far(blocks, place, at, bytes),
         }
     }
 
@@ -79,6 +90,7 @@ impl PageTable {
             PageTable::One(_) if count > 0 => {}
             PageTable::One(page) => page.truncate(0),
             PageTable::Rows(rows) => keep(rows, count),
+            PageTable::Blocks(blocks) => keep_far(blocks, count),
         }
     }
 
@@ -91,6 +103,7 @@ impl PageTable {
             PageTable::One(page) if place == 0 => page.truncate(len),
             PageTable::One(_) => {}
             PageTable::Rows(rows) => shorten(rows, place, len),
+            PageTable::Blocks(blocks) => shorten_far(blocks, place, len),
         }
     }
 
@@ -99,6 +112,7 @@ impl PageTable {
         match self {
             PageTable::One(page) => usize::from(!page.is_empty()),
             PageTable::Rows(rows) => held(rows.as_slice()),
+            PageTable::Blocks(blocks) => held_far(blocks.as_slice()),
         }
     }
 }
@@ -114,4 +128,45 @@ fn in_rows(alloc: Global, page: &mut Vec<u8>) -> Result<Vec<Row>, AllocError>
     row.push(replace(page, Vec::new(alloc))).unwrap();
     rows.push(row).unwrap();
     Ok(rows)
+}
+
+// Rows with room for so many bytes of a page. They become the first block where the page lies in
+// another; more rows than a block has, which nothing makes, stay rows. The room is refused without
+// memory; the pages are the same in any case.
+#[inline(never)]
+fn grown(
+    alloc: Global,
+    mut rows: Vec<Row>,
+    place: usize,
+    size: usize,
+) -> (PageTable, Result<(), AllocError>)
+    requires { size ≤ page_bytes }
+    ensures ok { OnOk result.1 (size ≤ room_of result.0 place) }
+    ensures same { SamePages (kept rows.items) (pages_of result.0) }
+    ensures room { MoreRoom (room rows.items) (room_of result.0) }
+{
+    if place < BLOCK_PAGES || rows.len() > BLOCK_ROWS {
+        let made = make_room(&mut rows, alloc, place, size);
+        return (PageTable::Rows(rows), made);
+    }
+    match Vec::with_capacity(alloc, 1) {
+        Ok(none) => {
+            let mut blocks = one_block(none, rows);
+            let made = make_far_room(&mut blocks, alloc, place, size);
+            (PageTable::Blocks(blocks), made)
+        }
+        Err(error) => (PageTable::Rows(rows), Err(error)),
+    }
+}
+
+// The rows as the first block, in a list that has room for it.
+fn one_block(mut blocks: Vec<Block>, rows: Block) -> Vec<Block>
+    requires none { blocks.items ≡ [] }
+    requires room { 0 < vec_capacity blocks }
+    requires few { length rows.items ≤ block_rows }
+    ensures same { SamePages (kept rows.items) (far result.items) }
+    ensures room { MoreRoom (room rows.items) (far_room result.items) }
+{
+    blocks.push(rows).unwrap();
+    blocks
 }

@@ -46,7 +46,7 @@ impl Pages {
         }
     }
 
-    /// These bytes, at most 16,777,216. Refused without memory.
+    /// These bytes, at most 1,099,511,627,776. Refused without memory.
     pub fn of(alloc: Global, mut bytes: Vec<u8>) -> Result<Pages, AllocError>
         requires { length bytes.items ≤ max_content }
         ensures { IfOk result (λ pages. pages ≡ bytes.items) }

@@ -18,9 +18,9 @@ pub(crate) fn page_at(rows: &[Row], place: usize) -> &[u8]
     list_at(list_at(rows, place / ROW_PAGES), place % ROW_PAGES)
 }
 
-// The list at a place, an empty one where there is no such place.
+/// The list at a place, an empty one where there is no such place.
 #[inline(always)]
-fn list_at<T>(lists: &[Vec<T>], place: usize) -> &[T]
+pub(crate) fn list_at<T>(lists: &[Vec<T>], place: usize) -> &[T]
     ensures { result.now ≡ items_at lists.now place }
 {
     match lists.get(place) {
@@ -56,16 +56,17 @@ fn make_room_in(row: &mut Row, alloc: Global, at: usize, size: usize) -> Result<
     widen(&mut row[at], size)
 }
 
-// There are so many lists, empty ones after those that were there.
-fn lengthen<T: Drop>(lists: &mut Vec<Vec<T>>, alloc: Global, count: usize) -> Result<(), AllocError>
+/// There are so many lists, empty ones after those that were there.
+pub(crate) fn lengthen<T: Drop>(
+    lists: &mut Vec<Vec<T>>,
+    alloc: Global,
+    count: usize,
+) -> Result<(), AllocError>
     ensures ok { OnOk result (count ≤ vec_len lists.new) }
     ensures same { Widens lists.old.items lists.new.items }
 {
     for place in lists.len()..count {
-        match lists.push(Vec::new(alloc)) {
-            Ok(()) => {}
-            Err(_) => return Err(AllocError),
-        }
+        lists.push(Vec::new(alloc))?;
     }
     Ok(())
 }

@@ -1,5 +1,5 @@
 -- The lines of files, by what is lent of them.
-use Rattle.std.proofs.Common.{◌≡◌, ℕ, ◌≤◌, List, [], ◌∷◌, length, Option, Some, None, option_map, refl, sym, ap, subst, ◌∙◌}
+use Rattle.std.proofs.Common.{◌≡◌, ℕ, ◌≤◌, List, [], ◌∷◌, length, Option, Some, None, option_map, refl, sym, ap, subst, ◌∙◌, arith}
 use Rattle.std.specs.Prelude.{if◌then◌else◌}
 use Rattle.nfs_attrs.specs.declared.fattr.Fattr.{Fattr}
 use Rattle.nfs_attrs.specs.declared.file_type.FileType.{FileType}
@@ -93,6 +93,9 @@ kind_lives : (o : Option File) (k : Kind) → kind_of o ≡ Some k → (f : File
 kind_lives None k e = absurd (none_is k e)
 kind_lives (Some f) k e = (f, refl, same f.kind k e)
 
+upto : (a b c : ℕ) → a ≤ b → b ≤ c → a ≤ c
+upto a b c one two = omega (arith, one, two)
+
 pub bytes_are_few : (t : Tree) (v : FileView) → Law t → IsSeen t v → length (bytes_seen v) ≤ max_file_bytes
 bytes_are_few t v law seen = let f = kind_lives (at v.attributes.fileid t.files) (kind_seen v) seen.1 in
-    subst (λ (k : Kind). length (bytes_in k) ≤ max_file_bytes) f.2 ((law.sound v.attributes.fileid f.0 f.1).bytes)
+    subst (λ (k : Kind). length (bytes_in k) ≤ max_file_bytes) f.2 (upto (length (bytes_in f.0.kind)) t.limits.file_size max_file_bytes (law.sound v.attributes.fileid f.0 f.1).bytes law.limits.file_size)

@@ -1,5 +1,5 @@
 -- Why a tree isn't described.
-use Rattle.std.specs.Prelude.{◌≡◌, ℕ, ◌<◌, ◌≤◌, List, ◌∷◌, length}
+use Rattle.std.specs.Prelude.{ℕ, ◌<◌, List, ◌∷◌, length}
 use Rattle.nfs_exports.specs.declared.export_table.Export.{Export}
 use Rattle.nfs_inodes.specs.Tree.{Tree}
 use Rattle.nfs_describe.specs.Places.{Skipped}

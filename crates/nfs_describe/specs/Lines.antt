@@ -8,6 +8,8 @@ use Rattle.nfs_exports.specs.declared.options.Squash.{Squash}
 use Rattle.nfs_exports.specs.declared.options.Squash.TheVariants.{No, Root, All}
 use Rattle.nfs_exports.specs.declared.pattern.Pattern.{Pattern}
 use Rattle.nfs_exports.specs.declared.export_table.Export.{Export}
+use Rattle.nfs_inodes.specs.declared.limits.Limits.{Limits}
+use Rattle.nfs_inodes.specs.Limits.{default_limits, max_path_bytes}
 use Rattle.nfs_load.specs.Listings.{octal}
 use Rattle.nfs_load.specs.declared.statement.Given.{Given}
 
@@ -46,6 +48,22 @@ options_text o = (if o.read_only then codes "ro" else codes "rw") ++ squash_text
 abbrev pub server_line : List ℕ → List ℕ
 server_line key = codes "server " ++ encode_lower key ++ codes "\n"
 
+-- a limit which is not its default
+abbrev pub limit_text : List ℕ → ℕ → ℕ → List ℕ
+limit_text name default n = if nat_eq n default then [] else name ++ decimal n
+
+abbrev pub limits_text : Limits → List ℕ
+limits_text l = limit_text (codes " file-size=") default_limits.file_size l.file_size ++ limit_text (codes " links=") default_limits.links l.links
+    ++ limit_text (codes " link-path=") default_limits.link_path l.link_path ++ limit_text (codes " files=") default_limits.files l.files
+
+abbrev pub line_of_limits : List ℕ → List ℕ
+line_of_limits [] = []
+line_of_limits (byte ∷ text) = codes "limits" ++ (byte ∷ text) ++ codes "\n"
+
+-- the limits that are not their defaults, or no line
+abbrev pub limits_line : Limits → List ℕ
+limits_line limits = line_of_limits (limits_text limits)
+
 abbrev pub volume_line : List ℕ → ℕ → ℕ → Given → List ℕ
 volume_line path max_bytes max_files given = codes "volume " ++ path ++ codes " " ++ decimal max_bytes ++ codes " " ++ decimal max_files ++ given_text given ++ codes "\n"
 
@@ -70,6 +88,6 @@ hard_line path old = codes "hard " ++ path ++ codes " " ++ old ++ codes "\n"
 abbrev pub is_shown : ℕ → Bool
 is_shown byte = nat_le 33 byte && nat_le byte 126
 
--- what a symbolic link may hold: 1 to 1,024 such bytes
+-- what a symbolic link may hold: such bytes, at least one, and at most as many as a tree may take
 abbrev pub is_target : List ℕ → Bool
-is_target target = (nat_lt 0 (length target) && nat_le (length target) 1024) && list_all is_shown target
+is_target target = (nat_lt 0 (length target) && nat_le (length target) max_path_bytes) && list_all is_shown target

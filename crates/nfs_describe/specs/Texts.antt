@@ -12,7 +12,7 @@ use Rattle.nfs_inodes.specs.Tree.{Tree, Kind, Volume, Regular, Directory, Link, 
 use Rattle.nfs_inodes.specs.Reading.{attributes_at, attributes_of, is_directory_type}
 use Rattle.nfs_inodes.specs.Views.{FileView, bytes_seen}
 use Rattle.nfs_load.specs.declared.statement.Given.{Given}
-use Rattle.nfs_describe.specs.Lines.{server_line, volume_line, export_line, dir_line, file_line, link_line, hard_line}
+use Rattle.nfs_describe.specs.Lines.{server_line, limits_line, volume_line, export_line, dir_line, file_line, link_line, hard_line}
 use Rattle.nfs_describe.specs.Places.{FilePath, Skipped, IsSayableWalk, IsWalk, are_sayable, skipped_below}
 
 abbrev pub given_of : Fattr → Given
@@ -74,9 +74,9 @@ pub record IsVolumeText (t : Tree) (table : List (List Export)) (place : ℕ) (t
   pub sayable : are_sayable walk ≡ true
   pub text_is : text ≡ volume_text t table place volume walk
 
--- the server's line, and the texts of the first n volumes
+-- the server's line, that of the limits, and the texts of the first n volumes
 abbrev pub SaysTo : Tree → List (List Export) → ℕ → List ℕ → Type 0
-SaysTo t table zero text = text ≡ server_line t.key
+SaysTo t table zero text = text ≡ server_line t.key ++ limits_line t.limits
 SaysTo t table (suc n) text = (before part : List ℕ) × SaysTo t table n before × IsVolumeText t table n part × (text ≡ before ++ part)
 
 -- The text describes the tree with these exports.
@@ -94,9 +94,9 @@ pub record IsSayableText (t : Tree) (table : List (List Export)) (place : ℕ) (
   pub skipped_are : skipped ≡ flat_map (skipped_below t place) walk
   pub text_is : text ≡ volume_text t table place volume walk
 
--- the server's line with a key, and the texts of the first n volumes, with what they skip
+-- the server's line with a key, that of the limits, and the texts of the first n volumes, with what they skip
 abbrev pub SaysSayableTo : Tree → List (List Export) → List ℕ → ℕ → List Skipped → List ℕ → Type 0
-SaysSayableTo t table key zero skipped text = (text ≡ server_line key) × (skipped ≡ [])
+SaysSayableTo t table key zero skipped text = (text ≡ server_line key ++ limits_line t.limits) × (skipped ≡ [])
 SaysSayableTo t table key (suc n) skipped text = (before part : List ℕ) × (others more : List Skipped) × SaysSayableTo t table key n others before
     × IsSayableText t table n more part × (text ≡ before ++ part) × (skipped ≡ others ++ more)
 

@@ -12,7 +12,7 @@ ghost use Rattle.nfs_inodes.specs.Views.{volume_seen};
 use crate::export_line::put_export;
 use crate::fault::DescribeFault;
 use crate::files::{given_of, put_files};
-use crate::lines::{put_server, put_volume_line};
+use crate::lines::{put_head, put_volume_line};
 use crate::skipped::Skipped;
 use crate::walk::walk;
 use nfs_exports::export_table::{Export, ExportTable};
@@ -34,8 +34,9 @@ pub struct Described {
     pub skipped: Vec<Skipped>,
 }
 
-/// The description of a tree with its exports: the key, and each volume with its limits, its exports
-/// and its files, directory by directory, each by its first name and then `hard` for the others.
+/// The description of a tree with its exports: the key, the limits that are not the defaults, and each
+/// volume with its limits, its exports and its files, directory by directory, each by its first name and
+/// then `hard` for the others.
 /// Times are not described, and neither are the mode of a link and the numbers of files.
 ///
 /// `Unsayable` for the first path that a description can't hold, or for the first of a link that
@@ -72,7 +73,7 @@ pub fn describe_sayable(
         text: Vec::new(alloc),
         skipped: Vec::new(alloc),
     };
-    put_server(alloc, &mut described.text, key)?;
+    put_head(alloc, &mut described.text, key, tree.limits())?;
     for place in 0..tree.volumes() {
         put_volume(alloc, tree, table, place, &mut described)?;
     }
@@ -112,7 +113,15 @@ fn put_root(tree: &Tree, volume: &VolumeView<'_>, text: &mut Vec<u8>) -> Result<
         ++ root_text (volume_seen volume.now) (attributes_at tree.now volume.now.root.0)) }
 {
     match tree.attributes(volume.root) {
-        Some(root) => put_volume_line(text, volume, given_of(&root)),
+        Some(root) => {
+            let VolumeView {
+                path,
+                max_bytes,
+                max_files,
+                ..
+            } = *volume;
+            put_volume_line(text, path, max_bytes, max_files, given_of(&root))
+        }
         None => Ok(()),
     }
 }

@@ -6,7 +6,7 @@ mod export_line;
 pub mod fault;
 pub mod file_path;
 mod files;
-mod lines;
+pub mod lines;
 mod numbers;
 pub mod sayable;
 pub mod skipped;

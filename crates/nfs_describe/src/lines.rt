@@ -1,18 +1,19 @@
 //! The lines of a description, put at the end of its text.
-ghost use Rattle.std.specs.Prelude.{◌≡◌, ◌≤◌, ◌++◌, OnOk, length};
+ghost use Rattle.std.specs.Prelude.{◌≡◌, ◌≤◌, ◌+◌, ◌++◌, OnOk, length};
+ghost use Rattle.arrayvec.specs.ArrayVec.{array_vec_len};
 ghost use Rattle.nfs_inodes.specs.Limits.{max_file_bytes};
 ghost use Rattle.nfs_inodes.specs.Views.{bytes_seen};
-ghost use Rattle.nfs_describe.specs.Lines.{content_text, dir_line, file_line, hard_line, link_line, server_line, volume_line};
+ghost use Rattle.nfs_describe.specs.Lines.{content_text, dir_line, file_line, hard_line, limit_text, limits_line, limits_text, line_of_limits, link_line, server_line, volume_line};
 
 use crate::numbers::put_given;
+use nfs_inodes::limits::Limits;
 use nfs_inodes::view::FileView;
-use nfs_inodes::volumes::VolumeView;
 use nfs_load::statement::Given;
 use nfs_text::line::{Line, put, put_number};
 use std::alloc::{AllocError, Global};
 
-/// The line of the server's key.
-pub(crate) fn put_server(alloc: Global, text: &mut Vec<u8>, key: [u8; 8]) -> Result<(), AllocError>
+// The line of the server's key.
+fn put_server(alloc: Global, text: &mut Vec<u8>, key: [u8; 8]) -> Result<(), AllocError>
     ensures { OnOk result (text.new.items ≡ text.old.items ++ server_line key) }
 {
     let digits = hex::encode(alloc, key.as_slice())?;
@@ -22,21 +23,93 @@ pub(crate) fn put_server(alloc: Global, text: &mut Vec<u8>, key: [u8; 8]) -> Res
     Ok(())
 }
 
-/// The line of a volume, with what is given of its root.
-pub(crate) fn put_volume_line(
+/// The line of the server's key, and that of the limits that are not their defaults.
+pub fn put_head(
+    alloc: Global,
     text: &mut Vec<u8>,
-    volume: &VolumeView<'_>,
-    given: Given,
+    key: [u8; 8],
+    limits: Limits,
 ) -> Result<(), AllocError>
-    ensures { OnOk result (text.new.items ≡ text.old.items ++
-        volume_line volume.now.path.now volume.now.max_bytes volume.now.max_files given) }
+    ensures { OnOk result (text.new.items ≡ text.old.items ++ (server_line key ++ limits_line limits)) }
+{
+    put_server(alloc, text, key)?;
+    put_limits(text, limits)
+}
+
+// The line of the limits that are not their defaults; none where all are.
+fn put_limits(text: &mut Vec<u8>, limits: Limits) -> Result<(), AllocError>
+    ensures { OnOk result (text.new.items ≡ text.old.items ++ limits_line limits) }
 {
     let mut line = Line::new();
-    put_number(&mut line, b" ", volume.max_bytes);
-    put_number(&mut line, b" ", volume.max_files);
+    put_limit_fields(&mut line, limits);
+    put_line_of_limits(text, line.as_slice())
+}
+
+fn put_limit_fields(line: &mut Line, limits: Limits)
+    ensures { line.new.items ≡ limits_text limits }
+{
+    let default = Limits::standard();
+    line.clear();
+    put_limit(
+        line,
+        b" file-size=",
+        default.file_size as u64,
+        limits.file_size as u64,
+    );
+    put_limit(
+        line,
+        b" links=",
+        u64::from(default.links),
+        u64::from(limits.links),
+    );
+    put_limit(
+        line,
+        b" link-path=",
+        default.link_path as u64,
+        limits.link_path as u64,
+    );
+    put_limit(line, b" files=", default.files, limits.files);
+}
+
+fn put_line_of_limits(text: &mut Vec<u8>, limits: &[u8]) -> Result<(), AllocError>
+    ensures { OnOk result (text.new.items ≡ text.old.items ++ line_of_limits limits.now) }
+{
+    if limits.is_empty() {
+        return Ok(());
+    }
+    text.extend_from_slice(b"limits")?;
+    text.extend_from_slice(limits)?;
+    text.push(b'\n')?;
+    Ok(())
+}
+
+// A limit, unless it is its default.
+fn put_limit(line: &mut Line, name: &[u8], default: u64, number: u64)
+    requires { array_vec_len line.old + length name.now + 20 ≤ 1024 }
+    ensures items { line.new.items ≡ line.old.items ++ limit_text name.now default number }
+    ensures len { array_vec_len line.new ≤ array_vec_len line.old + length name.now + 20 }
+{
+    if number != default {
+        put_number(line, name, number);
+    }
+}
+
+/// The line of a volume, with what is given of its root.
+pub fn put_volume_line(
+    text: &mut Vec<u8>,
+    path: &[u8],
+    max_bytes: u64,
+    max_files: u64,
+    given: Given,
+) -> Result<(), AllocError>
+    ensures { OnOk result (text.new.items ≡ text.old.items ++ volume_line path.now max_bytes max_files given) }
+{
+    let mut line = Line::new();
+    put_number(&mut line, b" ", max_bytes);
+    put_number(&mut line, b" ", max_files);
     put_given(&mut line, given);
     put(&mut line, b"\n");
-    put_words(text, b"volume ", volume.path, line.as_slice())
+    put_words(text, b"volume ", path, line.as_slice())
 }
 
 /// The line of a directory.

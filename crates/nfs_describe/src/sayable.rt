@@ -6,6 +6,7 @@ ghost use Rattle.nfs_describe.specs.Lines as spec;
 ghost use Rattle.nfs_describe.specs.Lines.{is_shown};
 ghost use Rattle.nfs_describe.specs.Places.{is_sayable};
 
+use nfs_inodes::limits::MAX_PATH_BYTES as MAX_TARGET_BYTES;
 use nfs_load::limits::MAX_PATH_BYTES;
 
 /// Whether a path of lawful names can stand in a line: at most 1,024 bytes from `!` to `~`, none
@@ -16,11 +17,12 @@ pub fn is_sayable(path: &[u8]) -> bool
     path.len() <= MAX_PATH_BYTES && are_plain(path)
 }
 
-/// Whether a link's path can stand in a line: 1 to 1,024 bytes from `!` to `~`.
+/// Whether a link's path can stand in a line: bytes from `!` to `~`, at least one, and at most as many
+/// as a tree may take.
 pub fn is_target(target: &[u8]) -> bool
     ensures { result ≡ spec.is_target target.now }
 {
-    !target.is_empty() && target.len() <= MAX_PATH_BYTES && are_shown(target)
+    !target.is_empty() && target.len() <= MAX_TARGET_BYTES && are_shown(target)
 }
 
 fn are_plain(text: &[u8]) -> bool

@@ -83,7 +83,7 @@ rise_of (x ∷ xs) pairs = ((λ k d less. (pairs 0 (suc k) d (omega arith) (omeg
 listed : (t : Tree) → Law t → (d : ℕ) (P : List Entry → Type 0) → P [] → ((parent next : ℕ) (entries : List Entry) → Above 2 entries → Rise entries → P (listing d (Directory parent next entries))) → P (listing_at t d)
 listed t law d P none some = by_file (at d t.files) refl
   where
-    by_kind : (f : File) → IsSound f → (k : Kind) → f.kind ≡ k → P (listing d k)
+    by_kind : (f : File) → IsSound t.limits f → (k : Kind) → f.kind ≡ k → P (listing d k)
     by_kind f sound (Regular bytes) e = none
     by_kind f sound (Link path) e = none
     by_kind f sound (Directory parent next entries) e =

@@ -1,14 +1,15 @@
 //! The tree that has what was found on disk.
 
+use crate::content::{CHUNK_BYTES, ContentFault, content_of};
 use crate::fault::DiskFault;
-use crate::found::{Found, Kind};
-use crate::survey::Survey;
+use crate::found::{Found, Kind, Times};
+use crate::survey::{Purpose, Survey};
 use crate::warning::{SkipReason, Warning};
 use nfs_attrs::moment::Moment;
-use nfs_content::pages::Pages;
+use nfs_content::content::Content;
 use nfs_describe::sayable::is_target;
 use nfs_handles::number::Number;
-use nfs_inodes::limits::MAX_FILE_BYTES;
+use nfs_inodes::given_attributes::GivenAttributes;
 use nfs_inodes::new_file::{NewContent, NewFile};
 use nfs_inodes::tree::Tree;
 use nfs_load::statement::Given;
@@ -32,9 +33,13 @@ pub fn build<R: Files + AllocGlobal>(
     root: Number,
 ) -> Result<(), DiskFault> {
     let alloc = rt.alloc();
+    let mut chunk = Vec::new(alloc);
+    chunk.resize(CHUNK_BYTES, 0)?;
     let mut builder = Builder {
         alloc,
         tree,
+        chunk,
+        purpose: survey.purpose,
         made: Vec::new(alloc),
         first_names: BTreeMap::new(alloc),
         warnings: Vec::new(alloc),
@@ -42,6 +47,9 @@ pub fn build<R: Files + AllocGlobal>(
     builder.made.push(Some(root))?;
     for found in survey.found.iter().skip(1) {
         builder.add(rt, found)?;
+    }
+    if survey.purpose == Purpose::Serving {
+        builder.set_times(survey.found.as_slice());
     }
     let Builder { mut warnings, .. } = builder;
     survey.warnings.append(&mut warnings)?;
@@ -53,6 +61,9 @@ pub fn build<R: Files + AllocGlobal>(
 struct Builder<'a> {
     alloc: Global,
     tree: &'a mut Tree,
+    purpose: Purpose,
+    // What files are read through.
+    chunk: Vec<u8>,
     // The number of each that was found, where it was made.
     made: Vec<Option<Number>>,
     // The number of each file that has hard links, by its device and number on disk.
@@ -107,6 +118,15 @@ impl Builder<'_> {
         Ok(made)
     }
 
+    // Gives each file that was made its times, once nothing more comes into its directory.
+    fn set_times(&mut self, all: &[Found]) {
+        for (found, made) in all.iter().zip(self.made.iter()) {
+            if let Some(number) = *made {
+                set_times(self.tree, number, found.times);
+            }
+        }
+    }
+
     fn mkdir(
         &mut self,
         dir: Number,
@@ -140,17 +160,19 @@ impl Builder<'_> {
         name: &[u8],
         found: &Found,
     ) -> Result<Result<Number, SkipReason>, DiskFault> {
-        let Ok(content) = fs::read(rt, found.disk_path.as_str()) else {
-            return Ok(Err(SkipReason::Unreadable));
+        self.tree.law();
+        let most = self.tree.limits().file_size;
+        let path = found.disk_path.as_str();
+        let pages = match content_of(rt, self.alloc, self.chunk.as_mut_slice(), path, most) {
+            Ok(pages) => pages,
+            Err(ContentFault::Skipped(reason)) => return Ok(Err(reason)),
+            Err(ContentFault::Memory) => return Err(DiskFault::Memory),
         };
-        if content.len() > MAX_FILE_BYTES {
-            return Ok(Err(SkipReason::TooLarge));
-        }
-        if !self.tree.may_make(dir, name, content.len()) {
+        if !self.tree.may_make(dir, name, pages.len()) {
             return Ok(Err(SkipReason::Full));
         }
         let content = NewContent {
-            pages: Pages::of(self.alloc, content)?,
+            pages,
             verifier: None,
         };
         let given = new_file(found.given);
@@ -172,7 +194,7 @@ impl Builder<'_> {
             return Ok(Err(SkipReason::Unreadable));
         };
         let target = target.to_string_lossy().as_bytes();
-        if !is_target(target) {
+        if self.purpose == Purpose::Describing && !is_target(target) {
             return Ok(Err(SkipReason::Target));
         }
         if !self.tree.may_make_link(dir, name, target) {
@@ -181,6 +203,21 @@ impl Builder<'_> {
         let given = new_file(found.given);
         Ok(Ok(self.tree.make_link(dir, name, target, &given, START)?))
     }
+}
+
+// The times of a file that lives.
+fn set_times(tree: &mut Tree, number: Number, times: Times) {
+    if tree.attributes(number).is_none() {
+        return;
+    }
+    let given = GivenAttributes {
+        mode: None,
+        uid: None,
+        gid: None,
+        atime: Some(times.atime),
+        mtime: Some(times.mtime),
+    };
+    tree.set(number, &given, times.ctime);
 }
 
 // What stands after a path's last slash.

@@ -1,5 +1,8 @@
 //! What stands in a directory on disk.
+ghost use Rattle.std.specs.Prelude.{◌≡◌};
+ghost use Rattle.nfs_disk.specs.Surveys as spec;
 
+use nfs_attrs::moment::Moment;
 use nfs_load::statement::Given;
 use std::fs::Metadata;
 use std::os::unix::fs::MetadataExt;
@@ -28,12 +31,32 @@ pub struct Found {
     pub kind: Kind,
     /// Its mode, owner and group.
     pub given: Given,
+    /// When it was used and changed.
+    pub times: Times,
     /// How many bytes it has.
     pub size: u64,
     /// The device and the number that distinguish it from all other files.
     pub identity: (u64, u64),
     /// How many names it has.
     pub names: u64,
+}
+
+/// The times of a file (RFC 1813, section 2.6).
+#[derive(Clone, Copy, Debug, PartialEq, Eq)]
+pub struct Times {
+    /// When it was read last.
+    pub atime: Moment,
+    /// When it was written last.
+    pub mtime: Moment,
+    /// When its attributes changed last.
+    pub ctime: Moment,
+}
+
+/// How many bytes it has if it is of a kind, else none.
+pub(crate) fn size_of(one: &Found, kind: Kind) -> u64
+    ensures { result ≡ spec.size_of kind one.now }
+{
+    if one.kind == kind { one.size } else { 0 }
 }
 
 // The bits of a mode that a description has.
@@ -58,5 +81,22 @@ pub(crate) fn given_of(metadata: &Metadata) -> Given {
         mode: metadata.mode() & MODE_BITS,
         uid: metadata.uid(),
         gid: metadata.gid(),
+    }
+}
+
+/// When a file was used and changed. Seconds before 1970 are 0, and those after 2106 the last there are.
+pub(crate) fn times_of(metadata: &Metadata) -> Times {
+    Times {
+        atime: moment_of(metadata.atime(), metadata.atime_nsec()),
+        mtime: moment_of(metadata.mtime(), metadata.mtime_nsec()),
+        ctime: moment_of(metadata.ctime(), metadata.ctime_nsec()),
+    }
+}
+
+// The time so many seconds and nanoseconds after 1970.
+fn moment_of(seconds: i64, nanos: i64) -> Moment {
+    Moment {
+        seconds: u32::try_from(seconds.max(0)).unwrap_or(u32::MAX),
+        nanos: u32::try_from(nanos).unwrap_or(0),
     }
 }

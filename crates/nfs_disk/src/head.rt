@@ -1,7 +1,15 @@
-//! The first lines of a description: its key, its volume, and to whom that is exported.
+//! The first lines of a description: its key, the limits that are not the defaults, its volume, and to
+//! whom that is exported.
+ghost use Rattle.std.specs.Prelude.{◌≡◌, ◌++◌, ◌-◌, ◌<◌, ◌^◌, IfOk, OnOk};
+ghost use Rattle.std.specs.List.{flat_map};
+ghost use Rattle.nfs_disk.specs.Heads as spec;
+ghost use Rattle.nfs_disk.specs.Heads.{IsHead, export_line, root_given, word_text};
 
+use crate::found::Found;
+use crate::needs::limits_for;
 use crate::survey::Survey;
-use nfs_load::limits::{MAX_FILES, MAX_VOLUME_BYTES};
+use nfs_describe::lines::{put_head, put_volume_line};
+use nfs_inodes::limits::{MAX_FILES, MAX_VOLUME_BYTES};
 use nfs_load::statement::Given;
 use nfs_text::chunks::cut;
 use std::alloc::{AllocError, Global};
@@ -15,7 +23,7 @@ const LEAST_FILES: u64 = 100_000;
 #[derive(Clone, Copy)]
 pub struct Head<'a> {
     /// The server's key.
-    pub key: &'a str,
+    pub key: [u8; 8],
     /// The path of the volume.
     pub mount: &'a str,
     /// The most bytes, if not twice those that were found.
@@ -28,31 +36,38 @@ pub struct Head<'a> {
 
 /// The first lines of the description of what was found. A word with a byte outside `!` to `~`
 /// stands as `%`, which no field of theirs takes.
-pub fn head_of(alloc: Global, head: &Head<'_>, survey: &Survey) -> Result<Vec<u8>, AllocError> {
+pub fn head_of(alloc: Global, head: &Head<'_>, survey: &Survey) -> Result<Vec<u8>, AllocError>
+    ensures { IfOk result (λ text. IsHead head.now survey.now.found.items text.items) }
+{
     let extent = survey.extent();
-    let bytes = extent
-        .bytes
-        .saturating_mul(2)
-        .clamp(LEAST_BYTES, MAX_VOLUME_BYTES);
-    let files = extent.files.saturating_mul(2).clamp(LEAST_FILES, MAX_FILES);
+    let bytes = or_twice(head.bytes, LEAST_BYTES, extent.bytes, MAX_VOLUME_BYTES);
+    let files = or_twice(head.files, LEAST_FILES, extent.files, MAX_FILES);
+    let found = survey.found.as_slice();
+    let limits = limits_for(alloc, found, files)?;
     let mut text = Vec::new(alloc);
-    text.extend_from_slice(b"server ")?;
-    put_word(&mut text, head.key.as_bytes())?;
-    text.extend_from_slice(b"\nvolume ")?;
-    put_word(&mut text, head.mount.as_bytes())?;
-    let (bytes, files) = (head.bytes.unwrap_or(bytes), head.files.unwrap_or(files));
-    let Given { mode, uid, gid } = root_of(survey);
-    let rest = format!(in alloc; " {bytes} {files} {mode:04o} {uid} {gid}\n")?;
-    text.extend_from_slice(rest.as_bytes())?;
-    for export in head.exports {
-        put_export(&mut text, export.as_bytes())?;
-    }
+    put_head(alloc, &mut text, head.key, limits)?;
+    let mount = word_of(head.mount.as_bytes());
+    put_volume_line(&mut text, mount, bytes, files, root_of(found))?;
+    put_exports(&mut text, head.exports)?;
     Ok(text)
 }
 
+// The number that is given, or twice the one that was found.
+fn or_twice(given: Option<u64>, least: u64, found: u64, most: u64) -> u64
+    requires { most < 2 ^ 64 - 1 }
+    ensures { result ≡ spec.or_twice given least found most }
+{
+    match given {
+        Some(number) => number,
+        None => found.saturating_mul(2).max(least).min(most),
+    }
+}
+
 // The mode, owner and group of the directory that everything else is below.
-fn root_of(survey: &Survey) -> Given {
-    match survey.found.first() {
+fn root_of(found: &[Found]) -> Given
+    ensures { result ≡ root_given found.now }
+{
+    match found.first() {
         Some(root) => root.given,
         None => Given {
             mode: 0o755,
@@ -62,31 +77,46 @@ fn root_of(survey: &Survey) -> Given {
     }
 }
 
+// The lines of the exports.
+fn put_exports(text: &mut Vec<u8>, exports: &[&str]) -> Result<(), AllocError>
+    ensures { OnOk result (text.new.items ≡ text.old.items ++ flat_map (λ word. export_line word.now) exports.now) }
+{
+    for export in exports {
+        put_export(text, export.as_bytes())?;
+    }
+    Ok(())
+}
+
 // The line of an export.
-fn put_export(text: &mut Vec<u8>, export: &[u8]) -> Result<(), AllocError> {
+fn put_export(text: &mut Vec<u8>, export: &[u8]) -> Result<(), AllocError>
+    ensures { OnOk result (text.new.items ≡ text.old.items ++ export_line export.now) }
+{
     text.extend_from_slice(b"export ")?;
     match cut(export, b'=') {
         (pattern, Some(options)) => {
-            put_word(text, pattern)?;
+            text.extend_from_slice(word_of(pattern))?;
             text.extend_from_slice(b" ")?;
-            put_word(text, options)?;
+            text.extend_from_slice(word_of(options))?;
+            text.extend_from_slice(b"\n")
         }
-        (pattern, None) => put_word(text, pattern)?,
+        (pattern, None) => {
+            text.extend_from_slice(word_of(pattern))?;
+            text.extend_from_slice(b"\n")
+        }
     }
-    text.extend_from_slice(b"\n")
 }
 
 // A word, or `%` in place of one that would be none or several.
-fn put_word(text: &mut Vec<u8>, word: &[u8]) -> Result<(), AllocError> {
-    if is_word(word) {
-        text.extend_from_slice(word)
-    } else {
-        text.extend_from_slice(b"%")
-    }
+fn word_of(text: &[u8]) -> &[u8]
+    ensures { result.now ≡ word_text text.entry.now }
+{
+    if is_word(text) { text } else { b"%" }
 }
 
 // Whether a text is one word of a line.
-fn is_word(text: &[u8]) -> bool {
+fn is_word(text: &[u8]) -> bool
+    ensures { result ≡ spec.is_word text.now }
+{
     for byte in text {
         if !byte.is_ascii_graphic() {
             return false;

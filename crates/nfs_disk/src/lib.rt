@@ -2,8 +2,10 @@
 #![tactic(auto)]
 
 pub mod building;
+mod content;
 pub mod fault;
 pub mod found;
 pub mod head;
+pub mod needs;
 pub mod survey;
 pub mod warning;

@@ -1,19 +1,34 @@
 //! A walk over a directory on disk.
+ghost use Rattle.std.specs.Prelude.{◌≡◌, count_by, map};
+ghost use Rattle.nfs_disk.specs.Surveys as spec;
+ghost use Rattle.nfs_disk.specs.Surveys.{extent_of, is_because, owned_by};
+ghost use Rattle.nfs_disk.specs.declared.warning.Warning.{Warning};
 
 use crate::fault::DiskFault;
-use crate::found::{Found, Kind, given_of, kind_of};
+use crate::found::{Found, Kind, given_of, kind_of, size_of, times_of};
+use crate::needs::MAX_SIZE;
 use crate::warning::{SkipReason, Warning};
 use nfs_describe::sayable::is_sayable;
-use nfs_inodes::limits::MAX_FILE_BYTES;
 use std::alloc::Global;
 use std::fs::{self, Metadata};
 use std::io;
 use std::os::unix::fs::MetadataExt;
 use std::rt::Files;
 
+/// What a directory on disk is read for.
+#[derive(Clone, Copy, Debug, PartialEq, Eq)]
+pub enum Purpose {
+    /// A description: what it can't hold is skipped.
+    Describing,
+    /// A volume that is served as it is.
+    Serving,
+}
+
 /// What a directory on disk holds, with what is skipped of it.
 #[derive(Drop)]
 pub struct Survey {
+    /// What it is for.
+    pub purpose: Purpose,
     /// The directory itself, then what stands in it, then what stands in each directory of these,
     /// and so on, each time in the order of names.
     pub found: Vec<Found>,
@@ -33,9 +48,14 @@ pub struct Extent {
 impl Survey {
     /// A survey of a directory on disk, whose links are not followed. `CannotRead` where it is none
     /// or can't be read, `Memory`.
-    pub fn of<R: Files + AllocGlobal>(rt: &R, directory: &str) -> Result<Survey, DiskFault> {
+    pub fn of<R: Files + AllocGlobal>(
+        rt: &R,
+        directory: &str,
+        purpose: Purpose,
+    ) -> Result<Survey, DiskFault> {
         let alloc = rt.alloc();
         let mut survey = Survey {
+            purpose,
             found: Vec::new(alloc),
             warnings: Vec::new(alloc),
         };
@@ -54,15 +74,38 @@ impl Survey {
     }
 
     /// How much was found.
-    pub fn extent(&self) -> Extent {
-        let mut extent = Extent { bytes: 0, files: 0 };
+    pub fn extent(&self) -> Extent
+        ensures { result ≡ extent_of self.now.found.items }
+    {
+        let mut bytes = 0u64;
         for found in &self.found {
-            extent.files = extent.files.saturating_add(1);
-            if found.kind == Kind::Regular {
-                extent.bytes = extent.bytes.saturating_add(found.size);
-            }
+            bytes = bytes.saturating_add(size_of(found, Kind::Regular));
         }
-        extent
+        Extent {
+            bytes,
+            files: self.found.len() as u64,
+        }
+    }
+
+    /// Gives all that was found this owner and group.
+    pub fn chown(&mut self, uid: u32, gid: u32)
+        ensures found { self.new.found.items ≡ map (owned_by uid gid) self.old.found.items }
+        ensures warnings { self.new.warnings ≡ self.old.warnings }
+    {
+        for found in self.found.iter_mut() {
+            found.given.uid = uid;
+            found.given.gid = gid;
+        }
+    }
+
+    /// How many were skipped for this reason.
+    pub fn skipped(&self, reason: SkipReason) -> usize
+        ensures { result ≡ count_by (λ (w : Warning). is_because reason w.reason) self.now.warnings.items }
+    {
+        self.warnings
+            .iter()
+            .filter(|warning| is_because(reason, warning.reason))
+            .count()
     }
 
     // The directory that everything else is below.
@@ -118,7 +161,7 @@ impl Survey {
         let Ok(metadata) = fs::symlink_metadata(rt, disk_path.as_str()) else {
             return self.leave_out(alloc, disk_path.as_str(), SkipReason::Unreadable);
         };
-        match kind_to_say(&metadata, path.as_str()) {
+        match kind_for(self.purpose, &metadata, path.as_str()) {
             Ok(kind) => {
                 let found = found_at(parent, disk_path, path, kind, &metadata);
                 self.found.push(found)?;
@@ -143,15 +186,28 @@ impl Survey {
     }
 }
 
+// Whether something is skipped for a reason.
+fn is_because(reason: SkipReason, found: SkipReason) -> bool
+    ensures { result ≡ spec.is_because reason found }
+{
+    reason == found
+}
+
 // What kind of file stands at a path, or why it is skipped.
-fn kind_to_say(metadata: &Metadata, path: &str) -> Result<Kind, SkipReason> {
-    let Some(kind) = kind_of(metadata) else {
-        return Err(SkipReason::OtherKind);
-    };
+fn kind_for(purpose: Purpose, metadata: &Metadata, path: &str) -> Result<Kind, SkipReason> {
+    match kind_of(metadata) {
+        Some(kind) if purpose == Purpose::Describing => kind_to_say(kind, metadata.len(), path),
+        Some(kind) => Ok(kind),
+        None => Err(SkipReason::OtherKind),
+    }
+}
+
+// The same of a file that a description has to hold.
+fn kind_to_say(kind: Kind, size: u64, path: &str) -> Result<Kind, SkipReason> {
     if !is_sayable(path.as_bytes()) {
         return Err(SkipReason::Unsayable);
     }
-    if kind == Kind::Regular && metadata.len() > MAX_FILE_BYTES as u64 {
+    if kind == Kind::Regular && size > MAX_SIZE as u64 {
         return Err(SkipReason::TooLarge);
     }
     Ok(kind)
@@ -170,6 +226,7 @@ fn found_at(
         path,
         kind,
         given: given_of(metadata),
+        times: times_of(metadata),
         size: metadata.len(),
         identity: (metadata.dev(), metadata.ino()),
         names: metadata.nlink(),

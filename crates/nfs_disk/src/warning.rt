@@ -1,16 +1,19 @@
 //! What is skipped of a description, and why.
 
+use crate::needs::MAX_SIZE;
 use std::fmt;
 
 /// Why something on disk is skipped.
-#[derive(Clone, Copy, Debug)]
+#[derive(Clone, Copy, Debug, PartialEq, Eq)]
 pub enum SkipReason {
     /// It is no directory, no regular file and no symbolic link.
     OtherKind,
     /// Its name has a space, a `%` or a byte outside `!` to `~`, or its path is too long.
     Unsayable,
-    /// It has more than 16 MiB.
+    /// It has more than [`MAX_SIZE`] bytes.
     TooLarge,
+    /// It has more bytes than when it was found.
+    Grown,
     /// The system doesn't let it be read.
     Unreadable,
     /// What the link holds is empty, too long, or has a space or a byte outside `!` to `~`.
@@ -21,17 +24,36 @@ pub enum SkipReason {
     NotText,
 }
 
+impl SkipReason {
+    /// Each reason once.
+    pub const ALL: [SkipReason; 8] = [
+        SkipReason::OtherKind,
+        SkipReason::Unsayable,
+        SkipReason::TooLarge,
+        SkipReason::Grown,
+        SkipReason::Unreadable,
+        SkipReason::Target,
+        SkipReason::Full,
+        SkipReason::NotText,
+    ];
+}
+
 impl fmt::Display for SkipReason {
     fn fmt<W: fmt::Write>(&self, f: &mut fmt::Formatter<W>) -> fmt::Result {
-        f.write_str(match self {
-            SkipReason::OtherKind => "a device, a socket or a pipe",
-            SkipReason::Unsayable => "a description can't hold the name, or the path is too long",
-            SkipReason::TooLarge => "more than 16777216 bytes",
-            SkipReason::Unreadable => "it can't be read",
-            SkipReason::Target => "a description can't hold what the link holds",
-            SkipReason::Full => "a limit of the directory, of the volume or of the file is reached",
-            SkipReason::NotText => "a name in it is not UTF-8",
-        })
+        match self {
+            SkipReason::OtherKind => f.write_str("a device, a socket or a pipe"),
+            SkipReason::Unsayable => {
+                f.write_str("a description can't hold the name, or the path is too long")
+            }
+            SkipReason::TooLarge => write!(f, "more than {MAX_SIZE} bytes"),
+            SkipReason::Grown => f.write_str("it has grown while the directory was read"),
+            SkipReason::Unreadable => f.write_str("it can't be read"),
+            SkipReason::Target => f.write_str("a description can't hold what the link holds"),
+            SkipReason::Full => {
+                f.write_str("a limit of the directory, of the volume or of the file is reached")
+            }
+            SkipReason::NotText => f.write_str("a name in it is not UTF-8"),
+        }
     }
 }
 
@@ -46,7 +68,28 @@ pub struct Warning {
 
 impl fmt::Display for Warning {
     fn fmt<W: fmt::Write>(&self, f: &mut fmt::Formatter<W>) -> fmt::Result {
-        let (path, reason) = (self.path.as_str(), self.reason);
-        write!(f, "skipped: {path}: {reason}")
+        f.write_str("skipped: ")?;
+        write_quoted(f, self.path.as_str())?;
+        write!(f, ": {}", self.reason)
     }
+}
+
+// A path, with `%` and two hexadecimal digits in place of each byte outside `!` to `~` and of `%`.
+fn write_quoted<W: fmt::Write>(f: &mut fmt::Formatter<W>, path: &str) -> fmt::Result {
+    for letter in path.chars() {
+        if letter.is_ascii_graphic() && letter != '%' {
+            f.write_char(letter)?;
+        } else {
+            write_bytes(f, letter)?;
+        }
+    }
+    Ok(())
+}
+
+fn write_bytes<W: fmt::Write>(f: &mut fmt::Formatter<W>, letter: char) -> fmt::Result {
+    let mut bytes = [0; 4];
+    for byte in letter.encode_utf8(&mut bytes).bytes() {
+        write!(f, "%{byte:02x}")?;
+    }
+    Ok(())
 }

@@ -17,7 +17,7 @@ pub record Adds {T : Type 0} (old : NumberedFiles T) (v : T) (new : NumberedFile
 abbrev pub Puts : {T : Type 0} → NumberedFiles T → T → Result Number (PutFault T) → NumberedFiles T → Type 0
 Puts old v (Ok n) new = (n.0 ≡ old.next) × (old.next ≢ 2 ^ 64 - 1) × Adds old v new
 Puts old v (Err (Spent back)) new = (old.next ≡ 2 ^ 64 - 1) × (back ≡ v) × (new ≡ old)
-Puts old v (Err (Memory back)) new = (old.next ≢ 2 ^ 64 - 1) × (back ≡ v) × (new ≡ old)
+Puts old v (Err (Memory back refused)) new = (old.next ≢ 2 ^ 64 - 1) × (back ≡ v) × (new ≡ old)
 
 -- The value at a number was taken away; or there was none, and nothing has changed.
 abbrev pub Takes : {T : Type 0} → NumberedFiles T → ℕ → Option T → NumberedFiles T → Type 0

@@ -1,6 +1,6 @@
 //! Numbered files: slots with their values, and the slots that numbers lead to.
 ghost use Rattle.std.specs.Prelude.{not, ◌||◌, nat_eq, nat_le};
-ghost use Rattle.std.specs.Prelude.{◌≡◌, ℕ, ◌%◌, ◌^◌, ◌<◌, ◌≤◌, ◌≢◌, Some, IsSome, IfSome, IfNone, IfOk};
+ghost use Rattle.std.specs.Prelude.{◌≡◌, ℕ, ◌%◌, ◌-◌, ◌^◌, ◌<◌, ◌≤◌, ◌≢◌, Some, IsSome, IfSome, IfNone, IfOk, OnOk, OnErr};
 ghost use Rattle.std.specs.Prelude.{IfErr, true, length, bytes_eq, option_copied};
 ghost use Rattle.std.specs.Borrow.{sem};
 ghost use Rattle.std.specs.Map.{lookup};
@@ -11,14 +11,14 @@ ghost use Rattle.nfs_handles.specs.Handles.{handle_at, is_shaped, key_in, live_w
 ghost use Rattle.nfs_handles.specs.Handles.{LivesWith, reading, reading_without};
 ghost use Rattle.nfs_handles.specs.declared.reading.Reading.TheVariants.{Stale};
 ghost use Rattle.nfs_handles.specs.Slotted.{AllLeadBack, LeadsOr};
-ghost use Rattle.nfs_handles.specs.Changes.{Puts, Takes, LendsValue};
+ghost use Rattle.nfs_handles.specs.Changes.{Adds, Puts, Takes, LendsValue};
 
 use crate::fault::PutFault;
 use crate::number::{Hint, Number};
 use crate::number_slots::NumberSlots;
 use crate::reading::{NoFile, Reading};
 use crate::slots::Slots;
-use std::alloc::Global;
+use std::alloc::{AllocError, Global};
 use std::marker::Model;
 
 // The first bytes of each handle.
@@ -106,15 +106,32 @@ impl<T: Drop> Files<T> {
         if number == u64::MAX {
             return Err(PutFault::Spent(value));
         }
-        let Ok(slot) = self.slots.reserve() else {
-            return Err(PutFault::Memory(value));
+        let slot = match self.slots.reserve() {
+            Ok(slot) => slot,
+            Err(refused) => return Err(PutFault::Memory(value, refused)),
         };
         match self.places.push(slot) {
             Ok(()) => {
                 self.slots.fill(number, value);
                 Ok(Number(number, Hint(tag_of(slot))))
             }
-            Err(_) => Err(PutFault::Memory(value)),
+            Err(refused) => Err(PutFault::Memory(value, refused)),
+        }
+    }
+
+    /// Adds a file where numbers are left, and answers its number. Refused without memory; then the value
+    /// is dropped, and nothing changes.
+    #[inline(always)]
+    pub fn add(&mut self, value: T) -> Result<Number, AllocError>
+        requires { self.old.next < 2 ^ 64 - 1 }
+        ensures adds { OnOk result (Adds self.old value self.new) }
+        ensures number { IfOk result (λ n. n.0 ≡ self.old.next) }
+        ensures err { OnErr result (self.new ≡ self.old) }
+    {
+        match self.put(value) {
+            Ok(number) => Ok(number),
+            Err(PutFault::Memory(_, refused)) => Err(refused),
+            Err(PutFault::Spent(_)) => unreachable!(),
         }
     }
 

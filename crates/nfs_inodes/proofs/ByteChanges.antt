@@ -4,6 +4,7 @@ use Rattle.std.specs.Bool.{◌==◌}
 use Rattle.std.specs.Prelude.{slice_get}
 use Rattle.nfs_attrs.specs.declared.moment.Moment.{Moment}
 use Rattle.nfs_handles.specs.NumberedFiles.{NumberedFiles}
+use Rattle.nfs_inodes.specs.declared.limits.Limits.{Limits}
 use Rattle.nfs_inodes.specs.declared.stored_file.StoredFile.{StoredFile}
 use Rattle.nfs_inodes.specs.declared.stored_volume.StoredVolume.{StoredVolume}
 use Rattle.nfs_inodes.specs.Tree.{Tree, File, bytes_in, bytes_of, is_regular, on_some}
@@ -29,15 +30,15 @@ pub some_bytes : (bytes : List ℕ) → false ≡ (length bytes == 0) → 0 < le
 some_bytes [] e = impossible e
 some_bytes (b ∷ bs) e = omega arith
 
-module _ (a : NumberedFiles StoredFile) (olds : List StoredVolume) (n offset : ℕ) (bytes : List ℕ) (keeps : Agrees (counted_tree_of a olds)) (may : MayWrite (tree_in (counted_tree_of a olds)) n offset (length bytes)) (some : 0 < length bytes) where
+module _ {limits : Limits} (a : NumberedFiles StoredFile) (olds : List StoredVolume) (n offset : ℕ) (bytes : List ℕ) (keeps : Agrees (counted_tree_of limits a olds)) (may : MayWrite (tree_in (counted_tree_of limits a olds)) n offset (length bytes)) (some : 0 < length bytes) where
   pub takes_bytes : TakesBytes a n offset (length bytes)
   takes_bytes =
-      let f = kept_at a olds (tree_in (counted_tree_of a olds)) refl n may.file may.at_file in
-      record { file = f.0; at_file = f.1; regular = ap (λ (f : File). is_regular f.kind) f.2 ∙ may.regular; large = may.large some }
+      let f = kept_at a olds (tree_in (counted_tree_of limits a olds)) refl n may.file may.at_file in
+      record { file = f.0; at_file = f.1; regular = ap (λ (f : File). is_regular f.kind) f.2 ∙ may.regular; large = let large = may.large some in let cap = keeps.law.limits.file_size in omega (arith, large, cap) }
 
   module _ (now : Moment) (growth : Growth) (b : NumberedFiles StoredFile) (writes : Revalues a n (Writes offset bytes growth now) b) where
     abbrev t : Tree
-    t = tree_in (counted_tree_of a olds)
+    t = tree_in (counted_tree_of limits a olds)
 
     abbrev k_then : CountedFile
     k_then = counted_file writes.was
@@ -46,7 +47,7 @@ module _ (a : NumberedFiles StoredFile) (olds : List StoredVolume) (n offset : �
     k_now = counted_file_of writes.was.tag writes.value
 
     the_file : k_then.file ≡ may.file
-    the_file = same_some (sym (lives a olds n writes.was writes.at_was) ∙ may.at_file)
+    the_file = same_some (sym (lives limits a olds n writes.was writes.at_was) ∙ may.at_file)
 
     home : growth.volume ≡ may.file.volume
     home = writes.from.index ∙ ap (λ (f : File). f.volume) the_file
@@ -68,7 +69,7 @@ module _ (a : NumberedFiles StoredFile) (olds : List StoredVolume) (n offset : �
     alike_now = subst (Alike k_then.file) (sym file_now) (overwritten_alike k_then.file offset bytes now)
 
     shown_then : Lives t n k_then.file
-    shown_then = lives a olds n writes.was writes.at_was
+    shown_then = lives limits a olds n writes.was writes.at_was
 
     written_now : after_write_at t n offset bytes now ≡ with_file t n k_now.file
     written_now = by_bytes bytes some ∙ ap (with_file t n) (sym file_now)
@@ -88,7 +89,7 @@ module _ (a : NumberedFiles StoredFile) (olds : List StoredVolume) (n offset : �
       between = totals_nothing (map counted_volume_of news) growth.volume ∙ counts
 
       totals : (p : ℕ) (c : CountedVolume) → slice_get (map counted_volume_of news) p ≡ Some c → IsCounted (with_file t n k_now.file).files p c × AreLimits c.volume
-      totals = totals_moved 0 (counted_tree_of a olds) (with_file t n k_now.file).files (map counted_volume_of news) growth.volume 0 0 growth.bytes 0 (agrees_but_none (counted_tree_of a olds) keeps) between (λ p.
+      totals = totals_moved 0 (counted_tree_of limits a olds) (with_file t n k_now.file).files (map counted_volume_of news) growth.volume 0 0 growth.bytes 0 (agrees_but_none (counted_tree_of limits a olds) keeps) between (λ p.
           let changed = bytes_changed t n k_then.file k_now.file shown_then alike_now.placed.volume p in
           let files = count_changed t n k_then.file k_now.file shown_then alike_now.placed.volume p in
           let long = long_now in (
@@ -96,13 +97,13 @@ module _ (a : NumberedFiles StoredFile) (olds : List StoredVolume) (n offset : �
             (λ o. (changed.1 (λ s. o (sym s ∙ sym writes.from.index)), files)),
           ))
 
-      pub stored_agree_after_write : Agrees (counted_tree_of b news)
+      pub stored_agree_after_write : Agrees (counted_tree_of limits b news)
       stored_agree_after_write = subst Agrees (sym (kept_revalued a b olds news n writes))
-          (agrees_alike (counted_tree_of a olds) n k_then k_now (map counted_volume_of news) keeps (at_counted_file a n writes.was writes.at_was) alike_now writes.from.nlink
+          (agrees_alike (counted_tree_of limits a olds) n k_then k_now (map counted_volume_of news) keeps (at_counted_file a n writes.was writes.at_was) alike_now writes.from.nlink
           (subst Law written_now (law_after_write_at t n offset bytes now may keeps.law))
           (volumes_moved (map counted_volume_of news) (map counted_volume_of olds) growth.volume 0 0 growth.bytes 0 between) totals)
 
-      pub stored_view_after_write : tree_in (counted_tree_of b news) ≡ after_write_at t n offset bytes now
+      pub stored_view_after_write : tree_in (counted_tree_of limits b news) ≡ after_write_at t n offset bytes now
       stored_view_after_write = ap tree_in (kept_revalued a b olds news n writes)
-          ∙ view_recounted (counted_tree_of a olds) n k_now (map counted_volume_of news) (volumes_moved (map counted_volume_of news) (map counted_volume_of olds) growth.volume 0 0 growth.bytes 0 between)
+          ∙ view_recounted (counted_tree_of limits a olds) n k_now (map counted_volume_of news) (volumes_moved (map counted_volume_of news) (map counted_volume_of olds) growth.volume 0 0 growth.bytes 0 between)
           ∙ sym written_now

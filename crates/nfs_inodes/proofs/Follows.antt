@@ -113,7 +113,7 @@ follows_renamed t from name to new_name now may law = onto (entry_named new_name
         (joined t u (carried u from name n to new_name now) (follows_unlinked t to new_name now unlink law)
         (from_ready u (law_after_unlink t to new_name now unlink law) (ready_over t from name to new_name now may law old is o))))
 
-follows_volume : (t : Tree) (max_bytes max_files tag : ℕ) (path : List ℕ) (given : NewFile) (now : Moment) → MayAddVolume t path max_files → tag < 2 ^ 32 → Law t → Follows t (after_add_volume t path max_bytes max_files given tag now)
+follows_volume : (t : Tree) (max_bytes max_files tag : ℕ) (path : List ℕ) (given : NewFile) (now : Moment) → MayAddVolume t path max_bytes max_files → tag < 2 ^ 32 → Law t → Follows t (after_add_volume t path max_bytes max_files given tag now)
 follows_volume t max_bytes max_files tag path given now may fits law =
     let f = follows_born t (new_file (length t.volumes) (Directory t.next 3 []) given None tag now) fits may.number in record { changes = f.changes; run = f.run }
 

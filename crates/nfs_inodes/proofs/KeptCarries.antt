@@ -3,6 +3,8 @@ use Rattle.std.proofs.Common.{◌≡◌, ◌≢◌, ℕ, ◌+◌, ◌<◌, ◌�
 use Rattle.nfs_attrs.specs.declared.moment.Moment.{Moment}
 use Rattle.nfs_handles.specs.NumberedFiles.{NumberedFiles, TaggedFile, value_at}
 use Rattle.nfs_handles.specs.NumberedFiles as numbered
+use Rattle.nfs_inodes.specs.Limits.{max_links}
+use Rattle.nfs_inodes.specs.declared.limits.Limits.{Limits}
 use Rattle.nfs_inodes.specs.declared.stored_file.StoredFile.{StoredFile}
 use Rattle.nfs_inodes.specs.declared.stored_volume.StoredVolume.{StoredVolume}
 use Rattle.nfs_inodes.specs.declared.renaming.Route.{Route}
@@ -30,9 +32,9 @@ use Rattle.nfs_inodes.proofs.KeptLeavings.{NamesFile, room_revalued}
 use Rattle.nfs_inodes.proofs.Tests.{no_entry_named}
 use Rattle.nfs_inodes.proofs.Views.{kept_at}
 
-module _ (a : NumberedFiles StoredFile) (olds : List StoredVolume) (route : Route) (name new_name : List ℕ) (c : Carries a olds route name new_name) where
+module _ {limits : Limits} (a : NumberedFiles StoredFile) (olds : List StoredVolume) (route : Route) (name new_name : List ℕ) (c : Carries limits a olds route name new_name) where
   abbrev t : Tree
-  t = tree_in (counted_tree_of a olds)
+  t = tree_in (counted_tree_of limits a olds)
 
   abbrev n : ℕ
   n = route.number.0
@@ -43,7 +45,7 @@ module _ (a : NumberedFiles StoredFile) (olds : List StoredVolume) (route : Rout
   abbrev to : ℕ
   to = route.to.0
 
-  abbrev pub names : NamesFile (tree_in (counted_tree_of a olds)) route.from.0 name route.number.0
+  abbrev pub names : NamesFile (tree_in (counted_tree_of limits a olds)) route.from.0 name route.number.0
   names = record { dir = c.may.source; at_dir = c.may.at_source; entry = c.may.entry; found = c.may.found; number = c.number; file = c.may.file; at_entry = c.may.at_file }
 
   pub not_source : route.number.0 ≢ route.from.0
@@ -91,9 +93,9 @@ module _ (a : NumberedFiles StoredFile) (olds : List StoredVolume) (route : Rout
       abbrev moved_held : CountedFile
       moved_held = record { file = moved_to c.may.file to now; nlink = held.nlink }
 
-      counted_2 : counted_tree_of b2 olds ≡ k2
+      counted_2 : counted_tree_of limits b2 olds ≡ k2
       counted_2 = kept_as b b2 olds olds n moves (moved_to c.may.file to now) (ap (λ (f : File). retagged f moves.was.tag) moves.from.file ∙ ap (λ (f : File). moved_to f to now) file_was)
-          ∙ ap (λ l. recounted (counted_tree_of b olds) n (record { file = moved_to c.may.file to now; nlink = l }) (map counted_volume_of olds)) same_links
+          ∙ ap (λ l. recounted (counted_tree_of limits b olds) n (record { file = moved_to c.may.file to now; nlink = l }) (map counted_volume_of olds)) same_links
           ∙ ap (λ (k : CountedTree). recounted k n moved_held k.volumes) (leavings.counted_1 a olds from name n c.agree names not_source now b sub is_sub leaves)
 
       view_2 : tree_in k2 ≡ t2
@@ -128,7 +130,7 @@ module _ (a : NumberedFiles StoredFile) (olds : List StoredVolume) (route : Rout
 
       pub takes_entry_there : TakesEntry b2 route.to.0
       takes_entry_there =
-          let law = subst (λ (u : Tree). (nlink u.files to dir ≤ 1000) × (to < u.next)) view_2 (agrees_2.law.links to dir in_k2, (rising_bounds 0 k2.next (tree_in k2).files to dir agrees_2.law.rising in_k2).1) in
+          let law = subst (λ (u : Tree). (nlink u.files to dir ≤ max_links) × (to < u.next)) view_2 (let few = agrees_2.law.links to dir in_k2 in let cap = agrees_2.law.limits.links in omega (arith, few, cap), (rising_bounds 0 k2.next (tree_in k2).files to dir agrees_2.law.rising in_k2).1) in
           let few = law.0 in let low = law.1 in
           let are : in_b2.0.value.nlink ≡ nlink (tree_in k2).files to dir = agrees_2.links to dir_held not_target at_dir_held in
           let same : nlink (tree_in k2).files to dir ≡ nlink t2.files to dir = ap (λ (u : Tree). nlink u.files to dir) view_2 in
@@ -168,10 +170,10 @@ module _ (a : NumberedFiles StoredFile) (olds : List StoredVolume) (route : Rout
         abbrev k3 : CountedTree
         k3 = counted_entered k2 to new_name n now dir_held (one_when (is_directory moved_held.file.kind))
 
-        counted_3 : counted_tree_of b3 olds ≡ k3
+        counted_3 : counted_tree_of limits b3 olds ≡ k3
         counted_3 = kept_as b2 b3 olds olds to enters (entered dir new_name n now)
             (ap (λ (f : File). retagged f enters.was.tag) enters.from.file ∙ ap (λ (f : TaggedFile StoredFile). entered (file_of f.tag f.value) new_name n now) was_dir ∙ ap (λ (f : File). entered f new_name n now) in_b2.2)
-            ∙ ap (λ l. recounted (counted_tree_of b2 olds) to (record { file = entered dir new_name n now; nlink = l }) (map counted_volume_of olds))
+            ∙ ap (λ l. recounted (counted_tree_of limits b2 olds) to (record { file = entered dir new_name n now; nlink = l }) (map counted_volume_of olds))
             (enters.from.nlink ∙ ap (λ (f : TaggedFile StoredFile). f.value.nlink + one_when sub) was_dir ∙ ap (λ l. in_b2.0.value.nlink + l) same_sub)
             ∙ ap (λ (k : CountedTree). recounted k to (record { file = entered dir new_name n now; nlink = in_b2.0.value.nlink + one_when (is_directory moved_held.file.kind) }) k.volumes) counted_2
 
@@ -205,7 +207,7 @@ module _ (a : NumberedFiles StoredFile) (olds : List StoredVolume) (route : Rout
             let was : is_directory c.may.file.kind ≡ false = sym (has_moved c.may.file to now).directory ∙ z in
             links_then ∙ if_false _ _ was ∙ sym names_then
 
-        pub has_carried : HasCarried a b3 olds route name new_name now
+        pub has_carried : HasCarried limits a b3 olds route name new_name now
         has_carried = record {
           agree = subst Agrees (sym counted_3) (agrees_entered k2 to n now new_name dir_held moved_held agrees_2 at_dir_held at_dir.1 at_k2 not_target
               (subst (λ u. Law (with_file u to (entered dir new_name n now))) (sym view_2) law_3)

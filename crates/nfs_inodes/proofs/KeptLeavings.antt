@@ -3,6 +3,7 @@ use Rattle.std.proofs.Common.{◌≡◌, ◌≢◌, ℕ, ◌+◌, Bool, false, L
 use Rattle.nfs_attrs.specs.declared.moment.Moment.{Moment}
 use Rattle.nfs_handles.specs.NumberedFiles.{NumberedFiles, TaggedFile, value_at, with_value, without}
 use Rattle.nfs_handles.specs.NumberedFiles as numbered
+use Rattle.nfs_inodes.specs.declared.limits.Limits.{Limits}
 use Rattle.nfs_inodes.specs.declared.stored_file.StoredFile.{StoredFile}
 use Rattle.nfs_inodes.specs.declared.stored_volume.StoredVolume.{StoredVolume}
 use Rattle.nfs_inodes.specs.Tree.{Tree, File, Entry, at, on_some, one_when, entries_in, is_directory, names_of, nlink}
@@ -46,12 +47,12 @@ pub record NamesFile (t : Tree) (d : ℕ) (name : List ℕ) (n : ℕ) : Type 0 w
   pub file : File
   pub at_entry : Lives t entry.number file
 
-module _ (a : NumberedFiles StoredFile) (olds : List StoredVolume) (d : ℕ) (name : List ℕ) (n : ℕ) (agree : Agrees (counted_tree_of a olds)) (names : NamesFile (tree_in (counted_tree_of a olds)) d name n) where
+module _ {limits : Limits} (a : NumberedFiles StoredFile) (olds : List StoredVolume) (d : ℕ) (name : List ℕ) (n : ℕ) (agree : Agrees (counted_tree_of limits a olds)) (names : NamesFile (tree_in (counted_tree_of limits a olds)) d name n) where
   abbrev k : CountedTree
-  k = counted_tree_of a olds
+  k = counted_tree_of limits a olds
 
   abbrev t : Tree
-  t = tree_in (counted_tree_of a olds)
+  t = tree_in (counted_tree_of limits a olds)
 
   pub at_file : Lives t n names.file
   at_file = ap (λ m. at m t.files) names.number ∙ names.at_entry
@@ -78,16 +79,16 @@ module _ (a : NumberedFiles StoredFile) (olds : List StoredVolume) (d : ℕ) (na
 
   module _ (other : n ≢ d) (now : Moment) (b : NumberedFiles StoredFile) (sub : Bool) (is_sub : sub ≡ on_some (value_at a n) false (λ f. is_directory (kind_of f.node))) (leaves : Revalues a d (Leaves name (one_when sub) now) b) where
     dir_was : file_of leaves.was.tag leaves.was.value ≡ names.dir
-    dir_was = same_some (sym (lives a olds d leaves.was leaves.at_was) ∙ names.at_dir.0)
+    dir_was = same_some (sym (lives limits a olds d leaves.was leaves.at_was) ∙ names.at_dir.0)
 
     -- what is kept without the entry
     abbrev pub k1 : CountedTree
-    k1 = counted_left (counted_tree_of a olds) d names.dir name now leaves.value.nlink
+    k1 = counted_left (counted_tree_of limits a olds) d names.dir name now leaves.value.nlink
 
     abbrev pub t1 : Tree
-    t1 = with_file (tree_in (counted_tree_of a olds)) d (left names.dir name now)
+    t1 = with_file (tree_in (counted_tree_of limits a olds)) d (left names.dir name now)
 
-    pub counted_1 : counted_tree_of b olds ≡ k1
+    pub counted_1 : counted_tree_of limits b olds ≡ k1
     counted_1 = kept_as a b olds olds d leaves (left names.dir name now) (ap (λ (f : File). retagged f leaves.was.tag) leaves.from.file ∙ ap (λ (f : File). left f name now) dir_was)
 
     pub view_1 : tree_in k1 ≡ t1

@@ -6,6 +6,7 @@ use Rattle.nfs_attrs.specs.declared.moment.Moment.{Moment}
 use Rattle.nfs_handles.specs.NumberedFiles.{NumberedFiles, TaggedFile, value_at, with_value, without}
 use Rattle.nfs_handles.specs.NumberedFiles as numbered
 use Rattle.nfs_handles.specs.Changes.{Takes}
+use Rattle.nfs_inodes.specs.declared.limits.Limits.{Limits}
 use Rattle.nfs_inodes.specs.declared.stored_file.StoredFile.{StoredFile}
 use Rattle.nfs_inodes.specs.declared.stored_volume.StoredVolume.{StoredVolume}
 use Rattle.nfs_inodes.specs.declared.removal.Freed.{Freed}
@@ -81,14 +82,14 @@ not_taken t u n has takes = not_both takes.0 has.1
 
 -- ---- the file of an entry that goes
 
-module _ (a : NumberedFiles StoredFile) (olds : List StoredVolume) (d : ℕ) (name : List ℕ) (n : ℕ) (removes : Removes a olds d name n) where
+module _ {limits : Limits} (a : NumberedFiles StoredFile) (olds : List StoredVolume) (d : ℕ) (name : List ℕ) (n : ℕ) (removes : Removes limits a olds d name n) where
   abbrev t : Tree
-  t = tree_in (counted_tree_of a olds)
+  t = tree_in (counted_tree_of limits a olds)
 
   abbrev may : MayUnlink t d name
   may = removes.may
 
-  abbrev pub names : NamesFile (tree_in (counted_tree_of a olds)) d name n
+  abbrev pub names : NamesFile (tree_in (counted_tree_of limits a olds)) d name n
   names = record { dir = removes.may.dir; at_dir = removes.may.at_dir; entry = removes.may.entry; found = removes.may.found; number = removes.number; file = removes.may.file; at_entry = removes.may.at_file }
 
   abbrev kept_file : (f : TaggedFile StoredFile) × (numbered.at a n ≡ Some f) × (file_of f.tag f.value ≡ may.file)
@@ -115,7 +116,7 @@ module _ (a : NumberedFiles StoredFile) (olds : List StoredVolume) (d : ℕ) (na
     abbrev t1 : Tree
     t1 = leavings.t1 a olds d name n removes.agree names other now b sub is_sub leaves
 
-    counted_1 : counted_tree_of b olds ≡ k1
+    counted_1 : counted_tree_of limits b olds ≡ k1
     counted_1 = leavings.counted_1 a olds d name n removes.agree names other now b sub is_sub leaves
 
     view_1 : tree_in k1 ≡ t1
@@ -197,7 +198,7 @@ module _ (a : NumberedFiles StoredFile) (olds : List StoredVolume) (d : ℕ) (na
 
       module _ (news : List StoredVolume) (counts : with_totals (map counted_volume_of news) freed.volume freed.bytes freed.files ≡ map counted_volume_of olds) where
         abbrev Done : Type 0
-        Done = Agrees (counted_tree_of b2 news) × (tree_in (counted_tree_of b2 news) ≡ after_unlink t d name now)
+        Done = Agrees (counted_tree_of limits b2 news) × (tree_in (counted_tree_of limits b2 news) ≡ after_unlink t d name now)
 
         -- ---- it has gone
 
@@ -218,9 +219,9 @@ module _ (a : NumberedFiles StoredFile) (olds : List StoredVolume) (d : ℕ) (na
               ∙ ap (with_totals (map counted_volume_of news) freed.volume freed.bytes) (sym g.files)
               ∙ counts
 
-          counted_gone_2 : counted_tree_of b2 news ≡ counted_gone k1 n (map counted_volume_of news)
-          counted_gone_2 = ap (λ (u : NumberedFiles StoredFile). counted_tree_of u news) g.new_is
-              ∙ ap (λ fs. record { files = fs; next = b.next; key = b.key; volumes = map counted_volume_of news }) (shows_without counted_file n b.files)
+          counted_gone_2 : counted_tree_of limits b2 news ≡ counted_gone k1 n (map counted_volume_of news)
+          counted_gone_2 = ap (λ (u : NumberedFiles StoredFile). counted_tree_of limits u news) g.new_is
+              ∙ ap (λ fs. record { files = fs; next = b.next; key = b.key; volumes = map counted_volume_of news; limits = limits }) (shows_without counted_file n b.files)
               ∙ ap (λ k. counted_gone k n (map counted_volume_of news)) counted_1
 
           removed : MayBeRemoved t1 n
@@ -267,9 +268,9 @@ module _ (a : NumberedFiles StoredFile) (olds : List StoredVolume) (d : ℕ) (na
           abbrev now_held : CountedFile
           now_held = record { file = record may.file { ctime = now }; nlink = s.loses.value.nlink }
 
-          counted_kept_2 : counted_tree_of b2 news ≡ counted_kept k1 n may.file now s.loses.value.nlink
+          counted_kept_2 : counted_tree_of limits b2 news ≡ counted_kept k1 n may.file now s.loses.value.nlink
           counted_kept_2 = kept_as b b2 olds news n s.loses (record may.file { ctime = now }) (ap (λ (f : File). retagged f s.loses.was.tag) s.loses.from.file ∙ ap (λ (f : File). record f { ctime = now }) was_file)
-              ∙ ap (recounted (counted_tree_of b olds) n now_held) same_volumes
+              ∙ ap (recounted (counted_tree_of limits b olds) n now_held) same_volumes
               ∙ ap (λ k. recounted k n now_held k.volumes) counted_1
 
           done_kept : Done
@@ -292,18 +293,18 @@ abbrev IsNumber : ℕ → List ℕ → ℕ → Tree → Type 0
 IsNumber d name n t = (may : MayUnlink t d name) × (n ≡ may.entry.number)
 
 -- the entry that is found is the one that may be removed
-pub removes_found : (a : NumberedFiles StoredFile) (olds : List StoredVolume) (t : Tree) (d : ℕ) (name : List ℕ) (n : ℕ) → tree_in (counted_tree_of a olds) ≡ t → Agrees (counted_tree_of a olds) → MayUnlink t d name → Some n ≡ option_map (λ (e : Entry). e.number) (entry_at t d name) → Removes a olds d name n
-removes_found a olds t d name n view agree may found = record { agree = agree; may = here.0; number = here.1 }
+pub removes_found : {limits : Limits} (a : NumberedFiles StoredFile) (olds : List StoredVolume) (t : Tree) (d : ℕ) (name : List ℕ) (n : ℕ) → tree_in (counted_tree_of limits a olds) ≡ t → Agrees (counted_tree_of limits a olds) → MayUnlink t d name → Some n ≡ option_map (λ (e : Entry). e.number) (entry_at t d name) → Removes limits a olds d name n
+removes_found {limits} a olds t d name n view agree may found = record { agree = agree; may = here.0; number = here.1 }
   where
-    here : IsNumber d name n (tree_in (counted_tree_of a olds))
+    here : IsNumber d name n (tree_in (counted_tree_of limits a olds))
     here = subst (IsNumber d name n) (sym view) (may, same_some (found ∙ ap (option_map (λ (e : Entry). e.number)) (entry_is t d name may.dir may.at_dir.0 ∙ may.found)))
 
 -- the file of the entry was seen
-module _ (a : NumberedFiles StoredFile) (olds : List StoredVolume) (t : Tree) (d : ℕ) (name : List ℕ) (n : ℕ) (file : Standing) (view : tree_in (counted_tree_of a olds) ≡ t) (agree : Agrees (counted_tree_of a olds)) (seen : MayUnlinkSeen t d name n file) where
-  abbrev here : MayUnlinkSeen (tree_in (counted_tree_of a olds)) d name n file
+module _ {limits : Limits} (a : NumberedFiles StoredFile) (olds : List StoredVolume) (t : Tree) (d : ℕ) (name : List ℕ) (n : ℕ) (file : Standing) (view : tree_in (counted_tree_of limits a olds) ≡ t) (agree : Agrees (counted_tree_of limits a olds)) (seen : MayUnlinkSeen t d name n file) where
+  abbrev here : MayUnlinkSeen (tree_in (counted_tree_of limits a olds)) d name n file
   here = subst (λ (u : Tree). MayUnlinkSeen u d name n file) (sym view) seen
 
-  pub removes_seen : Removes a olds d name n
+  pub removes_seen : Removes limits a olds d name n
   removes_seen = record { agree = agree; may = here.may; number = here.number }
 
   pub stands_seen : Stands a n file

@@ -4,6 +4,7 @@ use Rattle.std.specs.Prelude.{◌^◌}
 use Rattle.nfs_attrs.specs.declared.moment.Moment.{Moment}
 use Rattle.nfs_handles.specs.NumberedFiles.{NumberedFiles}
 use Rattle.nfs_handles.specs.declared.number.Number.{Number}
+use Rattle.nfs_inodes.specs.declared.limits.Limits.{Limits}
 use Rattle.nfs_inodes.specs.declared.stored_file.StoredFile.{StoredFile}
 use Rattle.nfs_inodes.specs.declared.stored_volume.StoredVolume.{StoredVolume}
 use Rattle.nfs_inodes.specs.declared.renaming.Route.{Route}
@@ -24,12 +25,12 @@ use Rattle.nfs_inodes.proofs.Steps.{same_counted, takes_entry_at}
 
 -- ---- the steps
 
-module _ (a : NumberedFiles StoredFile) (olds : List StoredVolume) (route : Route) (name new_name : List ℕ) (r : Renames a olds route name new_name) (now : Moment) where
+module _ {limits : Limits} (a : NumberedFiles StoredFile) (olds : List StoredVolume) (route : Route) (name new_name : List ℕ) (r : Renames limits a olds route name new_name) (now : Moment) where
   abbrev replaced : Option Number
   replaced = route.replaced
 
   abbrev t : Tree
-  t = tree_in (counted_tree_of a olds)
+  t = tree_in (counted_tree_of limits a olds)
 
   abbrev may : MayRename t route.from.0 name route.to.0 new_name
   may = r.may
@@ -40,12 +41,12 @@ module _ (a : NumberedFiles StoredFile) (olds : List StoredVolume) (route : Rout
   none_named : replaced ≡ None → named ≡ None
   none_named none = none_from named (λ e is. not_both (sym r.names ∙ ap (option_map (λ (n : Number). n.0)) none) (ap (option_map (λ (e : Entry). e.number)) is))
 
-  pub carries_new : replaced ≡ None → Carries a olds route name new_name
+  pub carries_new : replaced ≡ None → Carries limits a olds route name new_name
   carries_new none =
       let ready = renames.ready_new t route.from.0 name route.to.0 new_name now may (none_named none) in
       record { agree = r.agree; may = ready.0; number = r.number ∙ ap (λ (e : Entry). e.number) (sym ready.1); room = r.room }
 
-  pub done_new : replaced ≡ None → (b : NumberedFiles StoredFile) → HasCarried a b olds route name new_name now → tree_in (counted_tree_of b olds) ≡ after_rename t route.from.0 name route.to.0 new_name now
+  pub done_new : replaced ≡ None → (b : NumberedFiles StoredFile) → HasCarried limits a b olds route name new_name now → tree_in (counted_tree_of limits b olds) ≡ after_rename t route.from.0 name route.to.0 new_name now
   done_new none b h = h.done ∙ ap (λ m. carried t route.from.0 name m route.to.0 new_name now) r.number ∙ sym (renames.renamed_new t route.from.0 name route.to.0 new_name now may (none_named none))
 
   module _ (old : Number) (is : replaced ≡ Some old) where
@@ -58,20 +59,20 @@ module _ (a : NumberedFiles StoredFile) (olds : List StoredVolume) (route : Rout
     abbrev may_unlink : MayUnlink t route.to.0 new_name
     may_unlink = renames.may_unlink t route.from.0 name route.to.0 new_name now may r.agree.law its.0 its.1 other
 
-    pub removes_old : Removes a olds route.to.0 new_name old.0
+    pub removes_old : Removes limits a olds route.to.0 new_name old.0
     removes_old = record { agree = r.agree; may = may_unlink; number = sym its.2 }
 
     not_old : route.to.0 ≢ old.0
     not_old s = other_file t route.to.0 new_name now may_unlink (its.2 ∙ sym s)
 
-    module _ (b : NumberedFiles StoredFile) (news : List StoredVolume) (agree : Agrees (counted_tree_of b news)) (done : tree_in (counted_tree_of b news) ≡ after_unlink t route.to.0 new_name now) where
-      ready : renames.Ready t route.from.0 name route.to.0 new_name now may (tree_in (counted_tree_of b news))
+    module _ (b : NumberedFiles StoredFile) (news : List StoredVolume) (agree : Agrees (counted_tree_of limits b news)) (done : tree_in (counted_tree_of limits b news) ≡ after_unlink t route.to.0 new_name now) where
+      ready : renames.Ready t route.from.0 name route.to.0 new_name now may (tree_in (counted_tree_of limits b news))
       ready = subst (renames.Ready t route.from.0 name route.to.0 new_name now may) (sym done) (renames.ready_over t route.from.0 name route.to.0 new_name now may r.agree.law its.0 its.1 other)
 
-      pub carries_over : ((d : ℕ) → d ≢ old.0 → HasRoomAt a d → HasRoomAt b d) → Carries b news route name new_name
+      pub carries_over : ((d : ℕ) → d ≢ old.0 → HasRoomAt a d → HasRoomAt b d) → Carries limits b news route name new_name
       carries_over room = record { agree = agree; may = ready.0; number = r.number ∙ ap (λ (e : Entry). e.number) (sym ready.1); room = room route.to.0 not_old r.room }
 
-      pub done_over : (b3 : NumberedFiles StoredFile) → HasCarried b b3 news route name new_name now → tree_in (counted_tree_of b3 news) ≡ after_rename t route.from.0 name route.to.0 new_name now
+      pub done_over : (b3 : NumberedFiles StoredFile) → HasCarried limits b b3 news route name new_name now → tree_in (counted_tree_of limits b3 news) ≡ after_rename t route.from.0 name route.to.0 new_name now
       done_over b3 h = h.done ∙ ap (λ u. carried u route.from.0 name route.number.0 route.to.0 new_name now) done
           ∙ ap (λ m. carried (after_unlink t route.to.0 new_name now) route.from.0 name m route.to.0 new_name now) r.number
           ∙ sym (renames.renamed_over t route.from.0 name route.to.0 new_name now may its.0 its.1 other)
@@ -97,15 +98,15 @@ module _ (t : Tree) (from : ℕ) (name : List ℕ) (to : ℕ) (new_name : List �
   is_route = (may, its_number, names ∙ ap (option_map (λ (e : Entry). e.number)) found_to)
 
 -- room changes nothing that clients see
-pub takes_target : (a : NumberedFiles StoredFile) (olds : List StoredVolume) (t : Tree) (from to : ℕ) (name new_name : List ℕ) → tree_in (counted_tree_of a olds) ≡ t → Agrees (counted_tree_of a olds) → (may : MayRename t from name to new_name) → NamesOther t to new_name may.entry.number → TakesEntry a to
-takes_target a olds t from to name new_name view agree may other =
+pub takes_target : {limits : Limits} (a : NumberedFiles StoredFile) (olds : List StoredVolume) (t : Tree) (from to : ℕ) (name new_name : List ℕ) → tree_in (counted_tree_of limits a olds) ≡ t → Agrees (counted_tree_of limits a olds) → (may : MayRename t from name to new_name) → NamesOther t to new_name may.entry.number → TakesEntry a to
+takes_target {limits} a olds t from to name new_name view agree may other =
     let low = subst (λ (u : Tree). (at to u.files ≡ Some may.target) × (next_cookie_in may.target.kind < 2 ^ 64 - 1)) (sym view) (may.at_target.0, may.cookie other) in
     takes_entry_at a olds to may.target agree (low.0, may.at_target.1) low.1
 
-pub renames_found : (a b : NumberedFiles StoredFile) (olds : List StoredVolume) (t : Tree) (route : Route) (name given new_name : List ℕ) (now : Moment) → tree_in (counted_tree_of a olds) ≡ t → Agrees (counted_tree_of a olds) → MayRenameSeen t route name given
-    → option_map (λ (m : Number). m.0) route.replaced ≢ Some route.number.0 → new_name ≡ given → SameFiles a b → HasRoomAt b route.to.0 → Renames b olds route name new_name
-renames_found a b olds t route name given new_name now view agree seen other copy same room =
+pub renames_found : {limits : Limits} (a b : NumberedFiles StoredFile) (olds : List StoredVolume) (t : Tree) (route : Route) (name given new_name : List ℕ) (now : Moment) → tree_in (counted_tree_of limits a olds) ≡ t → Agrees (counted_tree_of limits a olds) → MayRenameSeen t route name given
+    → option_map (λ (m : Number). m.0) route.replaced ≢ Some route.number.0 → new_name ≡ given → SameFiles a b → HasRoomAt b route.to.0 → Renames limits b olds route name new_name
+renames_found {limits} a b olds t route name given new_name now view agree seen other copy same room =
     let counted = same_counted a b olds same in
-    let it = subst (λ new. IsRoute t route.from.0 name route.to.0 given now seen.may route.number seen.found route.replaced seen.names (tree_in (counted_tree_of b olds)) new) (sym copy)
+    let it = subst (λ new. IsRoute t route.from.0 name route.to.0 given now seen.may route.number seen.found route.replaced seen.names (tree_in (counted_tree_of limits b olds)) new) (sym copy)
     (subst (λ u. IsRoute t route.from.0 name route.to.0 given now seen.may route.number seen.found route.replaced seen.names u given) (sym (ap tree_in counted ∙ view)) (is_route t route.from.0 name route.to.0 given now seen.may route.number seen.found route.replaced seen.names)) in
     record { agree = subst Agrees (sym counted) agree; may = it.0; number = it.1; names = it.2; other = other; room = room }

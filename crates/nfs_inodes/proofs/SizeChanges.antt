@@ -3,6 +3,7 @@ use Rattle.std.proofs.Common.{◌≡◌, ℕ, ◌<◌, List, map, length, Some, 
 use Rattle.std.specs.Prelude.{slice_get}
 use Rattle.nfs_attrs.specs.declared.moment.Moment.{Moment}
 use Rattle.nfs_handles.specs.NumberedFiles.{NumberedFiles, value_at, with_value}
+use Rattle.nfs_inodes.specs.declared.limits.Limits.{Limits}
 use Rattle.nfs_inodes.specs.declared.stored_file.StoredFile.{StoredFile}
 use Rattle.nfs_inodes.specs.declared.stored_volume.StoredVolume.{StoredVolume}
 use Rattle.nfs_inodes.specs.Tree.{Tree, File, bytes_in, bytes_of, bytes_for, is_regular, on_some}
@@ -44,23 +45,23 @@ takes_growth t n size takes i v beyond = record {
 
 -- ---- the tree
 
-pub grows : (a : NumberedFiles StoredFile) (stored_volumes : List StoredVolume) (t : Tree) → tree_in (counted_tree_of a stored_volumes) ≡ t → (n size : ℕ) → TakesGrowth a n size → Grows t n 0 size
-grows a stored_volumes t view n size full = let beyond = full.beyond in record {
+pub grows : {limits : Limits} (a : NumberedFiles StoredFile) (stored_volumes : List StoredVolume) (t : Tree) → tree_in (counted_tree_of limits a stored_volumes) ≡ t → (n size : ℕ) → TakesGrowth a n size → Grows t n 0 size
+grows {limits} a stored_volumes t view n size full = let beyond = full.beyond in record {
   some = omega (arith, beyond);
   file = file_of full.file.tag full.file.value;
   at_file = lives_there a stored_volumes t view n full.file full.at_file;
   beyond = omega (arith, beyond);
 }
 
-module _ (a : NumberedFiles StoredFile) (olds : List StoredVolume) (n size : ℕ) (now : Moment) (keeps : Agrees (counted_tree_of a olds)) (may : MayResize (tree_in (counted_tree_of a olds)) n size) where
+module _ {limits : Limits} (a : NumberedFiles StoredFile) (olds : List StoredVolume) (n size : ℕ) (now : Moment) (keeps : Agrees (counted_tree_of limits a olds)) (may : MayResize (tree_in (counted_tree_of limits a olds)) n size) where
   pub takes_size : TakesSize a n size
   takes_size =
-      let f = kept_at a olds (tree_in (counted_tree_of a olds)) refl n may.file may.at_file in
-      record { file = f.0; at_file = f.1; regular = ap (λ (f : File). is_regular f.kind) f.2 ∙ may.regular; large = may.large }
+      let f = kept_at a olds (tree_in (counted_tree_of limits a olds)) refl n may.file may.at_file in
+      record { file = f.0; at_file = f.1; regular = ap (λ (f : File). is_regular f.kind) f.2 ∙ may.regular; large = let large = may.large in let cap = keeps.law.limits.file_size in omega (arith, large, cap) }
 
-  module _ (b : NumberedFiles StoredFile) (was index : ℕ) (resizes : Revalues a n (Resizes was size now) b) (is_place : index ≡ changes.volume_index (tree_in (counted_tree_of a olds)) n) where
+  module _ (b : NumberedFiles StoredFile) (was index : ℕ) (resizes : Revalues a n (Resizes was size now) b) (is_place : index ≡ changes.volume_index (tree_in (counted_tree_of limits a olds)) n) where
     abbrev t : Tree
-    t = tree_in (counted_tree_of a olds)
+    t = tree_in (counted_tree_of limits a olds)
 
     abbrev k_then : CountedFile
     k_then = counted_file resizes.was
@@ -69,7 +70,7 @@ module _ (a : NumberedFiles StoredFile) (olds : List StoredVolume) (n size : ℕ
     k_now = counted_file_of resizes.was.tag resizes.value
 
     the_file : k_then.file ≡ may.file
-    the_file = same_some (sym (lives a olds n resizes.was resizes.at_was) ∙ may.at_file)
+    the_file = same_some (sym (lives limits a olds n resizes.was resizes.at_was) ∙ may.at_file)
 
     home : index ≡ may.file.volume
     home = is_place ∙ ap (λ o. on_some o 0 (λ (f : File). f.volume)) may.at_file
@@ -95,7 +96,7 @@ module _ (a : NumberedFiles StoredFile) (olds : List StoredVolume) (n size : ℕ
     alike_now = subst (Alike k_then.file) (sym file_now) (resized_alike k_then.file size now)
 
     shown_then : Lives t n k_then.file
-    shown_then = lives a olds n resizes.was resizes.at_was
+    shown_then = lives limits a olds n resizes.was resizes.at_was
 
     resized_now : after_resize t n size now ≡ with_file t n k_now.file
     resized_now = resized_is t n size now k_then.file shown_then ∙ ap (with_file t n) (sym file_now)
@@ -105,7 +106,7 @@ module _ (a : NumberedFiles StoredFile) (olds : List StoredVolume) (n size : ℕ
 
     module _ (news : List StoredVolume) (counts : with_totals (map counted_volume_of news) index was 0 ≡ with_totals (map counted_volume_of olds) index size 0) where
       totals : (p : ℕ) (c : CountedVolume) → slice_get (map counted_volume_of news) p ≡ Some c → IsCounted (with_file t n k_now.file).files p c × AreLimits c.volume
-      totals = totals_moved 0 (counted_tree_of a olds) (with_file t n k_now.file).files (map counted_volume_of news) index was 0 size 0 (agrees_but_none (counted_tree_of a olds) keeps) counts (λ p.
+      totals = totals_moved 0 (counted_tree_of limits a olds) (with_file t n k_now.file).files (map counted_volume_of news) index was 0 size 0 (agrees_but_none (counted_tree_of limits a olds) keeps) counts (λ p.
           let bytes = bytes_changed t n k_then.file k_now.file shown_then alike_now.placed.volume p in
           let files = count_changed t n k_then.file k_now.file shown_then alike_now.placed.volume p in
           let is_here : k_then.file.volume ≡ index = ap (λ (f : File). f.volume) the_file ∙ sym home in
@@ -114,13 +115,13 @@ module _ (a : NumberedFiles StoredFile) (olds : List StoredVolume) (n size : ℕ
             (λ o. (bytes.1 (λ s. o (sym s ∙ is_here)), files)),
           ))
 
-      pub stored_agree_after_resize : Agrees (counted_tree_of b news)
+      pub stored_agree_after_resize : Agrees (counted_tree_of limits b news)
       stored_agree_after_resize = subst Agrees (sym (kept_revalued a b olds news n resizes))
-          (agrees_alike (counted_tree_of a olds) n k_then k_now (map counted_volume_of news) keeps (at_counted_file a n resizes.was resizes.at_was) alike_now resizes.from.nlink
+          (agrees_alike (counted_tree_of limits a olds) n k_then k_now (map counted_volume_of news) keeps (at_counted_file a n resizes.was resizes.at_was) alike_now resizes.from.nlink
           (subst Law resized_now (law_after_resize t n size now may keeps.law))
           (volumes_moved (map counted_volume_of news) (map counted_volume_of olds) index was 0 size 0 counts) totals)
 
-      pub stored_view_after_resize : tree_in (counted_tree_of b news) ≡ after_resize t n size now
+      pub stored_view_after_resize : tree_in (counted_tree_of limits b news) ≡ after_resize t n size now
       stored_view_after_resize = ap tree_in (kept_revalued a b olds news n resizes)
-          ∙ view_recounted (counted_tree_of a olds) n k_now (map counted_volume_of news) (volumes_moved (map counted_volume_of news) (map counted_volume_of olds) index was 0 size 0 counts)
+          ∙ view_recounted (counted_tree_of limits a olds) n k_now (map counted_volume_of news) (volumes_moved (map counted_volume_of news) (map counted_volume_of olds) index was 0 size 0 counts)
           ∙ sym resized_now

@@ -5,9 +5,7 @@ use Rattle.std.proofs.lemmas.Map.Steps.{set_value_same}
 use Rattle.nfs_handles.specs.NumberedFiles.{NumberedFiles, TaggedFile, at, value_at, with_value, revalued}
 use Rattle.nfs_inodes.specs.declared.stored_file.StoredFile.{StoredFile}
 use Rattle.nfs_attrs.specs.declared.moment.Moment.{Moment}
-use Rattle.nfs_handles.specs.Changes.{Adds, Puts}
-use Rattle.nfs_handles.specs.declared.fault.PutFault.{PutFault}
-use Rattle.nfs_handles.specs.declared.fault.PutFault.TheVariants.{Spent, Memory}
+use Rattle.nfs_handles.specs.Changes.{Adds}
 use Rattle.nfs_inodes.specs.Changes.{entered, file_with_bytes}
 use Rattle.nfs_inodes.specs.Tree.{File, with_at, one_when, is_directory, is_regular, bytes_in, entries_in, next_cookie_in}
 use Rattle.nfs_inodes.specs.Counts.{CountedFile}
@@ -75,10 +73,6 @@ on_ok (Err e) f p = p
 pub on_err : {A E P : Type 0} (r : Result A E) → P → OnErr r P
 on_err (Ok a) p = tt
 on_err (Err e) p = p
-
-pub not_put : (t u : NumberedFiles StoredFile) (v : StoredFile) (f : PutFault StoredFile) → Puts t v (Err f) u → u ≡ t
-not_put t u v (Spent back) p = p.2
-not_put t u v (Memory back) p = p.2
 
 pub room_there : (t : NumberedFiles StoredFile) (n : ℕ) (f : TaggedFile StoredFile) (w : StoredFile) → at t n ≡ Some f → HasRoom w → (i : StoredFile) → value_at (with_value t n w) n ≡ Some i → HasRoom i
 room_there t n f w e h i v = subst HasRoom (same_some (sym (ap (option_map (λ (f : TaggedFile StoredFile). f.value)) (at_value_same t n f w e)) ∙ v)) h

@@ -9,6 +9,7 @@ use Rattle.std.proofs.lemmas.Option.{slice_get-map}
 use Rattle.nfs_handles.specs.declared.number.Number.{Number}
 use Rattle.nfs_handles.specs.NumberedFiles.{NumberedFiles, value_at}
 use Rattle.nfs_entries.specs.Listing.{Listed}
+use Rattle.nfs_inodes.specs.declared.limits.Limits.{Limits}
 use Rattle.nfs_inodes.specs.declared.stored_file.StoredFile.{StoredFile}
 use Rattle.nfs_inodes.specs.declared.stored_volume.StoredVolume.{StoredVolume}
 use Rattle.nfs_inodes.specs.Tree.{Tree, File, Kind, Directory, Entry, Volume, entries_in, next_cookie_in, is_directory, nlink, names_of, bytes_of, files_of}
@@ -94,7 +95,7 @@ takes_name i parent entries name o b kind below is_name search none =
 
 -- ---- what is kept, and the tree
 
-module _ (a : NumberedFiles StoredFile) (stored_volumes : List StoredVolume) (t : Tree) (view : tree_in (counted_tree_of a stored_volumes) ≡ t) where
+module _ {limits : Limits} (a : NumberedFiles StoredFile) (stored_volumes : List StoredVolume) (t : Tree) (view : tree_in (counted_tree_of limits a stored_volumes) ≡ t) where
   -- a kept file in the tree
   pub shown_there : (n : ℕ) (i : StoredFile) → Some i ≡ value_at a n → (tag : ℕ) × Lives t n (file_of tag i)
   shown_there n i e = let k = filed a n i e in (k.0.tag, lives_there a stored_volumes t view n k.0 k.1 ∙ ap (λ i. Some (file_of k.0.tag i)) k.2)
@@ -146,25 +147,25 @@ module _ (a : NumberedFiles StoredFile) (stored_volumes : List StoredVolume) (t 
   pub may_make_none : (d size : ℕ) (name : List ℕ) → None ≡ value_at a d → MayMake t d name size → ⊥
   may_make_none d size name e may = none_lives d e may.enter.dir may.enter.at_dir.0
 
-  module _ (keeps : Agrees (counted_tree_of a stored_volumes)) where
+  module _ (keeps : Agrees (counted_tree_of limits a stored_volumes)) where
     pub links_there : (n : ℕ) (i : StoredFile) → Some i ≡ value_at a n → (f : File) → Lives t n f → i.nlink ≡ nlink t.files n f
     links_there n i e f at_n =
         let k = filed a n i e in
         let kept = keeps.links n (counted_file k.0) (at_counted_file a n k.0 k.1) in
         ap (λ (i : StoredFile). i.nlink) (sym k.2) ∙ kept ∙ ap (λ (t : Tree). nlink t.files n (file_of k.0.tag k.0.value)) view ∙ ap (nlink t.files n) (same_some (sym (lives_there a stored_volumes t view n k.0 k.1) ∙ at_n))
 
-    pub may_mkdir_there : (d : ℕ) (i : StoredFile) (name : List ℕ) (b : Bool) → Some i ≡ value_at a d → i.nlink < 1000 → Decides b (TakesFile t i name 0) → Decides b (MayMakeDirectory t d name)
+    pub may_mkdir_there : (d : ℕ) (i : StoredFile) (name : List ℕ) (b : Bool) → Some i ≡ value_at a d → i.nlink < t.limits.links → Decides b (TakesFile t i name 0) → Decides b (MayMakeDirectory t d name)
     may_mkdir_there d i name b e few takes = Decides-like b
-        (λ takes. let make = makes d 0 i name e takes in record { make = make; links = subst (λ n. n < 1000) (links_there d i e make.enter.dir make.enter.at_dir.0) few })
+        (λ takes. let make = makes d 0 i name e takes in record { make = make; links = subst (λ n. n < t.limits.links) (links_there d i e make.enter.dir make.enter.at_dir.0) few })
         (λ (may : MayMakeDirectory t d name). with_named_file d 0 i name e may.make)
         takes
 
-    pub few_links : (d : ℕ) (i : StoredFile) (name : List ℕ) → Some i ≡ value_at a d → MayMakeDirectory t d name → i.nlink < 1000
+    pub few_links : (d : ℕ) (i : StoredFile) (name : List ℕ) → Some i ≡ value_at a d → MayMakeDirectory t d name → i.nlink < t.limits.links
     few_links d i name e may = let few = may.links in let same = links_there d i e may.make.enter.dir may.make.enter.at_dir.0 in omega (arith, few, same)
 
     -- ---- tests of a link
 
-    pub gains_link : (n index : ℕ) (i : StoredFile) (b : Bool) → Some i ≡ value_at a n → Decides b ((is_directory (kind_of i.node) ≡ false) × (i.volume ≡ index) × (i.nlink < 1000)) → Decides b (MayGainLink t n index)
+    pub gains_link : (n index : ℕ) (i : StoredFile) (b : Bool) → Some i ≡ value_at a n → Decides b ((is_directory (kind_of i.node) ≡ false) × (i.volume ≡ index) × (i.nlink < t.limits.links)) → Decides b (MayGainLink t n index)
     gains_link n index i b e takes = Decides-like b
         (λ takes. let s = shown_there n i e in
         let links = links_there n i e (file_of s.0 i) s.1 in

@@ -3,6 +3,7 @@ use Rattle.std.proofs.Common.{◌≡◌, ℕ, zero, suc, ◌+◌, ◌-◌, ◌�
 use Rattle.std.specs.Prelude.{slice_get, slice_set}
 use Rattle.std.proofs.lemmas.Option.{slice_get-map}
 use Rattle.nfs_handles.specs.NumberedFiles.{NumberedFiles, TaggedFile, at, value_at}
+use Rattle.nfs_inodes.specs.declared.limits.Limits.{Limits}
 use Rattle.nfs_inodes.specs.declared.stored_file.StoredFile.{StoredFile}
 use Rattle.nfs_inodes.specs.declared.stored_volume.StoredVolume.{StoredVolume}
 use Rattle.nfs_inodes.specs.Tree.{Tree, File, Volume, on_some, bytes_of, files_of, is_directory, nlink}
@@ -25,26 +26,26 @@ mapped f (Some x) y e = (x, refl, same_some e)
 pub filed : (a : NumberedFiles StoredFile) (n : ℕ) (i : StoredFile) → Some i ≡ value_at a n → (f : TaggedFile StoredFile) × (at a n ≡ Some f) × (f.value ≡ i)
 filed a n i e = mapped (λ (f : TaggedFile StoredFile). f.value) (at a n) i (sym e)
 
-pub lives : (a : NumberedFiles StoredFile) (stored_volumes : List StoredVolume) (n : ℕ) (f : TaggedFile StoredFile) → at a n ≡ Some f → Lives (tree_in (counted_tree_of a stored_volumes)) n (file_of f.tag f.value)
-lives a stored_volumes n f e = shown (counted_tree_of a stored_volumes) n (counted_file f) (at_counted_file a n f e)
+pub lives : (limits : Limits) (a : NumberedFiles StoredFile) (stored_volumes : List StoredVolume) (n : ℕ) (f : TaggedFile StoredFile) → at a n ≡ Some f → Lives (tree_in (counted_tree_of limits a stored_volumes)) n (file_of f.tag f.value)
+lives limits a stored_volumes n f e = shown (counted_tree_of limits a stored_volumes) n (counted_file f) (at_counted_file a n f e)
 
-all_shown : (a : NumberedFiles StoredFile) (stored_volumes : List StoredVolume) (n : ℕ) → tree.at n (tree_in (counted_tree_of a stored_volumes)).files ≡ option_map (λ (f : TaggedFile StoredFile). file_of f.tag f.value) (at a n)
-all_shown a stored_volumes n = at_shows (λ (h : CountedFile). h.file) n (counted_files a.files) ∙ ap (option_map (λ (h : CountedFile). h.file)) (at_shows counted_file n a.files) ∙ twice (at a n)
+all_shown : (limits : Limits) (a : NumberedFiles StoredFile) (stored_volumes : List StoredVolume) (n : ℕ) → tree.at n (tree_in (counted_tree_of limits a stored_volumes)).files ≡ option_map (λ (f : TaggedFile StoredFile). file_of f.tag f.value) (at a n)
+all_shown limits a stored_volumes n = at_shows (λ (h : CountedFile). h.file) n (counted_files a.files) ∙ ap (option_map (λ (h : CountedFile). h.file)) (at_shows counted_file n a.files) ∙ twice (at a n)
   where
     twice : (o : Option (TaggedFile StoredFile)) → option_map (λ (h : CountedFile). h.file) (option_map counted_file o) ≡ option_map (λ (f : TaggedFile StoredFile). file_of f.tag f.value) o
     twice None = refl
     twice (Some f) = refl
 
-module _ (a : NumberedFiles StoredFile) (stored_volumes : List StoredVolume) (t : Tree) (view : tree_in (counted_tree_of a stored_volumes) ≡ t) where
+module _ {limits : Limits} (a : NumberedFiles StoredFile) (stored_volumes : List StoredVolume) (t : Tree) (view : tree_in (counted_tree_of limits a stored_volumes) ≡ t) where
   pub lives_there : (n : ℕ) (f : TaggedFile StoredFile) → at a n ≡ Some f → Lives t n (file_of f.tag f.value)
-  lives_there n f e = subst (λ (t : Tree). Lives t n (file_of f.tag f.value)) view (lives a stored_volumes n f e)
+  lives_there n f e = subst (λ (t : Tree). Lives t n (file_of f.tag f.value)) view (lives limits a stored_volumes n f e)
 
   -- what is kept of a file of the tree
   pub kept_at : (n : ℕ) (g : File) → Lives t n g → (f : TaggedFile StoredFile) × (at a n ≡ Some f) × (file_of f.tag f.value ≡ g)
-  kept_at n g e = mapped (λ (f : TaggedFile StoredFile). file_of f.tag f.value) (at a n) g (sym (all_shown a stored_volumes n) ∙ subst (λ (t : Tree). Lives t n g) (sym view) e)
+  kept_at n g e = mapped (λ (f : TaggedFile StoredFile). file_of f.tag f.value) (at a n) g (sym (all_shown limits a stored_volumes n) ∙ subst (λ (t : Tree). Lives t n g) (sym view) e)
 
   pub none_there : (n : ℕ) → None ≡ value_at a n → tree.at n t.files ≡ None
-  none_there n e = ap (λ (t : Tree). tree.at n t.files) (sym view) ∙ all_shown a stored_volumes n ∙ none_of (at a n) e
+  none_there n e = ap (λ (t : Tree). tree.at n t.files) (sym view) ∙ all_shown limits a stored_volumes n ∙ none_of (at a n) e
     where
       none_of : (o : Option (TaggedFile StoredFile)) → None ≡ option_map (λ (f : TaggedFile StoredFile). f.value) o → option_map (λ (f : TaggedFile StoredFile). file_of f.tag f.value) o ≡ None
       none_of None e = refl

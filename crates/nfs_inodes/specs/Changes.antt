@@ -3,6 +3,7 @@ use Rattle.std.specs.Prelude.{◌≡◌, ℕ, ◌+◌, ◌%◌, ◌<◌, ◌^◌
 use Rattle.std.specs.Prelude.{Option, None, if◌then◌else◌}
 pub use Rattle.nfs_content.specs.Bytes.{zeros, put_bytes, sized}
 use Rattle.nfs_attrs.specs.declared.moment.Moment.{Moment}
+use Rattle.nfs_inodes.specs.declared.limits.Limits.{Limits}
 use Rattle.nfs_inodes.specs.declared.given_attributes.GivenAttributes.{GivenAttributes}
 use Rattle.nfs_inodes.specs.declared.new_file.NewFile.{NewFile}
 use Rattle.nfs_inodes.specs.Reading.{has_name, entry_at}
@@ -191,6 +192,10 @@ with_next_from t n = record t { next = max t.next n }
 -- each handle has this key
 abbrev pub with_key : Tree → List ℕ → Tree
 with_key t key = record t { key = key }
+
+-- files are made within these limits
+abbrev pub with_limits : Tree → Limits → Tree
+with_limits t limits = record t { limits = limits }
 
 -- the tree after an operation that made a file, whose tag was chosen freely
 pub record Makes (make : ℕ → Tree) (new : Tree) : Type 0 where

@@ -3,7 +3,8 @@ use Rattle.std.specs.Prelude.{◌≡◌, ◌≢◌, ◌⊎◌, ℕ, ◌+◌, ◌
 use Rattle.nfs_handles.specs.declared.number.Number.{Number}
 use Rattle.nfs_inodes.specs.declared.removal.Standing.{Standing}
 use Rattle.nfs_inodes.specs.declared.renaming.Route.{Route}
-use Rattle.nfs_inodes.specs.Limits.{max_file_bytes, max_path_bytes, max_links, max_volumes, max_volume_path_bytes}
+use Rattle.nfs_inodes.specs.Limits.{max_volumes, max_volume_bytes, max_volume_path_bytes}
+use Rattle.nfs_inodes.specs.declared.limits.Limits.{Limits}
 use Rattle.nfs_inodes.specs.Reading.{entry_named, entry_at}
 use Rattle.nfs_inodes.specs.Tree.{Tree, File, Entry, Volume, is_directory, is_regular, parent_in, entries_in, next_cookie_in, bytes_in}
 use Rattle.nfs_inodes.specs.Tree.{names_of, nlink, bytes_of, files_of}
@@ -25,17 +26,17 @@ pub record MayMake (t : Tree) (d : ℕ) (name : List ℕ) (size : ℕ) : Type 0 
   pub at_volume : slice_get t.volumes enter.dir.volume ≡ Some volume
   pub files : files_of enter.dir.volume t.files < volume.max_files
   pub bytes : bytes_of enter.dir.volume t.files + size ≤ volume.max_bytes
-  pub large : size ≤ max_file_bytes
+  pub large : size ≤ t.limits.file_size
 
 -- and a new directory, which is a link more for it
 pub record MayMakeDirectory (t : Tree) (d : ℕ) (name : List ℕ) : Type 0 where
   pub make : MayMake t d name 0
-  pub links : nlink t.files d make.enter.dir < max_links
+  pub links : nlink t.files d make.enter.dir < t.limits.links
 
 -- and a link with this path
 pub record MayMakeLink (t : Tree) (d : ℕ) (name path : List ℕ) : Type 0 where
   pub make : MayMake t d name 0
-  pub long : length path ≤ max_path_bytes
+  pub long : length path ≤ t.limits.link_path
 
 -- directory d takes an entry of this name for file n of its volume, which is no directory
 pub record MayLink (t : Tree) (n d : ℕ) (name : List ℕ) : Type 0 where
@@ -44,14 +45,14 @@ pub record MayLink (t : Tree) (n d : ℕ) (name : List ℕ) : Type 0 where
   pub at_file : Lives t n file
   pub not_directory : is_directory file.kind ≡ false
   pub volume : file.volume ≡ enter.dir.volume
-  pub links : names_of n t.files < max_links
+  pub links : names_of n t.files < t.limits.links
 
 -- file n is regular, and it and its volume have room for so many bytes at an offset; no bytes need none
 pub record MayWrite (t : Tree) (n offset count : ℕ) : Type 0 where
   pub file : File
   pub at_file : Lives t n file
   pub regular : is_regular file.kind ≡ true
-  pub large : 0 < count → offset + count ≤ max_file_bytes
+  pub large : 0 < count → offset + count ≤ t.limits.file_size
   pub volume : Volume
   pub at_volume : slice_get t.volumes file.volume ≡ Some volume
   pub room : 0 < count → bytes_of file.volume t.files + (offset + count - length (bytes_in file.kind)) ≤ volume.max_bytes
@@ -68,7 +69,7 @@ pub record MayResize (t : Tree) (n size : ℕ) : Type 0 where
   pub file : File
   pub at_file : Lives t n file
   pub regular : is_regular file.kind ≡ true
-  pub large : size ≤ max_file_bytes
+  pub large : size ≤ t.limits.file_size
   pub volume : Volume
   pub at_volume : slice_get t.volumes file.volume ≡ Some volume
   pub room : bytes_of file.volume t.files + (size - length (bytes_in file.kind)) ≤ volume.max_bytes
@@ -109,7 +110,7 @@ pub record MayCarry (t : Tree) (from : ℕ) (name : List ℕ) (to : ℕ) (new_na
   pub fresh : All (λ e. e.name ≢ new_name) (entries_in target.kind)
   pub cookie : next_cookie_in target.kind < 2 ^ 64 - 1
   pub off : is_directory file.kind ≡ true → IsOff t to entry.number
-  pub links : is_directory file.kind ≡ true → (to ≡ from) ⊎ (nlink t.files to target < max_links)
+  pub links : is_directory file.kind ≡ true → (to ≡ from) ⊎ (nlink t.files to target < t.limits.links)
 
 -- a name in directory d is not that of file n
 abbrev pub NamesOther : Tree → ℕ → List ℕ → ℕ → Type 0
@@ -143,7 +144,7 @@ pub record MayRename (t : Tree) (from : ℕ) (name : List ℕ) (to : ℕ) (new_n
   pub cookie : NamesOther t to new_name entry.number → next_cookie_in target.kind < 2 ^ 64 - 1
   pub replaced : (old : Entry) → entry_named new_name (entries_in target.kind) ≡ Some old → old.number ≢ entry.number → MayReplace t old.number file
   pub off : NamesOther t to new_name entry.number → is_directory file.kind ≡ true → IsOff t to entry.number
-  pub links : entry_named new_name (entries_in target.kind) ≡ None → is_directory file.kind ≡ true → (to ≡ from) ⊎ (nlink t.files to target < max_links)
+  pub links : entry_named new_name (entries_in target.kind) ≡ None → is_directory file.kind ≡ true → (to ≡ from) ⊎ (nlink t.files to target < t.limits.links)
 
 -- the same, where the file that the old name names, and that which the new one names, if it names one, are known
 pub record MayRenameSeen (t : Tree) (route : Route) (name new_name : List ℕ) : Type 0 where
@@ -152,17 +153,19 @@ pub record MayRenameSeen (t : Tree) (route : Route) (name new_name : List ℕ) :
   pub names : option_map (λ (n : Number). n.0) route.replaced ≡ option_map (λ (e : Entry). e.number) (entry_at t route.to.0 new_name)
 
 -- a volume more, of a path that no volume has
-pub record MayAddVolume (t : Tree) (path : List ℕ) (max_files : ℕ) : Type 0 where
+pub record MayAddVolume (t : Tree) (path : List ℕ) (max_bytes max_files : ℕ) : Type 0 where
   pub few : length t.volumes < max_volumes
   pub short : length path ≤ max_volume_path_bytes
   pub fresh : All (λ v. v.path ≢ path) t.volumes
   pub number : t.next < 2 ^ 64 - 1
+  pub bytes : max_bytes ≤ max_volume_bytes
   pub files : 1 ≤ max_files
+  pub many : max_files ≤ t.limits.files
 
 -- what a new file in directory d is like, before it has a name
-pub record IsNew (d size : ℕ) (dir f : File) : Type 0 where
+pub record IsNew (limits : Limits) (d size : ℕ) (dir f : File) : Type 0 where
   pub tag : f.tag < 2 ^ 32
-  pub sound : IsSound f
+  pub sound : IsSound limits f
   pub volume : f.volume ≡ dir.volume
   pub empty : entries_in f.kind ≡ []
   pub bytes : length (bytes_in f.kind) ≡ size

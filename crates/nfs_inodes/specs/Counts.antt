@@ -1,6 +1,7 @@
 -- What is kept beside the tree: the links of each file and the totals of each volume, equal to what counting afresh would give.
 use Rattle.std.specs.Prelude.{suc, zero, ◌≡◌, ℕ, ◌+◌, ◌<◌, ◌^◌, List, [], ◌∷◌, map, Some, slice_get}
 use Rattle.nfs_inodes.specs.Tree.{Tree, File, Volume, at, nlink, bytes_of, files_of}
+use Rattle.nfs_inodes.specs.declared.limits.Limits.{Limits}
 use Rattle.nfs_inodes.specs.Law.{Law}
 
 pub record CountedFile : Type 0 where
@@ -17,12 +18,13 @@ pub record CountedTree : Type 0 where
   pub next : ℕ
   pub key : List ℕ
   pub volumes : List CountedVolume
+  pub limits : Limits
 
 abbrev pub files_in : List (ℕ × CountedFile) → List (ℕ × File)
 files_in files = map (λ e. (e.0, e.1.file)) files
 
 abbrev pub tree_in : CountedTree → Tree
-tree_in k = record { files = files_in k.files; next = k.next; key = k.key; volumes = map (λ c. c.volume) k.volumes }
+tree_in k = record { files = files_in k.files; next = k.next; key = k.key; volumes = map (λ c. c.volume) k.volumes; limits = k.limits }
 
 -- so many bytes and files more in the volume of this index
 abbrev pub with_totals : List CountedVolume → ℕ → ℕ → ℕ → List CountedVolume

@@ -4,6 +4,7 @@ use Rattle.nfs_attrs.specs.declared.fattr.Fattr.{Fattr}
 use Rattle.nfs_attrs.specs.declared.file_type.FileType.{FileType}
 use Rattle.nfs_attrs.specs.declared.file_type.FileType.TheVariants as file_type
 use Rattle.nfs_attrs.specs.declared.moment.Moment.{Moment}
+use Rattle.nfs_inodes.specs.Limits.{default_limits}
 use Rattle.nfs_inodes.specs.Tree.{Tree, File, Kind, Entry, Regular, Directory}
 use Rattle.nfs_inodes.specs.Changes.{after_link, after_unlink, after_rename}
 use Rattle.nfs_inodes.specs.Reading.{dot_dot, number_under, entry_after, next_cookie_at, attributes_at, totals_at, bytes_at, path_at, verifier_at, volume_named}
@@ -71,6 +72,7 @@ tree_e = record {
   key = 0x01 ∷ 0x02 ∷ 0x03 ∷ 0x04 ∷ 0x05 ∷ 0x06 ∷ 0x07 ∷ 0x08 ∷ [];
   volumes = record { path = 0x2f ∷ 0x61 ∷ []; max_bytes = 20000000; max_files = 12; root = 1 }
       ∷ record { path = 0x2f ∷ 0x62 ∷ []; max_bytes = 1000; max_files = 4; root = 8 } ∷ [];
+  limits = default_limits;
 }
 
 -- attributes of a file with the times 0

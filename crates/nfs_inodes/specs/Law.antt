@@ -1,6 +1,7 @@
 -- The law of the tree, where file x may as yet be named by no entry; 0 is no file.
 use Rattle.std.specs.Prelude.{suc, zero, ◌≡◌, ◌≢◌, ℕ, ◌≤◌, ◌<◌, true, false, List, [], ◌∷◌, length, Some, None, All, AllPairs, Contains, slice_get, filter}
-use Rattle.nfs_inodes.specs.Limits.{max_name_bytes, max_file_bytes, max_path_bytes, max_links, max_volumes, max_volume_path_bytes}
+use Rattle.nfs_inodes.specs.Limits.{max_name_bytes, max_volumes, max_volume_bytes, max_volume_path_bytes, AreLimits}
+use Rattle.nfs_inodes.specs.declared.limits.Limits.{Limits}
 use Rattle.nfs_inodes.specs.Tree.{Tree, File, Entry, Volume, at, on_some, is_directory, entries_in, parent_in, next_cookie_in, bytes_in}
 use Rattle.nfs_inodes.specs.Tree.{path_in, names_of, nlink, bytes_of, files_of}
 use Rattle.nfs_inodes.specs.Reading.{numbered_files}
@@ -19,10 +20,10 @@ abbrev pub AreApart : List Entry → Type 0
 AreApart entries = AllPairs (λ e g. e.name ≢ g.name) entries
 
 -- what is true of one file alone
-pub record IsSound (f : File) : Type 0 where
+pub record IsSound (limits : Limits) (f : File) : Type 0 where
   pub mode : f.mode < 4096
-  pub bytes : length (bytes_in f.kind) ≤ max_file_bytes
-  pub path : length (path_in f.kind) ≤ max_path_bytes
+  pub bytes : length (bytes_in f.kind) ≤ limits.file_size
+  pub path : length (path_in f.kind) ≤ limits.link_path
   pub names : All (λ e. IsName e.name) (entries_in f.kind)
   pub cookies : All (λ e. (3 ≤ e.cookie) × (e.cookie < next_cookie_in f.kind)) (entries_in f.kind)
   pub next_cookie : is_directory f.kind ≡ true → 3 ≤ next_cookie_in f.kind
@@ -57,9 +58,15 @@ Lives t n f = at n t.files ≡ Some f
 abbrev pub LivesAsDirectory : Tree → ℕ → File → Type 0
 LivesAsDirectory t n f = (at n t.files ≡ Some f) × (is_directory f.kind ≡ true)
 
+-- what a volume may be made for
+pub record IsWithin (limits : Limits) (v : Volume) : Type 0 where
+  pub bytes : v.max_bytes ≤ max_volume_bytes
+  pub files : v.max_files ≤ limits.files
+
 -- at most 64 volumes, with different paths of at most 255 bytes
-pub record AreVolumes (volumes : List Volume) : Type 0 where
+pub record AreVolumes (limits : Limits) (volumes : List Volume) : Type 0 where
   pub few : length volumes ≤ max_volumes
+  pub within : All (IsWithin limits) volumes
   pub paths : All (λ v. length v.path ≤ max_volume_path_bytes) volumes
   pub apart : AllPairs (λ v w. v.path ≢ w.path) volumes
 
@@ -67,7 +74,7 @@ pub record LawBut (x : ℕ) (t : Tree) : Type 0 where
   -- the next number is below 2^64, the key has 8 bytes, and each tag fits into a handle
   pub numbers : IsNumbered (numbered_files t)
   pub rising : AreRising 0 t.files t.next
-  pub sound : (n : ℕ) (f : File) → Lives t n f → IsSound f
+  pub sound : (n : ℕ) (f : File) → Lives t n f → IsSound t.limits f
   pub placed : (n : ℕ) (f : File) → Lives t n f → (v : Volume) × (slice_get t.volumes f.volume ≡ Some v)
   -- every entry names a file of the same volume, and what isn't there isn't named
   pub entries : (d : ℕ) (f : File) (e : Entry) → Lives t d f → Contains (entries_in f.kind) e → (g : File) × Lives t e.number g × (g.volume ≡ f.volume)
@@ -86,8 +93,9 @@ pub record LawBut (x : ℕ) (t : Tree) : Type 0 where
       → (steps : ℕ) × (v : Volume) × (slice_get t.volumes f.volume ≡ Some v) × (climb steps t.files n ≡ v.root)
   -- every other file has a name
   pub named : (n : ℕ) (f : File) → n ≢ x → Lives t n f → is_directory f.kind ≡ false → 1 ≤ names_of n t.files
-  pub links : (n : ℕ) (f : File) → Lives t n f → nlink t.files n f ≤ max_links
-  pub volumes : AreVolumes t.volumes
+  pub links : (n : ℕ) (f : File) → Lives t n f → nlink t.files n f ≤ t.limits.links
+  pub limits : AreLimits t.limits
+  pub volumes : AreVolumes t.limits t.volumes
   pub bytes : (index : ℕ) (v : Volume) → slice_get t.volumes index ≡ Some v → bytes_of index t.files ≤ v.max_bytes
   pub count : (index : ℕ) (v : Volume) → slice_get t.volumes index ≡ Some v → files_of index t.files ≤ v.max_files
 

@@ -37,7 +37,7 @@ pub record Leads (To : Tree → Tree → Type 0) : Type 0 where
   pub renames : (t : Tree) (from : ℕ) (name : List ℕ) (to : ℕ) (new_name : List ℕ) (now : Moment)
       → MayRename t from name to new_name → Law t → To t (after_rename t from name to new_name now)
   pub volumes : (t : Tree) (max_bytes max_files tag : ℕ) (path : List ℕ) (given : NewFile) (now : Moment)
-      → MayAddVolume t path max_files → tag < 2 ^ 32 → Law t → To t (after_add_volume t path max_bytes max_files given tag now)
+      → MayAddVolume t path max_bytes max_files → tag < 2 ^ 32 → Law t → To t (after_add_volume t path max_bytes max_files given tag now)
 
 abbrev pub ChangesKeepTheLaw : Type 0
 ChangesKeepTheLaw = Leads (λ t u. Law u)

@@ -2,6 +2,7 @@
 use Rattle.std.specs.Prelude.{◌≡◌, ℕ, ◌+◌, ◌≤◌, Bool, ◌||◌, true, false, nat_le, List, length, Some, slice_get}
 use Rattle.nfs_attrs.specs.declared.moment.Moment.{Moment}
 use Rattle.nfs_handles.specs.NumberedFiles.{NumberedFiles, TaggedFile, at, value_at, without}
+use Rattle.nfs_inodes.specs.declared.limits.Limits.{Limits}
 use Rattle.nfs_inodes.specs.declared.stored_file.StoredFile.{StoredFile}
 use Rattle.nfs_inodes.specs.declared.stored_volume.StoredVolume.{StoredVolume}
 use Rattle.nfs_inodes.specs.declared.removal.Freed.{Freed}
@@ -74,7 +75,7 @@ pub record HasTotals (stored_volumes : List StoredVolume) (index bytes files : �
   pub has_files : files ≤ stored_volume.files
 
 -- what is kept agrees with the tree, whose directory d may lose the entry of a name, which names file n
-pub record Removes (files : NumberedFiles StoredFile) (stored_volumes : List StoredVolume) (d : ℕ) (name : List ℕ) (n : ℕ) : Type 0 where
-  pub agree : Agrees (counted_tree_of files stored_volumes)
-  pub may : MayUnlink (tree_in (counted_tree_of files stored_volumes)) d name
+pub record Removes (limits : Limits) (files : NumberedFiles StoredFile) (stored_volumes : List StoredVolume) (d : ℕ) (name : List ℕ) (n : ℕ) : Type 0 where
+  pub agree : Agrees (counted_tree_of limits files stored_volumes)
+  pub may : MayUnlink (tree_in (counted_tree_of limits files stored_volumes)) d name
   pub number : n ≡ may.entry.number

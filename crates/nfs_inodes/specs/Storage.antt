@@ -5,6 +5,7 @@ use Rattle.nfs_inodes.specs.declared.stored_file.Node.{Node}
 use Rattle.nfs_inodes.specs.declared.stored_file.Node.TheVariants as node
 use Rattle.nfs_inodes.specs.declared.stored_volume.StoredVolume.{StoredVolume}
 use Rattle.nfs_inodes.specs.Tree.{File, Kind, Volume, Regular, Directory, Link}
+use Rattle.nfs_inodes.specs.declared.limits.Limits.{Limits}
 use Rattle.nfs_inodes.specs.Counts.{CountedFile, CountedVolume, CountedTree}
 use Rattle.nfs_handles.specs.NumberedFiles.{NumberedFiles, TaggedFile}
 
@@ -50,10 +51,11 @@ HasRoom i = has_room i.node
 abbrev pub counted_files : List (ℕ × TaggedFile StoredFile) → List (ℕ × CountedFile)
 counted_files files = map (λ e. (e.0, counted_file_of e.1.tag e.1.value)) files
 
-abbrev pub counted_tree_of : NumberedFiles StoredFile → List StoredVolume → CountedTree
-counted_tree_of numbered_files stored_volumes = record {
+abbrev pub counted_tree_of : Limits → NumberedFiles StoredFile → List StoredVolume → CountedTree
+counted_tree_of limits numbered_files stored_volumes = record {
   files = counted_files numbered_files.files;
   next = numbered_files.next;
   key = numbered_files.key;
   volumes = map counted_volume_of stored_volumes;
+  limits = limits;
 }

@@ -2,6 +2,7 @@
 use Rattle.std.specs.Prelude.{ℕ, ◌+◌, Bool, true, false, List, [], length, sum_by, nat_eq, Option, Some, None, if◌then◌else◌}
 use Rattle.std.specs.Map.{lookup, set_value, remove_entry}
 use Rattle.nfs_attrs.specs.declared.moment.Moment.{Moment}
+use Rattle.nfs_inodes.specs.declared.limits.Limits.{Limits}
 pub use Rattle.nfs_entries.specs.Listing.{Entry}
 
 -- what a file is: its bytes; its parent, its next cookie and its entries; or a path
@@ -38,6 +39,7 @@ pub record Tree : Type 0 where
   pub next : ℕ
   pub key : List ℕ
   pub volumes : List Volume
+  pub limits : Limits
 
 -- the value under a number
 abbrev pub at : {X : Type 0} → ℕ → List (ℕ × X) → Option X

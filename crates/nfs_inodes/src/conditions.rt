@@ -1,14 +1,11 @@
 //! What may be added: tests for the conditions of the operations that a description asks for.
 ghost use Rattle.std.specs.Prelude.{◌↔◌, ◌+◌, ◌<◌, ◌≤◌, IsTrue};
-ghost use Rattle.nfs_inodes.specs.Limits.{max_links};
 ghost use Rattle.nfs_inodes.specs.StepConditions.{TakesName, TakesFile, TakesLinkIn};
 ghost use Rattle.nfs_inodes.specs.StepConditions.{MayGainLink, HasRoomIn};
 ghost use Rattle.nfs_inodes.specs.Conditions.{MayMake, MayMakeDirectory, MayMakeLink, MayLink};
 ghost use Rattle.nfs_inodes.specs.Conditions.{MayAddVolume};
 
-use crate::limits::{
-    MAX_FILE_BYTES, MAX_LINKS, MAX_PATH_BYTES, MAX_VOLUME_PATH_BYTES, MAX_VOLUMES,
-};
+use crate::limits::{Limits, MAX_VOLUME_BYTES, MAX_VOLUME_PATH_BYTES, MAX_VOLUMES};
 use crate::name::is_name;
 use crate::stored_file::{Node, StoredFile};
 use crate::stored_volume::StoredVolume;
@@ -17,14 +14,17 @@ use crate::volumes::stored_volume_at;
 use nfs_handles::number::Number;
 
 impl Tree {
-    /// Whether a volume of this path and for so many files may be added.
-    pub fn may_add_volume(&self, path: &[u8], max_files: u64) -> bool
-        ensures { IsTrue result ↔ MayAddVolume self.now path.now max_files }
+    /// Whether a volume of this path, and for so many bytes and files, may be added.
+    pub fn may_add_volume(&self, path: &[u8], max_bytes: u64, max_files: u64) -> bool
+        ensures { IsTrue result ↔ MayAddVolume self.now path.now max_bytes max_files }
     {
         if self.volumes() >= MAX_VOLUMES || path.len() > MAX_VOLUME_PATH_BYTES {
             return false;
         }
         if self.next_number() >= u64::MAX || max_files < 1 {
+            return false;
+        }
+        if max_bytes > MAX_VOLUME_BYTES || max_files > self.limits().files {
             return false;
         }
         self.volume_named(path).is_none()
@@ -46,7 +46,7 @@ impl Tree {
     {
         match self.files.get(dir) {
             Some(stored_file) => {
-                if !has_link_left(stored_file) {
+                if !has_link_left(stored_file, self.limits()) {
                     return false;
                 }
                 self.takes_file(stored_file, name, 0)
@@ -59,7 +59,7 @@ impl Tree {
     pub fn may_make_link(&self, dir: Number, name: &[u8], path: &[u8]) -> bool
         ensures { IsTrue result ↔ MayMakeLink self.now dir.0 name.now path.now }
     {
-        if path.len() > MAX_PATH_BYTES {
+        if path.len() > self.limits().link_path {
             return false;
         }
         self.may_make(dir, name, 0)
@@ -84,7 +84,7 @@ impl Tree {
     fn takes_file(&self, stored_file: &StoredFile, name: &[u8], size: usize) -> bool
         ensures { IsTrue result ↔ TakesFile self.now stored_file.now name.now size }
     {
-        if self.files.next() >= u64::MAX || size > MAX_FILE_BYTES {
+        if self.files.next() >= u64::MAX || size > self.limits().file_size {
             return false;
         }
         if !self.has_room(stored_file.volume, size as u64) {
@@ -98,7 +98,7 @@ impl Tree {
         ensures { IsTrue result ↔ MayGainLink self.now number.0 index }
     {
         match self.files.get(number) {
-            Some(stored_file) => takes_link(stored_file, index),
+            Some(stored_file) => takes_link(stored_file, index, self.limits()),
             None => false,
         }
     }
@@ -128,17 +128,17 @@ fn takes_size(stored_volume: &StoredVolume, size: u64) -> bool
 }
 
 // Whether a kept file is no directory, of the volume of this index, and may have a link more.
-fn takes_link(stored_file: &StoredFile, index: usize) -> bool
-    ensures { IsTrue result ↔ TakesLinkIn stored_file.now index }
+fn takes_link(stored_file: &StoredFile, index: usize, limits: Limits) -> bool
+    ensures { IsTrue result ↔ TakesLinkIn limits stored_file.now index }
 {
-    !stored_file.is_directory() && stored_file.volume == index && has_link_left(stored_file)
+    !stored_file.is_directory() && stored_file.volume == index && has_link_left(stored_file, limits)
 }
 
 // Whether a kept file may have a link more.
-fn has_link_left(stored_file: &StoredFile) -> bool
-    ensures { IsTrue result ↔ (stored_file.now.nlink < max_links) }
+fn has_link_left(stored_file: &StoredFile, limits: Limits) -> bool
+    ensures { IsTrue result ↔ (stored_file.now.nlink < limits.links) }
 {
-    stored_file.nlink < MAX_LINKS
+    stored_file.nlink < limits.links
 }
 
 // Whether a kept file is a directory that takes an entry of this name.

@@ -11,6 +11,7 @@ ghost use Rattle.nfs_inodes.specs.Removals.{HasRoomAt, LosesEntry, Leaves, Goes,
 ghost use Rattle.nfs_inodes.specs.Removals.{HasEntries, HasTotals, Removes, Stands};
 ghost use Rattle.nfs_handles.specs.NumberedFiles.{value_at};
 
+use crate::limits::Limits;
 use crate::stored_file::{StoredFile, remove_entry};
 use crate::stored_volume::StoredVolume;
 use crate::tree::Tree;
@@ -33,7 +34,14 @@ impl Tree {
         };
         let file = standing_of(&self.files, number);
         let removal = Removal { dir, number, file };
-        take_out(&mut self.files, &mut self.volumes, removal, name, now);
+        take_out(
+            &mut self.files,
+            &mut self.volumes,
+            self.limits,
+            removal,
+            name,
+            now,
+        );
     }
 
     /// The same where the file that the entry names was seen, without a search for it.
@@ -50,7 +58,14 @@ impl Tree {
         ensures { self.new ≡ after_unlink self.old dir.0 name.now now }
     {
         let removal = Removal { dir, number, file };
-        take_out(&mut self.files, &mut self.volumes, removal, name, now);
+        take_out(
+            &mut self.files,
+            &mut self.volumes,
+            self.limits,
+            removal,
+            name,
+            now,
+        );
     }
 }
 
@@ -99,15 +114,16 @@ pub(crate) struct Removal {
 pub(crate) fn take_out(
     files: &mut Files<StoredFile>,
     volumes: &mut Vec<StoredVolume>,
+    limits: Limits,
     removal: Removal,
     name: &[u8],
     now: Moment,
 )
-    requires removes { Removes files.old volumes.old.items removal.dir.0 name.now removal.number.0 }
+    requires removes { Removes limits files.old volumes.old.items removal.dir.0 name.now removal.number.0 }
     requires stands { Stands files.old removal.number.0 removal.file }
-    ensures agree { Agrees (counted_tree_of files.new volumes.new.items) }
-    ensures done { tree_in (counted_tree_of files.new volumes.new.items)
-        ≡ after_unlink (tree_in (counted_tree_of files.old volumes.old.items)) removal.dir.0 name.now now }
+    ensures agree { Agrees (counted_tree_of limits files.new volumes.new.items) }
+    ensures done { tree_in (counted_tree_of limits files.new volumes.new.items)
+        ≡ after_unlink (tree_in (counted_tree_of limits files.old volumes.old.items)) removal.dir.0 name.now now }
     ensures room { (d : ℕ) → d ≢ removal.number.0 → HasRoomAt files.old d → HasRoomAt files.new d }
 {
     leave(files, removal.dir, name, removal.file.directory, now);

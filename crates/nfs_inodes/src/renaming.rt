@@ -1,5 +1,6 @@
 //! Entries that go from one name to another.
 ghost use Rattle.std.specs.Prelude.{◌≡◌, ◌↔◌, IsTrue, List, OnOk, OnErr, Some, option_map};
+ghost use Rattle.nfs_inodes.specs.declared.limits.Limits.{Limits};
 ghost use Rattle.nfs_inodes.specs.declared.stored_volume.StoredVolume.{StoredVolume};
 ghost use Rattle.nfs_inodes.specs.Changes.{after_rename};
 ghost use Rattle.nfs_inodes.specs.Conditions.{MayRename, MayRenameSeen, NameApart};
@@ -9,6 +10,7 @@ ghost use Rattle.nfs_inodes.specs.StoredFiles.{Revalues, IsThere};
 ghost use Rattle.nfs_inodes.specs.Renamings.{MovesTo, Carries, HasCarried, Renames};
 
 use crate::copied::copied;
+use crate::limits::Limits;
 use crate::removal::{Removal, is_directory, leave, standing_of, take_out};
 use crate::stored_file::{StoredFile, set_parent};
 use crate::stored_files::{enter, reserve};
@@ -71,6 +73,7 @@ impl Tree {
         move_entry(
             &mut self.files,
             &mut self.volumes,
+            self.limits,
             route,
             name,
             new_name,
@@ -108,15 +111,16 @@ fn is_number(found: Option<Number>, number: Number) -> bool
 fn move_entry(
     files: &mut Files<StoredFile>,
     volumes: &mut Vec<StoredVolume>,
+    limits: Limits,
     route: Route,
     name: &[u8],
     new_name: Vec<u8>,
     now: Moment,
 )
-    requires { Renames files.old volumes.old.items route name.now new_name.items }
-    ensures agree { Agrees (counted_tree_of files.new volumes.new.items) }
-    ensures done { tree_in (counted_tree_of files.new volumes.new.items)
-        ≡ after_rename (tree_in (counted_tree_of files.old volumes.old.items)) route.from.0 name.now route.to.0 new_name.items now }
+    requires { Renames limits files.old volumes.old.items route name.now new_name.items }
+    ensures agree { Agrees (counted_tree_of limits files.new volumes.new.items) }
+    ensures done { tree_in (counted_tree_of limits files.new volumes.new.items)
+        ≡ after_rename (tree_in (counted_tree_of limits files.old volumes.old.items)) route.from.0 name.now route.to.0 new_name.items now }
 {
     if let Some(old) = route.replaced {
         let removal = Removal {
@@ -124,7 +128,7 @@ fn move_entry(
             number: old,
             file: standing_of(files, old),
         };
-        take_out(files, volumes, removal, new_name.as_slice(), now);
+        take_out(files, volumes, limits, removal, new_name.as_slice(), now);
         carry(files, route, name, new_name, now);
         return;
     }
@@ -133,9 +137,9 @@ fn move_entry(
 
 // The entry of a name goes to another that is free, for which there is room.
 fn carry(files: &mut Files<StoredFile>, route: Route, name: &[u8], new_name: Vec<u8>, now: Moment)
-    requires { (stored_volumes : List StoredVolume) × Carries files.old stored_volumes route name.now new_name.items }
-    ensures { (stored_volumes : List StoredVolume) → Carries files.old stored_volumes route name.now new_name.items
-        → HasCarried files.old files.new stored_volumes route name.now new_name.items now }
+    requires { (limits : Limits) × (stored_volumes : List StoredVolume) × Carries limits files.old stored_volumes route name.now new_name.items }
+    ensures { (limits : Limits) (stored_volumes : List StoredVolume) → Carries limits files.old stored_volumes route name.now new_name.items
+        → HasCarried limits files.old files.new stored_volumes route name.now new_name.items now }
 {
     let subdirectory = is_directory(files, route.number);
     leave(files, route.from, name, subdirectory, now);

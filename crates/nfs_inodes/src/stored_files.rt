@@ -38,10 +38,7 @@ pub(crate) fn add(
     ensures err { OnErr result (SameFiles files.old files.new) }
 {
     let subdirectory = stored_file.is_directory();
-    let number = match files.put(stored_file) {
-        Ok(number) => number,
-        Err(_) => return Err(AllocError),
-    };
+    let number = files.add(stored_file)?;
     enter(files, dir, name, number, subdirectory, now);
     Ok(number)
 }

@@ -2,11 +2,12 @@
 ghost use Rattle.std.specs.Prelude.{◌≡◌, ◌+◌, ◌<◌, Option, Some, None, OnOk, OnErr, IfOk, length};
 ghost use Rattle.std.specs.Prelude.{[], ◌∷◌, ◌++◌, vec_len, vec_capacity, map};
 ghost use Rattle.nfs_inodes.specs.Tree.{File, Regular, Directory, Link};
+ghost use Rattle.nfs_inodes.specs.Limits.{AreLimits, default_limits};
 ghost use Rattle.nfs_inodes.specs.Law.{Law, Lives};
 ghost use Rattle.nfs_inodes.specs.Changes.{Makes, after_make_file, after_mkdir, after_make_link};
 ghost use Rattle.nfs_inodes.specs.Changes.{after_link, after_write_at, after_resize};
 ghost use Rattle.nfs_inodes.specs.Changes.{after_set, after_add_volume, with_next_from, with_key};
-ghost use Rattle.nfs_inodes.specs.Changes.{with_named_file, new_file, volume_index};
+ghost use Rattle.nfs_inodes.specs.Changes.{with_named_file, new_file, volume_index, with_limits};
 ghost use Rattle.nfs_inodes.specs.Conditions.{MayMake, MayMakeDirectory, MayMakeLink, MayLink};
 ghost use Rattle.nfs_inodes.specs.Conditions.{MayWrite, Grows, MayResize, MayAddVolume};
 ghost use Rattle.nfs_inodes.specs.Storage.{kind_of, counted_volume_of};
@@ -15,6 +16,7 @@ ghost use Rattle.nfs_inodes.specs.Counts.{with_totals};
 
 use crate::copied::copied;
 use crate::given_attributes::GivenAttributes;
+use crate::limits::Limits;
 use crate::new_file::{NewContent, NewFile};
 use crate::stored_file::{Node, StoredFile};
 use crate::stored_files::{add, link, reserve, resize, set, write};
@@ -31,6 +33,7 @@ pub struct Tree {
     pub(crate) alloc: Global,
     pub(crate) files: Files<StoredFile>,
     pub(crate) volumes: Vec<StoredVolume>,
+    pub(crate) limits: Limits,
 }
 
 impl Model for Tree {
@@ -41,21 +44,37 @@ impl Model for Tree {
     ghost use Rattle.nfs_inodes.specs.Counts.{tree_in, Agrees};
     ghost use Rattle.nfs_inodes.specs.Storage.{counted_tree_of};
 
-    ghost view = { λ a. tree_in (counted_tree_of a.files a.volumes.items) };
+    ghost view = { λ a. tree_in (counted_tree_of a.limits a.files a.volumes.items) };
 
-    ghost invariant = { λ a. Agrees (counted_tree_of a.files a.volumes.items) };
+    ghost invariant = { λ a. Agrees (counted_tree_of a.limits a.files a.volumes.items) };
 }
 
 impl Tree {
     /// No volumes and no files; the key is the server's, in every handle.
     pub fn new(alloc: Global, key: [u8; 8]) -> Tree
-        ensures { result ≡ record { files = []; next = 1; key = key; volumes = [] } }
+        ensures { result ≡ record { files = []; next = 1; key = key; volumes = []; limits = default_limits } }
+    {
+        Tree::with_limits(alloc, key, Limits::standard())
+    }
+
+    /// The same with other limits.
+    pub fn with_limits(alloc: Global, key: [u8; 8], limits: Limits) -> Tree
+        requires { AreLimits limits }
+        ensures { result ≡ record { files = []; next = 1; key = key; volumes = []; limits = limits } }
     {
         Tree {
             alloc,
             files: Files::new(alloc, key, 1),
             volumes: Vec::new(alloc),
+            limits,
         }
+    }
+
+    /// What it takes at most of a file.
+    pub fn limits(&self) -> Limits
+        ensures { result ≡ self.now.limits }
+    {
+        self.limits
     }
 
     /// What always holds of the tree, for proofs.
@@ -86,6 +105,15 @@ impl Tree {
         ensures { self.new ≡ with_key self.old key }
     {
         self.files.set_key(key);
+    }
+
+    /// Gives the tree other limits, while it has no volume.
+    pub fn set_limits(&mut self, limits: Limits)
+        requires are { AreLimits limits }
+        requires none { self.old.volumes ≡ [] }
+        ensures { self.new ≡ with_limits self.old limits }
+    {
+        self.limits = limits;
     }
 
     /// Where the tree's memory comes from, and that of contents that become its own.
@@ -240,7 +268,7 @@ impl Tree {
         given: &NewFile,
         now: Moment,
     ) -> Result<Number, AllocError>
-        requires { MayAddVolume self.old path.now max_files }
+        requires { MayAddVolume self.old path.now max_bytes max_files }
         ensures ok { OnOk result (Makes (λ tag. after_add_volume self.old path.now max_bytes max_files given.now tag now) self.new) }
         ensures number { IfOk result (λ n. n.0 ≡ self.old.next) }
         ensures err { OnErr result (self.new ≡ self.old) }
@@ -250,10 +278,7 @@ impl Tree {
         let parent = Number::new(self.files.next());
         let node = Node::directory(self.alloc, parent)?;
         let stored_file = StoredFile::new(self.volumes.len(), node, given, None, now);
-        let root = match self.files.put(stored_file) {
-            Ok(root) => root,
-            Err(_) => return Err(AllocError),
-        };
+        let root = self.files.add(stored_file)?;
         append(
             &mut self.volumes,
             StoredVolume {

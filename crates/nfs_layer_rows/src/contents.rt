@@ -1,20 +1,23 @@
-//! The content of a regular file, in pages and in one vector.
+//! The content of a regular file, in pages, and in one vector where it is small.
 
 use nfs_content::content::Content;
+use nfs_content::limits::MAX_CONTENT_BYTES;
 use nfs_content::pages::Pages;
 use nfs_flat::flat::Flat;
-use nfs_inodes::limits::MAX_FILE_BYTES;
 use rows::answers::{debug_text, digits, text};
 use rows::words::{bytes, size};
 use std::alloc::Global;
 use std::str::SplitWhitespace;
 
-/// The same bytes, kept both ways.
+// The most bytes that are kept in one vector as well.
+const MAX_FLAT_BYTES: usize = 16_777_216;
+
+/// The same bytes, kept both ways; in pages alone since they were more than one vector is for.
 #[derive(Drop)]
 pub(crate) struct Contents {
     alloc: Global,
     pages: Pages,
-    flat: Flat,
+    flat: Option<Flat>,
 }
 
 impl Contents {
@@ -23,7 +26,7 @@ impl Contents {
         Contents {
             alloc,
             pages: Pages::zeros(alloc, 0),
-            flat: Flat::new(alloc),
+            flat: Some(Flat::new(alloc)),
         }
     }
 
@@ -44,49 +47,62 @@ impl Contents {
 
     fn begin(&mut self) -> Option<String> {
         self.pages = Pages::zeros(self.alloc, 0);
-        self.flat = Flat::new(self.alloc);
+        self.flat = Some(Flat::new(self.alloc));
         text(self.alloc, "done")
     }
 
     fn len(&self) -> Option<String> {
-        let lens = (self.pages.len(), self.flat.len());
-        if lens.0 == lens.1 {
-            debug_text(self.alloc, lens.0)
-        } else {
-            debug_text(self.alloc, lens)
+        let len = self.pages.len();
+        match &self.flat {
+            Some(flat) if flat.len() != len => debug_text(self.alloc, (len, flat.len())),
+            _ => debug_text(self.alloc, len),
         }
     }
 
     fn bytes(&self, words: &mut SplitWhitespace<'_>) -> Option<String> {
         let (offset, count) = (size(words)?, size(words)?);
         let paged = gathered(self.alloc, &self.pages, offset, count)?;
-        let whole = gathered(self.alloc, &self.flat, offset, count)?;
-        if paged.as_slice() == whole.as_slice() {
-            digits(self.alloc, paged.as_slice())
-        } else {
-            text(self.alloc, "not alike")
+        if let Some(flat) = &self.flat {
+            let whole = gathered(self.alloc, flat, offset, count)?;
+            if paged.as_slice() != whole.as_slice() {
+                return text(self.alloc, "not alike");
+            }
         }
+        digits(self.alloc, paged.as_slice())
     }
 
     fn put(&mut self, words: &mut SplitWhitespace<'_>) -> Option<String> {
         let offset = size(words)?;
         let new = bytes(self.alloc, words)?;
-        if offset > MAX_FILE_BYTES || new.len() > MAX_FILE_BYTES - offset {
+        if offset > MAX_CONTENT_BYTES || new.len() > MAX_CONTENT_BYTES - offset {
             return text(self.alloc, "too large");
         }
+        self.keep_small(offset + new.len());
         self.pages.put_at(offset, new.as_slice()).ok()?;
-        self.flat.put_at(offset, new.as_slice()).ok()?;
+        if let Some(flat) = &mut self.flat {
+            flat.put_at(offset, new.as_slice()).ok()?;
+        }
         text(self.alloc, "done")
     }
 
     fn size(&mut self, words: &mut SplitWhitespace<'_>) -> Option<String> {
         let len = size(words)?;
-        if len > MAX_FILE_BYTES {
+        if len > MAX_CONTENT_BYTES {
             return text(self.alloc, "too large");
         }
+        self.keep_small(len);
         self.pages.set_len(len).ok()?;
-        self.flat.set_len(len).ok()?;
+        if let Some(flat) = &mut self.flat {
+            flat.set_len(len).ok()?;
+        }
         text(self.alloc, "done")
+    }
+
+    // No vector for so many bytes where they are too many for one.
+    fn keep_small(&mut self, len: usize) {
+        if len > MAX_FLAT_BYTES {
+            self.flat = None;
+        }
     }
 }
 

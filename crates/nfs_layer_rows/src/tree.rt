@@ -1,4 +1,6 @@
 //! The tree of files: what is read of it, and what its operations do.
+ghost use Rattle.std.specs.Prelude.{IfSome};
+ghost use Rattle.nfs_inodes.specs.Limits.{AreLimits};
 
 use nfs_attrs::moment::Moment;
 use nfs_conditions::bytes::{may_resize, may_write};
@@ -7,7 +9,7 @@ use nfs_conditions::moves;
 use nfs_content::pages::Pages;
 use nfs_handles::number::{Hint, Number};
 use nfs_inodes::given_attributes::GivenAttributes;
-use nfs_inodes::limits::MAX_FILE_BYTES;
+use nfs_inodes::limits::{Limits, MAX_FILE_BYTES, MAX_FILES, MAX_LINKS, MAX_PATH_BYTES};
 use nfs_inodes::new_file::{NewContent, NewFile};
 use nfs_inodes::tree::Tree;
 use nfs_load::description::load;
@@ -42,6 +44,30 @@ pub(crate) struct Served<'a> {
     tree: Tree,
 }
 
+// `limited FILE-SIZE LINKS LINK-PATH FILES`: limits that a tree may have.
+fn limits(words: &mut SplitWhitespace<'_>) -> Option<Limits>
+    ensures { IfSome result (λ limits. AreLimits limits) }
+{
+    let file_size = size(words)?;
+    let links = word(words)?;
+    let link_path = size(words)?;
+    let files = number(words)?;
+    if file_size > MAX_FILE_BYTES
+        || links < 2
+        || links > MAX_LINKS
+        || link_path > MAX_PATH_BYTES
+        || files > MAX_FILES
+    {
+        return None;
+    }
+    Some(Limits {
+        file_size,
+        links,
+        link_path,
+        files,
+    })
+}
+
 fn described(alloc: Global, description: &[u8]) -> Option<Tree> {
     Some(load(alloc, description).ok()?.tree)
 }
@@ -67,6 +93,7 @@ impl<'a> Served<'a> {
         match verb {
             "example" => self.tree = described(self.alloc, self.example)?,
             "empty" => self.tree = Tree::new(self.alloc, [0; 8]),
+            "limited" => self.tree = Tree::with_limits(self.alloc, [0; 8], limits(words)?),
             "make-file"
             | "make-dir"
             | "make-link"
@@ -162,7 +189,7 @@ fn content(alloc: Global, tree: &Tree, words: &mut SplitWhitespace<'_>) -> Optio
     let number = Number::new(number(words)?);
     let offset = size(words)?;
     let mut all = Vec::new(alloc);
-    for _ in 0..MAX_FILE_BYTES {
+    for _ in 0..tree.limits().file_size {
         let run = tree.bytes_at(number, offset.checked_add(all.len())?);
         if run.is_empty() {
             break;
@@ -404,13 +431,15 @@ fn rename(alloc: Global, tree: &mut Tree, words: &mut SplitWhitespace<'_>) -> Op
     done.ok().map(|_| to.0)
 }
 
-// `add-volume PATH FILES`: a volume of at most so many files, and no bytes.
+// `add-volume PATH FILES [BYTES]`: a volume of at most so many files, and bytes, of which it has none
+// where the word is missing.
 fn add_volume(alloc: Global, tree: &mut Tree, words: &mut SplitWhitespace<'_>) -> Option<u64> {
     let path = name(alloc, words)?;
     let max_files = number(words)?;
-    if !tree.may_add_volume(path.as_slice(), max_files) {
+    let max_bytes = number(words).unwrap_or(0);
+    if !tree.may_add_volume(path.as_slice(), max_bytes, max_files) {
         return None;
     }
-    let added = tree.add_volume(path.as_slice(), 0, max_files, &GIVEN, NOW);
+    let added = tree.add_volume(path.as_slice(), max_bytes, max_files, &GIVEN, NOW);
     added.ok().map(|number| number.0)
 }

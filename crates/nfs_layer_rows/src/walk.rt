@@ -33,7 +33,7 @@ pub(crate) fn answer(alloc: Global, words: &mut SplitWhitespace<'_>) -> Option<S
 
 // A volume of few bytes and files, so that some steps are refused.
 fn add_volume(tree: &mut Tree, path: &[u8], max_bytes: u64, max_files: u64) -> Option<()> {
-    if !tree.may_add_volume(path, max_files) {
+    if !tree.may_add_volume(path, max_bytes, max_files) {
         return None;
     }
     tree.add_volume(path, max_bytes, max_files, &GIVEN, NOW)

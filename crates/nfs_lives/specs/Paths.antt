@@ -4,7 +4,7 @@ use Rattle.sha2.specs.Sha256.{sha256}
 use Rattle.nfs_text.specs.Words.{words}
 use Rattle.nfs_load.specs.Lines.{is_comment, keyword_named}
 use Rattle.nfs_load.specs.declared.line.Keyword.{Keyword}
-use Rattle.nfs_load.specs.declared.line.Keyword.TheVariants.{Server, Volume, Export, Dir, File, Link, Hard}
+use Rattle.nfs_load.specs.declared.line.Keyword.TheVariants.{Server, Limits, Volume, Export, Dir, File, Link, Hard}
 
 -- what a line names: a path, and, where the file at it has another name, that path too, both as they are written
 pub record PathRow : Type 0 where
@@ -26,6 +26,7 @@ two_paths keyword (path ∷ old ∷ rest) = Some (record { keyword = keyword; pa
 -- by the keyword, and the words after it
 abbrev pub row_by : Keyword → List (List ℕ) → Option PathRow
 row_by Server fields = None
+row_by Limits fields = None
 row_by Volume fields = one_path Volume fields
 row_by Export fields = None
 row_by Dir fields = one_path Dir fields
@@ -58,6 +59,7 @@ rows_of (line ∷ rest) = onto (row_of line) (rows_of rest)
 -- a line with this keyword makes a file, with the next number
 abbrev pub makes_file : Keyword → Bool
 makes_file Server = false
+makes_file Limits = false
 makes_file Volume = true
 makes_file Export = false
 makes_file Dir = true
@@ -69,6 +71,7 @@ makes_file Hard = false
 
 abbrev pub word_of : Keyword → List ℕ
 word_of Server = codes "server"
+word_of Limits = codes "limits"
 word_of Volume = codes "volume"
 word_of Export = codes "export"
 word_of Dir = codes "dir"

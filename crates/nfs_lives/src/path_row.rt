@@ -1,13 +1,12 @@
 //! What a line of a description names.
 ghost use Rattle.std.specs.Prelude.{◌≡◌, option_map};
 ghost use Rattle.nfs_load.specs.Lines as load;
-ghost use Rattle.nfs_load.specs.Lines.{keyword_named};
 ghost use Rattle.nfs_text.specs.Words.{words_left};
 ghost use Rattle.nfs_lives.specs.Paths as spec;
 ghost use Rattle.nfs_lives.specs.Paths.{row_of, row_by};
 ghost use Rattle.nfs_lives.specs.Rows.{row_seen};
 
-use nfs_load::line::Keyword;
+use nfs_load::line::{Keyword, keyword_of};
 use nfs_text::words::Words;
 
 /// What a line names: the paths as they are written in it.
@@ -22,7 +21,7 @@ pub struct PathRow<'a> {
 }
 
 /// What a line that is given without its LF names. `None` where it names nothing: it has no words,
-/// its first byte is `#`, or its first word is `server`, `export` or no keyword. Three words of the
+/// its first byte is `#`, or its first word is `server`, `limits`, `export` or no keyword. Three words of the
 /// line are looked at, however long it is.
 pub fn read_row(line: &[u8]) -> Option<PathRow<'_>>
     ensures { option_map row_seen result ≡ row_of line.now }
@@ -41,8 +40,9 @@ fn row_in<'a>(keyword: Keyword, fields: Words<'a>) -> Option<PathRow<'a>>
     ensures { option_map row_seen result ≡ row_by keyword (words_left fields.entry) }
 {
     let mut left = fields;
-    if keyword == Keyword::Server || keyword == Keyword::Export {
-        return None;
+    match keyword {
+        Keyword::Server | Keyword::Limits | Keyword::Export => return None,
+        Keyword::Volume | Keyword::Dir | Keyword::File | Keyword::Link | Keyword::Hard => {}
     }
     let path = left.next()?;
     if keyword != Keyword::Hard {
@@ -70,34 +70,13 @@ fn is_comment(line: &[u8]) -> bool
     }
 }
 
-fn keyword_of(word: &[u8]) -> Option<Keyword>
-    ensures { result ≡ keyword_named word.now }
-{
-    if word == b"server".as_slice() {
-        Some(Keyword::Server)
-    } else if word == b"volume".as_slice() {
-        Some(Keyword::Volume)
-    } else if word == b"export".as_slice() {
-        Some(Keyword::Export)
-    } else if word == b"dir".as_slice() {
-        Some(Keyword::Dir)
-    } else if word == b"file".as_slice() {
-        Some(Keyword::File)
-    } else if word == b"link".as_slice() {
-        Some(Keyword::Link)
-    } else if word == b"hard".as_slice() {
-        Some(Keyword::Hard)
-    } else {
-        None
-    }
-}
-
 /// The word of a keyword.
 pub(crate) fn word_of(keyword: Keyword) -> &'static [u8]
     ensures { result.now ≡ spec.word_of keyword }
 {
     match keyword {
         Keyword::Server => b"server",
+        Keyword::Limits => b"limits",
         Keyword::Volume => b"volume",
         Keyword::Export => b"export",
         Keyword::Dir => b"dir",

@@ -13,14 +13,14 @@ front_is : (fields path after : List (List ℕ)) (given : Given) (rest : List (L
     → by path_in fields ≡ Ok (path, after) → given_in after ≡ Ok (given, rest) → dir_in fields ≡ Ok (record { path = path; given = given }, rest)
 front_is fields path after given rest p g = rw (p, g)
 
-pub content_refused : {X : Type 0} (view : X → List ℕ) (fields path after : List (List ℕ)) (given : Given) (rest left : List (List ℕ)) (refusal : Refusal) (result : Result kept.FileLine Refusal)
+pub content_refused : {X : Type 0} (most : ℕ) (view : X → List ℕ) (fields path after : List (List ℕ)) (given : Given) (rest left : List (List ℕ)) (refusal : Refusal) (result : Result kept.FileLine Refusal)
     → by path_in fields ≡ Ok (path, after) → given_in after ≡ Ok (given, rest)
-    → TakesIfRoom view (OfNext SaysBytes rest) left (Err refusal) (by content_in rest)
+    → TakesIfRoom view (OfNext (SaysBytes most) rest) left (Err refusal) (by (content_in most) rest)
     → IsErr result × IsErrAnd result (λ r. r ≡ refusal)
-    → TakesIfRoom file_line_of (WantsContent fields) left result (file_in fields)
-content_refused view fields path after given rest left refusal (Ok x) p g e f = absurd (false≢true f.0)
-content_refused view fields path after given rest left (Fault cause) (Err r) p g e f =
-    subst (λ it. TakesIfRoom file_line_of (WantsContent fields) left (Err it) (file_in fields)) (sym f.1) (rw (p, g, e))
-content_refused view fields path after given rest left Memory (Err r) p g e f =
-    subst (λ it. TakesIfRoom file_line_of (WantsContent fields) left (Err it) (file_in fields)) (sym f.1)
+    → TakesIfRoom file_line_of (WantsContent most fields) left result (file_in most fields)
+content_refused most view fields path after given rest left refusal (Ok x) p g e f = absurd (false≢true f.0)
+content_refused most view fields path after given rest left (Fault cause) (Err r) p g e f =
+    subst (λ it. TakesIfRoom file_line_of (WantsContent most fields) left (Err it) (file_in most fields)) (sym f.1) (rw (p, g, e))
+content_refused most view fields path after given rest left Memory (Err r) p g e f =
+    subst (λ it. TakesIfRoom file_line_of (WantsContent most fields) left (Err it) (file_in most fields)) (sym f.1)
     (record { line = record { path = path; given = given }; rest = rest; front = front_is fields path after given rest p g; content = e })

@@ -3,10 +3,13 @@ use Rattle.std.specs.Prelude.{◌≡◌, ◌⊎◌, ℕ, ◌+◌, ◌-◌, ◌<�
 use Rattle.std.specs.Prelude.{Result, Ok, Err, IsOk, if◌then◌else◌, nat_eq}
 use Rattle.nfs_exports.specs.Tables.{added, pattern_count}
 use Rattle.nfs_inodes.specs.Conditions.{MayAddVolume}
+use Rattle.nfs_inodes.specs.Changes.{with_limits}
+use Rattle.nfs_inodes.specs.Limits.{default_limits}
+use Rattle.nfs_inodes.specs.declared.limits.Limits.{Limits}
 use Rattle.nfs_inodes.specs.Tree.{Tree, Volume}
 use Rattle.nfs_text.specs.Lines.{lines}
 use Rattle.nfs_load.specs.declared.cause.Cause.{Cause}
-use Rattle.nfs_load.specs.declared.cause.Cause.TheVariants.{NoServer, ServerTwice, NoVolume, Full}
+use Rattle.nfs_load.specs.declared.cause.Cause.TheVariants.{NoServer, ServerTwice, NoVolume, LimitsLate, Full}
 use Rattle.nfs_load.specs.declared.line.Keyword.{Keyword}
 use Rattle.nfs_load.specs.declared.line.Keyword.TheVariants as keyword
 use Rattle.nfs_load.specs.declared.load_error.LoadError.{LoadError}
@@ -17,6 +20,7 @@ use Rattle.nfs_load.specs.declared.refusal.Refusal.TheVariants.{Fault, Memory}
 use Rattle.nfs_load.specs.declared.statement.ExportLine.{ExportLine}
 use Rattle.nfs_load.specs.Effects.{AddsVolume, IsOpen, MakesDir, MakesFile, MakesLink, AddsName, free_path}
 use Rattle.nfs_load.specs.Fields.{◌>>=◌, by, key_in}
+use Rattle.nfs_load.specs.LimitFields.{limits_in}
 use Rattle.nfs_load.specs.Lines.{Line, shape}
 use Rattle.nfs_load.specs.Statements.{Read, VolumeLine, WantsContent, volume_in, export_in, dir_in, file_in, link_in, hard_in}
 
@@ -50,7 +54,7 @@ InVolume old result Done = InRoot (last_root old.tree) result Done
 abbrev pub VolumeTaken : Loaded → VolumeLine → Result Unit Refusal → Loaded → Type 0
 VolumeTaken old line (Ok x) new = AddsVolume old.tree line (Ok x) new.tree × (new.table ≡ old.table ++ [] ∷ [])
 VolumeTaken old line (Err (Fault cause)) new = AddsVolume old.tree line (Err (Fault cause)) new.tree
-VolumeTaken old line (Err Memory) new = IsOpen (free_path old.tree line.path) (λ path. MayAddVolume old.tree path line.max_files)
+VolumeTaken old line (Err Memory) new = IsOpen (free_path old.tree line.path) (λ path. MayAddVolume old.tree path line.max_bytes line.max_files)
 
 -- the export is the last of the last volume; there are at most 256
 abbrev pub with_export : Loaded → ExportLine → Loaded
@@ -67,23 +71,33 @@ OnTree read Done old result new = InVolume old result (λ root. Then read result
 
 -- a file, or its content wants memory
 abbrev pub FileDone : Loaded → List (List ℕ) → Result Unit Refusal → Loaded → Type 0
-FileDone old fields result new = OnTree (file_in fields) MakesFile old result new ⊎ ((result ≡ Err Memory) × IsOk (last_root old.tree) × WantsContent fields)
+FileDone old fields result new = OnTree (file_in old.tree.limits.file_size fields) MakesFile old result new ⊎ ((result ≡ Err Memory) × IsOk (last_root old.tree) × WantsContent old.tree.limits.file_size fields)
+
+-- limits are set before the first volume
+abbrev pub early_limits : Tree → List (List ℕ) → Result Limits Cause
+early_limits t fields = if nat_eq (length t.volumes) 0 then limits_in t.limits fields else Err LimitsLate
+
+abbrev pub LimitsSet : Loaded → Result Limits Cause → Result Unit Refusal → Loaded → Type 0
+LimitsSet old (Ok limits) result new = (result ≡ Ok tt) × (new ≡ record old { tree = with_limits old.tree limits })
+LimitsSet old (Err cause) result new = IsFault cause result
 
 -- A line with this keyword and these fields, after the server line.
 abbrev pub GoesOn : Loaded → Keyword → List (List ℕ) → Result Unit Refusal → Loaded → Type 0
 GoesOn old keyword.Server fields result new = IsFault ServerTwice result
-GoesOn old keyword.Volume fields result new = Then (volume_in fields) result (λ line. VolumeTaken old line result new)
+GoesOn old keyword.Limits fields result new = LimitsSet old (early_limits old.tree fields) result new
+GoesOn old keyword.Volume fields result new = Then (volume_in old.tree.limits.files fields) result (λ line. VolumeTaken old line result new)
 GoesOn old keyword.Export fields result new = InVolume old result (λ root. Then (export_in fields) result (λ line. ExportDone old line result new))
 GoesOn old keyword.Dir fields result new = OnTree (dir_in fields) MakesDir old result new
 GoesOn old keyword.File fields result new = FileDone old fields result new
-GoesOn old keyword.Link fields result new = OnTree (link_in fields) MakesLink old result new
+GoesOn old keyword.Link fields result new = OnTree (link_in old.tree.limits.link_path fields) MakesLink old result new
 GoesOn old keyword.Hard fields result new = OnTree (hard_in fields) AddsName old result new
 
 -- the server line makes an empty tree and an empty table
 abbrev pub begun : Keyword → List (List ℕ) → Result Loaded Cause
 begun keyword.Server fields = do
   key ← by key_in fields
-  Ok (record { tree = record { files = []; next = 1; key = key.0; volumes = [] }; table = [] })
+  Ok (record { tree = record { files = []; next = 1; key = key.0; volumes = []; limits = default_limits }; table = [] })
+begun keyword.Limits fields = Err NoServer
 begun keyword.Volume fields = Err NoServer
 begun keyword.Export fields = Err NoServer
 begun keyword.Dir fields = Err NoServer

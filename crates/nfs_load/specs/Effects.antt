@@ -66,7 +66,7 @@ links_found (Err cause) = Err cause
 
 abbrev pub AddsVolume : Tree → VolumeLine → Result Unit Refusal → Tree → Type 0
 AddsVolume t line result new = Does t (free_path t line.path)
-    (λ path. MayAddVolume t path line.max_files)
+    (λ path. MayAddVolume t path line.max_bytes line.max_files)
     (λ path. Makes (λ tag. after_add_volume t path line.max_bytes line.max_files (attributes line.given) tag start)) result new
 
 abbrev pub MakesDir : Tree → ℕ → DirLine → Result Unit Refusal → Tree → Type 0

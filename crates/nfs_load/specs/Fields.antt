@@ -12,7 +12,6 @@ use Rattle.nfs_exports.specs.Patterns.{pattern_of}
 use Rattle.nfs_exports.specs.declared.options.Options.{Options}
 use Rattle.nfs_exports.specs.declared.options.OptionsFault.{OptionsFault}
 use Rattle.nfs_exports.specs.declared.pattern.Pattern.{Pattern}
-use Rattle.nfs_inodes.specs.Limits.{max_file_bytes, max_path_bytes}
 use Rattle.nfs_load.specs.declared.cause.Cause.{Cause}
 use Rattle.nfs_load.specs.declared.refusal.Refusal.{Refusal}
 use Rattle.nfs_load.specs.declared.refusal.Refusal.TheVariants.{Fault, Memory}
@@ -44,9 +43,9 @@ at_least min (Some number) = if nat_le min number then Ok number else Err BadNum
 abbrev pub number_in : ℕ → ℕ → List ℕ → Result ℕ Cause
 number_in min max field = at_least min (decimal_of max field)
 
--- what a symbolic link holds: at most 1,024 bytes
-abbrev pub target_in : List ℕ → Result (List ℕ) Cause
-target_in field = if nat_le (length field) max_path_bytes then Ok field else Err BadContent
+-- what a symbolic link holds: at most so many bytes
+abbrev pub target_in : ℕ → List ℕ → Result (List ℕ) Cause
+target_in most field = if nat_le (length field) most then Ok field else Err BadContent
 
 abbrev pub found_pattern : Option Pattern → Result Pattern Cause
 found_pattern None = Err BadPattern
@@ -62,13 +61,13 @@ options_or_cause (Err fault) = Err BadOptions
 abbrev pub options_in : List ℕ → Result Options Cause
 options_in field = options_or_cause (parse_options field)
 
-abbrev pub within : Result (List ℕ) FromHexError → Result (List ℕ) Cause
-within (Ok content) = if nat_le (length content) max_file_bytes then Ok content else Err BadContent
-within (Err e) = Err BadContent
+abbrev pub within : ℕ → Result (List ℕ) FromHexError → Result (List ℕ) Cause
+within most (Ok content) = if nat_le (length content) most then Ok content else Err BadContent
+within most (Err e) = Err BadContent
 
--- two hexadecimal digits for each of at most 16,777,216 bytes, or `-` for none
-abbrev pub content_in : List ℕ → Result (List ℕ) Cause
-content_in field = if bytes_eq field (codes "-") then Ok [] else within (decode_of field)
+-- two hexadecimal digits for each of at most so many bytes, or `-` for none
+abbrev pub content_in : ℕ → List ℕ → Result (List ℕ) Cause
+content_in most field = if bytes_eq field (codes "-") then Ok [] else within most (decode_of field)
 
 -- ---- the fields of a line from left to right
 
@@ -108,8 +107,8 @@ TakesIfRoom view Wants rest (Err (Fault cause)) read = read ≡ Err cause
 TakesIfRoom view Wants rest (Err Memory) read = Wants
 
 -- a content that takes memory: a field that says bytes
-abbrev pub SaysBytes : List ℕ → Type 0
-SaysBytes field = (bytes_eq field (codes "-") ≡ false) × (content : List ℕ) × (content_in field ≡ Ok content)
+abbrev pub SaysBytes : ℕ → List ℕ → Type 0
+SaysBytes most field = (bytes_eq field (codes "-") ≡ false) × (content : List ℕ) × (content_in most field ≡ Ok content)
 
 -- two hexadecimal digits for each byte
 abbrev pub ArePairs : List ℕ → Type 0

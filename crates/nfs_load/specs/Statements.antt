@@ -34,11 +34,11 @@ pub record VolumeLine : Type 0 where
   pub max_files : ℕ
   pub given : Given
 
-abbrev pub volume_in : List (List ℕ) → Read VolumeLine
-volume_in fields = do
+abbrev pub volume_in : ℕ → List (List ℕ) → Read VolumeLine
+volume_in most fields = do
   path ← by volume_path_in fields
   max_bytes ← by (number_in 0 1099511627776) path.1
-  max_files ← by (number_in 1 1000000) max_bytes.1
+  max_files ← by (number_in 1 most) max_bytes.1
   given ← given_in max_files.1
   Ok (record { path = path.0; max_bytes = max_bytes.0; max_files = max_files.0; given = given.0 }, given.1)
 
@@ -55,11 +55,11 @@ pub record FileLine : Type 0 where
   pub given : Given
   pub content : List ℕ
 
-abbrev pub file_in : List (List ℕ) → Read FileLine
-file_in fields = do
+abbrev pub file_in : ℕ → List (List ℕ) → Read FileLine
+file_in most fields = do
   path ← by path_in fields
   given ← given_in path.1
-  content ← by content_in given.1
+  content ← by (content_in most) given.1
   Ok (record { path = path.0; given = given.0; content = content.0 }, content.1)
 
 -- PATH MODE UID GID
@@ -70,11 +70,11 @@ dir_in fields = do
   Ok (record { path = path.0; given = given.0 }, given.1)
 
 -- those and CONTENT, for which memory is taken
-pub record WantsContent (fields : List (List ℕ)) : Type 0 where
+pub record WantsContent (most : ℕ) (fields : List (List ℕ)) : Type 0 where
   pub line : DirLine
   pub rest : List (List ℕ)
   pub front : dir_in fields ≡ Ok (line, rest)
-  pub content : OfNext SaysBytes rest
+  pub content : OfNext (SaysBytes most) rest
 
 -- PATH UID GID TARGET
 pub record LinkLine : Type 0 where
@@ -83,12 +83,12 @@ pub record LinkLine : Type 0 where
   pub gid : ℕ
   pub target : List ℕ
 
-abbrev pub link_in : List (List ℕ) → Read LinkLine
-link_in fields = do
+abbrev pub link_in : ℕ → List (List ℕ) → Read LinkLine
+link_in most fields = do
   path ← by path_in fields
   uid ← by id_in path.1
   gid ← by id_in uid.1
-  target ← by target_in gid.1
+  target ← by (target_in most) gid.1
   Ok (record { path = path.0; uid = uid.0; gid = gid.0; target = target.0 }, target.1)
 
 -- PATH OLD

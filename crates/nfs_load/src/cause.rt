@@ -20,8 +20,12 @@ pub enum Cause {
     ServerTwice,
     /// No `volume` line stands before.
     NoVolume,
+    /// A `volume` line stands before.
+    LimitsLate,
     /// The key is not 16 hexadecimal digits.
     BadKey,
+    /// A limit is none, or has been set.
+    BadLimit,
     /// A volume's path is neither a path of at most 255 bytes nor `/` alone.
     BadVolumePath,
     /// A number is not in the digits or the bounds of its field.
@@ -58,7 +62,9 @@ impl Cause {
             Cause::NoServer => "NoServer",
             Cause::ServerTwice => "ServerTwice",
             Cause::NoVolume => "NoVolume",
+            Cause::LimitsLate => "LimitsLate",
             Cause::BadKey => "BadKey",
+            Cause::BadLimit => "BadLimit",
             Cause::BadVolumePath => "BadVolumePath",
             Cause::BadNumber => "BadNumber",
             Cause::BadPattern => "BadPattern",

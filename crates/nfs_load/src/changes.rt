@@ -32,7 +32,7 @@ pub fn add_volume(tree: &mut Tree, line: &VolumeLine<'_>) -> Result<(), Refusal>
     if tree.volume_named(line.path).is_some() {
         return Err(Refusal::Fault(Cause::VolumeTwice));
     }
-    if !tree.may_add_volume(line.path, line.max_files) {
+    if !tree.may_add_volume(line.path, line.max_bytes, line.max_files) {
         return Err(Refusal::Fault(Cause::Full));
     }
     let given = attributes_of(line.given);
@@ -68,6 +68,7 @@ pub fn make_file(tree: &mut Tree, root: Number, line: FileLine<'_>) -> Result<()
     if !tree.may_make(end.dir, end.name, content.len()) {
         return Err(Refusal::Fault(Cause::Full));
     }
+    tree.law();
     let given = attributes_of(given);
     let content = NewContent {
         pages: Pages::of(tree.allocator(), content)?,

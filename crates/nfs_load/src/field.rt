@@ -1,13 +1,13 @@
 //! Fields that are a key or numbers.
-ghost use Rattle.std.specs.Prelude.{◌≡◌, ◌≤◌, ◌*◌, ◌↔◌, IsTrue, Err, false, bytes_eq, codes, length};
+ghost use Rattle.std.specs.Prelude.{◌/◌, ◌≡◌, ◌≤◌, ◌*◌, ◌↔◌, IfOk, IsTrue, Err, false, bytes_eq, codes, length, nat_lt};
 ghost use Rattle.hex.specs.Hex.{is_hex_digit};
-ghost use Rattle.nfs_inodes.specs.Limits.{max_file_bytes};
 ghost use Rattle.nfs_load.specs.Fields.{content_in, key_in, mode_in, number_in};
 ghost use Rattle.nfs_load.specs.Fields.{GivesIfRoom, SaysBytes, ArePairs};
 
 use crate::cause::Cause;
-use crate::limits::{MAX_CONTENT_DIGITS, MAX_MODE_DIGITS};
+use crate::limits::MAX_MODE_DIGITS;
 use crate::refusal::Refusal;
+use nfs_inodes::tree::Tree;
 use nfs_text::number::decimal;
 use std::alloc::Global;
 
@@ -42,7 +42,8 @@ pub(crate) fn read_mode(field: &[u8]) -> Result<u32, Cause>
 /// A number from `min` to `max`. `BadNumber` where the field is not decimal digits, leading zeros
 /// allowed, that say one.
 pub(crate) fn read_number(field: &[u8], min: u64, max: u64) -> Result<u64, Cause>
-    ensures { result ≡ number_in min max field.now }
+    ensures read { result ≡ number_in min max field.now }
+    ensures bounds { IfOk result (λ n. (min ≤ n) × (n ≤ max)) }
 {
     match decimal(field, max) {
         Some(number) if min <= number => Ok(number),
@@ -51,28 +52,37 @@ pub(crate) fn read_number(field: &[u8], min: u64, max: u64) -> Result<u64, Cause
 }
 
 /// A file's bytes, two hexadecimal digits each, or `-` for none. `BadContent` where the field is
-/// neither, or says more than 16,777,216 bytes; `Memory` where there is none.
-pub(crate) fn read_content(alloc: Global, field: &[u8]) -> Result<Vec<u8>, Refusal>
-    ensures { GivesIfRoom (λ content. content.items) (SaysBytes field.now) result (content_in field.now) }
+/// neither, or says more bytes than the tree takes of a file; `Memory` where there is none.
+pub(crate) fn read_content(alloc: Global, field: &[u8], tree: &Tree) -> Result<Vec<u8>, Refusal>
+    ensures { GivesIfRoom (λ content. content.items) (SaysBytes tree.now.limits.file_size field.now) result
+        (content_in tree.now.limits.file_size field.now) }
 {
     if field == b"-".as_slice() {
         return Ok(Vec::new(alloc));
     }
-    if field.len() > MAX_CONTENT_DIGITS {
+    if has_too_many_digits(field, tree) {
         return Err(Refusal::Fault(Cause::BadContent));
     }
     match hex::decode(alloc, field) {
         Ok(content) => Ok(content),
-        Err(hex::FromHexError::OutOfMemory) => Err(without_memory(field)),
+        Err(hex::FromHexError::OutOfMemory) => Err(without_memory(field, tree)),
         Err(_) => Err(Refusal::Fault(Cause::BadContent)),
     }
 }
 
+// Whether a field has more digits than the largest file of a tree, two for each byte.
+fn has_too_many_digits(field: &[u8], tree: &Tree) -> bool
+    ensures { result ≡ nat_lt tree.now.limits.file_size (length field.now / 2) }
+{
+    field.len() / 2 > tree.limits().file_size
+}
+
 // Why a field is refused whose bytes there is no memory for: it says none, or there is none.
-fn without_memory(field: &[u8]) -> Refusal
+fn without_memory(field: &[u8], tree: &Tree) -> Refusal
     requires digits { bytes_eq field.now (codes "-") ≡ false }
-    requires few { length field.now ≤ 2 * max_file_bytes }
-    ensures { GivesIfRoom (λ content. content) (SaysBytes field.now) (Err result) (content_in field.now) }
+    requires few { length field.now / 2 ≤ tree.now.limits.file_size }
+    ensures { GivesIfRoom (λ content. content) (SaysBytes tree.now.limits.file_size field.now) (Err result)
+        (content_in tree.now.limits.file_size field.now) }
 {
     if are_pairs(field) {
         Refusal::Memory

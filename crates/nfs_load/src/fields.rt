@@ -11,7 +11,7 @@ use crate::path::{Path, read_path, read_volume_path};
 use crate::refusal::Refusal;
 use nfs_exports::options::{Options, parse_options};
 use nfs_exports::pattern::{Pattern, parse_pattern};
-use nfs_inodes::limits::MAX_PATH_BYTES;
+use nfs_inodes::tree::Tree;
 use nfs_text::words::Words;
 use std::alloc::Global;
 use std::marker::Model;
@@ -92,12 +92,21 @@ impl<'a> Fields<'a> {
         Ok(id as u32)
     }
 
-    /// What a symbolic link holds. `BadContent` where it has more than 1,024 bytes.
-    pub fn target(&mut self) -> Result<&'a [u8], Cause>
-        ensures { Takes (λ text. text.now) self.new result (by target_in self.old) }
+    /// How many files a volume may have: at least one. `BadNumber` where that is more than the tree
+    /// takes.
+    pub fn files(&mut self, tree: &Tree) -> Result<u64, Cause>
+        ensures { Takes (λ files. files) self.new result (by (number_in 1 tree.now.limits.files) self.old) }
+    {
+        self.number(1, tree.limits().files)
+    }
+
+    /// What a symbolic link holds. `BadContent` where it has more bytes than the tree takes
+    /// of one.
+    pub fn target(&mut self, tree: &Tree) -> Result<&'a [u8], Cause>
+        ensures { Takes (λ text. text.now) self.new result (by (target_in tree.now.limits.link_path) self.old) }
     {
         let target = self.next()?;
-        if target.len() > MAX_PATH_BYTES {
+        if target.len() > tree.limits().link_path {
             return Err(Cause::BadContent);
         }
         Ok(target)
@@ -127,10 +136,11 @@ impl<'a> Fields<'a> {
     }
 
     /// A file's bytes, two hexadecimal digits each, or `-` for none. `BadContent` where the field
-    /// is neither, or says more than 16,777,216 bytes.
-    pub fn content(&mut self, alloc: Global) -> Result<Vec<u8>, Refusal>
-        ensures { TakesIfRoom (λ content. content.items) (OfNext SaysBytes self.old) self.new result (by content_in self.old) }
+    /// is neither, or says more bytes than the tree takes of a file.
+    pub fn content(&mut self, alloc: Global, tree: &Tree) -> Result<Vec<u8>, Refusal>
+        ensures { TakesIfRoom (λ content. content.items) (OfNext (SaysBytes tree.now.limits.file_size) self.old) self.new result
+            (by (content_in tree.now.limits.file_size) self.old) }
     {
-        read_content(alloc, self.next()?)
+        read_content(alloc, self.next()?, tree)
     }
 }

@@ -6,6 +6,7 @@ pub mod changes;
 pub mod description;
 pub mod field;
 pub mod fields;
+pub mod limit_fields;
 pub mod limits;
 pub mod line;
 pub mod listing;

@@ -12,6 +12,8 @@ use nfs_text::words::Words;
 pub enum Keyword {
     /// The server's key.
     Server,
+    /// Limits of the tree.
+    Limits,
     /// A new volume.
     Volume,
     /// A pattern of addresses to which the last volume is exported.
@@ -90,11 +92,14 @@ fn is_printable(byte: u8) -> bool
     byte >= 0x20 && byte <= 0x7e
 }
 
-fn keyword_of(word: &[u8]) -> Option<Keyword>
+/// The keyword that a word is.
+pub fn keyword_of(word: &[u8]) -> Option<Keyword>
     ensures { result ≡ keyword_named word.now }
 {
     if word == b"server".as_slice() {
         Some(Keyword::Server)
+    } else if word == b"limits".as_slice() {
+        Some(Keyword::Limits)
     } else if word == b"volume".as_slice() {
         Some(Keyword::Volume)
     } else if word == b"export".as_slice() {
@@ -118,6 +123,7 @@ fn takes(keyword: Keyword, count: usize) -> bool
 {
     match keyword {
         Keyword::Server => count == 1,
+        Keyword::Limits => count >= 1 && count <= 4,
         Keyword::Volume => count == 6,
         Keyword::Export => count == 1 || count == 2,
         Keyword::Dir | Keyword::Link => count == 4,

@@ -10,6 +10,7 @@ ghost use Rattle.nfs_load.specs.Loadings.{LineTaken, at_end, nothing};
 use crate::cause::Cause;
 use crate::changes::{add_name, add_volume, make_file, make_link, mkdir};
 use crate::fields::Fields;
+use crate::limit_fields::read_limits;
 use crate::line::{Keyword, Line, read_line};
 use crate::load_error::LoadError;
 use crate::loaded::Loaded;
@@ -19,6 +20,7 @@ use nfs_exports::export_table::ExportTable;
 use nfs_exports::limits::MAX_PATTERNS;
 use nfs_handles::number::Number;
 use nfs_inodes::tree::Tree;
+use nfs_text::words::Words;
 use std::alloc::Global;
 use std::marker::Model;
 
@@ -137,6 +139,7 @@ fn go_on(alloc: Global, loaded: &mut Loaded, line: Line<'_>) -> Result<(), Refus
     let mut fields = Fields::new(line.fields);
     match line.keyword {
         Keyword::Server => Err(Refusal::Fault(Cause::ServerTwice)),
+        Keyword::Limits => take_limits(loaded, line.fields),
         Keyword::Volume => take_volume(loaded, &mut fields),
         Keyword::Export => take_export(loaded, &mut fields),
         Keyword::Dir => take_dir(loaded, &mut fields),
@@ -146,12 +149,26 @@ fn go_on(alloc: Global, loaded: &mut Loaded, line: Line<'_>) -> Result<(), Refus
     }
 }
 
+fn take_limits(loaded: &mut Loaded, fields: Words<'_>) -> Result<(), Refusal>
+    requires { length loaded.old.table ≡ length loaded.old.tree.volumes }
+    ensures done { GoesOn loaded.old Keyword.Limits (words_left fields.entry) result loaded.new }
+    ensures lists { OnOk result (length loaded.new.table ≡ length loaded.new.tree.volumes) }
+{
+    if loaded.tree.volumes() > 0 {
+        return Err(Refusal::Fault(Cause::LimitsLate));
+    }
+    loaded.tree.law();
+    let limits = read_limits(fields, loaded.tree.limits())?;
+    loaded.tree.set_limits(limits);
+    Ok(())
+}
+
 fn take_volume(loaded: &mut Loaded, fields: &mut Fields<'_>) -> Result<(), Refusal>
     requires { length loaded.old.table ≡ length loaded.old.tree.volumes }
     ensures done { GoesOn loaded.old Keyword.Volume fields.old result loaded.new }
     ensures lists { OnOk result (length loaded.new.table ≡ length loaded.new.tree.volumes) }
 {
-    let line = VolumeLine::read(fields)?;
+    let line = VolumeLine::read(fields, &loaded.tree)?;
     add_volume(&mut loaded.tree, &line)?;
     loaded.table.add_volume()?;
     Ok(())
@@ -188,7 +205,7 @@ fn take_file(alloc: Global, loaded: &mut Loaded, fields: &mut Fields<'_>) -> Res
     ensures lists { OnOk result (length loaded.new.table ≡ length loaded.new.tree.volumes) }
 {
     let root = last_root(&loaded.tree)?;
-    let line = FileLine::read(alloc, fields)?;
+    let line = FileLine::read(alloc, fields, &loaded.tree)?;
     make_file(&mut loaded.tree, root, line)
 }
 
@@ -198,7 +215,7 @@ fn take_link(loaded: &mut Loaded, fields: &mut Fields<'_>) -> Result<(), Refusal
     ensures lists { OnOk result (length loaded.new.table ≡ length loaded.new.tree.volumes) }
 {
     let root = last_root(&loaded.tree)?;
-    let line = LinkLine::read(fields)?;
+    let line = LinkLine::read(fields, &loaded.tree)?;
     make_link(&mut loaded.tree, root, &line)
 }
 

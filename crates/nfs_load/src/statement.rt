@@ -5,11 +5,12 @@ ghost use Rattle.nfs_load.specs.Statements.{WantsContent, dir_in, export_in, fil
 
 use crate::cause::Cause;
 use crate::fields::Fields;
-use crate::limits::{MAX_FILES, MAX_VOLUME_BYTES};
 use crate::path::Path;
 use crate::refusal::Refusal;
 use nfs_exports::options::Options;
 use nfs_exports::pattern::Pattern;
+use nfs_inodes::limits::MAX_VOLUME_BYTES;
+use nfs_inodes::tree::Tree;
 use std::alloc::Global;
 
 /// The attributes that a line gives a new file.
@@ -101,12 +102,12 @@ impl Given {
 impl<'a> VolumeLine<'a> {
     /// The fields of such a line. The first cause from left to right: `BadVolumePath` or
     /// `BadNumber`.
-    pub fn read(fields: &mut Fields<'a>) -> Result<VolumeLine<'a>, Cause>
-        ensures { Takes volume_line_of fields.new result (volume_in fields.old) }
+    pub fn read(fields: &mut Fields<'a>, tree: &Tree) -> Result<VolumeLine<'a>, Cause>
+        ensures { Takes volume_line_of fields.new result (volume_in tree.now.limits.files fields.old) }
     {
         let path = fields.volume_path()?;
         let max_bytes = fields.number(0, MAX_VOLUME_BYTES)?;
-        let max_files = fields.number(1, MAX_FILES)?;
+        let max_files = fields.files(tree)?;
         let given = Given::read(fields)?;
         Ok(VolumeLine {
             path,
@@ -132,12 +133,17 @@ impl ExportLine {
 impl<'a> FileLine<'a> {
     /// The fields of such a line. The first cause from left to right: `BadPath`, `BadNumber` or
     /// `BadContent`; `Memory` where there is none for the content.
-    pub fn read(alloc: Global, fields: &mut Fields<'a>) -> Result<FileLine<'a>, Refusal>
-        ensures { TakesIfRoom file_line_of (WantsContent fields.old) fields.new result (file_in fields.old) }
+    pub fn read(
+        alloc: Global,
+        fields: &mut Fields<'a>,
+        tree: &Tree,
+    ) -> Result<FileLine<'a>, Refusal>
+        ensures { TakesIfRoom file_line_of (WantsContent tree.now.limits.file_size fields.old) fields.new result
+            (file_in tree.now.limits.file_size fields.old) }
     {
         let path = fields.path()?;
         let given = Given::read(fields)?;
-        let content = fields.content(alloc)?;
+        let content = fields.content(alloc, tree)?;
         Ok(FileLine {
             path,
             given,
@@ -159,14 +165,14 @@ impl<'a> DirLine<'a> {
 
 impl<'a> LinkLine<'a> {
     /// The fields of such a line. The first cause from left to right: `BadPath`, `BadNumber`, or
-    /// `BadContent` where the link's path has more than 1,024 bytes.
-    pub fn read(fields: &mut Fields<'a>) -> Result<LinkLine<'a>, Cause>
-        ensures { Takes link_line_of fields.new result (link_in fields.old) }
+    /// `BadContent` where the link's path has more bytes than the tree takes of one.
+    pub fn read(fields: &mut Fields<'a>, tree: &Tree) -> Result<LinkLine<'a>, Cause>
+        ensures { Takes link_line_of fields.new result (link_in tree.now.limits.link_path fields.old) }
     {
         let path = fields.path()?;
         let uid = fields.id()?;
         let gid = fields.id()?;
-        let target = fields.target()?;
+        let target = fields.target(tree)?;
         Ok(LinkLine {
             path,
             uid,

@@ -78,12 +78,12 @@ module _ {L : Type 0} (outgoing incoming : L → Option (List ℕ)) where
 
 -- a new member has joined
 pub joins_as : {L : Type 0} (key : ℕ) (peer : IpAddr) (old new : Slab (Member L)) (joined : ℕ) (member : Member L) (addr : Addr) → key ≡ old.vacant_key → get old old.vacant_key ≡ None → Updates old new old.vacant_key (Some member)
-    → IsAtStart addr member.client.connection → member.client.chunk ≡ [] → IsAddrOf peer (Some addr) → member.number ≡ joined + 1 → JoinsOrNot key peer old joined new member.number
-joins_as key peer old new joined member addr at free sits start nothing_came from number = inr (record {
+    → IsAtStart addr member.client.connection → member.client.chunk ≡ [] → member.client.end ≡ None → IsAddrOf peer (Some addr) → member.number ≡ joined + 1 → JoinsOrNot key peer old joined new member.number
+joins_as key peer old new joined member addr at free sits start nothing_came goes_on from number = inr (record {
   member = member;
   free = ap (get old) at ∙ free;
   sits = subst (λ k. Updates old new k (Some member)) (sym at) sits;
-  begins = record { begins = start.begins; nothing_came = nothing_came };
+  begins = record { begins = start.begins; nothing_came = nothing_came; goes_on = goes_on };
   addr_is = subst (λ a. IsAddrOf peer (Some a)) (sym start.addr_is) from;
   number_is = number;
   joined_is = refl;

@@ -1,42 +1,27 @@
 -- Queues that others join.
-use Rattle.std.proofs.Common.{◌≡◌, ℕ, Bool, true, false, ◌||◌, List, [], ◌∷◌, ◌++◌, Option, Some, None, IsSome, inl, inr, if◌then◌else◌, nat_eq, slice_index_or, refl, sym, ap, subst, ◌∙◌, append_assoc, append-nil}
+use Rattle.std.proofs.Common.{◌≡◌, ℕ, Bool, true, false, ◌||◌, List, [], ◌∷◌, ◌++◌, Option, Some, None, IsSome, inl, inr, if◌then◌else◌, nat_eq, refl, sym, ap, subst, ◌∙◌, append_assoc, append-nil}
 use Rattle.std.specs.List.{AllByRecursion}
 use Rattle.std.proofs.lemmas.Bool.{eq-eqb}
 use Rattle.std.proofs.lemmas.List.Folds.{list_any-append}
 use Rattle.slab.specs.Slab.{Slab, get}
-use Rattle.nfs_queue.specs.Queues.{is_waiting, with_ready}
+use Rattle.nfs_queue.specs.Queues.{is_waiting}
+use Rattle.nfs_queue.proofs.Queueing.{or_true}
 use Rattle.nfs_loop.specs.declared.watches.Hold.{Hold}
+use Rattle.nfs_loop.specs.declared.watches.Watch.{Watch}
+use Rattle.nfs_loop.specs.Watching.{hold_at}
 use Rattle.nfs_loop.specs.Told.{Told, ready, listener_ready, nothing_ready, came, at, since, Hears, Accounts}
-use Rattle.nfs_loop.specs.Stages.{Longer, IsNoted, Notes, noted}
-
-pub longer_none : (queue : List ℕ) → Longer queue queue
-longer_none queue = record { added = []; after = sym (append-nil queue) }
-
-pub longer_then : (a b c : List ℕ) → Longer a b → Longer b c → Longer a c
-longer_then a b c f g = record { added = f.added ++ g.added; after = g.after ∙ ap (λ q. q ++ g.added) f.after ∙ append_assoc a f.added g.added }
-
-longer_if : (key : ℕ) (queue : List ℕ) (waits : Bool) → Longer queue (if waits then queue else queue ++ key ∷ [])
-longer_if key queue true = longer_none queue
-longer_if key queue false = record { added = key ∷ []; after = refl }
-
-pub longer_ready : {M : Type 0} (o : Option M) (key : ℕ) (queue : List ℕ) → Longer queue (with_ready o key queue)
-longer_ready None key queue = longer_none queue
-longer_ready (Some m) key queue = longer_if key queue (is_waiting key queue)
+use Rattle.nfs_loop.specs.Stages.{IsNoted, Notes, noted}
 
 -- ---- who is reported ready
 
-or_true : (a : Bool) → (a || true) ≡ true
-or_true true = refl
-or_true false = refl
-
-waits_on : (key : ℕ) (queue added : List ℕ) → is_waiting key queue ≡ true → is_waiting key (queue ++ added) ≡ true
+pub waits_on : (key : ℕ) (queue added : List ℕ) → is_waiting key queue ≡ true → is_waiting key (queue ++ added) ≡ true
 waits_on key queue added e = list_any-append (nat_eq key) queue added ∙ ap (λ b. b || is_waiting key added) e
 
-waits_last : (key : ℕ) (queue : List ℕ) → is_waiting key (queue ++ key ∷ []) ≡ true
+pub waits_last : (key : ℕ) (queue : List ℕ) → is_waiting key (queue ++ key ∷ []) ≡ true
 waits_last key queue = list_any-append (nat_eq key) queue (key ∷ []) ∙ ap (λ b. is_waiting key queue || (b || false)) (eq-eqb key key refl) ∙ or_true (is_waiting key queue)
 
-module _ {M : Type 0} (members : Slab M) (holds : List (Option Hold)) where
-  noted_on : (t : Told) (queue added : List ℕ) → IsNoted members holds queue t → IsNoted members holds (queue ++ added) t
+module _ {M : Type 0} (members : Slab M) (watches : List Watch) where
+  noted_on : (t : Told) (queue added : List ℕ) → IsNoted members watches queue t → IsNoted members watches (queue ++ added) t
   noted_on (ready key) queue added (inl none) = inl none
   noted_on (ready key) queue added (inr (inl held)) = inr (inl held)
   noted_on (ready key) queue added (inr (inr waits)) = inr (inr (waits_on key queue added waits))
@@ -46,7 +31,7 @@ module _ {M : Type 0} (members : Slab M) (holds : List (Option Hold)) where
   noted_on (at moment) queue added n = tt
   noted_on (since millis) queue added n = tt
 
-  all_on : (news : List Told) (queue added : List ℕ) → AllByRecursion (IsNoted members holds queue) news → AllByRecursion (IsNoted members holds (queue ++ added)) news
+  all_on : (news : List Told) (queue added : List ℕ) → AllByRecursion (IsNoted members watches queue) news → AllByRecursion (IsNoted members watches (queue ++ added)) news
   all_on [] queue added a = tt
   all_on (t ∷ news) queue added a = (noted_on t queue added a.0, all_on news queue added a.1)
 
@@ -54,7 +39,7 @@ module _ {M : Type 0} (members : Slab M) (holds : List (Option Hold)) where
   waits_by key queue true e = ([], sym (append-nil queue), waits_on key queue [] e)
   waits_by key queue false e = (key ∷ [], refl, waits_last key queue)
 
-  noted_after : (key : ℕ) (queue : List ℕ) (member : Option M) (hold : Option Hold) → get members key ≡ member → slice_index_or holds key None ≡ hold → (added : List ℕ) × (noted member hold key queue ≡ queue ++ added) × IsNoted members holds (queue ++ added) (ready key)
+  noted_after : (key : ℕ) (queue : List ℕ) (member : Option M) (hold : Option Hold) → get members key ≡ member → hold_at watches key ≡ hold → (added : List ℕ) × (noted member hold key queue ≡ queue ++ added) × IsNoted members watches (queue ++ added) (ready key)
   noted_after key queue member (Some hold) e h = ([], sym (append-nil queue), inr (inl (ap_some h)))
     where
       ap_some : {X : Type 0} {o : Option X} {x : X} → o ≡ Some x → IsSome o
@@ -62,20 +47,20 @@ module _ {M : Type 0} (members : Slab M) (holds : List (Option Hold)) where
   noted_after key queue None None e h = ([], sym (append-nil queue), inl e)
   noted_after key queue (Some m) None e h = let b = waits_by key queue (is_waiting key queue) refl in (b.0, b.1, inr (inr b.2))
 
-  pub notes_none : (queue : List ℕ) (told : Option (List Told)) → Notes members holds queue queue told told
+  pub notes_none : (queue : List ℕ) (told : Option (List Told)) → Notes members watches queue queue told told
   notes_none queue told = record { added = []; after = sym (append-nil queue); all_noted = λ before e. ([], e, tt) }
 
   -- more is told, of no client
-  pub notes_more : (t : Told) (old queue : List ℕ) (told heard hears : Option (List Told)) → IsNoted members holds queue t → Notes members holds old queue told heard → Hears heard t hears → Notes members holds old queue told hears
+  pub notes_more : (t : Told) (old queue : List ℕ) (told heard hears : Option (List Told)) → IsNoted members watches queue t → Notes members watches old queue told heard → Hears heard t hears → Notes members watches old queue told hears
   notes_more t old queue told heard hears is n hear = record {
     added = n.added;
     after = n.after;
     all_noted = λ before known. let m = n.all_noted before known in (t ∷ m.0, hear (m.0 ++ before) m.1, (is, m.2));
   }
 
-  pub notes_on : (key : ℕ) (old queue now : List ℕ) (told heard hears : Option (List Told)) → Notes members holds old queue told heard → now ≡ noted (get members key) (slice_index_or holds key None) key queue → Hears heard (ready key) hears → Notes members holds old now told hears
+  pub notes_on : (key : ℕ) (old queue now : List ℕ) (told heard hears : Option (List Told)) → Notes members watches old queue told heard → now ≡ noted (get members key) (hold_at watches key) key queue → Hears heard (ready key) hears → Notes members watches old now told hears
   notes_on key old queue now told heard hears n e hear =
-      let b = noted_after key queue (get members key) (slice_index_or holds key None) refl refl in
+      let b = noted_after key queue (get members key) (hold_at watches key) refl refl in
       let is : now ≡ queue ++ b.0 = e ∙ b.1 in
       record {
         added = n.added ++ b.0;
@@ -83,9 +68,9 @@ module _ {M : Type 0} (members : Slab M) (holds : List (Option Hold)) where
         all_noted = λ before known. let m = n.all_noted before known in (
           ready key ∷ m.0,
           hear (m.0 ++ before) m.1,
-          subst (λ q. AllByRecursion (IsNoted members holds q) (ready key ∷ m.0)) (sym is) (b.2, all_on m.0 queue b.0 m.2),
+          subst (λ q. AllByRecursion (IsNoted members watches q) (ready key ∷ m.0)) (sym is) (b.2, all_on m.0 queue b.0 m.2),
         );
       }
 
-  pub notes_account : (old now : List ℕ) (told heard : Option (List Told)) → Notes members holds old now told heard → Accounts told [] heard
+  pub notes_account : (old now : List ℕ) (told heard : Option (List Told)) → Notes members watches old now told heard → Accounts told [] heard
   notes_account old now told heard n before e = let m = n.all_noted before e in (m.0, m.1, tt)

@@ -1,5 +1,8 @@
 pub mod Telling
 pub mod Lengthening
+pub mod Watching
+pub mod Releasing
+pub mod Staying
 pub mod Changing
 pub mod Turning
 pub mod Rounding

@@ -1,13 +1,14 @@
 -- What a turn of the first client of a queue brings.
 use Rattle.std.proofs.Common.{◌≡◌, ◌≢◌, ℕ, Bool, true, false, List, [], ◌∷◌, ◌++◌, take, Option, Some, option_map, inl, inr, if◌then◌else◌, nat_eq, refl, sym, ap, subst, ◌∙◌, append-nil}
-use Rattle.std.proofs.lemmas.Bool.{eqb-true, eq-eqb}
+use Rattle.std.proofs.lemmas.Bool.{eq-eqb}
 use Rattle.slab.specs.Slab.{Updates}
 use Rattle.nfs_attrs.specs.declared.moment.Moment.{Moment}
 use Rattle.nfs_lines.specs.Written.{Written, Reported}
 use Rattle.nfs_queue.specs.Queues.{Waiting, IsCalled, with_key}
+use Rattle.nfs_queue.proofs.Queueing.{not_same}
 use Rattle.nfs_loop.specs.declared.member.Member.{Member}
 use Rattle.nfs_loop.specs.Told.{Told, at, Hears, Accounts}
-use Rattle.nfs_loop.specs.Stages.{stage, state, seat_of, seats, turned, Sleeps, IsAgain, TurnsFirst, Goes}
+use Rattle.nfs_loop.specs.Stages.{stage, state, seat_of, seats, turned, OthersStay, Sleeps, IsAgain, TurnsFirst, Goes}
 use Rattle.nfs_loop.proofs.Telling.{accounts_then}
 use Rattle.nfs_server.specs.Feeding.{device}
 use Rattle.nfs_server.specs.Fits.{Held}
@@ -16,10 +17,6 @@ use Rattle.nfs_serving.specs.Turns.{Standing, Turns}
 use Rattle.nfs_serving.specs.declared.turn.End.{End}
 use Rattle.nfs_xdr.specs.Known.{Grows, StaysFailed}
 use Rattle.nfs_xdr.specs.declared.link.Came.{Came}
-
-not_same : (a b : ℕ) (t : Bool) → nat_eq a b ≡ t → a ≢ b → nat_eq a b ≡ false
-not_same a b true e differ = absurd (differ (eqb-true a b e))
-not_same a b false e differ = e
 
 -- the queue after a turn
 queue_after : {L : Type 0} (incoming : L → Option (List ℕ)) (reports : L → ℕ → Came → L → Type 0) (key : ℕ) (rest queue : List ℕ) (waits : Bool) (seat : Option (Seat L)) → queue ≡ with_key waits key rest → (waits ≡ false → Sleeps incoming reports seat) → (again : List ℕ) × (queue ≡ rest ++ again) × IsAgain incoming reports key again seat
@@ -37,13 +34,14 @@ module _ {L : Type 0} (outgoing incoming : L → Option (List ℕ)) (reports : L
   turn_told : Accounts told (turns key moment turn.0 ∷ []) heard
   turn_told = accounts_then told first heard [] (turns key moment turn.0 ∷ []) before (λ news e. (at moment ∷ [], hear news e, ([], [], refl, tt)))
 
-  first_turns : (seat : ℕ → Option (Seat L)) (changes : List Change) (queue : List ℕ) → turned changes ≡ key ∷ [] → (again : List ℕ) × (queue ≡ mid.1.0 ++ again) × IsAgain incoming reports key again (seat key) → TurnsFirst incoming reports seat old.1.0 changes queue
-  first_turns seat changes queue e again = subst (λ q. TurnsFirst incoming reports seat q changes queue) (sym c.first) (e, again)
+  first_turns : (seat : ℕ → Option (Seat L)) (changes : List Change) (queue : List ℕ) → turned changes ≡ key ∷ [] → OthersStay key (seats old.0) seat → (again : List ℕ) × (queue ≡ mid.1.0 ++ again) × IsAgain incoming reports key again (seat key)
+      → TurnsFirst incoming reports (seats old.0) seat old.1.0 changes queue
+  first_turns seat changes queue e others again = subst (λ q. TurnsFirst incoming reports (seats old.0) seat q changes queue) (sym c.first) (e, others, again)
 
   -- it comes back
   pub comes_back : (new : Waiting (Member L)) (waits : Bool) → Updates mid.0 new.0 key (Some (with_client member now)) → new.1.0 ≡ with_key waits key mid.1.0
       → (waits ≡ false → Sleeps incoming reports (Some (seat_of (with_client member now))))
-      → Goes outgoing incoming (λ changes. TurnsFirst incoming reports (seats new.0) old.1.0 changes new.1.0 × Accounts told changes heard) (stage server old.0 joined w) (stage served new.0 joined v)
+      → Goes outgoing incoming (λ changes. TurnsFirst incoming reports (seats old.0) (seats new.0) old.1.0 changes new.1.0 × Accounts told changes heard) (stage server old.0 joined w) (stage served new.0 joined v)
   comes_back new waits back queue sleeps = record {
     changes = turns key moment turn.0 ∷ [];
     are_changes = (
@@ -64,7 +62,11 @@ module _ {L : Type 0} (outgoing incoming : L → Option (List ℕ)) (reports : L
       },
     );
     shared_stays = shared;
-    such = (first_turns (seats new.0) (turns key moment turn.0 ∷ []) new.1.0 refl (queue_after incoming reports key mid.1.0 new.1.0 waits (seats new.0 key) queue (λ e. subst (Sleeps incoming reports) (sym (ap (option_map seat_of) back.changed)) (sleeps e))), turn_told);
+    such = (
+      first_turns (seats new.0) (turns key moment turn.0 ∷ []) new.1.0 refl (λ other differ. ap (option_map seat_of) (back.others other differ ∙ c.away.others other differ))
+          (queue_after incoming reports key mid.1.0 new.1.0 waits (seats new.0 key) queue (λ e. subst (Sleeps incoming reports) (sym (ap (option_map seat_of) back.changed)) (sleeps e))),
+      turn_told,
+    );
   }
 
   -- it leaves
@@ -81,7 +83,7 @@ module _ {L : Type 0} (outgoing incoming : L → Option (List ℕ)) (reports : L
   elsewhere other differ = ap (λ (t : Bool). if t then Some (record { number = member.number; client = now }) else seats old.0 other) (not_same other key (nat_eq other key) refl differ)
 
   pub goes_away : (u : Written) (last : Option (List Told)) → Accounts heard [] last → (by : End) × LeavesBy now by × Reported (end_text member.number now.calls by) v u
-      → Goes outgoing incoming (λ changes. TurnsFirst incoming reports (seats mid.0) old.1.0 changes mid.1.0 × Accounts told changes last) (stage server old.0 joined w) (stage served mid.0 joined u)
+      → Goes outgoing incoming (λ changes. TurnsFirst incoming reports (seats old.0) (seats mid.0) old.1.0 changes mid.1.0 × Accounts told changes last) (stage server old.0 joined w) (stage served mid.0 joined u)
   goes_away u last rest (by, ended, reported) = record {
     changes = leaves key member.number now.calls by ∷ turns key moment turn.0 ∷ [];
     are_changes = (
@@ -122,7 +124,8 @@ module _ {L : Type 0} (outgoing incoming : L → Option (List ℕ)) (reports : L
     );
     shared_stays = reported.shared_stays ∙ shared;
     such = (
-      first_turns (seats mid.0) (leaves key member.number now.calls by ∷ turns key moment turn.0 ∷ []) mid.1.0 refl ([], sym (append-nil mid.1.0), inr (refl, subst (Sleeps incoming reports) (sym (ap (option_map seat_of) c.away.changed)) tt)),
+      first_turns (seats mid.0) (leaves key member.number now.calls by ∷ turns key moment turn.0 ∷ []) mid.1.0 refl (λ other differ. ap (option_map seat_of) (c.away.others other differ))
+          ([], sym (append-nil mid.1.0), inr (refl, subst (Sleeps incoming reports) (sym (ap (option_map seat_of) c.away.changed)) tt)),
       accounts_then told heard last (leaves key member.number now.calls by ∷ turns key moment turn.0 ∷ []) [] turn_told rest,
     );
   }

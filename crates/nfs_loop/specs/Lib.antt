@@ -1,4 +1,5 @@
 pub mod Peers
 pub mod Told
 pub mod Telling
+pub mod Watching
 pub mod Stages

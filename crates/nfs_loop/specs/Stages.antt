@@ -1,5 +1,5 @@
 -- What a service is, and what its turns bring.
-use Rattle.std.specs.Prelude.{◌≡◌, ◌≢◌, ◌⊎◌, ℕ, ◌+◌, ◌/◌, ◌<◌, Bool, true, List, [], ◌∷◌, ◌++◌, length, Option, Some, None, IsSome, option_map, slice_index_or}
+use Rattle.std.specs.Prelude.{◌≡◌, ◌≢◌, ◌⊎◌, ℕ, ◌+◌, ◌/◌, ◌<◌, Bool, false, true, List, [], ◌∷◌, ◌++◌, length, Option, Some, None, IsSome, option_map}
 use Rattle.std.specs.List.{AllByRecursion}
 use Rattle.std.specs.declared.net.ip_addr.IpAddr.{IpAddr}
 use Rattle.slab.specs.Slab.{Slab, get, Updates, SameValues}
@@ -9,6 +9,8 @@ use Rattle.nfs_loop.specs.Peers.{IsAddrOf}
 use Rattle.nfs_loop.specs.Told.{Told, ready, listener_ready, nothing_ready, came, at, since, Hears, Accounts}
 use Rattle.nfs_loop.specs.declared.member.Member.{Member}
 use Rattle.nfs_loop.specs.declared.watches.Hold.{Hold}
+use Rattle.nfs_loop.specs.declared.watches.Watch.{Watch}
+use Rattle.nfs_loop.specs.Watching.{watch_at, hold_at, AllStay, ReleasesBy, SomeMayBeHeld}
 use Rattle.nfs_queue.specs.Queues.{is_waiting, with_ready}
 use Rattle.nfs_server.specs.Fits.{Held, History}
 use Rattle.nfs_serving.specs.Service.{Seat, ServiceState, IsNew, Change, joins, turns, leaves, passes, AreChanges, IsOneHistory}
@@ -55,10 +57,20 @@ Sleeps incoming reports (Some seat) = (seat.client.channel.pending ≢ [])
 abbrev pub IsAgain : {L : Type 0} → (L → Option (List ℕ)) → (L → ℕ → Came → L → Type 0) → ℕ → List ℕ → Option (Seat L) → Type 0
 IsAgain incoming reports key again seat = (again ≡ key ∷ []) ⊎ ((again ≡ []) × Sleeps incoming reports seat)
 
+-- all sit as they sat, but for the one of this key
+abbrev pub OthersStay : {L : Type 0} → ℕ → (ℕ → Option (Seat L)) → (ℕ → Option (Seat L)) → Type 0
+OthersStay key was seat = (other : ℕ) → other ≢ key → seat other ≡ was other
+
 -- The first of the queue has its turn. It may wait again then, after all others.
-abbrev pub TurnsFirst : {L : Type 0} → (L → Option (List ℕ)) → (L → ℕ → Came → L → Type 0) → (ℕ → Option (Seat L)) → List ℕ → List Change → List ℕ → Type 0
-TurnsFirst incoming reports seat [] changes queue = (changes ≡ []) × (queue ≡ [])
-TurnsFirst incoming reports seat (key ∷ rest) changes queue = (turned changes ≡ key ∷ []) × ((again : List ℕ) × (queue ≡ rest ++ again) × IsAgain incoming reports key again (seat key))
+abbrev pub TurnsFirst : {L : Type 0} → (L → Option (List ℕ)) → (L → ℕ → Came → L → Type 0) → (ℕ → Option (Seat L)) → (ℕ → Option (Seat L)) → List ℕ → List Change → List ℕ → Type 0
+TurnsFirst incoming reports was seat [] changes queue = (changes ≡ []) × (queue ≡ [])
+TurnsFirst incoming reports was seat (key ∷ rest) changes queue = (turned changes ≡ key ∷ []) × OthersStay key was seat × ((again : List ℕ) × (queue ≡ rest ++ again) × IsAgain incoming reports key again (seat key))
+
+-- those of these keys that are there and don't sleep wait again, in this order, and nobody else does
+abbrev pub WaitAgain : {L : Type 0} → (L → Option (List ℕ)) → (L → ℕ → Came → L → Type 0) → (ℕ → Option (Seat L)) → List ℕ → List ℕ → Type 0
+WaitAgain incoming reports seat [] queue = queue ≡ []
+WaitAgain incoming reports seat (key ∷ keys) queue = ((rest : List ℕ) × (queue ≡ key ∷ rest) × WaitAgain incoming reports seat keys rest)
+    ⊎ (Sleeps incoming reports (seat key) × WaitAgain incoming reports seat keys queue)
 
 -- changes by what was told in between, in which nobody has a turn
 abbrev pub WithoutTurns : Option (List Told) → List Change → Option (List Told) → Type 0
@@ -71,18 +83,14 @@ pub record Goes {L : Type 0} (outgoing incoming : L → Option (List ℕ)) (Such
   pub shared_stays : new.written.shared ≡ old.written.shared
   pub such : Such changes
 
--- In the midst of a round, with so many turns left: those that waited first have had their turns, and then the rest has, which still waits before all others.
-pub record InRound (first queue : List ℕ) (left : ℕ) (changes : List Change) : Type 0 where
+-- In the midst of a round, with so many turns left: those that waited first have had their turns, and then the rest has, which still waits before all others. Who had its turn waits again after the rest, or sleeps.
+pub record InRound {L : Type 0} (incoming : L → Option (List ℕ)) (reports : L → ℕ → Came → L → Type 0) (seat : ℕ → Option (Seat L)) (first queue : List ℕ) (left : ℕ) (changes : List Change) : Type 0 where
   pub rest : List ℕ
   pub again : List ℕ
   pub first_is : first ≡ turned changes ++ rest
   pub queue_is : queue ≡ rest ++ again
   pub left_is : length rest ≡ left
-
--- The first keys of a queue keep their order, and others may wait after them.
-pub record Longer (old new : List ℕ) : Type 0 where
-  pub added : List ℕ
-  pub after : new ≡ old ++ added
+  pub wait_again : WaitAgain incoming reports seat (turned changes) again
 
 -- a client of this peer has joined under a key, after so many others
 pub record HasJoined {L : Type 0} (key : ℕ) (peer : IpAddr) (old : Slab (Member L)) (joined : ℕ) (new : Slab (Member L)) (now : ℕ) : Type 0 where
@@ -103,19 +111,19 @@ noted member None key queue = with_ready member key queue
 noted member (Some hold) key queue = queue
 
 -- whoever was reported ready waits, or gets no turn for now, or is not there
-abbrev pub IsNoted : {M : Type 0} → Slab M → List (Option Hold) → List ℕ → Told → Type 0
-IsNoted members holds queue (ready key) = (get members key ≡ None) ⊎ (IsSome (slice_index_or holds key None) ⊎ (is_waiting key queue ≡ true))
-IsNoted members holds queue listener_ready = Unit {0}
-IsNoted members holds queue nothing_ready = Unit {0}
-IsNoted members holds queue (came key peer) = Unit {0}
-IsNoted members holds queue (at moment) = Unit {0}
-IsNoted members holds queue (since millis) = Unit {0}
+abbrev pub IsNoted : {M : Type 0} → Slab M → List Watch → List ℕ → Told → Type 0
+IsNoted members watches queue (ready key) = (get members key ≡ None) ⊎ (IsSome (hold_at watches key) ⊎ (is_waiting key queue ≡ true))
+IsNoted members watches queue listener_ready = Unit {0}
+IsNoted members watches queue nothing_ready = Unit {0}
+IsNoted members watches queue (came key peer) = Unit {0}
+IsNoted members watches queue (at moment) = Unit {0}
+IsNoted members watches queue (since millis) = Unit {0}
 
 -- all that waited wait in their order, and after them those of which something was reported
-pub record Notes {M : Type 0} (members : Slab M) (holds : List (Option Hold)) (old new : List ℕ) (told heard : Option (List Told)) : Type 0 where
+pub record Notes {M : Type 0} (members : Slab M) (watches : List Watch) (old new : List ℕ) (told heard : Option (List Told)) : Type 0 where
   pub added : List ℕ
   pub after : new ≡ old ++ added
-  pub all_noted : (before : List Told) → told ≡ Some before → (news : List Told) × (heard ≡ Some (news ++ before)) × AllByRecursion (IsNoted members holds new) news
+  pub all_noted : (before : List Told) → told ≡ Some before → (news : List Told) × (heard ≡ Some (news ++ before)) × AllByRecursion (IsNoted members watches new) news
 
 -- the newest that was told is that nothing more is ready, or so much was told
 abbrev pub IsAsked : ℕ → List Told → Type 0
@@ -132,41 +140,63 @@ AsksAll most told heard = (before : List Told) → told ≡ Some before → (new
 
 -- ---- silent clients
 
--- only the client of this key leaves, and only where nothing was heard of it since then
-abbrev pub LeavesIfSilent : {M : Type 0} → List ℕ → ℕ → ℕ → Slab M → Slab M → Type 0
-LeavesIfSilent heard key start old new = (k : ℕ) → (get new k ≡ get old k) ⊎ ((k ≡ key) × (slice_index_or heard key start < start))
+-- nothing was heard of a key's client since then, and it could have been: it waits for no turn, and is not held
+pub record IsSilent (watches : List Watch) (queue : List ℕ) (start key : ℕ) : Type 0 where
+  pub not_heard : (watch_at watches key).heard < start
+  pub not_held : hold_at watches key ≡ None
+  pub not_waiting : is_waiting key queue ≡ false
+
+-- only the client of this key leaves, and only where it has been silent since then
+abbrev pub LeavesIfSilent : {M : Type 0} → List Watch → List ℕ → ℕ → ℕ → Slab M → Slab M → Type 0
+LeavesIfSilent watches queue key start old new = (k : ℕ) → (get new k ≡ get old k) ⊎ ((k ≡ key) × (get new k ≡ None) × IsSilent watches queue start key)
 
 -- Who leaves has been silent: so many seconds after the service began, nothing was heard of it for more than so many.
-abbrev pub OnlySilentLeave : {M : Type 0} → List ℕ → Option ℕ → ℕ → Slab M → Slab M → Type 0
-OnlySilentLeave heard None seconds old new = (key : ℕ) → get new key ≡ get old key
-OnlySilentLeave heard (Some idle) seconds old new = (key : ℕ) → (get new key ≡ get old key) ⊎ ((start : ℕ) × (start + idle ≡ seconds) × (slice_index_or heard key start < start))
+abbrev pub OnlySilentLeave : {M : Type 0} → List Watch → List ℕ → Option ℕ → ℕ → Slab M → Slab M → Type 0
+OnlySilentLeave watches queue None seconds old new = (key : ℕ) → get new key ≡ get old key
+OnlySilentLeave watches queue (Some idle) seconds old new = (key : ℕ) → (get new key ≡ get old key) ⊎ ((get new key ≡ None) × ((start : ℕ) × (start + idle ≡ seconds) × IsSilent watches queue start key))
 
 -- the same, as the clock told
-abbrev pub OnlySilentLeaveBy : {M : Type 0} → List ℕ → Option ℕ → Option (List Told) → Slab M → Slab M → Type 0
-OnlySilentLeaveBy heard idle told old new = (millis : ℕ) × (mid : Option (List Told)) × Hears told (since millis) mid × OnlySilentLeave heard idle (millis / 1000) old new
+abbrev pub OnlySilentLeaveBy : {M : Type 0} → List Watch → List ℕ → Option ℕ → Option (List Told) → Slab M → Slab M → Type 0
+OnlySilentLeaveBy watches queue idle told old new = (millis : ℕ) × (mid : Option (List Told)) × Hears told (since millis) mid × OnlySilentLeave watches queue idle (millis / 1000) old new
 
 -- ---- the rounds of the loop
 
--- A round: the network is asked what is ready. Those of which something was reported wait after those that waited, unless they get no turn for now, and others may after them. Then each who waits has one turn, in that order.
-pub record IsRound {L : Type 0} (outgoing incoming : L → Option (List ℕ)) (changes : List Change) (told heard : Option (List Told)) (waited : List ℕ) (old new : Stage L) : Type 0 where
+-- the keys of those that wait, the next one first, and what is known of the clients
+pub record Schedule : Type 0 where
+  pub queue : List ℕ
+  pub watches : List Watch
+
+abbrev pub schedule : List ℕ → List Watch → Schedule
+schedule queue watches = record { queue = queue; watches = watches }
+
+-- A round: the network is asked what is ready. Those of which something was reported wait after those that waited, unless they get no turn for now; others may have joined; and after them wait those whose hold is over. Then each who waits has one turn, in that order, and at the end it waits again, sleeps or is gone. Only those that had a turn are held who were not before.
+pub record IsRound {L : Type 0} (outgoing incoming : L → Option (List ℕ)) (reports : L → ℕ → Came → L → Type 0) (changes : List Change) (told heard : Option (List Told)) (from to : Schedule) (old new : Stage L) : Type 0 where
   pub are_changes : AreChanges outgoing incoming old.written.shared changes (state old) (state new)
   pub shared_stays : new.written.shared ≡ old.written.shared
   pub accounts : Accounts told changes heard
-  pub holds : List (Option Hold)
   pub between : Option (List Told)
   pub reported : List ℕ
-  pub notes : Notes old.members holds waited reported told between
+  pub notes : Notes old.members from.watches from.queue reported told between
   pub asked : AsksAll most_asked told between
+  pub members : Slab (Member L)
+  pub held : List Watch
+  pub all_stay : AllStay old.members from.watches members held
+  pub full : Bool
+  pub before : Option (List Told)
+  pub after : Option (List Told)
+  pub left : List Watch
   pub first : List ℕ
-  pub longer : Longer reported first
+  pub releases : ReleasesBy members full before after held left reported first
   pub turned_are : turned changes ≡ first
+  pub wait_again : WaitAgain incoming reports (seats new.members) first to.queue
+  pub some_held : SomeMayBeHeld first left to.watches
   pub log_stays : StaysFailed old.written.broken old.written.log new.written.broken new.written.log
 
--- one round after another, the newest first: whoever waits at the end of one waits in that order when the next begins
-abbrev pub AreRounds : {L : Type 0} → (L → Option (List ℕ)) → (L → Option (List ℕ)) → List (List Change) → Option (List Told) → List ℕ → Stage L → Option (List Told) → List ℕ → Stage L → Type 0
-AreRounds outgoing incoming [] told waited old heard waits new = (new ≡ old) × (heard ≡ told) × (waits ≡ waited)
-AreRounds {L} outgoing incoming (changes ∷ earlier) told waited old heard waits new = (before : Option (List Told)) × (queue : List ℕ) × (between : Stage L)
-    × AreRounds outgoing incoming earlier told waited old before queue between × IsRound outgoing incoming changes before heard queue between new
+-- one round after another, the newest first: whoever waits or is held at the end of one is so when the next begins
+abbrev pub AreRounds : {L : Type 0} → (L → Option (List ℕ)) → (L → Option (List ℕ)) → (L → ℕ → Came → L → Type 0) → List (List Change) → Option (List Told) → Schedule → Stage L → Option (List Told) → Schedule → Stage L → Type 0
+AreRounds outgoing incoming reports [] told from old heard to new = (new ≡ old) × (heard ≡ told) × (to ≡ from)
+AreRounds {L} outgoing incoming reports (changes ∷ earlier) told from old heard to new = (before : Option (List Told)) × (mid : Schedule) × (between : Stage L)
+    × AreRounds outgoing incoming reports earlier told from old before mid between × IsRound outgoing incoming reports changes before heard mid to between new
 
 -- the changes of rounds
 abbrev pub changes_of : List (List Change) → List Change
@@ -174,19 +204,18 @@ changes_of [] = []
 changes_of (changes ∷ earlier) = changes ++ changes_of earlier
 
 -- rounds, and after them changes in which nobody has a turn
-pub record Rounds {L : Type 0} (outgoing incoming : L → Option (List ℕ)) (told : Option (List Told)) (waited : List ℕ) (old : Stage L) (changes : List Change) : Type 0 where
+pub record Rounds {L : Type 0} (outgoing incoming : L → Option (List ℕ)) (reports : L → ℕ → Came → L → Type 0) (told : Option (List Told)) (from to : Schedule) (old : Stage L) (changes : List Change) : Type 0 where
   pub rounds : List (List Change)
   pub heard : Option (List Told)
-  pub waits : List ℕ
   pub last : Stage L
-  pub are_rounds : AreRounds outgoing incoming rounds told waited old heard waits last
+  pub are_rounds : AreRounds outgoing incoming reports rounds told from old heard to last
   pub after : List Change
   pub no_turns : turned after ≡ []
   pub changes_are : changes ≡ after ++ changes_of rounds
 
 -- What changed, by what was told, is one history and one log, and each client is served as if it were alone. Each round gives one turn to each who waits.
-pub record Lived {L : Type 0} (outgoing incoming : L → Option (List ℕ)) (history : History) (told heard : Option (List Told)) (waited : List ℕ) (old new : Stage L) : Type 0 where
+pub record Lived {L : Type 0} (outgoing incoming : L → Option (List ℕ)) (reports : L → ℕ → Came → L → Type 0) (history : History) (told heard : Option (List Told)) (from to : Schedule) (old new : Stage L) : Type 0 where
   pub changes : List Change
   pub one_history : IsOneHistory outgoing incoming old.written.shared history changes (state old) (state new)
   pub accounts : Accounts told changes heard
-  pub rounds : Rounds outgoing incoming told waited old changes
+  pub rounds : Rounds outgoing incoming reports told from to old changes

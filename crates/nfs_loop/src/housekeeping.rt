@@ -1,7 +1,8 @@
 //! What a service keeps beside its clients.
-ghost use Rattle.std.specs.Prelude.{◌≡◌, ◌+◌, ℕ, [], Some, IfSome};
+ghost use Rattle.std.specs.Prelude.{◌≡◌, ◌≢◌, ◌+◌, ℕ, [], Some, IfSome};
 ghost use Rattle.nfs_lines.specs.Written.{PassedOn, written};
 ghost use Rattle.nfs_loop.specs.Told.{Accounts};
+ghost use Rattle.nfs_loop.specs.Watching.{hold_at};
 
 use crate::limits::Limits;
 use crate::lines_reported::LinesReported;
@@ -50,8 +51,6 @@ pub(crate) struct Housekeeping {
     looked: u64,
     /// The addresses whose next connections have to wait.
     pub(crate) refused_peers: RefusedPeers,
-    /// Whether some clients get no turn for now.
-    pub(crate) has_held: bool,
     /// Whether the tree may have changed since it was saved.
     pub(crate) is_touched: bool,
     lines_reported: LinesReported,
@@ -69,7 +68,6 @@ impl Housekeeping {
             ended: 0,
             looked: 0,
             refused_peers: RefusedPeers::new(alloc),
-            has_held: false,
             is_touched: false,
             lines_reported: LinesReported::nothing(),
             saved: 0,
@@ -89,7 +87,7 @@ impl Housekeeping {
     pub(crate) fn timeout(&self, clients: usize, has_lines: bool) -> Option<Duration> {
         if self.waiting == Waiting::Some {
             Some(Duration::ZERO)
-        } else if has_lines || self.has_held {
+        } else if has_lines || self.watches.has_held() {
             Some(Duration::from_millis(LINES_MILLIS))
         } else if self.waiting == Waiting::Refused {
             Some(Duration::from_millis(RETRY_MILLIS))
@@ -132,12 +130,13 @@ impl Housekeeping {
 
     /// Begins to watch a new client from this address, which gets no turn for now where a denied call from
     /// there was refused lately.
-    pub(crate) fn watch(&mut self, key: usize, addr: Addr, millis: u64) {
+    pub(crate) fn watch(&mut self, key: usize, addr: Addr, millis: u64)
+        ensures others { (other : ℕ) → other ≢ key → hold_at self.new.watches other ≡ hold_at self.old.watches other }
+    {
         let hold = match self.refused_peers.until(addr, millis) {
             Some(until) => Some(Hold::Until(until)),
             None => None,
         };
-        self.has_held |= hold.is_some();
         self.watches.begin(key, millis / 1_000, hold);
     }
 
@@ -151,6 +150,7 @@ impl Housekeeping {
         saver: &mut S,
     )
         ensures told { Accounts (N.told net.old) [] (N.told net.new) }
+        ensures watches { self.new.watches ≡ self.old.watches }
         ensures lines { PassedOn (written A.taken C.taken lines.old) (written A.taken C.taken lines.new) }
     {
         lines.pass_on();
@@ -168,6 +168,7 @@ impl Housekeeping {
         seconds: u64,
     )
         ensures told { Accounts (N.told net.old) [] (N.told net.new) }
+        ensures watches { self.new.watches ≡ self.old.watches }
     {
         if let Some(every) = self.limits.save_every
             && self.is_touched

@@ -3,6 +3,7 @@ ghost use Rattle.std.specs.Prelude.{◌≡◌, ◌+◌, ◌<◌, ◌^◌, []};
 ghost use Rattle.std.specs.Net.Socket.{socket_ip};
 ghost use Rattle.nfs_loop.specs.Stages.{Goes, JoinsOrNot, WithoutTurns, stage};
 ghost use Rattle.nfs_loop.specs.Told.{Accounts, CameFrom, Hears, came};
+ghost use Rattle.nfs_loop.specs.Watching.{AllStay};
 ghost use Rattle.nfs_lines.specs.Written.{Written};
 ghost use Rattle.nfs_server.specs.Fits.{Held};
 
@@ -21,9 +22,9 @@ use thiserror::Error;
 // Why a connection is closed at once.
 #[derive(Clone, Copy, Debug, Error)]
 enum Refusal {
-    #[error("it is not an IPv4 address")]
+    #[error("not an IPv4 address")]
     Address,
-    #[error("there is no memory")]
+    #[error("out of memory")]
     Memory,
 }
 
@@ -33,6 +34,7 @@ impl<L: Link + Drop> Service<L> {
         ensures goes { (server : Held) → (lines : Written) → Goes L.outgoing L.incoming (λ changes. WithoutTurns (N.told net.old) changes (N.told net.new))
             (stage server self.old.clients.0 self.old.joined lines) (stage server self.new.clients.0 self.new.joined lines) }
         ensures queue { self.new.clients.1.0 ≡ self.old.clients.1.0 }
+        ensures stay { AllStay self.old.clients.0 self.old.housekeeping.watches self.new.clients.0 self.new.housekeeping.watches }
     {
         let mut left = EVENTS;
         while left > 0 && self.housekeeping.waiting == Waiting::Some {
@@ -46,6 +48,7 @@ impl<L: Link + Drop> Service<L> {
         ensures goes { (server : Held) → (lines : Written) → Goes L.outgoing L.incoming (λ changes. WithoutTurns (N.told net.old) changes (N.told net.new))
             (stage server self.old.clients.0 self.old.joined lines) (stage server self.new.clients.0 self.new.joined lines) }
         ensures queue { self.new.clients.1.0 ≡ self.old.clients.1.0 }
+        ensures stay { AllStay self.old.clients.0 self.old.housekeeping.watches self.new.clients.0 self.new.housekeeping.watches }
     {
         if self.housekeeping.limits.connections == Some(self.joined) {
             net.close_listener();
@@ -82,6 +85,7 @@ impl<L: Link + Drop> Service<L> {
         requires joined { self.old.joined + 1 < 2 ^ 64 }
         ensures joins { JoinsOrNot key (socket_ip peer) self.old.clients.0 self.old.joined self.new.clients.0 self.new.joined }
         ensures queue { self.new.clients.1.0 ≡ self.old.clients.1.0 }
+        ensures stay { AllStay self.old.clients.0 self.old.housekeeping.watches self.new.clients.0 self.new.housekeeping.watches }
         ensures told { Accounts (N.told net.old) [] (N.told net.new) }
     {
         if self.clients.len() >= self.housekeeping.limits.clients {
@@ -106,6 +110,7 @@ impl<L: Link + Drop> Service<L> {
         requires joined { self.old.joined + 1 < 2 ^ 64 }
         ensures joins { JoinsOrNot key (socket_ip peer) self.old.clients.0 self.old.joined self.new.clients.0 self.new.joined }
         ensures queue { self.new.clients.1.0 ≡ self.old.clients.1.0 }
+        ensures stay { AllStay self.old.clients.0 self.old.housekeeping.watches self.new.clients.0 self.new.housekeeping.watches }
         ensures told { Accounts (N.told net.old) [] (N.told net.new) }
     {
         let Some(addr) = addr_of(peer) else {

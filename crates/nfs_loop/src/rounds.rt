@@ -1,14 +1,16 @@
 //! Whose turn it is.
-ghost use Rattle.std.specs.Prelude.{◌≡◌, ◌↔◌, [], None, false, slice_index_or};
+ghost use Rattle.std.specs.Prelude.{◌≡◌, ◌↔◌, ℕ, false};
 ghost use Rattle.slab.specs.Slab.{get};
+ghost use Rattle.nfs_lines.specs.Queued.{is_full};
 ghost use Rattle.nfs_lines.specs.Written.{written};
-ghost use Rattle.nfs_loop.specs.Stages.{AsksAll, Goes, Longer, Notes, TurnsFirst, most_asked, noted, seats, stage, turned};
+ghost use Rattle.nfs_loop.specs.Stages.{AsksAll, Goes, Notes, TurnsFirst, WaitAgain, most_asked, noted, seats, stage, turned};
 ghost use Rattle.nfs_loop.specs.Told.{Accounts};
+ghost use Rattle.nfs_loop.specs.Watching.{FirstMayBeHeld, ReleasesBy, ReleasesOne, SomeMayBeHeld, hold_at};
 
 use crate::housekeeping::Waiting;
 use crate::network::{EVENTS, Network, Ready};
 use crate::service::Service;
-use crate::watches::Hold;
+use crate::watches::{Hold, is_over};
 use log::Log;
 use nfs_lines::line_out::LineOut;
 use nfs_lines::lines::Lines;
@@ -23,7 +25,8 @@ impl<L: Link + Drop> Service<L> {
     pub(crate) fn note<N: Network>(&mut self, net: &mut N)
         ensures members { self.new.clients.0 ≡ self.old.clients.0 }
         ensures joined { self.new.joined ≡ self.old.joined }
-        ensures notes { Notes self.old.clients.0 self.old.housekeeping.watches.holds.items self.old.clients.1.0 self.new.clients.1.0 (N.told net.old) (N.told net.new) }
+        ensures notes { Notes self.old.clients.0 self.old.housekeeping.watches self.old.clients.1.0 self.new.clients.1.0 (N.told net.old) (N.told net.new) }
+        ensures holds { (key : ℕ) → hold_at self.new.housekeeping.watches key ≡ hold_at self.old.housekeeping.watches key }
         ensures all { AsksAll most_asked (N.told net.old) (N.told net.new) }
     {
         self.housekeeping.retry();
@@ -42,13 +45,14 @@ impl<L: Link + Drop> Service<L> {
     fn note_client(&mut self, key: usize, is_closing: bool)
         ensures members { self.new.clients.0 ≡ self.old.clients.0 }
         ensures joined { self.new.joined ≡ self.old.joined }
-        ensures holds { self.new.housekeeping.watches.holds ≡ self.old.housekeeping.watches.holds }
-        ensures queue { self.new.clients.1.0 ≡ noted (get self.old.clients.0 key) (slice_index_or self.old.housekeeping.watches.holds.items key None) key self.old.clients.1.0 }
+        ensures holds { (k : ℕ) → hold_at self.new.housekeeping.watches k ≡ hold_at self.old.housekeeping.watches k }
+        ensures queue { self.new.clients.1.0 ≡ noted (get self.old.clients.0 key) (hold_at self.old.housekeeping.watches key) key self.old.clients.1.0 }
     {
+        let hold = self.housekeeping.watches.hold(key);
         if is_closing {
             self.housekeeping.watches.set_closing(key);
         }
-        if self.housekeeping.watches.hold(key).is_none() {
+        if hold.is_none() {
             self.clients.make_ready(key);
         }
     }
@@ -62,16 +66,15 @@ impl<L: Link + Drop> Service<L> {
     )
         ensures members { self.new.clients.0 ≡ self.old.clients.0 }
         ensures joined { self.new.joined ≡ self.old.joined }
-        ensures queue { Longer self.old.clients.1.0 self.new.clients.1.0 }
-        ensures told { Accounts (N.told net.old) [] (N.told net.new) }
+        ensures releases { ReleasesBy self.old.clients.0 (is_full lines.now.denied.queue) (N.told net.old) (N.told net.new)
+            self.old.housekeeping.watches self.new.housekeeping.watches self.old.clients.1.0 self.new.clients.1.0 }
     {
-        if !self.housekeeping.has_held {
+        if !self.housekeeping.watches.has_held() {
             return;
         }
         let is_full = lines.denied.is_full();
         let now = net.millis();
-        self.housekeeping.has_held = false;
-        let mut left = self.clients.keys();
+        let mut left = self.housekeeping.watches.keys();
         while left > 0 {
             left -= 1;
             self.release_one(left, is_full, now);
@@ -82,22 +85,17 @@ impl<L: Link + Drop> Service<L> {
     fn release_one(&mut self, key: usize, is_full: bool, now: u64)
         ensures members { self.new.clients.0 ≡ self.old.clients.0 }
         ensures joined { self.new.joined ≡ self.old.joined }
-        ensures queue { Longer self.old.clients.1.0 self.new.clients.1.0 }
+        ensures releases { ReleasesOne self.old.clients.0 is_full now key
+            self.old.housekeeping.watches self.new.housekeeping.watches self.old.clients.1.0 self.new.clients.1.0 }
     {
-        let is_held = match self.housekeeping.watches.hold(key) {
-            Some(Hold::Lines) => is_full,
-            Some(Hold::Until(until)) => now < until,
-            None => return,
-        };
-        if is_held {
-            self.housekeeping.has_held = true;
-        } else {
+        if is_over(self.housekeeping.watches.hold(key), is_full, now) {
             self.housekeeping.watches.set_hold(key, None);
             self.clients.make_ready(key);
         }
     }
 
-    /// Gives each client that waits a turn, in the order in which they wait.
+    /// Gives each client that waits a turn, in the order in which they wait. Each waits again then, sleeps or
+    /// is gone.
     pub(crate) fn turns<R: Log, N: Network<Stream = L>, A: LineOut, C: LineOut>(
         &mut self,
         rt: &R,
@@ -108,6 +106,8 @@ impl<L: Link + Drop> Service<L> {
         ensures goes { Goes L.outgoing L.incoming (λ changes. (turned changes ≡ self.old.clients.1.0) × Accounts (N.told net.old) changes (N.told net.new))
             (stage server.old self.old.clients.0 self.old.joined (written A.taken C.taken lines.old))
             (stage server.new self.new.clients.0 self.new.joined (written A.taken C.taken lines.new)) }
+        ensures holds { SomeMayBeHeld self.old.clients.1.0 self.old.housekeeping.watches self.new.housekeeping.watches }
+        ensures again { WaitAgain L.incoming L.reports (seats self.new.clients.0) self.old.clients.1.0 self.new.clients.1.0 }
     {
         let mut left = self.clients.waiting();
         while left > 0 {
@@ -124,9 +124,10 @@ impl<L: Link + Drop> Service<L> {
         net: &mut N,
         lines: &mut Lines<'_, A, C>,
     )
-        ensures goes { Goes L.outgoing L.incoming (λ changes. TurnsFirst L.incoming L.reports (seats self.new.clients.0) self.old.clients.1.0 changes self.new.clients.1.0 × Accounts (N.told net.old) changes (N.told net.new))
+        ensures goes { Goes L.outgoing L.incoming (λ changes. TurnsFirst L.incoming L.reports (seats self.old.clients.0) (seats self.new.clients.0) self.old.clients.1.0 changes self.new.clients.1.0 × Accounts (N.told net.old) changes (N.told net.new))
             (stage server.old self.old.clients.0 self.old.joined (written A.taken C.taken lines.old))
             (stage server.new self.new.clients.0 self.new.joined (written A.taken C.taken lines.new)) }
+        ensures holds { FirstMayBeHeld self.old.clients.1.0 self.old.housekeeping.watches self.new.housekeeping.watches }
     {
         let Some((key, mut member)) = self.clients.next() else {
             return;
@@ -150,7 +151,6 @@ impl<L: Link + Drop> Service<L> {
             }
             Turn::Idle => self.clients.put_back(key, member, false),
             Turn::Held => {
-                self.housekeeping.has_held = true;
                 self.housekeeping.watches.set_hold(key, Some(Hold::Lines));
                 self.clients.put_back(key, member, false);
             }

@@ -2,7 +2,7 @@
 ghost use Rattle.std.specs.Prelude.{◌≡◌, ℕ, List, None, IfOk};
 ghost use Rattle.slab.specs.Slab.{get};
 ghost use Rattle.nfs_lines.specs.Written.{PassedOn, written};
-ghost use Rattle.nfs_loop.specs.Stages.{Goes, IsRound, Lived, Rounds, stage};
+ghost use Rattle.nfs_loop.specs.Stages.{Goes, IsRound, Lived, Rounds, schedule, stage};
 ghost use Rattle.nfs_loop.specs.Told.{Accounts};
 ghost use Rattle.nfs_server.specs.Fits.{History, Fits};
 ghost use Rattle.nfs_serving.specs.Service.{Change};
@@ -69,7 +69,8 @@ impl<L: Link + Drop> Service<L> {
         saver: &mut S,
     ) -> io::Result<()>
         ensures lived { ((key : ℕ) → get self.old.clients.0 key ≡ None) → (history : History) → Fits history server.old
-            → Lived L.outgoing L.incoming history (N.told net.old) (N.told net.new) self.old.clients.1.0
+            → Lived L.outgoing L.incoming L.reports history (N.told net.old) (N.told net.new)
+            (schedule self.old.clients.1.0 self.old.housekeeping.watches) (schedule self.new.clients.1.0 self.new.housekeeping.watches)
             (stage server.old self.old.clients.0 self.old.joined (written A.taken C.taken lines.old))
             (stage server.new self.new.clients.0 self.new.joined (written A.taken C.taken lines.new)) }
     {
@@ -87,7 +88,9 @@ impl<L: Link + Drop> Service<L> {
         saver: &mut S,
     ) -> io::Result<()>
         ensures goes { Goes L.outgoing L.incoming
-            (λ changes. Rounds L.outgoing L.incoming (N.told net.old) self.old.clients.1.0 (stage server.old self.old.clients.0 self.old.joined (written A.taken C.taken lines.old)) changes
+            (λ changes. Rounds L.outgoing L.incoming L.reports (N.told net.old)
+            (schedule self.old.clients.1.0 self.old.housekeeping.watches) (schedule self.new.clients.1.0 self.new.housekeeping.watches)
+            (stage server.old self.old.clients.0 self.old.joined (written A.taken C.taken lines.old)) changes
             × Accounts (N.told net.old) changes (N.told net.new))
             (stage server.old self.old.clients.0 self.old.joined (written A.taken C.taken lines.old))
             (stage server.new self.new.clients.0 self.new.joined (written A.taken C.taken lines.new)) }
@@ -113,7 +116,8 @@ impl<L: Link + Drop> Service<L> {
         lines: &mut Lines<'_, A, C>,
         saver: &mut S,
     )
-        ensures round { (changes : List Change) × IsRound L.outgoing L.incoming changes (N.told net.old) (N.told net.new) self.old.clients.1.0
+        ensures round { (changes : List Change) × IsRound L.outgoing L.incoming L.reports changes (N.told net.old) (N.told net.new)
+            (schedule self.old.clients.1.0 self.old.housekeeping.watches) (schedule self.new.clients.1.0 self.new.housekeeping.watches)
             (stage server.old self.old.clients.0 self.old.joined (written A.taken C.taken lines.old))
             (stage server.new self.new.clients.0 self.new.joined (written A.taken C.taken lines.new)) }
     {

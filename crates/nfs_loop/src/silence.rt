@@ -24,7 +24,8 @@ impl<L: Link + Drop> Service<L> {
             (stage server self.old.clients.0 self.old.joined (written A.taken C.taken lines.old))
             (stage server self.new.clients.0 self.new.joined (written A.taken C.taken lines.new)) }
         ensures queue { self.new.clients.1.0 ≡ self.old.clients.1.0 }
-        ensures silent { OnlySilentLeaveBy self.old.housekeeping.watches.heard.items self.old.housekeeping.limits.idle (N.told net.old) self.old.clients.0 self.new.clients.0 }
+        ensures watches { self.new.housekeeping.watches ≡ self.old.housekeeping.watches }
+        ensures silent { OnlySilentLeaveBy self.old.housekeeping.watches self.old.clients.1.0 self.old.housekeeping.limits.idle (N.told net.old) self.old.clients.0 self.new.clients.0 }
     {
         let millis = net.millis();
         let Some(since) = self.housekeeping.silent_since(millis / 1_000) else {
@@ -51,7 +52,7 @@ impl<L: Link + Drop> Service<L> {
             (stage server self.old.clients.0 self.old.joined (written A.taken C.taken lines.old))
             (stage server self.new.clients.0 self.new.joined (written A.taken C.taken lines.new)) }
         ensures queue { self.new.clients.1.0 ≡ self.old.clients.1.0 }
-        ensures silent { LeavesIfSilent self.old.housekeeping.watches.heard.items key since self.old.clients.0 self.new.clients.0 }
+        ensures silent { LeavesIfSilent self.old.housekeeping.watches self.old.clients.1.0 key since self.old.clients.0 self.new.clients.0 }
         ensures watches { self.new.housekeeping.watches ≡ self.old.housekeeping.watches }
     {
         if !self.housekeeping.watches.is_silent(key, since)

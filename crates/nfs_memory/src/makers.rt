@@ -61,7 +61,7 @@ const KEY: [u8; 8] = [1, 2, 3, 4, 5, 6, 7, 8];
 fn put(files: &mut Files<u64>) -> Result<Option<u64>, Changed> {
     match files.put(10) {
         Ok(number) => Ok(Some(number.0)),
-        Err(PutFault::Memory(10)) if files.next() == 7 => Ok(None),
+        Err(PutFault::Memory(10, _)) if files.next() == 7 => Ok(None),
         Err(_) => Err(Changed),
     }
 }

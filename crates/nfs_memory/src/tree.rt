@@ -76,7 +76,7 @@ fn operate(alloc: Global, tree: &mut Tree, operation: u32) -> Result<(), AllocEr
             b"end",
             NOW,
         )?,
-        5 if tree.may_add_volume(b"/c", 1) => {
+        5 if tree.may_add_volume(b"/c", 1, 1) => {
             tree.add_volume(b"/c", 1, 1, &GIVEN, NOW)?;
         }
         6 if may_resize(tree, Number::new(3), 1_000) => tree.resize(Number::new(3), 1_000, NOW)?,

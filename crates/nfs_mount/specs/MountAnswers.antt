@@ -50,7 +50,7 @@ Mounts t exports addr path Granted old new before after =
 Mounts t exports addr path (Denied rule) old new before after =
     (mount_verdict t exports addr path ≡ Some rule) × (new ≡ old)
     × Appends (mount_text (denied_answer rule)) before after × IsMountEncoded (denied_answer rule)
-Mounts t exports addr path Memory old new before after =
+Mounts t exports addr path (Memory refused) old new before after =
     (mount_verdict t exports addr path ≡ None) × (is_mounted t addr path old ≡ false) × (new ≡ old) × (after ≡ before)
 
 -- ---- DUMP

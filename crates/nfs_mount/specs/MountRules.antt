@@ -5,7 +5,7 @@ use Rattle.nfs_exports.specs.declared.addr.Addr.{Addr}
 use Rattle.nfs_exports.specs.declared.export_table.Export.{Export}
 use Rattle.nfs_inodes.specs.Reading.{volume_named}
 use Rattle.nfs_inodes.specs.Tree.{Tree, on_some}
-use Rattle.nfs_rules.specs.Tests.{Test, first, path_long}
+use Rattle.nfs_rules.specs.Tests.{Test, first, path_long, max_mount_path_bytes}
 use Rattle.nfs_rules.specs.declared.rule.Rule.{Rule}
 use Rattle.nfs_rules.specs.declared.rule.Rule.TheVariants as rule
 
@@ -18,7 +18,7 @@ abbrev pub export : Tree → List (List Export) → Addr → List ℕ → Test
 export t exports addr path = (rule.Export, on_some (volume_named t path) false (λ index. is_none (grant (exports_of exports index) addr)))
 
 abbrev pub mount_rules : Tree → List (List Export) → Addr → List ℕ → List Test
-mount_rules t exports addr path = path_long path ∷ mount_path t path ∷ export t exports addr path ∷ []
+mount_rules t exports addr path = path_long max_mount_path_bytes path ∷ mount_path t path ∷ export t exports addr path ∷ []
 
 -- the first that fails
 abbrev pub mount_verdict : Tree → List (List Export) → Addr → List ℕ → Option Rule

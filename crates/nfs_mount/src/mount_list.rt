@@ -80,8 +80,8 @@ impl MountList {
                 return MountOutcome::Denied(rule);
             }
         };
-        if self.add(Mount { addr, volume }).is_err() {
-            return MountOutcome::Memory;
+        if let Err(refused) = self.add(Mount { addr, volume }) {
+            return MountOutcome::Memory(refused);
         }
         write_granted(out, &root_handle(tree, volume));
         MountOutcome::Granted
@@ -128,9 +128,7 @@ impl MountList {
         ensures err { OnErr result (self.new ≡ self.old) }
         ensures absent { OnErr result (is_in mount self.old ≡ false) }
     {
-        if self.mounts.insert(mount).is_err() {
-            return Err(AllocError);
-        }
+        self.mounts.insert(mount)?;
         if self.mounts.len() > MAX_MOUNTS {
             self.mounts.shift_remove_index(0);
         }

@@ -7,7 +7,7 @@ ghost use Rattle.nfs_rules.specs.Judging.{Judges};
 use nfs_exports::addr::Addr;
 use nfs_exports::export_table::ExportTable;
 use nfs_inodes::tree::Tree;
-use nfs_rules::name_rules::path_must_be_short;
+use nfs_rules::name_rules::mount_path_must_be_short;
 use nfs_rules::rule::Rule;
 
 /// The first rule that MNT of this path by a client at this address fails: `PathLong`, `MountPath` or
@@ -33,7 +33,7 @@ pub(crate) fn volume_for(
     ensures volume { IfOk result (λ index. volume_named tree.now path.now ≡ Some index) }
     ensures within { IfOk result (λ index. index < length tree.now.volumes) }
 {
-    if let Err(rule) = path_must_be_short(path) {
+    if let Err(rule) = mount_path_must_be_short(path) {
         return Err(rule);
     }
     let Some(index) = tree.volume_named(path) else {

@@ -125,5 +125,6 @@ agreeing_is_that f t u law = (
     next = (same.0 i).next;
     key = (same.0 i).key;
     volumes = (same.0 i).volumes;
+    limits = (same.0 i).limits;
   },
 )

@@ -284,7 +284,7 @@ module _ (f : ℕ) (c : Scene) (other : Tree) (agree : AgreeOutside f c.tree oth
       },
       stays new h.new_is,
     )
-    performs reads Memory new before after h =
+    performs reads (Memory refused) new before after h =
         let o = others h.one h.two h.granted.subjects in (
           other,
           record {

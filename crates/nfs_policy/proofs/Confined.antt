@@ -69,6 +69,7 @@ names_on t u h g = record {
   gone = λ n below none. absent (at n u.files) (sym (at_shows tagged n u.files) ∙ numbers_are_for_good.gone (numbered_files t) (numbered_files u) g.changes n h g.runs below (at_shows tagged n t.files ∙ ap (option_map tagged) none));
   key = runs_keep.key (numbered_files t) (numbered_files u) g.changes g.runs;
   volumes = g.volumes;
+  limits = g.limits;
   next = runs_keep.next (numbered_files t) (numbered_files u) g.changes g.runs;
 }
   where

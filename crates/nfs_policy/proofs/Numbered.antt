@@ -32,15 +32,17 @@ pub record Goes (t u : Tree) : Type 0 where
   pub changes : List (Change File)
   pub runs : Runs (numbered_files t) changes (numbered_files u)
   pub volumes : u.volumes ≡ t.volumes
+  pub limits : u.limits ≡ t.limits
 
 pub goes_itself : (t : Tree) → Goes t t
-goes_itself t = record { changes = []; runs = refl; volumes = refl }
+goes_itself t = record { changes = []; runs = refl; volumes = refl; limits = refl }
 
 pub goes_on : (t u v : Tree) → Goes t u → Goes u v → Goes t v
 goes_on t u v a b = record {
   changes = a.changes ++ b.changes;
   runs = runs_keep.joined (numbered_files t) (numbered_files u) (numbered_files v) a.changes b.changes a.runs b.runs;
   volumes = b.volumes ∙ a.volumes;
+  limits = b.limits ∙ a.limits;
 }
 
 -- ---- one change
@@ -50,13 +52,13 @@ changes_one t n h tags = by (at n t.files) refl
   where
     by : (o : Option File) → at n t.files ≡ o → Goes t (on_some o t (λ f. with_file t n (h f)))
     by None e = goes_itself t
-    by (Some f) e = record { changes = Changed n (h f) ∷ []; runs = (tt, numbered_changed t n f (h f) e (tags f)); volumes = refl }
+    by (Some f) e = record { changes = Changed n (h f) ∷ []; runs = (tt, numbered_changed t n f (h f) e (tags f)); volumes = refl; limits = refl }
 
 takes_one : (t : Tree) (n : ℕ) → Goes t (without_file t n)
-takes_one t n = record { changes = Taken n ∷ []; runs = (tt, numbered_gone t n); volumes = refl }
+takes_one t n = record { changes = Taken n ∷ []; runs = (tt, numbered_gone t n); volumes = refl; limits = refl }
 
 puts_one : (t : Tree) (f : File) → f.tag < 2 ^ 32 → t.next < 2 ^ 64 - 1 → Goes t (with_new_file t f)
-puts_one t f fits room = record { changes = Put f.tag f ∷ []; runs = ((fits, λ e. omega (arith, room, e)), numbered_born t f); volumes = refl }
+puts_one t f fits room = record { changes = Put f.tag f ∷ []; runs = ((fits, λ e. omega (arith, room, e)), numbered_born t f); volumes = refl; limits = refl }
 
 -- ---- operations
 

@@ -543,7 +543,7 @@ changes_are_confined c law done new before after h = of (doing_of c.args) refl d
     performed : (doing : Doing) → doing_of c.args ≡ Some doing → (done : Done) → Performs c doing done new before after → Policy c.exports c.caller c.now c.tree new
     performed doing is Granted h = subst (Policy c.exports c.caller c.now c.tree) (sym h.new_is) (granted_policy c law doing is h.one h.two h.tag h.granted)
     performed doing is (Denied rule uid) h = same h.new_is
-    performed doing is Memory h = same h.new_is
+    performed doing is (Memory refused) h = same h.new_is
 
     of : (o : Option Doing) → doing_of c.args ≡ o → (done : Option Done) → PerformsAs c o done new before after → Policy c.exports c.caller c.now c.tree new
     of None is None h = same h.0

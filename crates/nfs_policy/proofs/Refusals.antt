@@ -57,7 +57,7 @@ refuses = record {
     other e = let m : ◌≡◌ {A = ℕ} 511 0 = ap (λ (f : File). f.mode) (same_some e) in omega (arith, m)
 
 pub passes_over : PassesOver
-passes_over exports caller now t next key volumes = let p = policy_itself exports caller now t in record {
+passes_over exports caller now t next key volumes limits = let p = policy_itself exports caller now t in record {
   writable = p.writable;
   stays = p.stays;
   rightful = p.rightful;

@@ -87,10 +87,10 @@ module _ (p : ℕ → Bool) where
   -- ---- the table
 
   new_file_veiled : (s : Subject) (size : Option ℕ) → new_file_rules (veiled s) size ≡ new_file_rules s size
-  new_file_veiled s size = λ i. test.directory_write s ∷ files_veiled s i ∷ test.too_big size ∷ space_veiled s size i ∷ numbers_veiled s i ∷ []
+  new_file_veiled s size = λ i. test.directory_write s ∷ files_veiled s i ∷ test.too_big s.tree.limits size ∷ space_veiled s size i ∷ numbers_veiled s i ∷ []
 
   present_file_veiled : (s : Subject) (how : CreateHow) → present_file_rules (veiled s) how ≡ present_file_rules s how
-  present_file_veiled s (Unchecked attributes) = λ i. only_where (is_some attributes.size) (test.write_right s) ∷ test.too_big attributes.size ∷ space_veiled s (test.growth s attributes.size) i ∷ []
+  present_file_veiled s (Unchecked attributes) = λ i. only_where (is_some attributes.size) (test.write_right s) ∷ test.too_big s.tree.limits attributes.size ∷ space_veiled s (test.growth s attributes.size) i ∷ []
   present_file_veiled s (Guarded attributes) = refl
   present_file_veiled s (Exclusive verifier) = refl
 
@@ -113,7 +113,7 @@ module _ (p : ℕ → Bool) where
   incompatible_veiled to moved old = λ i. (rule.Incompatible, not (not (is_directory_type moved.file_type) && not (is_directory_type old.file_type) || is_directory_type moved.file_type && is_directory_type old.file_type && empty_blank to.tree old i))
 
   entering_veiled : (from to : Subject) (moved : Fattr) (old : Option Fattr) → entering_rules (veiled from) (veiled to) moved old ≡ entering_rules from to moved old
-  entering_veiled from to moved None = λ i. into_itself_veiled to moved i ∷ only_where (is_directory_type moved.file_type && not (nat_eq from.file.fileid to.file.fileid)) (test.links to.file) ∷ cookies_veiled to i ∷ []
+  entering_veiled from to moved None = λ i. into_itself_veiled to moved i ∷ only_where (is_directory_type moved.file_type && not (nat_eq from.file.fileid to.file.fileid)) (test.links to.tree.limits to.file) ∷ cookies_veiled to i ∷ []
   entering_veiled from to moved (Some old) = λ i. incompatible_veiled to moved old i ∷ into_itself_veiled to moved i ∷ cookies_veiled to i ∷ []
 
   move_veiled : (from to : Subject) (moved : Fattr) (old : Option Fattr) → move_rules (veiled from) (veiled to) moved old ≡ move_rules from to moved old
@@ -131,21 +131,21 @@ module _ (p : ℕ → Bool) where
   rules_veiled one two (nfs.Setattr a) = λ i.
       test.read_only one ∷ test.guard one a.guard ∷ test.owner_mode one a.attributes ∷ test.owner_uid one a.attributes ∷ test.owner_gid one a.attributes
       ∷ test.size_type one a.attributes ∷ only_where (is_some a.attributes.size) (test.write_right one) ∷ test.owner_time one a.attributes ∷ test.time_right one a.attributes
-      ∷ test.too_big a.attributes.size ∷ space_veiled one (test.growth one a.attributes.size) i ∷ []
+      ∷ test.too_big one.tree.limits a.attributes.size ∷ space_veiled one (test.growth one a.attributes.size) i ∷ []
   rules_veiled one two (nfs.Lookup a) = λ i. test.not_directory one ∷ test.search_right one ∷ test.name_long a.name ∷ test.name_form a.name ∷ no_entry_veiled one a.name i ∷ []
   rules_veiled one two (nfs.Access a) = refl
   rules_veiled one two (nfs.Readlink file) = refl
   rules_veiled one two (nfs.Read a) = refl
-  rules_veiled one two (nfs.Write a) = λ i. test.read_only one ∷ test.not_regular one ∷ test.write_right one ∷ test.too_big (test.end_of a.offset (length a.content)) ∷ space_veiled one (test.growth one (test.end_of a.offset (length a.content))) i ∷ []
+  rules_veiled one two (nfs.Write a) = λ i. test.read_only one ∷ test.not_regular one ∷ test.write_right one ∷ test.too_big one.tree.limits (test.end_of a.offset (length a.content)) ∷ space_veiled one (test.growth one (test.end_of a.offset (length a.content))) i ∷ []
   rules_veiled one two (nfs.Create a) = create_veiled one a
-  rules_veiled one two (nfs.Mkdir a) = λ i. test.read_only one ∷ test.not_directory one ∷ test.name_long a.place.name ∷ test.name_form a.place.name ∷ test.search_right one ∷ exists_veiled one a.place.name i ∷ test.directory_write one ∷ files_veiled one i ∷ test.links one.file ∷ numbers_veiled one i ∷ []
-  rules_veiled one two (nfs.Symlink a) = λ i. test.read_only one ∷ test.not_directory one ∷ test.name_long a.place.name ∷ test.name_form a.place.name ∷ test.search_right one ∷ test.path_long a.path ∷ exists_veiled one a.place.name i ∷ test.directory_write one ∷ files_veiled one i ∷ numbers_veiled one i ∷ []
+  rules_veiled one two (nfs.Mkdir a) = λ i. test.read_only one ∷ test.not_directory one ∷ test.name_long a.place.name ∷ test.name_form a.place.name ∷ test.search_right one ∷ exists_veiled one a.place.name i ∷ test.directory_write one ∷ files_veiled one i ∷ test.links one.tree.limits one.file ∷ numbers_veiled one i ∷ []
+  rules_veiled one two (nfs.Symlink a) = λ i. test.read_only one ∷ test.not_directory one ∷ test.name_long a.place.name ∷ test.name_form a.place.name ∷ test.search_right one ∷ test.path_long one.tree.limits.link_path a.path ∷ exists_veiled one a.place.name i ∷ test.directory_write one ∷ files_veiled one i ∷ numbers_veiled one i ∷ []
   rules_veiled one two (nfs.Mknod a) = refl
   rules_veiled one two (nfs.Remove a) = remove_veiled one a.name
   rules_veiled one two (nfs.Rmdir a) = rmdir_veiled one a.name
   rules_veiled one two (nfs.Rename a) = rename_veiled one two a
   rules_veiled one two (nfs.Link a) = λ i. test.read_only one ∷ test.link_directory one ∷ test.not_directory two ∷ test.name_long a.place.name ∷ test.name_form a.place.name ∷ test.search_right two ∷ exists_veiled two a.place.name i
-      ∷ test.directory_write two ∷ test.links one.file ∷ cookies_veiled two i ∷ []
+      ∷ test.directory_write two ∷ test.links one.tree.limits one.file ∷ cookies_veiled two i ∷ []
   rules_veiled one two (nfs.Readdir a) = λ i. test.not_directory one ∷ test.directory_read one ∷ too_small_veiled one a.cookie a.count 0 i ∷ []
   rules_veiled one two (nfs.Readdirplus a) = λ i. test.not_directory one ∷ test.directory_read one ∷ too_small_veiled one a.cookie a.maxcount (plus_bytes (may one.ids one.file Execute)) i ∷ []
   rules_veiled one two (nfs.Fsstat file) = refl

@@ -14,9 +14,10 @@ pub record NamesOn (t u : Tree) : Type 0 where
       → reading (numbered_files u) handle ≡ (if is_some (at n u.files) then Live (number n) else Stale)
   -- the number of a file that is gone is never given again
   pub gone : (n : ℕ) → n < t.next → at n t.files ≡ None → at n u.files ≡ None
-  -- what is no file stays: the key of the handles, the volumes with their roots and limits, and how many numbers were given
+  -- what is no file stays: the key of the handles, the volumes with their roots and limits, the limits of the tree, and how many numbers were given
   pub key : u.key ≡ t.key
   pub volumes : u.volumes ≡ t.volumes
+  pub limits : u.limits ≡ t.limits
   pub next : t.next ≤ u.next
 
 -- no two files that live have one handle

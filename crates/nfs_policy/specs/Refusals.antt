@@ -7,6 +7,7 @@ use Rattle.nfs_exports.specs.Patterns.{any}
 use Rattle.nfs_inodes.specs.Changes.{with_file, with_new_file, without_file, with_named_file, after_write_at}
 use Rattle.nfs_inodes.specs.Example.{file_1, file_2, file_3, file_8, start, tree_e}
 use Rattle.nfs_inodes.specs.Tree.{Tree, Volume, Directory}
+use Rattle.nfs_inodes.specs.declared.limits.Limits.{Limits}
 use Rattle.nfs_rules.specs.Subjects.{Caller}
 use Rattle.nfs_policy.specs.Policy.{Policy}
 
@@ -57,7 +58,7 @@ pub record Refuses : Type 0 where
   pub comes : Refused 9 (with_new_file tree_e (record file_3 { uid = 9; gid = 9 }))
   pub goes : Refused 5 (without_file tree_e 7)
 
--- What it does not refuse: it speaks of files alone, so another key, other volumes and another next number pass.
+-- What it does not refuse: it speaks of files alone, so another key, other volumes, other limits and another next number pass.
 abbrev pub PassesOver : Type 0
-PassesOver = (exports : List (List Export)) (caller : Caller) (now : Moment) (t : Tree) (next : ℕ) (key : List ℕ) (volumes : List Volume)
-    → Policy exports caller now t (record t { next = next; key = key; volumes = volumes })
+PassesOver = (exports : List (List Export)) (caller : Caller) (now : Moment) (t : Tree) (next : ℕ) (key : List ℕ) (volumes : List Volume) (limits : Limits)
+    → Policy exports caller now t (record t { next = next; key = key; volumes = volumes; limits = limits })

@@ -1,6 +1,7 @@
 -- Calls that leave the tree as it is.
 use Rattle.std.proofs.Common.{◌≡◌, ◌≤◌, ℕ, List, length, [], ◌∷◌, Option, Some, None, refl, sym, ap, subst, arith, ◌∙◌}
 use Rattle.std.specs.Prelude.{Result, Err}
+use Rattle.nfs_args.specs.Sizes.{max_path}
 use Rattle.nfs_args.specs.declared.answer.NfsAnswer.{NfsAnswer}
 use Rattle.nfs_args.specs.declared.args.NfsArgs.{NfsArgs}
 use Rattle.nfs_args.specs.declared.failed.Failed.{Failed}
@@ -87,9 +88,10 @@ kind_path (Regular bytes) p e = absurd (not_both refl e)
 kind_path (Directory parent next_cookie entries) p e = absurd (not_both refl e)
 kind_path (Link path) p e = same_some e
 
-path_bound_in : (t : Tree) (n : ℕ) (p : List ℕ) (o : Option File) → Law t → at n t.files ≡ o → on_some o None (λ f. path_of f.kind) ≡ Some p → length p ≤ 1024
+path_bound_in : (t : Tree) (n : ℕ) (p : List ℕ) (o : Option File) → Law t → at n t.files ≡ o → on_some o None (λ f. path_of f.kind) ≡ Some p → length p ≤ max_path
 path_bound_in t n p None law there e = absurd (not_both refl e)
-path_bound_in t n p (Some f) law there e = subst (λ path. length path ≤ 1024) (kind_path f.kind p e) (law.sound n f there).path
+path_bound_in t n p (Some f) law there e = subst (λ path. length path ≤ max_path) (kind_path f.kind p e)
+    (let path = (law.sound n f there).path in let cap = law.limits.link_path in let few : length (path_in f.kind) ≤ max_path = omega (arith, path, cap) in few)
 
-pub path_bound : (t : Tree) (n : ℕ) (p : List ℕ) → Law t → path_at t n ≡ Some p → length p ≤ 1024
+pub path_bound : (t : Tree) (n : ℕ) (p : List ℕ) → Law t → path_at t n ≡ Some p → length p ≤ max_path
 path_bound t n p law e = path_bound_in t n p (at n t.files) law refl e

@@ -55,4 +55,4 @@ pub record HasNoMemory (c : Scene) (doing : Doing) (new : Tree) (before after : 
 abbrev pub Performs : Scene → Doing → Done → Tree → Written → Written → Type 0
 Performs c doing Granted new before after = HasEffect c doing new before after
 Performs c doing (Denied rule uid) new before after = HasFailed c doing rule uid new before after
-Performs c doing Memory new before after = HasNoMemory c doing new before after
+Performs c doing (Memory refused) new before after = HasNoMemory c doing new before after

@@ -22,7 +22,8 @@ use Rattle.nfs_args.specs.declared.procedure.Procedure.TheVariants as proc
 use Rattle.nfs_attrs.specs.declared.fattr.Fattr.{Fattr}
 use Rattle.nfs_dirs.specs.Pages.{fits, fits_plus, chosen, is_end, left_after, entry_reported, entry_plus_reported}
 use Rattle.nfs_handles.specs.Handles.{handle_at}
-use Rattle.nfs_inodes.specs.Limits.{max_file_bytes, max_name_bytes, max_links}
+use Rattle.nfs_inodes.specs.Limits.{max_name_bytes}
+use Rattle.nfs_inodes.specs.declared.limits.Limits.{Limits}
 use Rattle.nfs_inodes.specs.Reading.{bytes_at, numbered_files, path_at, totals_at}
 use Rattle.nfs_inodes.specs.Tree.{Tree, Volume, on_some}
 use Rattle.nfs_inodes.specs.declared.volumes.Totals.{Totals}
@@ -191,13 +192,13 @@ abbrev pub transfer : Transfer
 transfer = record { max = max_transfer; preferred = max_transfer; multiple = 4096 }
 
 -- hard and symbolic links, the same for all files, and times that can be set
-abbrev pub server_limits : Fattr → ServerLimits
-server_limits f = record {
+abbrev pub server_limits : Limits → Fattr → ServerLimits
+server_limits limits f = record {
   attributes = Some f;
   read = transfer;
   write = transfer;
   readdir = 8192;
-  max_file_size = max_file_bytes;
+  max_file_size = limits.file_size;
   time_delta = record { seconds = 0; nanos = 1 };
   properties = 27;
 }
@@ -207,16 +208,16 @@ abbrev pub fsinfo : List ℕ → Doing
 fsinfo handle = record {
   takes_memory = never;
   effect = unchanged;
-  granted = λ file same new. answer.Fsinfo (Ok (server_limits file.file));
+  granted = λ file same new. answer.Fsinfo (Ok (server_limits file.tree.limits file.file));
   largest = largest_of proc.Fsinfo;
   denied = λ status seen. answer.Fsinfo (Err (record { status = status; shown = seen handle }));
 }
 
 -- names are distinguished by case, too long ones are refused, and only uid 0 gives files away
-abbrev pub path_limits : Fattr → PathLimits
-path_limits f = record {
+abbrev pub path_limits : Limits → Fattr → PathLimits
+path_limits limits f = record {
   attributes = Some f;
-  linkmax = max_links;
+  linkmax = limits.links;
   name_max = max_name_bytes;
   no_trunc = true;
   chown_restricted = true;
@@ -229,7 +230,7 @@ abbrev pub pathconf : List ℕ → Doing
 pathconf handle = record {
   takes_memory = never;
   effect = unchanged;
-  granted = λ file same new. answer.Pathconf (Ok (path_limits file.file));
+  granted = λ file same new. answer.Pathconf (Ok (path_limits file.tree.limits file.file));
   largest = largest_of proc.Pathconf;
   denied = λ status seen. answer.Pathconf (Err (record { status = status; shown = seen handle }));
 }

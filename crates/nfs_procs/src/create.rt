@@ -41,8 +41,9 @@ pub(crate) fn create(
         Ok(plan) => plan,
         Err(denial) => return write_denied_change(out, &denial),
     };
-    let Ok(file) = make_or_take(tree, &plan, args, call.moment) else {
-        return Done::Memory;
+    let file = match make_or_take(tree, &plan, args, call.moment) {
+        Ok(file) => file,
+        Err(refused) => return Done::Memory(refused),
     };
     let dir = Number(plan.dir.attributes.fileid, plan.dir.hint);
     let dir = change(Some(plan.dir.attributes), tree.attributes(dir));

@@ -17,7 +17,6 @@ use nfs_args::opaque::Opaque;
 use nfs_args::server_limits::{ServerLimits, Transfer, write_server_limits};
 use nfs_attrs::fattr::Fattr;
 use nfs_attrs::moment::Moment;
-use nfs_inodes::limits::MAX_FILE_BYTES;
 use nfs_inodes::tree::Tree;
 use nfs_xdr::output::Output;
 
@@ -33,7 +32,7 @@ pub(crate) fn fsinfo(
 {
     match file_of(tree, call, handle) {
         Ok(file) => {
-            write_granted(out, &file.attributes());
+            write_granted(out, tree, &file.attributes());
             Done::Granted
         }
         Err(denial) => write_denied_attributes(out, &denial),
@@ -44,23 +43,23 @@ pub(crate) fn fsinfo(
 // FSF3_SYMLINK, FSF3_HOMOGENEOUS and FSF3_CANSETTIME.
 const PROPERTIES: u32 = 0x1b;
 
-fn write_granted(out: &mut Output, file: &Fattr)
+fn write_granted(out: &mut Output, tree: &Tree, file: &Fattr)
     requires { largest_of proc.Fsinfo ≤ out.old.room }
-    ensures { AppendsAnswer (answer.Fsinfo (Ok (procedure.server_limits file.now))) out.old out.new }
+    ensures { AppendsAnswer (answer.Fsinfo (Ok (procedure.server_limits tree.now.limits file.now))) out.old out.new }
 {
     out.u32(0);
-    write_server_limits(out, &server_limits(file));
+    write_server_limits(out, &server_limits(tree, file));
 }
 
-fn server_limits(file: &Fattr) -> ServerLimits
-    ensures { result ≡ procedure.server_limits file.now }
+fn server_limits(tree: &Tree, file: &Fattr) -> ServerLimits
+    ensures { result ≡ procedure.server_limits tree.now.limits file.now }
 {
     ServerLimits {
         attributes: Some(*file),
         read: transfer(),
         write: transfer(),
         readdir: PREFERRED_PAGE,
-        max_file_size: MAX_FILE_BYTES as u64,
+        max_file_size: tree.limits().file_size as u64,
         time_delta: Moment {
             seconds: 0,
             nanos: 1,

@@ -44,9 +44,10 @@ pub(crate) fn link(
     };
     let number = Number(file.attributes.fileid, file.hint);
     let place = Number(dir.attributes.fileid, dir.hint);
-    let Ok(()) = tree.link(number, place, args.place.name.bytes(), call.moment) else {
-        return Done::Memory;
-    };
+    match tree.link(number, place, args.place.name.bytes(), call.moment) {
+        Ok(()) => {}
+        Err(refused) => return Done::Memory(refused),
+    }
     let attributes = tree.attributes(number);
     let dir = change(Some(dir.attributes), tree.attributes(place));
     out.u32(0);

@@ -38,8 +38,9 @@ pub(crate) fn mkdir(
         Err(denial) => return write_denied_change(out, &denial),
     };
     let dir = Number(plan.dir.attributes.fileid, plan.dir.hint);
-    let Ok(made) = tree.mkdir(dir, args.place.name.bytes(), &plan.given, call.moment) else {
-        return Done::Memory;
+    let made = match tree.mkdir(dir, args.place.name.bytes(), &plan.given, call.moment) {
+        Ok(made) => made,
+        Err(refused) => return Done::Memory(refused),
     };
     out.u32(0);
     write_new_file(

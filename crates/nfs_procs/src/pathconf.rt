@@ -15,7 +15,7 @@ use crate::subjects::file_of;
 use nfs_args::opaque::Opaque;
 use nfs_args::path_limits::{PathLimits, write_path_limits};
 use nfs_attrs::fattr::Fattr;
-use nfs_inodes::limits::{MAX_LINKS, MAX_NAME_BYTES};
+use nfs_inodes::limits::MAX_NAME_BYTES;
 use nfs_inodes::tree::Tree;
 use nfs_xdr::output::Output;
 
@@ -31,27 +31,27 @@ pub(crate) fn pathconf(
 {
     match file_of(tree, call, handle) {
         Ok(file) => {
-            write_granted(out, &file.attributes());
+            write_granted(out, tree, &file.attributes());
             Done::Granted
         }
         Err(denial) => write_denied_attributes(out, &denial),
     }
 }
 
-fn write_granted(out: &mut Output, file: &Fattr)
+fn write_granted(out: &mut Output, tree: &Tree, file: &Fattr)
     requires { largest_of proc.Pathconf ≤ out.old.room }
-    ensures { AppendsAnswer (answer.Pathconf (Ok (procedure.path_limits file.now))) out.old out.new }
+    ensures { AppendsAnswer (answer.Pathconf (Ok (procedure.path_limits tree.now.limits file.now))) out.old out.new }
 {
     out.u32(0);
-    write_path_limits(out, &path_limits(file));
+    write_path_limits(out, &path_limits(tree, file));
 }
 
-fn path_limits(file: &Fattr) -> PathLimits
-    ensures { result ≡ procedure.path_limits file.now }
+fn path_limits(tree: &Tree, file: &Fattr) -> PathLimits
+    ensures { result ≡ procedure.path_limits tree.now.limits file.now }
 {
     PathLimits {
         attributes: Some(*file),
-        linkmax: MAX_LINKS,
+        linkmax: tree.limits().links,
         name_max: MAX_NAME_BYTES as u32,
         no_trunc: true,
         chown_restricted: true,

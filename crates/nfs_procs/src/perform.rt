@@ -1,5 +1,6 @@
 //! The procedures of NFS, each by the module of its name.
 ghost use Rattle.std.specs.Prelude.{◌≡◌, ◌≤◌};
+ghost use Rattle.nfs_args.specs.Encoding.{HasCountedBytes};
 ghost use Rattle.nfs_procs.specs.Procedures.{PerformsAs, doing_of, room_for};
 ghost use Rattle.nfs_procs.specs.Scenes.{scene};
 
@@ -39,7 +40,8 @@ pub fn perform(
     args: &NfsArgs<'_>,
     out: &mut Output,
 ) -> Option<Done>
-    requires { room_for (doing_of args.now) ≤ out.old.room }
+    requires room { room_for (doing_of args.now) ≤ out.old.room }
+    requires counted { HasCountedBytes args.now }
     ensures { PerformsAs (scene tree.old call.now args.now) (doing_of args.now) result tree.new out.old out.new }
 {
     match args {

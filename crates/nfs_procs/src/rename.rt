@@ -46,9 +46,10 @@ pub(crate) fn rename(
         Err(denial) => return write_denied(out, &denial),
     };
     let (name, new_name) = (args.from.name.bytes(), args.to.name.bytes());
-    let Ok(()) = tree.rename_seen(plan.route, name, new_name, call.moment) else {
-        return Done::Memory;
-    };
+    match tree.rename_seen(plan.route, name, new_name, call.moment) {
+        Ok(()) => {}
+        Err(refused) => return Done::Memory(refused),
+    }
     let from = change(Some(plan.from), tree.attributes(plan.route.from));
     let to = change(Some(plan.to), tree.attributes(plan.route.to));
     out.u32(0);

@@ -36,9 +36,10 @@ pub(crate) fn setattr(
         Err(denial) => return write_denied_change(out, &denial),
     };
     let number = Number(file.attributes.fileid, file.hint);
-    let Ok(()) = set_given(tree, number, &given, call.moment) else {
-        return Done::Memory;
-    };
+    match set_given(tree, number, &given, call.moment) {
+        Ok(()) => {}
+        Err(refused) => return Done::Memory(refused),
+    }
     write_granted_change(out, change(Some(file.attributes), tree.attributes(number)));
     Done::Granted
 }

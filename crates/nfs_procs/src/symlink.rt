@@ -39,14 +39,15 @@ pub(crate) fn symlink(
         Err(denial) => return write_denied_change(out, &denial),
     };
     let dir = Number(plan.dir.attributes.fileid, plan.dir.hint);
-    let Ok(made) = tree.make_link(
+    let made = match tree.make_link(
         dir,
         args.place.name.bytes(),
         args.path.bytes(),
         &plan.given,
         call.moment,
-    ) else {
-        return Done::Memory;
+    ) {
+        Ok(made) => made,
+        Err(refused) => return Done::Memory(refused),
     };
     out.u32(0);
     write_new_file(

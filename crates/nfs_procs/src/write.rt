@@ -1,5 +1,6 @@
 //! WRITE: bytes into a file, which are safe at once (RFC 1813, section 3.3.7).
 ghost use Rattle.std.specs.Prelude.{◌≡◌, ◌<◌, ◌≤◌, ◌^◌, Ok};
+ghost use Rattle.nfs_args.specs.Encoding.{HasCountedBytes};
 ghost use Rattle.nfs_args.specs.Sizes.{largest_of};
 ghost use Rattle.nfs_args.specs.declared.procedure.Procedure.TheVariants as proc;
 ghost use Rattle.nfs_args.specs.declared.answer.NfsAnswer.TheVariants as answer;
@@ -32,7 +33,8 @@ pub(crate) fn write(
     args: &Write<'_>,
     out: &mut Output,
 ) -> Done
-    requires { (procedure.write args.now).largest ≤ out.old.room }
+    requires room { (procedure.write args.now).largest ≤ out.old.room }
+    requires counted { HasCountedBytes (nfs.Write args.now) }
     ensures { Performs (scene tree.old call.now (nfs.Write args.now))
         (procedure.write args.now) result tree.new out.old out.new }
 {
@@ -43,9 +45,10 @@ pub(crate) fn write(
     let number = Number(file.attributes.fileid, file.hint);
     let bytes = args.content.bytes();
     let verifier = u64::from_be_bytes(tree.key());
-    let Ok(()) = tree.write_at(number, args.offset as usize, bytes, call.moment) else {
-        return Done::Memory;
-    };
+    match tree.write_at(number, args.offset as usize, bytes, call.moment) {
+        Ok(()) => {}
+        Err(refused) => return Done::Memory(refused),
+    }
     set_mode(tree, number, mode, call.moment);
     write_granted(
         out,

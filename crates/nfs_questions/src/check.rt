@@ -1,13 +1,16 @@
 //! `nfs3d check`: whether a description is in order, and how much it holds.
 
-use crate::totals::print_totals;
+use crate::totals::totals_line;
 use nfs_advice::every::{Faulty, every_fault};
 use nfs_advice::warnings::{Warning, warnings};
+use nfs_command_line::invocation::TreeWords;
 use nfs_load::load_error::LoadError;
 use nfs_load::loaded::Loaded;
 use nfs_source::description::Description;
 use nfs_source::diagnostic::Diagnostic;
+use nfs_source::output::print;
 use nfs_source::source::Source;
+use nfs_trees::named::{NamedTree, is_directory, refuse_sharing};
 use std::alloc::{AllocError, Global};
 use std::mem::forget;
 use std::process::ExitCode;
@@ -15,20 +18,30 @@ use std::rt::Files;
 
 /// Prints what a description holds, and on standard error what it says that may not be meant; the
 /// status is 1 then where that is strict. Where the whole of it is looked at, its faulty lines are all
-/// reported, with the status 1. `CannotRead` and `TooLong` where it can't be read, `Description` with its
-/// first faulty line, `Write` and `Closed` where the output fails, `Memory`.
-pub fn check_file<R: Files + Input + Print + Eprint>(
+/// reported, with the status 1. So it is of a directory of which something is skipped, where that is strict.
+/// The faults of `NamedTree::read`; `Write` and `Closed` where the output fails.
+pub fn check_file<R: Files + Input + Print + Eprint + AllocGlobal>(
     rt: &R,
     alloc: Global,
-    name: &str,
+    words: &TreeWords<'_>,
     is_strict: bool,
     is_whole: bool,
 ) -> Result<ExitCode, Diagnostic> {
-    if is_whole {
-        return check_whole(rt, alloc, name, is_strict);
+    if is_whole && !is_directory(rt, words.name) {
+        refuse_sharing(&words.sharing)?;
+        return check_whole(rt, alloc, words.name, is_strict);
     }
-    let Description { source, loaded } = Description::read(rt, alloc, name)?;
-    report_loaded(rt, alloc, &source, loaded, is_strict)
+    let NamedTree {
+        description,
+        is_partial,
+    } = NamedTree::read(rt, alloc, words)?;
+    let Description { source, loaded } = description;
+    let status = report_loaded(rt, alloc, &source, loaded, is_strict)?;
+    Ok(if is_strict && is_partial {
+        ExitCode::from(1)
+    } else {
+        status
+    })
 }
 
 // The same with all its faulty lines.
@@ -55,7 +68,8 @@ fn report_loaded<R: Print + Eprint>(
     loaded: Loaded,
     is_strict: bool,
 ) -> Result<ExitCode, Diagnostic> {
-    print_totals(rt, alloc, &loaded.tree)?;
+    let totals = totals_line(alloc, &loaded.tree)?;
+    print(rt, totals.as_slice())?;
     let warnings = warn(rt, alloc, description, &loaded)?;
     forget(loaded);
     Ok(if is_strict && warnings > 0 {

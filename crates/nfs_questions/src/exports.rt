@@ -1,9 +1,12 @@
 //! `nfs3d exports`: who may reach which volume.
+ghost use Rattle.std.specs.Prelude.{◌≡◌, IfOk};
+ghost use Rattle.nfs_why.specs.Exports.{exports_text};
 
+use nfs_command_line::invocation::TreeWords;
 use nfs_load::loaded::Loaded;
-use nfs_source::description::load_tree;
 use nfs_source::diagnostic::Diagnostic;
 use nfs_source::output::print;
+use nfs_trees::named::NamedTree;
 use nfs_why::exports::put_exports;
 use nfs_words::text::Text;
 use std::alloc::{AllocError, Global};
@@ -11,14 +14,14 @@ use std::mem::forget;
 use std::process::ExitCode;
 use std::rt::Files;
 
-/// Prints the exports of the description of this name. `CannotRead` and `TooLong` where it can't be read,
-/// `Description` with its first faulty line, `Write` and `Closed` where the output fails, `Memory`.
-pub fn print_exports<R: Files + Input + Print>(
+/// Prints the exports of what the words name. The faults of `NamedTree::read`; `Write` and `Closed` where
+/// the output fails.
+pub fn print_exports<R: Files + Input + Print + Eprint + AllocGlobal>(
     rt: &R,
     alloc: Global,
-    name: &str,
+    words: &TreeWords<'_>,
 ) -> Result<ExitCode, Diagnostic> {
-    let loaded = load_tree(rt, alloc, name)?;
+    let loaded = NamedTree::load(rt, alloc, words)?;
     let lines = lines_of(alloc, &loaded)?;
     forget(loaded);
     print(rt, lines.as_slice())?;
@@ -26,7 +29,9 @@ pub fn print_exports<R: Files + Input + Print>(
 }
 
 // The lines of all exports.
-fn lines_of(alloc: Global, loaded: &Loaded) -> Result<Vec<u8>, AllocError> {
+fn lines_of(alloc: Global, loaded: &Loaded) -> Result<Vec<u8>, AllocError>
+    ensures { IfOk result (λ lines. lines.items ≡ exports_text loaded.now.tree loaded.now.table) }
+{
     let mut lines = Text::new(alloc);
     put_exports(&mut lines, loaded);
     lines.into_bytes()

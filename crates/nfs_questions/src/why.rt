@@ -1,10 +1,11 @@
 //! `nfs3d why`: why a call is granted or denied.
 
-use nfs_command_line::invocation::Why;
+use nfs_command_line::invocation::{TreeWords, Why};
 use nfs_load::loaded::Loaded;
 use nfs_source::description::Description;
 use nfs_source::diagnostic::Diagnostic;
 use nfs_source::output::print;
+use nfs_trees::named::NamedTree;
 use nfs_why::question::{BadQuestion, Question};
 use nfs_why::why::put_answer;
 use nfs_words::text::Text;
@@ -14,15 +15,14 @@ use std::process::ExitCode;
 use std::rt::Files;
 
 /// Prints why the call that the words describe is granted or denied; the status is 2 where one of them
-/// is faulty. `CannotRead` and `TooLong` where the description can't be read, `Description` with its first
-/// faulty line, `Write` and `Closed` where the output fails, `Memory`.
-pub fn print_why<R: Files + Input + Print + Eprint>(
+/// is faulty. The faults of `NamedTree::read`; `Write` and `Closed` where the output fails.
+pub fn print_why<R: Files + Input + Print + Eprint + AllocGlobal>(
     rt: &R,
     alloc: Global,
     words: &Why<'_>,
 ) -> Result<ExitCode, Diagnostic> {
     match question_of(words) {
-        Ok(question) => print_answer(rt, alloc, words.tree, &question),
+        Ok(question) => print_answer(rt, alloc, &words.tree, &question),
         Err(fault) => {
             let _ = eprintln!(rt; "error: {fault}");
             Ok(ExitCode::from(2))
@@ -44,13 +44,14 @@ fn question_of<'a>(words: &Why<'a>) -> Result<Question<'a>, BadQuestion> {
     )
 }
 
-fn print_answer<R: Files + Input + Print>(
+fn print_answer<R: Files + Input + Print + Eprint + AllocGlobal>(
     rt: &R,
     alloc: Global,
-    name: &str,
+    words: &TreeWords<'_>,
     question: &Question<'_>,
 ) -> Result<ExitCode, Diagnostic> {
-    let Description { source, loaded } = Description::read(rt, alloc, name)?;
+    let NamedTree { description, .. } = NamedTree::read(rt, alloc, words)?;
+    let Description { source, loaded } = description;
     let answer = answer(alloc, source.text.as_slice(), &loaded, question)?;
     forget(loaded);
     print(rt, answer.as_slice())?;
@@ -65,6 +66,6 @@ fn answer(
     question: &Question<'_>,
 ) -> Result<Vec<u8>, AllocError> {
     let mut answer = Text::new(alloc);
-    put_answer(alloc, text, loaded, question, &mut answer)?;
+    put_answer(text, loaded, question, &mut answer);
     answer.into_bytes()
 }

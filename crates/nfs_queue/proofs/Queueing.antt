@@ -9,19 +9,19 @@ use Rattle.std.proofs.Math.ListN.{set, length-set}
 use Rattle.slab.specs.Slab.{Slab, get, Updates, SameValues}
 use Rattle.nfs_queue.specs.Queues.{is_waiting, AreApart, IsQueue}
 
-or_left : (a b : Bool) → (a || b) ≡ false → a ≡ false
+pub or_left : (a b : Bool) → (a || b) ≡ false → a ≡ false
 or_left true b e = absurd (true≢false e)
 or_left false b e = refl
 
-or_right : (a b : Bool) → (a || b) ≡ false → b ≡ false
+pub or_right : (a b : Bool) → (a || b) ≡ false → b ≡ false
 or_right true b e = absurd (true≢false e)
 or_right false b e = e
 
-or_both : (a b : Bool) → a ≡ false → b ≡ false → (a || b) ≡ false
+pub or_both : (a b : Bool) → a ≡ false → b ≡ false → (a || b) ≡ false
 or_both true b e f = absurd (true≢false e)
 or_both false b e f = f
 
-or_true : (a : Bool) → (a || true) ≡ true
+pub or_true : (a : Bool) → (a || true) ≡ true
 or_true true = refl
 or_true false = refl
 
@@ -30,15 +30,15 @@ or_none true b e = refl
 or_none false b e = e
 
 -- numbers that differ are not equal
-not_same : (a b : ℕ) (t : Bool) → nat_eq a b ≡ t → a ≢ b → nat_eq a b ≡ false
+pub not_same : (a b : ℕ) (t : Bool) → nat_eq a b ≡ t → a ≢ b → nat_eq a b ≡ false
 not_same a b true e differ = absurd (differ (eqb-true a b e))
 not_same a b false e differ = e
 
 same_key : (a : ℕ) → nat_eq a a ≡ true
 same_key a = eq-eqb a a refl
 
-turned : (a b : ℕ) → nat_eq a b ≡ false → nat_eq b a ≡ false
-turned a b e = not_same b a (nat_eq b a) refl (λ same. eqb-false a b e (sym same))
+pub differ_back : (a b : ℕ) → nat_eq a b ≡ false → nat_eq b a ≡ false
+differ_back a b e = not_same b a (nat_eq b a) refl (λ same. eqb-false a b e (sym same))
 
 -- ---- lists without doubles
 
@@ -64,9 +64,16 @@ or_last false = refl
 pub apart_after : (key : ℕ) (keys : List ℕ) → AreApart keys → is_waiting key keys ≡ false → AreApart (keys ++ key ∷ [])
 apart_after key [] a e = (refl, tt)
 apart_after key (k ∷ keys) a e = (
-  waits_after k key keys ∙ or_both (is_waiting k keys) (nat_eq k key || false) a.0 (or_last (nat_eq k key) ∙ turned key k (or_left (nat_eq key k) (is_waiting key keys) e)),
+  waits_after k key keys ∙ or_both (is_waiting k keys) (nat_eq k key || false) a.0 (or_last (nat_eq k key) ∙ differ_back key k (or_left (nat_eq key k) (is_waiting key keys) e)),
   apart_after key keys a.1 (or_right (nat_eq key k) (is_waiting key keys) e),
 )
+
+-- a key that others follow stands nowhere before them
+pub apart_at : (before : List ℕ) (key : ℕ) (after : List ℕ) → AreApart (before ++ key ∷ after) → is_waiting key before ≡ false
+apart_at [] key after a = refl
+apart_at (k ∷ before) key after a =
+    let e = or_right (is_waiting k before) (nat_eq k key || is_waiting k after) (sym (list_any-append (nat_eq k) before (key ∷ after)) ∙ a.0) in
+    or_both (nat_eq key k) (is_waiting key before) (differ_back k key (or_left (nat_eq k key) (is_waiting k after) e)) (apart_at before key after a.1)
 
 -- ---- what becomes of a queue
 

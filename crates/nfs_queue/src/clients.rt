@@ -1,7 +1,7 @@
 //! Members by keys, and a queue of those that wait for a turn.
 ghost use Rattle.std.specs.Prelude.{length, ◌≡◌, ◌≢◌, ◌⊎◌, ◌↔◌, ◌<◌, ◌≤◌, ℕ, [], ◌∷◌, ◌++◌, None, Some, true, false, IsTrue, IsNone, IfNone, IfOk, OnOk, OnErr, OnSome, IfSome, IsSome, ◌+◌};
 ghost use Rattle.slab.specs.Slab.{get, slab_len, Updates, SameValues, HasRoomFor};
-ghost use Rattle.nfs_queue.specs.Queues.{is_waiting, with_ready, with_key, IsCalled};
+ghost use Rattle.nfs_queue.specs.Queues.{AreApart, is_waiting, with_ready, with_key, IsCalled};
 
 use slab::Slab;
 use std::alloc::{AllocError, Global};
@@ -53,9 +53,10 @@ impl<M: Drop> Clients<M> {
         self.members.len()
     }
 
-    /// How many wait for a turn.
+    /// How many wait for a turn, each once.
     pub fn waiting(&self) -> usize
-        ensures { result ≡ length self.now.1.0 }
+        ensures len { result ≡ length self.now.1.0 }
+        ensures apart { AreApart self.now.1.0 }
     {
         self.queue.len()
     }

@@ -10,7 +10,6 @@ use Rattle.hex.specs.Hex.{IsBytes, decode_of, decode_pairs, decode_sized, encode
 use Rattle.hex.specs.declared.error.FromHexError.TheVariants.{OddLength, InvalidStringLength}
 use Rattle.hex.proofs.HexLemmas.{IsDigits-lower_digits, decode_of-encode_lower, decode_pairs-encode_with, length-encode_with}
 use Rattle.nfs_text.specs.Numbers.{decimal_of}
-use Rattle.nfs_inodes.specs.Limits.{max_file_bytes}
 use Rattle.nfs_load.specs.Fields.{at_least, content_in, is_octal_digit, key_in, keyed, mode_in, number_in, within}
 use Rattle.nfs_load.specs.Listings.{octal}
 use Rattle.nfs_load.specs.declared.cause.Cause.TheVariants.{BadContent, BadNumber}
@@ -40,7 +39,7 @@ digits_ascii (c ∷ ds) all = and_true (is_ascii_digit c) (list_all is_ascii_dig
 some : (n : ℕ) → 0 < n → nat_lt 0 n ≡ true
 some n less = grind (arith, nat_tests)
 
-upto : (m n : ℕ) → m ≤ n → nat_le m n ≡ true
+pub upto : (m n : ℕ) → m ≤ n → nat_le m n ≡ true
 upto m n le = grind (arith, nat_tests)
 
 pub decimal_said : (n : ℕ) → n < 2 ^ 64 → is_said (decimal n) ≡ true
@@ -150,9 +149,9 @@ no_dash : (b : ℕ) (bytes : List ℕ) → bytes_eq (encode_lower (b ∷ bytes))
 unfolding encode_with
 no_dash b bytes = false_or (nat_eq (slice_index lower_digits (b / 16)) 45)
 
-pub content_read : (bytes : List ℕ) → IsBytes bytes → length bytes ≤ max_file_bytes → content_in (content_text bytes) ≡ Ok bytes
-content_read [] all few = refl
-content_read (b ∷ bytes) all few =
-    ap (λ t. if t then Ok [] else within (decode_of (encode_lower (b ∷ bytes)))) (no_dash b bytes)
-    ∙ ap within (decode_of-encode_lower (b ∷ bytes) all)
-    ∙ ap (λ t. if t then Ok (b ∷ bytes) else Err BadContent) (upto (length (b ∷ bytes)) max_file_bytes few)
+pub content_read : (most : ℕ) (bytes : List ℕ) → IsBytes bytes → length bytes ≤ most → content_in most (content_text bytes) ≡ Ok bytes
+content_read most [] all few = refl
+content_read most (b ∷ bytes) all few =
+    ap (λ t. if t then Ok [] else within most (decode_of (encode_lower (b ∷ bytes)))) (no_dash b bytes)
+    ∙ ap (within most) (decode_of-encode_lower (b ∷ bytes) all)
+    ∙ ap (λ t. if t then Ok (b ∷ bytes) else Err BadContent) (upto (length (b ∷ bytes)) most few)

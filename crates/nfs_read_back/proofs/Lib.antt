@@ -1,6 +1,7 @@
 pub mod Digits
 pub mod ExportOptions
 pub mod Exports
+pub mod Limits
 pub mod Lines
 pub mod Patterns
 pub mod Separators

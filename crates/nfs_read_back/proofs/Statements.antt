@@ -1,8 +1,9 @@
 -- What the lines that are written say.
-use Rattle.std.proofs.Common.{◌≡◌, ℕ, ◌<◌, ◌^◌, true, ◌&&◌, List, [], ◌∷◌, ◌++◌, length, Ok, refl, ap, ◌∙◌, append_assoc, arith}
+use Rattle.std.proofs.Common.{◌≡◌, ℕ, ◌<◌, ◌≤◌, ◌^◌, true, ◌&&◌, List, [], ◌∷◌, ◌++◌, length, Ok, refl, ap, ◌∙◌, append_assoc, arith}
 use Rattle.std.specs.Prelude.{Result, Err, codes, decimal, nat_le, nat_lt, if◌then◌else◌}
 use Rattle.std.specs.List.{list_all}
 use Rattle.hex.specs.Hex.{encode_lower}
+use Rattle.nfs_inodes.specs.Limits.{max_path_bytes}
 use Rattle.nfs_load.specs.Fields.{◌>>=◌, after, by, content_in, mode_in, number_in, target_in}
 use Rattle.nfs_load.specs.Listings.{octal}
 use Rattle.nfs_load.specs.Paths.{path_in, volume_path_in}
@@ -14,7 +15,7 @@ use Rattle.nfs_load.specs.declared.statement.Given.{Given}
 use Rattle.nfs_describe.specs.Lines.{content_text, dir_line, file_line, hard_line, is_shown, is_target, link_line, server_line, volume_line}
 use Rattle.nfs_read_back.specs.ReadBack.{IsGiven, is_said}
 use Rattle.nfs_read_back.specs.ReadBack as law
-use Rattle.nfs_read_back.proofs.Digits.{and_true, content_read, content_said, decimal_said, key_read, key_said, mode_read, mode_said, number_read}
+use Rattle.nfs_read_back.proofs.Digits.{and_true, content_read, content_said, decimal_said, key_read, key_said, mode_read, mode_said, number_read, upto}
 use Rattle.nfs_read_back.proofs.Lines.{read_as}
 use Rattle.nfs_read_back.proofs.Words.{both}
 
@@ -45,22 +46,22 @@ dir_read path names given fields rest is gives =
     ap (λ (r : Result (List (List ℕ)) Cause). after fields r >>= (λ (path : List (List ℕ) × List (List ℕ)). given_in path.1 >>= (λ (given : Given × List (List ℕ)). Ok (record { path = path.0; given = given.0 }, given.1)))) is
     ∙ ap (λ (r : Read Given). r >>= (λ (given : Given × List (List ℕ)). Ok (record { path = names; given = given.0 }, given.1))) gives
 
-file_read : (path c bytes : List ℕ) (names : List (List ℕ)) (given : Given) (fields : List (List ℕ)) → path_in path ≡ Ok names → given_in fields ≡ Ok (given, c ∷ []) → content_in c ≡ Ok bytes
-    → file_in (path ∷ fields) ≡ Ok (record { path = names; given = given; content = bytes }, [])
-file_read path c bytes names given fields is gives content =
-    ap (λ (r : Result (List (List ℕ)) Cause). after fields r >>= (λ (path : List (List ℕ) × List (List ℕ)). given_in path.1 >>= (λ (given : Given × List (List ℕ)). by content_in given.1 >>= (λ (content : List ℕ × List (List ℕ)).
+file_read : (most : ℕ) (path c bytes : List ℕ) (names : List (List ℕ)) (given : Given) (fields : List (List ℕ)) → path_in path ≡ Ok names → given_in fields ≡ Ok (given, c ∷ []) → content_in most c ≡ Ok bytes
+    → file_in most (path ∷ fields) ≡ Ok (record { path = names; given = given; content = bytes }, [])
+file_read most path c bytes names given fields is gives content =
+    ap (λ (r : Result (List (List ℕ)) Cause). after fields r >>= (λ (path : List (List ℕ) × List (List ℕ)). given_in path.1 >>= (λ (given : Given × List (List ℕ)). by (content_in most) given.1 >>= (λ (content : List ℕ × List (List ℕ)).
     Ok (record { path = path.0; given = given.0; content = content.0 }, content.1))))) is
-    ∙ ap (λ (r : Read Given). r >>= (λ (given : Given × List (List ℕ)). by content_in given.1 >>= (λ (content : List ℕ × List (List ℕ)). Ok (record { path = names; given = given.0; content = content.0 }, content.1)))) gives
+    ∙ ap (λ (r : Read Given). r >>= (λ (given : Given × List (List ℕ)). by (content_in most) given.1 >>= (λ (content : List ℕ × List (List ℕ)). Ok (record { path = names; given = given.0; content = content.0 }, content.1)))) gives
     ∙ ap (λ (r : Result (List ℕ) Cause). after [] r >>= (λ (content : List ℕ × List (List ℕ)). Ok (record { path = names; given = given; content = content.0 }, content.1))) content
 
-link_read : (path u g target : List ℕ) (names : List (List ℕ)) (uid gid : ℕ) → path_in path ≡ Ok names → id_in u ≡ Ok uid → id_in g ≡ Ok gid → target_in target ≡ Ok target
-    → link_in (path ∷ u ∷ g ∷ target ∷ []) ≡ Ok (record { path = names; uid = uid; gid = gid; target = target }, [])
-link_read path u g target names uid gid is owner group holds =
+link_read : (most : ℕ) (path u g target : List ℕ) (names : List (List ℕ)) (uid gid : ℕ) → path_in path ≡ Ok names → id_in u ≡ Ok uid → id_in g ≡ Ok gid → target_in most target ≡ Ok target
+    → link_in most (path ∷ u ∷ g ∷ target ∷ []) ≡ Ok (record { path = names; uid = uid; gid = gid; target = target }, [])
+link_read most path u g target names uid gid is owner group holds =
     ap (λ (r : Result (List (List ℕ)) Cause). after (u ∷ g ∷ target ∷ []) r >>= (λ (path : List (List ℕ) × List (List ℕ)). by id_in path.1 >>= (λ (uid : ℕ × List (List ℕ)). by id_in uid.1 >>= (λ (gid : ℕ × List (List ℕ)).
-    by target_in gid.1 >>= (λ (target : List ℕ × List (List ℕ)). Ok (record { path = path.0; uid = uid.0; gid = gid.0; target = target.0 }, target.1)))))) is
+    by (target_in most) gid.1 >>= (λ (target : List ℕ × List (List ℕ)). Ok (record { path = path.0; uid = uid.0; gid = gid.0; target = target.0 }, target.1)))))) is
     ∙ ap (λ (r : Result ℕ Cause). after (g ∷ target ∷ []) r >>= (λ (uid : ℕ × List (List ℕ)). by id_in uid.1 >>= (λ (gid : ℕ × List (List ℕ)).
-    by target_in gid.1 >>= (λ (target : List ℕ × List (List ℕ)). Ok (record { path = names; uid = uid.0; gid = gid.0; target = target.0 }, target.1))))) owner
-    ∙ ap (λ (r : Result ℕ Cause). after (target ∷ []) r >>= (λ (gid : ℕ × List (List ℕ)). by target_in gid.1 >>= (λ (target : List ℕ × List (List ℕ)). Ok (record { path = names; uid = uid; gid = gid.0; target = target.0 }, target.1)))) group
+    by (target_in most) gid.1 >>= (λ (target : List ℕ × List (List ℕ)). Ok (record { path = names; uid = uid.0; gid = gid.0; target = target.0 }, target.1))))) owner
+    ∙ ap (λ (r : Result ℕ Cause). after (target ∷ []) r >>= (λ (gid : ℕ × List (List ℕ)). by (target_in most) gid.1 >>= (λ (target : List ℕ × List (List ℕ)). Ok (record { path = names; uid = uid; gid = gid.0; target = target.0 }, target.1)))) group
     ∙ ap (λ (r : Result (List ℕ) Cause). after [] r >>= (λ (target : List ℕ × List (List ℕ)). Ok (record { path = names; uid = uid; gid = gid; target = target.0 }, target.1))) holds
 
 hard_read : (path old : List ℕ) (names olds : List (List ℕ)) → path_in path ≡ Ok names → path_in old ≡ Ok olds → hard_in (path ∷ old ∷ []) ≡ Ok (record { path = names; old = olds }, [])
@@ -68,12 +69,12 @@ hard_read path old names olds is was =
     ap (λ (r : Result (List (List ℕ)) Cause). after (old ∷ []) r >>= (λ (path : List (List ℕ) × List (List ℕ)). by path_in path.1 >>= (λ (old : List (List ℕ) × List (List ℕ)). Ok (record { path = path.0; old = old.0 }, old.1)))) is
     ∙ ap (λ (r : Result (List (List ℕ)) Cause). after [] r >>= (λ (old : List (List ℕ) × List (List ℕ)). Ok (record { path = names; old = old.0 }, old.1))) was
 
-volume_read : (path b f : List ℕ) (bytes files : ℕ) (given : Given) (fields : List (List ℕ)) → volume_path_in path ≡ Ok path → number_in 0 1099511627776 b ≡ Ok bytes → number_in 1 1000000 f ≡ Ok files
-    → given_in fields ≡ Ok (given, []) → volume_in (path ∷ b ∷ f ∷ fields) ≡ Ok (record { path = path; max_bytes = bytes; max_files = files; given = given }, [])
-volume_read path b f bytes files given fields is most many gives =
-    ap (λ (r : Result (List ℕ) Cause). after (b ∷ f ∷ fields) r >>= (λ (path : List ℕ × List (List ℕ)). by (number_in 0 1099511627776) path.1 >>= (λ (max_bytes : ℕ × List (List ℕ)). by (number_in 1 1000000) max_bytes.1 >>= (λ (max_files : ℕ × List (List ℕ)).
+volume_read : (limit : ℕ) (path b f : List ℕ) (bytes files : ℕ) (given : Given) (fields : List (List ℕ)) → volume_path_in path ≡ Ok path → number_in 0 1099511627776 b ≡ Ok bytes → number_in 1 limit f ≡ Ok files
+    → given_in fields ≡ Ok (given, []) → volume_in limit (path ∷ b ∷ f ∷ fields) ≡ Ok (record { path = path; max_bytes = bytes; max_files = files; given = given }, [])
+volume_read limit path b f bytes files given fields is most many gives =
+    ap (λ (r : Result (List ℕ) Cause). after (b ∷ f ∷ fields) r >>= (λ (path : List ℕ × List (List ℕ)). by (number_in 0 1099511627776) path.1 >>= (λ (max_bytes : ℕ × List (List ℕ)). by (number_in 1 limit) max_bytes.1 >>= (λ (max_files : ℕ × List (List ℕ)).
     given_in max_files.1 >>= (λ (given : Given × List (List ℕ)). Ok (record { path = path.0; max_bytes = max_bytes.0; max_files = max_files.0; given = given.0 }, given.1)))))) is
-    ∙ ap (λ (r : Result ℕ Cause). after (f ∷ fields) r >>= (λ (max_bytes : ℕ × List (List ℕ)). by (number_in 1 1000000) max_bytes.1 >>= (λ (max_files : ℕ × List (List ℕ)).
+    ∙ ap (λ (r : Result ℕ Cause). after (f ∷ fields) r >>= (λ (max_bytes : ℕ × List (List ℕ)). by (number_in 1 limit) max_bytes.1 >>= (λ (max_files : ℕ × List (List ℕ)).
     given_in max_files.1 >>= (λ (given : Given × List (List ℕ)). Ok (record { path = path; max_bytes = max_bytes.0; max_files = max_files.0; given = given.0 }, given.1))))) most
     ∙ ap (λ (r : Result ℕ Cause). after fields r >>= (λ (max_files : ℕ × List (List ℕ)). given_in max_files.1 >>= (λ (given : Given × List (List ℕ)). Ok (record { path = path; max_bytes = bytes; max_files = max_files.0; given = given.0 }, given.1)))) many
     ∙ ap (λ (r : Read Given). r >>= (λ (given : Given × List (List ℕ)). Ok (record { path = path; max_bytes = bytes; max_files = files; given = given.0 }, given.1))) gives
@@ -129,13 +130,13 @@ servers key all long = (
 )
 
 pub volumes : law.VolumesAreReadBack
-volumes path bytes files given said is most some many fits = (
+volumes limit path bytes files given said is most some many few fits = (
   path ∷ decimal bytes ∷ decimal files ∷ octal given.mode ∷ decimal given.uid ∷ decimal given.gid ∷ [],
   read_as (volume_line path bytes files given) (codes "volume") (path ∷ decimal bytes ∷ decimal files ∷ octal given.mode ∷ decimal given.uid ∷ decimal given.gid ∷ []) Volume
       (volume_words (codes "volume ") (codes " ") path (decimal bytes) (decimal files) (octal given.mode) (decimal given.uid) (decimal given.gid) (10 ∷ []) space)
-      (refl, (said, (decimal_said bytes (omega (arith, most)), (decimal_said files (omega (arith, many)), (mode_said given.mode, (id_said given.uid fits.1, id_said given.gid fits.2)))))) refl refl refl,
-  volume_read path (decimal bytes) (decimal files) bytes files given (octal given.mode ∷ decimal given.uid ∷ decimal given.gid ∷ []) is
-      (number_read 0 1099511627776 bytes (omega arith) most (omega (arith, most))) (number_read 1 1000000 files some many (omega (arith, many))) (given_fields given [] fits),
+      (refl, (said, (decimal_said bytes (omega (arith, most)), (decimal_said files (omega (arith, few)), (mode_said given.mode, (id_said given.uid fits.1, id_said given.gid fits.2)))))) refl refl refl,
+  volume_read limit path (decimal bytes) (decimal files) bytes files given (octal given.mode ∷ decimal given.uid ∷ decimal given.gid ∷ []) is
+      (number_read 0 1099511627776 bytes (omega arith) most (omega (arith, most))) (number_read 1 limit files some many few) (given_fields given [] fits),
 )
 
 pub dirs : law.DirsAreReadBack
@@ -148,32 +149,30 @@ dirs path names given said is fits = (
 )
 
 pub files : law.FilesAreReadBack
-files path names given bytes said is fits all few = (
+files most path names given bytes said is fits all few = (
   path ∷ octal given.mode ∷ decimal given.uid ∷ decimal given.gid ∷ content_text bytes ∷ [],
   read_as (file_line path given bytes) (codes "file") (path ∷ octal given.mode ∷ decimal given.uid ∷ decimal given.gid ∷ content_text bytes ∷ []) File
       (file_words (codes "file ") (codes " ") path (octal given.mode) (decimal given.uid) (decimal given.gid) (content_text bytes) (10 ∷ []) space)
       (refl, (said, (mode_said given.mode, (id_said given.uid fits.1, (id_said given.gid fits.2, content_said bytes all))))) refl refl refl,
-  file_read path (content_text bytes) bytes names given (octal given.mode ∷ decimal given.uid ∷ decimal given.gid ∷ content_text bytes ∷ []) is
-      (given_fields given (content_text bytes ∷ []) fits) (content_read bytes all few),
+  file_read most path (content_text bytes) bytes names given (octal given.mode ∷ decimal given.uid ∷ decimal given.gid ∷ content_text bytes ∷ []) is
+      (given_fields given (content_text bytes ∷ []) fits) (content_read most bytes all few),
 )
 
 target_said : (target : List ℕ) → is_target target ≡ true → is_said target ≡ true
 target_said target is =
-    let p = both (nat_lt 0 (length target) && nat_le (length target) 1024) (list_all is_shown target) is in
-    and_true (nat_lt 0 (length target)) (list_all is_shown target) (both (nat_lt 0 (length target)) (nat_le (length target) 1024) p.0).0 p.1
+    let p = both (nat_lt 0 (length target) && nat_le (length target) max_path_bytes) (list_all is_shown target) is in
+    and_true (nat_lt 0 (length target)) (list_all is_shown target) (both (nat_lt 0 (length target)) (nat_le (length target) max_path_bytes) p.0).0 p.1
 
-target_read : (target : List ℕ) → is_target target ≡ true → target_in target ≡ Ok target
-target_read target is =
-    let p = both (nat_lt 0 (length target) && nat_le (length target) 1024) (list_all is_shown target) is in
-    ap (λ b. if b then Ok target else Err BadContent) (both (nat_lt 0 (length target)) (nat_le (length target) 1024) p.0).1
+target_read : (most : ℕ) (target : List ℕ) → length target ≤ most → target_in most target ≡ Ok target
+target_read most target few = ap (λ b. if b then Ok target else Err BadContent) (upto (length target) most few)
 
 pub links : law.LinksAreReadBack
-links path names uid gid target said is owner group holds = (
+links most path names uid gid target said is owner group holds few = (
   path ∷ decimal uid ∷ decimal gid ∷ target ∷ [],
   read_as (link_line path uid gid target) (codes "link") (path ∷ decimal uid ∷ decimal gid ∷ target ∷ []) Link
       (link_words (codes "link ") (codes " ") path (decimal uid) (decimal gid) target (10 ∷ []) space)
       (refl, (said, (id_said uid owner, (id_said gid group, target_said target holds)))) refl refl refl,
-  link_read path (decimal uid) (decimal gid) target names uid gid is (id_read uid owner) (id_read gid group) (target_read target holds),
+  link_read most path (decimal uid) (decimal gid) target names uid gid is (id_read uid owner) (id_read gid group) (target_read most target few),
 )
 
 pub hards : law.HardsAreReadBack

@@ -1,11 +1,13 @@
 -- Lines of a description that say, when they are read, what they were written for.
-use Rattle.std.specs.Prelude.{◌≡◌, ℕ, ◌<◌, ◌≤◌, ◌^◌, ◌&&◌, Bool, true, List, [], ◌∷◌, ◌++◌, length, nat_lt, Some, Ok}
+use Rattle.std.specs.Prelude.{◌≡◌, ◌⊎◌, ℕ, ◌<◌, ◌≤◌, ◌^◌, ◌&&◌, Bool, true, List, [], ◌∷◌, ◌++◌, length, nat_lt, Some, Ok}
 use Rattle.std.specs.List.{list_all}
 use Rattle.hex.specs.Hex.{IsBytes}
 use Rattle.nfs_text.specs.Lines.{lines}
-use Rattle.nfs_inodes.specs.Limits.{max_file_bytes}
 use Rattle.nfs_exports.specs.declared.export_table.Export.{Export}
+use Rattle.nfs_inodes.specs.Limits.{AreLimits, default_limits}
+use Rattle.nfs_inodes.specs.declared.limits.Limits.{Limits}
 use Rattle.nfs_load.specs.Fields.{by, key_in}
+use Rattle.nfs_load.specs.LimitFields.{limits_in}
 use Rattle.nfs_load.specs.Lines.{shape}
 use Rattle.nfs_load.specs.Paths.{path_in, volume_path_in}
 use Rattle.nfs_load.specs.Statements.{volume_in, export_in, dir_in, file_in, link_in, hard_in}
@@ -13,7 +15,7 @@ use Rattle.nfs_load.specs.declared.line.Keyword.{Keyword}
 use Rattle.nfs_load.specs.declared.line.Keyword.TheVariants as keyword
 use Rattle.nfs_load.specs.declared.line.Keyword.TheVariants.{Server, Volume, Dir, File, Link, Hard}
 use Rattle.nfs_load.specs.declared.statement.Given.{Given}
-use Rattle.nfs_describe.specs.Lines.{server_line, volume_line, dir_line, file_line, link_line, hard_line, is_shown, is_target, export_line}
+use Rattle.nfs_describe.specs.Lines.{server_line, limits_line, volume_line, dir_line, file_line, link_line, hard_line, is_shown, is_target, export_line}
 
 -- a word: one or more bytes from `!` to `~`
 abbrev pub is_said : List ℕ → Bool
@@ -35,27 +37,33 @@ abbrev pub ServersAreReadBack : Type 0
 ServersAreReadBack = (key : List ℕ) → IsBytes key → length key ≡ 8
     → (fields : List (List ℕ)) × IsReadAs (server_line key) Server fields × (by key_in fields ≡ Ok (key, []))
 
+-- limits are all the defaults, and no line says them; or they are read again
+abbrev pub LimitsAreReadBack : Type 0
+LimitsAreReadBack = (limits : Limits) → AreLimits limits
+    → ((limits_line limits ≡ []) × (limits ≡ default_limits))
+    ⊎ ((fields : List (List ℕ)) × IsReadAs (limits_line limits) keyword.Limits fields × (limits_in default_limits fields ≡ Ok limits))
+
 abbrev pub VolumesAreReadBack : Type 0
-VolumesAreReadBack = (path : List ℕ) (bytes files : ℕ) (given : Given) → is_said path ≡ true → volume_path_in path ≡ Ok path
-    → bytes ≤ 1099511627776 → 1 ≤ files → files ≤ 1000000 → IsGiven given
+VolumesAreReadBack = (most : ℕ) (path : List ℕ) (bytes files : ℕ) (given : Given) → is_said path ≡ true → volume_path_in path ≡ Ok path
+    → bytes ≤ 1099511627776 → 1 ≤ files → files ≤ most → files < 2 ^ 64 → IsGiven given
     → (fields : List (List ℕ)) × IsReadAs (volume_line path bytes files given) Volume fields
-    × (volume_in fields ≡ Ok (record { path = path; max_bytes = bytes; max_files = files; given = given }, []))
+    × (volume_in most fields ≡ Ok (record { path = path; max_bytes = bytes; max_files = files; given = given }, []))
 
 abbrev pub DirsAreReadBack : Type 0
 DirsAreReadBack = (path : List ℕ) (names : List (List ℕ)) (given : Given) → is_said path ≡ true → path_in path ≡ Ok names → IsGiven given
     → (fields : List (List ℕ)) × IsReadAs (dir_line path given) Dir fields × (dir_in fields ≡ Ok (record { path = names; given = given }, []))
 
 abbrev pub FilesAreReadBack : Type 0
-FilesAreReadBack = (path : List ℕ) (names : List (List ℕ)) (given : Given) (bytes : List ℕ) → is_said path ≡ true → path_in path ≡ Ok names → IsGiven given
-    → IsBytes bytes → length bytes ≤ max_file_bytes
+FilesAreReadBack = (most : ℕ) (path : List ℕ) (names : List (List ℕ)) (given : Given) (bytes : List ℕ) → is_said path ≡ true → path_in path ≡ Ok names → IsGiven given
+    → IsBytes bytes → length bytes ≤ most
     → (fields : List (List ℕ)) × IsReadAs (file_line path given bytes) File fields
-    × (file_in fields ≡ Ok (record { path = names; given = given; content = bytes }, []))
+    × (file_in most fields ≡ Ok (record { path = names; given = given; content = bytes }, []))
 
 abbrev pub LinksAreReadBack : Type 0
-LinksAreReadBack = (path : List ℕ) (names : List (List ℕ)) (uid gid : ℕ) (target : List ℕ) → is_said path ≡ true → path_in path ≡ Ok names
-    → uid < 2 ^ 32 → gid < 2 ^ 32 → is_target target ≡ true
+LinksAreReadBack = (most : ℕ) (path : List ℕ) (names : List (List ℕ)) (uid gid : ℕ) (target : List ℕ) → is_said path ≡ true → path_in path ≡ Ok names
+    → uid < 2 ^ 32 → gid < 2 ^ 32 → is_target target ≡ true → length target ≤ most
     → (fields : List (List ℕ)) × IsReadAs (link_line path uid gid target) Link fields
-    × (link_in fields ≡ Ok (record { path = names; uid = uid; gid = gid; target = target }, []))
+    × (link_in most fields ≡ Ok (record { path = names; uid = uid; gid = gid; target = target }, []))
 
 abbrev pub HardsAreReadBack : Type 0
 HardsAreReadBack = (path old : List ℕ) (names olds : List (List ℕ)) → is_said path ≡ true → path_in path ≡ Ok names → is_said old ≡ true → path_in old ≡ Ok olds

@@ -1,6 +1,6 @@
 //! Laws over the definitions alone.
 ghost use Rattle.nfs_read_back.specs.ReadBack.{DirsAreReadBack, FilesAreReadBack, HardsAreReadBack, LinksAreReadBack};
-ghost use Rattle.nfs_read_back.specs.ReadBack.{ExportsAreReadBack, ServersAreReadBack, VolumesAreReadBack};
+ghost use Rattle.nfs_read_back.specs.ReadBack.{ExportsAreReadBack, LimitsAreReadBack, ServersAreReadBack, VolumesAreReadBack};
 
 /// The line that is written for a directory, a file, a link or a hard link asks for exactly that,
 /// wherever it stands in a text: the same path, mode, owner, group and content.
@@ -11,10 +11,11 @@ pub fn files_are_read_back()
     ensures hards { HardsAreReadBack }
 {}
 
-/// The line that is written for a server says its key, and the one for a volume its path, its limits
-/// and what is given of its root.
+/// The line that is written for a server says its key, the one for a tree its limits, and the one for a
+/// volume its path, its bytes and files, and what is given of its root.
 pub fn volumes_are_read_back()
     ensures servers { ServersAreReadBack }
+    ensures limits { LimitsAreReadBack }
     ensures volumes { VolumesAreReadBack }
 {}
 

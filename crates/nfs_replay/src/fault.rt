@@ -32,9 +32,9 @@ impl From<WriteFault> for RunFault {
 }
 
 impl From<RunFault> for ScriptFault {
-    ghost use Rattle.nfs_script.specs.ScriptFaults.{IsNumbered};
+    ghost use Rattle.nfs_script.specs.ScriptFaults.{IsOfMachine};
 
-    ghost from_gives = { λ _ fault. IsNumbered fault };
+    ghost from_gives = { λ _ fault. IsOfMachine fault };
 
     fn from(fault: RunFault) -> ScriptFault {
         match fault {

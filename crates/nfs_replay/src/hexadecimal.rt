@@ -1,32 +1,27 @@
 //! Bytes as hexadecimal digits.
-ghost use Rattle.std.specs.Prelude.{◌≡◌, ◌++◌, List, ℕ, Ok, OnOk, OnErr, IsErr, IsErrOf, IsOk, IfErr, length, ◌/◌};
-ghost use Rattle.hex.specs.Hex.{encode_lower, decode_of};
+ghost use Rattle.std.specs.Prelude.{◌≡◌, ◌++◌, Ok, OnOk, OnErr, IfErr};
+ghost use Rattle.hex.specs.Hex.{encode_lower};
+ghost use Rattle.nfs_replay.specs.Scripts.{IsCauseOf, digits_in, onto};
 
+use crate::fault::RunFault;
+use crate::line_fault::LineFault;
+use nfs_script::fault::LineCause;
 use std::alloc::{AllocError, Global};
-
-/// Why digits are no bytes.
-#[derive(Clone, Copy, Debug, PartialEq, Eq)]
-pub enum HexFault {
-    /// A digit is none, or one is missing.
-    BadHex,
-    /// There is no memory.
-    Memory,
-}
 
 /// Adds the bytes that the digits say, two digits of either case to a byte. `BadHex` where they
 /// say none, `Memory` where there is none; nothing is added then.
-pub(crate) fn push_bytes(alloc: Global, bytes: &mut Vec<u8>, digits: &[u8]) -> Result<(), HexFault>
-    ensures ok { OnOk result ((read : List ℕ) × (decode_of digits.now ≡ Ok read) × (bytes.new.items ≡ bytes.old.items ++ read)) }
-    ensures bad { IsErrOf result HexFault.BadHex → IsErr (decode_of digits.now) }
+pub(crate) fn push_bytes(alloc: Global, bytes: &mut Vec<u8>, digits: &[u8]) -> Result<(), LineFault>
+    ensures ok { OnOk result (onto bytes.old.items (digits_in digits.now) ≡ Ok bytes.new.items) }
+    ensures fault { IfErr result (IsCauseOf (digits_in digits.now)) }
     ensures err { OnErr result (bytes.new.items ≡ bytes.old.items) }
 {
     match hex::decode(alloc, digits) {
         Ok(read) => match bytes.extend_from_slice(read.as_slice()) {
             Ok(()) => Ok(()),
-            Err(_) => Err(HexFault::Memory),
+            Err(_) => Err(LineFault::OfRun(RunFault::Memory)),
         },
-        Err(hex::FromHexError::OutOfMemory) => Err(HexFault::Memory),
-        Err(_) => Err(HexFault::BadHex),
+        Err(hex::FromHexError::OutOfMemory) => Err(LineFault::OfRun(RunFault::Memory)),
+        Err(_) => Err(LineFault::OfLine(LineCause::BadHex)),
     }
 }
 

@@ -5,6 +5,8 @@ mod captured;
 pub mod fault;
 mod heard;
 mod hexadecimal;
+mod line_bytes;
+pub mod line_fault;
 pub mod printing;
 pub mod queued_call;
 pub mod replay;

@@ -1,20 +1,23 @@
 //! A script, run against a server of its own.
-ghost use Rattle.std.specs.Prelude.{◌≤◌, IfErr};
-ghost use Rattle.nfs_script.specs.ScriptFaults.{IsNumbered};
+ghost use Rattle.std.specs.Prelude.{◌≤◌, Some, IfErr, OnOk};
+ghost use Rattle.std.specs.List.{AllByRecursion};
+ghost use Rattle.nfs_load.specs.Loadings.{number_after};
+ghost use Rattle.nfs_replay.specs.Orders.{asked_by};
+ghost use Rattle.nfs_replay.specs.Scripts.{AskForCall, AskForNone, CanRun, FaultsBy, HasCause, IsFaulty, IsReported, IsRun, SayBytes, SayNone, StopsBy};
+ghost use Rattle.nfs_text.specs.Lines.{lines};
+ghost use Rattle.nfs_text.specs.Words.{words_left};
 
 use crate::captured::{Captured, split_record};
 use crate::fault::RunFault;
 use crate::heard::Heard;
-use crate::hexadecimal::{HexFault, push_bytes};
+use crate::line_bytes::{bytes_of, record_of};
+use crate::line_fault::LineFault;
 use crate::printing::{Printer, Replies};
 use crate::queued_call::QueuedCall;
 use crate::script::{Order, order_of};
 use crate::shown::Shown;
-use nfs_ask::ask::Ask;
-use nfs_ask::fault::{AskFault, Wanted};
 use nfs_attrs::moment::Moment;
 use nfs_exports::addr::Addr;
-use nfs_inodes::tree::Tree;
 use nfs_lines::names::{name_in, names_of};
 use nfs_load::listing::listing;
 use nfs_load::loaded::Loaded;
@@ -24,11 +27,10 @@ use nfs_server::server::Server;
 use nfs_server::session_fault::SessionFault;
 use nfs_server::sessions::Sessions;
 use nfs_text::lines::Lines;
-use nfs_text::number::decimal;
 use nfs_text::words::Words;
 use nfs_words::text::Text;
 use nfs_xdr::device::{ByteOut, write_all};
-use std::alloc::{AllocError, AllocFailed, Global};
+use std::alloc::Global;
 use std::mem;
 
 /// Runs the script's lines in order against a server of this description, and prints what each
@@ -48,77 +50,13 @@ pub fn replay<W: ByteOut>(
 ) -> Result<Sessions, ScriptFault>
     requires some { 1 ≤ cache }
     requires few { cache ≤ 1024 }
-    ensures { IfErr result IsNumbered }
+    ensures all { OnOk result (AllByRecursion IsRun (lines script.now)) }
+    ensures first { IfErr result (StopsBy script.now) }
 {
     let mut player = Player::new(alloc, loaded, cache, shown)?;
     player.play(script, out)?;
     let Player { sessions, .. } = player;
     Ok(sessions)
-}
-
-// What is wrong with a line, or the fault of what it asks for.
-#[derive(Clone, Copy)]
-enum LineFault {
-    Line(LineCause),
-    Run(RunFault),
-}
-
-impl LineFault {
-    // The fault with the number of its line, of which so many stand before it.
-    fn at(self, before: u64) -> ScriptFault
-        ensures { IsNumbered result }
-    {
-        match self {
-            LineFault::Line(cause) => ScriptFault::Line {
-                line: before.saturating_add(1),
-                cause,
-            },
-            LineFault::Run(fault) => fault.into(),
-        }
-    }
-}
-
-impl From<LineCause> for LineFault {
-    fn from(cause: LineCause) -> LineFault {
-        LineFault::Line(cause)
-    }
-}
-
-impl From<AskFault> for LineFault {
-    fn from(fault: AskFault) -> LineFault {
-        match fault {
-            AskFault::Word(word, Wanted::File) => LineFault::Line(LineCause::NoFile(word)),
-            AskFault::Word(word, wanted) => LineFault::Line(LineCause::BadWord(word, wanted)),
-            AskFault::Memory => LineFault::Run(RunFault::Memory),
-        }
-    }
-}
-
-impl From<RunFault> for LineFault {
-    fn from(fault: RunFault) -> LineFault {
-        LineFault::Run(fault)
-    }
-}
-
-impl From<AllocError> for LineFault {
-    fn from(_error: AllocError) -> LineFault {
-        LineFault::Run(RunFault::Memory)
-    }
-}
-
-impl<T: Drop> From<AllocFailed<T>> for LineFault {
-    fn from(_error: AllocFailed<T>) -> LineFault {
-        LineFault::Run(RunFault::Memory)
-    }
-}
-
-impl From<HexFault> for LineFault {
-    fn from(fault: HexFault) -> LineFault {
-        match fault {
-            HexFault::BadHex => LineFault::Line(LineCause::BadHex),
-            HexFault::Memory => LineFault::Run(RunFault::Memory),
-        }
-    }
 }
 
 #[derive(Drop)]
@@ -150,84 +88,145 @@ impl Player {
 
     // Runs the lines of a script in order.
     fn play<W: ByteOut>(&mut self, script: &[u8], out: &mut W) -> Result<(), ScriptFault>
-        ensures { IfErr result IsNumbered }
+        ensures all { OnOk result (AllByRecursion IsRun (lines script.now)) }
+        ensures first { IfErr result (StopsBy script.now) }
     {
-        for (index, line) in script.split(|b| *b == b'\n').enumerate() {
-            let before = u32::try_from(index).unwrap_or(u32::MAX);
+        let mut before: u64 = 0;
+        let mut lines = Lines::new(script);
+        while let Some(line) = lines.next() {
             if let Err(fault) = self.line(line, before, out) {
-                self.run_calls(out)?;
-                return Err(fault.at(index as u64));
+                return Err(self.stop(fault, before, out));
             }
+            before = before.saturating_add(1);
         }
         Ok(self.run_calls(out)?)
     }
 
-    // What a line asks for. A call waits for those that follow it; anything else comes after the
-    // calls that wait, as does a call that names files, whose handles are those of the tree then. So many
-    // lines stand before it.
-    fn line<W: ByteOut>(&mut self, line: &[u8], before: u32, out: &mut W) -> Result<(), LineFault> {
-        let Some(order) = order_of(line) else {
-            return Err(LineCause::BadLine.into());
-        };
+    // The fault of a line before which so many stand. The calls that wait are run first.
+    fn stop<W: ByteOut>(&mut self, fault: LineFault, before: u64, out: &mut W) -> ScriptFault
+        ensures { IsReported fault (number_after before) result }
+    {
+        match self.run_calls(out) {
+            Ok(()) => fault.at(before),
+            Err(RunFault::Write) => ScriptFault::Write,
+            Err(RunFault::Memory) => ScriptFault::Memory,
+        }
+    }
+
+    // What a line asks for, before which so many stand.
+    fn line<W: ByteOut>(&mut self, line: &[u8], before: u64, out: &mut W) -> Result<(), LineFault>
+        ensures run { OnOk result (IsRun line.now) }
+        ensures fault { IfErr result (FaultsBy (IsFaulty line.now)) }
+    {
+        match order_of(line) {
+            Some(order) => self.execute(order, before, out),
+            None => Err(LineFault::OfLine(LineCause::BadLine)),
+        }
+    }
+
+    // What an order asks for. A call waits for those that follow it; anything else comes after the
+    // calls that wait, as does a call that names files, whose handles are those of the tree then.
+    fn execute<W: ByteOut>(
+        &mut self,
+        order: Order<'_>,
+        before: u64,
+        out: &mut W,
+    ) -> Result<(), LineFault>
+        ensures run { OnOk result (CanRun (Some (asked_by order.entry))) }
+        ensures fault { IfErr result (FaultsBy (HasCause (Some (asked_by order.entry)))) }
+    {
         match order {
             Order::Nothing => Ok(()),
             Order::QueuedCall {
                 addr,
                 moment,
                 bytes,
-            } => {
-                if names_files(bytes) {
-                    self.run_calls(out)?;
-                }
-                let bytes = bytes_of(self.alloc, self.sessions.server().tree(), bytes)?;
-                self.call(addr, moment, bytes, out)?;
-                Ok(())
-            }
+            } => self.call_line(addr, moment, bytes, out),
             Order::Ask {
                 addr,
                 moment,
                 words,
-            } => {
-                self.run_calls(out)?;
-                let bytes = self.asked(words, before.saturating_add(1))?;
-                self.call(addr, moment, bytes, out)?;
-                Ok(())
-            }
+            } => self.ask_line(addr, moment, words, before, out),
             Order::Feed {
                 conn,
                 moment,
                 bytes,
-            } => {
-                self.run_calls(out)?;
-                let bytes = bytes_of(self.alloc, self.sessions.server().tree(), bytes)?;
-                self.feed(conn, moment, bytes.as_slice(), out)?;
-                Ok(())
-            }
-            Order::Attach { conn, addr } => {
-                self.run_calls(out)?;
-                let attached = self.sessions.attach(conn, addr);
-                self.fault(conn, attached, out)?;
-                Ok(())
-            }
-            Order::Detach { conn } => {
-                self.run_calls(out)?;
-                let detached = self.sessions.detach(conn);
-                self.heard.forget(conn);
-                self.fault(conn, detached, out)?;
-                Ok(())
-            }
-            Order::Show => {
-                self.run_calls(out)?;
-                self.show(out)?;
-                Ok(())
-            }
+            } => self.feed_line(conn, moment, bytes, out),
+            Order::Attach { conn, addr } => Ok(self.attach(conn, addr, out)?),
+            Order::Detach { conn } => Ok(self.detach(conn, out)?),
+            Order::Show => Ok(self.show(out)?),
         }
     }
 
-    // The record that words ask for, by this number.
-    fn asked(&self, words: Words<'_>, xid: u32) -> Result<Vec<u8>, AskFault> {
-        let tree = self.sessions.server().tree();
-        Ask::read(words)?.record(self.alloc, tree, xid)
+    // A record that waits for those that follow it.
+    fn call_line<W: ByteOut>(
+        &mut self,
+        addr: Addr,
+        moment: Moment,
+        words: Words<'_>,
+        out: &mut W,
+    ) -> Result<(), LineFault>
+        ensures run { OnOk result (SayBytes (words_left words.entry)) }
+        ensures fault { IfErr result (FaultsBy (SayNone (words_left words.entry))) }
+    {
+        if names_files(words) {
+            self.run_calls(out)?;
+        }
+        let bytes = bytes_of(self.alloc, self.sessions.server().tree(), words)?;
+        self.call(addr, moment, bytes, out)?;
+        Ok(())
+    }
+
+    // A call in words, before whose line so many stand.
+    fn ask_line<W: ByteOut>(
+        &mut self,
+        addr: Addr,
+        moment: Moment,
+        words: Words<'_>,
+        before: u64,
+        out: &mut W,
+    ) -> Result<(), LineFault>
+        ensures run { OnOk result (AskForCall (words_left words.entry)) }
+        ensures fault { IfErr result (FaultsBy (AskForNone (words_left words.entry))) }
+    {
+        self.run_calls(out)?;
+        let xid = u32::try_from(before).unwrap_or(u32::MAX).saturating_add(1);
+        match record_of(self.alloc, self.sessions.server().tree(), words, xid) {
+            Ok(bytes) => Ok(self.call(addr, moment, bytes, out)?),
+            Err(fault) => Err(LineFault::of_ask(fault)),
+        }
+    }
+
+    // The bytes that words say, on a connection.
+    fn feed_line<W: ByteOut>(
+        &mut self,
+        conn: u32,
+        moment: Moment,
+        words: Words<'_>,
+        out: &mut W,
+    ) -> Result<(), LineFault>
+        ensures run { OnOk result (SayBytes (words_left words.entry)) }
+        ensures fault { IfErr result (FaultsBy (SayNone (words_left words.entry))) }
+    {
+        self.run_calls(out)?;
+        let bytes = bytes_of(self.alloc, self.sessions.server().tree(), words)?;
+        self.feed(conn, moment, bytes.as_slice(), out)?;
+        Ok(())
+    }
+
+    // A connection.
+    fn attach<W: ByteOut>(&mut self, conn: u32, addr: Addr, out: &mut W) -> Result<(), RunFault> {
+        self.run_calls(out)?;
+        let attached = self.sessions.attach(conn, addr);
+        self.fault(conn, attached, out)
+    }
+
+    // The end of a connection.
+    fn detach<W: ByteOut>(&mut self, conn: u32, out: &mut W) -> Result<(), RunFault> {
+        self.run_calls(out)?;
+        let detached = self.sessions.detach(conn);
+        self.heard.forget(conn);
+        self.fault(conn, detached, out)
     }
 
     // A call waits for those that follow it. Where its names are printed they are those before it.
@@ -253,8 +252,9 @@ impl Player {
         Ok(())
     }
 
-    // Prints the listing of the tree.
-    fn show<W: ByteOut>(&self, out: &mut W) -> Result<(), RunFault> {
+    // Prints the listing of the tree, after the calls that wait.
+    fn show<W: ByteOut>(&mut self, out: &mut W) -> Result<(), RunFault> {
+        self.run_calls(out)?;
         listing(self.sessions.server().tree(), out)?;
         Ok(())
     }
@@ -388,27 +388,4 @@ fn names_files(words: Words<'_>) -> bool {
         }
     }
     false
-}
-
-// The bytes that words say, from left to right: hexadecimal digits, or the handle of a file.
-fn bytes_of(alloc: Global, tree: &Tree, words: Words<'_>) -> Result<Vec<u8>, LineFault> {
-    let mut bytes = Vec::new(alloc);
-    for word in words {
-        match word.strip_prefix(b"@") {
-            Some(digits) => bytes.extend_from_slice(&handle_of(tree, digits)?)?,
-            None => push_bytes(alloc, &mut bytes, word)?,
-        }
-    }
-    Ok(bytes)
-}
-
-// The handle of the file of this number.
-fn handle_of(tree: &Tree, digits: &[u8]) -> Result<[u8; 24], LineCause> {
-    let Some(file) = decimal(digits, u64::MAX) else {
-        return Err(LineCause::BadHex);
-    };
-    match tree.handle_of(file) {
-        Some(handle) => Ok(handle),
-        None => Err(LineCause::NoHandle),
-    }
 }

@@ -1,4 +1,11 @@
 //! The lines of a script.
+ghost use Rattle.std.specs.Prelude.{◌≡◌, option_map};
+ghost use Rattle.nfs_ask.specs.Words.{is_nothing, number_of};
+ghost use Rattle.nfs_exports.specs.Addresses.{address_of};
+ghost use Rattle.nfs_load.specs.Lines as lines;
+ghost use Rattle.nfs_replay.specs.Orders as spec;
+ghost use Rattle.nfs_replay.specs.Orders.{asked_by, moment_of, next_by, order_in};
+ghost use Rattle.nfs_text.specs.Words.{words_left};
 
 use nfs_attrs::moment::Moment;
 use nfs_exports::addr::{Addr, parse_addr};
@@ -43,90 +50,166 @@ pub enum Order<'a> {
 
 /// What a line asks for, if it is one that there is. The words of its bytes, at least one, are not
 /// looked at.
-pub(crate) fn order_of(line: &[u8]) -> Option<Order<'_>> {
-    if line.first() == Some(&b'#') {
+pub(crate) fn order_of(line: &[u8]) -> Option<Order<'_>>
+    ensures { option_map asked_by result ≡ order_in line.now }
+{
+    if is_comment(line) {
         return Some(Order::Nothing);
     }
     let mut words = Words::new(line);
-    let Some(first) = words.next() else {
-        return Some(Order::Nothing);
-    };
-    match first {
-        b"attach" => {
-            let conn = number(words.next()?)?;
-            let addr = address(words.next()?)?;
-            ends(words, Order::Attach { conn, addr })
-        }
-        b"detach" => {
-            let conn = number(words.next()?)?;
-            ends(words, Order::Detach { conn })
-        }
-        b"feed" => {
-            let conn = number(words.next()?)?;
-            let moment = moment(words.next()?)?;
-            goes_on(
-                words,
-                Order::Feed {
-                    conn,
-                    moment,
-                    bytes: words,
-                },
-            )
-        }
-        b"call" => {
-            let addr = address(words.next()?)?;
-            let moment = moment(words.next()?)?;
-            goes_on(
-                words,
-                Order::QueuedCall {
-                    addr,
-                    moment,
-                    bytes: words,
-                },
-            )
-        }
-        b"ask" => {
-            let addr = address(words.next()?)?;
-            let moment = moment(words.next()?)?;
-            Some(Order::Ask {
-                addr,
-                moment,
-                words,
-            })
-        }
-        b"show" => ends(words, Order::Show),
-        _ => None,
+    match words.next() {
+        Some(word) => order_by(word, words),
+        None => Some(Order::Nothing),
     }
 }
 
-// The order, where no word is left.
-fn ends<'a>(words: Words<'_>, order: Order<'a>) -> Option<Order<'a>> {
-    if is_at_end(words) { Some(order) } else { None }
+// Whether a line is one of the writer's own.
+fn is_comment(line: &[u8]) -> bool
+    ensures { result ≡ lines.is_comment line.now }
+{
+    match line.first() {
+        Some(byte) => *byte == b'#',
+        None => false,
+    }
 }
 
-// The order, where a word is left.
-fn goes_on<'a>(words: Words<'_>, order: Order<'a>) -> Option<Order<'a>> {
-    if is_at_end(words) { None } else { Some(order) }
+// What a line with this first word asks for.
+fn order_by<'a>(word: &[u8], words: Words<'a>) -> Option<Order<'a>>
+    ensures { option_map asked_by result ≡ spec.order_by word.now (words_left words.entry) }
+{
+    if word == b"attach".as_slice() {
+        attach(words)
+    } else if word == b"detach".as_slice() {
+        detach(words)
+    } else if word == b"feed".as_slice() {
+        feed(words)
+    } else if word == b"call".as_slice() {
+        call(words)
+    } else if word == b"ask".as_slice() {
+        ask(words)
+    } else if word == b"show".as_slice() {
+        show(words)
+    } else {
+        None
+    }
 }
 
-fn is_at_end(words: Words<'_>) -> bool {
+fn attach<'a>(words: Words<'a>) -> Option<Order<'a>>
+    ensures { option_map asked_by result ≡ spec.attach_in (words_left words.entry) }
+{
+    let mut left = words;
+    let conn = number(&mut left)?;
+    let addr = address(&mut left)?;
+    if is_at_end(left) {
+        Some(Order::Attach { conn, addr })
+    } else {
+        None
+    }
+}
+
+fn detach<'a>(words: Words<'a>) -> Option<Order<'a>>
+    ensures { option_map asked_by result ≡ spec.detach_in (words_left words.entry) }
+{
+    let mut left = words;
+    let conn = number(&mut left)?;
+    if is_at_end(left) {
+        Some(Order::Detach { conn })
+    } else {
+        None
+    }
+}
+
+fn feed<'a>(words: Words<'a>) -> Option<Order<'a>>
+    ensures { option_map asked_by result ≡ spec.feed_in (words_left words.entry) }
+{
+    let mut bytes = words;
+    let conn = number(&mut bytes)?;
+    let moment = moment(&mut bytes)?;
+    if is_at_end(bytes) {
+        return None;
+    }
+    Some(Order::Feed {
+        conn,
+        moment,
+        bytes,
+    })
+}
+
+fn call<'a>(words: Words<'a>) -> Option<Order<'a>>
+    ensures { option_map asked_by result ≡ spec.call_in (words_left words.entry) }
+{
+    let mut bytes = words;
+    let addr = address(&mut bytes)?;
+    let moment = moment(&mut bytes)?;
+    if is_at_end(bytes) {
+        return None;
+    }
+    Some(Order::QueuedCall {
+        addr,
+        moment,
+        bytes,
+    })
+}
+
+fn ask<'a>(words: Words<'a>) -> Option<Order<'a>>
+    ensures { option_map asked_by result ≡ spec.ask_in (words_left words.entry) }
+{
+    let mut left = words;
+    let addr = address(&mut left)?;
+    let moment = moment(&mut left)?;
+    Some(Order::Ask {
+        addr,
+        moment,
+        words: left,
+    })
+}
+
+fn show<'a>(words: Words<'a>) -> Option<Order<'a>>
+    ensures { option_map asked_by result ≡ spec.show_in (words_left words.entry) }
+{
+    if is_at_end(words) {
+        Some(Order::Show)
+    } else {
+        None
+    }
+}
+
+fn is_at_end(words: Words<'_>) -> bool
+    ensures { result ≡ is_nothing (words_left words.entry) }
+{
     let mut left = words;
     left.next().is_none()
 }
 
-// Decimal digits, to the largest `u32`.
-fn number(word: &[u8]) -> Option<u32> {
-    u32::try_from(decimal(word, u64::from(u32::MAX))?).ok()
+// The next word as a number, decimal digits to the largest `u32`.
+fn number(words: &mut Words<'_>) -> Option<u32>
+    ensures { option_map (λ n. (n, words_left words.new)) result ≡ next_by number_of (words_left words.old) }
+{
+    match decimal(words.next()?, u64::from(u32::MAX)) {
+        Some(number) => Some(number as u32),
+        None => None,
+    }
 }
 
-// A moment in whole seconds.
-fn moment(word: &[u8]) -> Option<Moment> {
-    Some(Moment {
-        seconds: number(word)?,
-        nanos: 0,
-    })
+// The next word as a moment, in whole seconds.
+fn moment(words: &mut Words<'_>) -> Option<Moment>
+    ensures { option_map (λ m. (m, words_left words.new)) result ≡ next_by moment_of (words_left words.old) }
+{
+    match decimal(words.next()?, u64::from(u32::MAX)) {
+        Some(seconds) => Some(Moment {
+            seconds: seconds as u32,
+            nanos: 0,
+        }),
+        None => None,
+    }
 }
 
-fn address(word: &[u8]) -> Option<Addr> {
-    parse_addr(word).ok()
+// The next word as an address.
+fn address(words: &mut Words<'_>) -> Option<Addr>
+    ensures { option_map (λ a. (a, words_left words.new)) result ≡ next_by address_of (words_left words.old) }
+{
+    match parse_addr(words.next()?) {
+        Ok(addr) => Some(addr),
+        Err(_) => None,
+    }
 }

@@ -3,6 +3,8 @@ use Rattle.std.proofs.Common.{◌≡◌, ◌⊎◌, ℕ, ◌+◌, ◌<◌, zero,
 use Rattle.std.specs.Prelude.{if◌then◌else◌}
 use Rattle.nfs_attrs.specs.declared.moment.Moment.{Moment}
 use Rattle.nfs_inodes.specs.Changes.{with_file, with_new_file, with_named_file, with_entry, entered, touched, new_file, volume_index, after_link}
+use Rattle.nfs_inodes.specs.Limits.{default_limits}
+use Rattle.nfs_inodes.specs.declared.limits.Limits.{Limits}
 use Rattle.nfs_inodes.specs.Tree.{Tree, File, Regular, Directory, Link, at, on_some}
 use Rattle.nfs_load.specs.declared.cause.Cause.{Cause}
 use Rattle.nfs_load.specs.declared.cause.Cause.TheVariants.{BadByte, FieldCount}
@@ -11,7 +13,7 @@ use Rattle.nfs_load.specs.declared.line.Keyword.TheVariants as keyword
 use Rattle.nfs_load.specs.declared.loaded.Loaded.{Loaded}
 use Rattle.nfs_load.specs.declared.statement.DirLine.{DirLine}
 use Rattle.nfs_load.specs.declared.statement.HardLine.{HardLine}
-use Rattle.nfs_load.specs.Descriptions.{Asked, Begins, ExportDone, GoesOn, InRoot, LineDone, Then, Through, VolumeTaken, begun, last_root}
+use Rattle.nfs_load.specs.Descriptions.{Asked, Begins, ExportDone, GoesOn, InRoot, LimitsSet, LineDone, Then, Through, VolumeTaken, begun, early_limits, last_root}
 use Rattle.nfs_load.specs.Effects.{AddsName, MakesDir, MakesFile, MakesLink, attributes, link_attributes, start}
 use Rattle.nfs_load.specs.Fields.{by, key_in, ◌>>=◌}
 use Rattle.nfs_load.specs.Lines.{counted, is_comment, is_text, keyword_named, shape_of, takes}
@@ -81,6 +83,10 @@ module _ (old new : Loaded) where
   volume_taken (Ok line) done = ap next_of done.0.3.new_is
   volume_taken (Err cause) done = cc
 
+  limits_set : (read : Result Limits Cause) → LimitsSet old read (Ok tt) new → new.tree.next ≡ old.tree.next
+  limits_set (Ok limits) done = ap (λ (l : Loaded). l.tree.next) done.1
+  limits_set (Err cause) done = cc
+
   -- the number that follows a row
   abbrev next_after : Option PathRow → ℕ → ℕ
   next_after None n = n
@@ -89,8 +95,9 @@ module _ (old new : Loaded) where
   goes_on : (keyword : Keyword) (fields : List (List ℕ)) → takes keyword (length fields) ≡ true → GoesOn old keyword fields (Ok tt) new
       → new.tree.next ≡ next_after (row_by keyword fields) old.tree.next
   goes_on keyword.Server fields few done = cc
+  goes_on keyword.Limits fields few done = limits_set (early_limits old.tree fields) done
   goes_on keyword.Volume [] few done = cc
-  goes_on keyword.Volume (path ∷ rest) few done = volume_taken (volume_in (path ∷ rest)) done
+  goes_on keyword.Volume (path ∷ rest) few done = volume_taken (volume_in old.tree.limits.files (path ∷ rest)) done
   goes_on keyword.Export fields few done =
       in_volume (λ n line. ExportDone old line (Ok tt) new) (new.tree.next ≡ old.tree.next) (last_root old.tree) (export_in fields)
       (λ n line it. ap (λ (l : Loaded). l.tree.next) it.1) done
@@ -100,12 +107,12 @@ module _ (old new : Loaded) where
       (λ n line it. dir_steps old.tree new.tree n line it.0) done
   goes_on keyword.File [] few done = cc
   goes_on keyword.File (path ∷ rest) few (inl done) =
-      in_volume (λ n line. MakesFile old.tree n line (Ok tt) new.tree × (new.table ≡ old.table)) (new.tree.next ≡ old.tree.next + 1) (last_root old.tree) (file_in (path ∷ rest))
+      in_volume (λ n line. MakesFile old.tree n line (Ok tt) new.tree × (new.table ≡ old.table)) (new.tree.next ≡ old.tree.next + 1) (last_root old.tree) (file_in old.tree.limits.file_size (path ∷ rest))
       (λ n line it. file_steps old.tree new.tree n line it.0) done
   goes_on keyword.File (path ∷ rest) few (inr (refused, found, wants)) = cc
   goes_on keyword.Link [] few done = cc
   goes_on keyword.Link (path ∷ rest) few done =
-      in_volume (λ n line. MakesLink old.tree n line (Ok tt) new.tree × (new.table ≡ old.table)) (new.tree.next ≡ old.tree.next + 1) (last_root old.tree) (link_in (path ∷ rest))
+      in_volume (λ n line. MakesLink old.tree n line (Ok tt) new.tree × (new.table ≡ old.table)) (new.tree.next ≡ old.tree.next + 1) (last_root old.tree) (link_in old.tree.limits.link_path (path ∷ rest))
       (λ n line it. link_steps old.tree new.tree n line it.0) done
   goes_on keyword.Hard [] few done = cc
   goes_on keyword.Hard (path ∷ []) few done = cc
@@ -125,9 +132,10 @@ begins : (k : Keyword) (fields : List (List ℕ)) (new : Option Loaded) → Begi
 begins keyword.Server fields new done = (refl, inr (of (by key_in fields) done))
   where
     of : (read : Result (List ℕ × List (List ℕ)) Cause)
-        → Begins (read >>= λ key. Ok (record { tree = record { files = []; next = 1; key = key.0; volumes = [] }; table = [] })) (Ok tt) new → Begun new
-    of (Ok key) done = (record { tree = record { files = []; next = 1; key = key.0; volumes = [] }; table = [] }, done.1, refl)
+        → Begins (read >>= λ key. Ok (record { tree = record { files = []; next = 1; key = key.0; volumes = []; limits = default_limits }; table = [] })) (Ok tt) new → Begun new
+    of (Ok key) done = (record { tree = record { files = []; next = 1; key = key.0; volumes = []; limits = default_limits }; table = [] }, done.1, refl)
     of (Err cause) done = cc
+begins keyword.Limits fields new done = cc
 begins keyword.Volume fields new done = cc
 begins keyword.Export fields new done = cc
 begins keyword.Dir fields new done = cc

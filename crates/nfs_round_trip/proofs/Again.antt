@@ -16,7 +16,7 @@ use Rattle.nfs_load.specs.declared.load_error.LoadError.{LoadError}
 use Rattle.nfs_load.specs.declared.load_error.LoadError.TheVariants as error
 use Rattle.nfs_load.specs.declared.loaded.Loaded.{Loaded}
 use Rattle.nfs_load.specs.declared.statement.Given.{Given}
-use Rattle.nfs_describe.specs.Lines.{dir_line, export_line, file_line, hard_line, link_line, server_line, volume_line}
+use Rattle.nfs_describe.specs.Lines.{dir_line, export_line, file_line, hard_line, limits_line, link_line, server_line, volume_line}
 use Rattle.nfs_describe.specs.Places.{IsWalk, FilePath, are_sayable, is_sayable, place_below, places_below}
 use Rattle.nfs_describe.specs.Texts.{Says, SaysTo, files_text, first_name, given_of, own_line, own_text, place_text, root_text, volume_text}
 use Rattle.nfs_round_trip.specs.Copies.{copied, copied_entries, copied_kind, copied_mode, copied_volume, new_number}
@@ -170,7 +170,7 @@ module _ (t : Tree) (law : Law t) (number : ℕ → ℕ) (u : Tree) (copy : IsCo
   get_map (w ∷ vs) (suc index) v e = get_map vs index v e
 
   says_to_again : (table : List (List Export)) (n : ℕ) (text : List ℕ) → SaysTo t table n text → SaysTo u table n text
-  says_to_again table zero text says = says ∙ ap server_line (sym copy.key)
+  says_to_again table zero text says = says ∙ ap (λ k. server_line k ++ limits_line t.limits) (sym copy.key) ∙ ap (λ l. server_line u.key ++ limits_line l) (sym copy.limits)
   says_to_again table (suc n) text (before, part, says, is, e) =
       let live : (p : FilePath) → Contains is.walk p → Live p =
       λ p c. (let inside = inside_walk t law n is.volume is.walk is.at_place is.walked p c in (inside.0, inside.1)) in (

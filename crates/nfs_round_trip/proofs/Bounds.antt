@@ -53,10 +53,10 @@ by_is {A} read (field ∷ fields) a rest e = from (read field) refl e
         (field, ap (λ (q : A × List (List ℕ)). field ∷ q.1) p, is ∙ ap (λ (q : A × List (List ℕ)). Ok q.0) p)
     from (Err cause) is e = cc
 
-err_is : {A E : Type 0} (r : Result A E) (x : E) (a : A) → r ≡ Err x → r ≡ Ok a → ⊥
+pub err_is : {A E : Type 0} (r : Result A E) (x : E) (a : A) → r ≡ Err x → r ≡ Ok a → ⊥
 err_is r x a one two = cc
 
-if_ok : {A E P : Type 0} (b : Bool) (x y : Result A E) (a : A) → (x ≡ Ok a → P) → (y ≡ Ok a → P) → (if b then x else y) ≡ Ok a → P
+pub if_ok : {A E P : Type 0} (b : Bool) (x y : Result A E) (a : A) → (x ≡ Ok a → P) → (y ≡ Ok a → P) → (if b then x else y) ≡ Ok a → P
 if_ok true x y a one two e = one e
 if_ok false x y a one two e = two e
 
@@ -115,25 +115,25 @@ key_bound field key e = from (decode_sized field 8) refl e
         let twice = d.2 in
         (let l = ap length same in omega (arith, long, twice, l), subst IsBytes same d.3)
 
-pub content_bound : (field content : List ℕ) → content_in field ≡ Ok content → IsBytes content
-content_bound field content e = if_ok (bytes_eq field (codes "-")) (Ok []) (within (decode_of field)) content
+pub content_bound : (most : ℕ) (field content : List ℕ) → content_in most field ≡ Ok content → IsBytes content
+content_bound most field content e = if_ok (bytes_eq field (codes "-")) (Ok []) (within most (decode_of field)) content
     (λ one. subst IsBytes (same_ok (Ok []) [] content refl one) none)
     (from (decode_of field) refl) e
   where
     none : IsBytes []
     none i = omega arith
 
-    from : (r : Result (List ℕ) FromHexError) → decode_of field ≡ r → within r ≡ Ok content → IsBytes content
+    from : (r : Result (List ℕ) FromHexError) → decode_of field ≡ r → within most r ≡ Ok content → IsBytes content
     from (Err x) is e = cc
-    from (Ok bytes) is e = if_ok (nat_le (length bytes) 16777216) (Ok bytes) (Err BadContent) content
+    from (Ok bytes) is e = if_ok (nat_le (length bytes) most) (Ok bytes) (Err BadContent) content
         (λ one. subst IsBytes (same_ok (Ok bytes) bytes content refl one) (decode_of-ok field bytes is).3)
         (λ two. absurd (err_is (Err BadContent) BadContent content refl two)) e
 
-pub target_bound : (field target : List ℕ) → target_in field ≡ Ok target → (field ≡ target) × (nat_le (length target) 1024 ≡ true)
-target_bound field target e = by_test (nat_le (length field) 1024)
-    (λ y. let same : field ≡ target = same_ok (target_in field) field target (ap (λ b. if b then Ok field else Err BadContent) y) e in
-    (same, subst (λ l. nat_le (length l) 1024 ≡ true) same y))
-    (λ o. absurd (err_is (target_in field) BadContent target (ap (λ b. if b then Ok field else Err BadContent) o) e))
+pub target_bound : (most : ℕ) (field target : List ℕ) → target_in most field ≡ Ok target → (field ≡ target) × (nat_le (length target) most ≡ true)
+target_bound most field target e = by_test (nat_le (length field) most)
+    (λ y. let same : field ≡ target = same_ok (target_in most field) field target (ap (λ b. if b then Ok field else Err BadContent) y) e in
+    (same, subst (λ l. nat_le (length l) most ≡ true) same y))
+    (λ o. absurd (err_is (target_in most field) BadContent target (ap (λ b. if b then Ok field else Err BadContent) o) e))
 
 -- ---- patterns
 

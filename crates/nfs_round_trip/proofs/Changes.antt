@@ -111,6 +111,7 @@ module _ (t : Tree) (law : Law t) (number : ℕ → ℕ) (done : List Step) (s :
           few = let l = length-append ns (s.1.number ∷ []) in let k = length-append done (s ∷ []) in let was = part.few in omega (arith, l, k, was);
           key = part.key;
           volumes = part.volumes;
+          limits = part.limits;
         })
 
     -- a hard link
@@ -144,4 +145,5 @@ module _ (t : Tree) (law : Law t) (number : ℕ → ℕ) (done : List Step) (s :
           few = let k = length-append done (s ∷ []) in let was = part.few in omega (arith, k, was);
           key = part.key;
           volumes = part.volumes;
+          limits = part.limits;
         })

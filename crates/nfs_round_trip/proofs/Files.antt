@@ -8,8 +8,9 @@ use Rattle.nfs_attrs.specs.declared.fattr.Fattr.{Fattr}
 use Rattle.nfs_inodes.specs.Changes.{Makes, after_link, after_mkdir, after_make_file, after_make_link, new_file, volume_index, with_named_file}
 use Rattle.nfs_inodes.specs.Conditions.{MayLink, MayMake, MayMakeDirectory, MayMakeLink}
 use Rattle.nfs_inodes.specs.Law.{IsName, Law, Lives, LivesAsDirectory}
-use Rattle.nfs_inodes.specs.Limits.{max_file_bytes}
+use Rattle.nfs_inodes.specs.declared.limits.Limits.{Limits}
 use Rattle.nfs_inodes.specs.Reading.{attributes_of, entries_at, is_directory_type, type_of}
+use Rattle.nfs_inodes.specs.Tree as tree
 use Rattle.nfs_inodes.specs.Tree.{Tree, File, Kind, Regular, Directory, Link, Entry, Volume, at, bytes_in, is_directory, names_of, nlink, on_some, parent_in}
 use Rattle.nfs_inodes.proofs.Lists.{same_some}
 use Rattle.nfs_load.specs.Descriptions.{OnTree, Then, last_root, root_or_cause}
@@ -176,12 +177,13 @@ module _ (Last : Option Loaded → Type 0) (t : Tree) (law : Law t) (number : �
       regular_goes bytes is =
           let line : FileLine = record { path = names; given = given; content = bytes } in
           let sound = law.sound s.1.number g next.lives in
-          let r = read_back.files path names given bytes path_word path_read (sound.mode, next.words.uid, next.words.gid)
-          (subst (λ k. IsBytes (bytes_in k)) is next.words.bytes) (subst (λ k. length (bytes_in k) ≤ max_file_bytes) is sound.bytes) in
+          let few : length bytes ≤ t.limits.file_size = subst (λ k. length (bytes_in k) ≤ t.limits.file_size) is sound.bytes in
+          let r = read_back.files old.tree.limits.file_size path names given bytes path_word path_read (sound.mode, next.words.uid, next.words.gid)
+          (subst (λ k. IsBytes (bytes_in k)) is next.words.bytes) (subst (λ (l : Limits). length bytes ≤ l.file_size) (sym part.limits) few) in
           subst (λ l. Goes Last (Some old) l All) (sym (own_regular path (attributes_of s.1.number g links) bytes (no_end s.0.path s.1.name)))
           (goes_on Last old (file_line path given bytes) keyword.File r.0 IsMore All r.1 goes (λ result loaded done. elim done [
             | inl on ↦
-                let it = on_tree old w number last_is (file_in r.0) line r.2 MakesFile result loaded on in
+                let it = on_tree old w number last_is (file_in old.tree.limits.file_size r.0) line r.2 MakesFile result loaded on in
                 done_map result (λ made. (
                   more made.tag g.mode (Regular bytes) (ap (λ k. copied_kind number (with_entries [] k)) (sym is))
                       (small g.mode sound.mode ∙ ap (λ k. copied_mode (with_entries [] k) g.mode) (sym is)) loaded.tree made.new_is,
@@ -225,10 +227,12 @@ module _ (Last : Option Loaded → Type 0) (t : Tree) (law : Law t) (number : �
       link_goes : (target : List ℕ) → g.kind ≡ Link target → Goes Last (Some old) (own_line path (attributes_of s.1.number g links) (Link target)) All
       link_goes target is =
           let line : LinkLine = record { path = names; uid = g.uid; gid = g.gid; target = target } in
-          let r = read_back.links path names g.uid g.gid target path_word path_read next.words.uid next.words.gid (next.words.target target is) in
+          let few : length target ≤ t.limits.link_path = subst (λ k. length (tree.path_in k) ≤ t.limits.link_path) is (law.sound s.1.number g next.lives).path in
+          let r = read_back.links old.tree.limits.link_path path names g.uid g.gid target path_word path_read next.words.uid next.words.gid (next.words.target target is)
+          (subst (λ (l : Limits). length target ≤ l.link_path) (sym part.limits) few) in
           subst (λ l. Goes Last (Some old) l All) (sym (own_link path (attributes_of s.1.number g links) target (no_end s.0.path s.1.name)))
           (goes_on Last old (link_line path g.uid g.gid target) keyword.Link r.0 IsMore All r.1 goes (λ result loaded on.
-          let it = on_tree old w number last_is (link_in r.0) line r.2 MakesLink result loaded on in
+          let it = on_tree old w number last_is (link_in old.tree.limits.link_path r.0) line r.2 MakesLink result loaded on in
           done_map result (λ made. (
             more made.tag 511 (Link target) (ap (λ k. copied_kind number (with_entries [] k)) (sym is))
                 (ap (λ k. copied_mode (with_entries [] k) g.mode) (sym is)) loaded.tree made.new_is,

@@ -30,6 +30,7 @@ law_keyed t key len bytes law = record {
   reached = law.reached;
   named = law.named;
   links = law.links;
+  limits = law.limits;
   volumes = law.volumes;
   bytes = law.bytes;
   count = law.count;

@@ -5,6 +5,7 @@ pub mod Directories
 pub mod Files
 pub mod Going
 pub mod Keys
+pub mod LimitBounds
 pub mod Links
 pub mod Loaded
 pub mod LoadedLines

@@ -182,7 +182,7 @@ kept_link u d tag name target uid gid may fits owner group holds kept = (
 pub kept_name : (u : Tree) (n d : ℕ) (name : List ℕ) → MayLink u n d name → IsKept u → IsKept (after_link u n d name start)
 kept_name u n d name may kept = (law_after_link u n d name start may kept.0, said_entry (touched u n start) d name n start (said_touched u n start kept.1))
 
-pub kept_volume : (u : Tree) (path : List ℕ) (max_bytes max_files tag : ℕ) (given : Given) → MayAddVolume u path max_files → tag < 2 ^ 32
+pub kept_volume : (u : Tree) (path : List ℕ) (max_bytes max_files tag : ℕ) (given : Given) → MayAddVolume u path max_bytes max_files → tag < 2 ^ 32
     → (given.uid < 2 ^ 32) × (given.gid < 2 ^ 32) → IsKept u
     → IsKept (after_add_volume u path max_bytes max_files (attributes given) tag start)
 kept_volume u path max_bytes max_files tag given may fits ids kept = (

@@ -6,7 +6,7 @@ use Rattle.std.specs.Prelude.{All, Contains, Err, Result, if◌then◌else◌, i
 use Rattle.nfs_inodes.specs.Reading.{volume_named}
 use Rattle.std.specs.List.Sorted.{IsStrictlySortedBy}
 use Rattle.std.specs.Ordering.{nat_cmp}
-use Rattle.std.proofs.lemmas.Bool.{eq-eqb}
+use Rattle.std.proofs.lemmas.Bool.{eq-eqb, le-leb, leb-true}
 use Rattle.std.proofs.lemmas.List.{length-append}
 use Rattle.nfs_text.specs.Lines.{lines}
 use Rattle.std.proofs.lemmas.List.Elements.{All-nil, All-push}
@@ -17,10 +17,13 @@ use Rattle.nfs_exports.specs.declared.options.Options.{Options}
 use Rattle.nfs_exports.specs.declared.pattern.Pattern.{Pattern}
 use Rattle.nfs_exports.specs.declared.export_table.Export.{Export}
 use Rattle.nfs_inodes.specs.Changes.{entered, touched, with_entry, with_file}
-use Rattle.nfs_inodes.specs.Law.{Law}
+use Rattle.nfs_inodes.specs.declared.limits.Limits.{Limits}
+use Rattle.nfs_inodes.specs.Law.{IsWithin, Law}
+use Rattle.nfs_inodes.proofs.law.Opened.{law_limited}
+use Rattle.nfs_inodes.specs.Limits.{default_limits, max_path_bytes}
 use Rattle.nfs_inodes.specs.Tree.{Tree, File, Volume, at, on_some}
 use Rattle.nfs_inodes.proofs.Lists.{by_test, head_or_tail, in_head, in_tail, not_in_empty, true_and_false}
-use Rattle.nfs_load.specs.Descriptions.{Asked, Begins, GoesOn, InRoot, IsFault, Then, Through, begun, finished, last_root}
+use Rattle.nfs_load.specs.Descriptions.{Asked, Begins, GoesOn, InRoot, IsFault, LimitsSet, early_limits, Then, Through, begun, finished, last_root}
 use Rattle.nfs_load.specs.Effects.{free_path, start}
 use Rattle.nfs_load.specs.Fields.{◌>>=◌, by, content_in, key_in, number_in, options_at, pattern_in, target_in}
 use Rattle.nfs_load.specs.Lines.{Line, shape}
@@ -41,6 +44,7 @@ use Rattle.nfs_read_back.specs.ReadBack.{IsExport, is_said}
 use Rattle.nfs_round_trip.specs.RoundTrip as law
 use Rattle.nfs_round_trip.specs.RoundTrip.{IsDescribable, IsVolumeSaid}
 use Rattle.nfs_round_trip.proofs.Bounds.{bind_is, by_is, content_bound, given_bound, key_bound, number_bound, options_bound, pattern_bound, target_bound}
+use Rattle.nfs_round_trip.proofs.LimitBounds.{early, limits_kept}
 use Rattle.nfs_round_trip.proofs.Loaded.{AllSaid, IsKept, fields_said, kept_dir, kept_file, kept_link, kept_name, kept_volume}
 use Rattle.nfs_round_trip.proofs.Runs.{not_both, same_ok}
 use Rattle.nfs_round_trip.proofs.Truths.{and_true, both}
@@ -68,50 +72,53 @@ dir_bound fields line rest e =
     subst (λ (l : DirLine). Ids l.given) (line_is made line given.0.1 rest (Ok (made, given.0.1)) refl given.2)
     (given_bound path.0.1 given.0.0 given.0.1 given.1)
 
-file_bound : (fields : List (List ℕ)) (line : FileLine) (rest : List (List ℕ)) → file_in fields ≡ Ok (line, rest) → Ids line.given × IsBytes line.content
-file_bound fields line rest e =
+file_bound : (most : ℕ) (fields : List (List ℕ)) (line : FileLine) (rest : List (List ℕ)) → file_in most fields ≡ Ok (line, rest) → Ids line.given × IsBytes line.content
+file_bound most fields line rest e =
     let path = bind_is (by path_in fields) (λ (path : Left (List (List ℕ))). given_in path.1 >>=
-    (λ (given : Left Given). by content_in given.1 >>= (λ (content : Left (List ℕ)).
+    (λ (given : Left Given). by (content_in most) given.1 >>= (λ (content : Left (List ℕ)).
     Ok (record { path = path.0; given = given.0; content = content.0 }, content.1)))) (line, rest) e in
-    let given = bind_is (given_in path.0.1) (λ (given : Left Given). by content_in given.1 >>= (λ (content : Left (List ℕ)).
+    let given = bind_is (given_in path.0.1) (λ (given : Left Given). by (content_in most) given.1 >>= (λ (content : Left (List ℕ)).
     Ok (record { path = path.0.0; given = given.0; content = content.0 }, content.1))) (line, rest) path.2 in
-    let content = bind_is (by content_in given.0.1) (λ (content : Left (List ℕ)). Ok
+    let content = bind_is (by (content_in most) given.0.1) (λ (content : Left (List ℕ)). Ok
     (record { path = path.0.0; given = given.0.0; content = content.0 }, content.1)) (line, rest) given.2 in
     let made : FileLine = record { path = path.0.0; given = given.0.0; content = content.0.0 } in
-    let c = by_is content_in given.0.1 content.0.0 content.0.1 content.1 in
+    let c = by_is (content_in most) given.0.1 content.0.0 content.0.1 content.1 in
     subst (λ (l : FileLine). Ids l.given × IsBytes l.content) (line_is made line content.0.1 rest (Ok (made, content.0.1)) refl content.2)
-    (given_bound path.0.1 given.0.0 given.0.1 given.1, content_bound c.0 content.0.0 c.2)
+    (given_bound path.0.1 given.0.0 given.0.1 given.1, content_bound most c.0 content.0.0 c.2)
 
-word_target : (target : List ℕ) → is_said target ≡ true → nat_le (length target) 1024 ≡ true → is_target target ≡ true
+word_target : (target : List ℕ) → is_said target ≡ true → nat_le (length target) max_path_bytes ≡ true → is_target target ≡ true
 word_target target said short = let p = both (nat_lt 0 (length target)) (list_all is_shown target) said in
-    and_true (nat_lt 0 (length target) && nat_le (length target) 1024) (list_all is_shown target)
-    (and_true (nat_lt 0 (length target)) (nat_le (length target) 1024) p.0 short) p.1
+    and_true (nat_lt 0 (length target) && nat_le (length target) max_path_bytes) (list_all is_shown target)
+    (and_true (nat_lt 0 (length target)) (nat_le (length target) max_path_bytes) p.0 short) p.1
 
-link_bound : (fields : List (List ℕ)) (line : LinkLine) (rest : List (List ℕ)) → AllSaid fields → link_in fields ≡ Ok (line, rest)
+raised : (n most cap : ℕ) → nat_le n most ≡ true → most ≤ cap → nat_le n cap ≡ true
+raised n most cap is le = le-leb n cap (let few = leb-true n most is in omega (arith, few, le))
+
+link_bound : (most : ℕ) → most ≤ max_path_bytes → (fields : List (List ℕ)) (line : LinkLine) (rest : List (List ℕ)) → AllSaid fields → link_in most fields ≡ Ok (line, rest)
     → (line.uid < 2 ^ 32) × (line.gid < 2 ^ 32) × (is_target line.target ≡ true)
-link_bound fields line rest said e =
+link_bound most cap fields line rest said e =
     let path = bind_is (by path_in fields) (λ (path : Left (List (List ℕ))). by id_in path.1 >>=
-    (λ (uid : Left ℕ). by id_in uid.1 >>= (λ (gid : Left ℕ). by target_in gid.1 >>= (λ (target : Left (List ℕ)).
+    (λ (uid : Left ℕ). by id_in uid.1 >>= (λ (gid : Left ℕ). by (target_in most) gid.1 >>= (λ (target : Left (List ℕ)).
     Ok (record { path = path.0; uid = uid.0; gid = gid.0; target = target.0 }, target.1))))) (line, rest) e in
-    let uid = bind_is (by id_in path.0.1) (λ (uid : Left ℕ). by id_in uid.1 >>= (λ (gid : Left ℕ). by target_in gid.1 >>= (λ (target : Left (List ℕ)).
+    let uid = bind_is (by id_in path.0.1) (λ (uid : Left ℕ). by id_in uid.1 >>= (λ (gid : Left ℕ). by (target_in most) gid.1 >>= (λ (target : Left (List ℕ)).
     Ok (record { path = path.0.0; uid = uid.0; gid = gid.0; target = target.0 }, target.1)))) (line, rest) path.2 in
-    let gid = bind_is (by id_in uid.0.1) (λ (gid : Left ℕ). by target_in gid.1 >>= (λ (target : Left (List ℕ)).
+    let gid = bind_is (by id_in uid.0.1) (λ (gid : Left ℕ). by (target_in most) gid.1 >>= (λ (target : Left (List ℕ)).
     Ok (record { path = path.0.0; uid = uid.0.0; gid = gid.0; target = target.0 }, target.1))) (line, rest) uid.2 in
-    let target = bind_is (by target_in gid.0.1) (λ (target : Left (List ℕ)). Ok
+    let target = bind_is (by (target_in most) gid.0.1) (λ (target : Left (List ℕ)). Ok
     (record { path = path.0.0; uid = uid.0.0; gid = gid.0.0; target = target.0 }, target.1)) (line, rest) gid.2 in
     let made : LinkLine = record { path = path.0.0; uid = uid.0.0; gid = gid.0.0; target = target.0.0 } in
     let p = by_is path_in fields path.0.0 path.0.1 path.1 in
     let u = by_is id_in path.0.1 uid.0.0 uid.0.1 uid.1 in
     let g = by_is id_in uid.0.1 gid.0.0 gid.0.1 gid.1 in
-    let x = by_is target_in gid.0.1 target.0.0 target.0.1 target.1 in
+    let x = by_is (target_in most) gid.0.1 target.0.0 target.0.1 target.1 in
     let word = (rest_said gid.0.1 target.0.1 x.0 x.1 (rest_said uid.0.1 gid.0.1 g.0 g.1
     (rest_said path.0.1 uid.0.1 u.0 u.1 (rest_said fields path.0.1 p.0 p.1 said).1).1).1).0 in
-    let held = target_bound x.0 target.0.0 x.2 in
+    let held = target_bound most x.0 target.0.0 x.2 in
     let high_u = number_bound 0 4294967295 u.0 uid.0.0 u.2 in
     let high_g = number_bound 0 4294967295 g.0 gid.0.0 g.2 in
     subst (λ (l : LinkLine). (l.uid < 2 ^ 32) × (l.gid < 2 ^ 32) × (is_target l.target ≡ true))
     (line_is made line target.0.1 rest (Ok (made, target.0.1)) refl target.2)
-    (omega (arith, high_u), omega (arith, high_g), word_target target.0.0 (subst (λ t. is_said t ≡ true) held.0 word) held.1)
+    (omega (arith, high_u), omega (arith, high_g), word_target target.0.0 (subst (λ t. is_said t ≡ true) held.0 word) (raised (length target.0.0) most max_path_bytes held.1 cap))
 
 volume_path_is : (field path : List ℕ) → volume_path_in field ≡ Ok path → (field ≡ path) × (volume_path_in path ≡ Ok path)
 volume_path_is field path e = by_test (is_volume_path field)
@@ -122,23 +129,23 @@ volume_path_is field path e = by_test (is_volume_path field)
     (λ o. absurd (not_both (volume_path_in field) path BadVolumePath e (ap (λ b. if b then Ok field else Err BadVolumePath) o)))
 
 -- what a volume's line says
-record IsLineSaid (l : VolumeLine) : Type 0 where
+record IsLineSaid (most : ℕ) (l : VolumeLine) : Type 0 where
   word : is_said l.path ≡ true
   path : volume_path_in l.path ≡ Ok l.path
   bytes : l.max_bytes ≤ 1099511627776
-  files : l.max_files ≤ 1000000
+  files : l.max_files ≤ most
   ids : Ids l.given
 
-volume_bound : (fields : List (List ℕ)) (line : VolumeLine) (rest : List (List ℕ)) → AllSaid fields → volume_in fields ≡ Ok (line, rest) → IsLineSaid line
-volume_bound fields line rest said e =
+volume_bound : (most : ℕ) (fields : List (List ℕ)) (line : VolumeLine) (rest : List (List ℕ)) → AllSaid fields → volume_in most fields ≡ Ok (line, rest) → IsLineSaid most line
+volume_bound most fields line rest said e =
     let path = bind_is (by volume_path_in fields) (λ (path : Left (List ℕ)). by (number_in 0 1099511627776) path.1 >>=
-    (λ (max_bytes : Left ℕ). by (number_in 1 1000000) max_bytes.1 >>= (λ (max_files : Left ℕ).
+    (λ (max_bytes : Left ℕ). by (number_in 1 most) max_bytes.1 >>= (λ (max_files : Left ℕ).
     given_in max_files.1 >>= (λ (given : Left Given). Ok
     (record { path = path.0; max_bytes = max_bytes.0; max_files = max_files.0; given = given.0 }, given.1))))) (line, rest) e in
-    let max_bytes = bind_is (by (number_in 0 1099511627776) path.0.1) (λ (max_bytes : Left ℕ). by (number_in 1 1000000) max_bytes.1 >>= (λ (max_files : Left ℕ).
+    let max_bytes = bind_is (by (number_in 0 1099511627776) path.0.1) (λ (max_bytes : Left ℕ). by (number_in 1 most) max_bytes.1 >>= (λ (max_files : Left ℕ).
     given_in max_files.1 >>= (λ (given : Left Given). Ok
     (record { path = path.0.0; max_bytes = max_bytes.0; max_files = max_files.0; given = given.0 }, given.1)))) (line, rest) path.2 in
-    let max_files = bind_is (by (number_in 1 1000000) max_bytes.0.1) (λ (max_files : Left ℕ).
+    let max_files = bind_is (by (number_in 1 most) max_bytes.0.1) (λ (max_files : Left ℕ).
     given_in max_files.1 >>= (λ (given : Left Given). Ok
     (record { path = path.0.0; max_bytes = max_bytes.0.0; max_files = max_files.0; given = given.0 }, given.1))) (line, rest) max_bytes.2 in
     let given = bind_is (given_in max_files.0.1) (λ (given : Left Given). Ok
@@ -146,13 +153,13 @@ volume_bound fields line rest said e =
     let made : VolumeLine = record { path = path.0.0; max_bytes = max_bytes.0.0; max_files = max_files.0.0; given = given.0.0 } in
     let p = by_is volume_path_in fields path.0.0 path.0.1 path.1 in
     let b = by_is (number_in 0 1099511627776) path.0.1 max_bytes.0.0 max_bytes.0.1 max_bytes.1 in
-    let f = by_is (number_in 1 1000000) max_bytes.0.1 max_files.0.0 max_files.0.1 max_files.1 in
+    let f = by_is (number_in 1 most) max_bytes.0.1 max_files.0.0 max_files.0.1 max_files.1 in
     let held = volume_path_is p.0 path.0.0 p.2 in
-    subst IsLineSaid (line_is made line given.0.1 rest (Ok (made, given.0.1)) refl given.2) (record {
+    subst (IsLineSaid most) (line_is made line given.0.1 rest (Ok (made, given.0.1)) refl given.2) (record {
       word = subst (λ t. is_said t ≡ true) held.0 (rest_said fields path.0.1 p.0 p.1 said).0;
       path = held.1;
       bytes = number_bound 0 1099511627776 b.0 max_bytes.0.0 b.2;
-      files = number_bound 1 1000000 f.0 max_files.0.0 f.2;
+      files = number_bound 1 most f.0 max_files.0.0 f.2;
       ids = given_bound max_files.0.1 given.0.0 given.0.1 given.1;
     })
 
@@ -251,10 +258,23 @@ then_of (Err cause) Holds it = absurd (no_fault cause it)
 
 goes_held : (old new : Loaded) (k : Keyword) (fields : List (List ℕ)) → AllSaid fields → GoesOn old k fields (Ok tt) new → IsHeld old → IsHeld new
 goes_held old new keyword.Server fields said it held = absurd (no_fault ServerTwice it)
+goes_held old new keyword.Limits fields said it held = limits_held old new (early_limits old.tree fields) refl it held
+  where
+    limits_held : (old new : Loaded) (limits : Result Limits Cause) → early_limits old.tree fields ≡ limits → LimitsSet old limits (Ok tt) new → IsHeld old → IsHeld new
+    limits_held old new (Err cause) e it held = absurd (no_fault cause it)
+    limits_held old new (Ok limits) e it held =
+        let set = early old.tree fields limits e in
+        subst IsHeld (sym it.1) (record {
+          tree = (law_limited old.tree limits (limits_kept old.tree.limits fields limits held.tree.0.limits set.1) set.0 held.tree.0, held.tree.1);
+          volumes = held.volumes;
+          lists = held.lists;
+          few = held.few;
+          exports = held.exports;
+        })
 goes_held old new keyword.Volume fields said it held =
-    let line = then_of (volume_in fields) _ it in
+    let line = then_of (volume_in old.tree.limits.files fields) _ it in
     let made = line.3.0 in
-    let words = volume_bound fields line.0 line.1 said line.2 in
+    let words = volume_bound old.tree.limits.files fields line.0 line.1 said line.2 in
     let is = made.3.new_is in
     let volume : Volume = record { path = made.0; max_bytes = line.0.max_bytes; max_files = line.0.max_files; root = old.tree.next } in
     let volumes : new.tree.volumes ≡ old.tree.volumes ++ volume ∷ [] = ap (λ (u : Tree). u.volumes) is in
@@ -265,8 +285,6 @@ goes_held old new keyword.Volume fields said it held =
       volumes = subst (All IsVolumeSaid) (sym volumes) (All-push IsVolumeSaid old.tree.volumes volume held.volumes (record {
         word = ap is_said path ∙ words.word;
         path = ap volume_path_in path ∙ words.path ∙ ap Ok (sym path);
-        bytes = words.bytes;
-        files = words.files;
       }));
       lists =
           let l = ap length line.3.1 in let m = length-append old.table ([] ∷ []) in let v = ap length volumes in
@@ -310,9 +328,9 @@ goes_held old new keyword.Dir fields said it held =
 goes_held old new keyword.File fields said it held = elim it [
   | inl on ↦
       let root = root_of (last_root old.tree) _ on in
-      let line = then_of (file_in fields) _ root.1 in
+      let line = then_of (file_in old.tree.limits.file_size fields) _ root.1 in
       let made = line.3.0 in
-      let bound = file_bound fields line.0 line.1 line.2 in
+      let bound = file_bound old.tree.limits.file_size fields line.0 line.1 line.2 in
       held_on old new held
       (subst IsKept (sym made.3.new_is)
       (kept_file old.tree made.0.dir made.3.tag made.0.name line.0.content line.0.given made.2 made.3.fits bound.0 bound.1 held.tree))
@@ -321,9 +339,9 @@ goes_held old new keyword.File fields said it held = elim it [
 ]
 goes_held old new keyword.Link fields said it held =
     let root = root_of (last_root old.tree) _ it in
-    let line = then_of (link_in fields) _ root.1 in
+    let line = then_of (link_in old.tree.limits.link_path fields) _ root.1 in
     let made = line.3.0 in
-    let bound = link_bound fields line.0 line.1 said line.2 in
+    let bound = link_bound old.tree.limits.link_path held.tree.0.limits.link_path fields line.0 line.1 said line.2 in
     held_on old new held
     (subst IsKept (sym made.3.new_is)
     (kept_link old.tree made.0.dir made.3.tag made.0.name line.0.target line.0.uid line.0.gid made.2 made.3.fits bound.0 bound.1 bound.2 held.tree))
@@ -343,7 +361,7 @@ none_sorted : IsStrictlySortedBy nat_cmp []
 unfolding IsStrictlySortedBy
 none_sorted = tt
 
-empty_law : (key : List ℕ) → length key ≡ 8 → IsBytes key → Law (record { files = []; next = 1; key = key; volumes = [] })
+empty_law : (key : List ℕ) → length key ≡ 8 → IsBytes key → Law (record { files = []; next = 1; key = key; volumes = []; limits = default_limits })
 empty_law key long bytes = record {
   numbers = record { rising = none_sorted; given = All-nil _; tags = All-nil _; some = omega arith; last = omega arith; key_len = long; key_bytes = bytes };
   rising = omega arith;
@@ -359,7 +377,8 @@ empty_law key long bytes = record {
   reached = λ n f e. absurd (none f e.0);
   named = λ n f o e. absurd (none f e);
   links = λ n f e. absurd (none f e);
-  volumes = record { few = omega arith; paths = All-nil (λ (v : Volume). length v.path ≤ 255); apart = λ j k d less within. absurd (omega (arith, within)) };
+  limits = record { file_size = omega arith; links_2 = omega arith; links = omega arith; link_path = omega arith; files = omega arith };
+  volumes = record { few = omega arith; within = All-nil (IsWithin default_limits); paths = All-nil (λ (v : Volume). length v.path ≤ 255); apart = λ j k d less within. absurd (omega (arith, within)) };
   bytes = λ index v e. absurd (none v e);
   count = λ index v e. absurd (none v e);
 }
@@ -374,8 +393,8 @@ HeldOr (Some loaded) = IsHeld loaded
 begun_held : (k : Keyword) (fields : List (List ℕ)) (loaded : Loaded) → begun k fields ≡ Ok loaded → IsHeld loaded
 begun_held keyword.Server fields loaded e =
     let key = bind_is (by key_in fields) (λ (key : Left (List ℕ)). Ok
-    (record { tree = record { files = []; next = 1; key = key.0; volumes = [] }; table = [] })) loaded e in
-    let made : Loaded = record { tree = record { files = []; next = 1; key = key.0.0; volumes = [] }; table = [] } in
+    (record { tree = record { files = []; next = 1; key = key.0; volumes = []; limits = default_limits }; table = [] })) loaded e in
+    let made : Loaded = record { tree = record { files = []; next = 1; key = key.0.0; volumes = []; limits = default_limits }; table = [] } in
     let k = by_is key_in fields key.0.0 key.0.1 key.1 in
     let bound = key_bound k.0 key.0.0 k.2 in
     subst IsHeld (same_ok {E = Cause} (Ok made) made loaded refl key.2) (record {
@@ -388,6 +407,7 @@ begun_held keyword.Server fields loaded e =
   where
     none_lives : (f : File) → None ≡ Some f → ⊥
     none_lives f e = cc
+begun_held keyword.Limits fields loaded e = cc
 begun_held keyword.Volume fields loaded e = cc
 begun_held keyword.Export fields loaded e = cc
 begun_held keyword.Dir fields loaded e = cc

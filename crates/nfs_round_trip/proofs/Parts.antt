@@ -115,6 +115,7 @@ pub record IsPart (t : Tree) (number : ℕ → ℕ) (done : List Step) (ns : Lis
   pub few : length ns ≤ length done + length vs
   pub key : u.key ≡ t.key
   pub volumes : u.volumes ≡ vs
+  pub limits : u.limits ≡ t.limits
 
 -- what there is of a directory
 pub record IsDirectoryMade (t : Tree) (number : ℕ → ℕ) (es : List Entry) (u : Tree) (d : ℕ) (f h : File) : Type 0 where

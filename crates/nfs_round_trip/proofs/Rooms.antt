@@ -5,6 +5,7 @@ use Rattle.std.specs.Prelude.{All, AllPairs, Contains, if◌then◌else◌, slic
 use Rattle.std.proofs.lemmas.List.Elements.{All-contains}
 use Rattle.std.proofs.lemmas.List.Sums.{sum_by-cons, sum_by-append}
 use Rattle.nfs_inodes.specs.Conditions.{MayEnter, MayMake, MayMakeDirectory, MayMakeLink, MayLink}
+use Rattle.nfs_inodes.specs.declared.limits.Limits.{Limits}
 use Rattle.nfs_inodes.specs.Law.{IsName, Law, Lives, LivesAsDirectory}
 use Rattle.nfs_inodes.specs.Reading.{entries_at}
 use Rattle.nfs_inodes.specs.Tree.{Tree, File, Kind, Regular, Directory, Link, Entry, Volume, at, bytes_for, bytes_in, bytes_of, entries_in, files_of}
@@ -109,7 +110,7 @@ module _ (t : Tree) (law : Law t) (number : ℕ → ℕ) (done : List Step) (ns 
           (subst (AllPairs (λ (e g : Entry). (e.name ≢ g.name) × (e.cookie < g.cookie))) entries_are (law.sound s.0.number f at_dir.0).apart)));
     }
 
-    pub links_of_directory : (g : File) → LivesAsDirectory t s.1.number g → nlink u.files (number s.0.number) dir < 1000
+    pub links_of_directory : (g : File) → LivesAsDirectory t s.1.number g → nlink u.files (number s.0.number) dir < u.limits.links
     links_of_directory g lives =
         let made = dir_made in
         let most = law.links s.0.number f at_dir.0 in
@@ -124,7 +125,8 @@ module _ (t : Tree) (law : Law t) (number : ℕ → ℕ) (done : List Step) (ns 
         let after = sum_by-cons (λ (e : Entry). one_when (names_directory t.files e)) s.1 rest in
         let one : one_when (names_directory t.files s.1) ≡ 1 = ap (λ o. one_when (on_some o false (λ (h : File). is_directory h.kind))) lives.0
         ∙ ap one_when lives.1 in
-        omega (arith, most, of_t, of_u, same, all, after, one)
+        let limit : t.limits.links ≡ u.limits.links = ap (λ (l : Limits). l.links) (sym part.limits) in
+        omega (arith, most, of_t, of_u, same, all, after, one, limit)
 
     -- ---- a new file
 
@@ -155,7 +157,10 @@ module _ (t : Tree) (law : Law t) (number : ℕ → ℕ) (done : List Step) (ns 
             let most = law.bytes f.volume v at_v in
             let same : bytes_of dir.volume u.files ≡ bytes_of f.volume u.files = ap (λ i. bytes_of i u.files) index in
             omega (arith, total, one, most, same, bytes, long);
-        large = let few = (law.sound s.1.number g lives).bytes in omega (arith, few, long);
+        large =
+            let few = (law.sound s.1.number g lives).bytes in
+            let limit : t.limits.file_size ≡ u.limits.file_size = ap (λ (l : Limits). l.file_size) (sym part.limits) in
+            omega (arith, few, long, limit);
       }
 
       pub may_mkdir : is_directory g.kind ≡ true → MayMakeDirectory u (number s.0.number) s.1.name
@@ -165,7 +170,7 @@ module _ (t : Tree) (law : Law t) (number : ℕ → ℕ) (done : List Step) (ns 
       pub may_make_link : (path : List ℕ) → g.kind ≡ Link path → MayMakeLink u (number s.0.number) s.1.name path
       may_make_link path is = record {
         make = may_make 0 (ap (λ k. length (bytes_in k)) is);
-        long = subst (λ k. length (path_in k) ≤ 1024) is (law.sound s.1.number g lives).path;
+        long = subst (λ (l : Limits). length path ≤ l.link_path) (sym part.limits) (subst (λ k. length (path_in k) ≤ t.limits.link_path) is (law.sound s.1.number g lives).path);
       }
 
     -- ---- a hard link
@@ -186,7 +191,7 @@ module _ (t : Tree) (law : Law t) (number : ℕ → ℕ) (done : List Step) (ns 
           let one : one_when (nat_eq s.1.number s.1.number) ≡ 1 = ap one_when (itself s.1.number) in
           let same = in_option s.1.number (at s.0.number t.files) in omega (arith, all, after, one, same)
 
-      pub names_few : names_of (number s.1.number) u.files < 1000
+      pub names_few : names_of (number s.1.number) u.files < u.limits.links
       names_few =
           let once = λ (a : ℕ) (has_a : Has a ns) (e : number a ≡ number s.1.number). made_once t number (shown done)
           1 ns u.files a s.1.number part.files has_a there e in
@@ -202,7 +207,8 @@ module _ (t : Tree) (law : Law t) (number : ℕ → ℕ) (done : List Step) (ns 
           let most = law.links s.1.number g lives in
           let links : nlink t.files s.1.number g ≡ names_of s.1.number t.files =
           ap (λ b. if b then 2 + subdirectories t.files (entries_in g.kind) else names_of s.1.number t.files) no_dir in
-          omega (arith, made, less, all, most, links)
+          let limit : t.limits.links ≡ u.limits.links = ap (λ (l : Limits). l.links) (sym part.limits) in
+          omega (arith, made, less, all, most, links, limit)
 
       pub may_link : MayLink u (number s.1.number) (number s.0.number) s.1.name
       unfolding may_enter

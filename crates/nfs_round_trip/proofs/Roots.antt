@@ -1,5 +1,5 @@
 -- The line of a volume makes its root, and those of its exports add them.
-use Rattle.std.proofs.Common.{inl, inr, ◌≡◌, ◌≢◌, ℕ, suc, ◌+◌, ◌-◌, ◌<◌, ◌≤◌, true, List, [], ◌∷◌, ◌++◌, length, Option, Some, None, option_map, Ok, refl}
+use Rattle.std.proofs.Common.{inl, inr, ◌≡◌, ◌≢◌, ℕ, suc, ◌+◌, ◌-◌, ◌^◌, ◌<◌, ◌≤◌, true, List, [], ◌∷◌, ◌++◌, length, Option, Some, None, option_map, Ok, refl}
 use Rattle.std.proofs.Common.{sym, ap, subst, ◌∙◌, append_assoc, append-nil, arith}
 use Rattle.std.specs.List.{flat_map}
 use Rattle.std.specs.Prelude.{All, Contains, Err, Result, bytes_eq, if◌then◌else◌, is_some, slice_get}
@@ -9,6 +9,7 @@ use Rattle.nfs_exports.specs.Tables.{added, pattern_count}
 use Rattle.nfs_exports.specs.declared.export_table.Export.{Export}
 use Rattle.nfs_inodes.specs.Changes.{Makes, after_add_volume, new_file}
 use Rattle.nfs_inodes.specs.Conditions.{MayAddVolume}
+use Rattle.nfs_inodes.specs.declared.limits.Limits.{Limits}
 use Rattle.nfs_inodes.specs.Law.{Law, LivesAsDirectory}
 use Rattle.nfs_inodes.specs.Reading.{attributes_at, attributes_of, entries_at, index_where}
 use Rattle.nfs_inodes.specs.Tree.{Tree, File, Kind, Regular, Directory, Link, Volume, is_directory, nlink, parent_in}
@@ -90,6 +91,7 @@ module _ (t : Tree) (law : Law t) (number : ℕ → ℕ) (all : List Step) (ns :
         key = part.key;
         volumes = ap (λ l. l ++ record { path = w.path; max_bytes = w.max_bytes; max_files = w.max_files; root = u.next } ∷ []) part.volumes
             ∙ ap (λ n. vs ++ record { path = w.path; max_bytes = w.max_bytes; max_files = w.max_files; root = n } ∷ []) (sym next_is);
+        limits = part.limits;
       }
 
 -- ---- the line of a volume
@@ -116,15 +118,17 @@ module _ (Last : Option Loaded → Type 0) (t : Tree) (law : Law t) (number : �
     (w : Volume) (f : File) (at_w : slice_get t.volumes f.volume ≡ Some w) (lives : LivesAsDirectory t w.root f) (parent : parent_in f.kind ≡ w.root)
     (index : length vs ≡ f.volume) (new : number w.root ≡ suc (length ns)) (fresh : Has w.root ns → ⊥)
     (words : CanBeSaid f) (said : is_said w.path ≡ true) (path : volume_path_in w.path ≡ Ok w.path) (bytes : w.max_bytes ≤ 1099511627776)
-    (some : 1 ≤ w.max_files) (files : w.max_files ≤ 1000000)
+    (some : 1 ≤ w.max_files) (files : w.max_files ≤ t.limits.files)
     (other : All (λ v. v.path ≢ w.path) vs) (few : length vs < 64) (short : length w.path ≤ 255) (room : length all + length vs ≤ 1099511627776) where
-  may_add : MayAddVolume old.tree w.path w.max_files
+  may_add : MayAddVolume old.tree w.path w.max_bytes w.max_files
   may_add = record {
     few = let l = ap length part.volumes in omega (arith, l, few);
     short = short;
     fresh = subst (All (λ (v : Volume). v.path ≢ w.path)) (sym part.volumes) other;
     number = let n = part.next in let m = part.few in omega (arith, n, m, room);
+    bytes = bytes;
     files = some;
+    many = subst (λ (l : Limits). w.max_files ≤ l.files) (sym part.limits) files;
   }
 
   free : free_path old.tree w.path ≡ Ok w.path
@@ -141,7 +145,9 @@ module _ (Last : Option Loaded → Type 0) (t : Tree) (law : Law t) (number : �
       let line : VolumeLine = record { path = w.path; max_bytes = w.max_bytes; max_files = w.max_files; given = given } in
       let Rooted : Loaded → Type 0 = λ loaded. IsPart t number all (ns ++ w.root ∷ []) (vs ++ copied_volume number w ∷ []) loaded.tree
       × (loaded.table ≡ old.table ++ [] ∷ []) in
-      let r = read_back.volumes w.path w.max_bytes w.max_files given said path bytes some files ((law.sound w.root f lives.0).mode, words.uid, words.gid) in
+      let few : w.max_files < 2 ^ 64 = let cap = law.limits.files in omega (arith, files, cap) in
+      let r = read_back.volumes old.tree.limits.files w.path w.max_bytes w.max_files given said path bytes some
+      (subst (λ (l : Limits). w.max_files ≤ l.files) (sym part.limits) files) few ((law.sound w.root f lives.0).mode, words.uid, words.gid) in
       subst (λ l. Goes Last (Some old) l All)
       (sym (ap (λ o. root_text w (option_map (λ (g : File). attributes_of w.root g (nlink t.files w.root g)) o)) lives.0))
       (goes_on Last old (volume_line w.path w.max_bytes w.max_files given) keyword.Volume r.0 Rooted All r.1 (λ loaded it. goes loaded it.0 it.1)
@@ -151,10 +157,10 @@ module _ (Last : Option Loaded → Type 0) (t : Tree) (law : Law t) (number : �
       (λ (made : Makes (λ tag. after_add_volume old.tree w.path w.max_bytes w.max_files (attributes given) tag start) loaded.tree).
       subst (IsPart t number all (ns ++ w.root ∷ []) (vs ++ copied_volume number w ∷ [])) (sym made.new_is)
       (part_with_volume t law number all ns vs old.tree part w f at_w lives parent index new fresh made.tag))
-      (does_made old.tree (free_path old.tree w.path) (λ (p : List ℕ). MayAddVolume old.tree p w.max_files)
+      (does_made old.tree (free_path old.tree w.path) (λ (p : List ℕ). MayAddVolume old.tree p w.max_bytes w.max_files)
       (λ (p : List ℕ). Makes (λ tag. after_add_volume old.tree p w.max_bytes w.max_files (attributes given) tag start))
       result loaded.tree w.path free may_add adds))
-      (then_is (volume_in r.0) line [] result (λ (it : VolumeLine). VolumeTaken old it result loaded) r.2 done)))
+      (then_is (volume_in old.tree.limits.files r.0) line [] result (λ (it : VolumeLine). VolumeTaken old it result loaded) r.2 done)))
 
 -- ---- the lines of exports
 

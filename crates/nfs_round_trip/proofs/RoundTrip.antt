@@ -9,19 +9,22 @@ use Rattle.nfs_text.specs.Lines.{lines}
 use Rattle.nfs_exports.specs.Tables.{exports_of}
 use Rattle.nfs_exports.specs.declared.export_table.Export.{Export}
 use Rattle.nfs_inodes.specs.Law.{Lives}
+use Rattle.nfs_inodes.specs.Limits.{default_limits}
+use Rattle.nfs_inodes.specs.declared.limits.Limits.{Limits}
 use Rattle.nfs_inodes.specs.Reading.{attributes_at}
 use Rattle.nfs_inodes.specs.Tree.{Tree, File, Kind, Regular, Directory, Link, Entry, Volume, at, entries_in, is_directory, on_some}
 use Rattle.nfs_inodes.proofs.Lists.{in_head, in_tail, head_or_tail, not_in_empty, same_some, get_push}
 use Rattle.nfs_inodes.proofs.Maps.{apart_number}
-use Rattle.nfs_load.specs.Descriptions.{finished}
+use Rattle.nfs_load.specs.Descriptions.{LimitsSet, finished}
 use Rattle.nfs_load.specs.Fields.{◌>>=◌}
 use Rattle.nfs_load.specs.declared.cause.Cause.{Cause}
 use Rattle.nfs_load.specs.declared.cause.Cause.TheVariants.{NoVolume}
 use Rattle.nfs_load.specs.declared.line.Keyword.TheVariants as keyword
 use Rattle.nfs_load.specs.declared.loaded.Loaded.{Loaded}
-use Rattle.nfs_describe.specs.Lines.{export_line, server_line}
+use Rattle.nfs_describe.specs.Lines.{export_line, limits_line, server_line}
 use Rattle.nfs_describe.specs.Places.{IsWalk, FilePath}
 use Rattle.nfs_describe.specs.Texts.{IsVolumeText, SaysTo, files_text, first_name, root_text}
+use Rattle.nfs_read_back.proofs.Limits as limits_back
 use Rattle.nfs_read_back.proofs.Statements as read_back
 use Rattle.nfs_round_trip.specs.Copies.{copied, copied_volume, counted_from, first_seen}
 use Rattle.nfs_round_trip.specs.RoundTrip as law
@@ -31,7 +34,7 @@ use Rattle.nfs_round_trip.proofs.Links.{links_same}
 use Rattle.nfs_round_trip.proofs.Made.{Has, made_back, made_length, made_once, with_entries}
 use Rattle.nfs_round_trip.proofs.Numbers.{inside_walk, numbered_from}
 use Rattle.nfs_round_trip.proofs.Parts.{file_made}
-use Rattle.nfs_round_trip.proofs.Runs.{Goes, Runs, describes, goes_both, goes_first}
+use Rattle.nfs_round_trip.proofs.Runs.{Goes, Runs, describes, goes_both, goes_first, goes_none, goes_on}
 use Rattle.nfs_round_trip.proofs.Volumes.{Numbered}
 use Rattle.nfs_round_trip.proofs.Walks.{Step, place_of, places_of_steps, root_place, steps}
 use Rattle.nfs_round_trip.proofs.Whole.{IsThrough, files_long, get_within, length_map, root_is_none, take_whole, volume_goes}
@@ -70,7 +73,7 @@ seen_have m (p ∷ places) before has = on_first (first_name p.number before) ha
 
 -- the server's line makes this
 abbrev empty_of : List ℕ × List (List ℕ) → Result Loaded Cause
-empty_of key = Ok (record { tree = record { files = []; next = 1; key = key.0; volumes = [] }; table = [] })
+empty_of key = Ok (record { tree = record { files = []; next = 1; key = key.0; volumes = []; limits = default_limits }; table = [] })
 
 module _ (t : Tree) (table : List (List Export)) (d : IsDescribable t table) where
   -- the numbers of all files in the order in which they come first, and all steps
@@ -161,10 +164,13 @@ module _ (t : Tree) (table : List (List Export)) (d : IsDescribable t table) whe
         let same : old.0 ≡ inside.0 = same_some (sym old.1 ∙ inside.1) in
         let less = old.2 in let volume : old.0.volume ≡ n = ap (λ (f : File). f.volume) same ∙ inside.2 in omega (arith, less, volume)))
 
-    none_through : IsThrough t number table 0 [] 1 (record { tree = record { files = []; next = 1; key = t.key; volumes = [] }; table = [] })
+    abbrev empty_tree : Limits → Loaded
+    empty_tree limits = record { tree = record { files = []; next = 1; key = t.key; volumes = []; limits = limits }; table = [] }
+
+    none_through : IsThrough t number table 0 [] 1 (empty_tree t.limits)
     none_through = record {
       ns = [];
-      part = record { files = tt; next = refl; known = tt; begun = λ m has. absurd has; few = omega arith; key = refl; volumes = refl };
+      part = record { files = tt; next = refl; known = tt; begun = λ m has. absurd has; few = omega arith; key = refl; volumes = refl; limits = refl };
       count = refl;
       table_is = refl;
       below = λ m has. absurd has;
@@ -173,20 +179,34 @@ module _ (t : Tree) (table : List (List Export)) (d : IsDescribable t table) whe
       others = λ m f lives more. refl;
     }
 
-    server_goes : (All : Option Loaded → Type 0) → ((loaded : Loaded) → IsThrough t number table 0 [] 1 loaded → All (Some loaded))
-        → Goes Last None (server_line t.key) All
-    server_goes All goes =
+    server_goes : Goes Last None (server_line t.key) (λ new. new ≡ Some (empty_tree default_limits))
+    server_goes =
         let r = read_back.servers t.key d.law.numbers.key_bytes d.law.numbers.key_len in
-        let loaded : Loaded = record { tree = record { files = []; next = 1; key = t.key; volumes = [] }; table = [] } in
-        goes_first Last (server_line t.key) keyword.Server r.0 loaded All r.1
+        goes_first Last (server_line t.key) keyword.Server r.0 (empty_tree default_limits) (λ new. new ≡ Some (empty_tree default_limits)) r.1
         (ap (λ (read : Result (List ℕ × List (List ℕ)) Cause). read >>= empty_of) r.2)
-        (goes loaded none_through)
+        refl
+
+    limits_go : (All : Option Loaded → Type 0) → ((loaded : Loaded) → IsThrough t number table 0 [] 1 loaded → All (Some loaded))
+        → Goes Last (Some (empty_tree default_limits)) (limits_line t.limits) All
+    limits_go All goes = elim (limits_back.limits t.limits d.law.limits) [
+      | inl none ↦ subst (λ l. Goes Last (Some (empty_tree default_limits)) l All) (sym none.0)
+          (goes_none Last (Some (empty_tree default_limits)) All
+          (goes (empty_tree default_limits) (subst (λ limits. IsThrough t number table 0 [] 1 (empty_tree limits)) none.1 none_through)))
+      | inr r ↦ goes_on Last (empty_tree default_limits) (limits_line t.limits) keyword.Limits r.0 (λ new. new ≡ empty_tree t.limits) All r.1
+          (λ new is. subst (λ l. All (Some l)) (sym is) (goes (empty_tree t.limits) none_through))
+          (λ result new on. inr (subst (λ limits. LimitsSet (empty_tree default_limits) limits result new) r.2 on))
+    ]
+
+    head_goes : (All : Option Loaded → Type 0) → ((loaded : Loaded) → IsThrough t number table 0 [] 1 loaded → All (Some loaded))
+        → Goes Last None (server_line t.key ++ limits_line t.limits) All
+    head_goes All goes = goes_both Last None (server_line t.key) (limits_line t.limits) (λ new. new ≡ Some (empty_tree default_limits)) All server_goes
+        (λ new is. subst (λ o. Goes Last o (limits_line t.limits) All) (sym is) (limits_go All goes))
 
     goes_to : (n : ℕ) (text : List ℕ) (says : SaysTo t table n text) (later : List ℕ) → order ≡ order_to n text says ++ later → length text ≤ 1073741824
         → (All : Option Loaded → Type 0) → ((loaded : Loaded) → IsThrough t number table n (steps_to n text says) (suc (length (order_to n text says))) loaded
         → All (Some loaded))
         → Goes Last None text All
-    goes_to zero text says later order_is short All goes = subst (λ l. Goes Last None l All) (sym says) (server_goes All goes)
+    goes_to zero text says later order_is short All goes = subst (λ l. Goes Last None l All) (sym says) (head_goes All goes)
     goes_to (suc n) text (before, part, says, is, e) later order_is short All goes =
         let here : order ≡ order_to n before says ++ (first_seen [] is.walk ++ later) = order_is
         ∙ append_assoc (order_to n before says) (first_seen [] is.walk) later in
@@ -232,6 +252,7 @@ copy_is t table d number all k loaded through =
         all = λ j h lives. let b = made_back t number (shown all) 1 through.ns loaded.tree.files j h part.files lives in (b.0, b.3.file, b.3.at_file, b.2);
         volumes = part.volumes ∙ ap (map (copied_volume number)) (take_whole t.volumes);
         key = part.key;
+        limits = part.limits;
         next = let n = part.next in let l = made_length t number (shown all) 1 through.ns loaded.tree.files part.files in omega (arith, n, l);
       },
       through.table_is ∙ ap (λ n. take n table) (sym d.lists) ∙ take_whole table,

@@ -7,7 +7,7 @@ use Rattle.std.proofs.lemmas.List.{length-append, map-append}
 use Rattle.std.proofs.lemmas.List.Elements.{All-cons, All-nil}
 use Rattle.nfs_exports.specs.Tables.{exports_of, pattern_count}
 use Rattle.nfs_exports.specs.declared.export_table.Export.{Export}
-use Rattle.nfs_inodes.specs.Law.{Lives, LivesAsDirectory}
+use Rattle.nfs_inodes.specs.Law.{IsWithin, Lives, LivesAsDirectory}
 use Rattle.nfs_inodes.specs.Reading.{attributes_at, attributes_of, entries_at}
 use Rattle.nfs_inodes.specs.Tree.{Tree, File, Kind, Regular, Directory, Link, Volume, at, names_of, nlink, on_some, one_for, one_when, parent_in}
 use Rattle.nfs_inodes.proofs.Lists.{by_number, in_head, in_tail, head_or_tail, not_in_empty, same_some}
@@ -242,8 +242,9 @@ module _ (Last : Option Loaded → Type 0) (t : Tree) (table : List (List Export
     first_goes =
         let r = root in
         let said : IsVolumeSaid w = all_get IsVolumeSaid t.volumes n w d.volumes at_w in
+        let within : IsWithin t.limits w = all_get (IsWithin t.limits) t.volumes n w d.law.volumes.within at_w in
         root_goes Last t d.law number all through.ns vs old through.part w r.0 (ap (slice_get t.volumes) r.3 ∙ at_w) r.1 r.2 (vs_long ∙ sym r.3)
-        (root_numbers.0 ∙ sym through.count) fresh (d.files w.root r.0 r.1.0) said.word said.path said.bytes some_files said.files
+        (root_numbers.0 ∙ sym through.count) fresh (d.files w.root r.0 r.1.0) said.word said.path within.bytes some_files within.files
         (others_apart number t.volumes n w at_w d.law.volumes.apart)
         (let m = vs_long in let i = inside in let f = few_volumes in omega (arith, m, i, f))
         (all_get (λ (v : Volume). length v.path ≤ 255) t.volumes n w d.law.volumes.paths at_w) room_so_far

@@ -23,6 +23,7 @@ pub record IsCopy (t : Tree) (number : ℕ → ℕ) (u : Tree) : Type 0 where
   pub all : (k : ℕ) (h : File) → Lives u k h → (n : ℕ) × (f : File) × Lives t n f × (number n ≡ k)
   pub volumes : u.volumes ≡ map (copied_volume number) t.volumes
   pub key : u.key ≡ t.key
+  pub limits : u.limits ≡ t.limits
   pub next : u.next ≡ 1 + length u.files
 
 -- the walks of all volumes
@@ -36,12 +37,10 @@ pub record IsRestored (t u : Tree) : Type 0 where
   pub are_walks : AreWalks t walks
   pub copy : IsCopy t (new_number walks) u
 
--- a volume whose line can be written: a path of one word, and limits that a description takes
+-- a volume whose line can be written: a path of one word
 pub record IsVolumeSaid (v : Volume) : Type 0 where
   pub word : is_said v.path ≡ true
   pub path : volume_path_in v.path ≡ Ok v.path
-  pub bytes : v.max_bytes ≤ 1099511627776
-  pub files : v.max_files ≤ 1000000
 
 -- A lawful tree and its exports, all within what lines can say: what was loaded, and what clients made of it.
 pub record IsDescribable (t : Tree) (table : List (List Export)) : Type 0 where

@@ -1,7 +1,6 @@
 -- Where no rule is failed, a file takes a hard link.
 use Rattle.std.proofs.Common.{◌≡◌, ℕ, ◌-◌, ◌<◌, false, List, Some, None, refl, sym, ap, subst, ◌∙◌}
 use Rattle.std.proofs.lemmas.Bool.{leb-false}
-use Rattle.nfs_inodes.specs.Limits.{max_links}
 use Rattle.nfs_inodes.specs.Tree.{Tree, File, is_directory, names_of}
 use Rattle.nfs_inodes.specs.Law.{Law, Lives}
 use Rattle.nfs_inodes.specs.Conditions.{MayLink}
@@ -37,7 +36,7 @@ module _ (t : Tree) (law : Law t) (one two : Subject) (seen_one : attributes_at 
         at_file = lives.1;
         not_directory = other;
         volume = same_place lives.0 enter.dir lives.1 enter.at_dir.0;
-        links = subst (λ n. n < max_links) names (leb-false max_links one.file.nlink (passed 8 (links one.file) refl));
+        links = subst (λ n. n < t.limits.links) names (leb-false t.limits.links one.file.nlink (passed 8 (links t.limits one.file) refl));
       }
 
 -- LINK

@@ -5,7 +5,6 @@ use Rattle.std.proofs.lemmas.Bool.{not-false, leb-false, ltb-false}
 use Rattle.nfs_args.specs.declared.create.Create.{Create}
 use Rattle.nfs_args.specs.declared.create.CreateHow.{CreateHow}
 use Rattle.nfs_attrs.specs.declared.fattr.Fattr.{Fattr}
-use Rattle.nfs_inodes.specs.Limits.{max_file_bytes, max_path_bytes, max_links}
 use Rattle.nfs_inodes.specs.Tree.{File, on_some, entries_in, bytes_of}
 use Rattle.nfs_inodes.specs.Law.{Law, LivesAsDirectory}
 use Rattle.nfs_inodes.specs.Conditions.{MayEnter, MayMake, MayMakeDirectory, MayMakeLink}
@@ -49,7 +48,7 @@ module _ (s : Subject) (law : Law s.tree) (seen : attributes_at s.tree s.file.fi
         }
 
     -- a new file of a size, or with none, which is 0
-    pub may_make_sized : MayEnter s.tree s.file.fileid name → (size : Option ℕ) → (files s).1 ≡ false → (too_big size).1 ≡ false → (space s size).1 ≡ false → (numbers s).1 ≡ false → MayMake s.tree s.file.fileid name (on_some size 0 (λ n. n))
+    pub may_make_sized : MayEnter s.tree s.file.fileid name → (size : Option ℕ) → (files s).1 ≡ false → (too_big s.tree.limits size).1 ≡ false → (space s size).1 ≡ false → (numbers s).1 ≡ false → MayMake s.tree s.file.fileid name (on_some size 0 (λ n. n))
     may_make_sized enter size few large room left =
         let placed = law.placed s.file.fileid enter.dir enter.at_dir.0 in
         record {
@@ -66,9 +65,9 @@ module _ (s : Subject) (law : Law s.tree) (seen : attributes_at s.tree s.file.fi
         fits None room = let all = law.bytes enter.dir.volume (law.placed s.file.fileid enter.dir enter.at_dir.0).0 (law.placed s.file.fileid enter.dir enter.at_dir.0).1 in omega (arith, all)
         fits (Some n) room = has_space s seen enter.dir enter.at_dir.0 (law.placed s.file.fileid enter.dir enter.at_dir.0).0 (law.placed s.file.fileid enter.dir enter.at_dir.0).1 n room
 
-        small : (size : Option ℕ) → (too_big size).1 ≡ false → on_some size 0 (λ n. n) ≤ max_file_bytes
-        small None large = omega arith
-        small (Some n) large = ltb-false max_file_bytes n large
+        small : (size : Option ℕ) → (too_big s.tree.limits size).1 ≡ false → on_some size 0 (λ n. n) ≤ s.tree.limits.file_size
+        small None large = let none : 0 ≤ s.tree.limits.file_size = omega arith in none
+        small (Some n) large = ltb-false s.tree.limits.file_size n large
 
     -- a new directory
     pub may_make_directory : first (mkdir_rules s name) ≡ None → MayMakeDirectory s.tree s.file.fileid name
@@ -78,7 +77,7 @@ module _ (s : Subject) (law : Law s.tree) (seen : attributes_at s.tree s.file.fi
         let make = may_make_sized enter None (passed 7 (files s) refl) refl refl (passed 9 (numbers s) refl) in
         record {
           make = make;
-          links = subst (λ n. n < max_links) (seen_links s.tree s.file seen make.enter.dir make.enter.at_dir.0) (leb-false max_links s.file.nlink (passed 8 (links s.file) refl));
+          links = subst (λ n. n < s.tree.limits.links) (seen_links s.tree s.file seen make.enter.dir make.enter.at_dir.0) (leb-false s.tree.limits.links s.file.nlink (passed 8 (links s.tree.limits s.file) refl));
         }
 
     -- a link
@@ -88,7 +87,7 @@ module _ (s : Subject) (law : Law s.tree) (seen : attributes_at s.tree s.file.fi
         let enter = may_enter (passed 1 (not_directory s) refl) (passed 2 (name_long name) refl) (passed 3 (name_form name) refl) (none_from_is_some (found s name) (passed 6 (exists s name) refl)) (has_number s (passed 9 (numbers s) refl)).1 in
         record {
           make = may_make_sized enter None (passed 8 (files s) refl) refl refl (passed 9 (numbers s) refl);
-          long = ltb-false max_path_bytes (length path) (passed 5 (path_long path) refl);
+          long = ltb-false s.tree.limits.link_path (length path) (passed 5 (path_long s.tree.limits.link_path path) refl);
         }
 
   -- a regular file that is not there
@@ -98,4 +97,4 @@ module _ (s : Subject) (law : Law s.tree) (seen : attributes_at s.tree s.file.fi
       let size = size_in a.how in
       let passed = passed_at (create_rules_with s name a.how None) (subst (λ o. first (create_rules_with s name a.how o) ≡ None) absent none) in
       let enter = may_enter name (passed 1 (not_directory s) refl) (passed 2 (name_long name) refl) (passed 3 (name_form name) refl) absent (has_number s (passed 10 (numbers s) refl)).1 in
-      may_make_sized name enter size (passed 7 (files s) refl) (passed 8 (too_big size) refl) (passed 9 (space s size) refl) (passed 10 (numbers s) refl)
+      may_make_sized name enter size (passed 7 (files s) refl) (passed 8 (too_big s.tree.limits size) refl) (passed 9 (space s size) refl) (passed 10 (numbers s) refl)

@@ -4,7 +4,6 @@ use Rattle.std.specs.Prelude.{nat_eq, not, ◌&&◌, ◌||◌, if◌then◌else�
 use Rattle.std.proofs.lemmas.Bool.{not-false, leb-false}
 use Rattle.nfs_args.specs.declared.rename.Rename.{Rename}
 use Rattle.nfs_attrs.specs.declared.fattr.Fattr.{Fattr}
-use Rattle.nfs_inodes.specs.Limits.{max_links}
 use Rattle.nfs_inodes.specs.Tree.{Tree, File, Entry, on_some, entries_in, next_cookie_in, is_directory, nlink}
 use Rattle.nfs_inodes.specs.Law.{Law, IsName, Lives, LivesAsDirectory}
 use Rattle.nfs_handles.specs.declared.number.Number.{Number}
@@ -77,7 +76,7 @@ record MayMove (t : Tree) (from to : ℕ) (new_name : List ℕ) (file target : F
   cookie : NamesOther t to new_name n → next_cookie_in target.kind < 2 ^ 64 - 1
   replaced : (old : Entry) → entry_named new_name (entries_in target.kind) ≡ Some old → old.number ≢ n → MayReplace t old.number file
   off : NamesOther t to new_name n → is_directory file.kind ≡ true → IsOff t to n
-  links : entry_named new_name (entries_in target.kind) ≡ None → is_directory file.kind ≡ true → (to ≡ from) ⊎ (nlink t.files to target < max_links)
+  links : entry_named new_name (entries_in target.kind) ≡ None → is_directory file.kind ≡ true → (to ≡ from) ⊎ (nlink t.files to target < t.limits.links)
 
 module _ (t : Tree) (law : Law t) (one two : Subject) (seen_one : attributes_at t one.file.fileid ≡ Some one.file) (seen_two : attributes_at t two.file.fileid ≡ Some two.file) (a : Rename) where
   abbrev from : Subject
@@ -103,8 +102,8 @@ module _ (t : Tree) (law : Law t) (one two : Subject) (seen_one : attributes_at 
           off = λ other y. stays_off (passed 15 (into_itself to moved) refl) y;
           links = λ none y. by_number two.file.fileid one.file.fileid
               (λ s. inl s)
-              (λ o. inr (subst (λ n. n < max_links) (seen_links t two.file seen_two target at_target.0)
-              (leb-false max_links two.file.nlink (second_not _ _ (passed 16 (only_where (is_directory_type moved.file_type && not (nat_eq one.file.fileid two.file.fileid)) (links two.file)) refl)
+              (λ o. inr (subst (λ n. n < t.limits.links) (seen_links t two.file seen_two target at_target.0)
+              (leb-false t.limits.links two.file.nlink (second_not _ _ (passed 16 (only_where (is_directory_type moved.file_type && not (nat_eq one.file.fileid two.file.fileid)) (links t.limits two.file)) refl)
               (both_so _ _ (kind ∙ y) (ap not (apart_number one.file.fileid two.file.fileid (λ s. o (sym s)))))))));
         }
 

@@ -8,7 +8,6 @@ use Rattle.nfs_args.specs.declared.setattr.Setattr.{Setattr}
 use Rattle.nfs_args.specs.declared.write.Write.{Write}
 use Rattle.nfs_attrs.specs.declared.fattr.Fattr.{Fattr}
 use Rattle.nfs_attrs.specs.declared.sattr.Sattr.{Sattr}
-use Rattle.nfs_inodes.specs.Limits.{max_file_bytes}
 use Rattle.nfs_inodes.specs.Tree.{File, Volume, is_regular, bytes_in, bytes_of}
 use Rattle.nfs_inodes.specs.Law.{Law, Lives}
 use Rattle.nfs_inodes.specs.Conditions.{MayWrite, MayResize}
@@ -39,7 +38,7 @@ module _ (s : Subject) (law : Law s.tree) (seen : attributes_at s.tree s.file.fi
       let size = seen_size s.tree s.file seen h at_h regular in
       omega (arith, all, size)
 
-  pub may_resize_to : (n : ℕ) → is_regular_type s.file.file_type ≡ true → (too_big (Some n)).1 ≡ false → (space s (growth s (Some n))).1 ≡ false → MayResize s.tree s.file.fileid n
+  pub may_resize_to : (n : ℕ) → is_regular_type s.file.file_type ≡ true → (too_big s.tree.limits (Some n)).1 ≡ false → (space s (growth s (Some n))).1 ≡ false → MayResize s.tree s.file.fileid n
   may_resize_to n regular large room =
       let lives = lives_as_regular regular in
       let placed = law.placed s.file.fileid lives.0 lives.1 in
@@ -47,7 +46,7 @@ module _ (s : Subject) (law : Law s.tree) (seen : attributes_at s.tree s.file.fi
         file = lives.0;
         at_file = lives.1;
         regular = lives.2;
-        large = ltb-false max_file_bytes n large;
+        large = ltb-false s.tree.limits.file_size n large;
         volume = placed.0;
         at_volume = placed.1;
         room = has_growth lives.0 lives.1 placed.0 placed.1 lives.2 n room;
@@ -64,7 +63,7 @@ module _ (s : Subject) (law : Law s.tree) (seen : attributes_at s.tree s.file.fi
         file = lives.0;
         at_file = lives.1;
         regular = lives.2;
-        large = λ some. ltb-false max_file_bytes (a.offset + count) (subst (λ o. (too_big o).1 ≡ false) (ends some) (passed 3 (too_big (end_of a.offset count)) refl));
+        large = λ some. ltb-false s.tree.limits.file_size (a.offset + count) (subst (λ o. (too_big s.tree.limits o).1 ≡ false) (ends some) (passed 3 (too_big s.tree.limits (end_of a.offset count)) refl));
         volume = placed.0;
         at_volume = placed.1;
         room = λ some. has_growth lives.0 lives.1 placed.0 placed.1 lives.2 (a.offset + count) (subst (λ o. (space s (growth s o)).1 ≡ false) (ends some) (passed 4 (space s (growth s (end_of a.offset count))) refl));
@@ -76,7 +75,7 @@ module _ (s : Subject) (law : Law s.tree) (seen : attributes_at s.tree s.file.fi
       let passed = passed_at (setattr_rules s a) none in
       may_resize_to n
       (regular_with a.attributes.size n (is_regular_type s.file.file_type) is (passed 5 (size_type s a.attributes) refl))
-      (subst (λ o. (too_big o).1 ≡ false) is (passed 9 (too_big a.attributes.size) refl))
+      (subst (λ o. (too_big s.tree.limits o).1 ≡ false) is (passed 9 (too_big s.tree.limits a.attributes.size) refl))
       (subst (λ o. (space s (growth s o)).1 ≡ false) is (passed 10 (space s (growth s a.attributes.size)) refl))
 
 -- CREATE of a file that is there
@@ -90,5 +89,5 @@ module _ (s : Subject) (law : Law s.tree) where
       let passed = passed_at (create_rules_with s a.place.name (Unchecked attributes) (Some f)) none in
       may_resize_to there law (found_seen s a.place.name f is_found).1 n
       (not-false _ (passed 5 _ refl))
-      (subst (λ o. (too_big o).1 ≡ false) is (passed 7 (too_big attributes.size) refl))
+      (subst (λ o. (too_big s.tree.limits o).1 ≡ false) is (passed 7 (too_big s.tree.limits attributes.size) refl))
       (subst (λ o. (space there (growth there o)).1 ≡ false) is (passed 8 (space there (growth there attributes.size)) refl))

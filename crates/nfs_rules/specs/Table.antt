@@ -31,10 +31,10 @@ abbrev pub setattr_rules : Subject → Setattr → List Test
 setattr_rules s a =
     read_only s ∷ guard s a.guard ∷ owner_mode s a.attributes ∷ owner_uid s a.attributes ∷ owner_gid s a.attributes
     ∷ size_type s a.attributes ∷ only_where (is_some a.attributes.size) (write_right s) ∷ owner_time s a.attributes ∷ time_right s a.attributes
-    ∷ too_big a.attributes.size ∷ space s (growth s a.attributes.size) ∷ []
+    ∷ too_big s.tree.limits a.attributes.size ∷ space s (growth s a.attributes.size) ∷ []
 
 abbrev pub write_rules : Subject → Write → List Test
-write_rules s a = read_only s ∷ not_regular s ∷ write_right s ∷ too_big (end_of a.offset (length a.content))
+write_rules s a = read_only s ∷ not_regular s ∷ write_right s ∷ too_big s.tree.limits (end_of a.offset (length a.content))
     ∷ space s (growth s (end_of a.offset (length a.content))) ∷ []
 
 -- ---- reading
@@ -60,11 +60,11 @@ size_in (Exclusive verifier) = None
 
 -- CREATE of a name that is not there
 abbrev pub new_file_rules : Subject → Option ℕ → List Test
-new_file_rules s size = directory_write s ∷ files s ∷ too_big size ∷ space s size ∷ numbers s ∷ []
+new_file_rules s size = directory_write s ∷ files s ∷ too_big s.tree.limits size ∷ space s size ∷ numbers s ∷ []
 
 -- CREATE of a file that is there, which may get a size
 abbrev pub present_file_rules : Subject → CreateHow → List Test
-present_file_rules s (Unchecked attributes) = only_where (is_some attributes.size) (write_right s) ∷ too_big attributes.size
+present_file_rules s (Unchecked attributes) = only_where (is_some attributes.size) (write_right s) ∷ too_big s.tree.limits attributes.size
     ∷ space s (growth s attributes.size) ∷ []
 present_file_rules s other = []
 
@@ -74,10 +74,10 @@ create_rules s a = read_only s ∷ not_directory s ∷ name_long a.place.name �
 
 abbrev pub mkdir_rules : Subject → List ℕ → List Test
 mkdir_rules s name = read_only s ∷ not_directory s ∷ name_long name ∷ name_form name ∷ search_right s ∷ exists s name ∷ directory_write s
-    ∷ files s ∷ links s.file ∷ numbers s ∷ []
+    ∷ files s ∷ links s.tree.limits s.file ∷ numbers s ∷ []
 
 abbrev pub symlink_rules : Subject → List ℕ → List ℕ → List Test
-symlink_rules s name path = read_only s ∷ not_directory s ∷ name_long name ∷ name_form name ∷ search_right s ∷ path_long path
+symlink_rules s name path = read_only s ∷ not_directory s ∷ name_long name ∷ name_form name ∷ search_right s ∷ path_long s.tree.limits.link_path path
     ∷ exists s name ∷ directory_write s ∷ files s ∷ numbers s ∷ []
 
 -- ---- entries
@@ -94,7 +94,7 @@ rmdir_rules s name = read_only s ∷ not_directory s ∷ dot_alone name ∷ dot_
 -- the file and the directory that takes the hard link
 abbrev pub link_rules : Subject → Subject → List ℕ → List Test
 link_rules file dir name = read_only file ∷ link_directory file ∷ not_directory dir ∷ name_long name ∷ name_form name ∷ search_right dir ∷ exists dir name
-    ∷ directory_write dir ∷ links file.file ∷ cookies dir ∷ []
+    ∷ directory_write dir ∷ links file.tree.limits file.file ∷ cookies dir ∷ []
 
 -- whether file n is directory d or one above it, within so many steps to the parent
 abbrev pub is_above_within : ℕ → Tree → ℕ → ℕ → Bool
@@ -122,7 +122,7 @@ sticky_move from to moved old = (rule.Sticky, not (lets_go from.ids from.file mo
 -- where something comes under a name: what it takes the place of, if anything
 abbrev pub entering_rules : Subject → Subject → Fattr → Option Fattr → List Test
 entering_rules from to moved None = into_itself to moved
-    ∷ only_where (is_directory_type moved.file_type && not (nat_eq from.file.fileid to.file.fileid)) (links to.file) ∷ cookies to ∷ []
+    ∷ only_where (is_directory_type moved.file_type && not (nat_eq from.file.fileid to.file.fileid)) (links to.tree.limits to.file) ∷ cookies to ∷ []
 entering_rules from to moved (Some old) = incompatible to moved old ∷ into_itself to moved ∷ cookies to ∷ []
 
 -- whether what the new name names, if anything, is what is moved

@@ -14,7 +14,8 @@ use Rattle.nfs_attrs.specs.declared.time_setting.TimeSetting.{TimeSetting}
 use Rattle.nfs_attrs.specs.declared.time_setting.TimeSetting.TheVariants.{ClientTime, ServerTime}
 use Rattle.nfs_dirs.specs.Pages.{page_head_bytes, entry_bytes}
 use Rattle.nfs_exports.specs.Ids.{Ids}
-use Rattle.nfs_inodes.specs.Limits.{max_file_bytes, max_name_bytes, max_path_bytes, max_links}
+use Rattle.nfs_inodes.specs.declared.limits.Limits.{Limits}
+use Rattle.nfs_inodes.specs.Limits.{max_name_bytes}
 use Rattle.nfs_inodes.specs.Reading.{attributes_at, dot, dot_dot, entry_after, is_directory_type, is_regular_type, next_cookie_at}
 use Rattle.nfs_inodes.specs.Reading.{number_under, totals_at, verifier_at}
 use Rattle.nfs_inodes.specs.Tree.{Tree, Volume, on_some}
@@ -125,8 +126,8 @@ time_right s a = (rule.TimeRight, (is_server_time a.atime || is_server_time a.mt
 -- ---- limits
 
 -- where a file ends then, if it is to have a new end
-abbrev pub too_big : Option ℕ → Test
-too_big size = (rule.TooBig, on_some size false (nat_lt max_file_bytes))
+abbrev pub too_big : Limits → Option ℕ → Test
+too_big limits size = (rule.TooBig, on_some size false (nat_lt limits.file_size))
 
 -- the end of some bytes at an offset; no bytes have none
 abbrev pub end_of : ℕ → ℕ → Option ℕ
@@ -146,8 +147,8 @@ space s more = (rule.Space, on_some more false (λ n. in_volume s (λ volume tot
 abbrev pub files : Subject → Test
 files s = (rule.Files, in_volume s (λ volume totals. nat_le volume.max_files totals.files))
 
-abbrev pub links : Fattr → Test
-links f = (rule.Links, nat_le max_links f.nlink)
+abbrev pub links : Limits → Fattr → Test
+links limits f = (rule.Links, nat_le limits.links f.nlink)
 
 -- the last number and the last cookie are never given
 abbrev pub last_number : ℕ
@@ -183,8 +184,12 @@ dot_alone name = (rule.DotName, bytes_eq name dot)
 abbrev pub dot_dot_alone : List ℕ → Test
 dot_dot_alone name = (rule.DotDot, bytes_eq name dot_dot)
 
-abbrev pub path_long : List ℕ → Test
-path_long path = (rule.PathLong, nat_lt max_path_bytes (length path))
+-- MNTPATHLEN (RFC 1813, section 5.1.4)
+abbrev pub max_mount_path_bytes : ℕ
+max_mount_path_bytes = 1024
+
+abbrev pub path_long : ℕ → List ℕ → Test
+path_long most path = (rule.PathLong, nat_lt most (length path))
 
 -- ---- entries, of which `.` and `..` are two
 

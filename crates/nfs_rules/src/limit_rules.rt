@@ -9,16 +9,14 @@ ghost use Rattle.nfs_rules.specs.Tests as test;
 use crate::exported_file::volume_index;
 use crate::rule::{Rule, ensure};
 use crate::subject::Subject;
-use nfs_attrs::fattr::Fattr;
-use nfs_inodes::limits::{MAX_FILE_BYTES, MAX_LINKS};
 
 impl<'a> Subject<'a> {
     /// `TooBig` and `Space` where a file of this size takes the place of the one that is there; without
     /// a size nothing is looked at.
     pub(crate) fn must_have_room_for_size(&self, size: Option<u64>) -> Result<(), Rule>
-        ensures { Judges result (test.too_big size ∷ test.space self.now (test.growth self.now size) ∷ []) }
+        ensures { Judges result (test.too_big self.now.tree.limits size ∷ test.space self.now (test.growth self.now size) ∷ []) }
     {
-        must_not_be_too_big(size)?;
+        self.must_not_be_too_big(size)?;
         match size {
             None => Ok(()),
             Some(size) => self.must_have_space(Some(size.saturating_sub(self.attributes().size))),
@@ -27,13 +25,14 @@ impl<'a> Subject<'a> {
 
     /// `TooBig` and `Space` where so many bytes are put at an offset; no bytes are never too many.
     pub(crate) fn must_have_room_for_bytes(&self, offset: u64, count: usize) -> Result<(), Rule>
-        ensures { Judges result (test.too_big (test.end_of offset count) ∷ test.space self.now
+        ensures { Judges result (test.too_big self.now.tree.limits (test.end_of offset count) ∷ test.space self.now
             (test.growth self.now (test.end_of offset count)) ∷ []) }
     {
         if count == 0 {
             return Ok(());
         }
-        if offset > MAX_FILE_BYTES as u64 || count > MAX_FILE_BYTES - offset as usize {
+        let most = self.tree.limits().file_size;
+        if offset > most as u64 || count > most - offset as usize {
             return Err(Rule::TooBig);
         }
         let end = offset + count as u64;
@@ -103,21 +102,30 @@ impl<'a> Subject<'a> {
             None => true,
         }
     }
-}
 
-/// `TooBig`: a file has at most 16,777,216 bytes; without a size nothing is looked at.
-pub(crate) fn must_not_be_too_big(size: Option<u64>) -> Result<(), Rule>
-    ensures { Reports result (test.too_big size) }
-{
-    match size {
-        None => Ok(()),
-        Some(size) => ensure(size <= MAX_FILE_BYTES as u64, Rule::TooBig),
+    /// `TooBig`: a file has at most the bytes that the tree takes of one; without a size nothing is
+    /// looked at.
+    pub(crate) fn must_not_be_too_big(&self, size: Option<u64>) -> Result<(), Rule>
+        ensures { Reports result (test.too_big self.now.tree.limits size) }
+    {
+        match size {
+            None => Ok(()),
+            Some(size) => ensure(size <= self.tree.limits().file_size as u64, Rule::TooBig),
+        }
     }
-}
 
-/// `Links`: a file has at most 1,000 links.
-pub fn must_have_link_left(file: &Fattr) -> Result<(), Rule>
-    ensures { Reports result (test.links file.now) }
-{
-    ensure(file.nlink < MAX_LINKS, Rule::Links)
+    /// `Links`: this file has fewer links than the tree takes of one.
+    pub fn must_have_link_left(&self) -> Result<(), Rule>
+        ensures { Reports result (test.links self.now.tree.limits self.now.file) }
+    {
+        let kept = self.attributes().nlink < self.tree.limits().links;
+        ensure(kept, Rule::Links)
+    }
+
+    /// `PathLong`: a symbolic link's path has at most the bytes that the tree takes of one.
+    pub fn link_path_must_be_short(&self, path: &[u8]) -> Result<(), Rule>
+        ensures { Reports result (test.path_long self.now.tree.limits.link_path path.now) }
+    {
+        ensure(path.len() <= self.tree.limits().link_path, Rule::PathLong)
+    }
 }

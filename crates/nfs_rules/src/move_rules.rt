@@ -6,7 +6,6 @@ ghost use Rattle.nfs_rules.specs.Judging.{Judges, Reports};
 ghost use Rattle.nfs_rules.specs.Table as table;
 ghost use Rattle.nfs_rules.specs.Tests as test;
 
-use crate::limit_rules::must_have_link_left;
 use crate::rule::{Rule, ensure};
 use crate::subject::Subject;
 use nfs_attrs::file_type::FileType;
@@ -116,12 +115,12 @@ impl<'a> Subject<'a> {
     // `Links`, where a directory comes into another directory than this one, which gains a link.
     fn must_have_link_left_for(&self, to: &Subject<'_>, moved: &FileView<'_>) -> Result<(), Rule>
         ensures { Reports result (test.only_where (is_directory_type moved.now.attributes.file_type && not
-            (nat_eq self.now.file.fileid to.now.file.fileid)) (test.links to.now.file)) }
+            (nat_eq self.now.file.fileid to.now.file.fileid)) (test.links to.now.tree.limits to.now.file)) }
     {
         if !is_directory(moved) || self.attributes().fileid == to.attributes().fileid {
             return Ok(());
         }
-        must_have_link_left(&to.attributes())
+        to.must_have_link_left()
     }
 }
 

@@ -6,7 +6,10 @@ ghost use Rattle.nfs_rules.specs.Judging.{Reports};
 ghost use Rattle.nfs_rules.specs.Tests as test;
 
 use crate::rule::{Rule, ensure};
-use nfs_inodes::limits::{MAX_NAME_BYTES, MAX_PATH_BYTES};
+use nfs_inodes::limits::MAX_NAME_BYTES;
+
+/// The most bytes of a path that MNT takes: MNTPATHLEN (RFC 1813, section 5.1.4).
+const MAX_MOUNT_PATH_BYTES: usize = 1_024;
 
 /// `NameLong`: a name has at most 255 bytes.
 pub(crate) fn name_must_be_short(name: &[u8]) -> Result<(), Rule>
@@ -43,11 +46,11 @@ pub(crate) fn name_must_not_be_dot_dot(name: &[u8]) -> Result<(), Rule>
     ensure(!is_dot_dot(name), Rule::DotDot)
 }
 
-/// `PathLong`: a path has at most 1,024 bytes.
-pub fn path_must_be_short(path: &[u8]) -> Result<(), Rule>
-    ensures { Reports result (test.path_long path.now) }
+/// `PathLong` in MNT: a path has at most 1,024 bytes, MNTPATHLEN.
+pub fn mount_path_must_be_short(path: &[u8]) -> Result<(), Rule>
+    ensures { Reports result (test.path_long test.max_mount_path_bytes path.now) }
 {
-    ensure(path.len() <= MAX_PATH_BYTES, Rule::PathLong)
+    ensure(path.len() <= MAX_MOUNT_PATH_BYTES, Rule::PathLong)
 }
 
 fn is_dot(name: &[u8]) -> bool

@@ -61,7 +61,7 @@ pub enum Rule {
     DotName,
     /// The name of the directory to be removed is `..`.
     DotDot,
-    /// The path has more than 1,024 bytes.
+    /// The path has more bytes than one may have.
     PathLong,
     /// There is no volume of the path.
     MountPath,

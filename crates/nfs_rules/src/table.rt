@@ -12,11 +12,10 @@ ghost use Rattle.nfs_rules.specs.Table as table;
 ghost use Rattle.nfs_rules.specs.Tests.{found};
 
 use crate::entry_rules::{must_be_directory, must_not_be_directory};
-use crate::limit_rules::{must_have_link_left, must_not_be_too_big};
 use crate::move_rules::move_rules;
 use crate::name_rules::{
     name_must_be_formed, name_must_be_short, name_must_not_be_dot, name_must_not_be_dot_dot,
-    name_must_not_be_dots, path_must_be_short,
+    name_must_not_be_dots,
 };
 use crate::rights::Right;
 use crate::rule::Rule;
@@ -103,7 +102,7 @@ fn new_file_rules(dir: &Subject<'_>, size: Option<u64>) -> Result<(), Rule>
 {
     dir.must_be_changeable()?;
     dir.must_have_file_left()?;
-    must_not_be_too_big(size)?;
+    dir.must_not_be_too_big(size)?;
     dir.must_have_space(size)?;
     dir.must_have_number_left()
 }
@@ -142,7 +141,7 @@ pub fn mkdir_rules(dir: &Subject<'_>, name: &[u8]) -> Result<(), Rule>
     dir.must_be_free(name)?;
     dir.must_be_changeable()?;
     dir.must_have_file_left()?;
-    must_have_link_left(&dir.attributes())?;
+    dir.must_have_link_left()?;
     dir.must_have_number_left()
 }
 
@@ -155,7 +154,7 @@ pub fn symlink_rules(dir: &Subject<'_>, name: &[u8], path: &[u8]) -> Result<(), 
     name_must_be_short(name)?;
     name_must_be_formed(name)?;
     dir.must_be_searchable()?;
-    path_must_be_short(path)?;
+    dir.link_path_must_be_short(path)?;
     dir.must_be_free(name)?;
     dir.must_be_changeable()?;
     dir.must_have_file_left()?;
@@ -261,7 +260,7 @@ pub fn link_rules(file: &Subject<'_>, dir: &Subject<'_>, name: &[u8]) -> Result<
     dir.must_be_searchable()?;
     dir.must_be_free(name)?;
     dir.must_be_changeable()?;
-    must_have_link_left(&file.attributes())?;
+    file.must_have_link_left()?;
     dir.must_have_cookie_left()
 }
 

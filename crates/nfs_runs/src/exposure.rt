@@ -15,7 +15,7 @@ pub(crate) fn warn_of_open_volumes<R: Eprint>(rt: &R, address: IpAddr, loaded: &
     for index in 0..loaded.tree.volumes() {
         if is_open(loaded.table.patterns(index)) {
             let number = index.saturating_add(1);
-            warn!(&logged; "volume {number} is exported to * with no_root_squash, and other machines can reach {address}: anybody there is root in it");
+            warn!(&logged; "volume {number} is exported to * with no_root_squash, and other machines can reach {address}: anyone there is root in it");
         }
     }
 }

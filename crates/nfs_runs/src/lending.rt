@@ -2,9 +2,11 @@
 
 use crate::exposure::warn_of_open_volumes;
 use crate::life::begin;
+use nfs_command_line::invocation::Serve;
 use nfs_server::server::Server;
-use nfs_source::description::{load_life, load_tree};
+use nfs_source::description::load_tree;
 use nfs_source::diagnostic::Diagnostic;
+use nfs_trees::named::begin_life;
 use std::alloc::Global;
 use std::mem::forget;
 use std::net::IpAddr;
@@ -18,34 +20,32 @@ pub trait ServerUse {
     fn run(&self, server: &mut Server) -> Result<ExitCode, Diagnostic>;
 }
 
-/// Has the server of the description of this name used, whose life begins. It is warned of volumes that
-/// are open to whoever reaches this address. The server is not given back file by file, since the process
-/// ends. The faults of `load_life`, of `begin` and of the use.
-pub fn lend_life<R: Files + Input + Eprint + Clock, U: ServerUse>(
+/// Has the server of what the words name used, whose life begins. It is warned of volumes that are open to
+/// whoever reaches this address. The server is not given back file by file, since the process ends. The
+/// faults of `begin_life`, of `begin` and of the use.
+pub fn lend_life<R: Files + Input + Eprint + Clock + AllocGlobal, U: ServerUse>(
     rt: &R,
     alloc: Global,
-    name: &str,
-    cache: usize,
+    words: &Serve<'_>,
     ip: IpAddr,
     using: &U,
 ) -> Result<ExitCode, Diagnostic> {
-    let mut server = server_for(rt, alloc, name, cache, ip)?;
+    let mut server = server_for(rt, alloc, words, ip)?;
     let done = using.run(&mut server);
     forget(server);
     done
 }
 
-// The server of the description, of whose open volumes it is warned.
-fn server_for<R: Files + Input + Eprint + Clock>(
+// The server of what the words name, of whose open volumes it is warned.
+fn server_for<R: Files + Input + Eprint + Clock + AllocGlobal>(
     rt: &R,
     alloc: Global,
-    name: &str,
-    cache: usize,
+    words: &Serve<'_>,
     ip: IpAddr,
 ) -> Result<Server, Diagnostic> {
-    let life = load_life(rt, alloc, name)?;
+    let life = begin_life(rt, alloc, &words.tree, words.is_strict)?;
     warn_of_open_volumes(rt, ip, &life.loaded);
-    Ok(begin(rt, alloc, life, cache)?)
+    Ok(begin(rt, alloc, life, words.cache)?)
 }
 
 /// Has the server of the description of this name used, as it is described, with one place for cached

@@ -4,6 +4,7 @@
 
 pub mod describing;
 mod exposure;
+pub mod extracting;
 pub mod lending;
 mod life;
 pub mod replay;

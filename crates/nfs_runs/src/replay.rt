@@ -7,10 +7,10 @@ use nfs_replay::shown::Shown;
 use nfs_saving::copies::Copies;
 use nfs_script::fault::ScriptFault;
 use nfs_server::sessions::Sessions;
-use nfs_source::description::load_tree;
 use nfs_source::diagnostic::Diagnostic;
 use nfs_source::output::fault_of;
 use nfs_source::source::Source;
+use nfs_trees::named::NamedTree;
 use nfs_xdr::device::Device;
 use std::alloc::{AllocError, Global};
 use std::io::{self, BufWriter, Write};
@@ -23,16 +23,16 @@ use std::rt::Files;
 const RUN_BYTES: usize = 65_536;
 
 /// Runs a script over a description, and saves the tree as it then is where the words ask for it. The
-/// status is 1 where a description can't hold all of it. The faults of `Copies::of`, `Description::read`
+/// status is 1 where a description can't hold all of it. The faults of `Copies::of`, `NamedTree::read`
 /// and `Copies::save_last`; `CannotRead` and `TooLong` where the script can't be read, `Script` with its
 /// first faulty line, `Write` and `Closed` where the output fails, `Memory`.
-pub fn replay_files<R: Files + Input + Print + Eprint + RandomSource>(
+pub fn replay_files<R: Files + Input + Print + Eprint + RandomSource + AllocGlobal>(
     rt: &R,
     alloc: Global,
     words: &Replay<'_>,
 ) -> Result<ExitCode, Diagnostic> {
     let copies = Copies::of(rt, alloc, words.save, words.key)?;
-    let loaded = load_tree(rt, alloc, words.tree)?;
+    let loaded = NamedTree::load(rt, alloc, &words.tree)?;
     match Source::read(rt, alloc, words.script) {
         Ok(script) => replay_script(rt, alloc, loaded, &script, words, &copies),
         Err(fault) => {

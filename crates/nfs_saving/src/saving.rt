@@ -35,7 +35,7 @@ pub enum Unsaid {
     #[error("skipped {0}: a description can't hold this name; rename it and save again")]
     Name(ShownPath),
     /// What the link of a path holds.
-    #[error("skipped the link {0}: a description can't hold what it holds; make it anew and save again")]
+    #[error("skipped the link {0}: a description can't hold its target; make the link again and save again")]
     Target(ShownPath),
 }
 

@@ -3,6 +3,7 @@ use Rattle.std.proofs.Common.{◌≡◌, ℕ, Bool, true, false, List, ◌++◌,
 use Rattle.std.proofs.lemmas.Bool.{true≢false}
 use Rattle.std.specs.Prelude.{Result, Ok, Err}
 use Rattle.std.specs.Result.{result_ok}
+use Rattle.std.specs.declared.alloc.AllocError.{AllocError}
 use Rattle.nfs_args.specs.MountAnswers.{mount_text}
 use Rattle.nfs_args.specs.Procedures.{mount_number, mount_procedures}
 use Rattle.nfs_args.specs.Reading.{Answers, mount_args_at}
@@ -47,7 +48,7 @@ pub adds_mount : (args : MountArgs) (t : Tree) (exports : List (List Export)) (a
 adds_mount asked.Null t exports addr came old new before after m = adds_left result.Null old came new before after m
 adds_mount (asked.Mount path) t exports addr Granted old new before after m = adds (mount_text (granted_answer m.2)) before after m.4
 adds_mount (asked.Mount path) t exports addr (Denied rule) old new before after m = adds (mount_text (denied_answer rule)) before after m.2
-adds_mount (asked.Mount path) t exports addr Memory old new before after m = adds_none before after m.3
+adds_mount (asked.Mount path) t exports addr (Memory refused) old new before after m = adds_none before after m.3
 adds_mount asked.Dump t exports addr came old new before after m = adds_left (dump_answer t old) old came new before after m
 adds_mount (asked.Unmount path) t exports addr came old new before after m = adds_left result.Unmount (after_umnt t addr path old) came new before after m
 adds_mount asked.UnmountAll t exports addr came old new before after m = adds_left result.UnmountAll (without_addr addr old) came new before after m
@@ -67,7 +68,7 @@ of_args a b t exports addr came old new before after e m = subst (λ x. MountsAs
 abbrev is_granted : MountOutcome → Bool
 is_granted Granted = true
 is_granted (Denied rule) = false
-is_granted Memory = false
+is_granted (Memory refused) = false
 
 module _ (t : Tree) (exports : List (List Export)) (addr : Addr) (call : Call) (came : MountOutcome) (old new : List Mount) (before after : Written) (reply : List ℕ) where
   abbrev StateOf : List Mount → State
@@ -104,15 +105,15 @@ module _ (t : Tree) (exports : List (List Export)) (addr : Addr) (call : Call) (
   denied_mount asked.UnmountAll line rule e m wrote line_is = absurd (true≢false (ap is_granted (sym m.0 ∙ e)))
   denied_mount asked.Export line rule e m wrote line_is = absurd (true≢false (ap is_granted (sym m.0 ∙ e)))
 
-  pub refused_mount : (args : MountArgs) (line : AuditLine) → came ≡ Memory → MountsAs args t exports addr came old new before after → reply ≡ accepted_text call.xid SystemErr → line ≡ line_of addr call reason.Memory
+  pub refused_mount : (args : MountArgs) (line : AuditLine) (refused : AllocError) → came ≡ Memory refused → MountsAs args t exports addr came old new before after → reply ≡ accepted_text call.xid SystemErr → line ≡ line_of addr call reason.Memory
       → AnswersMount args exports (StateOf old) addr call (reported reply (Some line)) new
-  refused_mount asked.Null line e m reply_is line_is = absurd (true≢false (ap is_granted (sym m.0 ∙ e)))
-  refused_mount (asked.Mount path) line e m reply_is line_is =
-      let r : Mounts t exports addr path Memory old new before after = subst (λ x. Mounts t exports addr path x old new before after) e m in
+  refused_mount asked.Null line refused e m reply_is line_is = absurd (true≢false (ap is_granted (sym m.0 ∙ e)))
+  refused_mount (asked.Mount path) line refused e m reply_is line_is =
+      let r : Mounts t exports addr path (Memory refused) old new before after = subst (λ x. Mounts t exports addr path x old new before after) e m in
       λ again.
       let choice : Choice = record { tag = 0; fits = omega arith; has_memory = false; again = again } in
       (choice, refl, subst (λ v. MountDecided v false (StateOf old) addr path call (reported reply (Some line)) (StateOf new)) (sym r.0) (r.1, ap (λ x. denied x line) reply_is ∙ ap (denied (accepted_text call.xid SystemErr)) line_is, ap StateOf r.2))
-  refused_mount asked.Dump line e m reply_is line_is = absurd (true≢false (ap is_granted (sym m.0 ∙ e)))
-  refused_mount (asked.Unmount path) line e m reply_is line_is = absurd (true≢false (ap is_granted (sym m.0 ∙ e)))
-  refused_mount asked.UnmountAll line e m reply_is line_is = absurd (true≢false (ap is_granted (sym m.0 ∙ e)))
-  refused_mount asked.Export line e m reply_is line_is = absurd (true≢false (ap is_granted (sym m.0 ∙ e)))
+  refused_mount asked.Dump line refused e m reply_is line_is = absurd (true≢false (ap is_granted (sym m.0 ∙ e)))
+  refused_mount (asked.Unmount path) line refused e m reply_is line_is = absurd (true≢false (ap is_granted (sym m.0 ∙ e)))
+  refused_mount asked.UnmountAll line refused e m reply_is line_is = absurd (true≢false (ap is_granted (sym m.0 ∙ e)))
+  refused_mount asked.Export line refused e m reply_is line_is = absurd (true≢false (ap is_granted (sym m.0 ∙ e)))

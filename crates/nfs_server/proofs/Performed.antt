@@ -1,6 +1,7 @@
 -- What became of a call of NFS is a step of the server.
 use Rattle.std.proofs.Common.{◌≡◌, ℕ, Bool, true, false, List, [], ◌++◌, Option, Some, None, refl, sym, ap, subst, ◌∙◌, append-nil, arith}
 use Rattle.std.proofs.lemmas.Bool.{false≢true}
+use Rattle.std.specs.declared.alloc.AllocError.{AllocError}
 use Rattle.nfs_args.specs.Answers.{nfs_text}
 use Rattle.nfs_args.specs.declared.args.NfsArgs.{NfsArgs}
 use Rattle.nfs_args.specs.declared.args.NfsArgs.TheVariants as nfs
@@ -36,7 +37,7 @@ adds_result c None (Some came) new before after p = absurd p
 adds_result c (Some doing) None new before after p = absurd p
 adds_result c (Some doing) (Some Granted) new before after p = adds _ before after p.written.text
 adds_result c (Some doing) (Some (Denied rule uid)) new before after p = adds _ before after p.written.text
-adds_result c (Some doing) (Some Memory) new before after p = adds_none before after p.written
+adds_result c (Some doing) (Some (Memory refused)) new before after p = adds_none before after p.written
 
 -- ---- the steps
 
@@ -112,11 +113,11 @@ denied_done c (Some doing) came new before after call reply line rule uid e perf
           }),
     )
 
-pub refused_done : (c : Scene) (o : Option Doing) (came : Option Done) (new : Tree) (before after : Written) (call : Call) (reply : List ℕ) (line : AuditLine) → doing_of c.args ≡ o → came ≡ Some Memory → PerformsAs c o came new before after
+pub refused_done : (c : Scene) (o : Option Doing) (came : Option Done) (new : Tree) (before after : Written) (call : Call) (reply : List ℕ) (line : AuditLine) (refused : AllocError) → doing_of c.args ≡ o → came ≡ Some (Memory refused) → PerformsAs c o came new before after
     → reply ≡ accepted_text call.xid SystemErr → line ≡ line_of c.caller.addr call reason.Memory
     → Performs o c call (reported reply (Some line)) new
-refused_done c None came new before after call reply line asks e performs reply_is line_is = absurd (subst (λ d. PerformsAs c None d new before after) e performs)
-refused_done c (Some doing) came new before after call reply line asks e performs reply_is line_is =
+refused_done c None came new before after call reply line refused asks e performs reply_is line_is = absurd (subst (λ d. PerformsAs c None d new before after) e performs)
+refused_done c (Some doing) came new before after call reply line refused asks e performs reply_is line_is =
     let h : HasNoMemory c doing new before after = subst (λ d. PerformsAs c (Some doing) d new before after) e performs in
     λ again.
     let choice : Choice = record { tag = 0; fits = omega arith; has_memory = false; again = again } in (

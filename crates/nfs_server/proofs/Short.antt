@@ -107,4 +107,4 @@ short_result c None (Some came) new before after e law m p = absurd p
 short_result c (Some doing) None new before after e law m p = absurd p
 short_result c (Some doing) (Some Granted) new before after e law m p = appended (nfs_text (doing.granted p.one p.two new)) before after p.written.text ((is_short c.args doing new law m e).0 p.one p.two)
 short_result c (Some doing) (Some (Denied rule uid)) new before after e law m p = appended (nfs_text (doing.denied (status_of rule) (seen_in c))) before after p.written.text ((is_short c.args doing new law m e).1 (status_of rule) (seen_in c))
-short_result c (Some doing) (Some Memory) new before after e law m p = omega (arith, ap (λ (w : Written). length w.bytes) p.written)
+short_result c (Some doing) (Some (Memory refused)) new before after e law m p = omega (arith, ap (λ (w : Written). length w.bytes) p.written)

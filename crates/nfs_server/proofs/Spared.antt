@@ -1,11 +1,10 @@
 -- A call that fails no rule has no line, but where memory was wanted.
-use Rattle.std.proofs.Common.{◌≡◌, ℕ, Bool, true, false, not, ◌&&◌, List, Option, Some, None, is_some, is_none, refl, sym, ap, subst, ◌∙◌}
+use Rattle.std.proofs.Common.{◌≡◌, ℕ, Bool, true, false, not, ◌&&◌, List, Option, Some, None, is_some, refl, sym, ap, subst}
 use Rattle.std.specs.Prelude.{Result, Ok, Err}
 use Rattle.nfs_args.specs.declared.args.NfsArgs.{NfsArgs}
 use Rattle.nfs_args.specs.declared.mount_args.MountArgs.{MountArgs}
 use Rattle.nfs_args.specs.declared.mount_args.MountArgs.TheVariants as asked
 use Rattle.nfs_exports.specs.declared.addr.Addr.{Addr}
-use Rattle.nfs_exports.specs.declared.export_table.Export.{Export}
 use Rattle.nfs_inodes.specs.Tree.{Tree}
 use Rattle.nfs_mount.specs.MountRules.{mount_verdict}
 use Rattle.nfs_procs.specs.Doing.{Doing}
@@ -23,7 +22,7 @@ use Rattle.nfs_server.specs.OneEvent.{AnswersCached, AnswersRecord}
 use Rattle.nfs_server.specs.Requests.{Request, Nothing, OfNfs, OfMount, request_of}
 use Rattle.nfs_server.specs.Retransmissions.{calls_change, is_change, key_of, may_change}
 use Rattle.nfs_server.specs.RpcRules.{rpc_failure_of}
-use Rattle.nfs_server.specs.Steps.{Called, Decided, Judged, MountDecided, MountPerformed, Performed, Refusable, Requested, State, scene_of}
+use Rattle.nfs_server.specs.Steps.{Called, Decided, Judged, MountDecided, MountPerformed, Refusable, Requested, State, scene_of}
 use Rattle.nfs_server.specs.declared.audit_line.AuditLine.{AuditLine}
 use Rattle.nfs_server.specs.declared.rpc_rules.RpcRule.{RpcRule}
 

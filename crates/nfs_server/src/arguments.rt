@@ -1,5 +1,6 @@
 //! What a call of NFS asks for.
-ghost use Rattle.std.specs.Prelude.{◌≡◌, ℕ, Some};
+ghost use Rattle.std.specs.Prelude.{◌≡◌, ℕ, Some, OnOk};
+ghost use Rattle.nfs_args.specs.Encoding.{HasCountedBytes};
 ghost use Rattle.nfs_args.specs.Procedures.{procedure_number, procedures};
 ghost use Rattle.nfs_server.specs.Requests.{args_in, args_read};
 ghost use Rattle.nfs_xdr.specs.Reading.{numbered};
@@ -17,8 +18,9 @@ pub(crate) fn read_args<'a>(
     input: Input<'a>,
     args: &mut NfsArgs<'a>,
 ) -> Result<(), Unreadable>
-    ensures { (number : ℕ) → numbered procedure_number procedures number ≡ Some procedure
+    ensures read { (number : ℕ) → numbered procedure_number procedures number ≡ Some procedure
         → args_read result args.new ≡ args_in number input.entry }
+    ensures counted { OnOk result (HasCountedBytes args.new) }
 {
     args.read(procedure, input)
 }

@@ -64,8 +64,8 @@ pub(crate) fn answer_mount(
             let reason = DenialReason::Rule(rule, None);
             *line = Some(AuditLine::of(addr, head, reason));
         }
-        MountOutcome::Memory => {
-            give_up(out, start, head.xid);
+        MountOutcome::Memory(refused) => {
+            give_up(out, start, head.xid, refused);
             *line = Some(AuditLine::of(addr, head, DenialReason::Memory));
         }
     }

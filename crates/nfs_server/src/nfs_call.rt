@@ -1,5 +1,6 @@
 //! Calls of NFS other than NULL (RFC 1813, section 3.3): what is done, and the reply.
 ghost use Rattle.std.specs.Prelude.{◌≡◌, ◌+◌, ◌≤◌, true, length, None};
+ghost use Rattle.nfs_args.specs.Encoding.{HasCountedBytes};
 ghost use Rattle.nfs_procs.specs.Procedures.{PerformsAs, doing_of};
 ghost use Rattle.nfs_procs.specs.Scenes.{scene};
 ghost use Rattle.nfs_rpc.specs.Calls.{call_of};
@@ -41,6 +42,7 @@ pub(crate) fn answer_call(
     line: &mut Option<AuditLine>,
 )
     requires room { HasReplyRoom out.old }
+    requires counted { HasCountedBytes args.now }
     requires line { line.old ≡ None }
     ensures adds { Adds out.old out.new }
     ensures short { retransmissions.may_change args.now ≡ true → length (after out.old out.new) ≤ MAX_KEPT_BYTES }
@@ -54,8 +56,8 @@ pub(crate) fn answer_call(
             let reason = DenialReason::Rule(rule, uid);
             *line = Some(AuditLine::of(call.caller.addr, head, reason));
         }
-        Some(Done::Memory) => {
-            give_up(out, start, head.xid);
+        Some(Done::Memory(refused)) => {
+            give_up(out, start, head.xid, refused);
             *line = Some(AuditLine::of(call.caller.addr, head, DenialReason::Memory));
         }
         Some(Done::Granted) => {}
@@ -71,7 +73,8 @@ fn write_result(
     call: &CallContext<'_>,
     args: &NfsArgs<'_>,
 ) -> Option<Done>
-    requires { MAX_RESULT_BYTES ≤ out.old.room }
+    requires room { MAX_RESULT_BYTES ≤ out.old.room }
+    requires counted { HasCountedBytes args.now }
     ensures performs { PerformsAs (scene tree.old call.now args.now) (doing_of args.now) result tree.new out.old out.new }
     ensures adds { Adds out.old out.new }
     ensures short { retransmissions.may_change args.now ≡ true → length out.new.bytes ≤ length out.old.bytes + 280 }

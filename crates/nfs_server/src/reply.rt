@@ -9,6 +9,7 @@ use crate::rpc_rules::RpcRule;
 use nfs_reply_cache::reply_cache::MAX_KEPT_BYTES;
 use nfs_rpc::reply::{Accept, Refused, write_accepted, write_refused};
 use nfs_xdr::output::Output;
+use std::alloc::AllocError;
 
 /// The reply to a call that fails a rule of RPC.
 pub(crate) fn refuse(out: &mut Output, rule: RpcRule, xid: u32)
@@ -38,8 +39,9 @@ pub(crate) fn succeed(out: &mut Output, xid: u32)
     write_accepted(out, xid, Accept::Success);
 }
 
-/// The reply to a call for which there is no memory, in the place of what stands from `start` on.
-pub(crate) fn give_up(out: &mut Output, start: usize, xid: u32)
+/// The reply to a call for which the allocator refused memory, in the place of what stands from `start`
+/// on. It takes what the allocator said, so that no other call can get this reply.
+pub(crate) fn give_up(out: &mut Output, start: usize, xid: u32, _refused: AllocError)
     requires start { start ≤ length out.old.bytes }
     requires room { room_bytes + start ≤ 4 + length out.old.bytes + out.old.room }
     ensures bytes { out.new.bytes ≡ take start out.old.bytes ++ accepted_text xid SystemErr }

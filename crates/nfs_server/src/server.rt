@@ -1,6 +1,7 @@
 //! A server, which takes one whole record at a time.
 ghost use Rattle.std.specs.Prelude.{◌≡◌, ℕ, ◌≤◌, List, [], ◌∷◌, ◌++◌, true, false, length, IfOk, None, Some, is_err};
 ghost use Rattle.std.specs.List.{find};
+ghost use Rattle.nfs_args.specs.Encoding.{HasCountedBytes};
 ghost use Rattle.nfs_args.specs.Procedures.{mount_number, mount_procedures, procedure_number, procedures};
 ghost use Rattle.nfs_rpc.specs.AuthSys.{caller, credential_of};
 ghost use Rattle.nfs_rpc.specs.Calls.{call_of, head_at};
@@ -313,6 +314,7 @@ impl Server {
     )
         requires room { HasReplyRoom out.old }
         requires line { self.old.line ≡ None }
+        requires counted { HasCountedBytes args.now }
         requires change { retransmissions.may_change args.now ≡ true }
         ensures adds { Adds out.old out.new }
         ensures setup { self.new.setup ≡ self.old.setup }
@@ -324,8 +326,8 @@ impl Server {
             give_again(&self.kept, out);
             return;
         }
-        if self.kept.take_place(event.addr, event.bytes).is_err() {
-            give_up(out, start, head.xid);
+        if let Err(refused) = self.kept.take_place(event.addr, event.bytes) {
+            give_up(out, start, head.xid, refused);
             self.line = Some(AuditLine::of(event.addr, head, DenialReason::Memory));
             return;
         }
@@ -356,6 +358,7 @@ impl Server {
         out: &mut Output,
     )
         requires room { HasReplyRoom out.old }
+        requires counted { HasCountedBytes args.now }
         requires line { self.old.line ≡ None }
         ensures adds { Adds out.old out.new }
         ensures setup { self.new.setup ≡ self.old.setup }

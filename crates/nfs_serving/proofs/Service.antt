@@ -6,7 +6,7 @@ use Rattle.std.proofs.lemmas.List.{map-append, reverse-append, take-append-drop}
 use Rattle.nfs_attrs.specs.declared.moment.Moment.{Moment}
 use Rattle.nfs_exports.specs.declared.addr.Addr.{Addr}
 use Rattle.nfs_rpc.specs.Progress.{Progress, Unfinished}
-use Rattle.nfs_rpc.specs.Records.{AreRecords}
+use Rattle.nfs_rpc.specs.Records.{AreRecords, ReachesTooLong, header, unended}
 use Rattle.nfs_rpc.proofs.Streams.{records_grow}
 use Rattle.nfs_server.proofs.Feeding.{records_append, replies_append}
 use Rattle.nfs_server.specs.Connections.{Joined}
@@ -14,14 +14,17 @@ use Rattle.nfs_server.specs.Events.{Event, Done}
 use Rattle.nfs_server.specs.Feeding.{Device, device, Brings, Ends, event_at, lines_of, line_bytes, replies_of, framed}
 use Rattle.nfs_server.specs.Fits.{Held, History, Fits}
 use Rattle.nfs_server.specs.Runs.{longer}
+use Rattle.nfs_server.specs.declared.serve_fault.ServeFault.{ServeFault}
+use Rattle.nfs_server.specs.declared.serve_fault.ServeFault.TheVariants as reported
 use Rattle.nfs_server.specs.declared.session_fault.SessionFault.{SessionFault}
 use Rattle.nfs_server.specs.declared.session_fault.SessionFault.TheVariants.{ConnectionTaken, UnknownConnection, Ended, TooLong, Memory, AuditFault, WriteFault}
 use Rattle.nfs_server.specs.declared.taking.Origin.{Origin}
 use Rattle.nfs_server.proofs.Together.{fed_on}
 use Rattle.nfs_serving.specs.Service.{Seat, ServiceState, IsNew, Change, joins, turns, leaves, passes, Joins, HasTurn, Leaves, PassesOn, own_bytes, own_events, addr_at, IsClientServed, IsPartServed, all_events, log_of, lines_written, IsLog, AreFrom, end_lines, IsSeatServed, HasLeft, IsOneHistory, ServiceIsOneHistory}
-use Rattle.nfs_serving.specs.Turns.{Standing, Rests, Takes, TurnsBy, origin_of, written}
+use Rattle.nfs_serving.specs.Turns.{Standing, IsEndBy, IsEndedBy, Rests, StandsAfter, Takes, TurnsBy, origin_of, written}
 use Rattle.nfs_serving.proofs.Turning.{grows_none, passes_keep, shrinks_none, shrinks_then}
 use Rattle.nfs_serving.specs.declared.turn.End.{End}
+use Rattle.nfs_serving.specs.declared.turn.End.TheVariants.{Fault}
 use Rattle.nfs_xdr.specs.Known.{Grows, Shrinks}
 use Rattle.nfs_xdr.proofs.Knowing.{Grows-then, Grows-none}
 
@@ -122,6 +125,42 @@ written_part (Err Ended) done rest p audit a b e = absurd e
 
 -- ---- one client
 
+-- an end for a record that is too long comes of one
+long_reported : (fault : SessionFault) → IsEndedBy fault reported.TooLong → fault ≡ TooLong
+long_reported TooLong e = refl
+long_reported Memory e = absurd (differ e)
+  where
+    differ : reported.TooLong ≡ reported.Memory → ⊥
+    differ e = cc
+long_reported AuditFault e = absurd (differ e)
+  where
+    differ : reported.TooLong ≡ reported.AuditFault → ⊥
+    differ e = cc
+long_reported WriteFault e = absurd (differ e)
+  where
+    differ : reported.TooLong ≡ reported.Memory → ⊥
+    differ e = cc
+long_reported ConnectionTaken e = absurd e
+long_reported UnknownConnection e = absurd e
+long_reported Ended e = absurd e
+
+same_fault : {a b : ServeFault} → Some (Fault a) ≡ Some (Fault b) → a ≡ b
+same_fault e = cc
+
+long_ended : (result : Result ℕ SessionFault) (end : Option End) → IsEndBy result end → end ≡ Some (Fault reported.TooLong) → result ≡ Err TooLong
+long_ended (Ok n) end none e = absurd (none_some (sym none ∙ e))
+long_ended (Err fault) end by e = ap Err (long_reported fault (subst (IsEndedBy fault) (same_fault (sym by.1 ∙ e)) by.2))
+
+long_after : {L : Type 0} (result : Result ℕ SessionFault) (c : Standing L) → StandsAfter result c → c.end ≡ Some (Fault reported.TooLong) → result ≡ Err TooLong
+long_after result c (inl broken) e = absurd (differ (same_fault (sym broken.0 ∙ e)))
+  where
+    differ : reported.WriteFault ≡ reported.TooLong → ⊥
+    differ e = cc
+long_after result c (inr by) e = long_ended result c.end by e
+
+long_by : (result : Result ℕ SessionFault) (done : List Done) (rest : List ℕ) (p : Progress) (audit replies : Device) → result ≡ Err TooLong → Ends result done rest p audit replies → ReachesTooLong p.limit rest
+long_by result done rest p audit replies is e = (subst (λ r. Ends r done rest p audit replies) is e).0
+
 is_ok : {X : Type 0} (r : Result X SessionFault) → false ≡ is_err r → IsOk r
 is_ok (Ok x) e = refl
 is_ok (Err fault) e = absurd (true≢false (sym e))
@@ -156,6 +195,22 @@ module _ {L : Type 0} (outgoing incoming : L → Option (List ℕ)) where
   abbrev InSeat : (bytes : List ℕ) (done : List Done) (addr : Option Addr) → Option (Seat L) → Type 0
   InSeat bytes done addr o = (seat : Seat L) → o ≡ Some seat → IsSeatServed outgoing incoming bytes done addr seat.client
 
+  -- a record that is too long is so with more after it
+  more_after : (front head after more bytes : List ℕ) → bytes ≡ front ++ (head ++ after) → bytes ++ more ≡ front ++ (head ++ (after ++ more))
+  more_after front head after more bytes e = ap (λ b. b ++ more) e ∙ append_assoc front (head ++ after) more ∙ ap (λ b. front ++ b) (append_assoc head after more)
+
+  still_too_long : (limit : ℕ) (bytes more : List ℕ) → ReachesTooLong limit bytes → ReachesTooLong limit (bytes ++ more)
+  still_too_long limit bytes more r = record {
+    parts = r.parts;
+    are_parts = r.are_parts;
+    last = r.last;
+    n = r.n;
+    below = r.below;
+    too_long = r.too_long;
+    after = r.after ++ more;
+    bytes_are = more_after (unended r.parts) (header r.last r.n) r.after more bytes r.bytes_are;
+  }
+
   -- one whom nothing new was answered
   part_rests : (bytes came : List ℕ) (done : List Done) (first mid new : Standing L) → IsPartServed outgoing incoming bytes done first mid → Rests outgoing incoming came mid new → IsPartServed outgoing incoming (bytes ++ came) done first new
   part_rests bytes came done first mid new s r = record {
@@ -166,6 +221,7 @@ module _ {L : Type 0} (outgoing incoming : L → Option (List ℕ)) where
     unput = s.unput;
     replies_are = s.replies_are;
     wrote = Grows-none (written outgoing first) (written outgoing mid) (written outgoing new) s.put s.wrote (passes_keep (outgoing mid.channel.link) (outgoing new.channel.link) mid.channel.pending new.channel.pending r.passes);
+    too_long = λ e. subst (λ (j : Joined). ReachesTooLong j.progress.limit (s.rest ++ came)) (sym r.connection_stays) (still_too_long mid.connection.progress.limit s.rest came (s.too_long (r.none_too_long e)));
   }
 
   -- one who was answered
@@ -189,6 +245,8 @@ module _ {L : Type 0} (outgoing incoming : L → Option (List ℕ)) where
         unput = wrote.1;
         replies_are = replies_append brought.done done ∙ ap (λ t. replies_of done ++ t) wrote.2 ∙ sym (append_assoc (replies_of done) wrote.0 wrote.1);
         wrote = Grows-then (written outgoing first) (written outgoing mid) (written outgoing new) (replies_of done) wrote.0 own.serves.wrote wrote.3;
+        too_long = λ e. still_too_long new.connection.progress.limit brought.rest new.chunk
+            (long_by takes.result brought.done brought.rest new.connection.progress audit (device (written outgoing mid) (written outgoing new)) (long_after takes.result new takes.stands e) brought.ends);
       }
 
   module _ (shared : Bool) (history : History) (earlier : List Change) (old between new : ServiceState L) (before : IsOneHistory outgoing incoming shared history earlier old between) where
@@ -210,7 +268,7 @@ module _ {L : Type 0} (outgoing incoming : L → Option (List ℕ)) where
           let same : record { number = number; client = j.client } ≡ seat = some_same (sym j.sits ∙ ap new.seat (sym (eqb-true k key e)) ∙ sits) in
           let is : j.client ≡ seat.client = ap (λ (s : Seat L). s.client) same in
           subst (λ c. IsSeatServed outgoing incoming [] [] (Some addr) c) is
-          (record { first = j.client; begins = j.begins; addr_is = ap Some (sym j.addr_is); part = record { comes = shrinks_none (incoming j.client.channel.link); rest = []; cut = refl; put = []; unput = []; replies_are = refl; wrote = grows_none (written outgoing j.client) }; served = λ alive. fresh j.begins })
+          (record { first = j.client; begins = j.begins; addr_is = ap Some (sym j.addr_is); part = record { comes = shrinks_none (incoming j.client.channel.link); rest = []; cut = refl; put = []; unput = []; replies_are = refl; wrote = grows_none (written outgoing j.client); too_long = λ e. absurd (none_some (sym j.begins.goes_on ∙ e)) }; served = λ alive. fresh j.begins })
       joined k false e seat sits = still k (j.others k (eqb-false k key e)) seat sits
 
       joins_on : IsOneHistory outgoing incoming shared history (joins key number addr ∷ earlier) old new

@@ -1,5 +1,5 @@
 -- What a turn does, step by step.
-use Rattle.std.proofs.Common.{◌≡◌, ◌⊎◌, ◌<◌, ◌≤◌, ℕ, Bool, true, false, List, [], ◌∷◌, ◌++◌, take, drop, Option, Some, None, Result, Ok, Err, OnOk, OnErr, is_err, nat_eq, inl, inr, refl, sym, ap, subst, ◌∙◌, append_assoc, append-nil}
+use Rattle.std.proofs.Common.{◌≡◌, ◌≢◌, ◌⊎◌, ◌<◌, ◌≤◌, ℕ, Bool, true, false, List, [], ◌∷◌, ◌++◌, take, drop, Option, Some, None, Result, Ok, Err, OnOk, OnErr, is_err, nat_eq, inl, inr, refl, sym, ap, subst, ◌∙◌, append_assoc, append-nil}
 use Rattle.std.proofs.Math.Nat.{eq-or-lt_of_le}
 use Rattle.std.proofs.lemmas.Bool.{eqb-false}
 use Rattle.std.proofs.lemmas.List.{take-append-drop}
@@ -18,7 +18,8 @@ use Rattle.nfs_server.specs.declared.taking.Taken.{Taken}
 use Rattle.nfs_serving.specs.Outgoing.{Outgoing, Passes, with_pending}
 use Rattle.nfs_serving.specs.Turns.{Standing, Gathers, IsEndBy, StandsBy, StandsAfter, Rests, Takes, Turns, calls_after, origin_of, written}
 use Rattle.nfs_serving.specs.declared.turn.End.{End}
-use Rattle.nfs_serving.specs.declared.turn.End.TheVariants.{Fault}
+use Rattle.nfs_serving.specs.declared.turn.End.TheVariants.{Closed, Fault}
+use Rattle.nfs_server.specs.declared.serve_fault.ServeFault.{ServeFault}
 use Rattle.nfs_server.specs.declared.serve_fault.ServeFault.TheVariants as reported
 use Rattle.nfs_xdr.specs.Known.{Grows, Shrinks}
 use Rattle.nfs_xdr.proofs.Knowing.{Grows-then}
@@ -139,6 +140,27 @@ stands_on result mid new out stands (inr broken) = inl broken
 stands_on {L} result mid new out (inl broken) (inl same) = inl (same ∙ broken.0, ap (λ (o : Outgoing L). o.failed) out ∙ broken.1)
 stands_on result mid new out (inr by) (inl same) = inr (subst (IsEndBy result) (sym same) by)
 
+-- ---- an end that no record brings
+
+abbrev pub IsOtherEnd : Option End → Type 0
+IsOtherEnd end = end ≡ Some (Fault reported.TooLong) → ⊥
+
+too_long_before : (old new : Option End) → (new ≡ old) ⊎ IsOtherEnd new → new ≡ Some (Fault reported.TooLong) → old ≡ Some (Fault reported.TooLong)
+too_long_before old new (inl same) e = sym same ∙ e
+too_long_before old new (inr other) e = absurd (other e)
+
+pub other_fault : (fault : ServeFault) → fault ≢ reported.TooLong → IsOtherEnd (Some (Fault fault))
+other_fault fault differ e = differ (faults e)
+  where
+    faults : {a b : ServeFault} → Some (Fault a) ≡ Some (Fault b) → a ≡ b
+    faults e = cc
+
+pub closed_alone : IsOtherEnd (Some Closed)
+closed_alone e = cc
+
+write_fault : reported.WriteFault ≢ reported.TooLong
+write_fault e = cc
+
 -- ---- turns
 
 module _ {L : Type 0} (outgoing incoming : L → Option (List ℕ)) where
@@ -149,16 +171,18 @@ module _ {L : Type 0} (outgoing incoming : L → Option (List ℕ)) where
     connection_stays = refl;
     calls_stay = refl;
     passes = passes_none (outgoing c.channel.link) c.channel.pending;
+    none_too_long = λ e. e;
   }
 
   -- some bytes came
-  pub rests_came : (old new : Standing L) → old.chunk ≡ [] → Shrinks (incoming old.channel.link) new.chunk (incoming new.channel.link) → outgoing new.channel.link ≡ outgoing old.channel.link → new.channel.pending ≡ old.channel.pending → new.connection ≡ old.connection → new.calls ≡ old.calls → Rests outgoing incoming new.chunk old new
-  rests_came old new none comes out pending same calls = record {
+  pub rests_came : (old new : Standing L) → old.chunk ≡ [] → Shrinks (incoming old.channel.link) new.chunk (incoming new.channel.link) → outgoing new.channel.link ≡ outgoing old.channel.link → new.channel.pending ≡ old.channel.pending → new.connection ≡ old.connection → new.calls ≡ old.calls → new.end ≡ old.end → Rests outgoing incoming new.chunk old new
+  rests_came old new none comes out pending same calls end = record {
     comes = comes;
     chunk_is = ap (λ t. t ++ new.chunk) (sym none);
     connection_stays = same;
     calls_stay = calls;
     passes = subst (λ o. Passes (outgoing old.channel.link) old.channel.pending o new.channel.pending) (sym out) (subst (λ l. Passes (outgoing old.channel.link) old.channel.pending (outgoing old.channel.link) l) (sym pending) (passes_none (outgoing old.channel.link) old.channel.pending));
+    none_too_long = λ e. sym end ∙ e;
   }
 
   -- nothing came, and what was pending was passed on, or the link is broken
@@ -166,20 +190,23 @@ module _ {L : Type 0} (outgoing incoming : L → Option (List ℕ)) where
       → OnOk r (Passes (outgoing old.channel.link) old.channel.pending (outgoing new.channel.link) new.channel.pending)
       → OnErr r (outgoing new.channel.link ≡ outgoing old.channel.link)
       → OnErr r (new.channel.pending ≡ old.channel.pending)
+      → (new.end ≡ old.end) ⊎ IsOtherEnd new.end
       → Rests outgoing incoming [] old new
-  rests_by (Ok x) old new chunk same calls come passes out pending = record {
+  rests_by (Ok x) old new chunk same calls come passes out pending end = record {
     comes = subst (λ o. Shrinks (incoming old.channel.link) [] o) (sym come) (shrinks_none (incoming old.channel.link));
     chunk_is = chunk ∙ sym (append-nil old.chunk);
     connection_stays = same;
     calls_stay = calls;
     passes = passes;
+    none_too_long = too_long_before old.end new.end end;
   }
-  rests_by (Err fault) old new chunk same calls come passes out pending = record {
+  rests_by (Err fault) old new chunk same calls come passes out pending end = record {
     comes = subst (λ o. Shrinks (incoming old.channel.link) [] o) (sym come) (shrinks_none (incoming old.channel.link));
     chunk_is = chunk ∙ sym (append-nil old.chunk);
     connection_stays = same;
     calls_stay = calls;
     passes = subst (λ o. Passes (outgoing old.channel.link) old.channel.pending o new.channel.pending) (sym out) (subst (λ l. Passes (outgoing old.channel.link) old.channel.pending (outgoing old.channel.link) l) (sym pending) (passes_none (outgoing old.channel.link) old.channel.pending));
+    none_too_long = too_long_before old.end new.end end;
   }
 
   pub rests_on : (came more : List ℕ) (old mid new : Standing L) → Rests outgoing incoming came old mid → Rests outgoing incoming more mid new → Rests outgoing incoming (came ++ more) old new
@@ -189,6 +216,7 @@ module _ {L : Type 0} (outgoing incoming : L → Option (List ℕ)) where
     connection_stays = g.connection_stays ∙ f.connection_stays;
     calls_stay = g.calls_stay ∙ f.calls_stay;
     passes = passes_on (outgoing old.channel.link) (outgoing mid.channel.link) (outgoing new.channel.link) old.channel.pending mid.channel.pending new.channel.pending f.passes g.passes;
+    none_too_long = λ e. f.none_too_long (g.none_too_long e);
   }
 
   module _ (moment : Moment) (server served : Held) (audit : Device) where
@@ -321,6 +349,10 @@ module _ {L : Type 0} (outgoing incoming : L → Option (List ℕ)) where
     pub came_alone : (old new : Standing L) → (came : List ℕ) × Rests outgoing incoming came old new → served ≡ server → audit.after ≡ audit.before → Turns outgoing incoming moment old new server served audit
     came_alone old new rests same quiet = (rests.0, inl (rests.1, same, quiet))
 
+    by_end : (mid new : Option End) (failed : Bool) → (new ≡ mid) ⊎ ((new ≡ Some (Fault reported.WriteFault)) × (failed ≡ true)) → (new ≡ mid) ⊎ IsOtherEnd new
+    by_end mid new failed (inl same) = inl same
+    by_end mid new failed (inr broken) = inr (subst IsOtherEnd (sym broken.0) (other_fault reported.WriteFault write_fault))
+
     -- what a turn that takes bytes leaves, by how it ends
     pub takes_as : (old mid new : Standing L) → new.connection ≡ mid.connection → new.channel ≡ mid.channel → new.chunk ≡ mid.chunk → new.calls ≡ mid.calls
         → (new.end ≡ mid.end) ⊎ ((new.end ≡ Some (Fault reported.WriteFault)) × (new.channel.failed ≡ true))
@@ -328,5 +360,5 @@ module _ {L : Type 0} (outgoing incoming : L → Option (List ℕ)) where
     takes_as old mid new same out chunk calls end takes =
         let whole : Result (Unit {0}) SessionFault = Ok tt in
         takes_then_rests [] old mid new takes (rests_by whole mid new chunk same calls (ap (λ (o : Outgoing L). incoming o.link) out)
-        (subst (λ (o : Outgoing L). Passes (outgoing mid.channel.link) mid.channel.pending (outgoing o.link) o.pending) (sym out) (passes_none (outgoing mid.channel.link) mid.channel.pending)) tt tt)
+        (subst (λ (o : Outgoing L). Passes (outgoing mid.channel.link) mid.channel.pending (outgoing o.link) o.pending) (sym out) (passes_none (outgoing mid.channel.link) mid.channel.pending)) tt tt (by_end mid.end new.end new.channel.failed end))
         (stands_on takes.result mid new out takes.stands end)

@@ -4,6 +4,15 @@ use Rattle.nfs_xdr.specs.declared.link.Came.{Came}
 use Rattle.nfs_xdr.specs.declared.link.Came.TheVariants.{Bytes, Nothing, End}
 use Rattle.nfs_xdr.specs.Known.{Grows, Shrinks, IsAtEnd}
 
+-- bytes, and for how many their list has room
+pub record Roomed : Type 0 where
+  pub bytes : List ℕ
+  pub room : ℕ
+
+-- where there are no bytes, there is no room for any
+abbrev pub IsLetGo : Roomed → Type 0
+IsLetGo b = b.bytes ≡ [] → b.room ≡ 0
+
 -- a link with what is pending on it, the replies that it has not taken yet, and whether it is broken
 pub record Outgoing (L : Type 0) : Type 0 where
   pub link : L

@@ -3,17 +3,16 @@ use Rattle.std.specs.Prelude.{◌≡◌, ◌≢◌, ◌⊎◌, ℕ, ◌+◌, ◌
 use Rattle.std.specs.List.{AllByRecursion}
 use Rattle.nfs_attrs.specs.declared.moment.Moment.{Moment}
 use Rattle.nfs_exports.specs.declared.addr.Addr.{Addr}
-use Rattle.nfs_rpc.specs.Lent.{IsBefore}
 use Rattle.nfs_rpc.specs.Progress.{Unfinished}
-use Rattle.nfs_rpc.specs.Records.{AreRecords}
+use Rattle.nfs_rpc.specs.Records.{AreRecords, ReachesTooLong}
 use Rattle.nfs_server.specs.Events.{Done}
 use Rattle.nfs_server.specs.FaultWords.{word_of_stream}
 use Rattle.nfs_server.specs.Feeding.{device, lines_of, line_bytes, replies_of}
 use Rattle.nfs_server.specs.Fits.{Held, History, Fits}
 use Rattle.nfs_server.specs.Runs.{longer}
 use Rattle.nfs_server.specs.Together.{IsServed}
-use Rattle.nfs_server.specs.declared.serve_fault.ServeFault.TheVariants.{ReadFault}
-use Rattle.nfs_serving.specs.Turns.{Standing, TurnsBy, written}
+use Rattle.nfs_server.specs.declared.serve_fault.ServeFault.TheVariants.{ReadFault, TooLong}
+use Rattle.nfs_serving.specs.Turns.{Standing, IsAtRest, TurnsBy, written}
 use Rattle.nfs_serving.specs.declared.turn.End.{End}
 use Rattle.nfs_serving.specs.declared.turn.End.TheVariants.{Closed, Fault}
 use Rattle.nfs_xdr.specs.Known.{Grows, Shrinks, StaysFailed}
@@ -39,12 +38,7 @@ pub record ServiceState (L : Type 0) : Type 0 where
 pub record IsNew {L : Type 0} (c : Standing L) : Type 0 where
   pub begins : Unfinished [] c.connection.progress
   pub nothing_came : c.chunk ≡ []
-
--- nothing is on its way
-pub record IsAtRest {L : Type 0} (c : Standing L) : Type 0 where
-  pub none_pending : c.channel.pending ≡ []
-  pub all_taken : c.chunk ≡ []
-  pub before_record : IsBefore c.connection.progress
+  pub goes_on : c.end ≡ None
 
 -- ---- what changes it
 
@@ -223,7 +217,7 @@ pub record IsClientServed {L : Type 0} (outgoing : L → Option (List ℕ)) (byt
   pub bytes_are : bytes ≡ taken ++ now.chunk
   pub serves : IsServed taken done now.connection.progress (device (written outgoing first) (written outgoing now))
 
--- These bytes came on a client's link, in their order. They are the records of these events, in their order, and a rest. What was written for it is some first bytes of the framed replies to them, in their order.
+-- These bytes came on a client's link, in their order. They are the records of these events, in their order, and a rest. What was written for it is some first bytes of the framed replies to them, in their order. Where it ended since a record is too long, the rest begins with a record that is longer than the limit.
 pub record IsPartServed {L : Type 0} (outgoing incoming : L → Option (List ℕ)) (bytes : List ℕ) (done : List Done) (first now : Standing L) : Type 0 where
   pub comes : Shrinks (incoming first.channel.link) bytes (incoming now.channel.link)
   pub rest : List ℕ
@@ -232,6 +226,7 @@ pub record IsPartServed {L : Type 0} (outgoing incoming : L → Option (List ℕ
   pub unput : List ℕ
   pub replies_are : replies_of done ≡ put ++ unput
   pub wrote : Grows (written outgoing first) put (written outgoing now)
+  pub too_long : now.end ≡ Some (Fault TooLong) → ReachesTooLong now.connection.progress.limit rest
 
 -- A client is from the address from which it joined, and served in part. Where no fault of its records has ended it, it is served as if it were alone.
 pub record IsSeatServed {L : Type 0} (outgoing incoming : L → Option (List ℕ)) (bytes : List ℕ) (done : List Done) (addr : Option Addr) (now : Standing L) : Type 0 where

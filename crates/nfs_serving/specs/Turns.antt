@@ -1,6 +1,7 @@
 -- The turns of a client.
 use Rattle.std.specs.Prelude.{◌≡◌, ◌≢◌, ◌⊎◌, ℕ, ◌+◌, ◌-◌, ◌^◌, min, Bool, true, false, List, [], ◌++◌, Option, None, Some, Result, Ok, Err, is_err}
 use Rattle.nfs_attrs.specs.declared.moment.Moment.{Moment}
+use Rattle.nfs_rpc.specs.Lent.{IsBefore}
 use Rattle.nfs_server.specs.Connections.{Joined}
 use Rattle.nfs_server.specs.Feeding.{Device, device, Feeds}
 use Rattle.nfs_server.specs.Fits.{Held}
@@ -42,13 +43,18 @@ written outgoing c = with_pending (outgoing c.channel.link) c.channel.pending
 abbrev pub origin_of : {L : Type 0} → Standing L → Moment → Origin
 origin_of c moment = record { addr = c.connection.addr; moment = moment }
 
--- These bytes came, and none was taken. Some first bytes of what was pending were sent.
+-- nothing is on its way
+abbrev pub IsAtRest : {L : Type 0} → Standing L → Type 0
+IsAtRest c = (c.channel.pending ≡ []) × (c.chunk ≡ []) × IsBefore c.connection.progress
+
+-- These bytes came, and none was taken. Some first bytes of what was pending were sent. No record was too long.
 pub record Rests {L : Type 0} (outgoing incoming : L → Option (List ℕ)) (came : List ℕ) (old new : Standing L) : Type 0 where
   pub comes : Shrinks (incoming old.channel.link) came (incoming new.channel.link)
   pub chunk_is : new.chunk ≡ old.chunk ++ came
   pub connection_stays : new.connection ≡ old.connection
   pub calls_stay : new.calls ≡ old.calls
   pub passes : Passes (outgoing old.channel.link) old.channel.pending (outgoing new.channel.link) new.channel.pending
+  pub none_too_long : new.end ≡ Some (Fault TooLong) → old.end ≡ Some (Fault TooLong)
 
 -- the fault that ends a client by its records: for replies that don't gather there is no memory
 abbrev pub IsEndedBy : SessionFault → ServeFault → Type 0

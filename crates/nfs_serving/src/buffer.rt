@@ -1,6 +1,6 @@
 //! Bytes in a list, of which the first may be gone already.
 ghost use Rattle.std.specs.Prelude.{◌≡◌, ◌<◌, ◌≤◌, ◌↔◌, [], drop, length, vec_capacity, IsTrue, IfOk, OnErr, true};
-ghost use Rattle.nfs_serving.specs.Outgoing.{Brings, came_bytes};
+ghost use Rattle.nfs_serving.specs.Outgoing.{Brings, IsLetGo, came_bytes};
 ghost use Rattle.nfs_xdr.specs.Known.{Receives};
 
 use crate::receive_size::MOST_RECEIVED;
@@ -29,11 +29,12 @@ pub struct Received {
 }
 
 impl Model for Buffer {
-    ghost use Rattle.std.specs.Prelude.{◌-◌, ◌≤◌, ℕ, List, take, drop, vec_len};
+    ghost use Rattle.std.specs.Prelude.{◌-◌, ◌≤◌, take, drop, vec_capacity, vec_len};
+    ghost use Rattle.nfs_serving.specs.Outgoing.{Roomed};
 
-    ghost Value = { List ℕ };
+    ghost Value = { Roomed };
 
-    ghost view = { λ w. take (w.to - w.from) (drop w.from w.bytes.items) };
+    ghost view = { λ w. record { bytes = take (w.to - w.from) (drop w.from w.bytes.items); room = vec_capacity w.bytes } };
 
     ghost invariant = { λ w. (w.from ≤ w.to) × (w.to ≤ vec_len w.bytes) };
 }
@@ -41,7 +42,8 @@ impl Model for Buffer {
 impl Buffer {
     /// No bytes, and no memory.
     pub fn new(alloc: Global) -> Buffer
-        ensures { result ≡ [] }
+        ensures bytes { result.bytes ≡ [] }
+        ensures room { result.room ≡ 0 }
     {
         Buffer {
             bytes: Vec::new(alloc),
@@ -52,29 +54,30 @@ impl Buffer {
 
     /// The bytes.
     pub fn bytes(&self) -> &[u8]
-        ensures { result.now ≡ self.now }
+        ensures { result.now ≡ self.now.bytes }
     {
         &self.bytes[self.from..self.to]
     }
 
     /// Whether there are none.
     pub fn is_empty(&self) -> bool
-        ensures { IsTrue result ↔ (self.now ≡ []) }
+        ensures { IsTrue result ↔ (self.now.bytes ≡ []) }
     {
         self.from == self.to
     }
 
     /// Takes some first bytes away.
     pub fn take(&mut self, n: usize)
-        requires { n ≤ length self.old }
-        ensures { self.new ≡ drop n self.old }
+        requires { n ≤ length self.old.bytes }
+        ensures bytes { self.new.bytes ≡ drop n self.old.bytes }
+        ensures room { self.new.room ≡ self.old.room }
     {
         self.from += n;
     }
 
     /// Takes all bytes away.
     pub fn clear(&mut self)
-        ensures { self.new ≡ [] }
+        ensures { self.new.bytes ≡ [] }
     {
         self.from = 0;
         self.to = 0;
@@ -82,7 +85,7 @@ impl Buffer {
 
     /// Has this room from now on, for what is received at once. Refused where there is no memory.
     pub fn borrow_room(&mut self, room: &mut Vec<u8>) -> Result<(), AllocError>
-        ensures { self.new ≡ [] }
+        ensures { self.new.bytes ≡ [] }
     {
         self.from = 0;
         self.to = 0;
@@ -97,7 +100,8 @@ impl Buffer {
     /// bytes each keeps its list.
     pub fn hold(&mut self, room: &mut Vec<u8>, bytes: &[u8])
         requires { length bytes.now ≤ vec_capacity room.old }
-        ensures { self.new ≡ bytes.now }
+        ensures bytes { self.new.bytes ≡ bytes.now }
+        ensures room { bytes.now ≡ [] → self.new.room ≡ self.old.room }
     {
         self.from = 0;
         self.to = 0;
@@ -112,9 +116,10 @@ impl Buffer {
 
     /// Lets its list go, where there are no bytes.
     pub fn let_go(&mut self)
-        ensures { self.new ≡ self.old }
+        ensures bytes { self.new.bytes ≡ self.old.bytes }
+        ensures gone { IsLetGo self.new }
     {
-        if self.from == self.to {
+        if self.is_empty() {
             self.from = 0;
             self.to = 0;
             self.bytes.clear();
@@ -124,9 +129,10 @@ impl Buffer {
 
     /// Gives the room back, where there are no bytes, and lets a list go that stood in its place.
     pub fn give_back(&mut self, room: &mut Vec<u8>)
-        ensures { self.new ≡ self.old }
+        ensures bytes { self.new.bytes ≡ self.old.bytes }
+        ensures gone { IsLetGo self.new }
     {
-        if self.from == self.to {
+        if self.is_empty() {
             self.from = 0;
             self.to = 0;
             mem::swap(&mut self.bytes, room);
@@ -138,12 +144,12 @@ impl Buffer {
     /// place of what it has.
     pub fn receive<L: Link>(&mut self, link: &mut L, most: usize) -> Result<Received, DeviceFault>
         requires { 0 < most }
-        ensures came { IfOk result (λ received. Brings (L.incoming link.old) received.came self.new (L.incoming link.new)) }
+        ensures came { IfOk result (λ received. Brings (L.incoming link.old) received.came self.new.bytes (L.incoming link.new)) }
         ensures reports { IfOk result (λ received. L.reports link.old received.room received.came link.new) }
         ensures within { IfOk result (λ received. came_bytes received.came ≤ received.room) }
-        ensures most { length self.new ≤ most }
+        ensures most { length self.new.bytes ≤ most }
         ensures outgoing { L.outgoing link.new ≡ L.outgoing link.old }
-        ensures fault { OnErr result ((L.failed link.new ≡ true) × (L.incoming link.new ≡ L.incoming link.old) × (self.new ≡ [])) }
+        ensures fault { OnErr result ((L.failed link.new ≡ true) × (L.incoming link.new ≡ L.incoming link.old) × (self.new.bytes ≡ [])) }
     {
         self.from = 0;
         self.to = 0;

@@ -9,7 +9,8 @@ use nfs_xdr::link::Link;
 use std::alloc::Global;
 use std::marker::Model;
 
-/// A link, and the replies that it has not taken yet: they are pending.
+/// A link, and the replies that it has not taken yet: they are pending. Where none is, it holds no memory
+/// for them.
 #[derive(Drop)]
 pub struct Channel<L> {
     link: L,
@@ -18,11 +19,14 @@ pub struct Channel<L> {
 }
 
 impl<L> Model for Channel<L> {
-    ghost use Rattle.nfs_serving.specs.Outgoing.{Outgoing};
+    ghost use Rattle.nfs_serving.specs.Outgoing.{IsLetGo, Outgoing};
 
     ghost Value = { Outgoing L };
 
-    ghost view = { λ o. record { link = o.link; pending = o.pending; failed = o.ended } };
+    ghost view = { λ o. record { link = o.link; pending = o.pending.bytes; failed = o.ended } };
+
+    // Where nothing is pending, it holds no memory for it.
+    ghost invariant = { λ o. IsLetGo o.pending };
 }
 
 impl<L: Link> Channel<L> {
@@ -93,15 +97,15 @@ impl<L: Link> Channel<L> {
     /// Receives what has come, as much as a chunk has room for and at most so many bytes.
     pub fn receive(&mut self, chunk: &mut Buffer, most: usize) -> Result<Received, DeviceFault>
         requires { 0 < most }
-        ensures came { IfOk result (λ received. Brings (L.incoming self.old.link) received.came chunk.new (L.incoming self.new.link)) }
+        ensures came { IfOk result (λ received. Brings (L.incoming self.old.link) received.came chunk.new.bytes (L.incoming self.new.link)) }
         ensures reports { IfOk result (λ received. L.reports self.old.link received.room received.came self.new.link) }
         ensures within { IfOk result (λ received. came_bytes received.came ≤ received.room) }
-        ensures most { length chunk.new ≤ most }
+        ensures most { length chunk.new.bytes ≤ most }
         ensures outgoing { L.outgoing self.new.link ≡ L.outgoing self.old.link }
         ensures same { (self.new.pending ≡ self.old.pending) × (self.new.failed ≡ self.old.failed) }
         ensures fault { OnErr result (L.failed self.new.link ≡ true) }
         ensures incoming { OnErr result (L.incoming self.new.link ≡ L.incoming self.old.link) }
-        ensures chunk { OnErr result (chunk.new ≡ []) }
+        ensures chunk { OnErr result (chunk.new.bytes ≡ []) }
     {
         chunk.receive(&mut self.link, most)
     }

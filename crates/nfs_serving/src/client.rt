@@ -1,11 +1,10 @@
 //! A client of a server.
 ghost use Rattle.std.specs.Prelude.{◌≡◌, ◌≢◌, ◌⊎◌, ◌≤◌, ◌↔◌, Bool, vec_capacity, ℕ, List, [], None, Some, true, false, IsTrue, IfOk, IfErr, OnOk, OnErr};
-ghost use Rattle.nfs_rpc.specs.Lent.{IsBefore};
 ghost use Rattle.nfs_server.specs.Connections.{IsAtStart};
 ghost use Rattle.nfs_server.specs.Feeding.{device, EndsWith};
 ghost use Rattle.nfs_server.specs.Taking.{Waits};
 ghost use Rattle.nfs_serving.specs.Outgoing.{IsDrained};
-ghost use Rattle.nfs_serving.specs.Turns.{EndsForCause, Gathers, HasAsked, IsCause, IsCauseInRecords, IsEndBy, IsEndedBy, IsHeld, Rests, Takes, Reports, Turns, origin_of};
+ghost use Rattle.nfs_serving.specs.Turns.{EndsForCause, Gathers, HasAsked, IsAtRest, IsCause, IsCauseInRecords, IsEndBy, IsEndedBy, IsHeld, Rests, Takes, Reports, Turns, origin_of};
 ghost use Rattle.nfs_xdr.specs.Known.{StaysFailed};
 
 use crate::buffer::Buffer;
@@ -49,7 +48,7 @@ impl<L> Model for Client<L> {
 
     ghost Value = { Standing L };
 
-    ghost view = { λ c. record { connection = c.connection; channel = c.channel; chunk = c.chunk; end = c.end; calls = c.calls } };
+    ghost view = { λ c. record { connection = c.connection; channel = c.channel; chunk = c.chunk.bytes; end = c.end; calls = c.calls } };
 
     ghost invariant = { λ c. c.end ≡ None → c.connection.ended ≡ false };
 }
@@ -99,7 +98,7 @@ impl<L: Link> Client<L> {
     /// Whether nothing is on its way: no reply is pending, and no byte of a record has come that is not
     /// answered.
     pub fn is_at_rest(&self) -> bool
-        ensures { IsTrue result ↔ (self.now.channel.pending ≡ []) × (self.now.chunk ≡ []) × IsBefore self.now.connection.progress }
+        ensures { IsTrue result ↔ IsAtRest self.now }
     {
         self.channel.is_settled() && self.chunk.is_empty() && self.connection.is_before_record()
     }

@@ -4,12 +4,20 @@ use Rattle.nfs_load.specs.Descriptions.{Describes}
 use Rattle.nfs_load.specs.declared.load_error.LoadError.{LoadError}
 use Rattle.nfs_load.specs.declared.load_error.LoadError.TheVariants as error
 use Rattle.nfs_source.specs.declared.fault.Fault.{Fault}
-use Rattle.nfs_source.specs.declared.fault.Fault.TheVariants.{Description, Script, NoText, CannotRead, TooLong, CannotWrite, Undescribed, Network, NoTime, Write, Closed, Memory}
+use Rattle.nfs_source.specs.declared.sharing_fault.SharingFault.{SharingFault}
+use Rattle.nfs_source.specs.declared.sharing_fault.SharingFault.TheVariants.{Skipped}
+use Rattle.nfs_source.specs.declared.fault.Fault.TheVariants.{Description, Script, Sharing, NoText, CannotRead, TooLong, CannotWrite, Undescribed, Network, NoTime, Write, Closed, Memory}
+
+-- 1 where something is skipped that may not be
+abbrev pub status_of_sharing : SharingFault → ℕ
+status_of_sharing Skipped = 1
+status_of_sharing other = 2
 
 -- 1 where the description or the script is at fault, 2 where the words are, 3 where the machine is, 141 where nobody reads
 abbrev pub status_of : Fault → ℕ
 status_of (Description line cause) = 1
 status_of (Script line cause) = 1
+status_of (Sharing fault) = status_of_sharing fault
 status_of NoText = 2
 status_of (CannotRead name error) = 3
 status_of (TooLong name) = 3

@@ -2,6 +2,7 @@
 ghost use Rattle.std.specs.Prelude.{◌≡◌};
 ghost use Rattle.nfs_source.specs.Status.{status_of};
 
+use crate::sharing_fault::SharingFault;
 use nfs_describe::fault::DescribeFault;
 use nfs_load::cause::Cause;
 use nfs_load::load_error::LoadError;
@@ -30,6 +31,9 @@ pub enum Fault {
         /// Its first cause.
         cause: LineCause,
     },
+    /// A directory is not shared.
+    #[error("error: {0}")]
+    Sharing(SharingFault),
     /// An argument is no text.
     #[error("error: an argument is not UTF-8")]
     NoText,
@@ -84,8 +88,11 @@ impl Fault {
         ensures { result ≡ status_of self.now }
     {
         match self {
-            Fault::Description { .. } | Fault::Script { .. } | Fault::Undescribed(_) => 1,
-            Fault::NoText => 2,
+            Fault::Description { .. }
+            | Fault::Script { .. }
+            | Fault::Undescribed(_)
+            | Fault::Sharing(SharingFault::Skipped) => 1,
+            Fault::Sharing(_) | Fault::NoText => 2,
             Fault::CannotRead { .. }
             | Fault::TooLong(_)
             | Fault::CannotWrite { .. }

@@ -6,4 +6,5 @@ pub mod description;
 pub mod diagnostic;
 pub mod fault;
 pub mod output;
+pub mod sharing_fault;
 pub mod source;

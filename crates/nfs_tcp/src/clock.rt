@@ -35,7 +35,8 @@ impl<R: Clock + Log> Moments for SystemClock<'_, R> {
     fn now(&mut self) -> Moment {
         match since_1970(self.rt) {
             Some(since) => self.last = moment_of(since, self.last),
-            None => warn!(self.rt; "clock"),
+            None =>
+                warn!(self.rt; "can't read the system's clock; using the last time that it gave"),
         }
         self.last
     }

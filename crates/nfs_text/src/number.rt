@@ -1,11 +1,12 @@
 //! Numbers in digits.
-ghost use Rattle.std.specs.Prelude.{◌≡◌};
+ghost use Rattle.std.specs.Prelude.{◌≡◌, ◌≤◌, IfSome};
 ghost use Rattle.nfs_text.specs.Numbers.{decimal_of};
 
 /// The number that a text of one or more decimal digits says, leading zeros allowed. `None` where
 /// the text is another one, or the number is above `max`.
 pub fn decimal(text: &[u8], max: u64) -> Option<u64>
-    ensures { result ≡ decimal_of max text.now }
+    ensures read { result ≡ decimal_of max text.now }
+    ensures bound { IfSome result (λ n. n ≤ max) }
 {
     if text.is_empty() {
         return None;

@@ -1,4 +1,7 @@
 //! The grant that an address has, and the line of the description that gives it.
+ghost use Rattle.nfs_exports.specs.Patterns.{pattern_text};
+ghost use Rattle.nfs_why.specs.Exports.{anonymous_text, id_text};
+ghost use Rattle.nfs_words.specs.Texts.{Puts};
 
 use nfs_advice::earlier::export_line;
 use nfs_exports::addr::{Addr, put_addr};
@@ -48,18 +51,23 @@ fn put_options(out: &mut Text, options: &Options) {
         Squash::Root => b",root_squash".as_slice(),
         Squash::All => b",all_squash".as_slice(),
     });
-    put_anonymous(out, options);
+    put_anonymous(out, *options);
 }
 
 /// Puts the anonymous ids that aren't nobody's.
-pub(crate) fn put_anonymous(out: &mut Text, options: &Options) {
-    if options.anonuid != NOBODY {
-        out.put(b",anonuid=");
-        out.put_number(u64::from(options.anonuid));
-    }
-    if options.anongid != NOBODY {
-        out.put(b",anongid=");
-        out.put_number(u64::from(options.anongid));
+pub(crate) fn put_anonymous(out: &mut Text, options: Options)
+    ensures { Puts (anonymous_text options) out.old out.new }
+{
+    put_id(out, b",anonuid=", options.anonuid);
+    put_id(out, b",anongid=", options.anongid);
+}
+
+// Puts an id, unless it is nobody's.
+fn put_id(out: &mut Text, name: &[u8], id: u32)
+    ensures { Puts (id_text name.now id) out.old out.new }
+{
+    if id != NOBODY {
+        out.put_field(name, u64::from(id));
     }
 }
 
@@ -71,7 +79,9 @@ fn put_address(out: &mut Text, addr: Addr) {
 }
 
 /// Puts a pattern.
-pub(crate) fn put_network(out: &mut Text, pattern: Pattern) {
+pub(crate) fn put_network(out: &mut Text, pattern: Pattern)
+    ensures { Puts (pattern_text pattern) out.old out.new }
+{
     let mut line = Line::new();
     put_pattern(&mut line, pattern);
     out.put(line.as_slice());

@@ -7,7 +7,6 @@ pub mod exports;
 mod grant;
 pub mod judgement;
 mod meaning;
-pub mod mounting;
 mod operation;
 mod place;
 pub mod question;

@@ -4,7 +4,6 @@ use crate::asked::Asked;
 use crate::grant::put_grant;
 use crate::judgement::{Judgement, exported_file, judge};
 use crate::meaning::meaning;
-use crate::mounting::mount_failure;
 use crate::operation::Shape;
 use crate::place::{split_last, volume_holding};
 use crate::question::Question;
@@ -13,26 +12,20 @@ use nfs_ask::operation::Operation;
 use nfs_attrs::fattr::Fattr;
 use nfs_handles::number::Number;
 use nfs_load::loaded::Loaded;
+use nfs_mount::rules::mount_failure;
 use nfs_rpc::auth_sys::Cred;
 use nfs_rules::caller::Caller;
 use nfs_rules::order::{MOUNT, rules_of_handle, rules_of_handles};
 use nfs_rules::rule::Rule;
 use nfs_text::chunks::Chunks;
 use nfs_words::text::Text;
-use std::alloc::{AllocError, Global};
 
 /// Puts the answer to a question over a description, which is the text of what was loaded: the grant that
-/// the address has, by whose ids the caller is judged, each rule in its order, and the verdict. Refused
-/// without memory.
-pub fn put_answer(
-    alloc: Global,
-    text: &[u8],
-    loaded: &Loaded,
-    question: &Question<'_>,
-    out: &mut Text,
-) -> Result<(), AllocError> {
+/// the address has, by whose ids the caller is judged, each rule in its order, and the verdict.
+pub fn put_answer(text: &[u8], loaded: &Loaded, question: &Question<'_>, out: &mut Text) {
     if question.operation == Operation::Mount {
-        return put_mount(alloc, text, loaded, question, out);
+        put_mount(text, loaded, question, out);
+        return;
     }
     let caller = Caller {
         addr: question.addr,
@@ -44,18 +37,11 @@ pub fn put_answer(
         caller,
     };
     inquiry.put(question, out);
-    Ok(())
 }
 
 // The answer of MNT.
-fn put_mount(
-    alloc: Global,
-    text: &[u8],
-    loaded: &Loaded,
-    question: &Question<'_>,
-    out: &mut Text,
-) -> Result<(), AllocError> {
-    let failure = mount_failure(alloc, loaded, question.addr, question.path)?;
+fn put_mount(text: &[u8], loaded: &Loaded, question: &Question<'_>, out: &mut Text) {
+    let failure = mount_failure(&loaded.tree, &loaded.table, question.addr, question.path);
     if let Some(volume) = loaded.tree.volume_named(question.path) {
         put_grant(out, text, loaded, volume, question.addr);
     }
@@ -65,7 +51,6 @@ fn put_mount(
     out.put(b"\n");
     put_rules(out, &MOUNT, failure);
     put_verdict(out, failure);
-    Ok(())
 }
 
 // A description, and who asks.

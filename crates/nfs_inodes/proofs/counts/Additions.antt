@@ -21,7 +21,7 @@ use Rattle.nfs_inodes.proofs.counts.Operations.{shown, free_number}
 -- ---- a link
 
 abbrev pub counted_after_link : CountedTree → ℕ → CountedFile → ℕ → CountedFile → CountedTree
-counted_after_link k n g d w = record { files = with_at d w (with_at n g k.files); next = k.next; key = k.key; volumes = k.volumes }
+counted_after_link k n g d w = record { files = with_at d w (with_at n g k.files); next = k.next; key = k.key; volumes = k.volumes; limits = k.limits }
 
 -- what is kept of file n and of directory d
 pub record CountsLink (k : CountedTree) (n d : ℕ) (name : List ℕ) (now : Moment) (f g p w : CountedFile) : Type 0 where
@@ -132,12 +132,12 @@ module _ (k : CountedTree) (n d : ℕ) (name : List ℕ) (now : Moment) (f g p w
 -- ---- a volume
 
 abbrev pub counted_after_add_volume : CountedTree → Volume → CountedFile → CountedTree
-counted_after_add_volume k v root = record { files = k.files ++ (k.next, root) ∷ []; next = k.next + 1; key = k.key; volumes = k.volumes ++ record { volume = v; bytes = 0; files = 1 } ∷ [] }
+counted_after_add_volume k v root = record { files = k.files ++ (k.next, root) ∷ []; next = k.next + 1; key = k.key; volumes = k.volumes ++ record { volume = v; bytes = 0; files = 1 } ∷ []; limits = k.limits }
 
 pub view_after_add_volume : (k : CountedTree) (v : Volume) (root : CountedFile) → tree_in (counted_after_add_volume k v root) ≡ with_new_volume (tree_in k) v root.file
 view_after_add_volume k v root =
-    ap (λ fs. record { files = fs; next = k.next + 1; key = k.key; volumes = map (λ (c : CountedVolume). c.volume) (k.volumes ++ record { volume = v; bytes = 0; files = 1 } ∷ []) }) (shows_push (λ (a : CountedFile). a.file) k.next root k.files)
-    ∙ ap (λ vs. record { files = (tree_in k).files ++ (k.next, root.file) ∷ []; next = k.next + 1; key = k.key; volumes = vs }) (map-append (λ (c : CountedVolume). c.volume) k.volumes (record { volume = v; bytes = 0; files = 1 } ∷ []))
+    ap (λ fs. record { files = fs; next = k.next + 1; key = k.key; volumes = map (λ (c : CountedVolume). c.volume) (k.volumes ++ record { volume = v; bytes = 0; files = 1 } ∷ []); limits = k.limits }) (shows_push (λ (a : CountedFile). a.file) k.next root k.files)
+    ∙ ap (λ vs. record { files = (tree_in k).files ++ (k.next, root.file) ∷ []; next = k.next + 1; key = k.key; volumes = vs; limits = k.limits }) (map-append (λ (c : CountedVolume). c.volume) k.volumes (record { volume = v; bytes = 0; files = 1 } ∷ []))
 
 pub agree_after_add_volume : (k : CountedTree) (v : Volume) (root : CountedFile) → Agrees k → MayBeFounded (tree_in k) v root.file → root.nlink ≡ 2 → v.max_bytes < 2 ^ 64 → v.max_files < 2 ^ 64 → Agrees (counted_after_add_volume k v root)
 agree_after_add_volume k v root keeps may two wide_bytes wide_files =

@@ -2,6 +2,7 @@
 use Rattle.std.proofs.Common.{◌≡◌, ◌≢◌, ℕ, zero, suc, ◌+◌, ◌<◌, List, [], ◌∷◌, map, length, Some, refl, sym, ap, subst, ◌∙◌, arith, add-zero}
 use Rattle.std.specs.Prelude.{slice_get, ◌^◌}
 use Rattle.nfs_handles.specs.NumberedFiles.{NumberedFiles}
+use Rattle.nfs_inodes.specs.declared.limits.Limits.{Limits}
 use Rattle.nfs_inodes.specs.declared.stored_file.StoredFile.{StoredFile}
 use Rattle.nfs_inodes.specs.declared.stored_volume.StoredVolume.{StoredVolume}
 use Rattle.nfs_inodes.specs.Tree.{Tree, File, Volume, at, with_at, bytes_in, nlink, bytes_of, files_of}
@@ -40,7 +41,7 @@ agrees_whole k agrees = record {
 -- ---- file n has another value, and volumes other totals
 
 abbrev pub recounted : CountedTree → ℕ → CountedFile → List CountedVolume → CountedTree
-recounted k n w news = record { files = with_at n w k.files; next = k.next; key = k.key; volumes = news }
+recounted k n w news = record { files = with_at n w k.files; next = k.next; key = k.key; volumes = news; limits = k.limits }
 
 abbrev pub volumes_in : List CountedVolume → List Volume
 volumes_in cs = map (λ c. c.volume) cs
@@ -49,7 +50,7 @@ pub recounted_files : (k : CountedTree) (n : ℕ) (w : CountedFile) → files_in
 recounted_files k n w = shows_with (λ (a : CountedFile). a.file) n w k.files
 
 pub view_recounted : (k : CountedTree) (n : ℕ) (w : CountedFile) (news : List CountedVolume) → volumes_in news ≡ volumes_in k.volumes → tree_in (recounted k n w news) ≡ with_file (tree_in k) n w.file
-view_recounted k n w news same = ap (λ vs. record { files = files_in (with_at n w k.files); next = k.next; key = k.key; volumes = vs }) same
+view_recounted k n w news same = ap (λ vs. record { files = files_in (with_at n w k.files); next = k.next; key = k.key; volumes = vs; limits = k.limits }) same
     ∙ ap (λ fs. record (tree_in k) { files = fs }) (recounted_files k n w)
 
 -- the links and totals that are kept are those of the tree with the other file, where file y may be named by no entry
@@ -158,14 +159,14 @@ agrees_alike k n f w news agrees at_file alike links law volumes totals =
 -- ---- what is kept
 
 -- a value changed in the files, and totals in the volumes
-pub kept_revalued : {From : StoredFile → StoredFile → Type 0} (a b : NumberedFiles StoredFile) (olds news : List StoredVolume) (n : ℕ) (r : Revalues a n From b) → counted_tree_of b news ≡ recounted (counted_tree_of a olds) n (counted_file_of r.was.tag r.value) (map counted_volume_of news)
-kept_revalued a b olds news n r =
-    ap (λ (u : NumberedFiles StoredFile). counted_tree_of u news) (r.new_is ∙ with_value_is a n r.was r.value r.at_was)
-    ∙ ap (λ fs. record { files = fs; next = a.next; key = a.key; volumes = map counted_volume_of news }) (shows_with counted_file n (record { tag = r.was.tag; value = r.value }) a.files)
+pub kept_revalued : {limits : Limits} {From : StoredFile → StoredFile → Type 0} (a b : NumberedFiles StoredFile) (olds news : List StoredVolume) (n : ℕ) (r : Revalues a n From b) → counted_tree_of limits b news ≡ recounted (counted_tree_of limits a olds) n (counted_file_of r.was.tag r.value) (map counted_volume_of news)
+kept_revalued {limits} a b olds news n r =
+    ap (λ (u : NumberedFiles StoredFile). counted_tree_of limits u news) (r.new_is ∙ with_value_is a n r.was r.value r.at_was)
+    ∙ ap (λ fs. record { files = fs; next = a.next; key = a.key; volumes = map counted_volume_of news; limits = limits }) (shows_with counted_file n (record { tag = r.was.tag; value = r.value }) a.files)
 
 -- and the file that it is then
-pub kept_as : {From : StoredFile → StoredFile → Type 0} (a b : NumberedFiles StoredFile) (olds news : List StoredVolume) (n : ℕ) (r : Revalues a n From b) (g : File) → file_of r.was.tag r.value ≡ g → counted_tree_of b news ≡ recounted (counted_tree_of a olds) n (record { file = g; nlink = r.value.nlink }) (map counted_volume_of news)
-kept_as a b olds news n r g is = kept_revalued a b olds news n r ∙ ap (λ f. recounted (counted_tree_of a olds) n (record { file = f; nlink = r.value.nlink }) (map counted_volume_of news)) is
+pub kept_as : {limits : Limits} {From : StoredFile → StoredFile → Type 0} (a b : NumberedFiles StoredFile) (olds news : List StoredVolume) (n : ℕ) (r : Revalues a n From b) (g : File) → file_of r.was.tag r.value ≡ g → counted_tree_of limits b news ≡ recounted (counted_tree_of limits a olds) n (record { file = g; nlink = r.value.nlink }) (map counted_volume_of news)
+kept_as {limits} a b olds news n r g is = kept_revalued a b olds news n r ∙ ap (λ f. recounted (counted_tree_of limits a olds) n (record { file = f; nlink = r.value.nlink }) (map counted_volume_of news)) is
 
 -- no totals more
 pub totals_nothing : (cs : List CountedVolume) (index : ℕ) → with_totals cs index 0 0 ≡ cs

@@ -61,7 +61,7 @@ totals_after k files index b n keeps sums p c e =
 -- ---- a new file
 
 abbrev pub counted_after_make : CountedTree → ℕ → CountedFile → CountedFile → ℕ → ℕ → CountedTree
-counted_after_make k d w new index size = record { files = with_at d w (k.files ++ (k.next, new) ∷ []); next = k.next + 1; key = k.key; volumes = with_totals k.volumes index size 1 }
+counted_after_make k d w new index size = record { files = with_at d w (k.files ++ (k.next, new) ∷ []); next = k.next + 1; key = k.key; volumes = with_totals k.volumes index size 1; limits = k.limits }
 
 -- what is kept of directory d and of the new file
 pub record CountsNewFile (k : CountedTree) (d size : ℕ) (name : List ℕ) (now : Moment) (p w new : CountedFile) : Type 0 where
@@ -70,8 +70,8 @@ pub record CountsNewFile (k : CountedTree) (d size : ℕ) (name : List ℕ) (now
   pub entered : w.file ≡ entered p.file name k.next now
   pub links : w.nlink ≡ p.nlink + one_when (is_directory new.file.kind)
   pub first_links : new.nlink ≡ (if is_directory new.file.kind then 2 else 1)
-  pub new_file : IsNew d size may.enter.dir new.file
-  pub few : is_directory new.file.kind ≡ true → nlink (tree_in k).files d may.enter.dir < 1000
+  pub new_file : IsNew k.limits d size may.enter.dir new.file
+  pub few : is_directory new.file.kind ≡ true → nlink (tree_in k).files d may.enter.dir < k.limits.links
 
 its_dir : (k : CountedTree) (d size : ℕ) (name : List ℕ) (now : Moment) (p w new : CountedFile) (has : CountsNewFile k d size name now p w new) → has.may.enter.dir ≡ p.file
 its_dir k d size name now p w new has = same_some (sym has.may.enter.at_dir.0 ∙ shown k d p has.at_dir)
@@ -82,8 +82,8 @@ files_made k d w new = shows_with (λ (a : CountedFile). a.file) d w (k.files ++
 pub view_after_make : (k : CountedTree) (d size : ℕ) (name : List ℕ) (now : Moment) (p w new : CountedFile) (index : ℕ) → Law (tree_in k) → CountsNewFile k d size name now p w new → tree_in (counted_after_make k d w new index size) ≡ with_named_file (tree_in k) d name new.file now
 view_after_make k d size name now p w new index law has =
     let t = tree_in k in
-    ap (λ vs. record { files = files_in (with_at d w (k.files ++ (k.next, new) ∷ [])); next = k.next + 1; key = k.key; volumes = vs }) (volumes_stay k.volumes index size 1)
-    ∙ ap (λ fs. record { files = fs; next = k.next + 1; key = k.key; volumes = t.volumes }) (files_made k d w new)
+    ap (λ vs. record { files = files_in (with_at d w (k.files ++ (k.next, new) ∷ [])); next = k.next + 1; key = k.key; volumes = vs; limits = k.limits }) (volumes_stay k.volumes index size 1)
+    ∙ ap (λ fs. record { files = fs; next = k.next + 1; key = k.key; volumes = t.volumes; limits = k.limits }) (files_made k d w new)
     ∙ ap (λ g. with_file (with_new_file t new.file) d g) has.entered
     ∙ sym (gained_is (with_new_file t new.file) d t.next now name p.file (stays t new.file d p.file law (shown k d p has.at_dir)))
 

@@ -46,7 +46,7 @@ agrees_left k d links now name f lost file agrees at_d is_dir found at_lost less
 
 -- without file n, and with other totals
 abbrev pub counted_gone : CountedTree → ℕ → List CountedVolume → CountedTree
-counted_gone k n news = record { files = without_at n k.files; next = k.next; key = k.key; volumes = news }
+counted_gone k n news = record { files = without_at n k.files; next = k.next; key = k.key; volumes = news; limits = k.limits }
 
 module _ (k : CountedTree) (n : ℕ) (h : CountedFile) (news : List CountedVolume) (at_n : at n k.files ≡ Some h) (given_back : with_totals news h.file.volume (length (bytes_in h.file.kind)) 1 ≡ k.volumes) where
   files_gone : files_in (without_at n k.files) ≡ (without_file (tree_in k) n).files
@@ -56,7 +56,7 @@ module _ (k : CountedTree) (n : ℕ) (h : CountedFile) (news : List CountedVolum
   between = given_back ∙ sym (totals_nothing k.volumes h.file.volume)
 
   pub view_gone : tree_in (counted_gone k n news) ≡ without_file (tree_in k) n
-  view_gone = ap (λ vs. record { files = files_in (without_at n k.files); next = k.next; key = k.key; volumes = vs }) (volumes_moved news k.volumes h.file.volume (length (bytes_in h.file.kind)) 1 0 0 between)
+  view_gone = ap (λ vs. record { files = files_in (without_at n k.files); next = k.next; key = k.key; volumes = vs; limits = k.limits }) (volumes_moved news k.volumes h.file.volume (length (bytes_in h.file.kind)) 1 0 0 between)
       ∙ ap (λ fs. record (tree_in k) { files = fs }) files_gone
 
   pub agrees_gone : AgreesBut n k → MayBeRemoved (tree_in k) n → Agrees (counted_gone k n news)

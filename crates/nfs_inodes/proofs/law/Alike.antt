@@ -3,6 +3,8 @@ use Rattle.std.proofs.Common.{◌≡◌, ◌≢◌, ℕ, zero, suc, ◌+◌, ◌
 use Rattle.std.specs.Prelude.{Contains, slice_get, length, nat_eq, if◌then◌else◌}
 use Rattle.std.proofs.lemmas.Bool.{eqb-true, eq-eqb}
 use Rattle.std.proofs.lemmas.List.Sums.{sum_by-cons}
+use Rattle.nfs_inodes.specs.declared.limits.Limits.{Limits}
+use Rattle.nfs_inodes.specs.Limits.{AreLimits}
 use Rattle.nfs_inodes.specs.Tree.{Tree, File, Entry, Volume, at, with_at, on_some, one_when, entries_in, bytes_in, is_directory, parent_in, names_in, names_of, names_directory, subdirectories, nlink, bytes_for, one_for, bytes_of, files_of}
 use Rattle.nfs_inodes.specs.Law.{LawBut, IsSound, AreVolumes, IsRoot, AreRising, Lives, climb, parent_of}
 use Rattle.nfs_inodes.specs.Changes.{with_file}
@@ -28,6 +30,7 @@ pub record AreAlike (old new : Tree) : Type 0 where
   pub numbers : IsNumbered (numbered_files new)
   pub rising : AreRising 0 new.files new.next
   pub volumes : new.volumes ≡ old.volumes
+  pub limits : new.limits ≡ old.limits
   pub back : (m : ℕ) (h : File) → Lives new m h → (f : File) × Lives old m f × Alike f h
   pub forth : (m : ℕ) (f : File) → Lives old m f → (h : File) × Lives new m h × Alike f h
   pub parents : (m : ℕ) → parent_of new.files m ≡ parent_of old.files m
@@ -63,7 +66,7 @@ nlink_alike old new like n f g a = nlink_by (is_directory g.kind) (is_directory 
 pub not_root : (old new : Tree) (n : ℕ) → new.volumes ≡ old.volumes → (IsRoot new.volumes n → ⊥) → IsRoot old.volumes n → ⊥
 not_root old new n same free r = free (subst (λ vs. IsRoot vs n) (sym same) r)
 
-pub law_alike : (x : ℕ) (old new : Tree) → LawBut x old → AreAlike old new → ((m : ℕ) (h : File) → Lives new m h → IsSound h) → ((index : ℕ) (v : Volume) → slice_get new.volumes index ≡ Some v → bytes_of index new.files ≤ v.max_bytes) → LawBut x new
+pub law_alike : (x : ℕ) (old new : Tree) → LawBut x old → AreAlike old new → ((m : ℕ) (h : File) → Lives new m h → IsSound new.limits h) → ((index : ℕ) (v : Volume) → slice_get new.volumes index ≡ Some v → bytes_of index new.files ≤ v.max_bytes) → LawBut x new
 law_alike x old new law like sound bytes = record {
   numbers = like.numbers;
   rising = like.rising;
@@ -97,8 +100,9 @@ law_alike x old new law like sound bytes = record {
   named = λ n h other at_n dir. let b = like.back n h at_n in
       subst (λ k. 1 ≤ k) (sym (like.names n)) (law.named n b.0 other b.1 (sym b.2.placed.directory ∙ dir));
   links = λ n h at_n. let b = like.back n h at_n in
-      subst (λ k. k ≤ 1000) (sym (nlink_alike old new like n b.0 h b.2)) (law.links n b.0 b.1);
-  volumes = subst AreVolumes (sym like.volumes) law.volumes;
+      subst (λ k. k ≤ new.limits.links) (sym (nlink_alike old new like n b.0 h b.2)) (subst (λ (l : Limits). nlink old.files n b.0 ≤ l.links) (sym like.limits) (law.links n b.0 b.1));
+  limits = subst AreLimits (sym like.limits) law.limits;
+  volumes = subst (λ (l : Limits). AreVolumes l new.volumes) (sym like.limits) (subst (AreVolumes old.limits) (sym like.volumes) law.volumes);
   bytes = bytes;
   count = λ index v e. subst (λ k. k ≤ v.max_files) (sym (like.count index)) (law.count index v (subst (λ vs. slice_get vs index ≡ Some v) like.volumes e));
 }
@@ -134,6 +138,7 @@ one_alike t n f g rising numbers at_n like = record {
   numbers = numbers_changed t n f g at_n like.placed.tag numbers;
   rising = rising_with 0 t.next n t.files g rising;
   volumes = refl;
+  limits = refl;
   back = λ m h e. with_back n m f g h t.files at_n e
       (λ s is. (f, ap (λ k. at k t.files) s ∙ at_n, subst (λ k. Alike f k) is like))
       (λ o was. (h, was, alike_itself h));
@@ -169,9 +174,9 @@ pub record HasRoom (t : Tree) (f g : File) : Type 0 where
   pub at_volume : slice_get t.volumes f.volume ≡ Some volume
   pub room : bytes_of f.volume t.files + length (bytes_in g.kind) ≤ volume.max_bytes + length (bytes_in f.kind)
 
-pub law_with_file : (x : ℕ) (t : Tree) (n : ℕ) (f g : File) → LawBut x t → Lives t n f → Alike f g → IsSound g → HasRoom t f g → LawBut x (with_file t n g)
+pub law_with_file : (x : ℕ) (t : Tree) (n : ℕ) (f g : File) → LawBut x t → Lives t n f → Alike f g → IsSound t.limits g → HasRoom t f g → LawBut x (with_file t n g)
 law_with_file x t n f g law at_n like sound has = law_alike x t (with_file t n g) law (one_alike t n f g law.rising law.numbers at_n like)
-    (λ m h e. with_back n m f g h t.files at_n e (λ s is. subst IsSound is sound) (λ o was. law.sound m h was))
+    (λ m h e. with_back n m f g h t.files at_n e (λ s is. subst (IsSound t.limits) is sound) (λ o was. law.sound m h was))
     (λ index v e. let reported = bytes_changed t n f g at_n like.placed.volume index in by_number f.volume index
     (λ s. let same : has.volume ≡ v = same_some (sym has.at_volume ∙ ap (slice_get t.volumes) s ∙ e) in
     let limit : has.volume.max_bytes ≡ v.max_bytes = ap (λ (k : Volume). k.max_bytes) same in

@@ -34,7 +34,7 @@ pub record TargetNow (t u : Tree) (to : ℕ) (new_name : List ℕ) (target file 
   pub volume : dir.volume ≡ target.volume
   pub fresh : All (λ e. e.name ≢ new_name) (entries_in dir.kind)
   pub cookie : next_cookie_in dir.kind ≡ next_cookie_in target.kind
-  pub links : is_directory file.kind ≡ true → nlink u.files to dir < 1000
+  pub links : is_directory file.kind ≡ true → nlink u.files to dir < u.limits.links
 
 module _ (t : Tree) (from : ℕ) (name : List ℕ) (to : ℕ) (new_name : List ℕ) (now : Moment) (law : Law t) (may : MayCarry t from name to new_name) where
   abbrev pub number : ℕ

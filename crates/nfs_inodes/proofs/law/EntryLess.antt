@@ -3,6 +3,8 @@ use Rattle.std.proofs.Common.{inl, inr, ◌≡◌, ◌⊎◌, ℕ, suc, ◌+◌,
 use Rattle.std.specs.Prelude.{not, Contains, slice_get, nat_eq}
 use Rattle.std.proofs.lemmas.Slice.Eq.{bytes_eq-Decides}
 use Rattle.std.proofs.lemmas.List.Sums.{sum_by-cons}
+use Rattle.nfs_inodes.specs.Limits.{AreLimits}
+use Rattle.nfs_inodes.specs.declared.limits.Limits.{Limits}
 use Rattle.nfs_inodes.specs.Tree.{Tree, File, Entry, at, one_when, entries_in, parent_in, names_of, files_of}
 use Rattle.nfs_inodes.specs.Law.{Law, LawBut, AreVolumes, AreApart, AreRising, Lives, parent_of}
 use Rattle.nfs_inodes.specs.Changes.{entries_without}
@@ -90,6 +92,7 @@ pub record HasLess (lost : Entry) (old new : Tree) : Type 0 where
   pub numbers : IsNumbered (numbered_files old) → IsNumbered (numbered_files new)
   pub rising : AreRising 0 new.files new.next
   pub volumes : new.volumes ≡ old.volumes
+  pub limits : new.limits ≡ old.limits
   pub back : (m : ℕ) (h : File) → Lives new m h → (f : File) × Lives old m f × Placed f h × ((e : Entry) → Contains (entries_in h.kind) e → Contains (entries_in f.kind) e)
   pub forth : (m : ℕ) (f : File) → Lives old m f → (h : File) × Lives new m h × Placed f h × ((e : Entry) → Contains (entries_in f.kind) e → Contains (entries_in h.kind) e ⊎ (lost ≡ e))
   pub parents : (m : ℕ) → parent_of new.files m ≡ parent_of old.files m
@@ -148,7 +151,8 @@ law_less lost old new law less fits = record {
       let none = one_other m lost other in
       omega (arith, l, none, reported);
   links = fits.links;
-  volumes = subst AreVolumes (sym less.volumes) law.volumes;
+  limits = subst AreLimits (sym less.limits) law.limits;
+  volumes = subst (λ (l : Limits). AreVolumes l new.volumes) (sym less.limits) (subst (AreVolumes old.limits) (sym less.volumes) law.volumes);
   bytes = fits.bytes;
   count = λ index v e. subst (λ k. k ≤ v.max_files) (sym (less.count index)) (law.count index v (subst (λ vs. slice_get vs index ≡ Some v) less.volumes e));
 }

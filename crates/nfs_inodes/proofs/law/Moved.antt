@@ -2,6 +2,7 @@
 use Rattle.std.proofs.Common.{◌≡◌, ◌≢◌, ℕ, zero, suc, ◌≤◌, true, false, Some, refl, sym, ap, subst, ◌∙◌, arith}
 use Rattle.std.specs.Prelude.{Contains, slice_get, length}
 use Rattle.nfs_attrs.specs.declared.moment.Moment.{Moment}
+use Rattle.nfs_inodes.specs.declared.limits.Limits.{Limits}
 use Rattle.nfs_inodes.specs.Tree.{Tree, File, Kind, Regular, Directory, Link, Volume, at, with_at, on_some, entries_in, bytes_in, is_directory, parent_in, names_in, names_of, subdirectories, nlink}
 use Rattle.nfs_inodes.specs.Law.{LawBut, IsSound, IsRoot, Lives, LivesAsDirectory, climb, parent_of}
 use Rattle.nfs_inodes.specs.Changes.{with_file, kind_with_parent, moved_to, moved}
@@ -37,10 +38,10 @@ moved_parent (Regular bytes) d e = cc
 moved_parent (Directory parent next entries) d e = refl
 moved_parent (Link path) d e = cc
 
-pub moved_sound : (f : File) (d : ℕ) (now : Moment) → IsSound f → IsSound (moved_to f d now)
-moved_sound f d now s = by_kind f.kind s
+pub moved_sound : {l : Limits} (f : File) (d : ℕ) (now : Moment) → IsSound l f → IsSound l (moved_to f d now)
+moved_sound {l} f d now s = by_kind f.kind s
   where
-    by_kind : (k : Kind) → IsSound (record f { kind = k }) → IsSound (moved_to (record f { kind = k }) d now)
+    by_kind : (k : Kind) → IsSound l (record f { kind = k }) → IsSound l (moved_to (record f { kind = k }) d now)
     by_kind (Regular bytes) s = record { mode = s.mode; bytes = s.bytes; path = s.path; names = s.names; cookies = s.cookies; next_cookie = s.next_cookie; apart = s.apart }
     by_kind (Directory parent next entries) s = record { mode = s.mode; bytes = s.bytes; path = s.path; names = s.names; cookies = s.cookies; next_cookie = s.next_cookie; apart = s.apart }
     by_kind (Link path) s = record { mode = s.mode; bytes = s.bytes; path = s.path; names = s.names; cookies = s.cookies; next_cookie = s.next_cookie; apart = s.apart }
@@ -143,7 +144,7 @@ module _ (t : Tree) (n d : ℕ) (now : Moment) (f : File) (at_n : Lives t n f) w
     law_moved_directory = record {
       numbers = numbers_changed t n f g at_n like.tag law.numbers;
       rising = rising_with 0 t.next n t.files g law.rising;
-      sound = λ m h e. with_back n m f g h t.files at_n e (λ s is. subst IsSound is (moved_sound f d now (law.sound n f at_n))) (λ o was. law.sound m h was);
+      sound = λ m h e. with_back n m f g h t.files at_n e (λ s is. subst (IsSound t.limits) is (moved_sound f d now (law.sound n f at_n))) (λ o was. law.sound m h was);
       placed = λ m h e. let b = back m h e in let l = law.placed m b.0 b.1 in (l.0, ap (slice_get t.volumes) b.2.volume ∙ l.1);
       entries = λ a h e at_a in_h. let b = back a h at_a in
           let l = law.entries a b.0 e b.1 (subst (λ es. Contains es e) b.2.entries in_h) in
@@ -169,8 +170,9 @@ module _ (t : Tree) (n d : ℕ) (now : Moment) (f : File) (at_n : Lives t n f) w
           let w = way r.0 m b.0 r.1 (b.1, sym b.2.directory ∙ dir.1) r.2 r.3 in
           (w.0, r.1, ap (slice_get t.volumes) b.2.volume ∙ r.2, w.1);
       named = λ m h other at_m dir. subst (λ k. 1 ≤ k) (sym (names_moved m)) (law.named m h other (was_there m h other at_m) dir);
-      links = λ m h e. let b = back m h e in subst (λ k. k ≤ 1000) (sym (nlink_moved m b.0 h b.2)) (law.links m b.0 b.1);
+      links = λ m h e. let b = back m h e in subst (λ k. k ≤ t.limits.links) (sym (nlink_moved m b.0 h b.2)) (law.links m b.0 b.1);
       volumes = law.volumes;
+      limits = law.limits;
       bytes = λ index v e. let reported = bytes_changed t n f g at_n like.volume index in
           let was = law.bytes index v e in
           let same : length (bytes_in g.kind) ≡ length (bytes_in f.kind) = ap length like.bytes in

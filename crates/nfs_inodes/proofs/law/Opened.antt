@@ -1,11 +1,14 @@
--- The law of a tree with another key and a greater next number.
-use Rattle.std.proofs.Common.{◌≡◌, ℕ, ◌^◌, ◌<◌, ◌≤◌, List, [], ◌∷◌, length, arith}
+-- The law of a tree with another key, a greater next number, or other limits.
+use Rattle.std.proofs.Common.{◌≡◌, ℕ, ◌^◌, ◌<◌, ◌≤◌, List, [], ◌∷◌, All, length, ap, sym, subst, arith}
 use Rattle.std.specs.Prelude.{slice_index}
 use Rattle.std.specs.Map.{keys_of}
-use Rattle.std.proofs.lemmas.List.Elements.{All-weaker}
+use Rattle.std.proofs.lemmas.List.Elements.{All-nil, All-weaker}
+use Rattle.std.proofs.lemmas.Option.{slice_get_within}
 use Rattle.nfs_handles.specs.NumberedFiles.{IsGiven, IsNumbered}
-use Rattle.nfs_inodes.specs.Tree.{Tree}
-use Rattle.nfs_inodes.specs.Law.{AreRising, Law}
+use Rattle.nfs_inodes.specs.declared.limits.Limits.{Limits}
+use Rattle.nfs_inodes.specs.Limits.{AreLimits}
+use Rattle.nfs_inodes.specs.Tree.{Tree, File}
+use Rattle.nfs_inodes.specs.Law.{AreRising, IsWithin, Law, Lives}
 use Rattle.nfs_inodes.specs.Reading.{numbered_files}
 use Rattle.nfs_inodes.specs.Counts.{CountedTree, Agrees, tree_in}
 
@@ -49,6 +52,7 @@ law_opened t next key le fits is law = record {
   named = law.named;
   links = law.links;
   volumes = law.volumes;
+  limits = law.limits;
   bytes = law.bytes;
   count = law.count;
 }
@@ -60,6 +64,51 @@ key_of k a = record { len = a.law.numbers.key_len; bytes = a.law.numbers.key_byt
 pub agrees_opened : (k : CountedTree) (next : ℕ) (key : List ℕ) → k.next ≤ next → next < 2 ^ 64 → IsKey key → Agrees k → Agrees (record k { next = next; key = key })
 agrees_opened k next key le fits is a = record {
   law = law_opened (tree_in k) next key le fits is a.law;
+  links = a.links;
+  totals = a.totals;
+  limits = a.limits;
+}
+
+-- ---- a tree without volumes
+
+-- it has no files
+no_file : {P : Type 0} (t : Tree) → Law t → t.volumes ≡ [] → (n : ℕ) (f : File) → Lives t n f → P
+no_file t law none n f at_n =
+    let l = law.placed n f at_n in
+    let low = slice_get_within t.volumes f.volume l.0 l.1 in
+    let empty = ap length none in
+    absurd (omega (arith, low, empty))
+
+pub law_limited : (t : Tree) (limits : Limits) → AreLimits limits → t.volumes ≡ [] → Law t → Law (record t { limits = limits })
+law_limited t limits are none law = record {
+  numbers = law.numbers;
+  rising = law.rising;
+  sound = λ n f e. no_file t law none n f e;
+  placed = law.placed;
+  entries = law.entries;
+  absent = law.absent;
+  roots = law.roots;
+  once = law.once;
+  parents = law.parents;
+  stands = law.stands;
+  homes = law.homes;
+  reached = law.reached;
+  named = law.named;
+  links = λ n f e. no_file t law none n f e;
+  limits = are;
+  volumes = record {
+    few = law.volumes.few;
+    within = subst (All (IsWithin limits)) (sym none) (All-nil (IsWithin limits));
+    paths = law.volumes.paths;
+    apart = law.volumes.apart;
+  };
+  bytes = law.bytes;
+  count = law.count;
+}
+
+pub agrees_limited : (k : CountedTree) (limits : Limits) → AreLimits limits → (tree_in k).volumes ≡ [] → Agrees k → Agrees (record k { limits = limits })
+agrees_limited k limits are none a = record {
+  law = law_limited (tree_in k) limits are none a.law;
   links = a.links;
   totals = a.totals;
   limits = a.limits;

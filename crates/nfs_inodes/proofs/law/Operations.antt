@@ -2,6 +2,7 @@
 use Rattle.std.proofs.Common.{◌≡◌, ◌≢◌, ℕ, ◌+◌, ◌<◌, ◌≤◌, true, false, List, [], ◌∷◌, refl, sym, ap, subst, ◌∙◌, arith}
 use Rattle.std.specs.Prelude.{slice_get, length}
 use Rattle.nfs_attrs.specs.declared.moment.Moment.{Moment}
+use Rattle.nfs_inodes.specs.declared.limits.Limits.{Limits}
 use Rattle.nfs_inodes.specs.Tree.{Tree, File, Kind, Regular, Directory, Link, at, on_some, entries_in, bytes_in, is_directory, is_regular, names_of, subdirectories, nlink, bytes_of, files_of}
 use Rattle.nfs_inodes.specs.Law.{Law, IsSound, Lives, LivesAsDirectory}
 use Rattle.nfs_inodes.specs.Changes.{with_new_file, with_file, with_entry, with_named_file, touched, after_link, put_bytes, kind_with_bytes, file_with_bytes, after_write_at}
@@ -13,7 +14,7 @@ use Rattle.nfs_inodes.proofs.law.WithEntry.{MayGain, law_with_entry}
 use Rattle.nfs_inodes.proofs.law.WithNewFile.{MayBeBorn, law_with_new_file, next_free, stays, new_lives, names_born, subdirectories_born}
 use Rattle.nfs_inodes.proofs.Bytes.{length_put}
 
-pub may_be_born : (t : Tree) (d size : ℕ) (name : List ℕ) (f : File) (may : MayMake t d name size) → IsNew d size may.enter.dir f → MayBeBorn t f
+pub may_be_born : (t : Tree) (d size : ℕ) (name : List ℕ) (f : File) (may : MayMake t d name size) → IsNew t.limits d size may.enter.dir f → MayBeBorn t f
 may_be_born t d size name f may new = record {
   tag = new.tag;
   number = may.number;
@@ -26,7 +27,7 @@ may_be_born t d size name f may new = record {
   count = let r = may.files in let s : files_of f.volume t.files ≡ files_of may.enter.dir.volume t.files = ap (λ k. files_of k t.files) new.volume in omega (arith, r, s);
 }
 
-pub may_gain_born : (t : Tree) (d size : ℕ) (name : List ℕ) (f : File) (may : MayMake t d name size) → Law t → IsNew d size may.enter.dir f → (is_directory f.kind ≡ true → nlink t.files d may.enter.dir < 1000) → MayGain t.next (with_new_file t f) d name t.next
+pub may_gain_born : (t : Tree) (d size : ℕ) (name : List ℕ) (f : File) (may : MayMake t d name size) → Law t → IsNew t.limits d size may.enter.dir f → (is_directory f.kind ≡ true → nlink t.files d may.enter.dir < t.limits.links) → MayGain t.next (with_new_file t f) d name t.next
 may_gain_born t d size name f may law new links =
     let dir = may.enter.dir in
     let no_names : names_of t.next (with_new_file t f).files ≡ 0 = names_born t f new.empty t.next ∙ law.absent t.next (next_free t law) in
@@ -46,11 +47,11 @@ may_gain_born t d size name f may law new links =
             let are : nlink t.files d dir ≡ 2 + subdirectories t.files (entries_in dir.kind) = if_true _ _ may.enter.at_dir.1 in
             let same = subdirectories_born t f d dir law may.enter.at_dir.0 in omega (arith, few, are, same),
       );
-      links = λ n. omega (arith, no_names);
+      links = λ n. let two = law.limits.links_2 in omega (arith, no_names, two);
       only = λ m z o. o;
     }
 
-pub law_with_named_file : (t : Tree) (d size : ℕ) (name : List ℕ) (f : File) (now : Moment) (may : MayMake t d name size) → Law t → IsNew d size may.enter.dir f → (is_directory f.kind ≡ true → nlink t.files d may.enter.dir < 1000) → Law (with_named_file t d name f now)
+pub law_with_named_file : (t : Tree) (d size : ℕ) (name : List ℕ) (f : File) (now : Moment) (may : MayMake t d name size) → Law t → IsNew t.limits d size may.enter.dir f → (is_directory f.kind ≡ true → nlink t.files d may.enter.dir < t.limits.links) → Law (with_named_file t d name f now)
 law_with_named_file t d size name f now may law new links = law_with_entry t.next (with_new_file t f) d t.next now name (law_with_new_file t f law (may_be_born t d size name f may new)) (may_gain_born t d size name f may law new links)
 
 -- ---- a link
@@ -58,8 +59,8 @@ law_with_named_file t d size name f now may law new links = law_with_entry t.nex
 pub touch_alike : (f : File) (now : Moment) → Alike f (record f { ctime = now })
 touch_alike f now = record { placed = record { tag = refl; volume = refl; directory = refl; parent = refl }; entries = refl }
 
-touch_sound : (f : File) (now : Moment) → IsSound f → IsSound (record f { ctime = now })
-touch_sound f now s = record { mode = s.mode; bytes = s.bytes; path = s.path; names = s.names; cookies = s.cookies; next_cookie = s.next_cookie; apart = s.apart }
+touch_sound : {l : Limits} (f : File) (now : Moment) → IsSound l f → IsSound l (record f { ctime = now })
+touch_sound {l} f now s = record { mode = s.mode; bytes = s.bytes; path = s.path; names = s.names; cookies = s.cookies; next_cookie = s.next_cookie; apart = s.apart }
 
 pub touched_is : (t : Tree) (n : ℕ) (now : Moment) (f : File) → Lives t n f → touched t n now ≡ with_file t n (record f { ctime = now })
 touched_is t n now f e = ap (λ o. on_some o t (λ f. with_file t n (record f { ctime = now }))) e
@@ -113,10 +114,10 @@ overwritten_bytes (Regular old) offset bytes e = refl
 overwritten_bytes (Directory parent next entries) offset bytes e = cc
 overwritten_bytes (Link path) offset bytes e = cc
 
-overwritten_sound : (f : File) (offset : ℕ) (bytes : List ℕ) (now : Moment) → is_regular f.kind ≡ true → IsSound f → offset + length bytes ≤ 16777216 → IsSound (file_with_bytes f offset bytes now)
-overwritten_sound f offset bytes now r s h = by_kind f.kind r s
+overwritten_sound : {l : Limits} (f : File) (offset : ℕ) (bytes : List ℕ) (now : Moment) → is_regular f.kind ≡ true → IsSound l f → offset + length bytes ≤ l.file_size → IsSound l (file_with_bytes f offset bytes now)
+overwritten_sound {l} f offset bytes now r s h = by_kind f.kind r s
   where
-    by_kind : (k : Kind) → is_regular k ≡ true → IsSound (record f { kind = k }) → IsSound (file_with_bytes (record f { kind = k }) offset bytes now)
+    by_kind : (k : Kind) → is_regular k ≡ true → IsSound l (record f { kind = k }) → IsSound l (file_with_bytes (record f { kind = k }) offset bytes now)
     by_kind (Regular old) e s = let l = length_put old bytes offset in let b = s.bytes in record { mode = s.mode; bytes = omega (arith, l, b, h); path = s.path; names = s.names; cookies = s.cookies; next_cookie = s.next_cookie; apart = s.apart }
     by_kind (Directory parent next entries) e s = cc
     by_kind (Link path) e s = cc

@@ -5,6 +5,7 @@ use Rattle.std.proofs.lemmas.Bool.{eq-eqb}
 use Rattle.std.proofs.lemmas.Slice.Eq.{bytes_eq-Decides}
 use Rattle.std.proofs.lemmas.List.Elements.{All-nil, All-cons, All-weaker, filter_passes}
 use Rattle.nfs_attrs.specs.declared.moment.Moment.{Moment}
+use Rattle.nfs_inodes.specs.declared.limits.Limits.{Limits}
 use Rattle.nfs_inodes.specs.Tree.{Tree, File, Entry, at, on_some, one_when, entries_in, is_directory, nlink}
 use Rattle.nfs_inodes.specs.Law.{Law, LivesAsDirectory, climb}
 use Rattle.nfs_inodes.specs.Changes.{with_file, entries_without, left, released, after_unlink, carried, after_rename}
@@ -156,7 +157,7 @@ module _ (t : Tree) (from : ℕ) (name : List ℕ) (to : ℕ) (new_name : List �
     climb_then : (steps : ℕ) → climb steps after.files to ≡ climb steps t.files to
     climb_then steps = rest.climbs steps to dir_now not_to target_then ∙ climb_alike t.files without.files (parent_changed t to may.target dir_now may.at_target.0 (left_placed may.target new_name now).parent) steps to
 
-    links_then : is_directory may.file.kind ≡ true → nlink after.files to dir_now < 1000
+    links_then : is_directory may.file.kind ≡ true → nlink after.files to dir_now < t.limits.links
     links_then y =
         let apart = names_apart may.target (law.sound to may.target may.at_target.0) in
         let reported = nlink_less_there t to now new_name may.target old law.rising may.at_target.0 apart found_old replaced.replaced may.at_target.1 replaced.at_replaced in
@@ -194,7 +195,7 @@ module _ (t : Tree) (from : ℕ) (name : List ℕ) (to : ℕ) (new_name : List �
         fresh = subst (All (λ (e : Entry). e.name ≢ new_name)) (sym (left_entries may.target.kind new_name)) (none_left new_name (entries_in may.target.kind));
         cookie = let low = may.cookie names_other in let same = left_cookie may.target.kind new_name in omega (arith, low, same);
         off = λ y steps s. may.off names_other y steps (sym (climb_then steps) ∙ s);
-        links = λ y. inr (links_then y);
+        links = λ y. inr (subst (λ (l : Limits). nlink after.files to dir_now < l.links) (sym rest.limits) (links_then y));
       },
       refl,
       refl,

@@ -4,6 +4,7 @@ use Rattle.std.specs.Prelude.{◌%◌}
 use Rattle.std.proofs.lemmas.List.{length-take-le, take_all}
 use Rattle.std.proofs.lemmas.Bool.{cases_lt}
 use Rattle.nfs_attrs.specs.declared.moment.Moment.{Moment}
+use Rattle.nfs_inodes.specs.declared.limits.Limits.{Limits}
 use Rattle.nfs_inodes.specs.declared.given_attributes.GivenAttributes.{GivenAttributes}
 use Rattle.nfs_inodes.specs.Tree.{Tree, File, Kind, Regular, Directory, Link, on_some, is_regular, bytes_in}
 use Rattle.nfs_inodes.specs.Law.{Law, IsSound, Lives}
@@ -37,10 +38,10 @@ length_resized (Regular old) size e = length_sized old size
 length_resized (Directory parent next entries) size e = cc
 length_resized (Link path) size e = cc
 
-resized_sound : (f : File) (size : ℕ) (now : Moment) → is_regular f.kind ≡ true → IsSound f → size ≤ 16777216 → IsSound (resized_to f size now)
-resized_sound f size now r s h = by_kind f.kind r s
+resized_sound : {l : Limits} (f : File) (size : ℕ) (now : Moment) → is_regular f.kind ≡ true → IsSound l f → size ≤ l.file_size → IsSound l (resized_to f size now)
+resized_sound {l} f size now r s h = by_kind f.kind r s
   where
-    by_kind : (k : Kind) → is_regular k ≡ true → IsSound (record f { kind = k }) → IsSound (resized_to (record f { kind = k }) size now)
+    by_kind : (k : Kind) → is_regular k ≡ true → IsSound l (record f { kind = k }) → IsSound l (resized_to (record f { kind = k }) size now)
     by_kind (Regular old) e s = let l = length_sized old size in record { mode = s.mode; bytes = omega (arith, l, h); path = s.path; names = s.names; cookies = s.cookies; next_cookie = s.next_cookie; apart = s.apart }
     by_kind (Directory parent next entries) e s = cc
     by_kind (Link path) e s = cc
@@ -62,8 +63,8 @@ law_after_resize t n size now may law = subst Law (sym (resized_is t n size now 
 pub given_alike : (f : File) (given : GivenAttributes) (now : Moment) → Alike f (with_given f given now)
 given_alike f given now = record { placed = record { tag = refl; volume = refl; directory = refl; parent = refl }; entries = refl }
 
-given_sound : (f : File) (given : GivenAttributes) (now : Moment) → IsSound f → IsSound (with_given f given now)
-given_sound f given now s = record { mode = of_mode given.mode; bytes = s.bytes; path = s.path; names = s.names; cookies = s.cookies; next_cookie = s.next_cookie; apart = s.apart }
+given_sound : {l : Limits} (f : File) (given : GivenAttributes) (now : Moment) → IsSound l f → IsSound l (with_given f given now)
+given_sound {l} f given now s = record { mode = of_mode given.mode; bytes = s.bytes; path = s.path; names = s.names; cookies = s.cookies; next_cookie = s.next_cookie; apart = s.apart }
   where
     of_mode : (mode : Option ℕ) → on_some mode f.mode (λ m. m % 4096) < 4096
     of_mode None = s.mode

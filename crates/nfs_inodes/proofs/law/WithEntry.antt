@@ -6,6 +6,8 @@ use Rattle.std.proofs.lemmas.List.Sums.{sum_by_push}
 use Rattle.std.proofs.lemmas.List.Elements.{Contains-push, Contains-push_cases, All-push, All-weaker, Contains-append_left}
 use Rattle.std.proofs.lemmas.List.Quantifiers.{all_pairs_push}
 use Rattle.nfs_attrs.specs.declared.moment.Moment.{Moment}
+use Rattle.nfs_inodes.specs.Limits.{AreLimits}
+use Rattle.nfs_inodes.specs.declared.limits.Limits.{Limits}
 use Rattle.nfs_inodes.specs.Tree.{Tree, File, Kind, Regular, Directory, Link, Entry, Volume, at, with_at, on_some, one_when, entries_in, bytes_in, is_directory, parent_in, next_cookie_in, names_in, names_of, names_directory, subdirectories, nlink, bytes_of, files_of}
 use Rattle.nfs_inodes.specs.Law.{Law, LawBut, IsSound, AreVolumes, IsName, IsRoot, AreRising, Lives, LivesAsDirectory, parent_of}
 use Rattle.nfs_inodes.specs.Changes.{with_file, entered, kind_with_entry, with_entry}
@@ -21,6 +23,7 @@ pub record HasMore (d : ℕ) (new_entry : Entry) (old new : Tree) : Type 0 where
   pub numbers : IsNumbered (numbered_files old) → IsNumbered (numbered_files new)
   pub rising : AreRising 0 new.files new.next
   pub volumes : new.volumes ≡ old.volumes
+  pub limits : new.limits ≡ old.limits
   pub back : (m : ℕ) (h : File) → Lives new m h → (f : File) × Lives old m f × Placed f h × ((e : Entry) → Contains (entries_in h.kind) e → Contains (entries_in f.kind) e ⊎ ((m ≡ d) × (new_entry ≡ e)))
   pub forth : (m : ℕ) (f : File) → Lives old m f → (h : File) × Lives new m h × Placed f h × ((e : Entry) → Contains (entries_in f.kind) e → Contains (entries_in h.kind) e)
   pub there : (h : File) × Lives new d h × Contains (entries_in h.kind) new_entry
@@ -38,8 +41,8 @@ pub record MayGain (x : ℕ) (t : Tree) (d : ℕ) (name : List ℕ) (n : ℕ) : 
   pub at_file : Lives t n file
   pub volume : file.volume ≡ dir.volume
   pub free : IsRoot t.volumes n → ⊥
-  pub once : is_directory file.kind ≡ true → (parent_in file.kind ≡ d) × (names_of n t.files ≡ 0) × (subdirectories t.files (entries_in dir.kind) < 998)
-  pub links : is_directory file.kind ≡ false → names_of n t.files < 1000
+  pub once : is_directory file.kind ≡ true → (parent_in file.kind ≡ d) × (names_of n t.files ≡ 0) × (2 + subdirectories t.files (entries_in dir.kind) < t.limits.links)
+  pub links : is_directory file.kind ≡ false → names_of n t.files < t.limits.links
   pub only : (m : ℕ) → m ≢ 0 → m ≢ n → m ≢ x
 
 pub one_other : (m : ℕ) (e : Entry) → m ≢ e.number → one_when (nat_eq e.number m) ≡ 0
@@ -50,8 +53,8 @@ one_same m e s = ap one_when (eq-eqb e.number m (sym s))
 
 -- what the law after an entry more needs beside the tree's names
 pub record FitsAfter (new : Tree) : Type 0 where
-  pub sound : (m : ℕ) (h : File) → Lives new m h → IsSound h
-  pub links : (m : ℕ) (h : File) → Lives new m h → nlink new.files m h ≤ 1000
+  pub sound : (m : ℕ) (h : File) → Lives new m h → IsSound new.limits h
+  pub links : (m : ℕ) (h : File) → Lives new m h → nlink new.files m h ≤ new.limits.links
   pub bytes : (index : ℕ) (v : Volume) → slice_get new.volumes index ≡ Some v → bytes_of index new.files ≤ v.max_bytes
 
 pub law_more : (x d n : ℕ) (name : List ℕ) (cookie : ℕ) (old new : Tree) → LawBut x old → HasMore d (record { cookie = cookie; name = name; number = n }) old new → MayGain x old d name n → FitsAfter new → LawBut 0 new
@@ -121,7 +124,8 @@ law_more x d n name cookie old new law more may fits =
           (λ s. let one = one_same m e0 s in omega (arith, one, reported))
           (λ o. let l = law.named m b.0 (may.only m other o) b.1 (sym b.2.directory ∙ dir) in omega (arith, l, reported));
       links = fits.links;
-      volumes = subst AreVolumes (sym more.volumes) law.volumes;
+      limits = subst AreLimits (sym more.limits) law.limits;
+      volumes = subst (λ (l : Limits). AreVolumes l new.volumes) (sym more.limits) (subst (AreVolumes old.limits) (sym more.volumes) law.volumes);
       bytes = fits.bytes;
       count = λ index v e. subst (λ k. k ≤ v.max_files) (sym (more.count index)) (law.count index v (subst (λ vs. slice_get vs index ≡ Some v) more.volumes e));
     }
@@ -146,10 +150,10 @@ entered_bytes (Regular bytes) name n = refl
 entered_bytes (Directory parent next entries) name n = refl
 entered_bytes (Link path) name n = refl
 
-pub entered_sound : (f : File) (name : List ℕ) (n : ℕ) (now : Moment) → is_directory f.kind ≡ true → IsSound f → IsName name → All (λ e. e.name ≢ name) (entries_in f.kind) → IsSound (entered f name n now)
-entered_sound f name n now r s is_name fresh = by_kind f.kind r s fresh
+pub entered_sound : {l : Limits} (f : File) (name : List ℕ) (n : ℕ) (now : Moment) → is_directory f.kind ≡ true → IsSound l f → IsName name → All (λ e. e.name ≢ name) (entries_in f.kind) → IsSound l (entered f name n now)
+entered_sound {l} f name n now r s is_name fresh = by_kind f.kind r s fresh
   where
-    by_kind : (k : Kind) → is_directory k ≡ true → IsSound (record f { kind = k }) → All (λ e. e.name ≢ name) (entries_in k) → IsSound (entered (record f { kind = k }) name n now)
+    by_kind : (k : Kind) → is_directory k ≡ true → IsSound l (record f { kind = k }) → All (λ e. e.name ≢ name) (entries_in k) → IsSound l (entered (record f { kind = k }) name n now)
     by_kind (Regular bytes) e s h = cc
     by_kind (Directory parent next entries) e s h =
         let low = s.next_cookie refl in
@@ -179,6 +183,7 @@ one_more t d n now name f rising at_d =
       numbers = numbers_changed t d f g at_d.0 placed.tag;
       rising = rising_with 0 t.next d t.files g rising;
       volumes = refl;
+      limits = refl;
       back = λ m h e. with_back d m f g h t.files at_d.0 e
           (λ s is. (
             f,
@@ -238,7 +243,7 @@ nlink_elsewhere t d n now name f rising at_d m h =
           omega (arith, a, b, reported),
     )
 
-links_after : (x : ℕ) (t : Tree) (d n : ℕ) (now : Moment) (name : List ℕ) (law : LawBut x t) (may : MayGain x t d name n) → (m : ℕ) (h : File) → Lives (with_file t d (entered may.dir name n now)) m h → nlink (with_file t d (entered may.dir name n now)).files m h ≤ 1000
+links_after : (x : ℕ) (t : Tree) (d n : ℕ) (now : Moment) (name : List ℕ) (law : LawBut x t) (may : MayGain x t d name n) → (m : ℕ) (h : File) → Lives (with_file t d (entered may.dir name n now)) m h → nlink (with_file t d (entered may.dir name n now)).files m h ≤ t.limits.links
 links_after x t d n now name law may m h e =
     let g : File = entered may.dir name n now in
     let files : List (ℕ × File) = (with_file t d g).files in
@@ -278,7 +283,7 @@ law_with_entry x t d n now name law may =
     subst Law (sym (gained_is t d n now name may.dir may.at_dir.0))
     (law_more x d n name (next_cookie_in may.dir.kind) t (with_file t d g) law (one_more t d n now name may.dir law.rising may.at_dir) may (record {
       sound = λ m h e. with_back d m may.dir g h t.files may.at_dir.0 e
-          (λ s is. subst IsSound is (entered_sound may.dir name n now may.at_dir.1 (law.sound d may.dir may.at_dir.0) may.is_name may.fresh))
+          (λ s is. subst (IsSound t.limits) is (entered_sound may.dir name n now may.at_dir.1 (law.sound d may.dir may.at_dir.0) may.is_name may.fresh))
           (λ o was. law.sound m h was);
       links = links_after x t d n now name law may;
       bytes = λ index v e. let reported = bytes_changed t d may.dir g may.at_dir.0 placed.volume index in

@@ -7,7 +7,7 @@ use Rattle.std.proofs.lemmas.List.Sums.{sum_by-cons}
 use Rattle.std.proofs.lemmas.List.Elements.{Contains-push, Contains-append_left, Contains-append_right, All-push}
 use Rattle.std.proofs.lemmas.List.Quantifiers.{all_pairs_push}
 use Rattle.nfs_inodes.specs.Tree.{Tree, File, Entry, Volume, at, on_some, one_when, entries_in, bytes_in, is_directory, parent_in, names_in, names_of, names_directory, subdirectories, nlink, bytes_for, one_for, bytes_of, files_of}
-use Rattle.nfs_inodes.specs.Law.{Law, LawBut, IsSound, IsRoot, Lives, LivesAsDirectory, climb, parent_of}
+use Rattle.nfs_inodes.specs.Law.{Law, LawBut, IsSound, IsWithin, IsRoot, Lives, LivesAsDirectory, climb, parent_of}
 use Rattle.nfs_inodes.specs.Changes.{with_new_file, with_new_volume}
 use Rattle.nfs_inodes.proofs.Lists.{by_test, by_number, same_some, not_in_empty, get_push, get_push_old, get_push_new}
 use Rattle.nfs_inodes.proofs.Numbers.{numbers_born}
@@ -70,15 +70,15 @@ pub nlink_new : (t : Tree) (f : File) → Law t → entries_in f.kind ≡ [] →
 nlink_new t f law empty = nlink_by (is_directory f.kind) (is_directory f.kind) (subdirectories (with_new_file t f).files (entries_in f.kind)) 0 (names_of t.next (with_new_file t f).files) 0
     refl (ap (subdirectories (with_new_file t f).files) empty) (names_born t f empty t.next ∙ law.absent t.next (next_free t law))
 
-few_new : (b : Bool) → (if b then 2 else 0) ≤ 1000
-few_new true = omega arith
-few_new false = omega arith
+few_new : (n : ℕ) → 2 ≤ n → (b : Bool) → (if b then 2 else 0) ≤ n
+few_new n h true = h
+few_new n h false = omega arith
 
-links_born : (t : Tree) (f : File) → Law t → entries_in f.kind ≡ [] → (m : ℕ) (h : File) → Lives (with_new_file t f) m h → nlink (with_new_file t f).files m h ≤ 1000
+links_born : (t : Tree) (f : File) → Law t → entries_in f.kind ≡ [] → (m : ℕ) (h : File) → Lives (with_new_file t f) m h → nlink (with_new_file t f).files m h ≤ t.limits.links
 links_born t f law empty m h e = push_back t.next m f h t.files (next_free t law) e
     (λ s is. let reported : nlink (with_new_file t f).files m h ≡ (if is_directory f.kind then 2 else 0) = ap (λ k. nlink (with_new_file t f).files k h) s ∙ ap (nlink (with_new_file t f).files t.next) (sym is) ∙ nlink_new t f law empty in
-    subst (λ k. k ≤ 1000) (sym reported) (few_new (is_directory f.kind)))
-    (λ o was. subst (λ k. k ≤ 1000) (sym (nlink_born t f m h law empty was)) (law.links m h was))
+    subst (λ k. k ≤ t.limits.links) (sym reported) (few_new t.limits.links law.limits.links_2 (is_directory f.kind)))
+    (λ o was. subst (λ k. k ≤ t.limits.links) (sym (nlink_born t f m h law empty was)) (law.links m h was))
 
 -- the entries of a file, where one was born without any
 entries_born : (t : Tree) (f : File) → Law t → entries_in f.kind ≡ [] → (d : ℕ) (h : File) (e : Entry) → Lives (with_new_file t f) d h → Contains (entries_in h.kind) e → Lives t d h
@@ -90,7 +90,7 @@ entries_born t f law empty d h e at_d in_h = push_back t.next d f h t.files (nex
 pub record MayBeBorn (t : Tree) (f : File) : Type 0 where
   pub tag : f.tag < 2 ^ 32
   pub number : t.next < 2 ^ 64 - 1
-  pub sound : IsSound f
+  pub sound : IsSound t.limits f
   pub empty : entries_in f.kind ≡ []
   pub parent : is_directory f.kind ≡ true → (d : File) × LivesAsDirectory t (parent_in f.kind) d × (d.volume ≡ f.volume)
   pub volume : Volume
@@ -117,7 +117,7 @@ law_with_new_file t f law may =
     record {
       numbers = numbers_born t f law.numbers may.tag may.number;
       rising = rising_push 0 t.next t.files f law.rising;
-      sound = λ n h e. push_back t.next n f h t.files free e (λ s is. subst IsSound is may.sound) (λ o was. law.sound n h was);
+      sound = λ n h e. push_back t.next n f h t.files free e (λ s is. subst (IsSound t.limits) is may.sound) (λ o was. law.sound n h was);
       placed = λ n h e. push_back t.next n f h t.files free e
           (λ s is. (may.volume, subst (λ (k : File). slice_get t.volumes k.volume ≡ Some may.volume) is may.at_volume))
           (λ o was. law.placed n h was);
@@ -150,6 +150,7 @@ law_with_new_file t f law may =
           (λ s is. absurd (other s))
           (λ o was. subst (λ k. 1 ≤ k) (sym (names n)) (law.named n h (live_some t n h law was) was dir));
       links = links_born t f law may.empty;
+      limits = law.limits;
       volumes = law.volumes;
       bytes = λ index v e. let reported = bytes_born t f index in by_number f.volume index
           (λ s. let same : may.volume ≡ v = same_some (sym may.at_volume ∙ ap (slice_get t.volumes) s ∙ e) in
@@ -176,7 +177,8 @@ pub record MayBeFounded (t : Tree) (v : Volume) (f : File) : Type 0 where
   pub fresh : All (λ w. w.path ≢ v.path) t.volumes
   pub root : v.root ≡ t.next
   pub files : 1 ≤ v.max_files
-  pub sound : IsSound f
+  pub within : IsWithin t.limits v
+  pub sound : IsSound t.limits f
   pub is_dir : is_directory f.kind ≡ true
   pub parent : parent_in f.kind ≡ t.next
   pub empty : entries_in f.kind ≡ []
@@ -206,7 +208,7 @@ law_with_new_volume t v f law may =
     record {
       numbers = numbers_born t f law.numbers may.tag may.number;
       rising = rising_push 0 t.next t.files f law.rising;
-      sound = λ n h e. push_back t.next n f h t.files free e (λ s is. subst IsSound is may.sound) (λ o was. law.sound n h was);
+      sound = λ n h e. push_back t.next n f h t.files free e (λ s is. subst (IsSound t.limits) is may.sound) (λ o was. law.sound n h was);
       placed = λ n h e. push_back t.next n f h t.files free e
           (λ s is. (v, its_volume n h is))
           (λ o was. let l = law.placed n h was in (l.0, old h.volume l.0 l.1));
@@ -239,8 +241,10 @@ law_with_new_volume t v f law may =
           (λ s is. absurd (no_file h (ap (λ (k : File). is_directory k.kind) (sym is) ∙ may.is_dir) dir))
           (λ o was. subst (λ k. 1 ≤ k) (sym (names n)) (law.named n h other was dir));
       links = links_born t f law may.empty;
+      limits = law.limits;
       volumes = record {
         few = let l = length-append t.volumes (v ∷ []) in let few = may.few in omega (arith, l, few);
+        within = All-push (IsWithin t.limits) t.volumes v law.volumes.within may.within;
         paths = All-push (λ (w : Volume). length w.path ≤ 255) t.volumes v law.volumes.paths may.path;
         apart = all_pairs_push (λ (w u : Volume). w.path ≢ u.path) t.volumes v law.volumes.apart may.fresh;
       };

@@ -4,6 +4,7 @@ use Rattle.std.specs.Prelude.{◌≢◌, not, Contains, length, nat_eq}
 use Rattle.std.proofs.lemmas.List.Elements.{All-filter}
 use Rattle.std.proofs.lemmas.List.Kept.{AllPairs-filter}
 use Rattle.nfs_attrs.specs.declared.moment.Moment.{Moment}
+use Rattle.nfs_inodes.specs.declared.limits.Limits.{Limits}
 use Rattle.nfs_inodes.specs.Tree.{Tree, File, Kind, Regular, Directory, Link, Entry, at, with_at, on_some, one_when, entries_in, bytes_in, is_directory, next_cookie_in, names_in, names_of, names_directory, subdirectories, nlink}
 use Rattle.nfs_inodes.specs.Law.{Law, LawBut, IsName, IsSound, AreApart, AreRising, Lives, LivesAsDirectory}
 use Rattle.nfs_inodes.specs.Changes.{with_file, entries_without, kind_without_entry, left, without_entry}
@@ -39,10 +40,10 @@ left_cookie (Regular bytes) name = refl
 left_cookie (Directory parent next entries) name = refl
 left_cookie (Link path) name = refl
 
-pub left_sound : (f : File) (name : List ℕ) (now : Moment) → IsSound f → IsSound (left f name now)
-left_sound f name now s = by_kind f.kind s
+pub left_sound : {l : Limits} (f : File) (name : List ℕ) (now : Moment) → IsSound l f → IsSound l (left f name now)
+left_sound {l} f name now s = by_kind f.kind s
   where
-    by_kind : (k : Kind) → IsSound (record f { kind = k }) → IsSound (left (record f { kind = k }) name now)
+    by_kind : (k : Kind) → IsSound l (record f { kind = k }) → IsSound l (left (record f { kind = k }) name now)
     by_kind (Regular bytes) s = record { mode = s.mode; bytes = s.bytes; path = s.path; names = s.names; cookies = s.cookies; next_cookie = s.next_cookie; apart = s.apart }
     by_kind (Directory parent next entries) s = record {
       mode = s.mode;
@@ -55,7 +56,7 @@ left_sound f name now s = by_kind f.kind s
     }
     by_kind (Link path) s = record { mode = s.mode; bytes = s.bytes; path = s.path; names = s.names; cookies = s.cookies; next_cookie = s.next_cookie; apart = s.apart }
 
-pub names_apart : (f : File) → IsSound f → AreApart (entries_in f.kind)
+pub names_apart : {l : Limits} (f : File) → IsSound l f → AreApart (entries_in f.kind)
 names_apart f s i j d less within = (s.apart i j d less within).0
 
 pub left_is : (t : Tree) (d : ℕ) (now : Moment) (name : List ℕ) (f : File) → Lives t d f → without_entry t d name now ≡ with_file t d (left f name now)
@@ -78,6 +79,7 @@ module _ (t : Tree) (d : ℕ) (now : Moment) (name : List ℕ) (f : File) (lost 
     numbers = numbers_changed t d f g at_d placed.tag;
     rising = rising_with 0 t.next d t.files g rising;
     volumes = refl;
+    limits = refl;
     back = λ m h e. with_back d m f g h t.files at_d e
         (λ s is. (
           f,
@@ -138,7 +140,7 @@ law_without_entry t d now name f lost law at_d found =
     let new : List (ℕ × File) = (with_file t d g).files in
     let less = one_less t d now name f lost law.rising at_d.0 apart found in
     law_less lost t (with_file t d g) law less (record {
-      sound = λ m h e. with_back d m f g h t.files at_d.0 e (λ s is. subst IsSound is (left_sound f name now (law.sound d f at_d.0))) (λ o was. law.sound m h was);
+      sound = λ m h e. with_back d m f g h t.files at_d.0 e (λ s is. subst (IsSound t.limits) is (left_sound f name now (law.sound d f at_d.0))) (λ o was. law.sound m h was);
       links = λ m h e. with_back d m f g h t.files at_d.0 e
           (λ s is. let reported = nlink_less_there t d now name f lost law.rising at_d.0 apart found named.0 at_d.1 named.1 in
           let was = law.links d f at_d.0 in

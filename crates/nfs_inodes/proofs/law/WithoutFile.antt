@@ -48,6 +48,7 @@ root_or_not (v ∷ vs) n = by_number v.root n
 pub record LeavesOthers (n : ℕ) (old new : Tree) : Type 0 where
   pub lives : (m : ℕ) (h : File) → m ≢ n → Lives old m h → Lives new m h
   pub climbs : (steps m : ℕ) (h : File) → m ≢ n → LivesAsDirectory old m h → climb steps new.files m ≡ climb steps old.files m
+  pub limits : new.limits ≡ old.limits
   pub links : (m : ℕ) (h : File) → m ≢ n → Lives old m h → nlink new.files m h ≡ nlink old.files m h
 
 -- ---- without the file
@@ -128,14 +129,15 @@ module _ (t : Tree) (n : ℕ) (law : LawBut n t) (may : MayBeRemoved t n) where
     reached = λ m h dir. let b = back m h dir.0 in let r = law.reached m h (b.1, dir.1) in
         (r.0, r.1, r.2, climb_gone r.0 m h b.0 (b.1, dir.1) ∙ r.3);
     named = λ m h other at_m dir. let b = back m h at_m in subst (λ k. 1 ≤ k) (sym (names_gone m)) (law.named m h b.0 b.1 dir);
-    links = λ m h e. let b = back m h e in subst (λ k. k ≤ 1000) (sym (nlink_gone m h b.1)) (law.links m h b.1);
+    links = λ m h e. let b = back m h e in subst (λ k. k ≤ t.limits.links) (sym (nlink_gone m h b.1)) (law.links m h b.1);
     volumes = law.volumes;
+    limits = law.limits;
     bytes = λ index v e. let s = sum_without (bytes_for index) n may.file t.files may.at_file in let l = law.bytes index v e in omega (arith, s, l);
     count = λ index v e. let s = sum_without (one_for index) n may.file t.files may.at_file in let l = law.count index v e in omega (arith, s, l);
   }
 
   pub others_without_file : LeavesOthers n t new
-  others_without_file = record { lives = stays; climbs = climb_gone; links = λ m h other at_m. nlink_gone m h at_m }
+  others_without_file = record { limits = refl; lives = stays; climbs = climb_gone; links = λ m h other at_m. nlink_gone m h at_m }
 
 -- ---- a file that has lost an entry
 
@@ -159,6 +161,7 @@ law_whole t n f law at_n is_file some =
       named = λ m h other at_m dir. by_number m n (λ s. subst (λ k. 1 ≤ names_of k t.files) (sym s) some) (λ o. law.named m h o at_m dir);
       links = law.links;
       volumes = law.volumes;
+      limits = law.limits;
       bytes = law.bytes;
       count = law.count;
     }
@@ -184,6 +187,7 @@ pub others_touched : (t : Tree) (n : ℕ) (now : Moment) (f : File) → LawBut n
 others_touched t n now f law at_n =
     let g : File = record f { ctime = now } in
     record {
+      limits = refl;
       lives = λ m h other at_m. at_with_other n m g t.files other ∙ at_m;
       climbs = λ steps m h other at_m. climb_alike t.files (with_file t n g).files (parent_changed t n f g at_n refl) steps m;
       links = λ m h other at_m. nlink_alike t (with_file t n g) (one_alike t n f g law.rising law.numbers at_n (touch_alike f now)) m h h (alike_itself h);

@@ -18,7 +18,7 @@ returns-then-not-takes_bytes c = never (λ may. not_from_Decides c.takes_bytes.r
 pub returns-then-count-eq0 : goal.returns-then-count-eq0
 returns-then-count-eq0 c = let takes = c.takes_bytes.ensures.0 c.if-not-takes_bytes.false in
     always (subst (MayWrite c.args.tree.now c.args.number.0 c.args.offset) (sym c.if-count-eq0.true)
-    (writes_none c.args.tree.now c.args.number.0 c.in-Some.file c.in-Some.ensures c.law.ensures c.args.offset (subst (TakesBytes c.in-Some.file c.args.offset) c.if-count-eq0.true takes)))
+    (writes_none c.args.tree.now c.args.number.0 c.in-Some.file c.in-Some.ensures c.law.ensures c.args.offset (subst (TakesBytes c.args.tree.now.limits c.in-Some.file c.args.offset) c.if-count-eq0.true takes)))
 
 pub returns-else-count-eq0 : goal.returns-else-count-eq0
 returns-else-count-eq0 c = let takes = c.takes_bytes.ensures.0 c.if-not-takes_bytes.false in

@@ -6,4 +6,4 @@ pub returns-then-is_empty-clause-says : goal.returns-then-is_empty-clause-says
 returns-then-is_empty-clause-says c =
     let none : length c.in_ok-text.field-0.skipped.items ≡ 0 = search rules in
     let own : c.key.result ≡ c.args.tree.now.key = search rules in
-    own_said _ _ _ _ own (c.in_ok-text.ensures.whole (nothing_there _ none))
+    own_said c.args.tree.now c.args.table.now c.key.result c.in_ok-text.field-0.text.items own (c.in_ok-text.ensures.whole (nothing_there _ none))

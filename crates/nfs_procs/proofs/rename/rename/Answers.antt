@@ -28,12 +28,12 @@ returns c =
     (c.change-from.ensures ∙ ap (change (Some c.in-Ok.plan.from)) c.attributes.ensures) (c.change-to.ensures ∙ ap (change (Some c.in-Ok.plan.to)) c.attributes-2.ensures) c.u32.ensures.text c.write_renamed.ensures.text c.write_renamed.ensures.encoded
 
 -- where there is no memory
-pub returns-in_default : goal.returns-in_default
-returns-in_default c =
+pub returns-in-Err-rename_seen : goal.returns-in-Err-rename_seen
+returns-in-Err-rename_seen c =
     let a = c.args.args.now in
     let plans = c.in-Ok.ensures in
     unrenamed (scene c.args.tree.now c.args.call.now (nfs.Rename a)) a c.in-Ok.plan plans.0 plans.1 c.rename_seen.new.self c.bytes-name.result.now c.bytes-new_name.result.now _ plans.2 plans.3
-    c.bytes-name.ensures c.bytes-new_name.ensures c.in_default.ensures.err c.in_default.ensures.apart
+    c.bytes-name.ensures c.bytes-new_name.ensures c.in-Err-rename_seen.ensures.err c.in-Err-rename_seen.ensures.apart
 
 pub returns-in-Err : goal.returns-in-Err
 returns-in-Err c =

@@ -1,4 +1,4 @@
-use Rattle.std.proofs.Common.{ap, ◌∙◌, length, refl}
+use Rattle.std.proofs.Common.{ℕ, ◌<◌, ◌^◌, List, ap, ◌∙◌, length, refl, subst, sym}
 use Rattle.std.specs.Int.{w64, from_be_bytes}
 use Rattle.std.specs.Prelude.{Some}
 use Rattle.nfs_args.specs.Results.{IsWritten}
@@ -20,6 +20,9 @@ set_mode-requires c =
     let plans = c.in-Ok.ensures in
     lives_after c.args.tree.now c.write_at.new.self c.args.args.now c.in-Ok.plan plans.0 c.bytes-bytes.result.now c.args.call.now.moment plans.2 c.in-Ok-write_at.ensures.ok
 
+pub write_granted-requires-clause-count : goal.write_granted-requires-clause-count
+write_granted-requires-clause-count c = subst (λ (bytes : List ℕ). length bytes < 2 ^ 32) (sym c.bytes-bytes.ensures) c.requires.counted
+
 pub returns : goal.returns
 returns c =
     let plans = c.in-Ok.ensures in
@@ -33,12 +36,12 @@ returns c =
     c.write_granted.ensures
 
 -- where there is no memory
-pub returns-in_default : goal.returns-in_default
-returns-in_default c =
+pub returns-in-Err-write_at : goal.returns-in-Err-write_at
+returns-in-Err-write_at c =
     let a = c.args.args.now in
     let plans = c.in-Ok.ensures in
     unwritten (scene c.args.tree.now c.args.call.now (nfs.Write a)) a plans.0 c.in-Ok.plan.0 c.in-Ok.plan.1 c.write_at.new.self c.bytes-bytes.result.now _ plans.1 plans.2 c.bytes-bytes.ensures
-    c.in_default.ensures.err c.in_default.ensures.full
+    c.in-Err-write_at.ensures.err c.in-Err-write_at.ensures.full
 
 pub returns-in-Err : goal.returns-in-Err
 returns-in-Err c =

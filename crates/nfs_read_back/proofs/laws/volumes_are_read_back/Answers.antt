@@ -1,3 +1,4 @@
+use Rattle.nfs_read_back.proofs.Limits.{limits}
 use Rattle.nfs_read_back.proofs.Statements.{servers, volumes}
 use Rattle.nfs_read_back.proofs.laws.volumes_are_read_back.Goals as goal
 
@@ -6,3 +7,6 @@ returns-clause-servers c = servers
 
 pub returns-clause-volumes : goal.returns-clause-volumes
 returns-clause-volumes c = volumes
+
+pub returns-clause-limits : goal.returns-clause-limits
+returns-clause-limits c = limits

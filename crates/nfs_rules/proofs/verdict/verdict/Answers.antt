@@ -1,4 +1,4 @@
-use Rattle.std.proofs.Common.{refl, sym, ap, ◌∙◌}
+use Rattle.std.proofs.Common.{sym, ap, ◌∙◌}
 use Rattle.nfs_rules.specs.Tests.{first}
 use Rattle.nfs_rules.specs.Table.{rules_of}
 use Rattle.nfs_rules.specs.Views.{caller_of}

@@ -13,7 +13,7 @@ returns-in-Denied-clause-answers c = denied_mount c.args.tree.now c.args.table.n
     (λ text written. reply_text c.args.out.now c.write_accepted.new.out c.mount.new.out _ text c.write_accepted.ensures written) c.of.ensures
 
 pub returns-in-Memory-clause-answers : goal.returns-in-Memory-clause-answers
-returns-in-Memory-clause-answers c = refused_mount c.args.tree.now c.args.table.now c.args.addr (call_of c.args.head.now) _ _ _ _ _ _ c.args.args.now _ c.in-Memory.is c.mount.ensures.mounts
+returns-in-Memory-clause-answers c = refused_mount c.args.tree.now c.args.table.now c.args.addr (call_of c.args.head.now) _ _ _ _ _ _ c.args.args.now _ _ c.in-Memory.is c.mount.ensures.mounts
     (after_is c.args.out.now c.give_up.new.out _ (given_up c.args.out.now c.mount.new.out c.give_up.new.out (length c.bytes-start.result.now) _
     (adds_then c.args.out.now c.write_accepted.new.out c.mount.new.out (adds _ c.args.out.now c.write_accepted.new.out c.write_accepted.ensures) c.mount.ensures.adds)
     (ap length c.bytes-start.ensures) c.give_up.ensures.bytes c.give_up.ensures.room).bytes) c.of-in-Memory.ensures

@@ -9,7 +9,7 @@ returns-in-Some-Denied-clause-answers c = denied_done _ _ _ _ _ _ (call_of c.arg
     (λ text written. reply_text c.args.out.now c.write_accepted.new.out c.write_result.new.out _ text c.write_accepted.ensures written) c.of.ensures
 
 pub returns-in-Some-Memory-clause-answers : goal.returns-in-Some-Memory-clause-answers
-returns-in-Some-Memory-clause-answers c = refused_done _ _ _ _ _ _ (call_of c.args.head.now) _ _ refl (c.in-Some-Memory.is ∙ ap Some c.in-Some-Memory.field-0-is) c.write_result.ensures.performs
+returns-in-Some-Memory-clause-answers c = refused_done _ _ _ _ _ _ (call_of c.args.head.now) _ _ _ refl (c.in-Some-Memory.is ∙ ap Some c.in-Some-Memory.field-0-is) c.write_result.ensures.performs
     (after_is c.args.out.now c.give_up.new.out _ (given_up c.args.out.now c.write_result.new.out c.give_up.new.out (length c.bytes-start.result.now) _
     (adds_then c.args.out.now c.write_accepted.new.out c.write_result.new.out (adds _ c.args.out.now c.write_accepted.new.out c.write_accepted.ensures) c.write_result.ensures.adds)
     (ap length c.bytes-start.ensures) c.give_up.ensures.bytes c.give_up.ensures.room).bytes) c.of-in-Some-Memory.ensures

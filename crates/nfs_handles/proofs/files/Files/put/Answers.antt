@@ -9,8 +9,8 @@ use Rattle.nfs_handles.proofs.files.Files.put.Goals as goal
 pub invariant_of-self : goal.invariant_of-self
 invariant_of-self g c = kept_reserved c.self.inside.slots c.reserve.new.self c.reserve.new.self.capacity c.self.inside.places.entries c.self.inside.places.next c.self.inside.key c.reserve.ensures.same c.self.invariant
 
-pub invariant_of-self-in-Err : goal.invariant_of-self-in-Err
-invariant_of-self-in-Err g c = subst (λ (p : Placed). IsKept c.reserve.new.self p.entries p.next c.self.inside.key) (sym c.in-Err.ensures.err) (kept_reserved c.self.inside.slots c.reserve.new.self c.reserve.new.self.capacity c.self.inside.places.entries c.self.inside.places.next c.self.inside.key c.reserve.ensures.same c.self.invariant)
+pub invariant_of-self-in-Err-push : goal.invariant_of-self-in-Err-push
+invariant_of-self-in-Err-push g c = subst (λ (p : Placed). IsKept c.reserve.new.self p.entries p.next c.self.inside.key) (sym c.in-Err-push.ensures.err) (kept_reserved c.self.inside.slots c.reserve.new.self c.reserve.new.self.capacity c.self.inside.places.entries c.self.inside.places.next c.self.inside.key c.reserve.ensures.same c.self.invariant)
 
 pub invariant_of-self-in-Ok-push : goal.invariant_of-self-in-Ok-push
 invariant_of-self-in-Ok-push g c =

@@ -22,7 +22,7 @@ add-requires-clause-dir c = takes_here c.reserve.new.files c.self.inside.volumes
 pub add-requires-clause-fresh : goal.add-requires-clause-fresh
 add-requires-clause-fresh c =
     let still = may_add_still c.self.inside.files c.self.inside.volumes.items c.args.self.now c.self.view_is c.self.invariant c.args.dir.0 c.reserve.new.files c.reserve.ensures.same c.args.name.items (kind_of c.args.made.node) c.args.given.now c.args.made.verifier c.args.now c.new-stored_file.result c.in_ok-index.index c.in_ok-index.ensures.index c.new-stored_file.ensures.file c.new-stored_file.ensures.nlink c.requires in
-    fresh_at c.reserve.new.files c.self.inside.volumes.items (tree_in (counted_tree_of c.reserve.new.files c.self.inside.volumes.items)) refl c.args.dir.0 c.args.name.items still.may.enter.dir still.may.enter.at_dir.0 still.may.enter.fresh
+    fresh_at c.reserve.new.files c.self.inside.volumes.items (tree_in (counted_tree_of c.self.inside.limits c.reserve.new.files c.self.inside.volumes.items)) refl c.args.dir.0 c.args.name.items still.may.enter.dir still.may.enter.at_dir.0 still.may.enter.fresh
 
 pub invariant_of-self-in_err-number : goal.invariant_of-self-in_err-number
 invariant_of-self-in_err-number c = subst Agrees (sym (same_counted c.reserve.new.files c.add.new.files c.self.inside.volumes.items c.in_err-number.ensures.err)) (agree_still c.self.inside.files c.self.inside.volumes.items c.args.self.now c.self.view_is c.self.invariant c.args.dir.0 c.reserve.new.files c.reserve.ensures.same)
@@ -39,6 +39,6 @@ invariant_of-self-2 c = stored_agree_after_make c.reserve.new.files c.self.insid
     c.args.now c.add.new.files c.count.new.volumes.items c.in_ok-number.ensures.ok (c.count.ensures ∙ ap (λ p. with_totals (map counted_volume_of c.self.inside.volumes.items) p c.size-size.result 1) (sym (ap (λ (f : File). f.volume) c.new-stored_file.ensures.file)) ∙ ap (λ n. with_totals (map counted_volume_of c.self.inside.volumes.items) c.new-stored_file.result.volume n 1) c.size-size.ensures)
 
 pub returns-clause-ok : goal.returns-clause-ok
-returns-clause-ok c = makes_still c.self.inside.files c.self.inside.volumes.items c.args.self.now c.self.view_is c.self.invariant c.args.dir.0 c.reserve.new.files c.reserve.ensures.same c.args.name.items (kind_of c.args.made.node) c.args.given.now c.args.made.verifier c.args.now c.new-stored_file.result c.in_ok-index.index c.in_ok-index.ensures.index c.new-stored_file.ensures.file c.new-stored_file.ensures.nlink c.requires (tree_in (counted_tree_of c.add.new.files c.count.new.volumes.items))
+returns-clause-ok c = makes_still c.self.inside.files c.self.inside.volumes.items c.args.self.now c.self.view_is c.self.invariant c.args.dir.0 c.reserve.new.files c.reserve.ensures.same c.args.name.items (kind_of c.args.made.node) c.args.given.now c.args.made.verifier c.args.now c.new-stored_file.result c.in_ok-index.index c.in_ok-index.ensures.index c.new-stored_file.ensures.file c.new-stored_file.ensures.nlink c.requires (tree_in (counted_tree_of c.self.inside.limits c.add.new.files c.count.new.volumes.items))
     (stored_view_after_make c.reserve.new.files c.self.inside.volumes.items c.args.dir.0 c.args.name.items c.new-stored_file.result (agree_still c.self.inside.files c.self.inside.volumes.items c.args.self.now c.self.view_is c.self.invariant c.args.dir.0 c.reserve.new.files c.reserve.ensures.same) (may_add_still c.self.inside.files c.self.inside.volumes.items c.args.self.now c.self.view_is c.self.invariant c.args.dir.0 c.reserve.new.files c.reserve.ensures.same c.args.name.items (kind_of c.args.made.node) c.args.given.now c.args.made.verifier c.args.now c.new-stored_file.result c.in_ok-index.index c.in_ok-index.ensures.index c.new-stored_file.ensures.file c.new-stored_file.ensures.nlink c.requires)
     c.args.now c.add.new.files c.count.new.volumes.items c.in_ok-number.ensures.ok (c.count.ensures ∙ ap (λ p. with_totals (map counted_volume_of c.self.inside.volumes.items) p c.size-size.result 1) (sym (ap (λ (f : File). f.volume) c.new-stored_file.ensures.file)) ∙ ap (λ n. with_totals (map counted_volume_of c.self.inside.volumes.items) c.new-stored_file.result.volume n 1) c.size-size.ensures))

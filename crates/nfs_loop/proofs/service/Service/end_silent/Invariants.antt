@@ -11,7 +11,7 @@ invariant-loop-left g l = record {
       (stage server l.fn.self.clients.0 l.fn.self.joined (written g.A.LineOut.taken g.C.LineOut.taken l.fn.lines))
       (stage server l.self.clients.0 l.self.joined (written g.A.LineOut.taken g.C.LineOut.taken l.lines));
   watches : l.self.housekeeping.watches ≡ l.fn.self.housekeeping.watches;
-  silent : LeftIfSilent l.fn.self.housekeeping.watches.heard.items l.since l.fn.self.clients.0 l.self.clients.0;
+  silent : LeftIfSilent l.fn.self.housekeeping.watches l.fn.self.clients.1.0 l.since l.fn.self.clients.0 l.self.clients.0;
   queue : l.self.clients.1.0 ≡ l.fn.self.clients.1.0;
 }
 

@@ -1,12 +1,12 @@
 use Rattle.std.proofs.Common.{◌≡◌}
-use Rattle.nfs_loop.specs.Stages.{Longer}
+use Rattle.nfs_loop.proofs.Releasing.{Releasing}
 use Rattle.nfs_loop.proofs.service.Service.release.Given as goal
 
 abbrev pub invariant-loop-left : goal.invariant-loop-left
 invariant-loop-left g l = record {
   members : l.self.clients.0 ≡ l.fn.self.clients.0;
   joined : l.self.joined ≡ l.fn.self.joined;
-  longer : Longer l.fn.self.clients.1.0 l.self.clients.1.0;
+  releasing : Releasing l.fn.self.clients.0 l.is_full l.now l.fn.self.housekeeping.watches l.self.housekeeping.watches l.fn.self.clients.1.0 l.self.clients.1.0 l.left;
 }
 
 abbrev pub decreases-loop-left : goal.decreases-loop-left

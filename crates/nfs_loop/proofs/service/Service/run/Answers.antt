@@ -8,13 +8,13 @@ pub loop-left-init : goal.loop-left-init
 loop-left-init g c = record { rounds = ([], (refl, refl, refl)) }
 
 pub loop-left-preserved : goal.loop-left-preserved
-loop-left-preserved g c = record { rounds = another_round g.L.Link.outgoing g.L.Link.incoming _ _ _ _ _ _ _ _ _ _ c.loop-left.invariant.rounds c.wait.ensures c.round.ensures.round }
+loop-left-preserved g c = record { rounds = another_round g.L.Link.outgoing g.L.Link.incoming g.L.Link.reports _ _ _ _ _ _ _ _ _ _ c.loop-left.invariant.rounds c.wait.ensures c.round.ensures.round }
 
 pub returns-in-Err : goal.returns-in-Err
-returns-in-Err g c = record { goes = run_over g.L.Link.outgoing g.L.Link.incoming _ _ _ _ _ _ _ _ c.loop-left.invariant.rounds (quiet g.L.Link.outgoing g.L.Link.incoming _ _ _ c.wait.ensures) }
+returns-in-Err g c = record { goes = run_over g.L.Link.outgoing g.L.Link.incoming g.L.Link.reports _ _ _ _ _ _ _ _ c.loop-left.invariant.rounds (quiet g.L.Link.outgoing g.L.Link.incoming _ _ _ c.wait.ensures) }
 
 pub returns : goal.returns
 returns g c = record {
-  goes = run_over g.L.Link.outgoing g.L.Link.incoming _ _ _ _ _ _ _ _ c.loop-left.invariant.rounds
+  goes = run_over g.L.Link.outgoing g.L.Link.incoming g.L.Link.reports _ _ _ _ _ _ _ _ c.loop-left.invariant.rounds
       (passed g.L.Link.outgoing g.L.Link.incoming _ _ _ _ _ _ _ c.finish.ensures.lines (accounts_same _ _ c.finish.ensures.told));
 }

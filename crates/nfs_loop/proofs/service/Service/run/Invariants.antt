@@ -1,14 +1,14 @@
 use Rattle.std.specs.Prelude.{List}
 use Rattle.nfs_lines.specs.Written.{written}
-use Rattle.nfs_loop.specs.Stages.{stage, AreRounds}
+use Rattle.nfs_loop.specs.Stages.{schedule, stage, AreRounds}
 use Rattle.nfs_loop.proofs.service.Service.run.Given as goal
 use Rattle.nfs_serving.specs.Service.{Change}
 
 abbrev pub invariant-loop-left : goal.invariant-loop-left
 invariant-loop-left g l = record {
-  rounds : (rounds : List (List Change)) × AreRounds g.L.Link.outgoing g.L.Link.incoming rounds (g.N.Network.told l.fn.net) l.fn.self.clients.1.0
+  rounds : (rounds : List (List Change)) × AreRounds g.L.Link.outgoing g.L.Link.incoming g.L.Link.reports rounds (g.N.Network.told l.fn.net) (schedule l.fn.self.clients.1.0 l.fn.self.housekeeping.watches)
       (stage l.fn.server l.fn.self.clients.0 l.fn.self.joined (written g.A.LineOut.taken g.C.LineOut.taken l.fn.lines))
-      (g.N.Network.told l.net) l.self.clients.1.0
+      (g.N.Network.told l.net) (schedule l.self.clients.1.0 l.self.housekeeping.watches)
       (stage l.server l.self.clients.0 l.self.joined (written g.A.LineOut.taken g.C.LineOut.taken l.lines));
 }
 

@@ -13,8 +13,8 @@ use Rattle.nfs_server.proofs.Performed.{no_place}
 use Rattle.nfs_server.proofs.Room.{adds_none, after_is, given_up}
 use Rattle.nfs_server.proofs.server.Server.answer_change.Goals as goal
 
-pub returns-then-is_err-clause-answers : goal.returns-then-is_err-clause-answers
-returns-then-is_err-clause-answers c =
+pub returns-in-Err-clause-answers : goal.returns-in-Err-clause-answers
+returns-in-Err-clause-answers c =
     let inside = c.self.inside in let event = event_of c.args.event in
     let old : Held = held inside.kept inside.table inside.tree inside.mounts inside.line in
     let new : Held = held c.take_place.new.self inside.table inside.tree inside.mounts (Some c.of.result) in

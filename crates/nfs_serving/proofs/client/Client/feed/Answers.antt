@@ -8,7 +8,7 @@ use Rattle.nfs_serving.proofs.client.Client.feed.Goals as goal
 pub returns-clause-takes : goal.returns-clause-takes
 returns-clause-takes g c =
     let audit = device (g.A.AuditOut.contents c.args.audit.now) (g.A.AuditOut.contents c.answer-stop.new.audit) in
-    let sent : Standing g.row.L.Denot = record { connection = c.self.inside.connection; channel = c.send-sent.new.self; chunk = c.self.inside.chunk; end = c.self.inside.end; calls = c.self.inside.calls } in
+    let sent : Standing g.row.L.Denot = record { connection = c.self.inside.connection; channel = c.send-sent.new.self; chunk = c.self.inside.chunk.bytes; end = c.self.inside.end; calls = c.self.inside.calls } in
     let channel = ap (λ (s : Standing g.row.L.Denot). s.channel) c.self.view_is in
     let passes = subst (λ bytes. Passes (g.L.Link.outgoing c.self.inside.channel.link) bytes (g.L.Link.outgoing c.send-sent.new.self.link) c.send-sent.new.self.pending) c.gathered.ensures.all c.send-sent.ensures.passes in
     takes_as g.L.Link.outgoing g.L.Link.incoming c.args.moment c.args.server.now c.answer-stop.new.server audit c.args.self.now sent c.outcome.new.self

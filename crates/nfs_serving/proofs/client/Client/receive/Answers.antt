@@ -6,12 +6,12 @@ use Rattle.nfs_serving.proofs.client.Client.receive.Goals as goal
 
 pub returns-in-Bytes-clause-rests : goal.returns-in-Bytes-clause-rests
 returns-in-Bytes-clause-rests g c =
-    let none : c.self.inside.chunk ≡ [] = ap (λ (s : Standing g.row.L.Denot). s.chunk) c.self.view_is ∙ c.requires.chunk in
-    let came = subst (λ k. Brings (g.L.Link.incoming c.self.inside.channel.link) k c.receive.new.chunk (g.L.Link.incoming c.receive.new.self.link)) c.in-Bytes.is c.in-Ok.ensures.came in
-    let old : Standing g.row.L.Denot = record { connection = c.self.inside.connection; channel = c.self.inside.channel; chunk = c.self.inside.chunk; end = c.self.inside.end; calls = c.self.inside.calls } in
-    let new : Standing g.row.L.Denot = record { connection = c.self.inside.connection; channel = c.receive.new.self; chunk = c.receive.new.chunk; end = c.self.inside.end; calls = c.self.inside.calls } in
+    let none : c.self.inside.chunk.bytes ≡ [] = ap (λ (s : Standing g.row.L.Denot). s.chunk) c.self.view_is ∙ c.requires.chunk in
+    let came = subst (λ k. Brings (g.L.Link.incoming c.self.inside.channel.link) k c.receive.new.chunk.bytes (g.L.Link.incoming c.receive.new.self.link)) c.in-Bytes.is c.in-Ok.ensures.came in
+    let old : Standing g.row.L.Denot = record { connection = c.self.inside.connection; channel = c.self.inside.channel; chunk = c.self.inside.chunk.bytes; end = c.self.inside.end; calls = c.self.inside.calls } in
+    let new : Standing g.row.L.Denot = record { connection = c.self.inside.connection; channel = c.receive.new.self; chunk = c.receive.new.chunk.bytes; end = c.self.inside.end; calls = c.self.inside.calls } in
     subst (λ (s : Standing g.row.L.Denot). (came : List ℕ) × Rests g.L.Link.outgoing g.L.Link.incoming came s new) c.self.view_is
-    (c.receive.new.chunk, rests_came g.L.Link.outgoing g.L.Link.incoming old new none came.1 c.in-Ok.ensures.outgoing c.in-Ok.ensures.same.0 refl refl)
+    (c.receive.new.chunk.bytes, rests_came g.L.Link.outgoing g.L.Link.incoming old new none came.1 c.in-Ok.ensures.outgoing c.in-Ok.ensures.same.0 refl refl refl)
 
 pub returns-in-Bytes-clause-drained : goal.returns-in-Bytes-clause-drained
 returns-in-Bytes-clause-drained g c = λ short. (

@@ -1,0 +1,56 @@
+-- The first lines of the description of what was found.
+use Rattle.std.specs.Prelude.{◌≡◌, ℕ, ◌+◌, ◌*◌, Bool, ◌&&◌, List, [], ◌∷◌, ◌++◌, length, min, max, Option, Some, None, codes, nat_lt, if◌then◌else◌}
+use Rattle.std.specs.List.{flat_map, list_all}
+use Rattle.nfs_describe.specs.Lines.{is_shown, limits_line, server_line, volume_line}
+use Rattle.nfs_inodes.specs.Limits.{max_files, max_volume_bytes}
+use Rattle.nfs_inodes.specs.declared.limits.Limits.{Limits}
+use Rattle.nfs_load.specs.declared.statement.Given.{Given}
+use Rattle.nfs_text.specs.Chunks.{cut}
+use Rattle.nfs_disk.specs.Needs.{Take, within}
+use Rattle.nfs_disk.specs.Surveys.{extent_of}
+use Rattle.nfs_disk.specs.declared.found.Found.{Found}
+use Rattle.nfs_disk.specs.declared.head.Head.{Head}
+
+-- one word of a line
+abbrev pub is_word : List ℕ → Bool
+is_word text = nat_lt 0 (length text) && list_all is_shown text
+
+-- a word, or `%` in place of a text that is none
+abbrev pub word_text : List ℕ → List ℕ
+word_text text = if is_word text then text else codes "%"
+
+-- PATTERN or PATTERN=OPTIONS
+abbrev pub export_text : List ℕ × Option (List ℕ) → List ℕ
+export_text (pattern, None) = codes "export " ++ word_text pattern ++ codes "\n"
+export_text (pattern, Some options) = codes "export " ++ word_text pattern ++ codes " " ++ word_text options ++ codes "\n"
+
+abbrev pub export_line : List ℕ → List ℕ
+export_line word = export_text (cut 61 word)
+
+-- the number that is given, or twice the one that was found
+abbrev pub or_twice : Option ℕ → ℕ → ℕ → ℕ → ℕ
+or_twice (Some n) least found most = n
+or_twice None least found most = within least (2 * found) most
+
+abbrev pub bytes_for : Head → List Found → ℕ
+bytes_for head found = or_twice head.bytes 1000000000 (extent_of found).bytes max_volume_bytes
+
+abbrev pub files_for : Head → List Found → ℕ
+files_for head found = or_twice head.files 100000 (extent_of found).files max_files
+
+-- the mode, owner and group of what was found first
+abbrev pub root_given : List Found → Given
+root_given [] = record { mode = 493; uid = 0; gid = 0 }
+root_given (root ∷ others) = root.given
+
+-- the key, the limits that are not the defaults, the volume, and to whom it is exported
+abbrev pub head_text : Head → List Found → Limits → List ℕ
+head_text head found limits = (server_line head.key ++ limits_line limits)
+    ++ volume_line (word_text head.mount.now) (bytes_for head found) (files_for head found) (root_given found)
+    ++ flat_map (λ word. export_line word.now) head.exports.now
+
+-- with the limits of a tree that takes what was found
+pub record IsHead (head : Head) (found : List Found) (text : List ℕ) : Type 0 where
+  pub limits : Limits
+  pub take : Take found (files_for head found) limits
+  pub text_is : text ≡ head_text head found limits

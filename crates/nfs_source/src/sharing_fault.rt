@@ -1,0 +1,26 @@
+//! Why a directory is not shared.
+
+use nfs_load::cause::Cause;
+use thiserror::Error;
+
+/// Why a directory is not shared as the words of a command say.
+#[derive(Clone, Copy, Debug, Error)]
+pub enum SharingFault {
+    /// The words that say how a directory is shared stand beside a description.
+    #[error("--mount, --export, --bytes, --files and --chown are for a directory on disk; a description has its own lines for them")]
+    NoDirectory,
+    /// A directory that nobody may reach is not served.
+    #[error("no client may reach the directory: add --export PATTERN=OPTIONS, such as --export 10.1.0.0/16=rw")]
+    NoExport,
+    /// Something is skipped, and nothing may be.
+    #[error("nothing is served, since something of the directory is skipped and --strict is set")]
+    Skipped,
+    /// A word doesn't fit into the line of a description.
+    #[error("an option doesn't fit into a description: line {line}: {cause}")]
+    Option {
+        /// The number of the line, from 1.
+        line: u64,
+        /// Its first cause.
+        cause: Cause,
+    },
+}

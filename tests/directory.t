@@ -1,0 +1,135 @@
+#!/bin/sh
+# Directories on disk in place of a description: served, checked and asked about as they are.
+# shellcheck source=tests/lib.sh
+. "$(dirname "$0")/lib.sh"
+
+disk=$work/disk
+tests/describe/fill "$disk"
+run describe "$disk" --mount /share --export '*=ro' --key 6e66733364000001
+mv "$work/out" "$work/described"
+run replay "$disk" examples/null.script --mount /share --export '*=ro' --save "$work/saved" --key 6e66733364000001
+ended 0 && quiet && same "$work/described" "$work/saved"
+ok $? "the tree of a directory is the one that its description has"
+run check "$disk" --mount /share --export '*=ro'
+mv "$work/out" "$work/totals"
+run check "$work/described"
+same "$work/totals" "$work/out"
+ok $? "check of a directory prints what check of its description prints"
+
+# What a description can't hold.
+mkdir "$work/odd" && cd "$work/odd" && echo one >"my notes.txt" && echo three >Köln && echo 100 >100% && ln -s "to nowhere" link &&
+    mkdir many && (cd many && seq 1100 | xargs mkdir) && truncate -s 1G hole && printf end >>hole && head -c 40000000 /dev/zero | tr '\0' x >large &&
+    chmod 4711 100% && touch -d '2001-02-03 04:05:06.789 UTC' 100% && touch -d '2002-03-04 05:06:07 UTC' many
+cd "$top" || exit 1
+(
+    ulimit -v 400000
+    run check "$work/odd" --mount /share --export '*'
+)
+says "ok volumes=1 files=$(find "$work/odd" | grep -c .) bytes=$(find "$work/odd" -type f -printf '%s\n' | awk '{ all += $1 } END { printf "%d", all }')"
+ok $? "a directory with 1,100 subdirectories, a large file, a hole that takes no memory, and odd names"
+echo show >"$work/show"
+run replay "$work/odd" "$work/show" --mount /share --export '*'
+tests/describe/paths "$work/out" | sed -n 's/^1\(\/[^ ]*\) \(file\|link\) \(.*\)/\1 \3/p' | sort >"$work/shown"
+own="uid=$(id -u) gid=$(id -g) nlink=1"
+sort >"$work/wanted" <<END
+/100%25 mode=4711 $own size=4
+/K%c3%b6ln mode=0644 $own size=6
+/hole mode=0644 $own size=1073741827
+/large mode=0644 $own size=40000000
+/link mode=0777 $own size=10
+/my%20notes.txt mode=0644 $own size=4
+END
+same "$work/wanted" "$work/shown"
+ok $? "its names, modes, owners and sizes"
+printf '%s\n' 'ask 10.0.0.1 100 0 stat /share/100%' 'ask 10.0.0.1 100 0 stat /share/many' >"$work/asked"
+run replay "$work/odd" "$work/asked" --mount /share --export '*' --decode
+[ "$(grep -c 'mtime=981173106+789000000ns ' "$work/out")" = 1 ] && [ "$(grep -c 'mtime=1015218367 ' "$work/out")" = 1 ]
+ok $? "its times, also that of a directory into which files came"
+
+run why "$work/odd" 10.1.0.9 500 write /share/large --mount /share --export 10.2.0.0/16 --export 10.1.0.0/16=ro
+grep -q '^grant: 10\.1\.0\.9 has ro,root_squash at /share, by 10\.1\.0\.0/16 in line [0-9]*$' "$work/out" && grep -q '^denied: read-only' "$work/out"
+ok $? "why, asked about a directory"
+run exports "$disk" --export 10.1.0.0/16=ro
+ended 0 && grep -q '^/disk' "$work/out" && grep -q '10\.1\.0\.0/16(' "$work/out"
+ok $? "without --mount the path is the directory's name"
+run check "$work/odd" --chown 7:8 --export '*'
+ended 0
+ok $? "check with --chown"
+run replay "$disk" "$work/show" --chown 7:8 --export '*'
+[ "$(grep -c 'uid=7 gid=8 ' "$work/out")" = "$(grep -c '^[a-z]' "$work/out")" ]
+ok $? "--chown gives every file one owner"
+
+# fails TEXT STATUS WHAT: whether the last run printed nothing but this fault.
+fails() {
+    echo "error: $1" >"$work/wanted"
+    brings /dev/null "$work/wanted" "$2"
+    ok $? "$3"
+}
+run serve "$disk" --port 0
+fails "no client may reach the directory: add --export PATTERN=OPTIONS, such as --export 10.1.0.0/16=rw" 2 "serve of a directory without --export is refused"
+run check examples/e.tree --export '*'
+fails "--mount, --export, --bytes, --files and --chown are for a directory on disk; a description has its own lines for them" 2 "--export beside a description is refused"
+run check "$disk" --export 10.1.0.0/33
+fails "an option doesn't fit into a description: line 3: BadPattern" 2 "a faulty pattern is refused"
+mkfifo "$disk/pipe"
+run serve "$disk" --export '*' --port 0 --connections 0 --strict
+[ ! -s "$work/out" ] && ended 1 && grep -qx "nfs3d: skipped: $disk/pipe: a device, a socket or a pipe" "$work/err"
+ok $? "serve --strict of a directory of which something is skipped is refused"
+run check "$disk" --export '*' --strict
+ended 1
+ok $? "check --strict of such a directory has the status 1"
+rm "$disk/pipe"
+
+# The way back to disk.
+listed() {
+    (cd "$1" && find . \( -type d -printf '%P d %m %U %G %T@\n' \) -o \( -type l -printf '%P l %U %G %l\n' \) -o -printf '%P %y %m %U %G %n %s %T@\n') | sort
+}
+rm "$work/odd/hole" && run extract "$work/odd" "$work/extracted" --mount /share
+ended 0 && quiet && listed "$work/odd" >"$work/wanted" && listed "$work/extracted" >"$work/got" && same "$work/wanted" "$work/got" &&
+    diff -r --no-dereference "$work/odd" "$work/extracted" >"$work/difference"
+ok $? "extract writes a directory with the same files, modes, owners, links and times"
+run extract "$work/described" "$work/again"
+ended 0 && listed "$disk" | sed 's/ [^ ]*$//' >"$work/wanted" && listed "$work/again" | sed 's/ [^ ]*$//' | same "$work/wanted" - && diff -r "$disk" "$work/again" >"$work/difference"
+ok $? "extract of a description, with hard links"
+printf 'server 0102030405060708\nvolume /a 100 10 0755 0 0\nfile /x 0644 0 0 61\nvolume /b/c 100 10 0755 0 0\nlink /up 0 0 ../../..\n' >"$work/two"
+run extract "$work/two" "$work/both"
+ended 0 && [ "$(cd "$work/both" && find . | sort | tr '\n' ' ')" = '. ./a ./a/x ./b ./b/c ./b/c/up ' ] && [ "$(readlink "$work/both/b/c/up")" = ../../.. ]
+ok $? "extract of two volumes writes each below its path"
+echo "nfs3d: cannot write $work/both: File exists (os error 17)" >"$work/wanted"
+run extract "$work/two" "$work/both"
+brings /dev/null "$work/wanted" 3
+ok $? "extract to a directory that is there is refused"
+
+# root_handle: what MNT of /disk brings from a server of the directory.
+root_handle() {
+    : >"$work/served"
+    timeout --foreground 60 "$program" serve "$disk" --export '127.0.0.1=rw' --port 0 --connections 1 >"$work/served" 2>"$work/served.err" &
+    server=$!
+    wait_until 30 is_listening
+    # shellcheck disable=SC2016
+    bash -c 'exec 3<>/dev/tcp/127.0.0.1/$1
+        printf "\200\0\0\064\0\0\0\1\0\0\0\0\0\0\0\2\0\1\206\245\0\0\0\3\0\0\0\1\0\0\0\0\0\0\0\0\0\0\0\0\0\0\0\0\0\0\0\5/disk\0\0\0" >&3
+        head -c 68 <&3 | od -An -v -tx1 | tr -d " \n"' - "$port"
+    server_ends 0
+}
+first=$(root_handle)
+echo "$first" | cut -c 1-72 >"$work/got"
+printf '80000040%08x%08x%040d%08x\n' 1 1 0 24 >"$work/wanted"
+same "$work/wanted" "$work/got"
+ok $? "MNT of a directory that is served"
+[ "$(root_handle)" = "$first" ]
+ok $? "a directory that is served again has the same handles"
+cp -p "$disk/d1/again" "$work/apart" && mv "$work/apart" "$disk/d1/again"
+apart=$(root_handle)
+[ -n "$apart" ] && [ "$apart" != "$first" ]
+ok $? "where a name no longer is a hard link, it has others"
+mkfifo "$disk/pipe"
+skipped=$(root_handle)
+[ -n "$skipped" ] && [ "$skipped" != "$apart" ]
+ok $? "where something is skipped that was not there, it has others"
+rm "$disk/pipe" && touch "$disk/more"
+more=$(root_handle)
+[ -n "$more" ] && [ "$more" != "$apart" ]
+ok $? "with another path in it, it has others"
+
+plan
