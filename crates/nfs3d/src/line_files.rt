@@ -1,6 +1,6 @@
 //! Where the lines of a service go.
 
-use nfs_command_line::invocation::{AuditFailed, Serve};
+use nfs_command_line::serve::{AuditFailed, Serve};
 use nfs_lines::wording::{WhenFailed, Wording};
 use nfs_source::fault::Fault;
 use nfs_tcp::line_file::{LineFile, STANDARD_OUTPUT};
@@ -61,12 +61,12 @@ fn cannot_write<T>(alloc: Global, name: &str, error: io::Error) -> Result<T, Fau
 }
 
 /// How the lines are worded, and which are written.
-pub(crate) fn wording_of<'a>(words: &Serve<'a>) -> Wording<'a> {
+pub(crate) fn wording_of<'a>(words: Serve<'a, '_>) -> Wording<'a> {
     Wording {
-        has_times: words.has_times,
-        has_names: words.is_named,
-        skipped: words.audit_skip,
-        when_failed: match words.audit_failed {
+        has_times: words.has_times(),
+        has_names: words.is_named(),
+        skipped: words.audit_skip(),
+        when_failed: match words.audit_failed() {
             AuditFailed::Refuse => WhenFailed::Refuse,
             AuditFailed::Count => WhenFailed::Count,
         },

@@ -4,7 +4,7 @@ use crate::saver::ServedSaver;
 use log::sink::Console;
 use log::{Level, Log, Logged};
 use mio::net::TcpListener;
-use nfs_command_line::invocation::Serve;
+use nfs_command_line::serve::Serve;
 use nfs_lines::line_out::LineOut;
 use nfs_lines::lines::Lines;
 use nfs_lines::rule_names::first_unknown;
@@ -34,7 +34,7 @@ use std::time::Clock;
 pub(crate) fn serve_tree<R>(
     rt: &R,
     alloc: Global,
-    words: &Serve<'_>,
+    words: Serve<'_, '_>,
 ) -> Result<ExitCode, Diagnostic>
 where
     R: Files<File = File> + Input + Print + Eprint + Net + Clock + RandomSource + AllocGlobal,
@@ -42,11 +42,11 @@ where
     let Some(ip) = address_of(rt, words) else {
         return Ok(ExitCode::from(2));
     };
-    let copies = Copies::of(rt, alloc, words.save, words.key)?;
+    let copies = Copies::of(rt, alloc, words.save(), words.key())?;
     let service = ServiceAt {
         rt,
         alloc,
-        address: SocketAddr::new(ip, words.port),
+        address: SocketAddr::new(ip, words.port()),
         words,
         copies: &copies,
     };
@@ -55,15 +55,15 @@ where
 
 // A service at an address.
 #[derive(Drop)]
-struct ServiceAt<'a, R> {
+struct ServiceAt<'a, 'w, R> {
     rt: &'a R,
     alloc: Global,
     address: SocketAddr,
-    words: &'a Serve<'a>,
+    words: Serve<'a, 'w>,
     copies: &'a Copies<'a>,
 }
 
-impl<R> ServerUse for ServiceAt<'_, R>
+impl<R> ServerUse for ServiceAt<'_, '_, R>
 where
     R: Files<File = File> + Print + Eprint + Net + Clock + RandomSource,
 {
@@ -79,12 +79,12 @@ fn serve_and_save<R: Files<File = File> + Print + Eprint + Net + Clock + RandomS
     alloc: Global,
     server: &mut Server,
     address: SocketAddr,
-    words: &Serve<'_>,
+    words: Serve<'_, '_>,
     copies: &Copies<'_>,
 ) -> Result<ExitCode, Diagnostic> {
     let served = Served::listen(rt, alloc, address, words)?;
     let out = output(rt, alloc)?;
-    let done = match words.audit {
+    let done = match words.audit() {
         Some(name) => {
             let audit = audit_file(rt, alloc, name)?;
             let lines = Lines::new(alloc, wording_of(words), audit, Some(out));
@@ -116,14 +116,14 @@ where
 }
 
 // The address that is listened at; none, which is reported, where a word is faulty.
-fn address_of<R: Eprint>(rt: &R, words: &Serve<'_>) -> Option<IpAddr> {
-    if let Some(name) = words.audit_skip.and_then(first_unknown) {
+fn address_of<R: Eprint>(rt: &R, words: Serve<'_, '_>) -> Option<IpAddr> {
+    if let Some(name) = words.audit_skip().and_then(first_unknown) {
         let _ = eprintln!(rt;
             "error: invalid value for '--audit-skip <RULES>': there is no rule '{name}'; docs/PROTOCOL.md names them"
         );
         return None;
     }
-    let listen = words.listen;
+    let listen = words.listen();
     match listen.parse::<IpAddr>() {
         Ok(ip) => Some(ip),
         Err(_) => {
@@ -151,19 +151,19 @@ impl Served {
         rt: &R,
         alloc: Global,
         address: SocketAddr,
-        words: &Serve<'_>,
+        words: Serve<'_, '_>,
     ) -> Result<Served, Fault> {
         let listener = match TcpListener::bind(rt, address) {
             Ok(listener) => listener,
             Err(error) => return Err(Fault::Network { address, error }),
         };
         let limits = Limits {
-            connections: words.connections,
-            clients: words.clients,
-            idle: words.idle,
-            save_every: words.save_every,
+            connections: words.connections(),
+            clients: words.clients(),
+            idle: words.idle(),
+            save_every: words.save_every(),
         };
-        let level = if words.is_verbose {
+        let level = if words.is_verbose() {
             Level::Info
         } else {
             Level::Warn

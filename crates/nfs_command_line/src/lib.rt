@@ -6,5 +6,8 @@ pub mod invocation;
 mod questions;
 mod rows;
 mod runs;
+pub mod serve;
+pub mod sharing;
 mod usage;
+mod values;
 pub mod words;

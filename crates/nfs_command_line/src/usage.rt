@@ -1,6 +1,7 @@
 //! What is wrong with words that the commands take.
 
-use crate::invocation::{Owner, Serve, Sharing};
+use crate::serve::Serve;
+use crate::sharing::{Owner, Sharing};
 use thiserror::Error;
 
 /// What is wrong with words, and what to do.
@@ -27,15 +28,15 @@ impl UsageFault {
     }
 
     /// Of how a directory is shared.
-    pub(crate) fn of_sharing(sharing: &Sharing<'_>) -> Option<UsageFault> {
-        match sharing.chown {
+    pub(crate) fn of_sharing(sharing: Sharing<'_, '_>) -> Option<UsageFault> {
+        match sharing.chown() {
             Some(owner) if Owner::of_text(owner).is_none() => Some(UsageFault::Owner),
             _ => None,
         }
     }
 
     /// Of how it is shared, and of a key, if any.
-    pub(crate) fn of_keyed(sharing: &Sharing<'_>, key: Option<&str>) -> Option<UsageFault> {
+    pub(crate) fn of_keyed(sharing: Sharing<'_, '_>, key: Option<&str>) -> Option<UsageFault> {
         match UsageFault::of_sharing(sharing) {
             Some(fault) => Some(fault),
             None => UsageFault::of_key(key),
@@ -43,12 +44,12 @@ impl UsageFault {
     }
 
     /// Of what is served, and of where and when it is saved.
-    pub(crate) fn of_serving(words: &Serve<'_>) -> Option<UsageFault> {
-        let is_saved = words.connections.is_some() || words.save_every.is_some();
-        if words.save.is_some() && !is_saved {
+    pub(crate) fn of_serving(words: Serve<'_, '_>) -> Option<UsageFault> {
+        let is_saved = words.connections().is_some() || words.save_every().is_some();
+        if words.save().is_some() && !is_saved {
             return Some(UsageFault::NeverSaved);
         }
-        UsageFault::of_keyed(&words.tree.sharing, words.key)
+        UsageFault::of_keyed(words.tree().sharing(), words.key())
     }
 }
 

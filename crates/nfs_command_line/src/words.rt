@@ -74,7 +74,7 @@ impl<'a> Words<'a> {
     }
 
     /// What the words ask for, if anything.
-    pub fn request(&self) -> Option<Invocation<'_>> {
+    pub fn request(&self) -> Option<Invocation<'_, 'a>> {
         let (name, words) = self.matches.subcommand()?;
         Invocation::of(name, words)
     }

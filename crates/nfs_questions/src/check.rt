@@ -3,7 +3,7 @@
 use crate::totals::totals_line;
 use nfs_advice::every::{Faulty, every_fault};
 use nfs_advice::warnings::{Warning, warnings};
-use nfs_command_line::invocation::TreeWords;
+use nfs_command_line::invocation::Check;
 use nfs_load::load_error::LoadError;
 use nfs_load::loaded::Loaded;
 use nfs_source::description::Description;
@@ -23,18 +23,17 @@ use std::rt::Files;
 pub fn check_file<R: Files + Input + Print + Eprint + AllocGlobal>(
     rt: &R,
     alloc: Global,
-    words: &TreeWords<'_>,
-    is_strict: bool,
-    is_whole: bool,
+    words: Check<'_, '_>,
 ) -> Result<ExitCode, Diagnostic> {
-    if is_whole && !is_directory(rt, words.name) {
-        refuse_sharing(&words.sharing)?;
-        return check_whole(rt, alloc, words.name, is_strict);
+    let (tree, is_strict) = (words.tree(), words.is_strict());
+    if words.is_whole() && !is_directory(rt, tree.name()) {
+        refuse_sharing(tree.sharing())?;
+        return check_whole(rt, alloc, tree.name(), is_strict);
     }
     let NamedTree {
         description,
         is_partial,
-    } = NamedTree::read(rt, alloc, words)?;
+    } = NamedTree::read(rt, alloc, tree)?;
     let Description { source, loaded } = description;
     let status = report_loaded(rt, alloc, &source, loaded, is_strict)?;
     Ok(if is_strict && is_partial {

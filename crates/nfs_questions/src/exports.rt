@@ -2,7 +2,7 @@
 ghost use Rattle.std.specs.Prelude.{◌≡◌, IfOk};
 ghost use Rattle.nfs_why.specs.Exports.{exports_text};
 
-use nfs_command_line::invocation::TreeWords;
+use nfs_command_line::sharing::TreeWords;
 use nfs_load::loaded::Loaded;
 use nfs_source::diagnostic::Diagnostic;
 use nfs_source::output::print;
@@ -19,7 +19,7 @@ use std::rt::Files;
 pub fn print_exports<R: Files + Input + Print + Eprint + AllocGlobal>(
     rt: &R,
     alloc: Global,
-    words: &TreeWords<'_>,
+    words: TreeWords<'_, '_>,
 ) -> Result<ExitCode, Diagnostic> {
     let loaded = NamedTree::load(rt, alloc, words)?;
     let lines = lines_of(alloc, &loaded)?;

@@ -1,6 +1,7 @@
 //! `nfs3d why`: why a call is granted or denied.
 
-use nfs_command_line::invocation::{TreeWords, Why};
+use nfs_command_line::invocation::Why;
+use nfs_command_line::sharing::TreeWords;
 use nfs_load::loaded::Loaded;
 use nfs_source::description::Description;
 use nfs_source::diagnostic::Diagnostic;
@@ -19,10 +20,10 @@ use std::rt::Files;
 pub fn print_why<R: Files + Input + Print + Eprint + AllocGlobal>(
     rt: &R,
     alloc: Global,
-    words: &Why<'_>,
+    words: Why<'_, '_>,
 ) -> Result<ExitCode, Diagnostic> {
     match question_of(words) {
-        Ok(question) => print_answer(rt, alloc, &words.tree, &question),
+        Ok(question) => print_answer(rt, alloc, words.tree(), &question),
         Err(fault) => {
             let _ = eprintln!(rt; "error: {fault}");
             Ok(ExitCode::from(2))
@@ -30,16 +31,16 @@ pub fn print_why<R: Files + Input + Print + Eprint + AllocGlobal>(
     }
 }
 
-fn question_of<'a>(words: &Why<'a>) -> Result<Question<'a>, BadQuestion> {
-    let second = match words.second {
+fn question_of<'a>(words: Why<'a, '_>) -> Result<Question<'a>, BadQuestion> {
+    let second = match words.second() {
         Some(second) => Some(second.as_bytes()),
         None => None,
     };
     Question::read(
-        words.address.as_bytes(),
-        words.user.as_bytes(),
-        words.operation.as_bytes(),
-        words.path.as_bytes(),
+        words.address().as_bytes(),
+        words.user().as_bytes(),
+        words.operation().as_bytes(),
+        words.path().as_bytes(),
         second,
     )
 }
@@ -47,7 +48,7 @@ fn question_of<'a>(words: &Why<'a>) -> Result<Question<'a>, BadQuestion> {
 fn print_answer<R: Files + Input + Print + Eprint + AllocGlobal>(
     rt: &R,
     alloc: Global,
-    words: &TreeWords<'_>,
+    words: TreeWords<'_, '_>,
     question: &Question<'_>,
 ) -> Result<ExitCode, Diagnostic> {
     let NamedTree { description, .. } = NamedTree::read(rt, alloc, words)?;

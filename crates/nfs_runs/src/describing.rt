@@ -22,14 +22,14 @@ use std::rt::Files;
 pub fn describe_directory<R: Files + Print + Eprint + RandomSource + AllocGlobal>(
     rt: &R,
     alloc: Global,
-    words: &Describe<'_>,
+    words: Describe<'_, '_>,
 ) -> Result<ExitCode, Fault> {
-    let key = key_of(rt, alloc, words.key)?;
+    let key = key_of(rt, alloc, words.key())?;
     let shared = SharedDirectory::read(
         rt,
         alloc,
-        words.directory,
-        &words.sharing,
+        words.directory(),
+        words.sharing(),
         Some(key),
         Purpose::Describing,
     )?;
@@ -43,7 +43,7 @@ pub fn describe_directory<R: Files + Print + Eprint + RandomSource + AllocGlobal
 fn print_shared<R: Print>(
     rt: &R,
     alloc: Global,
-    words: &Describe<'_>,
+    words: Describe<'_, '_>,
     shared: &SharedDirectory,
 ) -> Result<ExitCode, Fault> {
     match describe(alloc, &shared.loaded.tree, &shared.loaded.table) {
@@ -57,8 +57,8 @@ fn print_shared<R: Print>(
 }
 
 // 1 where something was skipped and nothing may be.
-fn status_of(words: &Describe<'_>, survey: &Survey) -> ExitCode {
-    if words.is_strict && !survey.warnings.is_empty() {
+fn status_of(words: Describe<'_, '_>, survey: &Survey) -> ExitCode {
+    if words.is_strict() && !survey.warnings.is_empty() {
         ExitCode::from(1)
     } else {
         ExitCode::SUCCESS

@@ -17,13 +17,13 @@ use std::rt::Files;
 pub fn extract_tree<R: Files<File = File> + Input + Eprint + AllocGlobal>(
     rt: &R,
     alloc: Global,
-    words: &Extract<'_>,
+    words: Extract<'_, '_>,
 ) -> Result<ExitCode, Diagnostic> {
     let NamedTree {
         description,
         is_partial,
-    } = NamedTree::read(rt, alloc, &words.tree)?;
-    let extracted = extract(rt, alloc, &description.loaded.tree, words.directory);
+    } = NamedTree::read(rt, alloc, words.tree())?;
+    let extracted = extract(rt, alloc, &description.loaded.tree, words.directory());
     forget(description);
     match extracted {
         Ok(skipped) => {

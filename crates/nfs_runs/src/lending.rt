@@ -2,7 +2,7 @@
 
 use crate::exposure::warn_of_open_volumes;
 use crate::life::begin;
-use nfs_command_line::invocation::Serve;
+use nfs_command_line::serve::Serve;
 use nfs_server::server::Server;
 use nfs_source::description::load_tree;
 use nfs_source::diagnostic::Diagnostic;
@@ -26,7 +26,7 @@ pub trait ServerUse {
 pub fn lend_life<R: Files + Input + Eprint + Clock + AllocGlobal, U: ServerUse>(
     rt: &R,
     alloc: Global,
-    words: &Serve<'_>,
+    words: Serve<'_, '_>,
     ip: IpAddr,
     using: &U,
 ) -> Result<ExitCode, Diagnostic> {
@@ -40,12 +40,12 @@ pub fn lend_life<R: Files + Input + Eprint + Clock + AllocGlobal, U: ServerUse>(
 fn server_for<R: Files + Input + Eprint + Clock + AllocGlobal>(
     rt: &R,
     alloc: Global,
-    words: &Serve<'_>,
+    words: Serve<'_, '_>,
     ip: IpAddr,
 ) -> Result<Server, Diagnostic> {
-    let life = begin_life(rt, alloc, &words.tree, words.is_strict)?;
+    let life = begin_life(rt, alloc, words.tree(), words.is_strict())?;
     warn_of_open_volumes(rt, ip, &life.loaded);
-    Ok(begin(rt, alloc, life, words.cache)?)
+    Ok(begin(rt, alloc, life, words.cache())?)
 }
 
 /// Has the server of the description of this name used, as it is described, with one place for cached

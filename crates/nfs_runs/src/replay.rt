@@ -29,11 +29,11 @@ const RUN_BYTES: usize = 65_536;
 pub fn replay_files<R: Files + Input + Print + Eprint + RandomSource + AllocGlobal>(
     rt: &R,
     alloc: Global,
-    words: &Replay<'_>,
+    words: Replay<'_, '_>,
 ) -> Result<ExitCode, Diagnostic> {
-    let copies = Copies::of(rt, alloc, words.save, words.key)?;
-    let loaded = NamedTree::load(rt, alloc, &words.tree)?;
-    match Source::read(rt, alloc, words.script) {
+    let copies = Copies::of(rt, alloc, words.save(), words.key())?;
+    let loaded = NamedTree::load(rt, alloc, words.tree())?;
+    match Source::read(rt, alloc, words.script()) {
         Ok(script) => replay_script(rt, alloc, loaded, &script, words, &copies),
         Err(fault) => {
             forget(loaded);
@@ -48,7 +48,7 @@ fn replay_script<R: Files + Print + Eprint + RandomSource>(
     alloc: Global,
     loaded: Loaded,
     script: &Source<'_>,
-    words: &Replay<'_>,
+    words: Replay<'_, '_>,
     copies: &Copies<'_>,
 ) -> Result<ExitCode, Diagnostic> {
     let sessions = run(rt, alloc, loaded, script, words)?;
@@ -63,7 +63,7 @@ fn run<R: Print>(
     alloc: Global,
     loaded: Loaded,
     script: &Source<'_>,
-    words: &Replay<'_>,
+    words: Replay<'_, '_>,
 ) -> Result<Sessions, Diagnostic> {
     let Ok(lines) = BufWriter::with_capacity(alloc, RUN_BYTES, io::writer(rt)) else {
         forget(loaded);
@@ -71,10 +71,10 @@ fn run<R: Print>(
     };
     let mut out = Device::new(lines);
     let shown = Shown {
-        is_decoded: words.is_decoded,
-        is_named: words.is_named,
+        is_decoded: words.is_decoded(),
+        is_named: words.is_named(),
     };
-    let cache = words.cache.clamp(1, 1024);
+    let cache = words.cache().clamp(1, 1024);
     let done = replay(
         alloc,
         loaded,

@@ -2,7 +2,7 @@
 
 use crate::shared::SharedDirectory;
 use crate::skipped::report_skipped;
-use nfs_command_line::invocation::{Sharing, TreeWords};
+use nfs_command_line::sharing::{Sharing, TreeWords};
 use nfs_disk::found::{Found, Kind};
 use nfs_disk::survey::{Purpose, Survey};
 use nfs_lives::path_digest::PathDigest;
@@ -33,12 +33,12 @@ impl<'a> NamedTree<'a> {
     pub fn read<R: Files + Input + Eprint + AllocGlobal>(
         rt: &R,
         alloc: Global,
-        words: &TreeWords<'a>,
+        words: TreeWords<'a, '_>,
     ) -> Result<NamedTree<'a>, Diagnostic> {
-        if !is_directory(rt, words.name) {
-            refuse_sharing(&words.sharing)?;
+        if !is_directory(rt, words.name()) {
+            refuse_sharing(words.sharing())?;
             return Ok(NamedTree {
-                description: Description::read(rt, alloc, words.name)?,
+                description: Description::read(rt, alloc, words.name())?,
                 is_partial: false,
             });
         }
@@ -46,7 +46,7 @@ impl<'a> NamedTree<'a> {
         let is_partial = !shared.survey.warnings.is_empty();
         let SharedDirectory { head, loaded, .. } = shared;
         let source = Source {
-            name: words.name,
+            name: words.name(),
             text: head,
         };
         Ok(NamedTree {
@@ -59,7 +59,7 @@ impl<'a> NamedTree<'a> {
     pub fn load<R: Files + Input + Eprint + AllocGlobal>(
         rt: &R,
         alloc: Global,
-        words: &TreeWords<'a>,
+        words: TreeWords<'a, '_>,
     ) -> Result<Loaded, Diagnostic> {
         let NamedTree { description, .. } = NamedTree::read(rt, alloc, words)?;
         let Description { loaded, .. } = description;
@@ -73,14 +73,14 @@ impl<'a> NamedTree<'a> {
 pub fn begin_life<R: Files + Input + Eprint + AllocGlobal>(
     rt: &R,
     alloc: Global,
-    words: &TreeWords<'_>,
+    words: TreeWords<'_, '_>,
     is_strict: bool,
 ) -> Result<Life, Diagnostic> {
-    if !is_directory(rt, words.name) {
-        refuse_sharing(&words.sharing)?;
-        return load_life(rt, alloc, words.name);
+    if !is_directory(rt, words.name()) {
+        refuse_sharing(words.sharing())?;
+        return load_life(rt, alloc, words.name());
     }
-    if words.sharing.exports.is_empty() {
+    if words.sharing().exports().is_empty() {
         return Err(Fault::Sharing(SharingFault::NoExport).into());
     }
     let shared = share(rt, alloc, words)?;
@@ -106,12 +106,12 @@ pub fn is_directory<R: Files>(rt: &R, name: &str) -> bool {
 
 /// A description says itself how its volumes are shared: `Sharing` where words for a directory stand beside
 /// one.
-pub fn refuse_sharing(sharing: &Sharing<'_>) -> Result<(), Fault> {
-    let is_plain = sharing.mount.is_none()
-        && sharing.bytes.is_none()
-        && sharing.files.is_none()
-        && sharing.chown.is_none()
-        && sharing.exports.is_empty();
+pub fn refuse_sharing(sharing: Sharing<'_, '_>) -> Result<(), Fault> {
+    let is_plain = sharing.mount().is_none()
+        && sharing.bytes().is_none()
+        && sharing.files().is_none()
+        && sharing.chown().is_none()
+        && sharing.exports().is_empty();
     if is_plain {
         Ok(())
     } else {
@@ -123,10 +123,10 @@ pub fn refuse_sharing(sharing: &Sharing<'_>) -> Result<(), Fault> {
 fn share<R: Files + Eprint + AllocGlobal>(
     rt: &R,
     alloc: Global,
-    words: &TreeWords<'_>,
+    words: TreeWords<'_, '_>,
 ) -> Result<SharedDirectory, Fault> {
     let purpose = Purpose::Serving;
-    let shared = SharedDirectory::read(rt, alloc, words.name, &words.sharing, None, purpose)?;
+    let shared = SharedDirectory::read(rt, alloc, words.name(), words.sharing(), None, purpose)?;
     report_skipped(rt, &shared.survey);
     Ok(shared)
 }

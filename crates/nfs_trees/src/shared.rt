@@ -1,6 +1,6 @@
 //! Directories on disk that are shared as volumes.
 
-use nfs_command_line::invocation::{Owner, Sharing};
+use nfs_command_line::sharing::{Owner, Sharing};
 use nfs_disk::building::build;
 use nfs_disk::fault::DiskFault;
 use nfs_disk::head::{Head, head_of};
@@ -33,7 +33,7 @@ impl SharedDirectory {
         rt: &R,
         alloc: Global,
         name: &str,
-        sharing: &Sharing<'_>,
+        sharing: Sharing<'_, '_>,
         key: Option<[u8; 8]>,
         purpose: Purpose,
     ) -> Result<SharedDirectory, Fault> {
@@ -41,7 +41,7 @@ impl SharedDirectory {
             Ok(survey) => survey,
             Err(fault) => return Err(fault_of(alloc, name, fault)),
         };
-        if let Some(owner) = sharing.chown.and_then(Owner::of_text) {
+        if let Some(owner) = sharing.chown().and_then(Owner::of_text) {
             survey.chown(owner.uid, owner.gid);
         }
         let key = key.unwrap_or(key_on_disk(&survey));
@@ -74,20 +74,20 @@ fn head_for<R: Files + AllocGlobal>(
     rt: &R,
     alloc: Global,
     name: &str,
-    sharing: &Sharing<'_>,
+    sharing: Sharing<'_, '_>,
     key: [u8; 8],
     survey: &Survey,
 ) -> Result<Vec<u8>, Fault> {
-    let mount = match sharing.mount {
+    let mount = match sharing.mount() {
         Some(mount) => mount.to_string(alloc)?,
         None => mount_of(rt, alloc, name)?,
     };
     let head = Head {
         key,
         mount: mount.as_str(),
-        bytes: sharing.bytes,
-        files: sharing.files,
-        exports: sharing.exports,
+        bytes: sharing.bytes(),
+        files: sharing.files(),
+        exports: sharing.exports(),
     };
     Ok(head_of(alloc, &head, survey)?)
 }

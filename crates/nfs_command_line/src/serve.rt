@@ -1,0 +1,114 @@
+//! The words of `serve`.
+
+use crate::sharing::TreeWords;
+use crate::values::{cache, text};
+use clap::ArgMatches;
+
+/// The words of `serve`.
+#[derive(Clone, Copy)]
+pub struct Serve<'a, 'w> {
+    words: &'a ArgMatches<'w>,
+}
+
+/// What to do when the line of a denied call can't be written.
+#[derive(Clone, Copy, Debug, PartialEq, Eq)]
+pub enum AuditFailed {
+    /// Calls are refused as long as none can be.
+    Refuse,
+    /// Calls are answered, and the lost lines are counted.
+    Count,
+}
+
+impl<'a, 'w> Serve<'a, 'w> {
+    pub(crate) fn new(words: &'a ArgMatches<'w>) -> Serve<'a, 'w> {
+        Serve { words }
+    }
+
+    /// What is served.
+    pub fn tree(&self) -> TreeWords<'a, 'w> {
+        TreeWords::new(self.words)
+    }
+
+    /// The address that is listened at.
+    pub fn listen(&self) -> &'a str {
+        text(self.words, "listen")
+    }
+
+    /// Its port.
+    pub fn port(&self) -> u16 {
+        self.words.get_one::<u16>("port").unwrap_or(2049)
+    }
+
+    /// After how many connections it ends.
+    pub fn connections(&self) -> Option<u64> {
+        self.words.get_one::<u64>("connections")
+    }
+
+    /// How many clients are served at once.
+    pub fn clients(&self) -> usize {
+        self.words.get_one::<usize>("clients").unwrap_or(1024)
+    }
+
+    /// After how many seconds without a byte a connection ends.
+    pub fn idle(&self) -> Option<u64> {
+        self.words.get_one::<u64>("idle")
+    }
+
+    /// How many replies are kept.
+    pub fn cache(&self) -> usize {
+        cache(self.words)
+    }
+
+    /// The file to which the lines of denied calls go.
+    pub fn audit(&self) -> Option<&'a str> {
+        self.words.get_str("audit")
+    }
+
+    /// What to do when the line of a denied call can't be written.
+    pub fn audit_failed(&self) -> AuditFailed {
+        match self.words.get_str("audit-failed") {
+            Some("count") => AuditFailed::Count,
+            _ => AuditFailed::Refuse,
+        }
+    }
+
+    /// The rules whose denied calls get no line, with a comma between two.
+    pub fn audit_skip(&self) -> Option<&'a str> {
+        self.words.get_str("audit-skip")
+    }
+
+    /// Whether the line of a denied call begins with the time.
+    pub fn has_times(&self) -> bool {
+        self.words.get_flag("times")
+    }
+
+    /// Whether denied calls are reported with names.
+    pub fn is_named(&self) -> bool {
+        self.words.get_flag("names")
+    }
+
+    /// Where the tree is saved.
+    pub fn save(&self) -> Option<&'a str> {
+        self.words.get_str("save")
+    }
+
+    /// After how many seconds it is saved again.
+    pub fn save_every(&self) -> Option<u64> {
+        self.words.get_one::<u64>("save-every")
+    }
+
+    /// The key of what is saved, in 16 hexadecimal digits; without it a new one.
+    pub fn key(&self) -> Option<&'a str> {
+        self.words.get_str("key")
+    }
+
+    /// Whether clients that come and go are reported.
+    pub fn is_verbose(&self) -> bool {
+        self.words.get_flag("verbose")
+    }
+
+    /// Whether nothing is served where something of a directory is skipped.
+    pub fn is_strict(&self) -> bool {
+        self.words.get_flag("strict")
+    }
+}

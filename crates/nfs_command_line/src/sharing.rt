@@ -1,0 +1,83 @@
+//! The word TREE, and how a directory on disk is shared.
+
+use crate::values::{text, texts};
+use clap::ArgMatches;
+
+/// The word TREE: the file of a description, or a directory on disk with how it is shared.
+#[derive(Clone, Copy)]
+pub struct TreeWords<'a, 'w> {
+    words: &'a ArgMatches<'w>,
+}
+
+impl<'a, 'w> TreeWords<'a, 'w> {
+    pub(crate) fn new(words: &'a ArgMatches<'w>) -> TreeWords<'a, 'w> {
+        TreeWords { words }
+    }
+
+    /// Its name on disk.
+    pub fn name(&self) -> &'a str {
+        text(self.words, "tree")
+    }
+
+    /// How it is shared, where it is a directory.
+    pub fn sharing(&self) -> Sharing<'a, 'w> {
+        Sharing::new(self.words)
+    }
+}
+
+/// How a directory on disk is shared as a volume.
+#[derive(Clone, Copy)]
+pub struct Sharing<'a, 'w> {
+    words: &'a ArgMatches<'w>,
+}
+
+impl<'a, 'w> Sharing<'a, 'w> {
+    pub(crate) fn new(words: &'a ArgMatches<'w>) -> Sharing<'a, 'w> {
+        Sharing { words }
+    }
+
+    /// The path that clients mount; without it the directory's name.
+    pub fn mount(&self) -> Option<&'a str> {
+        self.words.get_str("mount")
+    }
+
+    /// The volume's most bytes.
+    pub fn bytes(&self) -> Option<u64> {
+        self.words.get_one::<u64>("bytes")
+    }
+
+    /// The volume's most files.
+    pub fn files(&self) -> Option<u64> {
+        self.words.get_one::<u64>("files")
+    }
+
+    /// To whom it is exported, each as PATTERN=OPTIONS.
+    pub fn exports(&self) -> &'a [&'a str] {
+        texts(self.words, "export")
+    }
+
+    /// The owner and group of all files, as UID:GID; without it those on disk.
+    pub fn chown(&self) -> Option<&'a str> {
+        self.words.get_str("chown")
+    }
+}
+
+/// The owner and the group of a file.
+#[derive(Clone, Copy)]
+pub struct Owner {
+    /// The user's number.
+    pub uid: u32,
+    /// The group's number.
+    pub gid: u32,
+}
+
+impl Owner {
+    /// The owner that UID:GID names. `None` where the text is not two numbers.
+    pub fn of_text(text: &str) -> Option<Owner> {
+        let (uid, gid) = text.split_once(':')?;
+        Some(Owner {
+            uid: uid.parse::<u32>().ok()?,
+            gid: gid.parse::<u32>().ok()?,
+        })
+    }
+}
