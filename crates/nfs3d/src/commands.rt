@@ -48,7 +48,11 @@ where
 }
 
 // Does one command; nothing where there is none.
-fn answer<R>(rt: &R, alloc: Global, request: Option<Invocation<'_, '_>>) -> Result<ExitCode, Diagnostic>
+fn answer<R>(
+    rt: &R,
+    alloc: Global,
+    request: Option<Invocation<'_, '_>>,
+) -> Result<ExitCode, Diagnostic>
 where
     R: Files<File = File>
         + Input
@@ -63,12 +67,12 @@ where
     match request {
         Some(Invocation::Check(words)) => check_file(rt, alloc, words),
         Some(Invocation::Why(words)) => print_why(rt, alloc, words),
-        Some(Invocation::Exports(tree)) => print_exports(rt, alloc, tree),
+        Some(Invocation::Exports(words)) => print_exports(rt, alloc, words.tree()),
         Some(Invocation::Replay(words)) => replay_files(rt, alloc, words),
         Some(Invocation::Serve(words)) => serve_tree(rt, alloc, words),
         Some(Invocation::Describe(words)) => Ok(describe_directory(rt, alloc, words)?),
         Some(Invocation::Extract(words)) => extract_tree(rt, alloc, words),
-        Some(Invocation::SelfCall(tree)) => call_self(rt, alloc, tree),
+        Some(Invocation::SelfCall(words)) => call_self(rt, alloc, words.tree()),
         None => Ok(ExitCode::SUCCESS),
     }
 }

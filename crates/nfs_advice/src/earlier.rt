@@ -43,6 +43,9 @@ impl EarlierReason {
     }
 }
 
+// What the lines begin with that make a file or a name.
+const MAKERS: [&[u8]; 4] = [b"dir", b"file", b"link", b"hard"];
+
 /// The lines of a text above one of them.
 #[derive(Clone, Copy)]
 pub struct Above<'a> {
@@ -115,15 +118,14 @@ pub fn export_line(text: &[u8], volume: usize, export: usize) -> u64 {
     let mut number = 0u64;
     for line in Lines::new(text) {
         number = number.saturating_add(1);
-        match first_word(line) {
-            b"volume" => volumes = volumes.saturating_add(1),
-            b"export" if volumes == volume.saturating_add(1) => {
-                if exports == export {
-                    break;
-                }
-                exports = exports.saturating_add(1);
+        let keyword = first_word(line);
+        if keyword == b"volume".as_slice() {
+            volumes = volumes.saturating_add(1);
+        } else if keyword == b"export".as_slice() && volumes == volume.saturating_add(1) {
+            if exports == export {
+                break;
             }
-            _ => {}
+            exports = exports.saturating_add(1);
         }
     }
     number
@@ -150,10 +152,7 @@ pub(crate) fn word_of(line: &[u8], place: usize) -> &[u8] {
 }
 
 fn makes_file(keyword: &[u8]) -> bool {
-    match keyword {
-        b"dir" | b"file" | b"link" | b"hard" => true,
-        _ => false,
-    }
+    MAKERS.contains(&keyword)
 }
 
 /// The path of a new volume, which another one has.
@@ -206,17 +205,21 @@ pub(crate) fn name_taken<'a>(above: Above<'a>, line: Span<'a>) -> Advice<'a>
     ensures { result.span.line.now ≡ line.entry.line.now }
 {
     let word = line.word(1).unwrap_or(line);
-    let old = line.word(2).unwrap_or(line);
-    let is_hard = line.word(0).unwrap_or(line).bytes() == b"hard".as_slice();
-    let reason = if is_hard && above.maker_of(old.bytes()).is_none() {
-        EarlierReason::TakenByHardLink
-    } else {
-        EarlierReason::Taken
-    };
+    let reason = reason_of_taken(above, line.bytes());
     let advice = Advice::new(word, AdviceReason::Earlier(reason));
     match above.maker_of(word.bytes()) {
         Some(maker) => advice.with(Remedy::Line(maker.number)),
         None => advice,
+    }
+}
+
+// Whether the paths of a line may stand in the wrong order: its second one is missing above.
+fn reason_of_taken(above: Above<'_>, line: &[u8]) -> EarlierReason {
+    let is_hard = word_of(line, 0) == b"hard".as_slice();
+    if is_hard && above.maker_of(word_of(line, 2)).is_none() {
+        EarlierReason::TakenByHardLink
+    } else {
+        EarlierReason::Taken
     }
 }
 

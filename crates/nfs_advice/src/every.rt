@@ -3,15 +3,18 @@ ghost use Rattle.std.specs.Prelude.{IfOk};
 ghost use Rattle.nfs_advice.specs.Firsts.{HasFirst};
 
 use crate::description::line_at;
+use crate::earlier::{first_word, word_of};
 use nfs_load::cause::Cause;
 use nfs_load::description::load;
 use nfs_load::load_error::LoadError;
 use nfs_text::lines::Lines;
-use nfs_text::words::Words;
 use std::alloc::{AllocError, Global};
 
 // How many faulty lines are looked at.
 const MOST: u32 = 100;
+
+// The lines after which nothing is reported where they are faulty.
+const ENDING: [&[u8]; 2] = [b"server", b"limits"];
 
 /// A faulty line.
 #[derive(Clone, Copy)]
@@ -80,15 +83,11 @@ fn is_missed(cause: Cause) -> bool {
 
 // Makes a comment of a faulty line, and of those after it that belong to it. Not where all lines do.
 fn take_away(text: &mut [u8], faulty: Faulty) -> bool {
-    let first = Words::new(line_at(text, faulty.line).bytes()).next();
-    if first.is_none()
-        || first == Some(b"server")
-        || first == Some(b"limits")
-        || faulty.cause == Cause::NoServer
-    {
+    let first = word_of(line_at(text, faulty.line).bytes(), 0);
+    if first.is_empty() || ENDING.contains(&first) || faulty.cause == Cause::NoServer {
         return false;
     }
-    let end = if first == Some(b"volume") {
+    let end = if first == b"volume".as_slice() {
         next_volume(text, faulty.line)
     } else {
         faulty.line.saturating_add(1)
@@ -102,7 +101,7 @@ fn next_volume(text: &[u8], after: u64) -> u64 {
     let mut number = 0u64;
     for line in Lines::new(text) {
         number = number.saturating_add(1);
-        if number > after && Words::new(line).next() == Some(b"volume") {
+        if number > after && first_word(line) == b"volume".as_slice() {
             return number;
         }
     }

@@ -98,17 +98,24 @@ const LINK: [Field; 4] = [Field::Path, Field::Uid, Field::Gid, Field::Target];
 
 const HARD: [Field; 2] = [Field::Path, Field::Old];
 
+// The words that lines begin with.
+const KEYWORDS: [(&[u8], &[Field]); 8] = [
+    (b"server", &SERVER),
+    (b"limits", &LIMITS),
+    (b"volume", &VOLUME),
+    (b"export", &EXPORT),
+    (b"dir", &DIR),
+    (b"file", &FILE),
+    (b"link", &LINK),
+    (b"hard", &HARD),
+];
+
 /// The fields of the lines that begin with this word, in their order.
 pub(crate) fn fields_after(keyword: &[u8]) -> &'static [Field] {
-    match keyword {
-        b"server" => &SERVER,
-        b"limits" => &LIMITS,
-        b"volume" => &VOLUME,
-        b"export" => &EXPORT,
-        b"dir" => &DIR,
-        b"file" => &FILE,
-        b"link" => &LINK,
-        b"hard" => &HARD,
-        _ => &[],
+    for (word, fields) in &KEYWORDS {
+        if keyword == *word {
+            return fields;
+        }
     }
+    &[]
 }

@@ -99,6 +99,18 @@ const FLAGS: [&[u8]; 12] = [
 
 const VALUED: [&[u8]; 3] = [b"anonuid", b"anongid", b"sec"];
 
+// The options that are not supported, beside values of `sec`.
+const UNSUPPORTED: [(&[u8], OptionReason); 8] = [
+    (b"secure", OptionReason::Secure),
+    (b"subtree_check", OptionReason::SubtreeCheck),
+    (b"no_wdelay", OptionReason::NoWriteDelay),
+    (b"nohide", OptionReason::NoHide),
+    (b"crossmnt", OptionReason::NoHide),
+    (b"mountpoint", OptionReason::MountPoint),
+    (b"mp", OptionReason::MountPoint),
+    (b"fsid", OptionReason::FileSystemId),
+];
+
 /// The first option of a line that is none, or contradicts an earlier one.
 pub(crate) fn bad_options(line: Span<'_>) -> Advice<'_>
     ensures { result.span.line.now ≡ line.entry.line.now }
@@ -167,15 +179,12 @@ fn unknown(word: &[u8], name: &[u8], has_value: bool) -> OptionReason {
 
 // Why an option is not supported.
 fn unsupported(name: &[u8]) -> OptionReason {
-    match name {
-        b"secure" => OptionReason::Secure,
-        b"subtree_check" => OptionReason::SubtreeCheck,
-        b"no_wdelay" => OptionReason::NoWriteDelay,
-        b"nohide" | b"crossmnt" => OptionReason::NoHide,
-        b"mountpoint" | b"mp" => OptionReason::MountPoint,
-        b"fsid" => OptionReason::FileSystemId,
-        _ => OptionReason::Security,
+    for (option, reason) in &UNSUPPORTED {
+        if name == *option {
+            return *reason;
+        }
     }
+    OptionReason::Security
 }
 
 // An option that says otherwise than one of those before it.
@@ -197,8 +206,8 @@ fn contradiction<'a>(before: Span<'a>, word: Span<'a>) -> Advice<'a>
 // What an option is about: those that may contradict one another have the same.
 fn subject_of(option: &[u8]) -> &[u8] {
     let (name, _) = cut(option, b'=');
-    match name {
-        b"rw" => b"ro",
-        _ => name.strip_prefix(b"no_").unwrap_or(name),
+    if name == b"rw".as_slice() {
+        return b"ro";
     }
+    name.strip_prefix(b"no_").unwrap_or(name)
 }

@@ -1,10 +1,14 @@
 //! What the words of the command line ask for.
+ghost use Rattle.std.specs.Prelude.{◌≡◌, codes, option_map};
+ghost use Rattle.nfs_command_line.specs.Given.{IsFlag, IsNumberOr, text_given, text_of};
+ghost use Rattle.nfs_command_line.specs.Invocations.{invocation_of};
 
 use crate::serve::Serve;
 use crate::sharing::{Sharing, TreeWords};
 use crate::usage::UsageFault;
 use crate::values::{cache, text};
 use clap::ArgMatches;
+use std::str::FromStr;
 
 /// A command with its words. A file `-` is standard input.
 #[derive(Clone, Copy)]
@@ -13,8 +17,8 @@ pub enum Invocation<'a, 'w> {
     Check(Check<'a, 'w>),
     /// Why a call is granted or denied.
     Why(Why<'a, 'w>),
-    /// Who may reach which volume of this tree.
-    Exports(TreeWords<'a, 'w>),
+    /// Who may reach which volume.
+    Exports(Exports<'a, 'w>),
     /// A script is run.
     Replay(Replay<'a, 'w>),
     /// Clients are served.
@@ -23,22 +27,24 @@ pub enum Invocation<'a, 'w> {
     Describe(Describe<'a, 'w>),
     /// A tree is written as a directory on disk.
     Extract(Extract<'a, 'w>),
-    /// A call is served, of the description of this name, over a connection of its own.
-    SelfCall(&'a str),
+    /// A call is served over a connection of its own.
+    SelfCall(SelfCall<'a, 'w>),
 }
 
 impl<'a, 'w> Invocation<'a, 'w> {
     /// The command of a name with its words. `None` where there is none of that name.
-    pub(crate) fn of(name: &str, words: &'a ArgMatches<'w>) -> Option<Invocation<'a, 'w>> {
+    pub(crate) fn of(name: &str, words: &'a ArgMatches<'w>) -> Option<Invocation<'a, 'w>>
+        ensures { result ≡ invocation_of name.now words.entry }
+    {
         match name {
             "check" => Some(Invocation::Check(Check { words })),
             "why" => Some(Invocation::Why(Why { words })),
-            "exports" => Some(Invocation::Exports(TreeWords::new(words))),
+            "exports" => Some(Invocation::Exports(Exports { words })),
             "replay" => Some(Invocation::Replay(Replay { words })),
             "serve" => Some(Invocation::Serve(Serve::new(words))),
             "describe" => Some(Invocation::Describe(Describe { words })),
             "extract" => Some(Invocation::Extract(Extract { words })),
-            "self" => Some(Invocation::SelfCall(text(words, "tree"))),
+            "self" => Some(Invocation::SelfCall(SelfCall { words })),
             _ => None,
         }
     }
@@ -48,7 +54,7 @@ impl<'a, 'w> Invocation<'a, 'w> {
         match self {
             Invocation::Check(words) => UsageFault::of_sharing(words.tree().sharing()),
             Invocation::Why(words) => UsageFault::of_sharing(words.tree().sharing()),
-            Invocation::Exports(tree) => UsageFault::of_sharing(tree.sharing()),
+            Invocation::Exports(words) => UsageFault::of_sharing(words.tree().sharing()),
             Invocation::Replay(words) => {
                 UsageFault::of_keyed(words.tree().sharing(), words.key())
             }
@@ -68,17 +74,23 @@ pub struct Check<'a, 'w> {
 
 impl<'a, 'w> Check<'a, 'w> {
     /// What is checked.
-    pub fn tree(&self) -> TreeWords<'a, 'w> {
+    pub fn tree(&self) -> TreeWords<'a, 'w>
+        ensures { result.words ≡ self.now.words }
+    {
         TreeWords::new(self.words)
     }
 
     /// Whether a warning is a fault.
-    pub fn is_strict(&self) -> bool {
+    pub fn is_strict(&self) -> bool
+        ensures { IsFlag self.now.words.now (codes "strict") result }
+    {
         self.words.get_flag("strict")
     }
 
     /// Whether the lines after the first faulty one are reported too.
-    pub fn is_whole(&self) -> bool {
+    pub fn is_whole(&self) -> bool
+        ensures { IsFlag self.now.words.now (codes "all") result }
+    {
         self.words.get_flag("all")
     }
 }
@@ -91,33 +103,60 @@ pub struct Why<'a, 'w> {
 
 impl<'a, 'w> Why<'a, 'w> {
     /// What is asked about.
-    pub fn tree(&self) -> TreeWords<'a, 'w> {
+    pub fn tree(&self) -> TreeWords<'a, 'w>
+        ensures { result.words ≡ self.now.words }
+    {
         TreeWords::new(self.words)
     }
 
     /// The client's address.
-    pub fn address(&self) -> &'a str {
+    pub fn address(&self) -> &'a str
+        ensures { result.now ≡ text_of self.now.words.now (codes "address") }
+    {
         text(self.words, "address")
     }
 
     /// The user, in the client's words.
-    pub fn user(&self) -> &'a str {
+    pub fn user(&self) -> &'a str
+        ensures { result.now ≡ text_of self.now.words.now (codes "user") }
+    {
         text(self.words, "user")
     }
 
     /// What is done.
-    pub fn operation(&self) -> &'a str {
+    pub fn operation(&self) -> &'a str
+        ensures { result.now ≡ text_of self.now.words.now (codes "operation") }
+    {
         text(self.words, "operation")
     }
 
     /// With what.
-    pub fn path(&self) -> &'a str {
+    pub fn path(&self) -> &'a str
+        ensures { result.now ≡ text_of self.now.words.now (codes "path") }
+    {
         text(self.words, "path")
     }
 
     /// What stands after the path.
-    pub fn second(&self) -> Option<&'a str> {
+    pub fn second(&self) -> Option<&'a str>
+        ensures { option_map (λ text. text.now) result ≡ text_given self.now.words.now (codes "second") }
+    {
         self.words.get_str("second")
+    }
+}
+
+/// The words of `exports`.
+#[derive(Clone, Copy)]
+pub struct Exports<'a, 'w> {
+    words: &'a ArgMatches<'w>,
+}
+
+impl<'a, 'w> Exports<'a, 'w> {
+    /// What has the volumes.
+    pub fn tree(&self) -> TreeWords<'a, 'w>
+        ensures { result.words ≡ self.now.words }
+    {
+        TreeWords::new(self.words)
     }
 }
 
@@ -129,37 +168,51 @@ pub struct Replay<'a, 'w> {
 
 impl<'a, 'w> Replay<'a, 'w> {
     /// What the script begins with.
-    pub fn tree(&self) -> TreeWords<'a, 'w> {
+    pub fn tree(&self) -> TreeWords<'a, 'w>
+        ensures { result.words ≡ self.now.words }
+    {
         TreeWords::new(self.words)
     }
 
     /// The script's file.
-    pub fn script(&self) -> &'a str {
+    pub fn script(&self) -> &'a str
+        ensures { result.now ≡ text_of self.now.words.now (codes "script") }
+    {
         text(self.words, "script")
     }
 
     /// How many replies are kept.
-    pub fn cache(&self) -> usize {
+    pub fn cache(&self) -> usize
+        ensures { IsNumberOr 128 ⟦<usize as FromStr>⟧.from_str_gives self.now.words.now (codes "cache") result }
+    {
         cache(self.words)
     }
 
     /// Where the tree is saved.
-    pub fn save(&self) -> Option<&'a str> {
+    pub fn save(&self) -> Option<&'a str>
+        ensures { option_map (λ text. text.now) result ≡ text_given self.now.words.now (codes "save") }
+    {
         self.words.get_str("save")
     }
 
     /// The key of what is saved, in 16 hexadecimal digits; without it a new one.
-    pub fn key(&self) -> Option<&'a str> {
+    pub fn key(&self) -> Option<&'a str>
+        ensures { option_map (λ text. text.now) result ≡ text_given self.now.words.now (codes "key") }
+    {
         self.words.get_str("key")
     }
 
     /// Whether replies are printed in words too.
-    pub fn is_decoded(&self) -> bool {
+    pub fn is_decoded(&self) -> bool
+        ensures { IsFlag self.now.words.now (codes "decode") result }
+    {
         self.words.get_flag("decode")
     }
 
     /// Whether denied calls are reported with names.
-    pub fn is_named(&self) -> bool {
+    pub fn is_named(&self) -> bool
+        ensures { IsFlag self.now.words.now (codes "names") result }
+    {
         self.words.get_flag("names")
     }
 }
@@ -172,22 +225,30 @@ pub struct Describe<'a, 'w> {
 
 impl<'a, 'w> Describe<'a, 'w> {
     /// The directory.
-    pub fn directory(&self) -> &'a str {
+    pub fn directory(&self) -> &'a str
+        ensures { result.now ≡ text_of self.now.words.now (codes "directory") }
+    {
         text(self.words, "directory")
     }
 
     /// How it is shared.
-    pub fn sharing(&self) -> Sharing<'a, 'w> {
+    pub fn sharing(&self) -> Sharing<'a, 'w>
+        ensures { result.words ≡ self.now.words }
+    {
         Sharing::new(self.words)
     }
 
     /// The server's key, in 16 hexadecimal digits; without it a new one.
-    pub fn key(&self) -> Option<&'a str> {
+    pub fn key(&self) -> Option<&'a str>
+        ensures { option_map (λ text. text.now) result ≡ text_given self.now.words.now (codes "key") }
+    {
         self.words.get_str("key")
     }
 
     /// Whether the status is 1 where something was skipped.
-    pub fn is_strict(&self) -> bool {
+    pub fn is_strict(&self) -> bool
+        ensures { IsFlag self.now.words.now (codes "strict") result }
+    {
         self.words.get_flag("strict")
     }
 }
@@ -200,12 +261,31 @@ pub struct Extract<'a, 'w> {
 
 impl<'a, 'w> Extract<'a, 'w> {
     /// What is written.
-    pub fn tree(&self) -> TreeWords<'a, 'w> {
+    pub fn tree(&self) -> TreeWords<'a, 'w>
+        ensures { result.words ≡ self.now.words }
+    {
         TreeWords::new(self.words)
     }
 
     /// The directory, which is made.
-    pub fn directory(&self) -> &'a str {
+    pub fn directory(&self) -> &'a str
+        ensures { result.now ≡ text_of self.now.words.now (codes "directory") }
+    {
         text(self.words, "directory")
+    }
+}
+
+/// The words of `self`.
+#[derive(Clone, Copy)]
+pub struct SelfCall<'a, 'w> {
+    words: &'a ArgMatches<'w>,
+}
+
+impl<'a, 'w> SelfCall<'a, 'w> {
+    /// The description's file.
+    pub fn tree(&self) -> &'a str
+        ensures { result.now ≡ text_of self.now.words.now (codes "tree") }
+    {
+        text(self.words, "tree")
     }
 }

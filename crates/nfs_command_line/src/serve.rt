@@ -1,8 +1,12 @@
 //! The words of `serve`.
+ghost use Rattle.std.specs.Prelude.{◌≡◌, ◌≢◌, Some, codes, option_map};
+ghost use Rattle.nfs_command_line.specs.Given.{IsFlag, IsNumber, IsNumberOr, text_given, text_of};
+ghost use Rattle.nfs_command_line.specs.declared.serve.AuditFailed.TheVariants.{Count, Refuse};
 
 use crate::sharing::TreeWords;
 use crate::values::{cache, text};
 use clap::ArgMatches;
+use std::str::FromStr;
 
 /// The words of `serve`.
 #[derive(Clone, Copy)]
@@ -20,52 +24,73 @@ pub enum AuditFailed {
 }
 
 impl<'a, 'w> Serve<'a, 'w> {
-    pub(crate) fn new(words: &'a ArgMatches<'w>) -> Serve<'a, 'w> {
+    pub(crate) fn new(words: &'a ArgMatches<'w>) -> Serve<'a, 'w>
+        ensures { result.words ≡ words.entry }
+    {
         Serve { words }
     }
 
     /// What is served.
-    pub fn tree(&self) -> TreeWords<'a, 'w> {
+    pub fn tree(&self) -> TreeWords<'a, 'w>
+        ensures { result.words ≡ self.now.words }
+    {
         TreeWords::new(self.words)
     }
 
     /// The address that is listened at.
-    pub fn listen(&self) -> &'a str {
+    pub fn listen(&self) -> &'a str
+        ensures { result.now ≡ text_of self.now.words.now (codes "listen") }
+    {
         text(self.words, "listen")
     }
 
     /// Its port.
-    pub fn port(&self) -> u16 {
+    pub fn port(&self) -> u16
+        ensures { IsNumberOr 2049 ⟦<u16 as FromStr>⟧.from_str_gives self.now.words.now (codes "port") result }
+    {
         self.words.get_one::<u16>("port").unwrap_or(2049)
     }
 
     /// After how many connections it ends.
-    pub fn connections(&self) -> Option<u64> {
+    pub fn connections(&self) -> Option<u64>
+        ensures { IsNumber ⟦<u64 as FromStr>⟧.from_str_gives self.now.words.now (codes "connections") result }
+    {
         self.words.get_one::<u64>("connections")
     }
 
     /// How many clients are served at once.
-    pub fn clients(&self) -> usize {
+    pub fn clients(&self) -> usize
+        ensures { IsNumberOr 1024 ⟦<usize as FromStr>⟧.from_str_gives self.now.words.now (codes "clients") result }
+    {
         self.words.get_one::<usize>("clients").unwrap_or(1024)
     }
 
     /// After how many seconds without a byte a connection ends.
-    pub fn idle(&self) -> Option<u64> {
+    pub fn idle(&self) -> Option<u64>
+        ensures { IsNumber ⟦<u64 as FromStr>⟧.from_str_gives self.now.words.now (codes "idle") result }
+    {
         self.words.get_one::<u64>("idle")
     }
 
     /// How many replies are kept.
-    pub fn cache(&self) -> usize {
+    pub fn cache(&self) -> usize
+        ensures { IsNumberOr 128 ⟦<usize as FromStr>⟧.from_str_gives self.now.words.now (codes "cache") result }
+    {
         cache(self.words)
     }
 
     /// The file to which the lines of denied calls go.
-    pub fn audit(&self) -> Option<&'a str> {
+    pub fn audit(&self) -> Option<&'a str>
+        ensures { option_map (λ text. text.now) result ≡ text_given self.now.words.now (codes "audit") }
+    {
         self.words.get_str("audit")
     }
 
     /// What to do when the line of a denied call can't be written.
-    pub fn audit_failed(&self) -> AuditFailed {
+    pub fn audit_failed(&self) -> AuditFailed
+        ensures count { text_given self.now.words.now (codes "audit-failed") ≡ Some (codes "count") → result ≡ Count }
+        ensures refuse { text_given self.now.words.now (codes "audit-failed") ≢ Some (codes "count") → result ≡ Refuse }
+    {
         match self.words.get_str("audit-failed") {
             Some("count") => AuditFailed::Count,
             _ => AuditFailed::Refuse,
@@ -73,42 +98,58 @@ impl<'a, 'w> Serve<'a, 'w> {
     }
 
     /// The rules whose denied calls get no line, with a comma between two.
-    pub fn audit_skip(&self) -> Option<&'a str> {
+    pub fn audit_skip(&self) -> Option<&'a str>
+        ensures { option_map (λ text. text.now) result ≡ text_given self.now.words.now (codes "audit-skip") }
+    {
         self.words.get_str("audit-skip")
     }
 
     /// Whether the line of a denied call begins with the time.
-    pub fn has_times(&self) -> bool {
+    pub fn has_times(&self) -> bool
+        ensures { IsFlag self.now.words.now (codes "times") result }
+    {
         self.words.get_flag("times")
     }
 
     /// Whether denied calls are reported with names.
-    pub fn is_named(&self) -> bool {
+    pub fn is_named(&self) -> bool
+        ensures { IsFlag self.now.words.now (codes "names") result }
+    {
         self.words.get_flag("names")
     }
 
     /// Where the tree is saved.
-    pub fn save(&self) -> Option<&'a str> {
+    pub fn save(&self) -> Option<&'a str>
+        ensures { option_map (λ text. text.now) result ≡ text_given self.now.words.now (codes "save") }
+    {
         self.words.get_str("save")
     }
 
     /// After how many seconds it is saved again.
-    pub fn save_every(&self) -> Option<u64> {
+    pub fn save_every(&self) -> Option<u64>
+        ensures { IsNumber ⟦<u64 as FromStr>⟧.from_str_gives self.now.words.now (codes "save-every") result }
+    {
         self.words.get_one::<u64>("save-every")
     }
 
     /// The key of what is saved, in 16 hexadecimal digits; without it a new one.
-    pub fn key(&self) -> Option<&'a str> {
+    pub fn key(&self) -> Option<&'a str>
+        ensures { option_map (λ text. text.now) result ≡ text_given self.now.words.now (codes "key") }
+    {
         self.words.get_str("key")
     }
 
     /// Whether clients that come and go are reported.
-    pub fn is_verbose(&self) -> bool {
+    pub fn is_verbose(&self) -> bool
+        ensures { IsFlag self.now.words.now (codes "verbose") result }
+    {
         self.words.get_flag("verbose")
     }
 
     /// Whether nothing is served where something of a directory is skipped.
-    pub fn is_strict(&self) -> bool {
+    pub fn is_strict(&self) -> bool
+        ensures { IsFlag self.now.words.now (codes "strict") result }
+    {
         self.words.get_flag("strict")
     }
 }

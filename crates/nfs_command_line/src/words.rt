@@ -1,4 +1,5 @@
 //! The words that the program was started with, once they are understood.
+ghost use Rattle.nfs_command_line.specs.Invocations.{Asks};
 
 use crate::invocation::Invocation;
 use crate::questions::{CHECK, EXPORTS, WHY};
@@ -74,7 +75,9 @@ impl<'a> Words<'a> {
     }
 
     /// What the words ask for, if anything.
-    pub fn request(&self) -> Option<Invocation<'_, 'a>> {
+    pub fn request(&self) -> Option<Invocation<'_, 'a>>
+        ensures { Asks self.now.matches result }
+    {
         let (name, words) = self.matches.subcommand()?;
         Invocation::of(name, words)
     }
