@@ -68,11 +68,15 @@ pub(crate) fn fixed<R: Print + AllocGlobal>(rt: &R) -> io::Result<()> {
 /// Prints the nanoseconds in which the arguments of a procedure are read, for each procedure.
 pub(crate) fn measure<R: Clock + Print + AllocGlobal>(rt: &R) -> io::Result<()> {
     for name in &MEASURED {
-        let mut record = record(rt.alloc(), name)?;
-        let least = least(rt, name, record.as_mut_slice())?;
+        let least = least_of(rt, name)?;
         println!(rt; "args-{name} {}.{}", least / 10, least % 10)?;
     }
     Ok(())
+}
+
+fn least_of<R: Clock + AllocGlobal>(rt: &R, name: &str) -> io::Result<u128> {
+    let mut record = record(rt.alloc(), name)?;
+    least(rt, name, record.as_mut_slice())
 }
 
 // The nanoseconds of one reading, in tenths, the least of a hundred runs, which are short, so that

@@ -51,8 +51,7 @@ pub(crate) fn fixed<R: Print + AllocGlobal>(rt: &R) -> io::Result<()> {
 
 // What three rounds come to.
 fn few(alloc: Global, name: &str) -> io::Result<Counted> {
-    let mut asked = Asked::new(alloc, served(alloc)?)?;
-    asked.set(alloc, &TARGET, name)?;
+    let mut asked = asked_for(alloc, name)?;
     let mut counted = Counted::default();
     for xid in 0..3 {
         asked.round(xid, &mut counted);
@@ -71,10 +70,22 @@ pub(crate) fn measure<R: Clock + Print + AllocGlobal>(rt: &R, name: &str) -> io:
     println!(rt; "{name} {}.{}", least / 10, least % 10)
 }
 
+// The example's server and the calls of a round.
+fn asked_for(alloc: Global, name: &str) -> io::Result<Asked> {
+    let mut asked = Asked::new(alloc, served(alloc)?)?;
+    match asked.set(alloc, &TARGET, name) {
+        Ok(()) => Ok(asked),
+        Err(error) => Err(error),
+    }
+}
+
 // The nanoseconds of a round, in tenths, the least of five runs.
 fn least<R: Clock + AllocGlobal>(rt: &R, name: &str, rounds: u32) -> io::Result<u128> {
-    let mut asked = Asked::new(rt.alloc(), served(rt.alloc())?)?;
-    asked.set(rt.alloc(), &TARGET, name)?;
+    let mut asked = asked_for(rt.alloc(), name)?;
+    least_of(rt, &mut asked, rounds)
+}
+
+fn least_of<R: Clock>(rt: &R, asked: &mut Asked, rounds: u32) -> io::Result<u128> {
     let mut least = u128::MAX;
     for _ in 0..5u8 {
         least = least.min(asked.time(rt, rounds)?);

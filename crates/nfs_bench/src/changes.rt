@@ -58,11 +58,15 @@ pub(crate) fn fixed<R: Print + AllocGlobal>(rt: &R) -> io::Result<()> {
 /// Prints the nanoseconds of each change in a tree of so many thousand files.
 pub(crate) fn measure<R: Clock + Print + AllocGlobal>(rt: &R, thousands: u32) -> io::Result<()> {
     let mut changed = Changed::new(rt.alloc(), thousands)?;
-    time(rt, "make-unlink", &mut changed, Change::MakeAndUnlink)?;
-    time(rt, "rename-within", &mut changed, Change::RenameWithin)?;
-    time(rt, "rename-between", &mut changed, Change::RenameBetween)?;
-    time(rt, "set", &mut changed, Change::Set)?;
-    time(rt, "resize", &mut changed, Change::Resize)
+    time_each(rt, &mut changed)
+}
+
+fn time_each<R: Clock + Print>(rt: &R, changed: &mut Changed) -> io::Result<()> {
+    time(rt, "make-unlink", changed, Change::MakeAndUnlink)?;
+    time(rt, "rename-within", changed, Change::RenameWithin)?;
+    time(rt, "rename-between", changed, Change::RenameBetween)?;
+    time(rt, "set", changed, Change::Set)?;
+    time(rt, "resize", changed, Change::Resize)
 }
 
 // Prints a change's nanoseconds in tenths, the least of five runs.

@@ -45,16 +45,20 @@ pub(crate) fn fixed<R: Print + AllocGlobal>(rt: &R) -> io::Result<()> {
 pub(crate) fn measure<R: Clock + Print + AllocGlobal>(rt: &R) -> io::Result<()> {
     let tree = directory(rt.alloc(), 1_000)?;
     let mut out = Output::new(rt.alloc(), MAX_PAGE_BYTES)?;
+    measure_in(rt, &tree, &mut out)
+}
+
+fn measure_in<R: Clock + Print>(rt: &R, tree: &Tree, out: &mut Output) -> io::Result<()> {
     let (mut entries, mut shown) = (u128::MAX, u128::MAX);
     for _ in 0..5u8 {
         let start = Instant::now(rt)?;
         for _ in 0..ROUNDS {
-            let _ = plain(&tree, DIR, 0, u32::MAX, &mut out);
+            let _ = plain(tree, DIR, 0, u32::MAX, out);
         }
         entries = entries.min(start.elapsed(rt)?.as_nanos() / u128::from(ROUNDS / 10));
         let start = Instant::now(rt)?;
         for _ in 0..ROUNDS {
-            let _ = plus(&tree, &mut out);
+            let _ = plus(tree, out);
         }
         shown = shown.min(start.elapsed(rt)?.as_nanos() / u128::from(ROUNDS / 10));
     }
@@ -67,13 +71,21 @@ pub(crate) fn measure<R: Clock + Print + AllocGlobal>(rt: &R) -> io::Result<()> 
 pub(crate) fn measure_whole<R: Clock + Print + AllocGlobal>(rt: &R, files: u32) -> io::Result<()> {
     let tree = directory(rt.alloc(), files)?;
     let mut out = Output::new(rt.alloc(), MAX_PAGE_BYTES)?;
-    let rounds = 1_000_000 / files.max(1);
+    time_whole(rt, &tree, &mut out, 1_000_000 / files.max(1))
+}
+
+fn time_whole<R: Clock + Print>(
+    rt: &R,
+    tree: &Tree,
+    out: &mut Output,
+    rounds: u32,
+) -> io::Result<()> {
     let mut least = u128::MAX;
     for _ in 0..5u8 {
         let mut read = 0u64;
         let start = Instant::now(rt)?;
         for _ in 0..rounds {
-            read = read.saturating_add(whole(&tree, &mut out));
+            read = read.saturating_add(whole(tree, out));
         }
         let time = start.elapsed(rt)?.as_nanos().saturating_mul(10);
         least = least.min(time / u128::from(read.max(1)));
@@ -85,11 +97,15 @@ pub(crate) fn measure_whole<R: Clock + Print + AllocGlobal>(rt: &R, files: u32) 
 pub(crate) fn fixed_removal<R: Print + AllocGlobal>(rt: &R) -> io::Result<()> {
     let mut tree = grown(rt.alloc(), 0)?;
     let mut out = Output::new(rt.alloc(), MAX_PAGE_BYTES)?;
+    remove_twice(rt, &mut tree, &mut out)
+}
+
+fn remove_twice<R: Print>(rt: &R, tree: &mut Tree, out: &mut Output) -> io::Result<()> {
     let mut removed = 0u32;
     for _ in 0..2u8 {
-        let dir = fill(&mut tree, 0, 1_000, 0, &[])?;
-        removed = removed.saturating_add(remove(&mut tree, dir, &mut out));
-        unlink(&mut tree, ROOT, &letters(0));
+        let dir = fill(tree, 0, 1_000, 0, &[])?;
+        removed = removed.saturating_add(remove(tree, dir, out));
+        unlink(tree, ROOT, &letters(0));
     }
     let left = tree.totals(0).map_or(0, |totals: Totals| totals.files);
     println!(rt; "removed {removed} files by pages, {left} left")
@@ -103,9 +119,18 @@ pub(crate) fn measure_removal<R: Clock + Print + AllocGlobal>(
 ) -> io::Result<()> {
     let mut tree = grown(rt.alloc(), 0)?;
     let mut out = Output::new(rt.alloc(), MAX_PAGE_BYTES)?;
+    least_removal(rt, &mut tree, files, &mut out)
+}
+
+fn least_removal<R: Clock + Print>(
+    rt: &R,
+    tree: &mut Tree,
+    files: u32,
+    out: &mut Output,
+) -> io::Result<()> {
     let mut least = u128::MAX;
     for _ in 0..5u8 {
-        least = least.min(time_removal(rt, &mut tree, files, &mut out)?);
+        least = least.min(time_removal(rt, tree, files, out)?);
     }
     println!(rt; "removed {}.{}", least / 10, least % 10)
 }

@@ -29,12 +29,21 @@ pub(crate) fn fixed<R: Print + AllocGlobal>(rt: &R) -> io::Result<()> {
 pub(crate) fn measure<R: Clock + Print + AllocGlobal>(rt: &R, len: usize) -> io::Result<()> {
     let mut kept = ReplyCache::new(rt.alloc(), 128)?;
     let mut record = record_of(rt.alloc(), len)?;
-    let rounds = if len < 65_536 { 1_000_000 } else { 50_000 };
+    let least = least(rt, &mut kept, record.as_mut_slice())?;
+    println!(rt; "kept-{len} {}.{}", least / 10, least % 10)
+}
+
+fn least<R: Clock>(rt: &R, kept: &mut ReplyCache, record: &mut [u8]) -> io::Result<u128> {
+    let rounds = if record.len() < 65_536 {
+        1_000_000
+    } else {
+        50_000
+    };
     let mut least = u128::MAX;
     for _ in 0..5u8 {
-        least = least.min(time(rt, &mut kept, record.as_mut_slice(), rounds)?);
+        least = least.min(time(rt, kept, record, rounds)?);
     }
-    println!(rt; "kept-{len} {}.{}", least / 10, least % 10)
+    Ok(least)
 }
 
 fn record_of(alloc: Global, len: usize) -> io::Result<Vec<u8>> {

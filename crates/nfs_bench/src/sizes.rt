@@ -64,20 +64,34 @@ pub(crate) fn fixed<R: Print + AllocGlobal>(rt: &R) -> io::Result<()> {
 }
 
 fn few<R: Print + AllocGlobal>(rt: &R, size: Size, names: &[&str]) -> io::Result<()> {
-    let mut asked = Asked::new(rt.alloc(), served_many(rt.alloc(), size.dirs, size.files)?)?;
+    let mut asked = asked_in(rt.alloc(), size)?;
+    few_of(rt, &mut asked, size, names)
+}
+
+fn few_of<R: Print + AllocGlobal>(
+    rt: &R,
+    asked: &mut Asked,
+    size: Size,
+    names: &[&str],
+) -> io::Result<()> {
     for name in names {
-        let places = set(rt.alloc(), &mut asked, size, name)?;
-        let mut counted = Counted::default();
-        pass(
-            &mut asked,
-            spots_of(name),
-            places.as_slice(),
-            0,
-            &mut counted,
-        );
+        let counted = pass_once(rt.alloc(), asked, size, name)?;
         println!(rt; "wandering {name} {} {}", counted.answered, counted.bytes)?;
     }
     Ok(())
+}
+
+// What a round at each place comes to.
+fn pass_once(alloc: Global, asked: &mut Asked, size: Size, name: &str) -> io::Result<Counted> {
+    let places = set(alloc, asked, size, name)?;
+    let mut counted = Counted::default();
+    pass(asked, spots_of(name), places.as_slice(), 0, &mut counted);
+    Ok(counted)
+}
+
+// A server of a tree of a size.
+fn asked_in(alloc: Global, size: Size) -> io::Result<Asked> {
+    Asked::new(alloc, served_many(alloc, size.dirs, size.files)?)
 }
 
 /// Prints the nanoseconds of each round of calls in a tree of a size, in tenths, the least of five
@@ -106,16 +120,37 @@ fn measure<R: Clock + Print + AllocGlobal>(
     names: &[&str],
     most: Option<usize>,
 ) -> io::Result<()> {
-    let mut asked = Asked::new(rt.alloc(), served_many(rt.alloc(), size.dirs, size.files)?)?;
+    let mut asked = asked_in(rt.alloc(), size)?;
+    measure_of(rt, &mut asked, size, names, most)
+}
+
+fn measure_of<R: Clock + Print + AllocGlobal>(
+    rt: &R,
+    asked: &mut Asked,
+    size: Size,
+    names: &[&str],
+    most: Option<usize>,
+) -> io::Result<()> {
     for name in names {
-        let mut places = set(rt.alloc(), &mut asked, size, name)?;
-        if let Some(most) = most {
-            places.truncate(most);
-        }
-        let least = least(rt, &mut asked, spots_of(name), places.as_slice())?;
+        let least = least_at(rt, asked, size, name, most)?;
         println!(rt; "{name} {}.{}", least / 10, least % 10)?;
     }
     Ok(())
+}
+
+// The nanoseconds of a round of this name, in tenths, at the first of its places or at all.
+fn least_at<R: Clock + AllocGlobal>(
+    rt: &R,
+    asked: &mut Asked,
+    size: Size,
+    name: &str,
+    most: Option<usize>,
+) -> io::Result<u128> {
+    let mut places = set(rt.alloc(), asked, size, name)?;
+    if let Some(most) = most {
+        places.truncate(most);
+    }
+    least(rt, asked, spots_of(name), places.as_slice())
 }
 
 // The nanoseconds of a round, in tenths, the least of five runs.

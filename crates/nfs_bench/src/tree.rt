@@ -54,14 +54,18 @@ pub(crate) fn fixed<R: Print + AllocGlobal>(rt: &R) -> io::Result<()> {
 /// attributes, in tenths, the least of five runs, in a tree of so many thousand files.
 pub(crate) fn measure<R: Clock + Print + AllocGlobal>(rt: &R, thousands: u32) -> io::Result<()> {
     let tree = grown(rt.alloc(), thousands)?;
+    measure_in(rt, &tree)
+}
+
+fn measure_in<R: Clock + Print>(rt: &R, tree: &Tree) -> io::Result<()> {
     let mut links = u128::MAX;
     let mut names = u128::MAX;
     for _ in 0..5u8 {
         let start = Instant::now(rt)?;
-        let _ = attributes(&tree, ROUNDS);
+        let _ = attributes(tree, ROUNDS);
         links = links.min(start.elapsed(rt)?.as_nanos() / u128::from(ROUNDS / 10));
         let start = Instant::now(rt)?;
-        let _ = look_up(&tree, ROUNDS / 100);
+        let _ = look_up(tree, ROUNDS / 100);
         names = names.min(start.elapsed(rt)?.as_nanos() / u128::from(ROUNDS / 1000));
     }
     println!(rt; "attributes {}.{}", links / 10, links % 10)?;
@@ -72,12 +76,22 @@ pub(crate) fn measure<R: Clock + Print + AllocGlobal>(rt: &R, thousands: u32) ->
 /// runs.
 pub(crate) fn measure_write<R: Clock + Print + AllocGlobal>(rt: &R) -> io::Result<()> {
     let mut tree = grown(rt.alloc(), 1)?;
-    let mut bytes = Vec::new(rt.alloc());
+    let bytes = sevens(rt.alloc())?;
+    time_writes(rt, &mut tree, bytes.as_slice())
+}
+
+// 64 KiB.
+fn sevens(alloc: Global) -> Result<Vec<u8>, AllocError> {
+    let mut bytes = Vec::new(alloc);
     bytes.resize(65_536, 7)?;
+    Ok(bytes)
+}
+
+fn time_writes<R: Clock + Print>(rt: &R, tree: &mut Tree, bytes: &[u8]) -> io::Result<()> {
     let mut least = u128::MAX;
     for _ in 0..5u8 {
         let start = Instant::now(rt)?;
-        write(&mut tree, bytes.as_slice(), ROUNDS / 10);
+        write(tree, bytes, ROUNDS / 10);
         least = least.min(start.elapsed(rt)?.as_nanos() / u128::from(ROUNDS / 100));
     }
     println!(rt; "write {}.{}", least / 10, least % 10)
