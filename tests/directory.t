@@ -71,6 +71,24 @@ run check examples/e.tree --export '*'
 fails "--mount, --export, --bytes, --files and --chown are for a directory on disk; a description has its own lines for them" 2 "--export beside a description is refused"
 run check "$disk" --export 10.1.0.0/33
 fails "an option doesn't fit into a description: line 3: BadPattern" 2 "a faulty pattern is refused"
+
+# More than the volume may hold.
+files=$(find "$disk" -printf '%i\n' | sort -u | grep -c .)
+bytes=$(find "$disk" -type f -printf '%i %s\n' | sort -u | awk '{ all += $2 } END { printf "%d", all }')
+# too_large FILES BYTES: the message where the volume takes so many.
+too_large() { echo "the directory has $files files and $bytes bytes, and its volume takes $1 and $2: give --files and --bytes at least as much as it has, or share a part of it"; }
+run check "$disk" --export '*' --files "$files" --bytes "$bytes"
+ended 0 && quiet
+ok $? "a volume for as much as the directory has, where a file with several names counts once"
+run check "$disk" --export '*' --files "$((files - 1))" --bytes "$bytes"
+fails "$(too_large "$((files - 1))" "$bytes")" 2 "a directory with a file more than --files is refused"
+run check "$disk" --export '*' --bytes "$((bytes - 1))"
+fails "$(too_large 100000 "$((bytes - 1))")" 2 "a directory with a byte more than --bytes is refused"
+run serve "$disk" --export '*' --port 0 --files 10
+fails "$(too_large 10 1000000000)" 2 "nothing of such a directory is served"
+run describe "$disk" --mount /share --files 10
+fails "$(too_large 10 1000000000)" 2 "nor described"
+
 mkfifo "$disk/pipe"
 run serve "$disk" --export '*' --port 0 --connections 0 --strict
 [ ! -s "$work/out" ] && ended 1 && grep -qx "nfs3d: skipped: $disk/pipe: a device, a socket or a pipe" "$work/err"
@@ -100,6 +118,14 @@ run extract "$work/two" "$work/both"
 brings /dev/null "$work/wanted" 3
 ok $? "extract to a directory that is there is refused"
 
+mkdir "$work/long" && head -c 20000 /dev/zero | tr '\0' x >"$work/long/file"
+(
+    ulimit -f 8
+    run extract "$work/long" "$work/cut" --mount /share
+)
+[ -n "$(find "$work/cut" -type f)" ] && [ -z "$(find "$work/cut" -perm /077)" ]
+ok $? "what is still being written is its owner's alone"
+
 # root_handle: what MNT of /disk brings from a server of the directory.
 root_handle() {
     : >"$work/served"
@@ -125,8 +151,8 @@ apart=$(root_handle)
 ok $? "where a name no longer is a hard link, it has others"
 mkfifo "$disk/pipe"
 skipped=$(root_handle)
-[ -n "$skipped" ] && [ "$skipped" != "$apart" ]
-ok $? "where something is skipped that was not there, it has others"
+[ "$skipped" = "$apart" ]
+ok $? "where something is skipped that was not there, it has the same"
 rm "$disk/pipe" && touch "$disk/more"
 more=$(root_handle)
 [ -n "$more" ] && [ "$more" != "$apart" ]

@@ -1,5 +1,5 @@
 -- The first lines of the description of what was found.
-use Rattle.std.specs.Prelude.{◌≡◌, ℕ, ◌+◌, ◌*◌, Bool, ◌&&◌, List, [], ◌∷◌, ◌++◌, length, min, max, Option, Some, None, codes, nat_lt, if◌then◌else◌}
+use Rattle.std.specs.Prelude.{◌≡◌, ℕ, ◌*◌, Bool, ◌&&◌, List, [], ◌∷◌, ◌++◌, length, Option, Some, None, codes, nat_lt, if◌then◌else◌}
 use Rattle.std.specs.List.{flat_map, list_all}
 use Rattle.nfs_describe.specs.Lines.{is_shown, limits_line, server_line, volume_line}
 use Rattle.nfs_inodes.specs.Limits.{max_files, max_volume_bytes}
@@ -10,6 +10,7 @@ use Rattle.nfs_disk.specs.Needs.{Take, within}
 use Rattle.nfs_disk.specs.Surveys.{extent_of}
 use Rattle.nfs_disk.specs.declared.found.Found.{Found}
 use Rattle.nfs_disk.specs.declared.head.Head.{Head}
+use Rattle.nfs_disk.specs.declared.survey.Extent.{Extent}
 
 -- one word of a line
 abbrev pub is_word : List ℕ → Bool
@@ -32,11 +33,12 @@ abbrev pub or_twice : Option ℕ → ℕ → ℕ → ℕ → ℕ
 or_twice (Some n) least found most = n
 or_twice None least found most = within least (2 * found) most
 
-abbrev pub bytes_for : Head → List Found → ℕ
-bytes_for head found = or_twice head.bytes 1000000000 (extent_of found).bytes max_volume_bytes
-
-abbrev pub files_for : Head → List Found → ℕ
-files_for head found = or_twice head.files 100000 (extent_of found).files max_files
+-- how much the volume takes, where this was found
+abbrev pub room_for : Head → Extent → Extent
+room_for head found = record {
+  bytes = or_twice head.bytes 1000000000 found.bytes max_volume_bytes;
+  files = or_twice head.files 100000 found.files max_files;
+}
 
 -- the mode, owner and group of what was found first
 abbrev pub root_given : List Found → Given
@@ -46,11 +48,11 @@ root_given (root ∷ others) = root.given
 -- the key, the limits that are not the defaults, the volume, and to whom it is exported
 abbrev pub head_text : Head → List Found → Limits → List ℕ
 head_text head found limits = (server_line head.key ++ limits_line limits)
-    ++ volume_line (word_text head.mount.now) (bytes_for head found) (files_for head found) (root_given found)
+    ++ volume_line (word_text head.mount.now) (room_for head (extent_of found)).bytes (room_for head (extent_of found)).files (root_given found)
     ++ flat_map (λ word. export_line word.now) head.exports.now
 
 -- with the limits of a tree that takes what was found
 pub record IsHead (head : Head) (found : List Found) (text : List ℕ) : Type 0 where
   pub limits : Limits
-  pub take : Take found (files_for head found) limits
+  pub take : Take found (room_for head (extent_of found)).files limits
   pub text_is : text ≡ head_text head found limits

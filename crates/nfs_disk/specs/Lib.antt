@@ -1,3 +1,4 @@
 pub mod Heads
 pub mod Needs
 pub mod Surveys
+pub mod Tallies

@@ -25,13 +25,14 @@ const START: Moment = Moment {
 };
 
 /// Makes below a root what was found on disk, each file by its first name and then its others.
-/// What can't be made is skipped, with a warning, and so is what stands below it.
+/// What can't be made is skipped, with a warning, and so is what stands below it. The number of each that was
+/// found is answered, in their order, none of what was not made. `Memory`.
 pub fn build<R: Files + AllocGlobal>(
     rt: &R,
     survey: &mut Survey,
     tree: &mut Tree,
     root: Number,
-) -> Result<(), DiskFault> {
+) -> Result<Vec<Option<Number>>, DiskFault> {
     let alloc = rt.alloc();
     let mut chunk = Vec::new(alloc);
     chunk.resize(CHUNK_BYTES, 0)?;
@@ -51,9 +52,13 @@ pub fn build<R: Files + AllocGlobal>(
     if survey.purpose == Purpose::Serving {
         builder.set_times(survey.found.as_slice());
     }
-    let Builder { mut warnings, .. } = builder;
+    let Builder {
+        made,
+        mut warnings,
+        ..
+    } = builder;
     survey.warnings.append(&mut warnings)?;
-    Ok(())
+    Ok(made)
 }
 
 // A tree that is built from what was found.

@@ -59,6 +59,21 @@ pub(crate) fn size_of(one: &Found, kind: Kind) -> u64
     if one.kind == kind { one.size } else { 0 }
 }
 
+/// The device and the number there, as one number that no other file has.
+pub(crate) fn number_of(one: &Found) -> u128
+    ensures { result ≡ spec.number_of one.now }
+{
+    let (device, number) = one.identity;
+    u128::from(device) * (1 << 64) + u128::from(number)
+}
+
+/// Whether it is a directory, or a file with no second name.
+pub(crate) fn is_alone(one: &Found) -> bool
+    ensures { result ≡ spec.is_alone one.now }
+{
+    one.kind == Kind::Directory || one.names < 2
+}
+
 // The bits of a mode that a description has.
 const MODE_BITS: u32 = 0o7777;
 

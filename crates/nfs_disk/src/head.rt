@@ -7,7 +7,7 @@ ghost use Rattle.nfs_disk.specs.Heads.{IsHead, export_line, root_given, word_tex
 
 use crate::found::Found;
 use crate::needs::limits_for;
-use crate::survey::Survey;
+use crate::survey::{Extent, Survey};
 use nfs_describe::lines::{put_head, put_volume_line};
 use nfs_inodes::limits::{MAX_FILES, MAX_VOLUME_BYTES};
 use nfs_load::statement::Given;
@@ -34,20 +34,29 @@ pub struct Head<'a> {
     pub exports: &'a [&'a str],
 }
 
+/// How much the volume takes of which this is said: the numbers that are given, or twice what was found, but
+/// at least 1,000,000,000 bytes and 100,000 files, and at most what a volume may take.
+pub fn room_for(head: &Head<'_>, found: Extent) -> Extent
+    ensures { result ≡ spec.room_for head.now found }
+{
+    Extent {
+        bytes: or_twice(head.bytes, LEAST_BYTES, found.bytes, MAX_VOLUME_BYTES),
+        files: or_twice(head.files, LEAST_FILES, found.files, MAX_FILES),
+    }
+}
+
 /// The first lines of the description of what was found. A word with a byte outside `!` to `~`
 /// stands as `%`, which no field of theirs takes.
 pub fn head_of(alloc: Global, head: &Head<'_>, survey: &Survey) -> Result<Vec<u8>, AllocError>
     ensures { IfOk result (λ text. IsHead head.now survey.now.found.items text.items) }
 {
-    let extent = survey.extent();
-    let bytes = or_twice(head.bytes, LEAST_BYTES, extent.bytes, MAX_VOLUME_BYTES);
-    let files = or_twice(head.files, LEAST_FILES, extent.files, MAX_FILES);
+    let room = room_for(head, survey.extent(alloc)?);
     let found = survey.found.as_slice();
-    let limits = limits_for(alloc, found, files)?;
+    let limits = limits_for(alloc, found, room.files)?;
     let mut text = Vec::new(alloc);
     put_head(alloc, &mut text, head.key, limits)?;
     let mount = word_of(head.mount.as_bytes());
-    put_volume_line(&mut text, mount, bytes, files, root_of(found))?;
+    put_volume_line(&mut text, mount, room.bytes, room.files, root_of(found))?;
     put_exports(&mut text, head.exports)?;
     Ok(text)
 }

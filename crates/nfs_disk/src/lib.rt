@@ -8,4 +8,5 @@ pub mod found;
 pub mod head;
 pub mod needs;
 pub mod survey;
+mod tally;
 pub mod warning;

@@ -1,14 +1,14 @@
 //! The limits of a tree that takes what was found.
-ghost use Rattle.std.specs.Prelude.{◌≡◌, IfOk};
+ghost use Rattle.std.specs.Prelude.{◌≡◌, ◌-◌, ◌^◌, ℕ, List, [], min, IfOk};
 ghost use Rattle.nfs_disk.specs.Needs as spec;
-ghost use Rattle.nfs_disk.specs.Needs.{Take};
+ghost use Rattle.nfs_disk.specs.Needs.{Take, most_equal, parents};
 ghost use Rattle.nfs_inodes.specs.Limits.{AreLimits};
 
-use crate::found::{Found, Kind, size_of};
+use crate::found::{Found, Kind, number_of, size_of};
+use crate::tally::Tally;
 use nfs_describe::description::MAX_DESCRIPTION_BYTES;
 use nfs_inodes::limits::{Limits, MAX_FILE_BYTES, MAX_FILES, MAX_LINKS, MAX_PATH_BYTES};
 use std::alloc::{AllocError, Global};
-use std::collections::BTreeMap;
 
 /// The most bytes of a file that a description can hold, with two digits for each.
 pub const MAX_SIZE: usize = MAX_DESCRIPTION_BYTES / 2;
@@ -20,9 +20,9 @@ pub fn limits_for(alloc: Global, found: &[Found], files: u64) -> Result<Limits, 
     ensures take { IfOk result (Take found.now files) }
 {
     let default = Limits::standard();
-    let links = most_subdirectories(found)
-        .saturating_add(2)
-        .max(most_names(alloc, found, u64::from(default.links))?);
+    let subdirectories = most_subdirectories(alloc, found)?;
+    let names = most_names(alloc, found, u64::from(default.links))?;
+    let links = subdirectories.saturating_add(2).max(names);
     let file_size = largest(found, Kind::Regular);
     let link_path = largest(found, Kind::Link);
     Ok(Limits {
@@ -51,39 +51,46 @@ fn largest(found: &[Found], kind: Kind) -> u64
     most
 }
 
-// The most subdirectories of a directory. What stands in one is found together, after the directory
-// that is found first.
-fn most_subdirectories(found: &[Found]) -> u64 {
-    let mut most = 0u64;
-    let mut parent = 0usize;
-    let mut count = 0u64;
-    for one in found.iter().skip(1) {
-        if one.parent != parent {
-            parent = one.parent;
-            count = 0;
-        }
+// The most subdirectories of a directory.
+fn most_subdirectories(alloc: Global, found: &[Found]) -> Result<u64, AllocError>
+    ensures { IfOk result (λ n. n ≡ min (spec.most_subdirectories found.now) (2 ^ 64 - 1)) }
+{
+    match found.split_first() {
+        Some((_, others)) => most_alike(alloc, others),
+        None => Ok(0),
+    }
+}
+
+// The most directories of those that stand in one directory.
+fn most_alike(alloc: Global, others: &[Found]) -> Result<u64, AllocError>
+    ensures { IfOk result (λ n. n ≡ min (most_equal (parents [] others.now)) (2 ^ 64 - 1)) }
+{
+    let mut tally = Tally::new(alloc);
+    for one in others {
         if one.kind == Kind::Directory {
-            count = count.saturating_add(1);
-            most = most.max(count);
+            tally.add(one.parent as u128)?;
         }
     }
-    most
+    Ok(tally.most)
 }
 
 // The most names of a file among those that were found, of those files alone that have more than so
 // many on disk.
-fn most_names(alloc: Global, found: &[Found], least: u64) -> Result<u64, AllocError> {
-    let mut most = 0u64;
-    let mut counts: BTreeMap<(u64, u64), u64> = BTreeMap::new(alloc);
+fn most_names(alloc: Global, found: &[Found], least: u64) -> Result<u64, AllocError>
+    ensures { IfOk result (λ n. n ≡ min (spec.most_names least found.now) (2 ^ 64 - 1)) }
+{
+    let mut tally = Tally::new(alloc);
     for one in found {
-        if one.kind != Kind::Directory && one.names > least {
-            let count = match counts.get(&one.identity).copied() {
-                Some(count) => count.saturating_add(1),
-                None => 1,
-            };
-            counts.insert(one.identity, count)?;
-            most = most.max(count);
+        if has_more(one, least) {
+            tally.add(number_of(one))?;
         }
     }
-    Ok(most)
+    Ok(tally.most)
+}
+
+// Whether it is a file with more names than so many, and no directory.
+fn has_more(one: &Found, least: u64) -> bool
+    ensures { result ≡ spec.has_more least one.now }
+{
+    one.kind != Kind::Directory && one.names > least
 }

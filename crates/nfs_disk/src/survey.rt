@@ -1,15 +1,17 @@
 //! A walk over a directory on disk.
-ghost use Rattle.std.specs.Prelude.{◌≡◌, count_by, map};
+ghost use Rattle.std.specs.Prelude.{◌≡◌, ℕ, List, ◌∷◌, count_by, map, not, IfOk, if◌then◌else◌};
 ghost use Rattle.nfs_disk.specs.Surveys as spec;
-ghost use Rattle.nfs_disk.specs.Surveys.{extent_of, is_because, owned_by};
+ghost use Rattle.nfs_disk.specs.Surveys.{extent_of, is_among, is_because, number_of, owned_by};
+ghost use Rattle.nfs_disk.specs.Tallies.{Holds};
 ghost use Rattle.nfs_disk.specs.declared.warning.Warning.{Warning};
 
 use crate::fault::DiskFault;
-use crate::found::{Found, Kind, given_of, kind_of, size_of, times_of};
+use crate::found::{Found, Kind, given_of, is_alone, kind_of, number_of, size_of, times_of};
 use crate::needs::MAX_SIZE;
 use crate::warning::{SkipReason, Warning};
 use nfs_describe::sayable::is_sayable;
-use std::alloc::Global;
+use std::alloc::{AllocError, Global};
+use std::collections::BTreeSet;
 use std::fs::{self, Metadata};
 use std::io;
 use std::os::unix::fs::MetadataExt;
@@ -36,12 +38,12 @@ pub struct Survey {
     pub warnings: Vec<Warning>,
 }
 
-/// How much some files on disk have together.
+/// How much some files have together, or a volume takes.
 #[derive(Clone, Copy, Debug)]
 pub struct Extent {
-    /// How many bytes the regular ones have, each counted once for each of its names.
+    /// How many bytes the regular files have.
     pub bytes: u64,
-    /// How many names there are, with that of the first directory.
+    /// How many files there are, directories and symbolic links too.
     pub files: u64,
 }
 
@@ -73,18 +75,21 @@ impl Survey {
         Err(DiskFault::Memory)
     }
 
-    /// How much was found.
-    pub fn extent(&self) -> Extent
-        ensures { result ≡ extent_of self.now.found.items }
+    /// How much was found, where a file with several names is counted once. `AllocError` where there is
+    /// no memory to find these again.
+    pub fn extent(&self, alloc: Global) -> Result<Extent, AllocError>
+        ensures { IfOk result (λ extent. extent ≡ extent_of self.now.found.items) }
     {
+        let mut seen = BTreeSet::new(alloc);
         let mut bytes = 0u64;
+        let mut files = 0u64;
         for found in &self.found {
-            bytes = bytes.saturating_add(size_of(found, Kind::Regular));
+            if is_first(&mut seen, found)? {
+                bytes = bytes.saturating_add(size_of(found, Kind::Regular));
+                files = files.saturating_add(1);
+            }
         }
-        Extent {
-            bytes,
-            files: self.found.len() as u64,
-        }
+        Ok(Extent { bytes, files })
     }
 
     /// Gives all that was found this owner and group.
@@ -184,6 +189,18 @@ impl Survey {
         })?;
         Ok(())
     }
+}
+
+// Whether this is the first name of its file, by the numbers of those that were seen. Its own is one of
+// them then.
+fn is_first(seen: &mut BTreeSet<u128>, found: &Found) -> Result<bool, AllocError>
+    ensures { IfOk result (λ first. (before : List ℕ) → Holds seen.old before
+        → (first ≡ spec.is_first before found.now) × Holds seen.new (spec.seen_with before found.now)) }
+{
+    if is_alone(found) {
+        return Ok(true);
+    }
+    Ok(seen.insert(number_of(found))?)
 }
 
 // Whether something is skipped for a reason.

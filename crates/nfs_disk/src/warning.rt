@@ -18,7 +18,8 @@ pub enum SkipReason {
     Unreadable,
     /// What the link holds is empty, too long, or has a space or a byte outside `!` to `~`.
     Target,
-    /// Its directory, its volume or the file itself has as many as it may have.
+    /// Its directory or the file itself has the most links that a tree may allow, or its volume is full, since
+    /// files have grown after they were found.
     Full,
     /// A name in the directory is no text in UTF-8.
     NotText,

@@ -2,28 +2,35 @@
 
 use crate::attributes::set_attributes;
 pub use crate::fault::ExtractFault;
+pub use crate::skipped::Skipped;
 use nfs_attrs::fattr::Fattr;
 use nfs_attrs::file_type::FileType;
 use nfs_handles::number::Number;
 use nfs_inodes::tree::Tree;
 use std::alloc::Global;
 use std::collections::BTreeMap;
-use std::fs::{self, File};
+use std::fs::{self, DirBuilder, File, OpenOptions};
 use std::io;
-use std::os::unix::fs::{FileExt, symlink};
+use std::os::unix::fs::{DirBuilderExt, FileExt, OpenOptionsExt, symlink};
 use std::rt::Files;
 use std::str::from_utf8;
 
+// The modes of what is still being written, which nobody else reads.
+const NEW_DIR_MODE: u32 = 0o700;
+
+const NEW_FILE_MODE: u32 = 0o600;
+
 /// Writes the volumes of a tree as a new directory: the one volume as the directory itself, several below it
 /// by their paths. All of it comes into directories that are made here, so nothing else on disk is touched.
-/// What is skipped is answered: paths in the tree of names that are not UTF-8. `CannotWrite` where there is
-/// such a directory already, or the system doesn't write it; then a part of it may stand there. `Memory`.
+/// Each file and directory of the tree is the owner's alone until all of them are written, and has its mode
+/// then. What is skipped is answered. `CannotWrite` where there is such a directory already, or the system
+/// doesn't write it; then a part of it may stand there. `Memory`.
 pub fn extract<R: Files<File = File>>(
     rt: &R,
     alloc: Global,
     tree: &Tree,
     directory: &str,
-) -> Result<Vec<String>, ExtractFault> {
+) -> Result<Vec<Skipped>, ExtractFault> {
     let mut writer = Writer {
         alloc,
         tree,
@@ -31,7 +38,6 @@ pub fn extract<R: Files<File = File>>(
         first_paths: BTreeMap::new(alloc),
         skipped: Vec::new(alloc),
     };
-    writer.make_dir(rt, directory)?;
     writer.begin(rt, directory)?;
     writer.write_all(rt)?;
     writer.finish(rt)?;
@@ -55,7 +61,17 @@ struct Writer<'a> {
     places: Vec<Place>,
     // Where each file with several names stands first.
     first_paths: BTreeMap<u64, String>,
-    skipped: Vec<String>,
+    skipped: Vec<Skipped>,
+}
+
+// What is written of a file.
+#[derive(Clone, Copy)]
+enum Content<'a> {
+    Directory,
+    // So many bytes.
+    Bytes(u64),
+    // The text of a symbolic link.
+    Link(&'a str),
 }
 
 impl Writer<'_> {
@@ -67,16 +83,19 @@ impl Writer<'_> {
     ) -> Result<(), ExtractFault> {
         let alloc = self.alloc;
         let volumes = self.tree.volumes();
+        if volumes != 1 {
+            self.done(directory, fs::create_dir(rt, directory))?;
+        }
         for index in 0..volumes {
             let Some(volume) = self.tree.volume(index) else {
                 continue;
             };
-            let mut path = String::from_str(alloc, directory)?;
-            if volumes > 1 {
-                for name in volume.path.split(|byte| *byte == b'/') {
-                    self.enter(rt, &mut path, name)?;
-                }
-            }
+            let path = if volumes == 1 {
+                String::from_str(alloc, directory)?
+            } else {
+                self.make_way(rt, directory, volume.path)?
+            };
+            self.make_dir(rt, path.as_str())?;
             self.places.push(Place {
                 path,
                 number: volume.root,
@@ -85,27 +104,28 @@ impl Writer<'_> {
         Ok(())
     }
 
-    // A directory on the way to a volume, which another volume may have made.
-    fn enter<R: Files<File = File>>(
-        &mut self,
+    // The path of a volume in a directory, and the directories on the way to it, which another volume may
+    // have made.
+    fn make_way<R: Files<File = File>>(
+        &self,
         rt: &R,
-        path: &mut String,
-        name: &[u8],
-    ) -> Result<(), ExtractFault> {
-        let Ok(name) = from_utf8(name) else {
-            return Ok(());
-        };
-        if name.is_empty() {
-            return Ok(());
-        }
-        path.push('/')?;
-        path.push_str(name)?;
-        match fs::create_dir(rt, path.as_str()) {
-            Err(error) if error.kind() != io::ErrorKind::AlreadyExists => {
-                Err(cannot_write(self.alloc, path.as_str(), error))
+        directory: &str,
+        volume: &[u8],
+    ) -> Result<String, ExtractFault> {
+        let mut path = String::from_str(self.alloc, directory)?;
+        for name in volume.split(|byte| *byte == b'/') {
+            let name = from_utf8(name).unwrap_or("");
+            if name.is_empty() {
+                continue;
             }
-            _ => Ok(()),
+            match fs::create_dir(rt, path.as_str()) {
+                Err(error) if error.kind() == io::ErrorKind::AlreadyExists => {}
+                made => self.done(path.as_str(), made)?,
+            }
+            path.push('/')?;
+            path.push_str(name)?;
         }
+        Ok(path)
     }
 
     // What stands in each directory, one after another.
@@ -139,7 +159,9 @@ impl Writer<'_> {
                     let path = format!(in alloc; "{dir}/{name}")?;
                     self.write(rt, path, entry.number)?;
                 }
-                Err(_) => self.skipped.push(String::from_str(alloc, dir)?)?,
+                Err(_) => self.skipped.push(Skipped::Name {
+                    directory: String::from_str(alloc, dir)?,
+                })?,
             }
         }
         Ok(())
@@ -155,16 +177,18 @@ impl Writer<'_> {
         let Some(attributes) = self.tree.attributes(number) else {
             return Ok(());
         };
+        let Some(content) = content_of(self.tree, number, &attributes) else {
+            self.skipped.push(Skipped::LinkText { path })?;
+            return Ok(());
+        };
         if attributes.file_type != FileType::Directory && attributes.nlink > 1 {
             if let Some(first) = self.first_paths.get(&attributes.fileid) {
-                return match fs::hard_link(rt, first.as_str(), path.as_str()) {
-                    Ok(()) => Ok(()),
-                    Err(error) => Err(cannot_write(self.alloc, path.as_str(), error)),
-                };
+                let linked = fs::hard_link(rt, first.as_str(), path.as_str());
+                return self.done(path.as_str(), linked);
             }
             self.first_paths.insert(attributes.fileid, path.clone()?)?;
         }
-        self.write_first(rt, path.as_str(), number, &attributes)?;
+        self.write_first(rt, path.as_str(), number, content)?;
         self.places.push(Place { path, number })?;
         Ok(())
     }
@@ -175,23 +199,25 @@ impl Writer<'_> {
         rt: &R,
         path: &str,
         number: Number,
-        attributes: &Fattr,
+        content: Content<'_>,
     ) -> Result<(), ExtractFault> {
-        if attributes.file_type == FileType::Directory {
-            return self.make_dir(rt, path);
-        }
-        let written = match self.tree.link_path(number) {
-            Some(target) => write_link(rt, path, target),
-            None => write_file(rt, path, self.tree, number, attributes.size),
-        };
-        match written {
-            Ok(()) => Ok(()),
-            Err(error) => Err(cannot_write(self.alloc, path, error)),
+        match content {
+            Content::Directory => self.make_dir(rt, path),
+            Content::Link(text) => self.done(path, symlink(rt, text, path)),
+            Content::Bytes(size) => {
+                self.done(path, write_file(rt, path, self.tree, number, size))
+            }
         }
     }
 
     fn make_dir<R: Files<File = File>>(&self, rt: &R, path: &str) -> Result<(), ExtractFault> {
-        match fs::create_dir(rt, path) {
+        let made = DirBuilder::new().mode(NEW_DIR_MODE).create(rt, path);
+        self.done(path, made)
+    }
+
+    // What the system did at a path.
+    fn done(&self, path: &str, written: io::Result<()>) -> Result<(), ExtractFault> {
+        match written {
             Ok(()) => Ok(()),
             Err(error) => Err(cannot_write(self.alloc, path, error)),
         }
@@ -204,19 +230,21 @@ impl Writer<'_> {
             let Some(attributes) = self.tree.attributes(place.number) else {
                 continue;
             };
-            if let Err(error) = set_attributes(rt, place.path.as_str(), &attributes) {
-                return Err(cannot_write(self.alloc, place.path.as_str(), error));
-            }
+            let path = place.path.as_str();
+            self.done(path, set_attributes(rt, path, &attributes))?;
         }
         Ok(())
     }
 }
 
-// A symbolic link. `InvalidInput` where what it holds is not UTF-8.
-fn write_link<R: Files<File = File>>(rt: &R, path: &str, target: &[u8]) -> io::Result<()> {
-    match from_utf8(target) {
-        Ok(target) => symlink(rt, target, path),
-        Err(_) => Err(io::Error::from(io::ErrorKind::InvalidInput)),
+// What is written of a file; nothing of a symbolic link whose text is not UTF-8.
+fn content_of<'a>(tree: &'a Tree, number: Number, attributes: &Fattr) -> Option<Content<'a>> {
+    if attributes.file_type == FileType::Directory {
+        return Some(Content::Directory);
+    }
+    match tree.link_path(number) {
+        Some(text) => from_utf8(text).ok().map(Content::Link),
+        None => Some(Content::Bytes(attributes.size)),
     }
 }
 
@@ -228,7 +256,11 @@ fn write_file<R: Files<File = File>>(
     number: Number,
     size: u64,
 ) -> io::Result<()> {
-    let file = File::create_new(rt, path)?;
+    let file = OpenOptions::new()
+        .write(true)
+        .create_new(true)
+        .mode(NEW_FILE_MODE)
+        .open(rt, path)?;
     let mut offset = 0usize;
     for _ in 0..u64::MAX {
         let run = tree.bytes_at(number, offset);

@@ -4,3 +4,4 @@
 mod attributes;
 pub mod extract;
 mod fault;
+mod skipped;

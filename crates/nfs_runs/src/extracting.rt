@@ -27,8 +27,8 @@ pub fn extract_tree<R: Files<File = File> + Input + Eprint + AllocGlobal>(
     forget(description);
     match extracted {
         Ok(skipped) => {
-            for directory in &skipped {
-                let _ = eprintln!(rt; "nfs3d: skipped: a name in {directory} that is not UTF-8");
+            for it in &skipped {
+                let _ = eprintln!(rt; "nfs3d: skipped: {it}");
             }
             Ok(if is_partial || !skipped.is_empty() {
                 ExitCode::from(1)

@@ -15,6 +15,18 @@ pub enum SharingFault {
     /// Something is skipped, and nothing may be.
     #[error("nothing is served, since something of the directory is skipped and --strict is set")]
     Skipped,
+    /// More was found in the directory than its volume takes.
+    #[error("the directory has {files} files and {bytes} bytes, and its volume takes {most_files} and {most_bytes}: give --files and --bytes at least as much as it has, or share a part of it")]
+    TooLarge {
+        /// How many files were found, each counted once, however many names it has.
+        files: u64,
+        /// How many bytes these have.
+        bytes: u64,
+        /// How many files the volume takes.
+        most_files: u64,
+        /// How many bytes it takes.
+        most_bytes: u64,
+    },
     /// A word doesn't fit into the line of a description.
     #[error("an option doesn't fit into a description: line {line}: {cause}")]
     Option {

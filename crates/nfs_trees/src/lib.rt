@@ -2,6 +2,7 @@
 //! volume.
 #![tactic(auto)]
 
+mod life;
 pub mod named;
 pub mod shared;
 pub mod skipped;

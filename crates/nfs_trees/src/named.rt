@@ -1,19 +1,17 @@
 //! The tree that a word names.
 
+use crate::life::life_key;
 use crate::shared::SharedDirectory;
 use crate::skipped::report_skipped;
 use nfs_command_line::sharing::{Sharing, TreeWords};
-use nfs_disk::found::{Found, Kind};
-use nfs_disk::survey::{Purpose, Survey};
-use nfs_lives::path_digest::PathDigest;
+use nfs_disk::survey::Purpose;
 use nfs_load::loaded::Loaded;
 use nfs_source::description::{Description, Life, load_life};
 use nfs_source::diagnostic::Diagnostic;
 use nfs_source::fault::Fault;
 use nfs_source::sharing_fault::SharingFault;
 use nfs_source::source::Source;
-use nfs_words::text::Text;
-use std::alloc::{AllocError, Global};
+use std::alloc::Global;
 use std::fs;
 use std::rt::Files;
 
@@ -68,7 +66,7 @@ impl<'a> NamedTree<'a> {
 }
 
 /// The life of a server of the tree that the words name, whose key is that of the tree's key and of its
-/// paths. A directory has to be exported to somebody, and where that is strict nothing of it may be
+/// paths, of a directory with the number that each got. A directory has to be exported to somebody, and where that is strict nothing of it may be
 /// skipped. The faults of `NamedTree::read`, and `Sharing`.
 pub fn begin_life<R: Files + Input + Eprint + AllocGlobal>(
     rt: &R,
@@ -87,12 +85,14 @@ pub fn begin_life<R: Files + Input + Eprint + AllocGlobal>(
     if is_strict && !shared.survey.warnings.is_empty() {
         return Err(Fault::Sharing(SharingFault::Skipped).into());
     }
-    let SharedDirectory {
-        survey,
-        head,
-        loaded,
-    } = shared;
-    let key = life_key(alloc, head.as_slice(), &survey, loaded.tree.key())?;
+    let key = life_key(
+        alloc,
+        shared.loaded.tree.key(),
+        shared.head.as_slice(),
+        shared.survey.found.as_slice(),
+        shared.numbers.as_slice(),
+    )?;
+    let SharedDirectory { loaded, .. } = shared;
     Ok(Life { loaded, key })
 }
 
@@ -129,58 +129,4 @@ fn share<R: Files + Eprint + AllocGlobal>(
     let shared = SharedDirectory::read(rt, alloc, words.name(), words.sharing(), None, purpose)?;
     report_skipped(rt, &shared.survey);
     Ok(shared)
-}
-
-// The key of a life, by all that decides which number a path gets: the first lines, what was found, which
-// names are of one file, and what is skipped. So a handle of an earlier life never names another path.
-fn life_key(
-    alloc: Global,
-    head: &[u8],
-    survey: &Survey,
-    key: [u8; 8],
-) -> Result<[u8; 8], AllocError> {
-    let mut paths = PathDigest::new();
-    for line in head.split(|byte| *byte == b'\n') {
-        paths.take(line);
-    }
-    for found in survey.found.iter().skip(1) {
-        let line = line_of(alloc, found)?;
-        paths.take(line.as_slice());
-    }
-    for warning in &survey.warnings {
-        let line = row_of(alloc, b"volume ", warning.path.as_bytes()).into_bytes()?;
-        paths.take(line.as_slice());
-    }
-    Ok(paths.finish(key))
-}
-
-// A line that names what was found; of a file that has several names, also which file on disk it is.
-fn line_of(alloc: Global, found: &Found) -> Result<Vec<u8>, AllocError> {
-    let path = found.path.as_bytes();
-    if found.kind == Kind::Directory || found.names < 2 {
-        return row_of(alloc, word_of(found.kind), path).into_bytes();
-    }
-    let (device, number) = found.identity;
-    let mut line = row_of(alloc, b"hard ", path);
-    line.put(b" ");
-    line.put_number(device);
-    line.put(b"-");
-    line.put_number(number);
-    line.into_bytes()
-}
-
-// A word and a path, with `%xx` for bytes that would divide it.
-fn row_of(alloc: Global, word: &[u8], path: &[u8]) -> Text {
-    let mut line = Text::new(alloc);
-    line.put(word);
-    line.put_name(path);
-    line
-}
-
-fn word_of(kind: Kind) -> &'static [u8] {
-    match kind {
-        Kind::Directory => b"dir ",
-        Kind::Regular => b"file ",
-        Kind::Link => b"link ",
-    }
 }

@@ -1,10 +1,16 @@
 //! Directories on disk that are shared as volumes.
+ghost use Rattle.std.specs.Prelude.{◌≡◌, IfErr, OnOk};
+ghost use Rattle.nfs_disk.specs.Heads.{room_for};
+ghost use Rattle.nfs_disk.specs.Surveys.{extent_of};
+ghost use Rattle.nfs_trees.specs.Sharing.{Refuses, Takes};
+ghost use Rattle.nfs_trees.specs.Sharing as spec;
 
 use nfs_command_line::sharing::{Owner, Sharing};
 use nfs_disk::building::build;
 use nfs_disk::fault::DiskFault;
-use nfs_disk::head::{Head, head_of};
-use nfs_disk::survey::{Purpose, Survey};
+use nfs_disk::head::{Head, head_of, room_for};
+use nfs_disk::survey::{Extent, Purpose, Survey};
+use nfs_handles::number::Number;
 use nfs_load::description::load;
 use nfs_load::load_error::LoadError;
 use nfs_load::loaded::Loaded;
@@ -23,12 +29,15 @@ pub struct SharedDirectory {
     pub head: Vec<u8>,
     /// The tree, with the exports.
     pub loaded: Loaded,
+    /// The number in the tree of each that was found, none of what is skipped.
+    pub numbers: Vec<Option<Number>>,
 }
 
 impl SharedDirectory {
     /// The directory of this name. Its key is the one that is given, or without one that of the
     /// directory's device and number on disk, which are the same each time. `CannotRead` where there is no
-    /// such directory, `Sharing` where the words don't fit, `Memory`.
+    /// such directory, `Sharing` where the words don't fit, or where more was found than its volume takes, before
+    /// a file is read; `Memory`.
     pub fn read<R: Files + AllocGlobal>(
         rt: &R,
         alloc: Global,
@@ -47,14 +56,15 @@ impl SharedDirectory {
         let key = key.unwrap_or(key_on_disk(&survey));
         let head = head_for(rt, alloc, name, sharing, key, &survey)?;
         let mut loaded = load_head(alloc, head.as_slice())?;
-        if let Err(fault) = fill(rt, &mut survey, &mut loaded) {
-            return Err(fault_of(alloc, name, fault));
+        match fill(rt, alloc, &mut survey, &mut loaded) {
+            Ok(numbers) => Ok(SharedDirectory {
+                survey,
+                head,
+                loaded,
+                numbers,
+            }),
+            Err(fault) => Err(fault_of(alloc, name, fault)),
         }
-        Ok(SharedDirectory {
-            survey,
-            head,
-            loaded,
-        })
     }
 }
 
@@ -69,7 +79,7 @@ fn key_on_disk(survey: &Survey) -> [u8; 8] {
     }
 }
 
-// The first lines of the description.
+// The first lines of the description. `TooLarge` where more was found than the volume takes.
 fn head_for<R: Files + AllocGlobal>(
     rt: &R,
     alloc: Global,
@@ -89,7 +99,32 @@ fn head_for<R: Files + AllocGlobal>(
         files: sharing.files(),
         exports: sharing.exports(),
     };
+    refuse_larger(alloc, &head, survey)?;
     Ok(head_of(alloc, &head, survey)?)
+}
+
+// Refuses a directory in which more was found than its volume takes.
+fn refuse_larger(alloc: Global, head: &Head<'_>, survey: &Survey) -> Result<(), Fault>
+    ensures takes { OnOk result (Takes (room_for head.now (extent_of survey.now.found.items)) (extent_of survey.now.found.items)) }
+    ensures refuses { IfErr result (Refuses (room_for head.now (extent_of survey.now.found.items)) (extent_of survey.now.found.items)) }
+{
+    let found = survey.extent(alloc)?;
+    check_extent(room_for(head, found), found)
+}
+
+// Whether a volume takes what was found.
+fn check_extent(room: Extent, found: Extent) -> Result<(), Fault>
+    ensures { result ≡ spec.outcome_of room found }
+{
+    if found.files <= room.files && found.bytes <= room.bytes {
+        return Ok(());
+    }
+    Err(Fault::Sharing(SharingFault::TooLarge {
+        files: found.files,
+        bytes: found.bytes,
+        most_files: room.files,
+        most_bytes: room.bytes,
+    }))
 }
 
 // The path by which a directory is mounted where none is given: its name after a slash.
@@ -123,13 +158,14 @@ fn load_head(alloc: Global, head: &[u8]) -> Result<Loaded, Fault> {
 // Makes what was found below the root of the first volume.
 fn fill<R: Files + AllocGlobal>(
     rt: &R,
+    alloc: Global,
     survey: &mut Survey,
     loaded: &mut Loaded,
-) -> Result<(), DiskFault> {
+) -> Result<Vec<Option<Number>>, DiskFault> {
     let root = loaded.tree.volume(0).map(|volume| volume.root);
     match root {
         Some(root) => build(rt, survey, &mut loaded.tree, root),
-        None => Ok(()),
+        None => Ok(Vec::new(alloc)),
     }
 }
 

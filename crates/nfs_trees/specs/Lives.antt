@@ -1,0 +1,35 @@
+-- The key of a life of a server of a directory.
+use Rattle.std.specs.Prelude.{ℕ, List, [], ◌∷◌, ◌++◌, Option, Some, None, codes, decimal, drop, string_bytes}
+use Rattle.nfs_disk.specs.declared.found.Found.{Found}
+use Rattle.nfs_handles.specs.declared.number.Number.{Number}
+use Rattle.nfs_lives.specs.Paths.{life_key, rows_of}
+use Rattle.nfs_lives.specs.Rows.{HasTaken}
+use Rattle.nfs_lives.specs.declared.path_digest.PathDigest.{PathDigest}
+use Rattle.nfs_text.specs.Lines.{lines}
+use Rattle.nfs_words.specs.Texts.{name_text}
+
+-- in decimal digits; `-` of what was not made
+abbrev pub number_text : Option Number → List ℕ
+number_text (Some number) = decimal number.0
+number_text None = codes "-"
+
+-- a path, and the number that it got, as a line names a path and another
+abbrev pub numbered_line : Found → Option Number → List ℕ
+numbered_line one number = codes "hard " ++ name_text (string_bytes one.path) ++ codes " " ++ number_text number
+
+abbrev pub numbered_lines : List Found → List (Option Number) → List (List ℕ)
+numbered_lines [] numbers = []
+numbered_lines (one ∷ others) [] = []
+numbered_lines (one ∷ others) (number ∷ numbers) = numbered_line one number ∷ numbered_lines others numbers
+
+-- the digest takes these lines after others
+abbrev pub Takes : PathDigest → List (List ℕ) → PathDigest → Type 0
+Takes old lines new = (before : List (List ℕ)) → HasTaken old before → HasTaken new (before ++ lines)
+
+-- The first lines of the description, and each path below the first directory, which has the number of the volume's root.
+abbrev pub life_lines : List ℕ → List Found → List (Option Number) → List (List ℕ)
+life_lines head found numbers = lines head ++ numbered_lines (drop 1 found) (drop 1 numbers)
+
+-- by the server's key; so it is another one where a path got another number
+abbrev pub key_of : List ℕ → List ℕ → List Found → List (Option Number) → List ℕ
+key_of key head found numbers = life_key key (rows_of (life_lines head found numbers))
