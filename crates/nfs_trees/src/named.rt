@@ -65,9 +65,10 @@ impl<'a> NamedTree<'a> {
     }
 }
 
-/// The life of a server of the tree that the words name, whose key is that of the tree's key and of its
-/// paths, of a directory with the number that each got. A directory has to be exported to somebody, and where that is strict nothing of it may be
-/// skipped. The faults of `NamedTree::read`, and `Sharing`.
+/// The life of a server of the tree that the words name. Its key is that of the tree's key and of its
+/// paths; of a directory, of its paths with the number that each got. A directory has to be exported to
+/// somebody, and where that is strict nothing of it may be skipped. The faults of `NamedTree::read`, and
+/// `Sharing`.
 pub fn begin_life<R: Files + Input + Eprint + AllocGlobal>(
     rt: &R,
     alloc: Global,
