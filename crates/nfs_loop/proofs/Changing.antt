@@ -4,9 +4,9 @@ use Rattle.std.proofs.Math.Path.{fun_ext}
 use Rattle.slab.specs.Slab.{Slab, get}
 use Rattle.nfs_lines.specs.Written.{Written, PassedOn}
 use Rattle.nfs_loop.specs.declared.member.Member.{Member}
-use Rattle.nfs_loop.specs.Told.{Told, Hears, Accounts}
+use Rattle.nfs_loop.specs.Reports.{Report, IsReported, Accounts}
 use Rattle.nfs_loop.specs.Stages.{Stage, stage, state, seat_of, turned, Goes, WithoutTurns}
-use Rattle.nfs_loop.proofs.Telling.{accounts_then, accounts_none, accounts_one, accounts_same}
+use Rattle.nfs_loop.proofs.Reporting.{accounts_then, accounts_none, accounts_one, accounts_same}
 use Rattle.nfs_server.specs.Fits.{Held}
 use Rattle.nfs_serving.specs.Service.{Seat, ServiceState, Change, joins, turns, leaves, passes, AreChanges}
 use Rattle.nfs_serving.proofs.Turning.{grows_none}
@@ -29,7 +29,7 @@ module _ {L : Type 0} (outgoing incoming : L → Option (List ℕ)) where
   both_change P Q old mid new f g = changes_then old.written.shared f.changes g.changes (state old) (state mid) (state new) f.are_changes
       (subst (λ s. AreChanges outgoing incoming s g.changes (state mid) (state new)) f.shared_stays g.are_changes)
 
-  pub goes_then : (a b c : Option (List Told)) (old mid new : Stage L) → Goes outgoing incoming (λ changes. WithoutTurns a changes b) old mid → Goes outgoing incoming (λ changes. WithoutTurns b changes c) mid new
+  pub goes_then : (a b c : Option (List Report)) (old mid new : Stage L) → Goes outgoing incoming (λ changes. WithoutTurns a changes b) old mid → Goes outgoing incoming (λ changes. WithoutTurns b changes c) mid new
       → Goes outgoing incoming (λ changes. WithoutTurns a changes c) old new
   goes_then a b c old mid new f g = record {
     changes = g.changes ++ f.changes;
@@ -38,11 +38,11 @@ module _ {L : Type 0} (outgoing incoming : L → Option (List ℕ)) where
     such = (turned_then f.changes g.changes ∙ ap (λ l. l ++ turned g.changes) f.such.0 ∙ g.such.0, accounts_then a b c f.changes g.changes f.such.1 g.such.1);
   }
 
-  pub goes_none : (a : Option (List Told)) (old : Stage L) → Goes outgoing incoming (λ changes. WithoutTurns a changes a) old old
+  pub goes_none : (a : Option (List Report)) (old : Stage L) → Goes outgoing incoming (λ changes. WithoutTurns a changes a) old old
   goes_none a old = record { changes = []; are_changes = refl; shared_stays = refl; such = (refl, accounts_none a) }
 
-  -- nothing changes, whatever is told
-  pub nothing : (a b : Option (List Told)) (server : Held) (old new : Slab (Member L)) (joined now : ℕ) (w : Written) → ((key : ℕ) → get new key ≡ get old key) → now ≡ joined → Accounts a [] b
+  -- nothing changes, whatever is reported
+  pub nothing : (a b : Option (List Report)) (server : Held) (old new : Slab (Member L)) (joined now : ℕ) (w : Written) → ((key : ℕ) → get new key ≡ get old key) → now ≡ joined → Accounts a [] b
       → Goes outgoing incoming (λ changes. WithoutTurns a changes b) (stage server old joined w) (stage server new now w)
   nothing a b server old new joined now w same stays accounts = record {
     changes = [];
@@ -52,16 +52,16 @@ module _ {L : Type 0} (outgoing incoming : L → Option (List ℕ)) where
     such = (refl, accounts);
   }
 
-  -- nothing changes, and nothing is told
-  pub quiet : (a b : Option (List Told)) (old : Stage L) → b ≡ a → Goes outgoing incoming (λ changes. WithoutTurns a changes b) old old
+  -- nothing changes, and nothing is reported
+  pub quiet : (a b : Option (List Report)) (old : Stage L) → b ≡ a → Goes outgoing incoming (λ changes. WithoutTurns a changes b) old old
   quiet a b old same = record { changes = []; are_changes = refl; shared_stays = refl; such = (refl, accounts_same a b same) }
 
-  -- nothing changes where this is told
-  pub told_one : (a b : Option (List Told)) (t : Told) (old : Stage L) → Hears a t b → Goes outgoing incoming (λ changes. WithoutTurns a changes b) old old
-  told_one a b t old hear = record { changes = []; are_changes = refl; shared_stays = refl; such = (refl, accounts_one a b t hear) }
+  -- nothing changes where this is reported
+  pub reported_one : (a b : Option (List Report)) (t : Report) (old : Stage L) → IsReported a t b → Goes outgoing incoming (λ changes. WithoutTurns a changes b) old old
+  reported_one a b t old report = record { changes = []; are_changes = refl; shared_stays = refl; such = (refl, accounts_one a b t report) }
 
   -- lines are passed on
-  pub passed : (a b : Option (List Told)) (server : Held) (members : Slab (Member L)) (joined : ℕ) (w v : Written) → PassedOn w v → Accounts a [] b
+  pub passed : (a b : Option (List Report)) (server : Held) (members : Slab (Member L)) (joined : ℕ) (w v : Written) → PassedOn w v → Accounts a [] b
       → Goes outgoing incoming (λ changes. WithoutTurns a changes b) (stage server members joined w) (stage server members joined v)
   passed a b server members joined w v p accounts = record {
     changes = passes ∷ [];

@@ -6,9 +6,9 @@ use Rattle.nfs_lines.specs.Written.{Written, Reported}
 use Rattle.nfs_exports.specs.declared.addr.Addr.{Addr}
 use Rattle.nfs_loop.specs.Peers.{IsAddrOf}
 use Rattle.nfs_loop.specs.declared.member.Member.{Member}
-use Rattle.nfs_loop.specs.Told.{Told, came, Hears, Accounts}
+use Rattle.nfs_loop.specs.Reports.{Report, came, IsReported, Accounts}
 use Rattle.nfs_loop.specs.Stages.{stage, state, seat_of, Goes, JoinsOrNot, WithoutTurns}
-use Rattle.nfs_loop.proofs.Telling.{accounts_then, accounts_one}
+use Rattle.nfs_loop.proofs.Reporting.{accounts_then, accounts_one}
 use Rattle.nfs_loop.proofs.Changing.{nothing}
 use Rattle.nfs_server.specs.Connections.{IsAtStart}
 use Rattle.nfs_server.specs.Fits.{Held}
@@ -17,11 +17,11 @@ use Rattle.nfs_serving.specs.declared.turn.End.{End}
 use Rattle.nfs_xdr.specs.Known.{Grows}
 
 module _ {L : Type 0} (outgoing incoming : L → Option (List ℕ)) where
-  pub joined_by : (told heard hears : Option (List Told)) (key : ℕ) (peer : IpAddr) (old new : Slab (Member L)) (joined now : ℕ) → Hears told (came key peer) heard → Accounts heard [] hears → JoinsOrNot key peer old joined new now
-      → (server : Held) (lines : Written) → Goes outgoing incoming (λ changes. WithoutTurns told changes hears) (stage server old joined lines) (stage server new now lines)
-  joined_by told heard hears key peer old new joined now hear more (inl not) server lines =
-      nothing outgoing incoming told hears server old new joined now lines not.0 not.1 (accounts_then told heard hears [] [] (accounts_one told heard (came key peer) hear) more)
-  joined_by told heard hears key peer old new joined now hear more (inr j) server lines = record {
+  pub joined_by : (reported reported_now reported_then : Option (List Report)) (key : ℕ) (peer : IpAddr) (old new : Slab (Member L)) (joined now : ℕ) → IsReported reported (came key peer) reported_now → Accounts reported_now [] reported_then → JoinsOrNot key peer old joined new now
+      → (server : Held) (lines : Written) → Goes outgoing incoming (λ changes. WithoutTurns reported changes reported_then) (stage server old joined lines) (stage server new now lines)
+  joined_by reported reported_now reported_then key peer old new joined now report more (inl not) server lines =
+      nothing outgoing incoming reported reported_then server old new joined now lines not.0 not.1 (accounts_then reported reported_now reported_then [] [] (accounts_one reported reported_now (came key peer) report) more)
+  joined_by reported reported_now reported_then key peer old new joined now report more (inr j) server lines = record {
     changes = joins key now j.member.client.connection.addr ∷ [];
     are_changes = (
       state (stage server old joined lines),
@@ -43,14 +43,14 @@ module _ {L : Type 0} (outgoing incoming : L → Option (List ℕ)) where
       },
     );
     shared_stays = refl;
-    such = (refl, accounts_then told heard hears (joins key now j.member.client.connection.addr ∷ []) [] (λ before e. (came key peer ∷ [], hear before e, ([], [], record { peer = peer; addr_is = j.addr_is; told = refl }, tt))) more);
+    such = (refl, accounts_then reported reported_now reported_then (joins key now j.member.client.connection.addr ∷ []) [] (λ before e. (came key peer ∷ [], report before e, ([], [], record { peer = peer; addr_is = j.addr_is; reported = refl }, tt))) more);
   }
 
   -- one leaves that had no turn
-  pub left_by : (told heard : Option (List Told)) (server : Held) (key : ℕ) (member : Member L) (old new : Slab (Member L)) (joined : ℕ) (w v : Written) → get old key ≡ Some member → Updates old new key None → Accounts told [] heard
+  pub left_by : (reported reported_now : Option (List Report)) (server : Held) (key : ℕ) (member : Member L) (old new : Slab (Member L)) (joined : ℕ) (w v : Written) → get old key ≡ Some member → Updates old new key None → Accounts reported [] reported_now
       → (by : End) × LeavesBy member.client by × Reported (end_text member.number member.client.calls by) w v
-      → Goes outgoing incoming (λ changes. WithoutTurns told changes heard) (stage server old joined w) (stage server new joined v)
-  left_by told heard server key member old new joined w v was away accounts (by, ended, reported) = record {
+      → Goes outgoing incoming (λ changes. WithoutTurns reported changes reported_now) (stage server old joined w) (stage server new joined v)
+  left_by reported reported_now server key member old new joined w v was away accounts (by, ended, written_line) = record {
     changes = leaves key member.number member.client.calls by ∷ [];
     are_changes = (
       state (stage server old joined w),
@@ -61,18 +61,18 @@ module _ {L : Type 0} (outgoing incoming : L → Option (List ℕ)) where
         calls_are = refl;
         ended = ended;
         gone = ap (option_map seat_of) away.changed;
-        line = take reported.n (end_text member.number member.client.calls by);
-        part = (reported.n, reported.within, refl);
-        whole = reported.whole;
-        lines_grow = reported.lines_grow;
-        log_grows = subst (λ (s : Bool). Grows w.log (if s then take reported.n (end_text member.number member.client.calls by) else []) v.log) reported.shared_stays reported.log_grows;
-        log_stays = reported.log_stays;
+        line = take written_line.n (end_text member.number member.client.calls by);
+        part = (written_line.n, written_line.within, refl);
+        whole = written_line.whole;
+        lines_grow = written_line.lines_grow;
+        log_grows = subst (λ (s : Bool). Grows w.log (if s then take written_line.n (end_text member.number member.client.calls by) else []) v.log) written_line.shared_stays written_line.log_grows;
+        log_stays = written_line.log_stays;
         others = λ other differ. ap (option_map seat_of) (away.others other differ);
         joined_stays = refl;
         server_stays = refl;
       },
     );
-    shared_stays = reported.shared_stays;
+    shared_stays = written_line.shared_stays;
     such = (refl, accounts);
   }
 

@@ -9,7 +9,7 @@ use Rattle.nfs_queue.proofs.Queueing.{or_true}
 use Rattle.nfs_loop.specs.declared.watches.Hold.{Hold}
 use Rattle.nfs_loop.specs.declared.watches.Watch.{Watch}
 use Rattle.nfs_loop.specs.Watching.{hold_at}
-use Rattle.nfs_loop.specs.Told.{Told, ready, listener_ready, nothing_ready, came, at, since, Hears, Accounts}
+use Rattle.nfs_loop.specs.Reports.{Report, ready, listener_ready, nothing_ready, came, at, since, IsReported, Accounts}
 use Rattle.nfs_loop.specs.Stages.{IsNoted, Notes, noted}
 
 -- ---- who is reported ready
@@ -21,7 +21,7 @@ pub waits_last : (key : ℕ) (queue : List ℕ) → is_waiting key (queue ++ key
 waits_last key queue = list_any-append (nat_eq key) queue (key ∷ []) ∙ ap (λ b. is_waiting key queue || (b || false)) (eq-eqb key key refl) ∙ or_true (is_waiting key queue)
 
 module _ {M : Type 0} (members : Slab M) (watches : List Watch) where
-  noted_on : (t : Told) (queue added : List ℕ) → IsNoted members watches queue t → IsNoted members watches (queue ++ added) t
+  noted_on : (t : Report) (queue added : List ℕ) → IsNoted members watches queue t → IsNoted members watches (queue ++ added) t
   noted_on (ready key) queue added (inl none) = inl none
   noted_on (ready key) queue added (inr (inl held)) = inr (inl held)
   noted_on (ready key) queue added (inr (inr waits)) = inr (inr (waits_on key queue added waits))
@@ -31,7 +31,7 @@ module _ {M : Type 0} (members : Slab M) (watches : List Watch) where
   noted_on (at moment) queue added n = tt
   noted_on (since millis) queue added n = tt
 
-  all_on : (news : List Told) (queue added : List ℕ) → AllByRecursion (IsNoted members watches queue) news → AllByRecursion (IsNoted members watches (queue ++ added)) news
+  all_on : (news : List Report) (queue added : List ℕ) → AllByRecursion (IsNoted members watches queue) news → AllByRecursion (IsNoted members watches (queue ++ added)) news
   all_on [] queue added a = tt
   all_on (t ∷ news) queue added a = (noted_on t queue added a.0, all_on news queue added a.1)
 
@@ -47,19 +47,19 @@ module _ {M : Type 0} (members : Slab M) (watches : List Watch) where
   noted_after key queue None None e h = ([], sym (append-nil queue), inl e)
   noted_after key queue (Some m) None e h = let b = waits_by key queue (is_waiting key queue) refl in (b.0, b.1, inr (inr b.2))
 
-  pub notes_none : (queue : List ℕ) (told : Option (List Told)) → Notes members watches queue queue told told
-  notes_none queue told = record { added = []; after = sym (append-nil queue); all_noted = λ before e. ([], e, tt) }
+  pub notes_none : (queue : List ℕ) (reported : Option (List Report)) → Notes members watches queue queue reported reported
+  notes_none queue reported = record { added = []; after = sym (append-nil queue); all_noted = λ before e. ([], e, tt) }
 
-  -- more is told, of no client
-  pub notes_more : (t : Told) (old queue : List ℕ) (told heard hears : Option (List Told)) → IsNoted members watches queue t → Notes members watches old queue told heard → Hears heard t hears → Notes members watches old queue told hears
-  notes_more t old queue told heard hears is n hear = record {
+  -- more is reported, of no client
+  pub notes_more : (t : Report) (old queue : List ℕ) (reported reported_now reported_then : Option (List Report)) → IsNoted members watches queue t → Notes members watches old queue reported reported_now → IsReported reported_now t reported_then → Notes members watches old queue reported reported_then
+  notes_more t old queue reported reported_now reported_then is n report = record {
     added = n.added;
     after = n.after;
-    all_noted = λ before known. let m = n.all_noted before known in (t ∷ m.0, hear (m.0 ++ before) m.1, (is, m.2));
+    all_noted = λ before known. let m = n.all_noted before known in (t ∷ m.0, report (m.0 ++ before) m.1, (is, m.2));
   }
 
-  pub notes_on : (key : ℕ) (old queue now : List ℕ) (told heard hears : Option (List Told)) → Notes members watches old queue told heard → now ≡ noted (get members key) (hold_at watches key) key queue → Hears heard (ready key) hears → Notes members watches old now told hears
-  notes_on key old queue now told heard hears n e hear =
+  pub notes_on : (key : ℕ) (old queue now : List ℕ) (reported reported_now reported_then : Option (List Report)) → Notes members watches old queue reported reported_now → now ≡ noted (get members key) (hold_at watches key) key queue → IsReported reported_now (ready key) reported_then → Notes members watches old now reported reported_then
+  notes_on key old queue now reported reported_now reported_then n e report =
       let b = noted_after key queue (get members key) (hold_at watches key) refl refl in
       let is : now ≡ queue ++ b.0 = e ∙ b.1 in
       record {
@@ -67,10 +67,10 @@ module _ {M : Type 0} (members : Slab M) (watches : List Watch) where
         after = is ∙ ap (λ q. q ++ b.0) n.after ∙ append_assoc old n.added b.0;
         all_noted = λ before known. let m = n.all_noted before known in (
           ready key ∷ m.0,
-          hear (m.0 ++ before) m.1,
+          report (m.0 ++ before) m.1,
           subst (λ q. AllByRecursion (IsNoted members watches q) (ready key ∷ m.0)) (sym is) (b.2, all_on m.0 queue b.0 m.2),
         );
       }
 
-  pub notes_account : (old now : List ℕ) (told heard : Option (List Told)) → Notes members watches old now told heard → Accounts told [] heard
-  notes_account old now told heard n before e = let m = n.all_noted before e in (m.0, m.1, tt)
+  pub notes_account : (old now : List ℕ) (reported reported_now : Option (List Report)) → Notes members watches old now reported reported_now → Accounts reported [] reported_now
+  notes_account old now reported reported_now n before e = let m = n.all_noted before e in (m.0, m.1, tt)

@@ -1,8 +1,9 @@
-pub mod Telling
+pub mod Reporting
 pub mod Lengthening
 pub mod Watching
 pub mod Releasing
 pub mod Staying
+pub mod Watched
 pub mod Changing
 pub mod Turning
 pub mod Rounding

@@ -6,9 +6,9 @@ use Rattle.std.proofs.lemmas.List.Folds.{list_any-append}
 use Rattle.slab.specs.Slab.{Slab, get}
 use Rattle.nfs_queue.specs.Queues.{is_waiting, with_ready}
 use Rattle.nfs_loop.specs.declared.watches.Watch.{Watch}
-use Rattle.nfs_loop.specs.Told.{Told, since, Accounts}
+use Rattle.nfs_loop.specs.Reports.{Report, since, Accounts}
 use Rattle.nfs_loop.specs.Watching.{hold_at, is_over, hold_after, queue_after, ReleasesOne, Releases, ReleasesBy}
-use Rattle.nfs_loop.proofs.Telling.{accounts_one, accounts_same}
+use Rattle.nfs_loop.proofs.Reporting.{accounts_one, accounts_same}
 use Rattle.nfs_loop.proofs.Watching.{hold_none, hold_others}
 use Rattle.nfs_loop.proofs.Lengthening.{waits_last, waits_on}
 
@@ -152,6 +152,6 @@ module _ {M : Type 0} (members : Slab M) (full : Bool) (now : ℕ) (old : List W
 pub none_counted : (n : ℕ) → false ≡ nat_lt 0 n → n ≡ 0
 none_counted n e = let l : n ≤ 0 = ltb-false 0 n (sym e) in omega (arith, l)
 
-pub releases_account : {M : Type 0} (members : Slab M) (full : Bool) (told heard : Option (List Told)) (old new : List Watch) (queue later : List ℕ) → ReleasesBy members full told heard old new queue later → Accounts told [] heard
-releases_account members full told heard old new queue later (inl n) = accounts_same told heard n.3
-releases_account members full told heard old new queue later (inr r) = accounts_one told heard (since r.0) r.1
+pub releases_account : {M : Type 0} (members : Slab M) (full : Bool) (reported reported_now : Option (List Report)) (old new : List Watch) (queue later : List ℕ) → ReleasesBy members full reported reported_now old new queue later → Accounts reported [] reported_now
+releases_account members full reported reported_now old new queue later (inl n) = accounts_same reported reported_now n.3
+releases_account members full reported reported_now old new queue later (inr r) = accounts_one reported reported_now (since r.0) r.1

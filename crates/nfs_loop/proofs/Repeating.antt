@@ -4,9 +4,9 @@ use Rattle.slab.specs.Slab.{Slab, get}
 use Rattle.nfs_loop.specs.declared.member.Member.{Member}
 use Rattle.nfs_loop.specs.declared.watches.Watch.{Watch}
 use Rattle.nfs_loop.specs.Watching.{AllStay, ReleasesBy, SomeMayBeHeld}
-use Rattle.nfs_loop.specs.Told.{Told, Accounts}
+use Rattle.nfs_loop.specs.Reports.{Report, Accounts}
 use Rattle.nfs_loop.specs.Stages.{Stage, state, seat_of, seats, turned, AsksAll, Goes, Notes, Schedule, WaitAgain, WithoutTurns, IsRound, most_asked, AreRounds, Rounds, changes_of}
-use Rattle.nfs_loop.proofs.Telling.{accounts_then, accounts_same}
+use Rattle.nfs_loop.proofs.Reporting.{accounts_then, accounts_same}
 use Rattle.nfs_loop.proofs.Changing.{both_change, changes_then, turned_then}
 use Rattle.nfs_loop.proofs.Rounding.{again_where_some_left}
 use Rattle.nfs_serving.proofs.Failed.{failed_logs_stay}
@@ -14,7 +14,7 @@ use Rattle.nfs_serving.specs.Service.{Change, AreChanges}
 use Rattle.nfs_xdr.specs.declared.link.Came.{Came}
 
 module _ {L : Type 0} (outgoing incoming : L → Option (List ℕ)) (reports : L → ℕ → Came → L → Type 0) where
-  before_turns : (a b c : Option (List Told)) (first : List ℕ) (old mid new : Stage L) → Goes outgoing incoming (λ changes. WithoutTurns a changes b) old mid → Goes outgoing incoming (λ changes. (turned changes ≡ first) × Accounts b changes c) mid new
+  before_turns : (a b c : Option (List Report)) (first : List ℕ) (old mid new : Stage L) → Goes outgoing incoming (λ changes. WithoutTurns a changes b) old mid → Goes outgoing incoming (λ changes. (turned changes ≡ first) × Accounts b changes c) mid new
       → Goes outgoing incoming (λ changes. (turned changes ≡ first) × Accounts a changes c) old new
   before_turns a b c first old mid new f g = record {
     changes = g.changes ++ f.changes;
@@ -23,7 +23,7 @@ module _ {L : Type 0} (outgoing incoming : L → Option (List ℕ)) (reports : L
     such = (turned_then f.changes g.changes ∙ ap (λ l. l ++ turned g.changes) f.such.0 ∙ g.such.0, accounts_then a b c f.changes g.changes f.such.1 g.such.1);
   }
 
-  after_turns : (a b c : Option (List Told)) (first : List ℕ) (old mid new : Stage L) → Goes outgoing incoming (λ changes. (turned changes ≡ first) × Accounts a changes b) old mid → Goes outgoing incoming (λ changes. WithoutTurns b changes c) mid new
+  after_turns : (a b c : Option (List Report)) (first : List ℕ) (old mid new : Stage L) → Goes outgoing incoming (λ changes. (turned changes ≡ first) × Accounts a changes b) old mid → Goes outgoing incoming (λ changes. WithoutTurns b changes c) mid new
       → Goes outgoing incoming (λ changes. (turned changes ≡ first) × Accounts a changes c) old new
   after_turns a b c first old mid new f g = record {
     changes = g.changes ++ f.changes;
@@ -36,15 +36,15 @@ module _ {L : Type 0} (outgoing incoming : L → Option (List ℕ)) (reports : L
   seat_or_none was now (inl same) = inl (ap (option_map seat_of) same)
   seat_or_none was now (inr gone) = inr (ap (option_map seat_of) gone)
 
-  pub round_of : (a b c d : Option (List Told)) (from to : Schedule) (reported first : List ℕ) (old mid turned_at new : Stage L) (between before after : Option (List Told)) (members : Slab (Member L)) (held left : List Watch) (full : Bool)
-      → Notes old.members from.watches from.queue reported a between → AsksAll most_asked a between → AllStay old.members from.watches members held → ReleasesBy members full before after held left reported first
+  pub round_of : (a b c d : Option (List Report)) (from to : Schedule) (ready_queue first : List ℕ) (old mid turned_at new : Stage L) (between before after : Option (List Report)) (members : Slab (Member L)) (held left : List Watch) (full : Bool)
+      → Notes old.members from.watches from.queue ready_queue a between → AsksAll most_asked a between → AllStay old.members from.watches members held → ReleasesBy members full before after held left ready_queue first
       → Goes outgoing incoming (λ changes. WithoutTurns a changes b) old mid
       → Goes outgoing incoming (λ changes. (turned changes ≡ first) × Accounts b changes c) mid turned_at
       → Goes outgoing incoming (λ changes. WithoutTurns c changes d) turned_at new
-      → WaitAgain incoming reports (seats turned_at.members) first to.queue → ((key : ℕ) → (get new.members key ≡ get turned_at.members key) ⊎ (get new.members key ≡ None))
+      → WaitAgain incoming reports to.watches (seats turned_at.members) first to.queue → ((key : ℕ) → (get new.members key ≡ get turned_at.members key) ⊎ (get new.members key ≡ None))
       → SomeMayBeHeld first left to.watches
       → (changes : List Change) × IsRound outgoing incoming reports changes a d from to old new
-  round_of a b c d from to reported first old mid turned_at new between before after members held left full notes asked stay releases f g h again some_left some_held =
+  round_of a b c d from to ready_queue first old mid turned_at new between before after members held left full notes asked stay releases f g h again some_left some_held =
       let whole = after_turns a c d first old turned_at new (before_turns a b c first old mid turned_at f g) h in (
         whole.changes,
         record {
@@ -52,7 +52,7 @@ module _ {L : Type 0} (outgoing incoming : L → Option (List ℕ)) (reports : L
           shared_stays = whole.shared_stays;
           accounts = whole.such.1;
           between = between;
-          reported = reported;
+          ready_queue = ready_queue;
           notes = notes;
           asked = asked;
           members = members;
@@ -65,39 +65,39 @@ module _ {L : Type 0} (outgoing incoming : L → Option (List ℕ)) (reports : L
           first = first;
           releases = releases;
           turned_are = whole.such.0;
-          wait_again = again_where_some_left incoming reports (seats turned_at.members) (seats new.members) first to.queue (λ key. seat_or_none (get turned_at.members key) (get new.members key) (some_left key)) again;
+          wait_again = again_where_some_left incoming reports to.watches (seats turned_at.members) (seats new.members) first to.queue (λ key. seat_or_none (get turned_at.members key) (get new.members key) (some_left key)) again;
           some_held = some_held;
           log_stays = failed_logs_stay outgoing incoming old.written.shared whole.changes (state old) (state new) whole.are_changes;
         },
       )
 
   -- the changes of rounds together
-  rounds_go : (rounds : List (List Change)) (told heard : Option (List Told)) (from to : Schedule) (old new : Stage L) → AreRounds outgoing incoming reports rounds told from old heard to new
-      → AreChanges outgoing incoming old.written.shared (changes_of rounds) (state old) (state new) × (new.written.shared ≡ old.written.shared) × Accounts told (changes_of rounds) heard
-  rounds_go [] told heard from to old new p = (ap (λ (s : Stage L). state s) p.0, ap (λ (s : Stage L). s.written.shared) p.0, accounts_same told heard p.1)
-  rounds_go (changes ∷ earlier) told heard from to old new p =
-      let e = rounds_go earlier told p.0 from p.1 old p.2 p.3 in (
+  rounds_go : (rounds : List (List Change)) (reported reported_now : Option (List Report)) (from to : Schedule) (old new : Stage L) → AreRounds outgoing incoming reports rounds reported from old reported_now to new
+      → AreChanges outgoing incoming old.written.shared (changes_of rounds) (state old) (state new) × (new.written.shared ≡ old.written.shared) × Accounts reported (changes_of rounds) reported_now
+  rounds_go [] reported reported_now from to old new p = (ap (λ (s : Stage L). state s) p.0, ap (λ (s : Stage L). s.written.shared) p.0, accounts_same reported reported_now p.1)
+  rounds_go (changes ∷ earlier) reported reported_now from to old new p =
+      let e = rounds_go earlier reported p.0 from p.1 old p.2 p.3 in (
         changes_then outgoing incoming old.written.shared (changes_of earlier) changes (state old) (state p.2) (state new) e.0 (subst (λ s. AreChanges outgoing incoming s changes (state p.2) (state new)) e.1 p.4.are_changes),
         p.4.shared_stays ∙ e.1,
-        accounts_then told p.0 heard (changes_of earlier) changes e.2 p.4.accounts,
+        accounts_then reported p.0 reported_now (changes_of earlier) changes e.2 p.4.accounts,
       )
 
-  pub another_round : (told before heard hears : Option (List Told)) (from mid to : Schedule) (old between new : Stage L) → (rounds : List (List Change)) × AreRounds outgoing incoming reports rounds told from old before mid between → heard ≡ before
-      → (changes : List Change) × IsRound outgoing incoming reports changes heard hears mid to between new → (rounds : List (List Change)) × AreRounds outgoing incoming reports rounds told from old hears to new
-  another_round told before heard hears from mid to old between new (rounds, are) same (changes, pass) =
-      (changes ∷ rounds, (before, mid, between, are, subst (λ t. IsRound outgoing incoming reports changes t hears mid to between new) same pass))
+  pub another_round : (reported before reported_now reported_then : Option (List Report)) (from mid to : Schedule) (old between new : Stage L) → (rounds : List (List Change)) × AreRounds outgoing incoming reports rounds reported from old before mid between → reported_now ≡ before
+      → (changes : List Change) × IsRound outgoing incoming reports changes reported_now reported_then mid to between new → (rounds : List (List Change)) × AreRounds outgoing incoming reports rounds reported from old reported_then to new
+  another_round reported before reported_now reported_then from mid to old between new (rounds, are) same (changes, pass) =
+      (changes ∷ rounds, (before, mid, between, are, subst (λ t. IsRound outgoing incoming reports changes t reported_then mid to between new) same pass))
 
   -- rounds, and after them changes without turns
-  pub run_over : (told heard after : Option (List Told)) (from to : Schedule) (old last new : Stage L) → (rounds : List (List Change)) × AreRounds outgoing incoming reports rounds told from old heard to last → Goes outgoing incoming (λ changes. WithoutTurns heard changes after) last new
-      → Goes outgoing incoming (λ changes. Rounds outgoing incoming reports told from to old changes × Accounts told changes after) old new
-  run_over told heard after from to old last new (rounds, are) g =
-      let e = rounds_go rounds told heard from to old last are in
+  pub run_over : (reported reported_now after : Option (List Report)) (from to : Schedule) (old last new : Stage L) → (rounds : List (List Change)) × AreRounds outgoing incoming reports rounds reported from old reported_now to last → Goes outgoing incoming (λ changes. WithoutTurns reported_now changes after) last new
+      → Goes outgoing incoming (λ changes. Rounds outgoing incoming reports reported from to old changes × Accounts reported changes after) old new
+  run_over reported reported_now after from to old last new (rounds, are) g =
+      let e = rounds_go rounds reported reported_now from to old last are in
       record {
         changes = g.changes ++ changes_of rounds;
         are_changes = changes_then outgoing incoming old.written.shared (changes_of rounds) g.changes (state old) (state last) (state new) e.0 (subst (λ s. AreChanges outgoing incoming s g.changes (state last) (state new)) e.1 g.are_changes);
         shared_stays = g.shared_stays ∙ e.1;
         such = (
-          record { rounds = rounds; heard = heard; last = last; are_rounds = are; after = g.changes; no_turns = g.such.0; changes_are = refl },
-          accounts_then told heard after (changes_of rounds) g.changes e.2 g.such.1,
+          record { rounds = rounds; reported_now = reported_now; last = last; are_rounds = are; after = g.changes; no_turns = g.such.0; changes_are = refl },
+          accounts_then reported reported_now after (changes_of rounds) g.changes e.2 g.such.1,
         );
       }

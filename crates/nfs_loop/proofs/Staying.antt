@@ -10,7 +10,7 @@ use Rattle.nfs_loop.specs.declared.watches.Watch.{Watch}
 use Rattle.nfs_loop.specs.Watching.{hold_at, watch_at, AllStay, FirstMayBeHeld, SomeMayBeHeld}
 use Rattle.nfs_loop.proofs.Watching.{hold_set}
 
-none_some : {X : Type 0} (o : Option X) → o ≡ None → IsSome o → ⊥
+pub none_some : {X : Type 0} (o : Option X) → o ≡ None → IsSome o → ⊥
 none_some None e s = true≢false (sym s)
 none_some (Some x) e s = cc
 
@@ -49,11 +49,19 @@ held_after queue a b c same f key = by_case (f key)
     by_case (inl stays) = inl (stays ∙ same key)
     by_case (inr held) = inr held
 
-none_below : (n : ℕ) → 0 ≡ n → 0 < n → ⊥
-none_below n e l = omega (arith, e, l)
-
 first_is : (x k : ℕ) (xs r : List ℕ) → x ∷ xs ≡ k ∷ r → k ≡ x
 first_is x k xs r e = cc
+
+-- all others but the first of a queue are held or not as they were
+pub others_not_held : (queue : List ℕ) (a b : List Watch) (key : ℕ) (rest : List ℕ) → queue ≡ key ∷ rest → FirstMayBeHeld queue a b → (other : ℕ) → other ≢ key → hold_at b other ≡ hold_at a other
+others_not_held queue a b key rest is f other differ = by_case (f other)
+  where
+    by_case : (hold_at b other ≡ hold_at a other) ⊎ (((r : List ℕ) × (queue ≡ other ∷ r)) × (hold_at b other ≡ Some Lines)) → hold_at b other ≡ hold_at a other
+    by_case (inl same) = same
+    by_case (inr held) = absurd (differ (first_is key other rest held.0.0 (sym is ∙ held.0.1)))
+
+none_below : (n : ℕ) → 0 ≡ n → 0 < n → ⊥
+none_below n e l = omega (arith, e, l)
 
 waits_there : (before after : List ℕ) (k x : ℕ) → k ≡ x → is_waiting k (before ++ x ∷ after) ≡ true
 waits_there before after k x same = list_any-append (nat_eq k) before (x ∷ after) ∙ ap (λ b. is_waiting k before || (b || is_waiting k after)) (eq-eqb k x same) ∙ or_true (is_waiting k before)

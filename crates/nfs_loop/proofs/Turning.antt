@@ -7,9 +7,12 @@ use Rattle.nfs_lines.specs.Written.{Written, Reported}
 use Rattle.nfs_queue.specs.Queues.{Waiting, IsCalled, with_key}
 use Rattle.nfs_queue.proofs.Queueing.{not_same}
 use Rattle.nfs_loop.specs.declared.member.Member.{Member}
-use Rattle.nfs_loop.specs.Told.{Told, at, Hears, Accounts}
+use Rattle.nfs_loop.specs.declared.watches.Hold.{Hold}
+use Rattle.nfs_loop.specs.declared.watches.Watch.{Watch}
+use Rattle.nfs_loop.specs.Reports.{Report, at, IsReported, Accounts}
+use Rattle.nfs_loop.specs.Watching.{hold_at}
 use Rattle.nfs_loop.specs.Stages.{stage, state, seat_of, seats, turned, OthersStay, Sleeps, IsAgain, TurnsFirst, Goes}
-use Rattle.nfs_loop.proofs.Telling.{accounts_then}
+use Rattle.nfs_loop.proofs.Reporting.{accounts_then}
 use Rattle.nfs_server.specs.Feeding.{device}
 use Rattle.nfs_server.specs.Fits.{Held}
 use Rattle.nfs_serving.specs.Service.{Seat, ServiceState, Change, turns, leaves, LeavesBy, end_text}
@@ -19,9 +22,10 @@ use Rattle.nfs_xdr.specs.Known.{Grows, StaysFailed}
 use Rattle.nfs_xdr.specs.declared.link.Came.{Came}
 
 -- the queue after a turn
-queue_after : {L : Type 0} (incoming : L → Option (List ℕ)) (reports : L → ℕ → Came → L → Type 0) (key : ℕ) (rest queue : List ℕ) (waits : Bool) (seat : Option (Seat L)) → queue ≡ with_key waits key rest → (waits ≡ false → Sleeps incoming reports seat) → (again : List ℕ) × (queue ≡ rest ++ again) × IsAgain incoming reports key again seat
-queue_after incoming reports key rest queue true seat e sleeps = (key ∷ [], e, inl refl)
-queue_after incoming reports key rest queue false seat e sleeps = ([], e ∙ sym (append-nil rest), inr (refl, sleeps refl))
+queue_after : {L : Type 0} (incoming : L → Option (List ℕ)) (reports : L → ℕ → Came → L → Type 0) (hold : Option Hold) (key : ℕ) (rest queue : List ℕ) (waits : Bool) (seat : Option (Seat L)) → queue ≡ with_key waits key rest → (waits ≡ false → Sleeps incoming reports hold seat)
+    → (again : List ℕ) × (queue ≡ rest ++ again) × IsAgain incoming reports hold key again seat
+queue_after incoming reports hold key rest queue true seat e sleeps = (key ∷ [], e, inl refl)
+queue_after incoming reports hold key rest queue false seat e sleeps = ([], e ∙ sym (append-nil rest), inr (refl, sleeps refl))
 
 -- a member as it comes back from its turn
 abbrev pub with_client : {L : Type 0} → Member L → Standing L → Member L
@@ -29,20 +33,20 @@ with_client m now = record { client = now; number = m.number; peer = m.peer; add
 
 module _ {L : Type 0} (outgoing incoming : L → Option (List ℕ)) (reports : L → ℕ → Came → L → Type 0) (moment : Moment) (old mid : Waiting (Member L)) (key : ℕ) (member : Member L) (c : IsCalled old mid key member)
     (server served : Held) (joined : ℕ) (w v : Written) (stays : StaysFailed w.broken w.log v.broken v.log) (shared : v.shared ≡ w.shared) (lines : v.lines ≡ w.lines) (complete : v.complete ≡ w.complete)
-    (told first heard : Option (List Told)) (before : Accounts told [] first) (hear : Hears first (at moment) heard)
+    (reported first reported_now : Option (List Report)) (before : Accounts reported [] first) (report : IsReported first (at moment) reported_now)
     (now : Standing L) (turn : Turns outgoing incoming moment member.client now server served (device w.log v.log)) where
-  turn_told : Accounts told (turns key moment turn.0 ∷ []) heard
-  turn_told = accounts_then told first heard [] (turns key moment turn.0 ∷ []) before (λ news e. (at moment ∷ [], hear news e, ([], [], refl, tt)))
+  turn_reported : Accounts reported (turns key moment turn.0 ∷ []) reported_now
+  turn_reported = accounts_then reported first reported_now [] (turns key moment turn.0 ∷ []) before (λ news e. (at moment ∷ [], report news e, ([], [], refl, tt)))
 
-  first_turns : (seat : ℕ → Option (Seat L)) (changes : List Change) (queue : List ℕ) → turned changes ≡ key ∷ [] → OthersStay key (seats old.0) seat → (again : List ℕ) × (queue ≡ mid.1.0 ++ again) × IsAgain incoming reports key again (seat key)
-      → TurnsFirst incoming reports (seats old.0) seat old.1.0 changes queue
-  first_turns seat changes queue e others again = subst (λ q. TurnsFirst incoming reports (seats old.0) seat q changes queue) (sym c.first) (e, others, again)
+  first_turns : (watches : List Watch) (seat : ℕ → Option (Seat L)) (changes : List Change) (queue : List ℕ) → turned changes ≡ key ∷ [] → OthersStay key (seats old.0) seat → (again : List ℕ) × (queue ≡ mid.1.0 ++ again) × IsAgain incoming reports (hold_at watches key) key again (seat key)
+      → TurnsFirst incoming reports watches (seats old.0) seat old.1.0 changes queue
+  first_turns watches seat changes queue e others again = subst (λ q. TurnsFirst incoming reports watches (seats old.0) seat q changes queue) (sym c.first) (e, others, again)
 
   -- it comes back
-  pub comes_back : (new : Waiting (Member L)) (waits : Bool) → Updates mid.0 new.0 key (Some (with_client member now)) → new.1.0 ≡ with_key waits key mid.1.0
-      → (waits ≡ false → Sleeps incoming reports (Some (seat_of (with_client member now))))
-      → Goes outgoing incoming (λ changes. TurnsFirst incoming reports (seats old.0) (seats new.0) old.1.0 changes new.1.0 × Accounts told changes heard) (stage server old.0 joined w) (stage served new.0 joined v)
-  comes_back new waits back queue sleeps = record {
+  pub comes_back : (watches : List Watch) (new : Waiting (Member L)) (waits : Bool) → Updates mid.0 new.0 key (Some (with_client member now)) → new.1.0 ≡ with_key waits key mid.1.0
+      → (waits ≡ false → Sleeps incoming reports (hold_at watches key) (Some (seat_of (with_client member now))))
+      → Goes outgoing incoming (λ changes. TurnsFirst incoming reports watches (seats old.0) (seats new.0) old.1.0 changes new.1.0 × Accounts reported changes reported_now) (stage server old.0 joined w) (stage served new.0 joined v)
+  comes_back watches new waits back queue sleeps = record {
     changes = turns key moment turn.0 ∷ [];
     are_changes = (
       state (stage server old.0 joined w),
@@ -63,9 +67,9 @@ module _ {L : Type 0} (outgoing incoming : L → Option (List ℕ)) (reports : L
     );
     shared_stays = shared;
     such = (
-      first_turns (seats new.0) (turns key moment turn.0 ∷ []) new.1.0 refl (λ other differ. ap (option_map seat_of) (back.others other differ ∙ c.away.others other differ))
-          (queue_after incoming reports key mid.1.0 new.1.0 waits (seats new.0 key) queue (λ e. subst (Sleeps incoming reports) (sym (ap (option_map seat_of) back.changed)) (sleeps e))),
-      turn_told,
+      first_turns watches (seats new.0) (turns key moment turn.0 ∷ []) new.1.0 refl (λ other differ. ap (option_map seat_of) (back.others other differ ∙ c.away.others other differ))
+          (queue_after incoming reports (hold_at watches key) key mid.1.0 new.1.0 waits (seats new.0 key) queue (λ e. subst (Sleeps incoming reports (hold_at watches key)) (sym (ap (option_map seat_of) back.changed)) (sleeps e))),
+      turn_reported,
     );
   }
 
@@ -82,9 +86,9 @@ module _ {L : Type 0} (outgoing incoming : L → Option (List ℕ)) (reports : L
   elsewhere : (other : ℕ) → other ≢ key → seats_between other ≡ seats old.0 other
   elsewhere other differ = ap (λ (t : Bool). if t then Some (record { number = member.number; client = now }) else seats old.0 other) (not_same other key (nat_eq other key) refl differ)
 
-  pub goes_away : (u : Written) (last : Option (List Told)) → Accounts heard [] last → (by : End) × LeavesBy now by × Reported (end_text member.number now.calls by) v u
-      → Goes outgoing incoming (λ changes. TurnsFirst incoming reports (seats old.0) (seats mid.0) old.1.0 changes mid.1.0 × Accounts told changes last) (stage server old.0 joined w) (stage served mid.0 joined u)
-  goes_away u last rest (by, ended, reported) = record {
+  pub goes_away : (watches : List Watch) (u : Written) (last : Option (List Report)) → Accounts reported_now [] last → (by : End) × LeavesBy now by × Reported (end_text member.number now.calls by) v u
+      → Goes outgoing incoming (λ changes. TurnsFirst incoming reports watches (seats old.0) (seats mid.0) old.1.0 changes mid.1.0 × Accounts reported changes last) (stage server old.0 joined w) (stage served mid.0 joined u)
+  goes_away watches u last rest (by, ended, written_line) = record {
     changes = leaves key member.number now.calls by ∷ turns key moment turn.0 ∷ [];
     are_changes = (
       between,
@@ -111,21 +115,21 @@ module _ {L : Type 0} (outgoing incoming : L → Option (List ℕ)) (reports : L
         calls_are = refl;
         ended = ended;
         gone = ap (option_map seat_of) c.away.changed;
-        line = take reported.n (end_text member.number now.calls by);
-        part = (reported.n, reported.within, refl);
-        whole = reported.whole;
-        lines_grow = reported.lines_grow;
-        log_grows = subst (λ (s : Bool). Grows v.log (if s then take reported.n (end_text member.number now.calls by) else []) u.log) (reported.shared_stays ∙ shared) reported.log_grows;
-        log_stays = reported.log_stays;
+        line = take written_line.n (end_text member.number now.calls by);
+        part = (written_line.n, written_line.within, refl);
+        whole = written_line.whole;
+        lines_grow = written_line.lines_grow;
+        log_grows = subst (λ (s : Bool). Grows v.log (if s then take written_line.n (end_text member.number now.calls by) else []) u.log) (written_line.shared_stays ∙ shared) written_line.log_grows;
+        log_stays = written_line.log_stays;
         others = λ other differ. ap (option_map seat_of) (c.away.others other differ) ∙ sym (elsewhere other differ);
         joined_stays = refl;
         server_stays = refl;
       },
     );
-    shared_stays = reported.shared_stays ∙ shared;
+    shared_stays = written_line.shared_stays ∙ shared;
     such = (
-      first_turns (seats mid.0) (leaves key member.number now.calls by ∷ turns key moment turn.0 ∷ []) mid.1.0 refl (λ other differ. ap (option_map seat_of) (c.away.others other differ))
-          ([], sym (append-nil mid.1.0), inr (refl, subst (Sleeps incoming reports) (sym (ap (option_map seat_of) c.away.changed)) tt)),
-      accounts_then told heard last (leaves key member.number now.calls by ∷ turns key moment turn.0 ∷ []) [] turn_told rest,
+      first_turns watches (seats mid.0) (leaves key member.number now.calls by ∷ turns key moment turn.0 ∷ []) mid.1.0 refl (λ other differ. ap (option_map seat_of) (c.away.others other differ))
+          ([], sym (append-nil mid.1.0), inr (refl, subst (Sleeps incoming reports (hold_at watches key)) (sym (ap (option_map seat_of) c.away.changed)) tt)),
+      accounts_then reported reported_now last (leaves key member.number now.calls by ∷ turns key moment turn.0 ∷ []) [] turn_reported rest,
     );
   }

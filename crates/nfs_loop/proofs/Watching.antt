@@ -101,6 +101,12 @@ hold_none [] key w e = refl
 hold_none (x ∷ watches) zero w e = e
 hold_none (x ∷ watches) (suc key) w e = hold_none watches key w e
 
+-- the hold that is set
+pub hold_here : (watches : List Watch) (key : ℕ) (w : Watch) → key < length watches → hold_at (set watches key w) key ≡ w.hold
+hold_here [] key w l = absurd (none_below key l)
+hold_here (x ∷ watches) zero w l = refl
+hold_here (x ∷ watches) (suc key) w l = hold_here watches key w (one_less key (length watches) l)
+
 -- what is known of a client but for its hold is another
 pub holds_stay : (watches : List Watch) (key k : ℕ) (w : Watch) → w.hold ≡ hold_at watches key → hold_at (set watches key w) k ≡ hold_at watches k
 holds_stay [] key k w e = refl

@@ -1,5 +1,6 @@
 pub mod Peers
-pub mod Told
-pub mod Telling
+pub mod Reports
+pub mod Reporting
+pub mod Refusing
 pub mod Watching
 pub mod Stages

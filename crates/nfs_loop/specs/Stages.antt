@@ -3,13 +3,17 @@ use Rattle.std.specs.Prelude.{◌≡◌, ◌≢◌, ◌⊎◌, ℕ, ◌+◌, ◌
 use Rattle.std.specs.List.{AllByRecursion}
 use Rattle.std.specs.declared.net.ip_addr.IpAddr.{IpAddr}
 use Rattle.slab.specs.Slab.{Slab, get, Updates, SameValues}
+use Rattle.nfs_exports.specs.declared.addr.Addr.{Addr}
 use Rattle.nfs_attrs.specs.declared.moment.Moment.{Moment}
 use Rattle.nfs_lines.specs.Written.{Written}
 use Rattle.nfs_loop.specs.Peers.{IsAddrOf}
-use Rattle.nfs_loop.specs.Told.{Told, ready, listener_ready, nothing_ready, came, at, since, Hears, Accounts}
+use Rattle.nfs_loop.specs.Reports.{Report, ready, listener_ready, nothing_ready, came, at, since, IsReported, Accounts}
 use Rattle.nfs_loop.specs.declared.member.Member.{Member}
 use Rattle.nfs_loop.specs.declared.watches.Hold.{Hold}
+use Rattle.nfs_loop.specs.declared.watches.Hold.TheVariants.{Lines}
 use Rattle.nfs_loop.specs.declared.watches.Watch.{Watch}
+use Rattle.nfs_loop.specs.declared.refused_peers.RefusedPeer.{RefusedPeer}
+use Rattle.nfs_loop.specs.Refusing.{hold_for}
 use Rattle.nfs_loop.specs.Watching.{watch_at, hold_at, AllStay, ReleasesBy, SomeMayBeHeld}
 use Rattle.nfs_queue.specs.Queues.{is_waiting, with_ready}
 use Rattle.nfs_server.specs.Fits.{Held, History}
@@ -46,35 +50,36 @@ turned (turns key moment bytes ∷ earlier) = turned earlier ++ key ∷ []
 turned (leaves key number calls end ∷ earlier) = turned earlier
 turned (passes ∷ earlier) = turned earlier
 
--- Whoever has its turn and stays sleeps only where it is owed an event or room for lines: replies are pending that the link did not take; all that was received was taken, and the link reported that nothing more was there; or its next record is held.
-abbrev pub Sleeps : {L : Type 0} → (L → Option (List ℕ)) → (L → ℕ → Came → L → Type 0) → Option (Seat L) → Type 0
-Sleeps incoming reports None = Unit {0}
-Sleeps incoming reports (Some seat) = (seat.client.channel.pending ≢ [])
+-- Whoever has its turn and stays sleeps only where it is owed an event or room for lines: replies are pending that the link did not take; all that was received was taken, and the link reported that nothing more was there; or its next record is held, and so is the client, until the log is not full any more.
+abbrev pub Sleeps : {L : Type 0} → (L → Option (List ℕ)) → (L → ℕ → Came → L → Type 0) → Option Hold → Option (Seat L) → Type 0
+Sleeps incoming reports hold None = Unit {0}
+Sleeps incoming reports hold (Some seat) = (seat.client.channel.pending ≢ [])
     ⊎ (((seat.client.chunk ≡ []) × IsExhausted incoming reports seat.client.channel.link)
-    ⊎ ((moment : Moment) × (server : Held) × (full : Bool) × IsHeld moment seat.client server full))
+    ⊎ ((hold ≡ Some Lines) × ((moment : Moment) × (server : Held) × (full : Bool) × IsHeld moment seat.client server full)))
 
 -- it waits again, or it sleeps
-abbrev pub IsAgain : {L : Type 0} → (L → Option (List ℕ)) → (L → ℕ → Came → L → Type 0) → ℕ → List ℕ → Option (Seat L) → Type 0
-IsAgain incoming reports key again seat = (again ≡ key ∷ []) ⊎ ((again ≡ []) × Sleeps incoming reports seat)
+abbrev pub IsAgain : {L : Type 0} → (L → Option (List ℕ)) → (L → ℕ → Came → L → Type 0) → Option Hold → ℕ → List ℕ → Option (Seat L) → Type 0
+IsAgain incoming reports hold key again seat = (again ≡ key ∷ []) ⊎ ((again ≡ []) × Sleeps incoming reports hold seat)
 
 -- all sit as they sat, but for the one of this key
 abbrev pub OthersStay : {L : Type 0} → ℕ → (ℕ → Option (Seat L)) → (ℕ → Option (Seat L)) → Type 0
 OthersStay key was seat = (other : ℕ) → other ≢ key → seat other ≡ was other
 
--- The first of the queue has its turn. It may wait again then, after all others.
-abbrev pub TurnsFirst : {L : Type 0} → (L → Option (List ℕ)) → (L → ℕ → Came → L → Type 0) → (ℕ → Option (Seat L)) → (ℕ → Option (Seat L)) → List ℕ → List Change → List ℕ → Type 0
-TurnsFirst incoming reports was seat [] changes queue = (changes ≡ []) × (queue ≡ [])
-TurnsFirst incoming reports was seat (key ∷ rest) changes queue = (turned changes ≡ key ∷ []) × OthersStay key was seat × ((again : List ℕ) × (queue ≡ rest ++ again) × IsAgain incoming reports key again (seat key))
+-- The first of the queue has its turn. It may wait again then, after all others, or it sleeps, by what is known of the clients then.
+abbrev pub TurnsFirst : {L : Type 0} → (L → Option (List ℕ)) → (L → ℕ → Came → L → Type 0) → List Watch → (ℕ → Option (Seat L)) → (ℕ → Option (Seat L)) → List ℕ → List Change → List ℕ → Type 0
+TurnsFirst incoming reports watches was seat [] changes queue = (changes ≡ []) × (queue ≡ [])
+TurnsFirst incoming reports watches was seat (key ∷ rest) changes queue = (turned changes ≡ key ∷ []) × OthersStay key was seat
+    × ((again : List ℕ) × (queue ≡ rest ++ again) × IsAgain incoming reports (hold_at watches key) key again (seat key))
 
 -- those of these keys that are there and don't sleep wait again, in this order, and nobody else does
-abbrev pub WaitAgain : {L : Type 0} → (L → Option (List ℕ)) → (L → ℕ → Came → L → Type 0) → (ℕ → Option (Seat L)) → List ℕ → List ℕ → Type 0
-WaitAgain incoming reports seat [] queue = queue ≡ []
-WaitAgain incoming reports seat (key ∷ keys) queue = ((rest : List ℕ) × (queue ≡ key ∷ rest) × WaitAgain incoming reports seat keys rest)
-    ⊎ (Sleeps incoming reports (seat key) × WaitAgain incoming reports seat keys queue)
+abbrev pub WaitAgain : {L : Type 0} → (L → Option (List ℕ)) → (L → ℕ → Came → L → Type 0) → List Watch → (ℕ → Option (Seat L)) → List ℕ → List ℕ → Type 0
+WaitAgain incoming reports watches seat [] queue = queue ≡ []
+WaitAgain incoming reports watches seat (key ∷ keys) queue = ((rest : List ℕ) × (queue ≡ key ∷ rest) × WaitAgain incoming reports watches seat keys rest)
+    ⊎ (Sleeps incoming reports (hold_at watches key) (seat key) × WaitAgain incoming reports watches seat keys queue)
 
--- changes by what was told in between, in which nobody has a turn
-abbrev pub WithoutTurns : Option (List Told) → List Change → Option (List Told) → Type 0
-WithoutTurns told changes heard = (turned changes ≡ []) × Accounts told changes heard
+-- changes by what was reported in between, in which nobody has a turn
+abbrev pub WithoutTurns : Option (List Report) → List Change → Option (List Report) → Type 0
+WithoutTurns reported changes reported_now = (turned changes ≡ []) × Accounts reported changes reported_now
 
 -- such changes lead from one stage to the other
 pub record Goes {L : Type 0} (outgoing incoming : L → Option (List ℕ)) (Such : List Change → Type 0) (old new : Stage L) : Type 0 where
@@ -84,13 +89,13 @@ pub record Goes {L : Type 0} (outgoing incoming : L → Option (List ℕ)) (Such
   pub such : Such changes
 
 -- In the midst of a round, with so many turns left: those that waited first have had their turns, and then the rest has, which still waits before all others. Who had its turn waits again after the rest, or sleeps.
-pub record InRound {L : Type 0} (incoming : L → Option (List ℕ)) (reports : L → ℕ → Came → L → Type 0) (seat : ℕ → Option (Seat L)) (first queue : List ℕ) (left : ℕ) (changes : List Change) : Type 0 where
+pub record InRound {L : Type 0} (incoming : L → Option (List ℕ)) (reports : L → ℕ → Came → L → Type 0) (watches : List Watch) (seat : ℕ → Option (Seat L)) (first queue : List ℕ) (left : ℕ) (changes : List Change) : Type 0 where
   pub rest : List ℕ
   pub again : List ℕ
   pub first_is : first ≡ turned changes ++ rest
   pub queue_is : queue ≡ rest ++ again
   pub left_is : length rest ≡ left
-  pub wait_again : WaitAgain incoming reports seat (turned changes) again
+  pub wait_again : WaitAgain incoming reports watches seat (turned changes) again
 
 -- a client of this peer has joined under a key, after so many others
 pub record HasJoined {L : Type 0} (key : ℕ) (peer : IpAddr) (old : Slab (Member L)) (joined : ℕ) (new : Slab (Member L)) (now : ℕ) : Type 0 where
@@ -105,13 +110,22 @@ pub record HasJoined {L : Type 0} (key : ℕ) (peer : IpAddr) (old : Slab (Membe
 abbrev pub JoinsOrNot : {L : Type 0} → ℕ → IpAddr → Slab (Member L) → ℕ → Slab (Member L) → ℕ → Type 0
 JoinsOrNot key peer old joined new now = (SameValues old new × (now ≡ joined)) ⊎ HasJoined key peer old joined new now
 
+-- What is known of a new client: it was heard of when it came, by the clock, and is held where connections from its address have to wait then.
+pub record BeginsToWatch (key : ℕ) (peer : IpAddr) (refused : List RefusedPeer) (reported : Option (List Report)) (watches : List Watch) : Type 0 where
+  pub addr : Addr
+  pub addr_is : IsAddrOf peer (Some addr)
+  pub millis : ℕ
+  pub reported_now : Option (List Report)
+  pub is_reported : IsReported reported (since millis) reported_now
+  pub watch_is : watch_at watches key ≡ record { heard = millis / 1000; hold = hold_for addr millis refused; is_closing = false }
+
 -- the queue once something is reported of a key: its client waits after the others, if there is one, unless it waits already or gets no turn for now
 abbrev pub noted : {M : Type 0} → Option M → Option Hold → ℕ → List ℕ → List ℕ
 noted member None key queue = with_ready member key queue
 noted member (Some hold) key queue = queue
 
 -- whoever was reported ready waits, or gets no turn for now, or is not there
-abbrev pub IsNoted : {M : Type 0} → Slab M → List Watch → List ℕ → Told → Type 0
+abbrev pub IsNoted : {M : Type 0} → Slab M → List Watch → List ℕ → Report → Type 0
 IsNoted members watches queue (ready key) = (get members key ≡ None) ⊎ (IsSome (hold_at watches key) ⊎ (is_waiting key queue ≡ true))
 IsNoted members watches queue listener_ready = Unit {0}
 IsNoted members watches queue nothing_ready = Unit {0}
@@ -120,13 +134,13 @@ IsNoted members watches queue (at moment) = Unit {0}
 IsNoted members watches queue (since millis) = Unit {0}
 
 -- all that waited wait in their order, and after them those of which something was reported
-pub record Notes {M : Type 0} (members : Slab M) (watches : List Watch) (old new : List ℕ) (told heard : Option (List Told)) : Type 0 where
+pub record Notes {M : Type 0} (members : Slab M) (watches : List Watch) (old new : List ℕ) (reported reported_now : Option (List Report)) : Type 0 where
   pub added : List ℕ
   pub after : new ≡ old ++ added
-  pub all_noted : (before : List Told) → told ≡ Some before → (news : List Told) × (heard ≡ Some (news ++ before)) × AllByRecursion (IsNoted members watches new) news
+  pub all_noted : (before : List Report) → reported ≡ Some before → (news : List Report) × (reported_now ≡ Some (news ++ before)) × AllByRecursion (IsNoted members watches new) news
 
--- the newest that was told is that nothing more is ready, or so much was told
-abbrev pub IsAsked : ℕ → List Told → Type 0
+-- the newest that was reported is that nothing more is ready, or so much was reported
+abbrev pub IsAsked : ℕ → List Report → Type 0
 IsAsked most [] = most ≡ 0
 IsAsked most (t ∷ earlier) = (t ≡ nothing_ready) ⊎ (length (t ∷ earlier) ≡ most)
 
@@ -135,8 +149,8 @@ abbrev pub most_asked : ℕ
 most_asked = 1024
 
 -- it was asked what is ready until nothing more was, or so many times
-abbrev pub AsksAll : ℕ → Option (List Told) → Option (List Told) → Type 0
-AsksAll most told heard = (before : List Told) → told ≡ Some before → (news : List Told) × (heard ≡ Some (news ++ before)) × IsAsked most news
+abbrev pub AsksAll : ℕ → Option (List Report) → Option (List Report) → Type 0
+AsksAll most reported reported_now = (before : List Report) → reported ≡ Some before → (news : List Report) × (reported_now ≡ Some (news ++ before)) × IsAsked most news
 
 -- ---- silent clients
 
@@ -155,9 +169,24 @@ abbrev pub OnlySilentLeave : {M : Type 0} → List Watch → List ℕ → Option
 OnlySilentLeave watches queue None seconds old new = (key : ℕ) → get new key ≡ get old key
 OnlySilentLeave watches queue (Some idle) seconds old new = (key : ℕ) → (get new key ≡ get old key) ⊎ ((get new key ≡ None) × ((start : ℕ) × (start + idle ≡ seconds) × IsSilent watches queue start key))
 
--- the same, as the clock told
-abbrev pub OnlySilentLeaveBy : {M : Type 0} → List Watch → List ℕ → Option ℕ → Option (List Told) → Slab M → Slab M → Type 0
-OnlySilentLeaveBy watches queue idle told old new = (millis : ℕ) × (mid : Option (List Told)) × Hears told (since millis) mid × OnlySilentLeave watches queue idle (millis / 1000) old new
+-- Whoever is silent leaves: nobody stays of whom nothing was heard for longer than so many seconds, by this time. Those that wait for a turn stay, and those that are held, since nothing could be heard of them. Where it was looked for silent ones in this second already, the next look comes in another.
+abbrev pub AllSilentLeave : {M : Type 0} → List Watch → List ℕ → Option ℕ → ℕ → ℕ → Slab M → Type 0
+AllSilentLeave watches queue None seconds looked new = Unit {0}
+AllSilentLeave watches queue (Some idle) seconds looked new = seconds ≢ looked → (start : ℕ) → start + idle ≡ seconds → (key : ℕ) → IsSilent watches queue start key → get new key ≡ None
+
+-- when it was looked for silent ones last, once it was looked at this time
+abbrev pub looked_after : Option ℕ → ℕ → ℕ → ℕ
+looked_after None seconds looked = looked
+looked_after (Some idle) seconds looked = seconds
+
+-- Those that are silent leave, and nobody else, by the time that the clock reported.
+pub record SilentLeave {M : Type 0} (watches : List Watch) (queue : List ℕ) (idle : Option ℕ) (looked : ℕ) (reported : Option (List Report)) (looks : ℕ) (old new : Slab M) : Type 0 where
+  pub millis : ℕ
+  pub reported_now : Option (List Report)
+  pub is_reported : IsReported reported (since millis) reported_now
+  pub only : OnlySilentLeave watches queue idle (millis / 1000) old new
+  pub all : AllSilentLeave watches queue idle (millis / 1000) looked new
+  pub looks_is : looks ≡ looked_after idle (millis / 1000) looked
 
 -- ---- the rounds of the loop
 
@@ -170,33 +199,33 @@ abbrev pub schedule : List ℕ → List Watch → Schedule
 schedule queue watches = record { queue = queue; watches = watches }
 
 -- A round: the network is asked what is ready. Those of which something was reported wait after those that waited, unless they get no turn for now; others may have joined; and after them wait those whose hold is over. Then each who waits has one turn, in that order, and at the end it waits again, sleeps or is gone. Only those that had a turn are held who were not before.
-pub record IsRound {L : Type 0} (outgoing incoming : L → Option (List ℕ)) (reports : L → ℕ → Came → L → Type 0) (changes : List Change) (told heard : Option (List Told)) (from to : Schedule) (old new : Stage L) : Type 0 where
+pub record IsRound {L : Type 0} (outgoing incoming : L → Option (List ℕ)) (reports : L → ℕ → Came → L → Type 0) (changes : List Change) (reported reported_now : Option (List Report)) (from to : Schedule) (old new : Stage L) : Type 0 where
   pub are_changes : AreChanges outgoing incoming old.written.shared changes (state old) (state new)
   pub shared_stays : new.written.shared ≡ old.written.shared
-  pub accounts : Accounts told changes heard
-  pub between : Option (List Told)
-  pub reported : List ℕ
-  pub notes : Notes old.members from.watches from.queue reported told between
-  pub asked : AsksAll most_asked told between
+  pub accounts : Accounts reported changes reported_now
+  pub between : Option (List Report)
+  pub ready_queue : List ℕ
+  pub notes : Notes old.members from.watches from.queue ready_queue reported between
+  pub asked : AsksAll most_asked reported between
   pub members : Slab (Member L)
   pub held : List Watch
   pub all_stay : AllStay old.members from.watches members held
   pub full : Bool
-  pub before : Option (List Told)
-  pub after : Option (List Told)
+  pub before : Option (List Report)
+  pub after : Option (List Report)
   pub left : List Watch
   pub first : List ℕ
-  pub releases : ReleasesBy members full before after held left reported first
+  pub releases : ReleasesBy members full before after held left ready_queue first
   pub turned_are : turned changes ≡ first
-  pub wait_again : WaitAgain incoming reports (seats new.members) first to.queue
+  pub wait_again : WaitAgain incoming reports to.watches (seats new.members) first to.queue
   pub some_held : SomeMayBeHeld first left to.watches
   pub log_stays : StaysFailed old.written.broken old.written.log new.written.broken new.written.log
 
 -- one round after another, the newest first: whoever waits or is held at the end of one is so when the next begins
-abbrev pub AreRounds : {L : Type 0} → (L → Option (List ℕ)) → (L → Option (List ℕ)) → (L → ℕ → Came → L → Type 0) → List (List Change) → Option (List Told) → Schedule → Stage L → Option (List Told) → Schedule → Stage L → Type 0
-AreRounds outgoing incoming reports [] told from old heard to new = (new ≡ old) × (heard ≡ told) × (to ≡ from)
-AreRounds {L} outgoing incoming reports (changes ∷ earlier) told from old heard to new = (before : Option (List Told)) × (mid : Schedule) × (between : Stage L)
-    × AreRounds outgoing incoming reports earlier told from old before mid between × IsRound outgoing incoming reports changes before heard mid to between new
+abbrev pub AreRounds : {L : Type 0} → (L → Option (List ℕ)) → (L → Option (List ℕ)) → (L → ℕ → Came → L → Type 0) → List (List Change) → Option (List Report) → Schedule → Stage L → Option (List Report) → Schedule → Stage L → Type 0
+AreRounds outgoing incoming reports [] reported from old reported_now to new = (new ≡ old) × (reported_now ≡ reported) × (to ≡ from)
+AreRounds {L} outgoing incoming reports (changes ∷ earlier) reported from old reported_now to new = (before : Option (List Report)) × (mid : Schedule) × (between : Stage L)
+    × AreRounds outgoing incoming reports earlier reported from old before mid between × IsRound outgoing incoming reports changes before reported_now mid to between new
 
 -- the changes of rounds
 abbrev pub changes_of : List (List Change) → List Change
@@ -204,18 +233,18 @@ changes_of [] = []
 changes_of (changes ∷ earlier) = changes ++ changes_of earlier
 
 -- rounds, and after them changes in which nobody has a turn
-pub record Rounds {L : Type 0} (outgoing incoming : L → Option (List ℕ)) (reports : L → ℕ → Came → L → Type 0) (told : Option (List Told)) (from to : Schedule) (old : Stage L) (changes : List Change) : Type 0 where
+pub record Rounds {L : Type 0} (outgoing incoming : L → Option (List ℕ)) (reports : L → ℕ → Came → L → Type 0) (reported : Option (List Report)) (from to : Schedule) (old : Stage L) (changes : List Change) : Type 0 where
   pub rounds : List (List Change)
-  pub heard : Option (List Told)
+  pub reported_now : Option (List Report)
   pub last : Stage L
-  pub are_rounds : AreRounds outgoing incoming reports rounds told from old heard to last
+  pub are_rounds : AreRounds outgoing incoming reports rounds reported from old reported_now to last
   pub after : List Change
   pub no_turns : turned after ≡ []
   pub changes_are : changes ≡ after ++ changes_of rounds
 
--- What changed, by what was told, is one history and one log, and each client is served as if it were alone. Each round gives one turn to each who waits.
-pub record Lived {L : Type 0} (outgoing incoming : L → Option (List ℕ)) (reports : L → ℕ → Came → L → Type 0) (history : History) (told heard : Option (List Told)) (from to : Schedule) (old new : Stage L) : Type 0 where
+-- What changed, by what was reported, is one history and one log, and each client is served as if it were alone. Each round gives one turn to each who waits.
+pub record Lived {L : Type 0} (outgoing incoming : L → Option (List ℕ)) (reports : L → ℕ → Came → L → Type 0) (history : History) (reported reported_now : Option (List Report)) (from to : Schedule) (old new : Stage L) : Type 0 where
   pub changes : List Change
   pub one_history : IsOneHistory outgoing incoming old.written.shared history changes (state old) (state new)
-  pub accounts : Accounts told changes heard
-  pub rounds : Rounds outgoing incoming reports told from to old changes
+  pub accounts : Accounts reported changes reported_now
+  pub rounds : Rounds outgoing incoming reports reported from to old changes

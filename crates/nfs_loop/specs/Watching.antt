@@ -1,7 +1,7 @@
 -- What is known of clients by their keys, and when those that are held get turns again.
-use Rattle.std.specs.Prelude.{◌≡◌, ◌⊎◌, ◌≢◌, ℕ, ◌+◌, Bool, true, false, not, nat_le, if◌then◌else◌, List, [], ◌∷◌, ◌++◌, Option, Some, None, IsSome, slice_index_or}
+use Rattle.std.specs.Prelude.{◌≡◌, ◌⊎◌, ◌≢◌, ℕ, ◌+◌, ◌<◌, Bool, true, false, not, nat_le, if◌then◌else◌, List, [], ◌∷◌, ◌++◌, length, Option, Some, None, IsSome, slice_index_or}
 use Rattle.slab.specs.Slab.{Slab, get}
-use Rattle.nfs_loop.specs.Told.{Told, since, Hears}
+use Rattle.nfs_loop.specs.Reports.{Report, since, IsReported}
 use Rattle.nfs_loop.specs.declared.watches.Hold.{Hold}
 use Rattle.nfs_loop.specs.declared.watches.Hold.TheVariants.{Lines, Until}
 use Rattle.nfs_loop.specs.declared.watches.Watch.{Watch}
@@ -27,6 +27,10 @@ one_if_held (Some hold) = 1
 abbrev pub held_count : List Watch → ℕ
 held_count [] = 0
 held_count (w ∷ watches) = one_if_held w.hold + held_count watches
+
+-- each that is there stands among those of which something is known, so that it can be held
+abbrev pub AreWatched : {M : Type 0} → Slab M → List Watch → Type 0
+AreWatched members watches = (key : ℕ) → IsSome (get members key) → key < length watches
 
 -- ---- when a hold is over
 
@@ -58,9 +62,9 @@ pub record Releases {M : Type 0} (members : Slab M) (full : Bool) (now : ℕ) (o
   pub no_others : (key : ℕ) → is_waiting key added ≡ true → is_over full now (hold_at old key) ≡ true
 
 -- the same, at the time that the clock reported, where anyone was held
-abbrev pub ReleasesBy : {M : Type 0} → Slab M → Bool → Option (List Told) → Option (List Told) → List Watch → List Watch → List ℕ → List ℕ → Type 0
-ReleasesBy members full told heard old new queue later = ((held_count old ≡ 0) × (new ≡ old) × (later ≡ queue) × (heard ≡ told))
-    ⊎ ((now : ℕ) × Hears told (since now) heard × Releases members full now old new queue later)
+abbrev pub ReleasesBy : {M : Type 0} → Slab M → Bool → Option (List Report) → Option (List Report) → List Watch → List Watch → List ℕ → List ℕ → Type 0
+ReleasesBy members full reported reported_now old new queue later = ((held_count old ≡ 0) × (new ≡ old) × (later ≡ queue) × (reported_now ≡ reported))
+    ⊎ ((now : ℕ) × IsReported reported (since now) reported_now × Releases members full now old new queue later)
 
 -- ---- in a round
 

@@ -1,7 +1,8 @@
 //! How clients leave.
 ghost use Rattle.std.specs.Prelude.{◌≡◌, []};
 ghost use Rattle.nfs_lines.specs.Written.{Reported, written};
-ghost use Rattle.nfs_loop.specs.Told.{Accounts};
+ghost use Rattle.nfs_loop.specs.Refusing.{IsRefusedBy, is_audit_fault};
+ghost use Rattle.nfs_loop.specs.Reports.{Accounts};
 ghost use Rattle.nfs_serving.specs.Service.{LeavesBy, end_text};
 ghost use Rattle.nfs_serving.specs.declared.turn.End.{End};
 
@@ -30,36 +31,53 @@ impl Housekeeping {
         end: End,
     )
         requires ended { LeavesBy member.client end }
-        ensures told { Accounts (N.told net.old) [] (N.told net.new) }
+        ensures reported { Accounts (N.reported net.old) [] (N.reported net.new) }
         ensures watches { self.new.watches ≡ self.old.watches }
+        ensures looked { self.new.looked ≡ self.old.looked }
+        ensures refused { IsRefusedBy (is_audit_fault end) member.addr (N.reported net.old) self.old.refused_peers self.new.refused_peers }
         ensures lines { (by : End) × LeavesBy member.client by
             × Reported (end_text member.number member.client.calls by) (written A.taken C.taken lines.old) (written A.taken C.taken lines.new) }
     {
+        self.refuse_where_denied(net, member.addr, end);
         let end = end_of(net, &member, end);
         say(rt, &member, end);
         self.count_end();
-        self.refuse_where_denied(net, member.addr, end);
         let line = end_line(member.number, member.client.calls(), end);
         lines.report(moment, line.as_slice());
     }
 
     // Counts a connection that has ended, and has one that waits accepted.
     fn count_end(&mut self)
-        ensures { self.new.watches ≡ self.old.watches }
+        ensures watches { self.new.watches ≡ self.old.watches }
+        ensures looked { self.new.looked ≡ self.old.looked }
+        ensures refused { self.new.refused_peers ≡ self.old.refused_peers }
     {
         self.ended = self.ended.saturating_add(1);
         self.retry();
     }
 
     // Where a denied call was refused since its line could not be written, has the next connections from
-    // that address wait.
+    // that address wait. Without memory they don't.
     fn refuse_where_denied<N: Network>(&mut self, net: &mut N, addr: Addr, end: End)
-        ensures told { Accounts (N.told net.old) [] (N.told net.new) }
+        ensures reported { Accounts (N.reported net.old) [] (N.reported net.new) }
         ensures watches { self.new.watches ≡ self.old.watches }
+        ensures looked { self.new.looked ≡ self.old.looked }
+        ensures refused { IsRefusedBy (is_audit_fault end) addr (N.reported net.old) self.old.refused_peers self.new.refused_peers }
     {
-        if end == End::Fault(ServeFault::AuditFault) {
-            self.refused_peers.add(addr, net.millis());
+        if is_audit_fault(end) {
+            let now = net.millis();
+            let _ = self.refused_peers.add(addr, now);
         }
+    }
+}
+
+// Whether a connection ended since a denied call was refused, whose line could not be written.
+fn is_audit_fault(end: End) -> bool
+    ensures { result ≡ is_audit_fault end }
+{
+    match end {
+        End::Fault(ServeFault::AuditFault) => true,
+        End::Fault(_) | End::Closed => false,
     }
 }
 

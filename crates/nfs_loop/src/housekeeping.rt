@@ -1,15 +1,16 @@
 //! What a service keeps beside its clients.
-ghost use Rattle.std.specs.Prelude.{◌≡◌, ◌≢◌, ◌+◌, ℕ, [], Some, IfSome};
+ghost use Rattle.std.specs.Prelude.{◌≡◌, ◌⊎◌, ◌+◌, ◌/◌, ◌<◌, ℕ, [], false, Some, IfNone, IfSome, slice_set};
 ghost use Rattle.nfs_lines.specs.Written.{PassedOn, written};
-ghost use Rattle.nfs_loop.specs.Told.{Accounts};
-ghost use Rattle.nfs_loop.specs.Watching.{hold_at};
+ghost use Rattle.nfs_loop.specs.Refusing.{hold_for};
+ghost use Rattle.nfs_loop.specs.Reports.{Accounts};
+ghost use Rattle.nfs_loop.specs.Stages.{looked_after};
 
 use crate::limits::Limits;
 use crate::lines_reported::LinesReported;
 use crate::network::Network;
 use crate::refused_peers::RefusedPeers;
 use crate::saver::Saver;
-use crate::watches::{Hold, Watches};
+use crate::watches::Watches;
 use log::Log;
 use nfs_exports::addr::Addr;
 use nfs_lines::line_out::LineOut;
@@ -47,8 +48,8 @@ pub(crate) struct Housekeeping {
     pub(crate) waiting: Waiting,
     /// How many connections have ended.
     pub(crate) ended: u64,
-    // When silent clients were last looked for.
-    looked: u64,
+    /// When silent clients were last looked for.
+    pub(crate) looked: u64,
     /// The addresses whose next connections have to wait.
     pub(crate) refused_peers: RefusedPeers,
     /// Whether the tree may have changed since it was saved.
@@ -107,7 +108,9 @@ impl Housekeeping {
 
     /// Has a connection accepted that could not be accepted before.
     pub(crate) fn retry(&mut self)
-        ensures { self.new.watches ≡ self.old.watches }
+        ensures watches { self.new.watches ≡ self.old.watches }
+        ensures looked { self.new.looked ≡ self.old.looked }
+        ensures refused { self.new.refused_peers ≡ self.old.refused_peers }
     {
         if self.waiting == Waiting::Refused {
             self.waiting = Waiting::Some;
@@ -118,6 +121,8 @@ impl Housekeeping {
     /// for such ones, so many seconds after the service began: once a second.
     pub(crate) fn silent_since(&mut self, seconds: u64) -> Option<u64>
         ensures since { IfSome result (λ since. (idle : ℕ) × (self.old.limits.idle ≡ Some idle) × (since + idle ≡ seconds)) }
+        ensures none { IfNone result ((idle : ℕ) → self.old.limits.idle ≡ Some idle → (seconds ≡ self.old.looked) ⊎ (seconds < idle)) }
+        ensures looked { self.new.looked ≡ looked_after self.old.limits.idle seconds self.old.looked }
         ensures watches { self.new.watches ≡ self.old.watches }
     {
         let idle = self.limits.idle?;
@@ -128,15 +133,13 @@ impl Housekeeping {
         seconds.checked_sub(idle)
     }
 
-    /// Begins to watch a new client from this address, which gets no turn for now where a denied call from
-    /// there was refused lately.
+    /// Begins to watch a new client from this address, which was heard of at this time, in milliseconds
+    /// since the service began. It is held where connections from there have to wait, and only there.
     pub(crate) fn watch(&mut self, key: usize, addr: Addr, millis: u64)
-        ensures others { (other : ℕ) → other ≢ key → hold_at self.new.watches other ≡ hold_at self.old.watches other }
+        ensures { self.new.watches ≡ slice_set self.old.watches key
+            (record { heard = millis / 1000; hold = hold_for addr millis self.old.refused_peers; is_closing = false }) }
     {
-        let hold = match self.refused_peers.until(addr, millis) {
-            Some(until) => Some(Hold::Until(until)),
-            None => None,
-        };
+        let hold = self.refused_peers.hold(addr, millis);
         self.watches.begin(key, millis / 1_000, hold);
     }
 
@@ -149,7 +152,7 @@ impl Housekeeping {
         lines: &mut Lines<'_, A, C>,
         saver: &mut S,
     )
-        ensures told { Accounts (N.told net.old) [] (N.told net.new) }
+        ensures reported { Accounts (N.reported net.old) [] (N.reported net.new) }
         ensures watches { self.new.watches ≡ self.old.watches }
         ensures lines { PassedOn (written A.taken C.taken lines.old) (written A.taken C.taken lines.new) }
     {
@@ -167,7 +170,7 @@ impl Housekeeping {
         saver: &mut S,
         seconds: u64,
     )
-        ensures told { Accounts (N.told net.old) [] (N.told net.new) }
+        ensures reported { Accounts (N.reported net.old) [] (N.reported net.new) }
         ensures watches { self.new.watches ≡ self.old.watches }
     {
         if let Some(every) = self.limits.save_every

@@ -1,9 +1,9 @@
 //! How clients join.
-ghost use Rattle.std.specs.Prelude.{◌≡◌, ◌+◌, ◌<◌, ◌^◌, []};
+ghost use Rattle.std.specs.Prelude.{◌≡◌, ◌+◌, ◌<◌, ◌^◌, [], OnOk};
 ghost use Rattle.std.specs.Net.Socket.{socket_ip};
-ghost use Rattle.nfs_loop.specs.Stages.{Goes, JoinsOrNot, WithoutTurns, stage};
-ghost use Rattle.nfs_loop.specs.Told.{Accounts, CameFrom, Hears, came};
-ghost use Rattle.nfs_loop.specs.Watching.{AllStay};
+ghost use Rattle.nfs_loop.specs.Stages.{BeginsToWatch, Goes, JoinsOrNot, WithoutTurns, stage};
+ghost use Rattle.nfs_loop.specs.Reports.{Accounts, CameFrom, IsReported, came};
+ghost use Rattle.nfs_loop.specs.Watching.{AllStay, AreWatched};
 ghost use Rattle.nfs_lines.specs.Written.{Written};
 ghost use Rattle.nfs_server.specs.Fits.{Held};
 
@@ -31,10 +31,13 @@ enum Refusal {
 impl<L: Link + Drop> Service<L> {
     /// Accepts the connections that wait.
     pub(crate) fn accept_some<R: Log, N: Network<Stream = L>>(&mut self, rt: &R, net: &mut N)
-        ensures goes { (server : Held) → (lines : Written) → Goes L.outgoing L.incoming (λ changes. WithoutTurns (N.told net.old) changes (N.told net.new))
+        requires watched { AreWatched self.old.clients.0 self.old.housekeeping.watches }
+        ensures goes { (server : Held) → (lines : Written) → Goes L.outgoing L.incoming
+            (λ changes. WithoutTurns (N.reported net.old) changes (N.reported net.new))
             (stage server self.old.clients.0 self.old.joined lines) (stage server self.new.clients.0 self.new.joined lines) }
         ensures queue { self.new.clients.1.0 ≡ self.old.clients.1.0 }
         ensures stay { AllStay self.old.clients.0 self.old.housekeeping.watches self.new.clients.0 self.new.housekeeping.watches }
+        ensures watched { AreWatched self.new.clients.0 self.new.housekeeping.watches }
     {
         let mut left = EVENTS;
         while left > 0 && self.housekeeping.waiting == Waiting::Some {
@@ -45,10 +48,13 @@ impl<L: Link + Drop> Service<L> {
 
     // Accepts a connection, if one waits and there may be more.
     fn accept<R: Log, N: Network<Stream = L>>(&mut self, rt: &R, net: &mut N)
-        ensures goes { (server : Held) → (lines : Written) → Goes L.outgoing L.incoming (λ changes. WithoutTurns (N.told net.old) changes (N.told net.new))
+        requires watched { AreWatched self.old.clients.0 self.old.housekeeping.watches }
+        ensures goes { (server : Held) → (lines : Written) → Goes L.outgoing L.incoming
+            (λ changes. WithoutTurns (N.reported net.old) changes (N.reported net.new))
             (stage server self.old.clients.0 self.old.joined lines) (stage server self.new.clients.0 self.new.joined lines) }
         ensures queue { self.new.clients.1.0 ≡ self.old.clients.1.0 }
         ensures stay { AllStay self.old.clients.0 self.old.housekeeping.watches self.new.clients.0 self.new.housekeeping.watches }
+        ensures watched { AreWatched self.new.clients.0 self.new.housekeeping.watches }
     {
         if self.housekeeping.limits.connections == Some(self.joined) {
             net.close_listener();
@@ -82,11 +88,14 @@ impl<L: Link + Drop> Service<L> {
         peer: SocketAddr,
     )
         requires key { key ≡ self.old.clients.0.vacant_key }
+        requires fits { key + 1 < 2 ^ 64 }
         requires joined { self.old.joined + 1 < 2 ^ 64 }
+        requires watched { AreWatched self.old.clients.0 self.old.housekeeping.watches }
         ensures joins { JoinsOrNot key (socket_ip peer) self.old.clients.0 self.old.joined self.new.clients.0 self.new.joined }
         ensures queue { self.new.clients.1.0 ≡ self.old.clients.1.0 }
         ensures stay { AllStay self.old.clients.0 self.old.housekeeping.watches self.new.clients.0 self.new.housekeeping.watches }
-        ensures told { Accounts (N.told net.old) [] (N.told net.new) }
+        ensures reported { Accounts (N.reported net.old) [] (N.reported net.new) }
+        ensures watched { AreWatched self.new.clients.0 self.new.housekeeping.watches }
     {
         if self.clients.len() >= self.housekeeping.limits.clients {
             warn!(rt; "{peer}: closed: there are already {} clients", self.housekeeping.limits.clients);
@@ -107,11 +116,16 @@ impl<L: Link + Drop> Service<L> {
         peer: SocketAddr,
     ) -> Result<(), Refusal>
         requires key { key ≡ self.old.clients.0.vacant_key }
+        requires fits { key + 1 < 2 ^ 64 }
         requires joined { self.old.joined + 1 < 2 ^ 64 }
+        requires watched { AreWatched self.old.clients.0 self.old.housekeeping.watches }
         ensures joins { JoinsOrNot key (socket_ip peer) self.old.clients.0 self.old.joined self.new.clients.0 self.new.joined }
         ensures queue { self.new.clients.1.0 ≡ self.old.clients.1.0 }
         ensures stay { AllStay self.old.clients.0 self.old.housekeeping.watches self.new.clients.0 self.new.housekeeping.watches }
-        ensures told { Accounts (N.told net.old) [] (N.told net.new) }
+        ensures reported { Accounts (N.reported net.old) [] (N.reported net.new) }
+        ensures watch { OnOk result (BeginsToWatch key (socket_ip peer) self.old.housekeeping.refused_peers
+            (N.reported net.old) self.new.housekeeping.watches) }
+        ensures watched { AreWatched self.new.clients.0 self.new.housekeeping.watches }
     {
         let Some(addr) = addr_of(peer) else {
             return Err(Refusal::Address);

@@ -1,8 +1,8 @@
-//! What a service hears: a network and a clock.
+//! What reports to a service: a network and a clock.
 ghost use Rattle.std.specs.Prelude.{◌≡◌, ◌+◌, ◌<◌, ◌^◌, ℕ, List, Option};
 ghost use Rattle.std.specs.Net.Socket.{socket_ip};
-ghost use Rattle.nfs_loop.specs.Told.{Told, at, since, Hears};
-ghost use Rattle.nfs_loop.specs.Telling.{TellsReady, TellsAccepted};
+ghost use Rattle.nfs_loop.specs.Reports.{Report, at, since, IsReported};
+ghost use Rattle.nfs_loop.specs.Reporting.{ReportsReady, ReportsAccepted};
 
 use nfs_attrs::moment::Moment;
 use nfs_xdr::link::Link;
@@ -47,34 +47,34 @@ pub trait Network {
     /// The stream of a connection.
     type Stream: Link;
 
-    /// What was told, the newest first, where that is known.
-    ghost told: { Self → Option (List Told) };
+    /// What was reported, the newest first, where that is known.
+    ghost reported: { Self → Option (List Report) };
 
     /// Waits until something is ready, for so long at most.
     fn wait(&mut self, timeout: Option<Duration>) -> io::Result<()>
-        ensures { told self.new ≡ told self.old };
+        ensures { reported self.new ≡ reported self.old };
 
     /// Something that is ready and was not handed out yet.
     fn ready(&mut self) -> Option<Ready>
-        ensures { TellsReady (told self.old) result (told self.new) };
+        ensures { ReportsReady (reported self.old) result (reported self.new) };
 
     /// The next connection. What is reported of it from now on has this key.
     fn accept(&mut self, key: usize) -> Accepted<Self::Stream>
         requires { key + 1 < 2 ^ 64 }
-        ensures { TellsAccepted (told self.old) key result (told self.new) };
+        ensures { ReportsAccepted (reported self.old) key result (reported self.new) };
 
     /// Accepts no more connections.
     fn close_listener(&mut self)
-        ensures { told self.new ≡ told self.old };
+        ensures { reported self.new ≡ reported self.old };
 
     /// Whether its peer has reset this stream's connection, in place of ending its side.
     fn was_reset(&self, stream: &Self::Stream) -> bool;
 
     /// The moment of now.
     fn now(&mut self) -> Moment
-        ensures { Hears (told self.old) (at result) (told self.new) };
+        ensures { IsReported (reported self.old) (at result) (reported self.new) };
 
     /// How many milliseconds the service has run.
     fn millis(&mut self) -> u64
-        ensures { Hears (told self.old) (since result) (told self.new) };
+        ensures { IsReported (reported self.old) (since result) (reported self.new) };
 }

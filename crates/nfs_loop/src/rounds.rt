@@ -4,8 +4,8 @@ ghost use Rattle.slab.specs.Slab.{get};
 ghost use Rattle.nfs_lines.specs.Queued.{is_full};
 ghost use Rattle.nfs_lines.specs.Written.{written};
 ghost use Rattle.nfs_loop.specs.Stages.{AsksAll, Goes, Notes, TurnsFirst, WaitAgain, most_asked, noted, seats, stage, turned};
-ghost use Rattle.nfs_loop.specs.Told.{Accounts};
-ghost use Rattle.nfs_loop.specs.Watching.{FirstMayBeHeld, ReleasesBy, ReleasesOne, SomeMayBeHeld, hold_at};
+ghost use Rattle.nfs_loop.specs.Reports.{Accounts};
+ghost use Rattle.nfs_loop.specs.Watching.{AreWatched, FirstMayBeHeld, ReleasesBy, ReleasesOne, SomeMayBeHeld, hold_at};
 
 use crate::housekeeping::Waiting;
 use crate::network::{EVENTS, Network, Ready};
@@ -23,11 +23,14 @@ impl<L: Link + Drop> Service<L> {
     /// Has the clients wait for a turn of which the network reports something, after those that wait,
     /// unless they get none for now.
     pub(crate) fn note<N: Network>(&mut self, net: &mut N)
+        requires watched { AreWatched self.old.clients.0 self.old.housekeeping.watches }
         ensures members { self.new.clients.0 ≡ self.old.clients.0 }
         ensures joined { self.new.joined ≡ self.old.joined }
-        ensures notes { Notes self.old.clients.0 self.old.housekeeping.watches self.old.clients.1.0 self.new.clients.1.0 (N.told net.old) (N.told net.new) }
+        ensures notes { Notes self.old.clients.0 self.old.housekeeping.watches self.old.clients.1.0 self.new.clients.1.0
+            (N.reported net.old) (N.reported net.new) }
         ensures holds { (key : ℕ) → hold_at self.new.housekeeping.watches key ≡ hold_at self.old.housekeeping.watches key }
-        ensures all { AsksAll most_asked (N.told net.old) (N.told net.new) }
+        ensures all { AsksAll most_asked (N.reported net.old) (N.reported net.new) }
+        ensures watched { AreWatched self.new.clients.0 self.new.housekeeping.watches }
     {
         self.housekeeping.retry();
         let mut left = EVENTS;
@@ -43,10 +46,13 @@ impl<L: Link + Drop> Service<L> {
 
     // Has a client wait for a turn, unless it gets none for now.
     fn note_client(&mut self, key: usize, is_closing: bool)
+        requires watched { AreWatched self.old.clients.0 self.old.housekeeping.watches }
         ensures members { self.new.clients.0 ≡ self.old.clients.0 }
         ensures joined { self.new.joined ≡ self.old.joined }
         ensures holds { (k : ℕ) → hold_at self.new.housekeeping.watches k ≡ hold_at self.old.housekeeping.watches k }
-        ensures queue { self.new.clients.1.0 ≡ noted (get self.old.clients.0 key) (hold_at self.old.housekeeping.watches key) key self.old.clients.1.0 }
+        ensures queue { self.new.clients.1.0 ≡ noted (get self.old.clients.0 key)
+            (hold_at self.old.housekeeping.watches key) key self.old.clients.1.0 }
+        ensures watched { AreWatched self.new.clients.0 self.new.housekeeping.watches }
     {
         let hold = self.housekeeping.watches.hold(key);
         if is_closing {
@@ -64,10 +70,12 @@ impl<L: Link + Drop> Service<L> {
         net: &mut N,
         lines: &Lines<'_, A, C>,
     )
+        requires watched { AreWatched self.old.clients.0 self.old.housekeeping.watches }
         ensures members { self.new.clients.0 ≡ self.old.clients.0 }
         ensures joined { self.new.joined ≡ self.old.joined }
-        ensures releases { ReleasesBy self.old.clients.0 (is_full lines.now.denied.queue) (N.told net.old) (N.told net.new)
+        ensures releases { ReleasesBy self.old.clients.0 (is_full lines.now.denied.queue) (N.reported net.old) (N.reported net.new)
             self.old.housekeeping.watches self.new.housekeeping.watches self.old.clients.1.0 self.new.clients.1.0 }
+        ensures watched { AreWatched self.new.clients.0 self.new.housekeeping.watches }
     {
         if !self.housekeeping.watches.has_held() {
             return;
@@ -83,10 +91,12 @@ impl<L: Link + Drop> Service<L> {
 
     // The same of the client of a key.
     fn release_one(&mut self, key: usize, is_full: bool, now: u64)
+        requires watched { AreWatched self.old.clients.0 self.old.housekeeping.watches }
         ensures members { self.new.clients.0 ≡ self.old.clients.0 }
         ensures joined { self.new.joined ≡ self.old.joined }
         ensures releases { ReleasesOne self.old.clients.0 is_full now key
             self.old.housekeeping.watches self.new.housekeeping.watches self.old.clients.1.0 self.new.clients.1.0 }
+        ensures watched { AreWatched self.new.clients.0 self.new.housekeeping.watches }
     {
         if is_over(self.housekeeping.watches.hold(key), is_full, now) {
             self.housekeeping.watches.set_hold(key, None);
@@ -103,11 +113,15 @@ impl<L: Link + Drop> Service<L> {
         net: &mut N,
         lines: &mut Lines<'_, A, C>,
     )
-        ensures goes { Goes L.outgoing L.incoming (λ changes. (turned changes ≡ self.old.clients.1.0) × Accounts (N.told net.old) changes (N.told net.new))
+        requires watched { AreWatched self.old.clients.0 self.old.housekeeping.watches }
+        ensures goes { Goes L.outgoing L.incoming
+            (λ changes. (turned changes ≡ self.old.clients.1.0) × Accounts (N.reported net.old) changes (N.reported net.new))
             (stage server.old self.old.clients.0 self.old.joined (written A.taken C.taken lines.old))
             (stage server.new self.new.clients.0 self.new.joined (written A.taken C.taken lines.new)) }
         ensures holds { SomeMayBeHeld self.old.clients.1.0 self.old.housekeeping.watches self.new.housekeeping.watches }
-        ensures again { WaitAgain L.incoming L.reports (seats self.new.clients.0) self.old.clients.1.0 self.new.clients.1.0 }
+        ensures again { WaitAgain L.incoming L.reports self.new.housekeeping.watches (seats self.new.clients.0)
+            self.old.clients.1.0 self.new.clients.1.0 }
+        ensures watched { AreWatched self.new.clients.0 self.new.housekeeping.watches }
     {
         let mut left = self.clients.waiting();
         while left > 0 {
@@ -124,10 +138,14 @@ impl<L: Link + Drop> Service<L> {
         net: &mut N,
         lines: &mut Lines<'_, A, C>,
     )
-        ensures goes { Goes L.outgoing L.incoming (λ changes. TurnsFirst L.incoming L.reports (seats self.old.clients.0) (seats self.new.clients.0) self.old.clients.1.0 changes self.new.clients.1.0 × Accounts (N.told net.old) changes (N.told net.new))
+        requires watched { AreWatched self.old.clients.0 self.old.housekeeping.watches }
+        ensures goes { Goes L.outgoing L.incoming
+            (λ changes. TurnsFirst L.incoming L.reports self.new.housekeeping.watches (seats self.old.clients.0) (seats self.new.clients.0)
+            self.old.clients.1.0 changes self.new.clients.1.0 × Accounts (N.reported net.old) changes (N.reported net.new))
             (stage server.old self.old.clients.0 self.old.joined (written A.taken C.taken lines.old))
             (stage server.new self.new.clients.0 self.new.joined (written A.taken C.taken lines.new)) }
         ensures holds { FirstMayBeHeld self.old.clients.1.0 self.old.housekeeping.watches self.new.housekeeping.watches }
+        ensures watched { AreWatched self.new.clients.0 self.new.housekeeping.watches }
     {
         let Some((key, mut member)) = self.clients.next() else {
             return;

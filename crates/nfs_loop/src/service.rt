@@ -3,7 +3,8 @@ ghost use Rattle.std.specs.Prelude.{◌≡◌, ℕ, List, None, IfOk};
 ghost use Rattle.slab.specs.Slab.{get};
 ghost use Rattle.nfs_lines.specs.Written.{PassedOn, written};
 ghost use Rattle.nfs_loop.specs.Stages.{Goes, IsRound, Lived, Rounds, schedule, stage};
-ghost use Rattle.nfs_loop.specs.Told.{Accounts};
+ghost use Rattle.nfs_loop.specs.Reports.{Accounts};
+ghost use Rattle.nfs_loop.specs.Watching.{AreWatched};
 ghost use Rattle.nfs_server.specs.Fits.{History, Fits};
 ghost use Rattle.nfs_serving.specs.Service.{Change};
 
@@ -44,6 +45,7 @@ impl<L: Link + Drop> Service<L> {
     pub fn new(alloc: Global, limits: Limits) -> Result<Service<L>, AllocError>
         ensures members { IfOk result (λ service. (key : ℕ) → get service.clients.0 key ≡ None) }
         ensures joined { IfOk result (λ service. service.joined ≡ 0) }
+        ensures watched { IfOk result (λ service. AreWatched service.clients.0 service.housekeeping.watches) }
     {
         Ok(Service {
             alloc,
@@ -68,11 +70,13 @@ impl<L: Link + Drop> Service<L> {
         lines: &mut Lines<'_, A, C>,
         saver: &mut S,
     ) -> io::Result<()>
+        requires watched { AreWatched self.old.clients.0 self.old.housekeeping.watches }
         ensures lived { ((key : ℕ) → get self.old.clients.0 key ≡ None) → (history : History) → Fits history server.old
-            → Lived L.outgoing L.incoming L.reports history (N.told net.old) (N.told net.new)
+            → Lived L.outgoing L.incoming L.reports history (N.reported net.old) (N.reported net.new)
             (schedule self.old.clients.1.0 self.old.housekeeping.watches) (schedule self.new.clients.1.0 self.new.housekeeping.watches)
             (stage server.old self.old.clients.0 self.old.joined (written A.taken C.taken lines.old))
             (stage server.new self.new.clients.0 self.new.joined (written A.taken C.taken lines.new)) }
+        ensures watched { AreWatched self.new.clients.0 self.new.housekeeping.watches }
     {
         service_is_one_history::<L>();
         self.run(rt, server, net, lines, saver)
@@ -87,13 +91,15 @@ impl<L: Link + Drop> Service<L> {
         lines: &mut Lines<'_, A, C>,
         saver: &mut S,
     ) -> io::Result<()>
+        requires watched { AreWatched self.old.clients.0 self.old.housekeeping.watches }
         ensures goes { Goes L.outgoing L.incoming
-            (λ changes. Rounds L.outgoing L.incoming L.reports (N.told net.old)
+            (λ changes. Rounds L.outgoing L.incoming L.reports (N.reported net.old)
             (schedule self.old.clients.1.0 self.old.housekeeping.watches) (schedule self.new.clients.1.0 self.new.housekeeping.watches)
             (stage server.old self.old.clients.0 self.old.joined (written A.taken C.taken lines.old)) changes
-            × Accounts (N.told net.old) changes (N.told net.new))
+            × Accounts (N.reported net.old) changes (N.reported net.new))
             (stage server.old self.old.clients.0 self.old.joined (written A.taken C.taken lines.old))
             (stage server.new self.new.clients.0 self.new.joined (written A.taken C.taken lines.new)) }
+        ensures watched { AreWatched self.new.clients.0 self.new.housekeeping.watches }
     {
         let mut left = u64::MAX;
         while left > 0 && !self.housekeeping.is_done() {
@@ -116,10 +122,12 @@ impl<L: Link + Drop> Service<L> {
         lines: &mut Lines<'_, A, C>,
         saver: &mut S,
     )
-        ensures round { (changes : List Change) × IsRound L.outgoing L.incoming L.reports changes (N.told net.old) (N.told net.new)
+        requires watched { AreWatched self.old.clients.0 self.old.housekeeping.watches }
+        ensures round { (changes : List Change) × IsRound L.outgoing L.incoming L.reports changes (N.reported net.old) (N.reported net.new)
             (schedule self.old.clients.1.0 self.old.housekeeping.watches) (schedule self.new.clients.1.0 self.new.housekeeping.watches)
             (stage server.old self.old.clients.0 self.old.joined (written A.taken C.taken lines.old))
             (stage server.new self.new.clients.0 self.new.joined (written A.taken C.taken lines.new)) }
+        ensures watched { AreWatched self.new.clients.0 self.new.housekeeping.watches }
     {
         self.note(net);
         self.accept_some(rt, net);
@@ -135,7 +143,7 @@ impl<L: Link + Drop> Service<L> {
         net: &mut N,
         lines: &mut Lines<'_, A, C>,
     ) -> io::Result<()>
-        ensures told { N.told net.new ≡ N.told net.old }
+        ensures reported { N.reported net.new ≡ N.reported net.old }
         ensures lines { PassedOn (written A.taken C.taken lines.old) (written A.taken C.taken lines.new) }
     {
         let mut left = LAST_TRIES;

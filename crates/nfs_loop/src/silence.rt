@@ -1,7 +1,9 @@
 //! Connections on which nothing comes.
-ghost use Rattle.std.specs.Prelude.{◌≡◌};
+ghost use Rattle.std.specs.Prelude.{◌≡◌, None};
+ghost use Rattle.slab.specs.Slab.{get};
 ghost use Rattle.nfs_lines.specs.Written.{written};
-ghost use Rattle.nfs_loop.specs.Stages.{Goes, LeavesIfSilent, OnlySilentLeaveBy, WithoutTurns, stage};
+ghost use Rattle.nfs_loop.specs.Stages.{Goes, IsSilent, LeavesIfSilent, SilentLeave, WithoutTurns, stage};
+ghost use Rattle.nfs_loop.specs.Watching.{AreWatched};
 ghost use Rattle.nfs_server.specs.Fits.{Held};
 
 use crate::network::Network;
@@ -13,19 +15,24 @@ use nfs_serving::turn::End;
 use nfs_xdr::link::Link;
 
 impl<L: Link + Drop> Service<L> {
-    /// Ends the connections on which nothing came for too long. It looks for them once a second.
+    /// Ends the connections on which nothing came for too long, all of them, but for those of clients that
+    /// wait for a turn or are held. It looks for them once a second.
     pub(crate) fn end_silent<R: Log, N: Network<Stream = L>, A: LineOut, C: LineOut>(
         &mut self,
         rt: &R,
         net: &mut N,
         lines: &mut Lines<'_, A, C>,
     )
-        ensures goes { (server : Held) → Goes L.outgoing L.incoming (λ changes. WithoutTurns (N.told net.old) changes (N.told net.new))
+        requires watched { AreWatched self.old.clients.0 self.old.housekeeping.watches }
+        ensures goes { (server : Held) → Goes L.outgoing L.incoming
+            (λ changes. WithoutTurns (N.reported net.old) changes (N.reported net.new))
             (stage server self.old.clients.0 self.old.joined (written A.taken C.taken lines.old))
             (stage server self.new.clients.0 self.new.joined (written A.taken C.taken lines.new)) }
         ensures queue { self.new.clients.1.0 ≡ self.old.clients.1.0 }
         ensures watches { self.new.housekeeping.watches ≡ self.old.housekeeping.watches }
-        ensures silent { OnlySilentLeaveBy self.old.housekeeping.watches self.old.clients.1.0 self.old.housekeeping.limits.idle (N.told net.old) self.old.clients.0 self.new.clients.0 }
+        ensures silent { SilentLeave self.old.housekeeping.watches self.old.clients.1.0 self.old.housekeeping.limits.idle
+            self.old.housekeeping.looked (N.reported net.old) self.new.housekeeping.looked self.old.clients.0 self.new.clients.0 }
+        ensures watched { AreWatched self.new.clients.0 self.new.housekeeping.watches }
     {
         let millis = net.millis();
         let Some(since) = self.housekeeping.silent_since(millis / 1_000) else {
@@ -48,12 +55,17 @@ impl<L: Link + Drop> Service<L> {
         key: usize,
         since: u64,
     )
-        ensures goes { (server : Held) → Goes L.outgoing L.incoming (λ changes. WithoutTurns (N.told net.old) changes (N.told net.new))
+        requires watched { AreWatched self.old.clients.0 self.old.housekeeping.watches }
+        ensures goes { (server : Held) → Goes L.outgoing L.incoming
+            (λ changes. WithoutTurns (N.reported net.old) changes (N.reported net.new))
             (stage server self.old.clients.0 self.old.joined (written A.taken C.taken lines.old))
             (stage server self.new.clients.0 self.new.joined (written A.taken C.taken lines.new)) }
         ensures queue { self.new.clients.1.0 ≡ self.old.clients.1.0 }
         ensures silent { LeavesIfSilent self.old.housekeeping.watches self.old.clients.1.0 key since self.old.clients.0 self.new.clients.0 }
+        ensures leaves { IsSilent self.old.housekeeping.watches self.old.clients.1.0 since key → get self.new.clients.0 key ≡ None }
+        ensures looked { self.new.housekeeping.looked ≡ self.old.housekeeping.looked }
         ensures watches { self.new.housekeeping.watches ≡ self.old.housekeeping.watches }
+        ensures watched { AreWatched self.new.clients.0 self.new.housekeeping.watches }
     {
         if !self.housekeeping.watches.is_silent(key, since)
             || self.housekeeping.watches.hold(key).is_some()

@@ -87,6 +87,7 @@ impl Watches {
     /// Makes room for the client of a key.
     pub fn make_room(&mut self, key: usize) -> Result<(), AllocError>
         ensures room { OnOk result (key < length self.new) }
+        ensures longer { length self.old ≤ length self.new }
         ensures stay { (k : ℕ) → watch_at self.new k ≡ watch_at self.old k }
     {
         lengthen(&mut self.watches, key)
@@ -142,7 +143,8 @@ impl Watches {
     /// Where something was heard of the client of a key, so many seconds after the service began, keeps
     /// when.
     pub fn hear(&mut self, key: usize, seconds: u64, is_heard: bool)
-        ensures heard { self.new ≡ (if is_heard then slice_set self.old key (record (watch_at self.old key) { heard = seconds }) else self.old) }
+        ensures heard { self.new ≡ (if is_heard
+            then slice_set self.old key (record (watch_at self.old key) { heard = seconds }) else self.old) }
         ensures holds { (k : ℕ) → hold_at self.new k ≡ hold_at self.old k }
     {
         if is_heard {
@@ -213,14 +215,12 @@ fn recount(held: usize, was: Option<Hold>, now: Option<Hold>) -> usize
 // Makes a list longer than this key.
 fn lengthen(watches: &mut Vec<Watch>, key: usize) -> Result<(), AllocError>
     ensures room { OnOk result (key < vec_len watches.new) }
+    ensures longer { vec_len watches.old ≤ vec_len watches.new }
     ensures stay { (k : ℕ) → watch_at watches.new.items k ≡ watch_at watches.old.items k }
     ensures count { held_count watches.new.items ≡ held_count watches.old.items }
 {
     while watches.len() <= key {
-        match watches.push(nothing_known()) {
-            Ok(()) => {}
-            Err(_) => return Err(AllocError),
-        }
+        watches.push(nothing_known())?;
     }
     Ok(())
 }

@@ -1,5 +1,5 @@
 //! Members by keys, and a queue of those that wait for a turn.
-ghost use Rattle.std.specs.Prelude.{length, ◌≡◌, ◌≢◌, ◌⊎◌, ◌↔◌, ◌<◌, ◌≤◌, ℕ, [], ◌∷◌, ◌++◌, None, Some, true, false, IsTrue, IsNone, IfNone, IfOk, OnOk, OnErr, OnSome, IfSome, IsSome, ◌+◌};
+ghost use Rattle.std.specs.Prelude.{length, ◌≡◌, ◌≢◌, ◌⊎◌, ◌↔◌, ◌<◌, ◌≤◌, ℕ, [], ◌∷◌, ◌++◌, None, Some, true, false, IsTrue, IsNone, IfNone, IfOk, OnOk, OnErr, OnSome, IfSome, IsSome, ◌+◌, ◌^◌};
 ghost use Rattle.slab.specs.Slab.{get, slab_len, Updates, SameValues, HasRoomFor};
 ghost use Rattle.nfs_queue.specs.Queues.{AreApart, is_waiting, with_ready, with_key, IsCalled};
 
@@ -70,7 +70,8 @@ impl<M: Drop> Clients<M> {
 
     /// Above all keys.
     pub fn keys(&self) -> usize
-        ensures { result ≡ self.now.1.1 }
+        ensures value { result ≡ self.now.1.1 }
+        ensures above { (key : ℕ) → IsSome (get self.now.0 key) → key < result }
     {
         self.flags.len()
     }
@@ -82,8 +83,10 @@ impl<M: Drop> Clients<M> {
         self.members.vacant_key()
     }
 
-    /// Adds a member, which doesn't wait. Refused, and the member dropped, where there is no memory.
+    /// Adds a member, which doesn't wait, where its key is not the greatest number that there is. Refused,
+    /// and the member dropped, where there is no memory.
     pub fn add(&mut self, member: M) -> Result<(), AllocError>
+        requires { self.old.0.vacant_key + 1 < 2 ^ 64 }
         ensures added { OnOk result (Updates self.old.0 self.new.0 self.old.0.vacant_key (Some member)) }
         ensures vacant { OnOk result (get self.old.0 self.old.0.vacant_key ≡ None) }
         ensures len { OnOk result (slab_len self.new.0 ≡ slab_len self.old.0 + 1) }
@@ -97,6 +100,7 @@ impl<M: Drop> Clients<M> {
 
     // Makes room for one more.
     fn make_room(&mut self) -> Result<(), AllocError>
+        requires { self.old.0.vacant_key + 1 < 2 ^ 64 }
         ensures room { OnOk result (HasRoomFor self.new.0 1) }
         ensures within { OnOk result (self.new.0.vacant_key < self.new.1.1) }
         ensures members { self.new.0 ≡ record self.old.0 { capacity = self.new.0.capacity } }
@@ -106,9 +110,6 @@ impl<M: Drop> Clients<M> {
         let key = self.members.vacant_key();
         if key < self.flags.len() {
             return Ok(());
-        }
-        if key == usize::MAX {
-            return Err(AllocError);
         }
         self.queue.reserve(key + 1)?;
         self.flags.resize(key + 1, false)

@@ -66,7 +66,7 @@ impl<'a, R: Net + Clock + Log> TcpNetwork<'a, R> {
 impl<R: Net + Clock + Log> Network for TcpNetwork<'_, R> {
     type Stream = Socket;
 
-    ghost told = { λ n. None };
+    ghost reported = { λ n. None };
 
     fn wait(&mut self, timeout: Option<Duration>) -> io::Result<()> {
         match self.poll.poll(&mut self.events, timeout) {

@@ -1,7 +1,18 @@
-use Rattle.std.proofs.Common.{refl}
-use Rattle.nfs_loop.specs.Told.{since}
-use Rattle.nfs_loop.proofs.Telling.{accounts_one}
+use Rattle.std.proofs.Common.{◌≡◌, ◌⊎◌, Result, Ok, Err, OnOk, OnErr, true, inl, inr, refl, sym, subst, ◌∙◌}
+use Rattle.nfs_loop.specs.Refusing.{IsRefusedBy, is_audit_fault, others_waiting, with_refused}
+use Rattle.nfs_loop.specs.Reports.{since}
+use Rattle.nfs_loop.proofs.Reporting.{accounts_one}
 use Rattle.nfs_loop.proofs.housekeeping.Housekeeping.refuse_where_denied.Goals as goal
 
-pub returns-then-eq : goal.returns-then-eq
-returns-then-eq g c = record { told = accounts_one _ _ (since c.millis.result) c.millis.ensures; watches = refl }
+one_of : {X E P Q : Type 0} (r : Result X E) → OnOk r P → OnErr r Q → P ⊎ Q
+one_of (Ok x) p q = inl p
+one_of (Err e) p q = inr q
+
+pub returns-then-is_audit_fault : goal.returns-then-is_audit_fault
+returns-then-is_audit_fault g c = record {
+  reported = accounts_one _ _ (since c.millis-now.result) c.millis-now.ensures;
+  watches = refl;
+  looked = refl;
+  refused = subst (λ b. IsRefusedBy b c.args.addr (g.N.Network.reported c.args.net.now) c.args.self.now.refused_peers c.add.new.self) (sym c.if-is_audit_fault.true ∙ c.is_audit_fault.ensures)
+      (c.millis-now.result, _, c.millis-now.ensures, one_of c.add.result c.add.ensures.ok c.add.ensures.err);
+}

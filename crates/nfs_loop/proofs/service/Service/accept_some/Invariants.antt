@@ -1,15 +1,16 @@
 use Rattle.std.proofs.Common.{◌≡◌}
 use Rattle.nfs_lines.specs.Written.{Written}
 use Rattle.nfs_loop.specs.Stages.{stage, Goes, WithoutTurns}
-use Rattle.nfs_loop.specs.Watching.{AllStay}
+use Rattle.nfs_loop.specs.Watching.{AllStay, AreWatched}
 use Rattle.nfs_server.specs.Fits.{Held}
 use Rattle.nfs_loop.proofs.service.Service.accept_some.Given as goal
 
 abbrev pub invariant-loop-left : goal.invariant-loop-left
 invariant-loop-left g l = record {
-  goes : (server : Held) → (lines : Written) → Goes g.L.Link.outgoing g.L.Link.incoming (λ changes. WithoutTurns (g.N.Network.told l.fn.net) changes (g.N.Network.told l.net))
+  goes : (server : Held) → (lines : Written) → Goes g.L.Link.outgoing g.L.Link.incoming (λ changes. WithoutTurns (g.N.Network.reported l.fn.net) changes (g.N.Network.reported l.net))
       (stage server l.fn.self.clients.0 l.fn.self.joined lines) (stage server l.self.clients.0 l.self.joined lines);
   queue : l.self.clients.1.0 ≡ l.fn.self.clients.1.0;
+  watched : AreWatched l.self.clients.0 l.self.housekeeping.watches;
   stay : AllStay l.fn.self.clients.0 l.fn.self.housekeeping.watches l.self.clients.0 l.self.housekeeping.watches;
 }
 

@@ -4,7 +4,7 @@ use Rattle.nfs_loop.proofs.service.Service.finish.Given as goal
 
 abbrev pub invariant-loop-left : goal.invariant-loop-left
 invariant-loop-left g l = record {
-  told : g.N.Network.told l.net ≡ g.N.Network.told l.fn.net;
+  reported : g.N.Network.reported l.net ≡ g.N.Network.reported l.fn.net;
   lines : PassedOn (written g.A.LineOut.taken g.C.LineOut.taken l.fn.lines) (written g.A.LineOut.taken g.C.LineOut.taken l.lines);
 }
 

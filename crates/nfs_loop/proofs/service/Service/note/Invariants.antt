@@ -1,6 +1,6 @@
 use Rattle.std.proofs.Common.{◌≡◌, ℕ}
 use Rattle.nfs_loop.specs.Stages.{Notes}
-use Rattle.nfs_loop.specs.Watching.{hold_at}
+use Rattle.nfs_loop.specs.Watching.{AreWatched, hold_at}
 use Rattle.nfs_loop.proofs.Asking.{AsksSome}
 use Rattle.nfs_loop.proofs.service.Service.note.Given as goal
 
@@ -9,8 +9,9 @@ invariant-loop-left g l = record {
   members : l.self.clients.0 ≡ l.fn.self.clients.0;
   joined : l.self.joined ≡ l.fn.self.joined;
   holds : (k : ℕ) → hold_at l.self.housekeeping.watches k ≡ hold_at l.fn.self.housekeeping.watches k;
-  notes : Notes l.fn.self.clients.0 l.fn.self.housekeeping.watches l.fn.self.clients.1.0 l.self.clients.1.0 (g.N.Network.told l.fn.net) (g.N.Network.told l.net);
-  asked : AsksSome 1024 l.left (g.N.Network.told l.fn.net) (g.N.Network.told l.net);
+  watched : AreWatched l.self.clients.0 l.self.housekeeping.watches;
+  notes : Notes l.fn.self.clients.0 l.fn.self.housekeeping.watches l.fn.self.clients.1.0 l.self.clients.1.0 (g.N.Network.reported l.fn.net) (g.N.Network.reported l.net);
+  asked : AsksSome 1024 l.left (g.N.Network.reported l.fn.net) (g.N.Network.reported l.net);
 }
 
 abbrev pub decreases-loop-left : goal.decreases-loop-left

@@ -10,6 +10,7 @@ pub loop-left-init : goal.loop-left-init
 loop-left-init g c = record {
   members = refl;
   joined = refl;
+  watched = c.requires.watched;
   releasing = releasing_begins c.args.self.now.clients.0 c.is_full-is_full.result c.millis-now.result c.args.self.now.housekeeping.watches c.args.self.now.clients.1.0 c.keys-left.result c.keys-left.ensures;
 }
 
@@ -17,6 +18,7 @@ pub loop-left-preserved : goal.loop-left-preserved
 loop-left-preserved g c = record {
   members = c.release_one.ensures.members ∙ c.loop-left.invariant.members;
   joined = c.release_one.ensures.joined ∙ c.loop-left.invariant.joined;
+  watched = c.release_one.ensures.watched;
   releasing = releasing_on c.args.self.now.clients.0 c.is_full-is_full.result c.millis-now.result c.args.self.now.housekeeping.watches c.args.self.now.clients.1.0
       c.loop-left.self.housekeeping.watches c.release_one.new.self.housekeeping.watches c.loop-left.self.clients.1.0 c.release_one.new.self.clients.1.0 c.loop-left.left (c.loop-left.left - 1) (one_before c.loop-left.left c.loop-left-test.true) c.loop-left.invariant.releasing
       (subst (λ m. ReleasesOne m c.is_full-is_full.result c.millis-now.result (c.loop-left.left - 1) c.loop-left.self.housekeeping.watches c.release_one.new.self.housekeeping.watches c.loop-left.self.clients.1.0 c.release_one.new.self.clients.1.0) c.loop-left.invariant.members c.release_one.ensures.releases);

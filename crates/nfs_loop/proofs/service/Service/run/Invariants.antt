@@ -1,15 +1,17 @@
 use Rattle.std.specs.Prelude.{List}
 use Rattle.nfs_lines.specs.Written.{written}
 use Rattle.nfs_loop.specs.Stages.{schedule, stage, AreRounds}
+use Rattle.nfs_loop.specs.Watching.{AreWatched}
 use Rattle.nfs_loop.proofs.service.Service.run.Given as goal
 use Rattle.nfs_serving.specs.Service.{Change}
 
 abbrev pub invariant-loop-left : goal.invariant-loop-left
 invariant-loop-left g l = record {
-  rounds : (rounds : List (List Change)) × AreRounds g.L.Link.outgoing g.L.Link.incoming g.L.Link.reports rounds (g.N.Network.told l.fn.net) (schedule l.fn.self.clients.1.0 l.fn.self.housekeeping.watches)
+  rounds : (rounds : List (List Change)) × AreRounds g.L.Link.outgoing g.L.Link.incoming g.L.Link.reports rounds (g.N.Network.reported l.fn.net) (schedule l.fn.self.clients.1.0 l.fn.self.housekeeping.watches)
       (stage l.fn.server l.fn.self.clients.0 l.fn.self.joined (written g.A.LineOut.taken g.C.LineOut.taken l.fn.lines))
-      (g.N.Network.told l.net) (schedule l.self.clients.1.0 l.self.housekeeping.watches)
+      (g.N.Network.reported l.net) (schedule l.self.clients.1.0 l.self.housekeeping.watches)
       (stage l.server l.self.clients.0 l.self.joined (written g.A.LineOut.taken g.C.LineOut.taken l.lines));
+  watched : AreWatched l.self.clients.0 l.self.housekeeping.watches;
 }
 
 abbrev pub decreases-loop-left : goal.decreases-loop-left

@@ -10,4 +10,5 @@ returns g c = record {
     accounts = c.run.ensures.goes.such.1;
     rounds = c.run.ensures.goes.such.0;
   };
+  watched = c.run.ensures.watched;
 }

@@ -1,9 +1,9 @@
--- What is told, one thing after another.
+-- What is reported, one thing after another.
 use Rattle.std.proofs.Common.{◌≡◌, List, [], ◌∷◌, ◌++◌, Option, Some, sym, ap, ◌∙◌, append_assoc}
-use Rattle.nfs_loop.specs.Told.{Told, came, at, Hears, AreBy, Accounts}
+use Rattle.nfs_loop.specs.Reports.{Report, came, at, IsReported, AreBy, Accounts}
 use Rattle.nfs_serving.specs.Service.{Change, joins, turns, leaves, passes}
 
-by_more : (more news : List Told) (changes : List Change) → AreBy news changes → AreBy (more ++ news) changes
+by_more : (more news : List Report) (changes : List Change) → AreBy news changes → AreBy (more ++ news) changes
 by_more more news [] a = tt
 by_more more news (joins key number addr ∷ earlier) a = (
   more ++ a.0,
@@ -11,7 +11,7 @@ by_more more news (joins key number addr ∷ earlier) a = (
   record {
     peer = a.2.peer;
     addr_is = a.2.addr_is;
-    told = ap (λ l. more ++ l) a.2.told ∙ sym (append_assoc more a.0 (came key a.2.peer ∷ a.1));
+    reported = ap (λ l. more ++ l) a.2.reported ∙ sym (append_assoc more a.0 (came key a.2.peer ∷ a.1));
   },
   a.3,
 )
@@ -19,7 +19,7 @@ by_more more news (turns key moment bytes ∷ earlier) a = (more ++ a.0, a.1, ap
 by_more more news (leaves key number calls end ∷ earlier) a = by_more more news earlier a
 by_more more news (passes ∷ earlier) a = by_more more news earlier a
 
-by_then : (first second : List Told) (earlier later : List Change) → AreBy first earlier → AreBy second later → AreBy (second ++ first) (later ++ earlier)
+by_then : (first second : List Report) (earlier later : List Change) → AreBy first earlier → AreBy second later → AreBy (second ++ first) (later ++ earlier)
 by_then first second earlier [] a b = by_more second first earlier a
 by_then first second earlier (joins key number addr ∷ later) a b = (
   b.0,
@@ -27,7 +27,7 @@ by_then first second earlier (joins key number addr ∷ later) a b = (
   record {
     peer = b.2.peer;
     addr_is = b.2.addr_is;
-    told = ap (λ l. l ++ first) b.2.told ∙ append_assoc b.0 (came key b.2.peer ∷ b.1) first;
+    reported = ap (λ l. l ++ first) b.2.reported ∙ append_assoc b.0 (came key b.2.peer ∷ b.1) first;
   },
   by_then first b.1 earlier later a b.3,
 )
@@ -36,18 +36,18 @@ by_then first second earlier (turns key moment bytes ∷ later) a b =
 by_then first second earlier (leaves key number calls end ∷ later) a b = by_then first second earlier later a b
 by_then first second earlier (passes ∷ later) a b = by_then first second earlier later a b
 
-pub accounts_then : (a b c : Option (List Told)) (earlier later : List Change) → Accounts a earlier b → Accounts b later c → Accounts a (later ++ earlier) c
+pub accounts_then : (a b c : Option (List Report)) (earlier later : List Change) → Accounts a earlier b → Accounts b later c → Accounts a (later ++ earlier) c
 accounts_then a b c earlier later f g before e =
     let x = f before e in
     let y = g (x.0 ++ before) x.1 in
     (y.0 ++ x.0, y.1 ∙ ap Some (sym (append_assoc y.0 x.0 before)), by_then x.0 y.0 earlier later x.2 y.2)
 
-pub accounts_none : (a : Option (List Told)) → Accounts a [] a
+pub accounts_none : (a : Option (List Report)) → Accounts a [] a
 accounts_none a before e = ([], e, tt)
 
--- one thing told, by which nothing changes
-pub accounts_one : (a b : Option (List Told)) (t : Told) → Hears a t b → Accounts a [] b
-accounts_one a b t hear before e = (t ∷ [], hear before e, tt)
+-- one thing reported, by which nothing changes
+pub accounts_one : (a b : Option (List Report)) (t : Report) → IsReported a t b → Accounts a [] b
+accounts_one a b t report before e = (t ∷ [], report before e, tt)
 
-pub accounts_same : (a b : Option (List Told)) → b ≡ a → Accounts a [] b
+pub accounts_same : (a b : Option (List Report)) → b ≡ a → Accounts a [] b
 accounts_same a b same before e = ([], same ∙ e, tt)
