@@ -84,7 +84,7 @@ impl Writer<'_> {
         let alloc = self.alloc;
         let volumes = self.tree.volumes();
         if volumes != 1 {
-            self.done(directory, fs::create_dir(rt, directory))?;
+            self.with_path(directory, fs::create_dir(rt, directory))?;
         }
         for index in 0..volumes {
             let Some(volume) = self.tree.volume(index) else {
@@ -120,7 +120,7 @@ impl Writer<'_> {
             }
             match fs::create_dir(rt, path.as_str()) {
                 Err(error) if error.kind() == io::ErrorKind::AlreadyExists => {}
-                made => self.done(path.as_str(), made)?,
+                made => self.with_path(path.as_str(), made)?,
             }
             path.push('/')?;
             path.push_str(name)?;
@@ -184,7 +184,7 @@ impl Writer<'_> {
         if attributes.file_type != FileType::Directory && attributes.nlink > 1 {
             if let Some(first) = self.first_paths.get(&attributes.fileid) {
                 let linked = fs::hard_link(rt, first.as_str(), path.as_str());
-                return self.done(path.as_str(), linked);
+                return self.with_path(path.as_str(), linked);
             }
             self.first_paths.insert(attributes.fileid, path.clone()?)?;
         }
@@ -203,20 +203,20 @@ impl Writer<'_> {
     ) -> Result<(), ExtractFault> {
         match content {
             Content::Directory => self.make_dir(rt, path),
-            Content::Link(text) => self.done(path, symlink(rt, text, path)),
+            Content::Link(text) => self.with_path(path, symlink(rt, text, path)),
             Content::Bytes(size) => {
-                self.done(path, write_file(rt, path, self.tree, number, size))
+                self.with_path(path, write_file(rt, path, self.tree, number, size))
             }
         }
     }
 
     fn make_dir<R: Files<File = File>>(&self, rt: &R, path: &str) -> Result<(), ExtractFault> {
         let made = DirBuilder::new().mode(NEW_DIR_MODE).create(rt, path);
-        self.done(path, made)
+        self.with_path(path, made)
     }
 
-    // What the system did at a path.
-    fn done(&self, path: &str, written: io::Result<()>) -> Result<(), ExtractFault> {
+    // What the system did, and where it is a fault at which path.
+    fn with_path(&self, path: &str, written: io::Result<()>) -> Result<(), ExtractFault> {
         match written {
             Ok(()) => Ok(()),
             Err(error) => Err(cannot_write(self.alloc, path, error)),
@@ -231,7 +231,7 @@ impl Writer<'_> {
                 continue;
             };
             let path = place.path.as_str();
-            self.done(path, set_attributes(rt, path, &attributes))?;
+            self.with_path(path, set_attributes(rt, path, &attributes))?;
         }
         Ok(())
     }
