@@ -108,8 +108,10 @@ fn refuse_larger(alloc: Global, head: &Head<'_>, survey: &Survey) -> Result<(), 
     ensures takes { OnOk result (Takes (room_for head.now (extent_of survey.now.found.items)) (extent_of survey.now.found.items)) }
     ensures refuses { IfErr result (Refuses (room_for head.now (extent_of survey.now.found.items)) (extent_of survey.now.found.items)) }
 {
-    let found = survey.extent(alloc)?;
-    check_extent(room_for(head, found), found)
+    match survey.extent(alloc) {
+        Ok(found) => check_extent(room_for(head, found), found),
+        Err(error) => Err(Fault::Memory(error)),
+    }
 }
 
 // Whether a volume takes what was found.
