@@ -37,6 +37,11 @@ pub enum Reported {
 }
 
 impl From<AllocError> for Reported {
+    ghost use Rattle.std.specs.Prelude.{◌≡◌};
+    ghost use Rattle.nfs_command_line.specs.declared.words.Reported.TheVariants.{Memory};
+
+    ghost from_gives = { λ _ reported. reported ≡ Memory };
+
     fn from(_error: AllocError) -> Reported {
         Reported::Memory
     }
