@@ -28,9 +28,9 @@ use std::random::RandomSource;
 use std::rt::Files;
 use std::time::Clock;
 
-/// Serves a description or a directory: says where it is listened, and serves clients until as many connections have
-/// ended as there may be. The tree that they leave is saved where the words ask for it, also where a
-/// fault ends the service once it has begun. The status is 2 where a word is faulty.
+/// Serves a description or a directory: prints the address that it listens on, and serves clients until as
+/// many connections have ended as there may be. The tree that they leave is saved where the words ask for
+/// it, also where a fault ends the service once it has begun. The status is 2 where a word is faulty.
 pub(crate) fn serve_tree<R>(
     rt: &R,
     alloc: Global,
