@@ -157,5 +157,9 @@ rm "$disk/pipe" && touch "$disk/more"
 more=$(root_handle)
 [ -n "$more" ] && [ "$more" != "$apart" ]
 ok $? "with another path in it, it has others"
+rm "$disk/more" && mkdir "$disk/more"
+turned=$(root_handle)
+[ -n "$turned" ] && [ "$turned" != "$more" ]
+ok $? "where a file has become a directory, it has others"
 
 plan

@@ -1,6 +1,8 @@
 -- The key of a life of a server of a directory.
 use Rattle.std.specs.Prelude.{ℕ, List, [], ◌∷◌, ◌++◌, Option, Some, None, codes, decimal, drop, string_bytes}
 use Rattle.nfs_disk.specs.declared.found.Found.{Found}
+use Rattle.nfs_disk.specs.declared.found.Kind.{Kind}
+use Rattle.nfs_disk.specs.declared.found.Kind.TheVariants.{Directory, Regular, Link}
 use Rattle.nfs_handles.specs.declared.number.Number.{Number}
 use Rattle.nfs_lives.specs.Paths.{life_key, rows_of}
 use Rattle.nfs_lives.specs.Rows.{HasTaken}
@@ -13,9 +15,15 @@ abbrev pub number_text : Option Number → List ℕ
 number_text (Some number) = decimal number.0
 number_text None = codes "-"
 
--- a path, and the number that it got, as a line names a path and another
+-- a directory, a regular file or a symbolic link
+abbrev pub kind_text : Kind → List ℕ
+kind_text Directory = codes "dir-"
+kind_text Regular = codes "file-"
+kind_text Link = codes "link-"
+
+-- a path, with what it is and the number that it got, as a line names a path and another
 abbrev pub numbered_line : Found → Option Number → List ℕ
-numbered_line one number = codes "hard " ++ name_text (string_bytes one.path) ++ codes " " ++ number_text number
+numbered_line one number = codes "hard " ++ name_text (string_bytes one.path) ++ codes " " ++ kind_text one.kind ++ number_text number
 
 abbrev pub numbered_lines : List Found → List (Option Number) → List (List ℕ)
 numbered_lines [] numbers = []

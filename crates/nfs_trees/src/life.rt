@@ -5,7 +5,7 @@ ghost use Rattle.nfs_trees.specs.Lives.{Takes, key_of, numbered_line, numbered_l
 ghost use Rattle.nfs_trees.specs.Lives as spec;
 ghost use Rattle.nfs_words.specs.Texts.{Puts};
 
-use nfs_disk::found::Found;
+use nfs_disk::found::{Found, Kind};
 use nfs_handles::number::Number;
 use nfs_lives::path_digest::PathDigest;
 use nfs_text::lines::Lines;
@@ -13,8 +13,8 @@ use nfs_words::text::Text;
 use std::alloc::{AllocError, Global};
 
 /// The key for the handles of a life of the server with this key, by the first lines of its directory's
-/// description, and by what was found in it with the number that each got. So a handle of another life,
-/// in which a path had another number, has another key.
+/// description, and by what was found in it: each path with what stands there and the number that it got.
+/// So a handle of another life, in which a path had another number or was of another kind, has another key.
 pub(crate) fn life_key(
     alloc: Global,
     key: [u8; 8],
@@ -68,8 +68,19 @@ fn line_of(alloc: Global, one: &Found, number: Option<Number>) -> Result<Vec<u8>
     line.put(b"hard ");
     line.put_name(one.path.as_bytes());
     line.put(b" ");
+    line.put(word_of(one.kind));
     put_number(&mut line, number);
     line.into_bytes()
+}
+
+fn word_of(kind: Kind) -> &'static [u8]
+    ensures { result.now ≡ spec.kind_text kind }
+{
+    match kind {
+        Kind::Directory => b"dir-",
+        Kind::Regular => b"file-",
+        Kind::Link => b"link-",
+    }
 }
 
 fn put_number(line: &mut Text, number: Option<Number>)

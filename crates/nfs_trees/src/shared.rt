@@ -36,8 +36,8 @@ pub struct SharedDirectory {
 impl SharedDirectory {
     /// The directory of this name. Its key is the one that is given, or without one that of the
     /// directory's device and number on disk, which are the same each time. `CannotRead` where there is no
-    /// such directory, `Sharing` where the words don't fit, or where more was found than its volume takes, before
-    /// a file is read; `Memory`.
+    /// such directory; `Sharing` where the words don't fit, or where more was found than its volume takes,
+    /// before a file is read; `Memory`.
     pub fn read<R: Files + AllocGlobal>(
         rt: &R,
         alloc: Global,
