@@ -17,10 +17,11 @@ _nfs3d() {
     fi
     case ${COMP_WORDS[1]}:$word in
     check:-*) COMPREPLY=($(compgen -W "--mount --export --bytes --files --chown --strict --all --help" -- "$word")) ;;
-    serve:-*) COMPREPLY=($(compgen -W "--mount --export --bytes --files --chown --strict --listen --port --connections --clients --idle --cache --audit --audit-failed --audit-skip --times --names --save --save-every --key --verbose --help" -- "$word")) ;;
+    serve:-*) COMPREPLY=($(compgen -W "--mount --export --bytes --files --chown --strict --listen --port --register --connections --clients --idle --cache --audit --audit-failed --audit-skip --times --names --save --save-every --key --verbose --help" -- "$word")) ;;
     describe:-*) COMPREPLY=($(compgen -W "--mount --export --bytes --files --chown --strict --key --help" -- "$word")) ;;
     replay:-*) COMPREPLY=($(compgen -W "--mount --export --bytes --files --chown --cache --save --key --decode --names --help" -- "$word")) ;;
-    why:-* | exports:-* | extract:-*) COMPREPLY=($(compgen -W "--mount --export --bytes --files --chown --help" -- "$word")) ;;
+    why:-*) COMPREPLY=($(compgen -W "--mount --export --bytes --files --chown --quiet --help" -- "$word")) ;;
+    exports:-* | extract:-*) COMPREPLY=($(compgen -W "--mount --export --bytes --files --chown --help" -- "$word")) ;;
     *:-*) COMPREPLY=($(compgen -W "--help" -- "$word")) ;;
     *) COMPREPLY=($(compgen -f -- "$word")) ;;
     esac

@@ -18,4 +18,12 @@ grep -v '^\(reply\|deny\) ' "$work/out" >"$work/words"
 golden tests/ask/replies.words "$work/words" && quiet && ended 0
 ok $? "--decode prints a reply of each procedure in words"
 
+# A line that ends with CR and LF: the last word takes in the CR.
+for words in "stat /srv" "read /srv/n" "list /srv"; do
+    printf 'ask 10.0.0.1 100 0 %s\r\n' "$words" >"$work/script"
+    run replay examples/e.tree "$work/script"
+    ended 1 && tail -n 1 "$work/err" | grep -q "script:1:$((20 + ${#words})): a carriage return stands here; end lines with LF alone, not with CR and LF$"
+    ok $? "a carriage return at the end of an ask line: $words"
+done
+
 plan

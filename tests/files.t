@@ -8,6 +8,9 @@ null="0000002a 00000000 00000002 000186a3 00000003 00000000 00000000 00000000 00
 run replay examples/e.tree - <examples/read.script
 same examples/read.out "$work/out"
 ok $? "replay of a script from standard input"
+run replay - - <examples/e.tree
+ended 2 && grep -q "TREE and SCRIPT can't both be standard input" "$work/err"
+ok $? "replay refuses two texts from standard input"
 run --version
 grep -qx 'nfs3d [0-9]*\.[0-9]*\.[0-9]*' "$work/out" && ended 0
 ok $? "--version prints the version"

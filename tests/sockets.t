@@ -103,13 +103,19 @@ serving tests/unread/one.tree
 ok $? "the server does not warn where it listens to this machine alone"
 
 serving examples/e.tree
-echo "nfs3d: network fault: 127.0.0.1:$port: Address already in use (os error 98)" >"$work/wanted"
+printf 'nfs3d: network fault: 127.0.0.1:%s: Address already in use (os error 98)\n  another program listens there; --port names another port\n' "$port" >"$work/wanted"
 run serve examples/e.tree --port "$port"
 brings /dev/null "$work/wanted" 3
 ok $? "a port that is taken"
 run serve examples/e.tree --listen nowhere
-ended 2
+ended 2 && grep -q 'it is not an IPv4 or IPv6 address' "$work/err"
 ok $? "--listen refuses a word that is no address"
+run serve examples/e.tree --listen 127.0.0.1:2049
+ended 2 && grep -q 'it has a port, which --port gives' "$work/err"
+ok $? "--listen refuses an address with a port, and says where the port goes"
+run serve examples/e.tree --listen 192.0.2.1 --port 0
+ended 3 && grep -q '^  this machine doesn.t have that address; --listen names another$' "$work/err"
+ok $? "an address that this machine doesn't have"
 echo "800000180000002a0000000100000000000000000000000000000000" >"$work/wanted"
 run self examples/e.tree
 brings "$work/wanted" /dev/null 0

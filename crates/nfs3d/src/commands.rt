@@ -70,7 +70,7 @@ where
         Some(Invocation::Exports(words)) => print_exports(rt, alloc, words.tree()),
         Some(Invocation::Replay(words)) => replay_files(rt, alloc, words),
         Some(Invocation::Serve(words)) => serve_tree(rt, alloc, words),
-        Some(Invocation::Describe(words)) => Ok(describe_directory(rt, alloc, words)?),
+        Some(Invocation::Describe(words)) => describe_directory(rt, alloc, words),
         Some(Invocation::Extract(words)) => extract_tree(rt, alloc, words),
         Some(Invocation::SelfCall(words)) => call_self(rt, alloc, words.tree()),
         None => Ok(ExitCode::SUCCESS),

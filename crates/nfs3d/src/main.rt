@@ -3,6 +3,7 @@
 
 mod commands;
 mod line_files;
+mod registration;
 mod saver;
 mod self_calling;
 mod serve;

@@ -1,5 +1,6 @@
 //! Serving over TCP.
 use crate::line_files::{audit_file, output, wording_of};
+use crate::registration::Registration;
 use crate::saver::ServedSaver;
 use log::sink::Console;
 use log::{Level, Log, Logged};
@@ -84,7 +85,7 @@ fn serve_and_save<R: Files<File = File> + Print + Eprint + Net + Clock + RandomS
 ) -> Result<ExitCode, Diagnostic> {
     let served = Served::listen(rt, alloc, address, words)?;
     let out = output(rt, alloc)?;
-    let done = match words.audit() {
+    match words.audit() {
         Some(name) => {
             let audit = audit_file(rt, alloc, name)?;
             let lines = Lines::new(alloc, wording_of(words), audit, Some(out));
@@ -94,25 +95,31 @@ fn serve_and_save<R: Files<File = File> + Print + Eprint + Net + Clock + RandomS
             let lines = Lines::alone(alloc, wording_of(words), out);
             run_with(served, rt, server, lines, copies)
         }
-    };
-    copies.save_last(rt, alloc, server, done)
+    }
 }
 
-// Serves with these lines, which are let go then.
+// Serves with these lines, which are let go then, and then saves. The portmapper knows of the service as long as it
+// lasts; where it can't be told, nothing is served or saved.
 fn run_with<R, A, C>(
     served: Served,
     rt: &R,
     server: &mut Server,
     lines: Lines<'_, A, C>,
     copies: &Copies<'_>,
-) -> Result<(), Fault>
+) -> Result<ExitCode, Diagnostic>
 where
     R: Files + Eprint + Net + Clock + RandomSource,
     A: LineOut + Drop,
     C: LineOut + Drop,
 {
     let mut lines = lines;
-    served.run(rt, server, &mut lines, copies)
+    let alloc = served.alloc;
+    let registration = served.register(rt)?;
+    let done = served.run(rt, server, &mut lines, copies);
+    if let Some(registration) = registration {
+        registration.remove(rt);
+    }
+    copies.save_last(rt, alloc, server, done)
 }
 
 // The address that is listened at; none, which is reported, where a word is faulty.
@@ -124,15 +131,15 @@ fn address_of<R: Eprint>(rt: &R, words: Serve<'_, '_>) -> Option<IpAddr> {
         return None;
     }
     let listen = words.listen();
-    match listen.parse::<IpAddr>() {
-        Ok(ip) => Some(ip),
-        Err(_) => {
-            let _ = eprintln!(rt;
-                "error: invalid value '{listen}' for '--listen <ADDRESS>': it is not an IPv4 or IPv6 address"
-            );
-            None
-        }
+    if let Ok(ip) = listen.parse::<IpAddr>() {
+        return Some(ip);
     }
+    let reason = match listen.parse::<SocketAddr>() {
+        Ok(_) => "it has a port, which --port gives",
+        Err(_) => "it is not an IPv4 or IPv6 address",
+    };
+    let _ = eprintln!(rt; "error: invalid value '{listen}' for '--listen <ADDRESS>': {reason}");
+    None
 }
 
 // Where it is listened, and how much is taken on.
@@ -143,6 +150,7 @@ struct Served {
     limits: Limits,
     listener: TcpListener,
     level: Level,
+    is_registered: bool,
 }
 
 impl Served {
@@ -152,10 +160,10 @@ impl Served {
         alloc: Global,
         address: SocketAddr,
         words: Serve<'_, '_>,
-    ) -> Result<Served, Fault> {
+    ) -> Result<Served, Diagnostic> {
         let listener = match TcpListener::bind(rt, address) {
             Ok(listener) => listener,
-            Err(error) => return Err(Fault::Network { address, error }),
+            Err(error) => return Err(Diagnostic::of_listening(alloc, address, error)),
         };
         let limits = Limits {
             connections: words.connections(),
@@ -174,7 +182,24 @@ impl Served {
             limits,
             listener,
             level,
+            is_registered: words.is_registered(),
         })
+    }
+
+    // Tells the portmapper, where the words ask for it.
+    fn register<R: Net>(&self, rt: &R) -> Result<Option<Registration>, Fault> {
+        if !self.is_registered {
+            return Ok(None);
+        }
+        let address = self.address;
+        let port = match self.listener.local_addr() {
+            Ok(local) => local.port(),
+            Err(error) => return Err(Fault::Network { address, error }),
+        };
+        match Registration::at(rt, self.alloc, port) {
+            Ok(registration) => Ok(Some(registration)),
+            Err(fault) => Err(Fault::Unregistered(fault)),
+        }
     }
 
     // Says where it is listened, and serves the clients of the listener.

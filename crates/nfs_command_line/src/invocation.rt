@@ -55,9 +55,7 @@ impl<'a, 'w> Invocation<'a, 'w> {
             Invocation::Check(words) => UsageFault::of_sharing(words.tree().sharing()),
             Invocation::Why(words) => UsageFault::of_sharing(words.tree().sharing()),
             Invocation::Exports(words) => UsageFault::of_sharing(words.tree().sharing()),
-            Invocation::Replay(words) => {
-                UsageFault::of_keyed(words.tree().sharing(), words.key())
-            }
+            Invocation::Replay(words) => UsageFault::of_replay(*words),
             Invocation::Serve(words) => UsageFault::of_serving(*words),
             Invocation::Describe(words) => UsageFault::of_keyed(words.sharing(), words.key()),
             Invocation::Extract(words) => UsageFault::of_sharing(words.tree().sharing()),
@@ -142,6 +140,13 @@ impl<'a, 'w> Why<'a, 'w> {
         ensures { option_map (λ text. text.now) result ≡ text_given self.now.words.now (codes "second") }
     {
         self.words.get_str("second")
+    }
+
+    /// Whether nothing is printed.
+    pub fn is_quiet(&self) -> bool
+        ensures { IsFlag self.now.words.now (codes "quiet") result }
+    {
+        self.words.get_flag("quiet")
     }
 }
 

@@ -38,7 +38,7 @@ pub(crate) const WHY: CommandRow = CommandRow {
     args: &WHY_ARGS,
 };
 
-const WHY_ARGS: [ArgRow; 11] = [
+const WHY_ARGS: [ArgRow; 12] = [
     TREE,
     ArgRow {
         id: "address",
@@ -69,6 +69,12 @@ const WHY_ARGS: [ArgRow; 11] = [
         value: "PATH2",
         help: "The new path of rename and link, what a symlink holds, an owner, a group or a size",
         takes: Takes::OptionalWord,
+    },
+    ArgRow {
+        id: "quiet",
+        value: "",
+        help: "Prints nothing: the status says whether the call is granted (0) or denied (1)",
+        takes: Takes::Flag,
     },
     MOUNT,
     EXPORT,

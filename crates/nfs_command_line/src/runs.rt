@@ -97,7 +97,7 @@ pub(crate) const SERVE: CommandRow = CommandRow {
     args: &SERVE_ARGS,
 };
 
-const SERVE_ARGS: [ArgRow; 22] = [
+const SERVE_ARGS: [ArgRow; 23] = [
     TREE,
     MOUNT,
     EXPORT,
@@ -116,6 +116,12 @@ const SERVE_ARGS: [ArgRow; 22] = [
         value: "P",
         help: "The port to listen on; 0 lets the system choose one",
         takes: Takes::BetweenOr(0, 65_535, "2049"),
+    },
+    ArgRow {
+        id: "register",
+        value: "",
+        help: "Registers the server with this machine's portmapper (rpcbind), so that clients mount it without naming ports",
+        takes: Takes::Flag,
     },
     ArgRow {
         id: "connections",

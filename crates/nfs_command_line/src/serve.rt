@@ -51,6 +51,13 @@ impl<'a, 'w> Serve<'a, 'w> {
         self.words.get_one::<u16>("port").unwrap_or(2049)
     }
 
+    /// Whether the portmapper of this machine is told of it.
+    pub fn is_registered(&self) -> bool
+        ensures { IsFlag self.now.words.now (codes "register") result }
+    {
+        self.words.get_flag("register")
+    }
+
     /// After how many connections it ends.
     pub fn connections(&self) -> Option<u64>
         ensures { IsNumber ⟦<u64 as FromStr>⟧.from_str_gives self.now.words.now (codes "connections") result }

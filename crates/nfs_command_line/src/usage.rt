@@ -1,5 +1,6 @@
 //! What is wrong with words that the commands take.
 
+use crate::invocation::Replay;
 use crate::serve::Serve;
 use crate::sharing::{Owner, Sharing};
 use thiserror::Error;
@@ -16,6 +17,9 @@ pub(crate) enum UsageFault {
     /// A service is never saved, since it doesn't end.
     #[error("--save FILE writes when the service ends: add --connections N, or --save-every SECONDS")]
     NeverSaved,
+    /// Two texts are standard input.
+    #[error("TREE and SCRIPT can't both be standard input: name a file for one of them")]
+    TwoInputs,
 }
 
 impl UsageFault {
@@ -41,6 +45,14 @@ impl UsageFault {
             Some(fault) => Some(fault),
             None => UsageFault::of_key(key),
         }
+    }
+
+    /// Of what is run, and of where it is saved.
+    pub(crate) fn of_replay(words: Replay<'_, '_>) -> Option<UsageFault> {
+        if words.tree().name() == "-" && words.script() == "-" {
+            return Some(UsageFault::TwoInputs);
+        }
+        UsageFault::of_keyed(words.tree().sharing(), words.key())
     }
 
     /// Of what is served, and of where and when it is saved.

@@ -1,8 +1,6 @@
 //! `nfs3d why`: why a call is granted or denied.
 
 use nfs_command_line::invocation::Why;
-use nfs_command_line::sharing::TreeWords;
-use nfs_load::loaded::Loaded;
 use nfs_source::description::Description;
 use nfs_source::diagnostic::Diagnostic;
 use nfs_source::output::print;
@@ -10,20 +8,20 @@ use nfs_trees::named::NamedTree;
 use nfs_why::question::{BadQuestion, Question};
 use nfs_why::why::put_answer;
 use nfs_words::text::Text;
-use std::alloc::{AllocError, Global};
+use std::alloc::Global;
 use std::mem::forget;
 use std::process::ExitCode;
 use std::rt::Files;
 
-/// Prints why the call that the words describe is granted or denied; the status is 2 where one of them
-/// is faulty. The faults of `NamedTree::read`; `Write` and `Closed` where the output fails.
+/// Prints why the call that the words describe is granted or denied. The status is 0 where it is granted, 1 where it is
+/// denied, 2 where one of the words is faulty. The faults of `NamedTree::read`; `Write` and `Closed` where the output fails.
 pub fn print_why<R: Files + Input + Print + Eprint + AllocGlobal>(
     rt: &R,
     alloc: Global,
     words: Why<'_, '_>,
 ) -> Result<ExitCode, Diagnostic> {
     match question_of(words) {
-        Ok(question) => print_answer(rt, alloc, words.tree(), &question),
+        Ok(question) => print_answer(rt, alloc, words, &question),
         Err(fault) => {
             let _ = eprintln!(rt; "error: {fault}");
             Ok(ExitCode::from(2))
@@ -48,25 +46,20 @@ fn question_of<'a>(words: Why<'a, '_>) -> Result<Question<'a>, BadQuestion> {
 fn print_answer<R: Files + Input + Print + Eprint + AllocGlobal>(
     rt: &R,
     alloc: Global,
-    words: TreeWords<'_, '_>,
+    words: Why<'_, '_>,
     question: &Question<'_>,
 ) -> Result<ExitCode, Diagnostic> {
-    let NamedTree { description, .. } = NamedTree::read(rt, alloc, words)?;
+    let NamedTree { description, .. } = NamedTree::read(rt, alloc, words.tree())?;
     let Description { source, loaded } = description;
-    let answer = answer(alloc, source.text.as_slice(), &loaded, question)?;
-    forget(loaded);
-    print(rt, answer.as_slice())?;
-    Ok(ExitCode::SUCCESS)
-}
-
-// What is answered over a description.
-fn answer(
-    alloc: Global,
-    text: &[u8],
-    loaded: &Loaded,
-    question: &Question<'_>,
-) -> Result<Vec<u8>, AllocError> {
     let mut answer = Text::new(alloc);
-    put_answer(text, loaded, question, &mut answer);
-    answer.into_bytes()
+    let is_granted = put_answer(source.text.as_slice(), &loaded, question, &mut answer);
+    forget(loaded);
+    if !words.is_quiet() {
+        print(rt, answer.into_bytes()?.as_slice())?;
+    }
+    Ok(if is_granted {
+        ExitCode::SUCCESS
+    } else {
+        ExitCode::FAILURE
+    })
 }

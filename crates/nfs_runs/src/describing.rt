@@ -5,6 +5,7 @@ use nfs_describe::description::describe;
 use nfs_describe::fault::DescribeFault;
 use nfs_disk::survey::{Purpose, Survey};
 use nfs_saving::key::key_of;
+use nfs_source::diagnostic::Diagnostic;
 use nfs_source::fault::Fault;
 use nfs_source::output::print;
 use nfs_trees::shared::SharedDirectory;
@@ -23,7 +24,7 @@ pub fn describe_directory<R: Files + Print + Eprint + RandomSource + AllocGlobal
     rt: &R,
     alloc: Global,
     words: Describe<'_, '_>,
-) -> Result<ExitCode, Fault> {
+) -> Result<ExitCode, Diagnostic> {
     let key = key_of(rt, alloc, words.key())?;
     let shared = SharedDirectory::read(
         rt,
@@ -36,7 +37,7 @@ pub fn describe_directory<R: Files + Print + Eprint + RandomSource + AllocGlobal
     report_skipped(rt, &shared.survey);
     let printed = print_shared(rt, alloc, words, &shared);
     forget(shared);
-    printed
+    Ok(printed?)
 }
 
 // Prints the description. What was loaded is not given back file by file, since the process ends.

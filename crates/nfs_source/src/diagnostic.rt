@@ -3,16 +3,19 @@ ghost use Rattle.std.specs.Prelude.{◌≡◌};
 ghost use Rattle.nfs_source.specs.Status.{IsReportedAs};
 
 use crate::fault::Fault;
+use crate::sharing_fault::SharingFault;
 use crate::source::Source;
 use nfs_advice::advice::Advice;
 use nfs_advice::description::advise;
 use nfs_advice::script::{advise_bytes, advise_file, advise_line};
 use nfs_ask::fault::Wanted;
+use nfs_load::cause::Cause;
 use nfs_load::load_error::LoadError;
 use nfs_script::fault::{LineCause, ScriptFault};
 use std::alloc::{AllocError, Global};
 use std::fmt;
-use std::io::ErrorKind;
+use std::io::{self, ErrorKind};
+use std::net::SocketAddr;
 
 // The words of an `ask` line before the user's: `ask`, the address and the seconds.
 const WORDS_BEFORE_USER: usize = 3;
@@ -39,6 +42,31 @@ impl Diagnostic {
         };
         Diagnostic {
             fault: error.into(),
+            advice,
+        }
+    }
+
+    /// A fault of an option that says how a directory is shared, with the line that the option makes in these first
+    /// lines of a description, and what would be right there. Without memory for that there is none.
+    pub fn of_option(alloc: Global, head: &[u8], line: u64, cause: Cause) -> Diagnostic {
+        let advice = match str::from_utf8(line_of(head, line)) {
+            Ok(text) => {
+                let advice = advise(head, line, cause);
+                format!(in alloc; "\n  {text}\n  column {advice}").ok()
+            }
+            Err(_) => None,
+        };
+        Diagnostic {
+            fault: Fault::Sharing(SharingFault::Option { line, cause }),
+            advice,
+        }
+    }
+
+    /// An address that can't be listened at, with what to do. Without memory for that there is none.
+    pub fn of_listening(alloc: Global, address: SocketAddr, error: io::Error) -> Diagnostic {
+        let advice = listening_advice(alloc, error.kind());
+        Diagnostic {
+            fault: Fault::Network { address, error },
             advice,
         }
     }
@@ -77,6 +105,21 @@ impl Diagnostic {
     }
 }
 
+// The line after that of an address that can't be listened at.
+fn listening_advice(alloc: Global, kind: ErrorKind) -> Option<String> {
+    let cure = match kind {
+        ErrorKind::PermissionDenied => {
+            "a port below 1024 takes root or CAP_NET_BIND_SERVICE; --port names another"
+        }
+        ErrorKind::AddrInUse => "another program listens there; --port names another port",
+        ErrorKind::AddrNotAvailable => {
+            "this machine doesn't have that address; --listen names another"
+        }
+        _ => return None,
+    };
+    format!(in alloc; "\n  {cure}").ok()
+}
+
 // The line after that of a file that can't be written.
 fn saving_advice(alloc: Global, kind: ErrorKind) -> Option<String> {
     let cure = match kind {
@@ -105,8 +148,25 @@ fn script_advice(
         LineCause::BadLine => reported(alloc, name, line, advise_line(script, line)),
         LineCause::BadHex => reported(alloc, name, line, advise_bytes(script, line)),
         LineCause::NoHandle => reported(alloc, name, line, advise_file(script, line)),
+        _ if ends_in_return(line_of(script, line)) => {
+            reported(alloc, name, line, advise_line(script, line))
+        }
         LineCause::BadWord(word, wanted) => wanted_at(alloc, name, script, line, word, wanted),
         LineCause::NoFile(word) => wanted_at(alloc, name, script, line, word, Wanted::File),
+    }
+}
+
+// Whether a line ends with a carriage return, which a word of an `ask` line takes in.
+fn ends_in_return(line: &[u8]) -> bool {
+    line.ends_with(b"\r")
+}
+
+// The line of this number, from 1; no bytes where there is none.
+fn line_of(script: &[u8], line: u64) -> &[u8] {
+    let mut lines = script.split(|b| *b == b'\n');
+    match lines.nth(line.saturating_sub(1) as usize) {
+        Some(text) => text,
+        None => &[],
     }
 }
 
@@ -125,13 +185,7 @@ fn wanted_at(
 
 // The column of a word of a line, from 1; after the line where it has not so many.
 fn column_of(script: &[u8], line: u64, word: usize) -> usize {
-    let text = match script
-        .split(|b| *b == b'\n')
-        .nth(line.saturating_sub(1) as usize)
-    {
-        Some(text) => text,
-        None => &[],
-    };
+    let text = line_of(script, line);
     let mut left = word;
     let mut is_after_space = true;
     for (index, byte) in text.iter().enumerate() {

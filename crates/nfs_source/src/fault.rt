@@ -6,6 +6,7 @@ use crate::sharing_fault::SharingFault;
 use nfs_describe::fault::DescribeFault;
 use nfs_load::cause::Cause;
 use nfs_load::load_error::LoadError;
+use nfs_portmap::fault::PortmapFault;
 use nfs_script::fault::{LineCause, ScriptFault};
 use std::alloc::AllocError;
 use std::io;
@@ -67,6 +68,9 @@ pub enum Fault {
         /// What the system says.
         error: io::Error,
     },
+    /// The programs are not registered.
+    #[error("nfs3d: {0}")]
+    Unregistered(PortmapFault),
     /// The system has no clock.
     #[error("nfs3d: cannot read the system's clock, which keeps the handles of this run apart from those of earlier runs: set it, and start again")]
     NoTime,
@@ -97,6 +101,7 @@ impl Fault {
             | Fault::TooLong(_)
             | Fault::CannotWrite { .. }
             | Fault::Network { .. }
+            | Fault::Unregistered(_)
             | Fault::NoTime
             | Fault::Write
             | Fault::Memory(_) => 3,

@@ -125,7 +125,7 @@ fn share<R: Files + Eprint + AllocGlobal>(
     rt: &R,
     alloc: Global,
     words: TreeWords<'_, '_>,
-) -> Result<SharedDirectory, Fault> {
+) -> Result<SharedDirectory, Diagnostic> {
     let purpose = Purpose::Serving;
     let shared = SharedDirectory::read(rt, alloc, words.name(), words.sharing(), None, purpose)?;
     report_skipped(rt, &shared.survey);

@@ -14,6 +14,7 @@ use nfs_handles::number::Number;
 use nfs_load::description::load;
 use nfs_load::load_error::LoadError;
 use nfs_load::loaded::Loaded;
+use nfs_source::diagnostic::Diagnostic;
 use nfs_source::fault::Fault;
 use nfs_source::sharing_fault::SharingFault;
 use std::alloc::{AllocError, Global};
@@ -45,10 +46,10 @@ impl SharedDirectory {
         sharing: Sharing<'_, '_>,
         key: Option<[u8; 8]>,
         purpose: Purpose,
-    ) -> Result<SharedDirectory, Fault> {
+    ) -> Result<SharedDirectory, Diagnostic> {
         let mut survey = match Survey::of(rt, name, purpose) {
             Ok(survey) => survey,
-            Err(fault) => return Err(fault_of(alloc, name, fault)),
+            Err(fault) => return Err(fault_of(alloc, name, fault).into()),
         };
         if let Some(owner) = sharing.chown().and_then(Owner::of_text) {
             survey.chown(owner.uid, owner.gid);
@@ -63,7 +64,7 @@ impl SharedDirectory {
                 loaded,
                 numbers,
             }),
-            Err(fault) => Err(fault_of(alloc, name, fault)),
+            Err(fault) => Err(fault_of(alloc, name, fault).into()),
         }
     }
 }
@@ -147,12 +148,12 @@ fn mount_at(alloc: Global, path: &str) -> Result<String, AllocError> {
 }
 
 // The volume with nothing in it but its root.
-fn load_head(alloc: Global, head: &[u8]) -> Result<Loaded, Fault> {
+fn load_head(alloc: Global, head: &[u8]) -> Result<Loaded, Diagnostic> {
     match load(alloc, head) {
         Ok(loaded) => Ok(loaded),
-        Err(LoadError::Memory) => Err(Fault::Memory(AllocError)),
+        Err(LoadError::Memory) => Err(AllocError.into()),
         Err(LoadError::Fault { line, cause }) => {
-            Err(Fault::Sharing(SharingFault::Option { line, cause }))
+            Err(Diagnostic::of_option(alloc, head, line, cause))
         }
     }
 }

@@ -21,11 +21,11 @@ use nfs_text::chunks::Chunks;
 use nfs_words::text::Text;
 
 /// Puts the answer to a question over a description, which is the text of what was loaded: the grant that
-/// the address has, by whose ids the caller is judged, each rule in its order, and the verdict.
-pub fn put_answer(text: &[u8], loaded: &Loaded, question: &Question<'_>, out: &mut Text) {
+/// the address has, by whose ids the caller is judged, each rule in its order, and the verdict. Answers whether the
+/// call is granted.
+pub fn put_answer(text: &[u8], loaded: &Loaded, question: &Question<'_>, out: &mut Text) -> bool {
     if question.operation == Operation::Mount {
-        put_mount(text, loaded, question, out);
-        return;
+        return put_mount(text, loaded, question, out);
     }
     let caller = Caller {
         addr: question.addr,
@@ -36,11 +36,11 @@ pub fn put_answer(text: &[u8], loaded: &Loaded, question: &Question<'_>, out: &m
         loaded,
         caller,
     };
-    inquiry.put(question, out);
+    inquiry.put(question, out)
 }
 
 // The answer of MNT.
-fn put_mount(text: &[u8], loaded: &Loaded, question: &Question<'_>, out: &mut Text) {
+fn put_mount(text: &[u8], loaded: &Loaded, question: &Question<'_>, out: &mut Text) -> bool {
     let failure = mount_failure(&loaded.tree, &loaded.table, question.addr, question.path);
     if let Some(volume) = loaded.tree.volume_named(question.path) {
         put_grant(out, text, loaded, volume, question.addr);
@@ -51,6 +51,7 @@ fn put_mount(text: &[u8], loaded: &Loaded, question: &Question<'_>, out: &mut Te
     out.put(b"\n");
     put_rules(out, &MOUNT, failure);
     put_verdict(out, failure);
+    failure.is_none()
 }
 
 // A description, and who asks.
@@ -70,7 +71,7 @@ struct Target<'a> {
 
 impl<'a> Inquiry<'a> {
     // The answer of a call of NFS.
-    fn put(&self, question: &Question<'_>, out: &mut Text) {
+    fn put(&self, question: &Question<'_>, out: &mut Text) -> bool {
         let second = question.second.unwrap_or(&[]);
         let (is_name, has_second) = match Shape::of(question.operation) {
             Shape::Name => (true, false),
@@ -79,18 +80,18 @@ impl<'a> Inquiry<'a> {
             Shape::File | Shape::Volume => (false, false),
         };
         let Some(one) = self.target(question.path, is_name, out) else {
-            return;
+            return false;
         };
         let two = if has_second {
             let Some(two) = self.target(second, true, out) else {
-                return;
+                return false;
             };
             two
         } else {
             one
         };
         self.put_caller(one.file, out);
-        self.put_call(question, one, two, second, out);
+        self.put_call(question, one, two, second, out)
     }
 
     // Where a path leads. `None` where it leads nowhere, which is the verdict then.
@@ -184,11 +185,11 @@ impl<'a> Inquiry<'a> {
         two: Target<'_>,
         second: &[u8],
         out: &mut Text,
-    ) {
+    ) -> bool {
         let tree = &self.loaded.tree;
         let (Some(first), Some(other)) = (tree.handle_of(one.file.0), tree.handle_of(two.file.0))
         else {
-            return;
+            return false;
         };
         let asked = Asked {
             one: &first,
@@ -200,7 +201,7 @@ impl<'a> Inquiry<'a> {
         let args = asked.args(question.operation);
         let handles = (first.as_slice(), other.as_slice());
         let Some(judgement) = judge(tree, &self.loaded.table, self.caller, handles, &args) else {
-            return;
+            return false;
         };
         let procedure = args.procedure();
         out.put(procedure.name());
@@ -210,6 +211,7 @@ impl<'a> Inquiry<'a> {
         }
         out.put(b"\n");
         put_judgement(out, procedure, judgement);
+        judgement.failure().is_none()
     }
 
     // The file of a handle, and the name in it.
