@@ -1,17 +1,28 @@
 -- One round after another.
-use Rattle.std.proofs.Common.{◌≡◌, ◌⊎◌, ℕ, Bool, List, [], ◌∷◌, ◌++◌, Option, None, option_map, inl, inr, refl, ap, subst, ◌∙◌, append-nil}
+use Rattle.std.proofs.Common.{◌≡◌, ◌⊎◌, ℕ, Bool, List, [], ◌∷◌, ◌++◌, Option, None, option_map, inl, inr, refl, sym, ap, subst, ◌∙◌, append-nil}
 use Rattle.slab.specs.Slab.{Slab, get}
 use Rattle.nfs_loop.specs.declared.member.Member.{Member}
 use Rattle.nfs_loop.specs.declared.watches.Watch.{Watch}
 use Rattle.nfs_loop.specs.Watching.{AllStay, ReleasesBy, SomeMayBeHeld}
-use Rattle.nfs_loop.specs.Reports.{Report, Accounts}
-use Rattle.nfs_loop.specs.Stages.{Stage, state, seat_of, seats, turned, AsksAll, Goes, Notes, Schedule, WaitAgain, WithoutTurns, IsRound, most_asked, AreRounds, Rounds, changes_of}
-use Rattle.nfs_loop.proofs.Reporting.{accounts_then, accounts_same}
+use Rattle.nfs_loop.specs.Reports.{Report, since, Accounts}
+use Rattle.nfs_loop.specs.Stages.{Stage, state, seat_of, seats, turned, AsksAll, Goes, Notes, Schedule, SilentLeave, WaitAgain, WithoutTurns, IsRound, most_asked, AreRounds, Rounds, changes_of}
+use Rattle.nfs_loop.proofs.Reporting.{accounts_then, accounts_same, first_then}
 use Rattle.nfs_loop.proofs.Changing.{both_change, changes_then, turned_then}
 use Rattle.nfs_loop.proofs.Rounding.{again_where_some_left}
 use Rattle.nfs_serving.proofs.Failed.{failed_logs_stay}
 use Rattle.nfs_serving.specs.Service.{Change, AreChanges}
 use Rattle.nfs_xdr.specs.declared.link.Came.{Came}
+
+-- who leaves for silence at the end of a round, by what was so when the round began, and is so when it ends
+pub leave_in_round : {M : Type 0} (watches watches_now : List Watch) (queue later : List ℕ) (idle limit : Option ℕ) (looked looks seconds now : ℕ) (a b c : Option (List Report)) (old new : Slab M) → watches_now ≡ watches → later ≡ queue → idle ≡ limit → looked ≡ seconds → now ≡ looks → Accounts b [] c
+    → SilentLeave watches queue idle looked a b looks old new → SilentLeave watches_now later limit seconds a c now old new
+leave_in_round watches watches_now queue later idle limit looked looks seconds now a b c old new same_watches same_queue same_idle same_looked same_looks more silent =
+    subst (λ n. SilentLeave watches_now later limit seconds a c n old new) (sym same_looks)
+    (subst (λ n. SilentLeave watches_now later limit n a c looks old new) same_looked
+    (subst (λ o. SilentLeave watches_now later o looked a c looks old new) same_idle
+    (subst (λ q. SilentLeave watches_now q idle looked a c looks old new) (sym same_queue)
+    (subst (λ w. SilentLeave w queue idle looked a c looks old new) (sym same_watches)
+    (record { millis = silent.millis; is_reported = first_then a b c (since silent.millis) [] silent.is_reported more; only = silent.only; all = silent.all; looks_is = silent.looks_is })))))
 
 module _ {L : Type 0} (outgoing incoming : L → Option (List ℕ)) (reports : L → ℕ → Came → L → Type 0) where
   before_turns : (a b c : Option (List Report)) (first : List ℕ) (old mid new : Stage L) → Goes outgoing incoming (λ changes. WithoutTurns a changes b) old mid → Goes outgoing incoming (λ changes. (turned changes ≡ first) × Accounts b changes c) mid new
@@ -42,10 +53,12 @@ module _ {L : Type 0} (outgoing incoming : L → Option (List ℕ)) (reports : L
       → Goes outgoing incoming (λ changes. (turned changes ≡ first) × Accounts b changes c) mid turned_at
       → Goes outgoing incoming (λ changes. WithoutTurns c changes d) turned_at new
       → WaitAgain incoming reports to.watches (seats turned_at.members) first to.queue → ((key : ℕ) → (get new.members key ≡ get turned_at.members key) ⊎ (get new.members key ≡ None))
-      → SomeMayBeHeld first left to.watches
+      → SomeMayBeHeld first left to.watches → SilentLeave to.watches to.queue from.idle from.looked c d to.looked turned_at.members new.members → to.idle ≡ from.idle
       → (changes : List Change) × IsRound outgoing incoming reports changes a d from to old new
-  round_of a b c d from to ready_queue first old mid turned_at new between before after members held left full notes asked stay releases f g h again some_left some_held =
-      let whole = after_turns a c d first old turned_at new (before_turns a b c first old mid turned_at f g) h in (
+  unfolding after_turns
+  round_of a b c d from to ready_queue first old mid turned_at new between before after members held left full notes asked stay releases f g h again some_left some_held silent idle_stays =
+      let serving = before_turns a b c first old mid turned_at f g in
+      let whole = after_turns a c d first old turned_at new serving h in (
         whole.changes,
         record {
           are_changes = whole.are_changes;
@@ -67,6 +80,17 @@ module _ {L : Type 0} (outgoing incoming : L → Option (List ℕ)) (reports : L
           turned_are = whole.such.0;
           wait_again = again_where_some_left incoming reports to.watches (seats turned_at.members) (seats new.members) first to.queue (λ key. seat_or_none (get turned_at.members key) (get new.members key) (some_left key)) again;
           some_held = some_held;
+          served = turned_at;
+          looks_at = c;
+          serving = serving.changes;
+          serving_leads = serving.are_changes;
+          serving_accounts = serving.such.1;
+          ending = h.changes;
+          ending_leads = subst (λ s. AreChanges outgoing incoming s h.changes (state turned_at) (state new)) serving.shared_stays h.are_changes;
+          ending_accounts = h.such;
+          changes_are = refl;
+          silent = silent;
+          idle_stays = idle_stays;
           log_stays = failed_logs_stay outgoing incoming old.written.shared whole.changes (state old) (state new) whole.are_changes;
         },
       )

@@ -1,6 +1,6 @@
 -- What is reported, one thing after another.
 use Rattle.std.proofs.Common.{◌≡◌, List, [], ◌∷◌, ◌++◌, Option, Some, sym, ap, ◌∙◌, append_assoc}
-use Rattle.nfs_loop.specs.Reports.{Report, came, at, IsReported, AreBy, Accounts}
+use Rattle.nfs_loop.specs.Reports.{Report, came, at, IsReported, IsReportedFirst, AreBy, Accounts}
 use Rattle.nfs_serving.specs.Service.{Change, joins, turns, leaves, passes}
 
 by_more : (more news : List Report) (changes : List Change) → AreBy news changes → AreBy (more ++ news) changes
@@ -51,3 +51,14 @@ accounts_one a b t report before e = (t ∷ [], report before e, tt)
 
 pub accounts_same : (a b : Option (List Report)) → b ≡ a → Accounts a [] b
 accounts_same a b same before e = ([], same ∙ e, tt)
+
+-- ---- what was reported first
+
+pub first_one : (a b : Option (List Report)) (t : Report) → IsReported a t b → IsReportedFirst a t b
+first_one a b t report before e = ([], report before e)
+
+pub first_then : (a b c : Option (List Report)) (t : Report) (later : List Change) → IsReportedFirst a t b → Accounts b later c → IsReportedFirst a t c
+first_then a b c t later f g before e =
+    let x = f before e in
+    let y = g (x.0 ++ t ∷ before) x.1 in
+    (y.0 ++ x.0, y.1 ∙ ap Some (sym (append_assoc y.0 x.0 (t ∷ before))))

@@ -19,6 +19,10 @@ pub data Report : Type 0 where
 abbrev pub IsReported : Option (List Report) → Report → Option (List Report) → Type 0
 IsReported old report new = (before : List Report) → old ≡ Some before → new ≡ Some (report ∷ before)
 
+-- where it is known what was reported, this was reported next, and others may have been after it
+abbrev pub IsReportedFirst : Option (List Report) → Report → Option (List Report) → Type 0
+IsReportedFirst old report new = (before : List Report) → old ≡ Some before → (news : List Report) × (new ≡ Some (news ++ report ∷ before))
+
 -- a connection came from a peer of this address
 pub record CameFrom (key : ℕ) (addr : Addr) (news after before : List Report) : Type 0 where
   pub peer : IpAddr

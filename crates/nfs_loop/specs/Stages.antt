@@ -7,7 +7,7 @@ use Rattle.nfs_exports.specs.declared.addr.Addr.{Addr}
 use Rattle.nfs_attrs.specs.declared.moment.Moment.{Moment}
 use Rattle.nfs_lines.specs.Written.{Written}
 use Rattle.nfs_loop.specs.Peers.{IsAddrOf}
-use Rattle.nfs_loop.specs.Reports.{Report, ready, listener_ready, nothing_ready, came, at, since, IsReported, Accounts}
+use Rattle.nfs_loop.specs.Reports.{Report, ready, listener_ready, nothing_ready, came, at, since, IsReported, IsReportedFirst, Accounts}
 use Rattle.nfs_loop.specs.declared.member.Member.{Member}
 use Rattle.nfs_loop.specs.declared.watches.Hold.{Hold}
 use Rattle.nfs_loop.specs.declared.watches.Hold.TheVariants.{Lines}
@@ -179,26 +179,27 @@ abbrev pub looked_after : Option ℕ → ℕ → ℕ → ℕ
 looked_after None seconds looked = looked
 looked_after (Some idle) seconds looked = seconds
 
--- Those that are silent leave, and nobody else, by the time that the clock reported.
-pub record SilentLeave {M : Type 0} (watches : List Watch) (queue : List ℕ) (idle : Option ℕ) (looked : ℕ) (reported : Option (List Report)) (looks : ℕ) (old new : Slab M) : Type 0 where
+-- Those that are silent leave, and nobody else, by the time that the clock reported before anything else was.
+pub record SilentLeave {M : Type 0} (watches : List Watch) (queue : List ℕ) (idle : Option ℕ) (looked : ℕ) (reported reported_now : Option (List Report)) (looks : ℕ) (old new : Slab M) : Type 0 where
   pub millis : ℕ
-  pub reported_now : Option (List Report)
-  pub is_reported : IsReported reported (since millis) reported_now
+  pub is_reported : IsReportedFirst reported (since millis) reported_now
   pub only : OnlySilentLeave watches queue idle (millis / 1000) old new
   pub all : AllSilentLeave watches queue idle (millis / 1000) looked new
   pub looks_is : looks ≡ looked_after idle (millis / 1000) looked
 
 -- ---- the rounds of the loop
 
--- the keys of those that wait, the next one first, and what is known of the clients
+-- The keys of those that wait, the next one first, and what is known of the clients; for how many seconds a client may be silent, if there is a limit, and when silent ones were last looked for, in seconds since the service began.
 pub record Schedule : Type 0 where
   pub queue : List ℕ
   pub watches : List Watch
+  pub idle : Option ℕ
+  pub looked : ℕ
 
-abbrev pub schedule : List ℕ → List Watch → Schedule
-schedule queue watches = record { queue = queue; watches = watches }
+abbrev pub schedule : List ℕ → List Watch → Option ℕ → ℕ → Schedule
+schedule queue watches idle looked = record { queue = queue; watches = watches; idle = idle; looked = looked }
 
--- A round: the network is asked what is ready. Those of which something was reported wait after those that waited, unless they get no turn for now; others may have joined; and after them wait those whose hold is over. Then each who waits has one turn, in that order, and at the end it waits again, sleeps or is gone. Only those that had a turn are held who were not before.
+-- A round: the network is asked what is ready. Those of which something was reported wait after those that waited, unless they get no turn for now; others may have joined; and after them wait those whose hold is over. Then each who waits has one turn, in that order, and at the end it waits again, sleeps or is gone. Only those that had a turn are held who were not before. At the end of the round, once all turns are over, those that are silent leave, and nobody else does there, by the time that the clock reported then. The changes up to there lead to those who are looked at, and nobody has a turn in the others.
 pub record IsRound {L : Type 0} (outgoing incoming : L → Option (List ℕ)) (reports : L → ℕ → Came → L → Type 0) (changes : List Change) (reported reported_now : Option (List Report)) (from to : Schedule) (old new : Stage L) : Type 0 where
   pub are_changes : AreChanges outgoing incoming old.written.shared changes (state old) (state new)
   pub shared_stays : new.written.shared ≡ old.written.shared
@@ -219,6 +220,17 @@ pub record IsRound {L : Type 0} (outgoing incoming : L → Option (List ℕ)) (r
   pub turned_are : turned changes ≡ first
   pub wait_again : WaitAgain incoming reports to.watches (seats new.members) first to.queue
   pub some_held : SomeMayBeHeld first left to.watches
+  pub served : Stage L
+  pub looks_at : Option (List Report)
+  pub serving : List Change
+  pub serving_leads : AreChanges outgoing incoming old.written.shared serving (state old) (state served)
+  pub serving_accounts : Accounts reported serving looks_at
+  pub ending : List Change
+  pub ending_leads : AreChanges outgoing incoming old.written.shared ending (state served) (state new)
+  pub ending_accounts : WithoutTurns looks_at ending reported_now
+  pub changes_are : changes ≡ ending ++ serving
+  pub silent : SilentLeave to.watches to.queue from.idle from.looked looks_at reported_now to.looked served.members new.members
+  pub idle_stays : to.idle ≡ from.idle
   pub log_stays : StaysFailed old.written.broken old.written.log new.written.broken new.written.log
 
 -- one round after another, the newest first: whoever waits or is held at the end of one is so when the next begins
@@ -242,7 +254,7 @@ pub record Rounds {L : Type 0} (outgoing incoming : L → Option (List ℕ)) (re
   pub no_turns : turned after ≡ []
   pub changes_are : changes ≡ after ++ changes_of rounds
 
--- What changed, by what was reported, is one history and one log, and each client is served as if it were alone. Each round gives one turn to each who waits.
+-- What changed, by what was reported, is one history and one log, and each client is served as if it were alone. Each round gives one turn to each who waits, and at its end those that are silent leave.
 pub record Lived {L : Type 0} (outgoing incoming : L → Option (List ℕ)) (reports : L → ℕ → Came → L → Type 0) (history : History) (reported reported_now : Option (List Report)) (from to : Schedule) (old new : Stage L) : Type 0 where
   pub changes : List Change
   pub one_history : IsOneHistory outgoing incoming old.written.shared history changes (state old) (state new)

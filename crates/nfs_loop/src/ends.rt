@@ -34,6 +34,7 @@ impl Housekeeping {
         ensures reported { Accounts (N.reported net.old) [] (N.reported net.new) }
         ensures watches { self.new.watches ≡ self.old.watches }
         ensures looked { self.new.looked ≡ self.old.looked }
+        ensures limits { self.new.limits ≡ self.old.limits }
         ensures refused { IsRefusedBy (is_audit_fault end) member.addr (N.reported net.old) self.old.refused_peers self.new.refused_peers }
         ensures lines { (by : End) × LeavesBy member.client by
             × Reported (end_text member.number member.client.calls by) (written A.taken C.taken lines.old) (written A.taken C.taken lines.new) }
@@ -50,6 +51,7 @@ impl Housekeeping {
     fn count_end(&mut self)
         ensures watches { self.new.watches ≡ self.old.watches }
         ensures looked { self.new.looked ≡ self.old.looked }
+        ensures limits { self.new.limits ≡ self.old.limits }
         ensures refused { self.new.refused_peers ≡ self.old.refused_peers }
     {
         self.ended = self.ended.saturating_add(1);
@@ -62,6 +64,7 @@ impl Housekeeping {
         ensures reported { Accounts (N.reported net.old) [] (N.reported net.new) }
         ensures watches { self.new.watches ≡ self.old.watches }
         ensures looked { self.new.looked ≡ self.old.looked }
+        ensures limits { self.new.limits ≡ self.old.limits }
         ensures refused { IsRefusedBy (is_audit_fault end) addr (N.reported net.old) self.old.refused_peers self.new.refused_peers }
     {
         if is_audit_fault(end) {

@@ -110,6 +110,7 @@ impl Housekeeping {
     pub(crate) fn retry(&mut self)
         ensures watches { self.new.watches ≡ self.old.watches }
         ensures looked { self.new.looked ≡ self.old.looked }
+        ensures limits { self.new.limits ≡ self.old.limits }
         ensures refused { self.new.refused_peers ≡ self.old.refused_peers }
     {
         if self.waiting == Waiting::Refused {
@@ -123,6 +124,7 @@ impl Housekeeping {
         ensures since { IfSome result (λ since. (idle : ℕ) × (self.old.limits.idle ≡ Some idle) × (since + idle ≡ seconds)) }
         ensures none { IfNone result ((idle : ℕ) → self.old.limits.idle ≡ Some idle → (seconds ≡ self.old.looked) ⊎ (seconds < idle)) }
         ensures looked { self.new.looked ≡ looked_after self.old.limits.idle seconds self.old.looked }
+        ensures limits { self.new.limits ≡ self.old.limits }
         ensures watches { self.new.watches ≡ self.old.watches }
     {
         let idle = self.limits.idle?;
@@ -136,8 +138,10 @@ impl Housekeeping {
     /// Begins to watch a new client from this address, which was heard of at this time, in milliseconds
     /// since the service began. It is held where connections from there have to wait, and only there.
     pub(crate) fn watch(&mut self, key: usize, addr: Addr, millis: u64)
-        ensures { self.new.watches ≡ slice_set self.old.watches key
+        ensures watches { self.new.watches ≡ slice_set self.old.watches key
             (record { heard = millis / 1000; hold = hold_for addr millis self.old.refused_peers; is_closing = false }) }
+        ensures looked { self.new.looked ≡ self.old.looked }
+        ensures limits { self.new.limits ≡ self.old.limits }
     {
         let hold = self.refused_peers.hold(addr, millis);
         self.watches.begin(key, millis / 1_000, hold);
@@ -154,6 +158,8 @@ impl Housekeeping {
     )
         ensures reported { Accounts (N.reported net.old) [] (N.reported net.new) }
         ensures watches { self.new.watches ≡ self.old.watches }
+        ensures looked { self.new.looked ≡ self.old.looked }
+        ensures limits { self.new.limits ≡ self.old.limits }
         ensures lines { PassedOn (written A.taken C.taken lines.old) (written A.taken C.taken lines.new) }
     {
         lines.pass_on();
@@ -172,6 +178,8 @@ impl Housekeeping {
     )
         ensures reported { Accounts (N.reported net.old) [] (N.reported net.new) }
         ensures watches { self.new.watches ≡ self.old.watches }
+        ensures looked { self.new.looked ≡ self.old.looked }
+        ensures limits { self.new.limits ≡ self.old.limits }
     {
         if let Some(every) = self.limits.save_every
             && self.is_touched

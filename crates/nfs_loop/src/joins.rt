@@ -37,6 +37,8 @@ impl<L: Link + Drop> Service<L> {
             (stage server self.old.clients.0 self.old.joined lines) (stage server self.new.clients.0 self.new.joined lines) }
         ensures queue { self.new.clients.1.0 ≡ self.old.clients.1.0 }
         ensures stay { AllStay self.old.clients.0 self.old.housekeeping.watches self.new.clients.0 self.new.housekeeping.watches }
+        ensures looked { self.new.housekeeping.looked ≡ self.old.housekeeping.looked }
+        ensures limits { self.new.housekeeping.limits ≡ self.old.housekeeping.limits }
         ensures watched { AreWatched self.new.clients.0 self.new.housekeeping.watches }
     {
         let mut left = EVENTS;
@@ -54,6 +56,8 @@ impl<L: Link + Drop> Service<L> {
             (stage server self.old.clients.0 self.old.joined lines) (stage server self.new.clients.0 self.new.joined lines) }
         ensures queue { self.new.clients.1.0 ≡ self.old.clients.1.0 }
         ensures stay { AllStay self.old.clients.0 self.old.housekeeping.watches self.new.clients.0 self.new.housekeeping.watches }
+        ensures looked { self.new.housekeeping.looked ≡ self.old.housekeeping.looked }
+        ensures limits { self.new.housekeeping.limits ≡ self.old.housekeeping.limits }
         ensures watched { AreWatched self.new.clients.0 self.new.housekeeping.watches }
     {
         if self.housekeeping.limits.connections == Some(self.joined) {
@@ -95,6 +99,8 @@ impl<L: Link + Drop> Service<L> {
         ensures queue { self.new.clients.1.0 ≡ self.old.clients.1.0 }
         ensures stay { AllStay self.old.clients.0 self.old.housekeeping.watches self.new.clients.0 self.new.housekeeping.watches }
         ensures reported { Accounts (N.reported net.old) [] (N.reported net.new) }
+        ensures looked { self.new.housekeeping.looked ≡ self.old.housekeeping.looked }
+        ensures limits { self.new.housekeeping.limits ≡ self.old.housekeeping.limits }
         ensures watched { AreWatched self.new.clients.0 self.new.housekeeping.watches }
     {
         if self.clients.len() >= self.housekeeping.limits.clients {
@@ -125,6 +131,8 @@ impl<L: Link + Drop> Service<L> {
         ensures reported { Accounts (N.reported net.old) [] (N.reported net.new) }
         ensures watch { OnOk result (BeginsToWatch key (socket_ip peer) self.old.housekeeping.refused_peers
             (N.reported net.old) self.new.housekeeping.watches) }
+        ensures looked { self.new.housekeeping.looked ≡ self.old.housekeeping.looked }
+        ensures limits { self.new.housekeeping.limits ≡ self.old.housekeeping.limits }
         ensures watched { AreWatched self.new.clients.0 self.new.housekeeping.watches }
     {
         let Some(addr) = addr_of(peer) else {

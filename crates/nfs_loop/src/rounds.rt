@@ -30,6 +30,8 @@ impl<L: Link + Drop> Service<L> {
             (N.reported net.old) (N.reported net.new) }
         ensures holds { (key : ℕ) → hold_at self.new.housekeeping.watches key ≡ hold_at self.old.housekeeping.watches key }
         ensures all { AsksAll most_asked (N.reported net.old) (N.reported net.new) }
+        ensures looked { self.new.housekeeping.looked ≡ self.old.housekeeping.looked }
+        ensures limits { self.new.housekeeping.limits ≡ self.old.housekeeping.limits }
         ensures watched { AreWatched self.new.clients.0 self.new.housekeeping.watches }
     {
         self.housekeeping.retry();
@@ -52,6 +54,8 @@ impl<L: Link + Drop> Service<L> {
         ensures holds { (k : ℕ) → hold_at self.new.housekeeping.watches k ≡ hold_at self.old.housekeeping.watches k }
         ensures queue { self.new.clients.1.0 ≡ noted (get self.old.clients.0 key)
             (hold_at self.old.housekeeping.watches key) key self.old.clients.1.0 }
+        ensures looked { self.new.housekeeping.looked ≡ self.old.housekeeping.looked }
+        ensures limits { self.new.housekeeping.limits ≡ self.old.housekeeping.limits }
         ensures watched { AreWatched self.new.clients.0 self.new.housekeeping.watches }
     {
         let hold = self.housekeeping.watches.hold(key);
@@ -75,6 +79,8 @@ impl<L: Link + Drop> Service<L> {
         ensures joined { self.new.joined ≡ self.old.joined }
         ensures releases { ReleasesBy self.old.clients.0 (is_full lines.now.denied.queue) (N.reported net.old) (N.reported net.new)
             self.old.housekeeping.watches self.new.housekeeping.watches self.old.clients.1.0 self.new.clients.1.0 }
+        ensures looked { self.new.housekeeping.looked ≡ self.old.housekeeping.looked }
+        ensures limits { self.new.housekeeping.limits ≡ self.old.housekeeping.limits }
         ensures watched { AreWatched self.new.clients.0 self.new.housekeeping.watches }
     {
         if !self.housekeeping.watches.has_held() {
@@ -96,6 +102,8 @@ impl<L: Link + Drop> Service<L> {
         ensures joined { self.new.joined ≡ self.old.joined }
         ensures releases { ReleasesOne self.old.clients.0 is_full now key
             self.old.housekeeping.watches self.new.housekeeping.watches self.old.clients.1.0 self.new.clients.1.0 }
+        ensures looked { self.new.housekeeping.looked ≡ self.old.housekeeping.looked }
+        ensures limits { self.new.housekeeping.limits ≡ self.old.housekeeping.limits }
         ensures watched { AreWatched self.new.clients.0 self.new.housekeeping.watches }
     {
         if is_over(self.housekeeping.watches.hold(key), is_full, now) {
@@ -121,6 +129,8 @@ impl<L: Link + Drop> Service<L> {
         ensures holds { SomeMayBeHeld self.old.clients.1.0 self.old.housekeeping.watches self.new.housekeeping.watches }
         ensures again { WaitAgain L.incoming L.reports self.new.housekeeping.watches (seats self.new.clients.0)
             self.old.clients.1.0 self.new.clients.1.0 }
+        ensures looked { self.new.housekeeping.looked ≡ self.old.housekeeping.looked }
+        ensures limits { self.new.housekeeping.limits ≡ self.old.housekeeping.limits }
         ensures watched { AreWatched self.new.clients.0 self.new.housekeeping.watches }
     {
         let mut left = self.clients.waiting();
@@ -145,6 +155,8 @@ impl<L: Link + Drop> Service<L> {
             (stage server.old self.old.clients.0 self.old.joined (written A.taken C.taken lines.old))
             (stage server.new self.new.clients.0 self.new.joined (written A.taken C.taken lines.new)) }
         ensures holds { FirstMayBeHeld self.old.clients.1.0 self.old.housekeeping.watches self.new.housekeeping.watches }
+        ensures looked { self.new.housekeeping.looked ≡ self.old.housekeeping.looked }
+        ensures limits { self.new.housekeeping.limits ≡ self.old.housekeeping.limits }
         ensures watched { AreWatched self.new.clients.0 self.new.housekeeping.watches }
     {
         let Some((key, mut member)) = self.clients.next() else {

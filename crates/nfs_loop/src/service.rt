@@ -73,7 +73,8 @@ impl<L: Link + Drop> Service<L> {
         requires watched { AreWatched self.old.clients.0 self.old.housekeeping.watches }
         ensures lived { ((key : ℕ) → get self.old.clients.0 key ≡ None) → (history : History) → Fits history server.old
             → Lived L.outgoing L.incoming L.reports history (N.reported net.old) (N.reported net.new)
-            (schedule self.old.clients.1.0 self.old.housekeeping.watches) (schedule self.new.clients.1.0 self.new.housekeeping.watches)
+            (schedule self.old.clients.1.0 self.old.housekeeping.watches self.old.housekeeping.limits.idle self.old.housekeeping.looked)
+            (schedule self.new.clients.1.0 self.new.housekeeping.watches self.new.housekeeping.limits.idle self.new.housekeeping.looked)
             (stage server.old self.old.clients.0 self.old.joined (written A.taken C.taken lines.old))
             (stage server.new self.new.clients.0 self.new.joined (written A.taken C.taken lines.new)) }
         ensures watched { AreWatched self.new.clients.0 self.new.housekeeping.watches }
@@ -94,7 +95,8 @@ impl<L: Link + Drop> Service<L> {
         requires watched { AreWatched self.old.clients.0 self.old.housekeeping.watches }
         ensures goes { Goes L.outgoing L.incoming
             (λ changes. Rounds L.outgoing L.incoming L.reports (N.reported net.old)
-            (schedule self.old.clients.1.0 self.old.housekeeping.watches) (schedule self.new.clients.1.0 self.new.housekeeping.watches)
+            (schedule self.old.clients.1.0 self.old.housekeeping.watches self.old.housekeeping.limits.idle self.old.housekeeping.looked)
+            (schedule self.new.clients.1.0 self.new.housekeeping.watches self.new.housekeeping.limits.idle self.new.housekeeping.looked)
             (stage server.old self.old.clients.0 self.old.joined (written A.taken C.taken lines.old)) changes
             × Accounts (N.reported net.old) changes (N.reported net.new))
             (stage server.old self.old.clients.0 self.old.joined (written A.taken C.taken lines.old))
@@ -124,7 +126,8 @@ impl<L: Link + Drop> Service<L> {
     )
         requires watched { AreWatched self.old.clients.0 self.old.housekeeping.watches }
         ensures round { (changes : List Change) × IsRound L.outgoing L.incoming L.reports changes (N.reported net.old) (N.reported net.new)
-            (schedule self.old.clients.1.0 self.old.housekeeping.watches) (schedule self.new.clients.1.0 self.new.housekeeping.watches)
+            (schedule self.old.clients.1.0 self.old.housekeeping.watches self.old.housekeeping.limits.idle self.old.housekeeping.looked)
+            (schedule self.new.clients.1.0 self.new.housekeeping.watches self.new.housekeeping.limits.idle self.new.housekeeping.looked)
             (stage server.old self.old.clients.0 self.old.joined (written A.taken C.taken lines.old))
             (stage server.new self.new.clients.0 self.new.joined (written A.taken C.taken lines.new)) }
         ensures watched { AreWatched self.new.clients.0 self.new.housekeeping.watches }

@@ -1,7 +1,8 @@
 //! Connections on which nothing comes.
-ghost use Rattle.std.specs.Prelude.{◌≡◌, None};
+ghost use Rattle.std.specs.Prelude.{◌≡◌, [], None};
 ghost use Rattle.slab.specs.Slab.{get};
 ghost use Rattle.nfs_lines.specs.Written.{written};
+ghost use Rattle.nfs_loop.specs.Reports.{Accounts};
 ghost use Rattle.nfs_loop.specs.Stages.{Goes, IsSilent, LeavesIfSilent, SilentLeave, WithoutTurns, stage};
 ghost use Rattle.nfs_loop.specs.Watching.{AreWatched};
 ghost use Rattle.nfs_server.specs.Fits.{Held};
@@ -31,7 +32,9 @@ impl<L: Link + Drop> Service<L> {
         ensures queue { self.new.clients.1.0 ≡ self.old.clients.1.0 }
         ensures watches { self.new.housekeeping.watches ≡ self.old.housekeeping.watches }
         ensures silent { SilentLeave self.old.housekeeping.watches self.old.clients.1.0 self.old.housekeeping.limits.idle
-            self.old.housekeeping.looked (N.reported net.old) self.new.housekeeping.looked self.old.clients.0 self.new.clients.0 }
+            self.old.housekeeping.looked (N.reported net.old) (N.reported net.new) self.new.housekeeping.looked
+            self.old.clients.0 self.new.clients.0 }
+        ensures limits { self.new.housekeeping.limits ≡ self.old.housekeeping.limits }
         ensures watched { AreWatched self.new.clients.0 self.new.housekeeping.watches }
     {
         let millis = net.millis();
@@ -64,6 +67,8 @@ impl<L: Link + Drop> Service<L> {
         ensures silent { LeavesIfSilent self.old.housekeeping.watches self.old.clients.1.0 key since self.old.clients.0 self.new.clients.0 }
         ensures leaves { IsSilent self.old.housekeeping.watches self.old.clients.1.0 since key → get self.new.clients.0 key ≡ None }
         ensures looked { self.new.housekeeping.looked ≡ self.old.housekeeping.looked }
+        ensures limits { self.new.housekeeping.limits ≡ self.old.housekeeping.limits }
+        ensures reported { Accounts (N.reported net.old) [] (N.reported net.new) }
         ensures watches { self.new.housekeeping.watches ≡ self.old.housekeeping.watches }
         ensures watched { AreWatched self.new.clients.0 self.new.housekeeping.watches }
     {

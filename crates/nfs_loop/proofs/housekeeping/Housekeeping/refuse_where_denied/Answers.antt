@@ -13,6 +13,7 @@ returns-then-is_audit_fault g c = record {
   reported = accounts_one _ _ (since c.millis-now.result) c.millis-now.ensures;
   watches = refl;
   looked = refl;
+  limits = refl;
   refused = subst (λ b. IsRefusedBy b c.args.addr (g.N.Network.reported c.args.net.now) c.args.self.now.refused_peers c.add.new.self) (sym c.if-is_audit_fault.true ∙ c.is_audit_fault.ensures)
       (c.millis-now.result, _, c.millis-now.ensures, one_of c.add.result c.add.ensures.ok c.add.ensures.err);
 }

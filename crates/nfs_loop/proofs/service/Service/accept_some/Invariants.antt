@@ -12,6 +12,8 @@ invariant-loop-left g l = record {
   queue : l.self.clients.1.0 ≡ l.fn.self.clients.1.0;
   watched : AreWatched l.self.clients.0 l.self.housekeeping.watches;
   stay : AllStay l.fn.self.clients.0 l.fn.self.housekeeping.watches l.self.clients.0 l.self.housekeeping.watches;
+  looked : l.self.housekeeping.looked ≡ l.fn.self.housekeeping.looked;
+  limits : l.self.housekeeping.limits ≡ l.fn.self.housekeeping.limits;
 }
 
 abbrev pub decreases-loop-left : goal.decreases-loop-left

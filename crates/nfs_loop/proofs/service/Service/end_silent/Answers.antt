@@ -1,4 +1,4 @@
-use Rattle.std.proofs.Common.{◌≡◌, ℕ, ◌+◌, ◌-◌, ◌/◌, ◌<◌, ◌∙◌, List, None, refl, rules, arith, sym, subst}
+use Rattle.std.proofs.Common.{◌≡◌, ℕ, ◌+◌, ◌-◌, ◌/◌, ◌<◌, ◌∙◌, List, [], None, refl, rules, arith, sym, subst}
 use Rattle.nfs_loop.specs.Stages.{IsSilent, LeavesIfSilent}
 use Rattle.slab.specs.Slab.{Slab, get}
 use Rattle.nfs_loop.specs.declared.watches.Watch.{Watch}
@@ -6,6 +6,7 @@ use Rattle.nfs_loop.specs.Watching.{AreWatched}
 use Rattle.nfs_loop.specs.Reports.{since}
 use Rattle.nfs_loop.proofs.Changing.{goes_then, reported_one}
 use Rattle.nfs_loop.proofs.Leaving.{all_left, gone_above, gone_on, left_none, left_on, left_silent, none_leave, none_silent}
+use Rattle.nfs_loop.proofs.Reporting.{first_one, first_then}
 use Rattle.nfs_loop.proofs.service.Service.end_silent.Goals as goal
 
 pub returns-in_default-clause-goes : goal.returns-in_default-clause-goes
@@ -14,8 +15,7 @@ returns-in_default-clause-goes g c = λ server. reported_one g.L.Link.outgoing g
 pub returns-in_default-clause-silent : goal.returns-in_default-clause-silent
 returns-in_default-clause-silent g c = record {
   millis = c.millis-millis.result;
-  reported_now = _;
-  is_reported = c.millis-millis.ensures;
+  is_reported = first_one _ _ (since c.millis-millis.result) c.millis-millis.ensures;
   only = none_leave c.args.self.now.housekeeping.watches c.args.self.now.clients.1.0 c.args.self.now.housekeeping.limits.idle (c.millis-millis.result / 1000) c.args.self.now.clients.0;
   all = none_silent c.args.self.now.housekeeping.watches c.args.self.now.clients.1.0 c.args.self.now.housekeeping.limits.idle (c.millis-millis.result / 1000) c.args.self.now.housekeeping.looked c.args.self.now.clients.0 c.in_default.ensures.none;
   looks_is = c.silent_since.ensures.looked;
@@ -28,6 +28,8 @@ loop-left-init g c = record {
   silent = left_none c.args.self.now.housekeeping.watches c.args.self.now.clients.1.0 c.in-Some.since c.args.self.now.clients.0;
   gone = gone_above c.args.self.now.housekeeping.watches c.args.self.now.clients.1.0 c.in-Some.since c.keys-left.result c.args.self.now.clients.0 c.keys-left.ensures.above;
   looked = c.silent_since.ensures.looked;
+  limits = c.silent_since.ensures.limits;
+  clock = first_one _ _ (since c.millis-millis.result) c.millis-millis.ensures;
   watched = subst (AreWatched c.args.self.now.clients.0) (sym c.silent_since.ensures.watches) c.requires.watched;
   queue = refl;
 }
@@ -56,6 +58,8 @@ loop-left-preserved g c =
       silent = left_on c.args.self.now.housekeeping.watches c.args.self.now.clients.1.0 c.in-Some.since (c.loop-left.left - 1) c.args.self.now.clients.0 c.loop-left.self.clients.0 c.end_where_silent.new.self.clients.0 c.loop-left.invariant.silent leaves;
       gone = gone_on c.args.self.now.housekeeping.watches c.args.self.now.clients.1.0 c.in-Some.since (c.loop-left.left - 1) c.loop-left.left c.loop-left.self.clients.0 c.end_where_silent.new.self.clients.0 (one_before c.loop-left.left c.loop-left-test.true) c.loop-left.invariant.gone leaves gone;
       looked = c.end_where_silent.ensures.looked ∙ c.loop-left.invariant.looked;
+      limits = c.end_where_silent.ensures.limits ∙ c.loop-left.invariant.limits;
+      clock = first_then _ _ _ (since c.millis-millis.result) [] c.loop-left.invariant.clock c.end_where_silent.ensures.reported;
       watched = c.end_where_silent.ensures.watched;
       queue = c.end_where_silent.ensures.queue ∙ c.loop-left.invariant.queue;
     }
@@ -65,8 +69,7 @@ returns-clause-silent g c =
     let none : c.loop-left.left ≡ 0 = search rules in
     record {
       millis = c.millis-millis.result;
-      reported_now = _;
-      is_reported = c.millis-millis.ensures;
+      is_reported = c.loop-left.invariant.clock;
       only = left_silent c.args.self.now.housekeeping.watches c.args.self.now.clients.1.0 c.in-Some.since c.args.self.now.housekeeping.limits.idle (c.millis-millis.result / 1000) c.args.self.now.clients.0 c.loop-left.self.clients.0 c.in-Some.ensures.since c.loop-left.invariant.silent;
       all = all_left c.args.self.now.housekeeping.watches c.args.self.now.clients.1.0 c.in-Some.since c.args.self.now.housekeeping.limits.idle (c.millis-millis.result / 1000) c.args.self.now.housekeeping.looked c.loop-left.left c.loop-left.self.clients.0 c.in-Some.ensures.since none c.loop-left.invariant.gone;
       looks_is = c.loop-left.invariant.looked;

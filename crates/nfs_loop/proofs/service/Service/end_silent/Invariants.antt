@@ -1,5 +1,6 @@
 use Rattle.std.specs.Prelude.{◌≡◌, ◌/◌}
 use Rattle.nfs_lines.specs.Written.{written}
+use Rattle.nfs_loop.specs.Reports.{since, IsReportedFirst}
 use Rattle.nfs_loop.specs.Stages.{looked_after, stage, Goes, WithoutTurns}
 use Rattle.nfs_loop.specs.Watching.{AreWatched}
 use Rattle.nfs_server.specs.Fits.{Held}
@@ -17,6 +18,8 @@ invariant-loop-left g l = record {
   looked : l.self.housekeeping.looked ≡ looked_after l.fn.self.housekeeping.limits.idle (l.millis / 1000) l.fn.self.housekeeping.looked;
   watched : AreWatched l.self.clients.0 l.self.housekeeping.watches;
   queue : l.self.clients.1.0 ≡ l.fn.self.clients.1.0;
+  limits : l.self.housekeeping.limits ≡ l.fn.self.housekeeping.limits;
+  clock : IsReportedFirst (g.N.Network.reported l.fn.net) (since l.millis) (g.N.Network.reported l.net);
 }
 
 abbrev pub decreases-loop-left : goal.decreases-loop-left

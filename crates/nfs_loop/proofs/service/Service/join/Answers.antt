@@ -23,7 +23,7 @@ returns-in-Err-clause-reported g c = accounts_one _ _ (since c.millis-millis.res
 
 pub returns-in-Ok-clause-stay : goal.returns-in-Ok-clause-stay
 returns-in-Ok-clause-stay g c = stay_where_one_joins c.args.self.now.clients.0 c.add.new.self.0 c.args.self.now.clients.0.vacant_key _ c.args.self.now.housekeeping.watches c.make_room.new.self c.watch.new.self.watches
-    c.in-Ok.ensures.vacant c.in-Ok.ensures.added c.make_room.ensures.stay (subst (λ k. (other : ℕ) → other ≢ k → hold_at c.watch.new.self.watches other ≡ hold_at c.make_room.new.self other) c.requires.key (λ other differ. ap (λ ws. hold_at ws other) c.watch.ensures ∙ hold_others c.make_room.new.self c.args.key other _ differ))
+    c.in-Ok.ensures.vacant c.in-Ok.ensures.added c.make_room.ensures.stay (subst (λ k. (other : ℕ) → other ≢ k → hold_at c.watch.new.self.watches other ≡ hold_at c.make_room.new.self other) c.requires.key (λ other differ. ap (λ ws. hold_at ws other) c.watch.ensures.watches ∙ hold_others c.make_room.new.self c.args.key other _ differ))
 
 pub returns-in-Err-clause-stay : goal.returns-in-Err-clause-stay
 returns-in-Err-clause-stay g c = stay_same c.args.self.now.clients.0 c.add.new.self.0 c.args.self.now.housekeeping.watches c.make_room.new.self c.in-Err.ensures.err (λ k. ap (λ (w : Watch). w.hold) (c.make_room.ensures.stay k))
@@ -34,7 +34,7 @@ returns-then-is_err-clause-stay g c = stay_same c.args.self.now.clients.0 c.args
 pub returns-in-Ok-clause-watched : goal.returns-in-Ok-clause-watched
 returns-in-Ok-clause-watched g c =
     let room : c.args.key < length c.make_room.new.self = search rules in
-    let same = length_after c.make_room.new.self c.watch.new.self.watches c.args.key _ c.watch.ensures in
+    let same = length_after c.make_room.new.self c.watch.new.self.watches c.args.key _ c.watch.ensures.watches in
     watched_at c.args.self.now.clients.0 c.add.new.self.0 c.args.key _ _ c.args.self.now.housekeeping.watches c.watch.new.self.watches c.requires.key c.in-Ok.ensures.added (omega (arith, room, same)) (omega (arith, c.make_room.ensures.longer, same)) c.requires.watched
 
 pub returns-in-Err-clause-watched : goal.returns-in-Err-clause-watched
@@ -52,5 +52,5 @@ returns-in-Ok-clause-watch g c =
       millis = c.millis-millis.result;
       reported_now = _;
       is_reported = c.millis-millis.ensures;
-      watch_is = ap (λ ws. watch_at ws c.args.key) c.watch.ensures ∙ get_or-set_same c.make_room.new.self c.args.key _ nothing_known room;
+      watch_is = ap (λ ws. watch_at ws c.args.key) c.watch.ensures.watches ∙ get_or-set_same c.make_room.new.self c.args.key _ nothing_known room;
     }

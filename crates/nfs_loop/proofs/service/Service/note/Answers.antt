@@ -14,6 +14,8 @@ loop-left-preserved g c = record {
   joined = c.note_client.ensures.joined ∙ c.loop-left.invariant.joined;
   holds = λ k. c.note_client.ensures.holds k ∙ c.loop-left.invariant.holds k;
   watched = c.note_client.ensures.watched;
+  looked = c.note_client.ensures.looked ∙ c.loop-left.invariant.looked;
+  limits = c.note_client.ensures.limits ∙ c.loop-left.invariant.limits;
   notes = notes_on c.args.self.now.clients.0 c.args.self.now.housekeeping.watches c.in-Some-Client.key c.args.self.now.clients.1.0 c.loop-left.self.clients.1.0 c.note_client.new.self.clients.1.0 _ _ _ c.loop-left.invariant.notes
       (subst (λ m. c.note_client.new.self.clients.1.0 ≡ noted (get m c.in-Some-Client.key) (hold_at c.args.self.now.housekeeping.watches c.in-Some-Client.key) c.in-Some-Client.key c.loop-left.self.clients.1.0) c.loop-left.invariant.members
       (subst (λ h. c.note_client.new.self.clients.1.0 ≡ noted (get c.loop-left.self.clients.0 c.in-Some-Client.key) h c.in-Some-Client.key c.loop-left.self.clients.1.0) (c.loop-left.invariant.holds c.in-Some-Client.key) c.note_client.ensures.queue))
@@ -29,6 +31,8 @@ loop-left-preserved-in-Some-Listener g c =
       joined = c.loop-left.invariant.joined;
       holds = c.loop-left.invariant.holds;
       watched = c.loop-left.invariant.watched;
+      looked = c.loop-left.invariant.looked;
+      limits = c.loop-left.invariant.limits;
       notes = notes_more c.args.self.now.clients.0 c.args.self.now.housekeeping.watches listener_ready c.args.self.now.clients.1.0 c.loop-left.self.clients.1.0 _ _ _ tt c.loop-left.invariant.notes reported;
       asked = asks_on 1024 c.loop-left.left listener_ready _ _ _ c.loop-left.invariant.asked reported c.loop-left-test.true;
     }

@@ -12,6 +12,8 @@ invariant-loop-left g l = record {
   watched : AreWatched l.self.clients.0 l.self.housekeeping.watches;
   notes : Notes l.fn.self.clients.0 l.fn.self.housekeeping.watches l.fn.self.clients.1.0 l.self.clients.1.0 (g.N.Network.reported l.fn.net) (g.N.Network.reported l.net);
   asked : AsksSome 1024 l.left (g.N.Network.reported l.fn.net) (g.N.Network.reported l.net);
+  looked : l.self.housekeeping.looked ≡ l.fn.self.housekeeping.looked;
+  limits : l.self.housekeeping.limits ≡ l.fn.self.housekeeping.limits;
 }
 
 abbrev pub decreases-loop-left : goal.decreases-loop-left

@@ -11,6 +11,8 @@ loop-left-init g c = record {
   members = refl;
   joined = refl;
   watched = c.requires.watched;
+  looked = refl;
+  limits = refl;
   releasing = releasing_begins c.args.self.now.clients.0 c.is_full-is_full.result c.millis-now.result c.args.self.now.housekeeping.watches c.args.self.now.clients.1.0 c.keys-left.result c.keys-left.ensures;
 }
 
@@ -19,6 +21,8 @@ loop-left-preserved g c = record {
   members = c.release_one.ensures.members ∙ c.loop-left.invariant.members;
   joined = c.release_one.ensures.joined ∙ c.loop-left.invariant.joined;
   watched = c.release_one.ensures.watched;
+  looked = c.release_one.ensures.looked ∙ c.loop-left.invariant.looked;
+  limits = c.release_one.ensures.limits ∙ c.loop-left.invariant.limits;
   releasing = releasing_on c.args.self.now.clients.0 c.is_full-is_full.result c.millis-now.result c.args.self.now.housekeeping.watches c.args.self.now.clients.1.0
       c.loop-left.self.housekeeping.watches c.release_one.new.self.housekeeping.watches c.loop-left.self.clients.1.0 c.release_one.new.self.clients.1.0 c.loop-left.left (c.loop-left.left - 1) (one_before c.loop-left.left c.loop-left-test.true) c.loop-left.invariant.releasing
       (subst (λ m. ReleasesOne m c.is_full-is_full.result c.millis-now.result (c.loop-left.left - 1) c.loop-left.self.housekeeping.watches c.release_one.new.self.housekeeping.watches c.loop-left.self.clients.1.0 c.release_one.new.self.clients.1.0) c.loop-left.invariant.members c.release_one.ensures.releases);

@@ -9,6 +9,8 @@ invariant-loop-left g l = record {
   joined : l.self.joined ≡ l.fn.self.joined;
   watched : AreWatched l.self.clients.0 l.self.housekeeping.watches;
   releasing : Releasing l.fn.self.clients.0 l.is_full l.now l.fn.self.housekeeping.watches l.self.housekeeping.watches l.fn.self.clients.1.0 l.self.clients.1.0 l.left;
+  looked : l.self.housekeeping.looked ≡ l.fn.self.housekeeping.looked;
+  limits : l.self.housekeeping.limits ≡ l.fn.self.housekeeping.limits;
 }
 
 abbrev pub decreases-loop-left : goal.decreases-loop-left

@@ -1,13 +1,14 @@
 use Rattle.std.proofs.Common.{◌∙◌, ap, subst, sym}
 use Rattle.slab.specs.Slab.{get}
 use Rattle.nfs_lines.specs.Queued.{is_full}
+use Rattle.nfs_loop.specs.declared.limits.Limits.{Limits}
 use Rattle.nfs_loop.specs.Stages.{WaitAgain, seats}
 use Rattle.nfs_loop.specs.Watching.{AreWatched, ReleasesBy, SomeMayBeHeld}
 use Rattle.nfs_loop.proofs.Changing.{goes_then, nothing, passed}
 use Rattle.nfs_loop.proofs.Leaving.{stay_or_leave}
 use Rattle.nfs_loop.proofs.Lengthening.{notes_account}
 use Rattle.nfs_loop.proofs.Releasing.{releases_account}
-use Rattle.nfs_loop.proofs.Repeating.{round_of}
+use Rattle.nfs_loop.proofs.Repeating.{leave_in_round, round_of}
 use Rattle.nfs_loop.proofs.Staying.{stay_same, stay_then}
 use Rattle.nfs_loop.proofs.service.Service.round.Goals as goal
 
@@ -15,6 +16,8 @@ pub returns : goal.returns
 returns g c =
     let out = g.L.Link.outgoing in
     let come = g.L.Link.incoming in
+    let looked = c.turns.ensures.looked ∙ c.release.ensures.looked ∙ c.accept_some.ensures.looked ∙ c.note.ensures.looked in
+    let limits = c.turns.ensures.limits ∙ c.release.ensures.limits ∙ c.accept_some.ensures.limits ∙ c.note.ensures.limits in
     record {
       round = round_of out come g.L.Link.reports _ _ _ _ _ _ _ _ _ _ _ _ _ _ _ _ _ _ _ c.note.ensures.notes c.note.ensures.all
           (stay_then c.args.self.now.clients.0 c.note.new.self.clients.0 c.accept_some.new.self.clients.0 c.args.self.now.housekeeping.watches c.note.new.self.housekeeping.watches c.accept_some.new.self.housekeeping.watches
@@ -28,6 +31,9 @@ returns g c =
           (subst (λ ws. WaitAgain come g.L.Link.reports ws (seats c.turns.new.self.clients.0) c.release.new.self.clients.1.0 c.end_silent.new.self.clients.1.0) (sym (c.attend.ensures.watches ∙ c.end_silent.ensures.watches))
           (subst (WaitAgain come g.L.Link.reports c.turns.new.self.housekeeping.watches (seats c.turns.new.self.clients.0) c.release.new.self.clients.1.0) (sym c.end_silent.ensures.queue) c.turns.ensures.again))
           (stay_or_leave _ _ _ _ c.turns.new.self.clients.0 c.end_silent.new.self.clients.0 c.end_silent.ensures.silent.only)
-          (subst (SomeMayBeHeld c.release.new.self.clients.1.0 c.release.new.self.housekeeping.watches) (sym (c.attend.ensures.watches ∙ c.end_silent.ensures.watches)) c.turns.ensures.holds);
+          (subst (SomeMayBeHeld c.release.new.self.clients.1.0 c.release.new.self.housekeeping.watches) (sym (c.attend.ensures.watches ∙ c.end_silent.ensures.watches)) c.turns.ensures.holds)
+          (leave_in_round c.turns.new.self.housekeeping.watches _ c.turns.new.self.clients.1.0 c.end_silent.new.self.clients.1.0 c.turns.new.self.housekeeping.limits.idle _ c.turns.new.self.housekeeping.looked c.end_silent.new.self.housekeeping.looked _ _ _ _ _ c.turns.new.self.clients.0 c.end_silent.new.self.clients.0
+          (c.attend.ensures.watches ∙ c.end_silent.ensures.watches) c.end_silent.ensures.queue (ap (λ (l : Limits). l.idle) limits) looked c.attend.ensures.looked c.attend.ensures.reported c.end_silent.ensures.silent)
+          (ap (λ (l : Limits). l.idle) (c.attend.ensures.limits ∙ c.end_silent.ensures.limits ∙ limits));
       watched = subst (AreWatched c.end_silent.new.self.clients.0) (sym c.attend.ensures.watches) c.end_silent.ensures.watched;
     }

@@ -7,9 +7,9 @@ use Rattle.nfs_serving.specs.Service.{Change}
 
 abbrev pub invariant-loop-left : goal.invariant-loop-left
 invariant-loop-left g l = record {
-  rounds : (rounds : List (List Change)) × AreRounds g.L.Link.outgoing g.L.Link.incoming g.L.Link.reports rounds (g.N.Network.reported l.fn.net) (schedule l.fn.self.clients.1.0 l.fn.self.housekeeping.watches)
+  rounds : (rounds : List (List Change)) × AreRounds g.L.Link.outgoing g.L.Link.incoming g.L.Link.reports rounds (g.N.Network.reported l.fn.net) (schedule l.fn.self.clients.1.0 l.fn.self.housekeeping.watches l.fn.self.housekeeping.limits.idle l.fn.self.housekeeping.looked)
       (stage l.fn.server l.fn.self.clients.0 l.fn.self.joined (written g.A.LineOut.taken g.C.LineOut.taken l.fn.lines))
-      (g.N.Network.reported l.net) (schedule l.self.clients.1.0 l.self.housekeeping.watches)
+      (g.N.Network.reported l.net) (schedule l.self.clients.1.0 l.self.housekeeping.watches l.self.housekeeping.limits.idle l.self.housekeeping.looked)
       (stage l.server l.self.clients.0 l.self.joined (written g.A.LineOut.taken g.C.LineOut.taken l.lines));
   watched : AreWatched l.self.clients.0 l.self.housekeeping.watches;
 }

@@ -13,6 +13,8 @@ returns-in-Ended g c = record {
   goes = goes_away g.L.Link.outgoing g.L.Link.incoming g.L.Link.reports c.now-moment.result c.args.self.now.clients c.next.new.self c.in-Some.key c.in-Some.member c.in-Some.ensures.some _ _ _ _ _ c.turn-turn.ensures.stays refl refl refl
       _ _ _ (accounts_one _ _ (since c.millis-millis.result) c.millis-millis.ensures) c.now-moment.ensures _ c.turn-turn.ensures.turns c.leave.new.self.watches _ _ c.leave.ensures.reported c.leave.ensures.lines;
   holds = λ key. inl (ap (λ ws. hold_at ws key) c.leave.ensures.watches ∙ c.hear.ensures.holds key);
+  looked = c.leave.ensures.looked;
+  limits = c.leave.ensures.limits;
   watched = watched_gone c.args.self.now.clients c.next.new.self c.in-Some.key c.in-Some.member c.in-Some.ensures.some c.args.self.now.housekeeping.watches c.leave.new.self.watches (ap length c.leave.ensures.watches ∙ length_heard c.args.self.now.housekeeping.watches c.hear.new.self c.in-Some.key _ _ c.hear.ensures.heard) c.requires.watched;
 }
 
@@ -21,6 +23,8 @@ returns-in-Fed g c = record {
   goes = comes_back g.L.Link.outgoing g.L.Link.incoming g.L.Link.reports c.now-moment.result c.args.self.now.clients c.next.new.self c.in-Some.key c.in-Some.member c.in-Some.ensures.some _ _ _ _ _ c.turn-turn.ensures.stays refl refl refl
       _ _ _ (accounts_one _ _ (since c.millis-millis.result) c.millis-millis.ensures) c.now-moment.ensures _ c.turn-turn.ensures.turns c.hear.new.self c.put_back.new.self true c.put_back.ensures.back c.put_back.ensures.queue (λ e. absurd (true≢false e));
   holds = λ key. inl (c.hear.ensures.holds key);
+  looked = refl;
+  limits = refl;
   watched = watched_back c.args.self.now.clients c.next.new.self c.in-Some.key c.in-Some.member c.in-Some.ensures.some c.put_back.new.self.0 _ c.args.self.now.housekeeping.watches c.hear.new.self c.put_back.ensures.back (length_heard c.args.self.now.housekeeping.watches c.hear.new.self c.in-Some.key _ _ c.hear.ensures.heard) c.requires.watched;
 }
 
@@ -29,6 +33,8 @@ returns-in-Drained g c = record {
   goes = comes_back g.L.Link.outgoing g.L.Link.incoming g.L.Link.reports c.now-moment.result c.args.self.now.clients c.next.new.self c.in-Some.key c.in-Some.member c.in-Some.ensures.some _ _ _ _ _ c.turn-turn.ensures.stays refl refl refl
       _ _ _ (accounts_one _ _ (since c.millis-millis.result) c.millis-millis.ensures) c.now-moment.ensures _ c.turn-turn.ensures.turns c.hear.new.self c.put_back-in-Drained.new.self _ c.put_back-in-Drained.ensures.back c.put_back-in-Drained.ensures.queue (λ e. inr (inl (c.in-Drained.ensures.reports.1, inr c.in-Drained.ensures.asked)));
   holds = λ key. inl (c.hear.ensures.holds key);
+  looked = refl;
+  limits = refl;
   watched = watched_back c.args.self.now.clients c.next.new.self c.in-Some.key c.in-Some.member c.in-Some.ensures.some c.put_back-in-Drained.new.self.0 _ c.args.self.now.housekeeping.watches c.hear.new.self c.put_back-in-Drained.ensures.back (length_heard c.args.self.now.housekeeping.watches c.hear.new.self c.in-Some.key _ _ c.hear.ensures.heard) c.requires.watched;
 }
 
@@ -37,6 +43,8 @@ returns-in-Idle g c = record {
   goes = comes_back g.L.Link.outgoing g.L.Link.incoming g.L.Link.reports c.now-moment.result c.args.self.now.clients c.next.new.self c.in-Some.key c.in-Some.member c.in-Some.ensures.some _ _ _ _ _ c.turn-turn.ensures.stays refl refl refl
       _ _ _ (accounts_one _ _ (since c.millis-millis.result) c.millis-millis.ensures) c.now-moment.ensures _ c.turn-turn.ensures.turns c.hear.new.self c.put_back-in-Idle.new.self false c.put_back-in-Idle.ensures.back c.put_back-in-Idle.ensures.queue (λ e. inr (inl (c.in-Idle.ensures.reports.1, inl c.in-Idle.ensures.asked)));
   holds = λ key. inl (c.hear.ensures.holds key);
+  looked = refl;
+  limits = refl;
   watched = watched_back c.args.self.now.clients c.next.new.self c.in-Some.key c.in-Some.member c.in-Some.ensures.some c.put_back-in-Idle.new.self.0 _ c.args.self.now.housekeeping.watches c.hear.new.self c.put_back-in-Idle.ensures.back (length_heard c.args.self.now.housekeeping.watches c.hear.new.self c.in-Some.key _ _ c.hear.ensures.heard) c.requires.watched;
 }
 
@@ -46,6 +54,8 @@ returns-in-Held g c = record {
       _ _ _ (accounts_one _ _ (since c.millis-millis.result) c.millis-millis.ensures) c.now-moment.ensures _ c.turn-turn.ensures.turns c.set_hold.new.self c.put_back-in-Held.new.self false c.put_back-in-Held.ensures.back c.put_back-in-Held.ensures.queue (λ e. inr (inr (held_now c.args.self.now.clients.0 c.args.self.now.housekeeping.watches c.hear.new.self c.set_hold.new.self c.in-Some.key c.in-Some.member _ c.in-Some.ensures.some.was c.requires.watched (length_heard c.args.self.now.housekeeping.watches c.hear.new.self c.in-Some.key _ _ c.hear.ensures.heard) c.set_hold.ensures refl, (c.now-moment.result, c.turn-turn.new.server, _, c.in-Held.ensures.held refl))));
   holds = held_after c.args.self.now.clients.1.0 c.args.self.now.housekeeping.watches c.hear.new.self c.set_hold.new.self c.hear.ensures.holds
       (first_held c.hear.new.self c.set_hold.new.self c.in-Some.key _ c.args.self.now.clients.1.0 _ c.in-Some.ensures.some.first c.set_hold.ensures refl);
+  looked = refl;
+  limits = refl;
   watched = watched_back c.args.self.now.clients c.next.new.self c.in-Some.key c.in-Some.member c.in-Some.ensures.some c.put_back-in-Held.new.self.0 _ c.args.self.now.housekeeping.watches c.set_hold.new.self c.put_back-in-Held.ensures.back (length_after c.hear.new.self c.set_hold.new.self c.in-Some.key _ c.set_hold.ensures ∙ length_heard c.args.self.now.housekeeping.watches c.hear.new.self c.in-Some.key _ _ c.hear.ensures.heard) c.requires.watched;
 }
 
@@ -54,5 +64,7 @@ returns-in-Owing g c = record {
   goes = comes_back g.L.Link.outgoing g.L.Link.incoming g.L.Link.reports c.now-moment.result c.args.self.now.clients c.next.new.self c.in-Some.key c.in-Some.member c.in-Some.ensures.some _ _ _ _ _ c.turn-turn.ensures.stays refl refl refl
       _ _ _ (accounts_one _ _ (since c.millis-millis.result) c.millis-millis.ensures) c.now-moment.ensures _ c.turn-turn.ensures.turns c.hear.new.self c.put_back-in-Owing.new.self false c.put_back-in-Owing.ensures.back c.put_back-in-Owing.ensures.queue (λ e. inl c.in-Owing.ensures.reports);
   holds = λ key. inl (c.hear.ensures.holds key);
+  looked = refl;
+  limits = refl;
   watched = watched_back c.args.self.now.clients c.next.new.self c.in-Some.key c.in-Some.member c.in-Some.ensures.some c.put_back-in-Owing.new.self.0 _ c.args.self.now.housekeeping.watches c.hear.new.self c.put_back-in-Owing.ensures.back (length_heard c.args.self.now.housekeeping.watches c.hear.new.self c.in-Some.key _ _ c.hear.ensures.heard) c.requires.watched;
 }

@@ -1,3 +1,4 @@
+use Rattle.std.proofs.Common.{◌≡◌}
 use Rattle.nfs_lines.specs.Written.{written}
 use Rattle.nfs_loop.specs.Reports.{Accounts}
 use Rattle.nfs_loop.specs.Watching.{AreWatched, SomeMayBeHeld}
@@ -11,6 +12,8 @@ invariant-loop-left g l = record {
       (stage l.server l.self.clients.0 l.self.joined (written g.A.LineOut.taken g.C.LineOut.taken l.lines));
   watched : AreWatched l.self.clients.0 l.self.housekeeping.watches;
   holds : SomeMayBeHeld l.fn.self.clients.1.0 l.fn.self.housekeeping.watches l.self.housekeeping.watches;
+  looked : l.self.housekeeping.looked ≡ l.fn.self.housekeeping.looked;
+  limits : l.self.housekeeping.limits ≡ l.fn.self.housekeeping.limits;
 }
 
 abbrev pub decreases-loop-left : goal.decreases-loop-left
