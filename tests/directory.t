@@ -70,7 +70,13 @@ fails "no client may reach the directory: add --export PATTERN=OPTIONS, such as 
 run check examples/e.tree --export '*'
 fails "--mount, --export, --bytes, --files and --chown are for a directory on disk; a description has its own lines for them" 2 "--export beside a description is refused"
 run check "$disk" --export 10.1.0.0/33
-fails "an option doesn't fit into a description: line 3: BadPattern" 2 "a faulty pattern is refused"
+fails "an option doesn't fit into a description: line 3: BadPattern
+  export 10.1.0.0/33
+  column 8: \"10.1.0.0/33\" has no number of bits after its slash; write 0 to 32" 2 "a faulty pattern is refused, with what would be right"
+run describe "$disk" --export 10.1.0.0/16=rw,no_rot_squash
+fails "an option doesn't fit into a description: line 3: BadOptions
+  export 10.1.0.0/16 rw,no_rot_squash
+  column 23: \"no_rot_squash\" is not an option; did you mean \"no_root_squash\"?" 2 "so is a faulty option"
 
 # More than the volume may hold.
 files=$(find "$disk" -printf '%i\n' | sort -u | grep -c .)

@@ -31,7 +31,7 @@ call() { printf '00000000 00000002 000186a0 00000002 %08x 00000000 00000000 0000
 asked_of yes late yes yes
 serving examples/e.tree --connections 1 --register
 { echo ready && call 1 100003 && call 1 100005 && call 2 100003 && call 2 100005; } >"$work/wanted"
-printf 'open 1\nend 1\n' | "$work/exchange" "$port" && server_ends 0 && serves_quietly && wait "$portmapper" && same "$work/wanted" "$work/calls"
+printf 'open 1\nclose 1\n' | "$work/exchange" "$port" && server_ends 0 && serves_quietly && wait "$portmapper" && same "$work/wanted" "$work/calls"
 ok $? "NFS and MOUNT are registered at the server's port, from a port below 1024, and removed when the service ends"
 
 # fails_so WHAT MESSAGE SET..: whether a service ends with status 3 and this message, before it listens, where the portmapper gives
