@@ -1,8 +1,8 @@
 //! The tree of a server, saved while it is served.
 
 use log::Log;
+use nfs_commands::copies::CopySaver;
 use nfs_loop::saver::Saver;
-use nfs_saving::copies::CopySaver;
 use nfs_server::server::Server;
 use std::random::RandomSource;
 use std::rt::Files;

@@ -2,7 +2,7 @@
 
 use crate::serve::fault_of;
 use log::Log;
-use nfs_runs::lending::{ServerUse, lend_tree};
+use nfs_commands::lending::{ServerUse, lend_tree};
 use nfs_server::server::Server;
 use nfs_source::diagnostic::Diagnostic;
 use nfs_source::fault::Fault;

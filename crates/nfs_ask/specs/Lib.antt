@@ -1,4 +1,5 @@
 pub mod Asks
 pub mod Faults
 pub mod Operations
+pub mod ScriptFaults
 pub mod Words

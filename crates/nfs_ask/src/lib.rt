@@ -1,4 +1,4 @@
-//! Calls in words: what the words of an `ask` ask for.
+//! Calls in words: what the words of an `ask` ask for; and how a script of calls can fail.
 #![tactic(auto)]
 
 pub mod ask;
@@ -6,4 +6,5 @@ pub mod fault;
 mod fields;
 pub mod operation;
 mod request;
+pub mod script_fault;
 pub mod user;

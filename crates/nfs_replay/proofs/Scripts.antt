@@ -9,10 +9,10 @@ use Rattle.nfs_text.specs.Lines.{lines}
 use Rattle.nfs_inodes.specs.Tree.{Tree}
 use Rattle.nfs_load.proofs.Loadings.{number_is}
 use Rattle.nfs_load.specs.Loadings.{number_after}
-use Rattle.nfs_script.specs.ScriptFaults.{IsOfMachine}
-use Rattle.nfs_script.specs.declared.fault.LineCause.{LineCause}
-use Rattle.nfs_script.specs.declared.fault.ScriptFault.{ScriptFault}
-use Rattle.nfs_script.specs.declared.fault.ScriptFault.TheVariants as script
+use Rattle.nfs_ask.specs.ScriptFaults.{IsOfMachine}
+use Rattle.nfs_ask.specs.declared.script_fault.LineCause.{LineCause}
+use Rattle.nfs_ask.specs.declared.script_fault.ScriptFault.{ScriptFault}
+use Rattle.nfs_ask.specs.declared.script_fault.ScriptFault.TheVariants as script
 use Rattle.nfs_ask.specs.declared.fault.AskFault.{AskFault}
 use Rattle.nfs_replay.specs.Scripts.{AskForNone, FaultsBy, IsCauseOf, IsFaulty, IsRefused, IsReported, IsRun, SayNone, StopsBy, bytes_in, fault_of, onto, word_in}
 use Rattle.nfs_replay.specs.declared.fault.RunFault.{RunFault}

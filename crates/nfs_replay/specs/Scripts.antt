@@ -18,10 +18,10 @@ use Rattle.nfs_replay.specs.Orders.{Asked, Nothing, Attach, Feed, Detach, Call, 
 use Rattle.nfs_replay.specs.declared.line_fault.LineFault.{LineFault}
 use Rattle.nfs_replay.specs.declared.line_fault.LineFault.TheVariants.{OfLine, OfRun}
 use Rattle.nfs_replay.specs.declared.fault.RunFault.TheVariants as run
-use Rattle.nfs_script.specs.declared.fault.LineCause.{LineCause}
-use Rattle.nfs_script.specs.declared.fault.LineCause.TheVariants.{BadLine, BadHex, NoHandle, BadWord, NoFile}
-use Rattle.nfs_script.specs.declared.fault.ScriptFault.{ScriptFault}
-use Rattle.nfs_script.specs.declared.fault.ScriptFault.TheVariants as script
+use Rattle.nfs_ask.specs.declared.script_fault.LineCause.{LineCause}
+use Rattle.nfs_ask.specs.declared.script_fault.LineCause.TheVariants.{BadLine, BadHex, NoHandle, BadWord, NoFile}
+use Rattle.nfs_ask.specs.declared.script_fault.ScriptFault.{ScriptFault}
+use Rattle.nfs_ask.specs.declared.script_fault.ScriptFault.TheVariants as script
 use Rattle.nfs_text.specs.Lines.{lines}
 use Rattle.nfs_xdr.specs.Reading.{◌>>=◌}
 

@@ -1,7 +1,7 @@
 //! Why a run of a script ends, whatever the script says.
 
+use nfs_ask::script_fault::ScriptFault;
 use nfs_load::listing::WriteFault;
-use nfs_script::fault::ScriptFault;
 use std::alloc::{AllocError, AllocFailed};
 
 /// Why a run ends, whatever the script says: the machine is at fault.
@@ -32,7 +32,7 @@ impl From<WriteFault> for RunFault {
 }
 
 impl From<RunFault> for ScriptFault {
-    ghost use Rattle.nfs_script.specs.ScriptFaults.{IsOfMachine};
+    ghost use Rattle.nfs_ask.specs.ScriptFaults.{IsOfMachine};
 
     ghost from_gives = { λ _ fault. IsOfMachine fault };
 

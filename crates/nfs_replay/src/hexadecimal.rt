@@ -5,7 +5,7 @@ ghost use Rattle.nfs_replay.specs.Scripts.{IsCauseOf, digits_in, onto};
 
 use crate::fault::RunFault;
 use crate::line_fault::LineFault;
-use nfs_script::fault::LineCause;
+use nfs_ask::script_fault::LineCause;
 use std::alloc::{AllocError, Global};
 
 /// Adds the bytes that the digits say, two digits of either case to a byte. `BadHex` where they

@@ -6,7 +6,7 @@ ghost use Rattle.nfs_replay.specs.Scripts.{IsReported};
 
 use crate::fault::RunFault;
 use nfs_ask::fault::{AskFault, Wanted};
-use nfs_script::fault::{LineCause, ScriptFault};
+use nfs_ask::script_fault::{LineCause, ScriptFault};
 
 /// What is wrong with a line, or the fault of what it asks for.
 #[derive(Clone, Copy)]

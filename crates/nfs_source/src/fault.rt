@@ -3,11 +3,11 @@ ghost use Rattle.std.specs.Prelude.{◌≡◌};
 ghost use Rattle.nfs_source.specs.Status.{status_of};
 
 use crate::sharing_fault::SharingFault;
+use nfs_ask::script_fault::{LineCause, ScriptFault};
 use nfs_describe::fault::DescribeFault;
 use nfs_load::cause::Cause;
 use nfs_load::load_error::LoadError;
 use nfs_portmap::fault::PortmapFault;
-use nfs_script::fault::{LineCause, ScriptFault};
 use std::alloc::AllocError;
 use std::io;
 use std::net::SocketAddr;

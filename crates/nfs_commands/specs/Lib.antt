@@ -1,0 +1,4 @@
+pub mod Lives
+pub mod Saving
+pub mod Sharing
+pub mod Totals

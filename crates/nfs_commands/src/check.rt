@@ -1,0 +1,122 @@
+//! `nfs3d check`: whether a description is in order, and how much it holds.
+
+use crate::named::{NamedTree, is_directory, refuse_sharing};
+use crate::totals::totals_line;
+use nfs_advice::every::{Faulty, every_fault};
+use nfs_advice::warnings::{Warning, warnings};
+use nfs_command_line::invocation::Check;
+use nfs_load::load_error::LoadError;
+use nfs_load::loaded::Loaded;
+use nfs_source::description::Description;
+use nfs_source::diagnostic::Diagnostic;
+use nfs_source::output::print;
+use nfs_source::source::Source;
+use std::alloc::{AllocError, Global};
+use std::mem::forget;
+use std::process::ExitCode;
+use std::rt::Files;
+
+/// Prints what a description holds, and on standard error what it says that may not be meant; the
+/// status is 1 then where that is strict. Where the whole of it is looked at, its faulty lines are all
+/// reported, with the status 1. So it is of a directory of which something is skipped, where that is strict.
+/// The faults of `NamedTree::read`; `Write` and `Closed` where the output fails.
+pub fn check_file<R: Files + Input + Print + Eprint + AllocGlobal>(
+    rt: &R,
+    alloc: Global,
+    words: Check<'_, '_>,
+) -> Result<ExitCode, Diagnostic> {
+    let (tree, is_strict) = (words.tree(), words.is_strict());
+    if words.is_whole() && !is_directory(rt, tree.name()) {
+        refuse_sharing(tree.sharing())?;
+        return check_whole(rt, alloc, tree.name(), is_strict);
+    }
+    let NamedTree {
+        description,
+        is_partial,
+    } = NamedTree::read(rt, alloc, tree)?;
+    let Description { source, loaded } = description;
+    let status = report_loaded(rt, alloc, &source, loaded, is_strict)?;
+    Ok(if is_strict && is_partial {
+        ExitCode::from(1)
+    } else {
+        status
+    })
+}
+
+// The same with all its faulty lines.
+fn check_whole<R: Files + Input + Print + Eprint>(
+    rt: &R,
+    alloc: Global,
+    name: &str,
+    is_strict: bool,
+) -> Result<ExitCode, Diagnostic> {
+    let description = Source::read(rt, alloc, name)?;
+    if report_faults(rt, alloc, &description)? {
+        return Ok(ExitCode::from(1));
+    }
+    let loaded = description.load(alloc)?;
+    report_loaded(rt, alloc, &description, loaded, is_strict)
+}
+
+// Prints what a description holds, and warns. What was loaded is not given back file by file, since
+// the process ends.
+fn report_loaded<R: Print + Eprint>(
+    rt: &R,
+    alloc: Global,
+    description: &Source<'_>,
+    loaded: Loaded,
+    is_strict: bool,
+) -> Result<ExitCode, Diagnostic> {
+    let totals = totals_line(alloc, &loaded.tree)?;
+    print(rt, totals.as_slice())?;
+    let warnings = warn(rt, alloc, description, &loaded)?;
+    forget(loaded);
+    Ok(if is_strict && warnings > 0 {
+        ExitCode::from(1)
+    } else {
+        ExitCode::SUCCESS
+    })
+}
+
+// Prints the fault of each faulty line and how many there are, if there is one.
+fn report_faults<R: Eprint>(
+    rt: &R,
+    alloc: Global,
+    description: &Source<'_>,
+) -> Result<bool, AllocError> {
+    let Some(faults) = every_fault(alloc, description.text.as_slice())? else {
+        return Ok(false);
+    };
+    report(rt, alloc, description, faults.first);
+    for faulty in &faults.others {
+        report(rt, alloc, description, *faulty);
+    }
+    let count = faults.others.len().saturating_add(1);
+    let _ = eprintln!(rt; "faulty lines: {count}");
+    Ok(true)
+}
+
+fn report<R: Eprint>(rt: &R, alloc: Global, description: &Source<'_>, faulty: Faulty) {
+    let Faulty { line, cause } = faulty;
+    let diagnostic = Diagnostic::of_description(
+        alloc,
+        LoadError::Fault { line, cause },
+        description,
+    );
+    let _ = eprintln!(rt; "{diagnostic}");
+}
+
+// Prints a line for each warning, and reports how many there are.
+fn warn<R: Eprint>(
+    rt: &R,
+    alloc: Global,
+    description: &Source<'_>,
+    loaded: &Loaded,
+) -> Result<usize, AllocError> {
+    let name = description.name;
+    let found = warnings(alloc, description.text.as_slice(), loaded)?;
+    for Warning { line, advice } in &found {
+        let _ = eprintln!(rt; "warning: {name}:{line}:{advice}");
+    }
+    Ok(found.len())
+}

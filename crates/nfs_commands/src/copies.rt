@@ -1,0 +1,168 @@
+//! Where and when the tree of a server is saved.
+ghost use Rattle.std.specs.Prelude.{◌≡◌, ◌⊎◌, IfOk, IsErr};
+ghost use Rattle.std.specs.Process.{exit_status};
+ghost use Rattle.nfs_commands.specs.Saving.{IsDigest, IsStatus};
+
+use crate::key::{KEY_BYTES, given_key};
+use crate::saved_file::try_place;
+use crate::saving::{Saved, save, save_changed};
+use log::{Log, info, warn};
+use nfs_server::server::Server;
+use nfs_source::diagnostic::Diagnostic;
+use nfs_source::fault::Fault;
+use std::alloc::Global;
+use std::io;
+use std::process::ExitCode;
+use std::random::RandomSource;
+use std::rt::Files;
+use std::time::{Clock, Duration, Instant};
+
+// A saving that takes longer is warned of, since no client is answered meanwhile.
+const LONG_MILLIS: u128 = 1_000;
+
+/// Where the tree is saved, if it is to be.
+#[derive(Clone, Copy)]
+pub struct Copies<'a> {
+    name: Option<&'a str>,
+    // Without it a new one each time.
+    key: Option<[u8; KEY_BYTES]>,
+}
+
+impl<'a> Copies<'a> {
+    /// As the words say: the file, and the key in hexadecimal digits. The fault of `try_place`, so that
+    /// nothing is served or run first.
+    pub fn of<R: Files>(
+        rt: &R,
+        alloc: Global,
+        name: Option<&'a str>,
+        key: Option<&str>,
+    ) -> Result<Copies<'a>, Diagnostic> {
+        if let Some(name) = name {
+            if let Err(fault) = try_place(rt, alloc, name) {
+                return Err(Diagnostic::of_saving(alloc, fault));
+            }
+        }
+        Ok(Copies {
+            name,
+            key: key.and_then(given_key),
+        })
+    }
+
+    /// Saves the tree at the end of a service that had begun, also where a fault ended it, which is then
+    /// reported. Warns of what is skipped, and the status is 1 then. The fault of the service, or else that
+    /// of `save`; where there are both, that of `save` is reported first.
+    pub fn save_last<R: Files + RandomSource + Eprint>(
+        &self,
+        rt: &R,
+        alloc: Global,
+        server: &Server,
+        served: Result<(), Fault>,
+    ) -> Result<ExitCode, Diagnostic>
+        ensures served { IsErr served → IsErr result }
+        ensures saved { IfOk result (λ code. IsStatus self.now.name self.now.key server.now (exit_status code)) }
+    {
+        let saved = self.save_now(rt, alloc, server);
+        match (served, saved) {
+            (Ok(()), saved) => saved,
+            (Err(fault), Ok(_)) => Err(fault.into()),
+            (Err(fault), Err(unsaved)) => {
+                unsaved.report(rt);
+                Err(fault.into())
+            }
+        }
+    }
+
+    // Saves the tree, if it is to be.
+    fn save_now<R: Files + RandomSource + Eprint>(
+        &self,
+        rt: &R,
+        alloc: Global,
+        server: &Server,
+    ) -> Result<ExitCode, Diagnostic>
+        ensures { IfOk result (λ code. IsStatus self.now.name self.now.key server.now (exit_status code)) }
+    {
+        let Some(name) = self.name else {
+            return Ok(ExitCode::SUCCESS);
+        };
+        match save(rt, alloc, name, server, self.key) {
+            Ok(saved) => {
+                saved.warn(rt, name);
+                Ok(saved.status())
+            }
+            Err(fault) => Err(Diagnostic::of_saving(alloc, fault)),
+        }
+    }
+
+    /// What saves the tree while it is served.
+    pub fn saver<'b, R>(&'b self, rt: &'b R, alloc: Global) -> CopySaver<'b, R> {
+        CopySaver {
+            rt,
+            alloc,
+            name: self.name,
+            key: self.key,
+            saved: None,
+        }
+    }
+}
+
+/// What saves the tree while it is served.
+#[derive(Drop)]
+pub struct CopySaver<'a, R> {
+    rt: &'a R,
+    alloc: Global,
+    name: Option<&'a str>,
+    key: Option<[u8; KEY_BYTES]>,
+    // The digest of what was saved last.
+    saved: Option<[u8; 32]>,
+}
+
+impl<R: Files + RandomSource + Clock + Log> CopySaver<'_, R> {
+    /// Saves the tree, and logs how long it took. A fault, and what is skipped, is a warning. A tree that is
+    /// as it was saved last is not saved again.
+    pub fn save(&mut self, server: &Server)
+        ensures { (self.new.saved ≡ self.old.saved) ⊎ IsDigest self.old.key server.now self.new.saved }
+    {
+        let Some(name) = self.name else {
+            return;
+        };
+        let began = Instant::now(self.rt);
+        let done = save_changed(self.rt, self.alloc, name, server, self.key, &mut self.saved);
+        log_saved(self.rt, name, began, done);
+    }
+}
+
+// Logs what is saved, and how long it took, or why it isn't.
+fn log_saved<R: Clock + Log>(
+    rt: &R,
+    name: &str,
+    began: io::Result<Instant>,
+    done: Result<Option<Saved>, Fault>,
+) {
+    match done {
+        Ok(Some(saved)) => {
+            for unsaid in &saved.skipped {
+                warn!(rt; "{name}: {unsaid}");
+            }
+            log_time(rt, name, began);
+        }
+        Ok(None) => {}
+        Err(fault) => warn!(rt; "{fault}"),
+    }
+}
+
+// Logs how long a saving took; nothing where the clock fails.
+fn log_time<R: Clock + Log>(rt: &R, name: &str, began: io::Result<Instant>) {
+    let Ok(took) = elapsed(rt, began) else {
+        return;
+    };
+    let millis = took.as_millis();
+    if millis > LONG_MILLIS {
+        warn!(rt; "{name}: saved in {millis} ms, during which no client was served");
+    } else {
+        info!(rt; "{name}: saved in {millis} ms");
+    }
+}
+
+fn elapsed<R: Clock>(rt: &R, began: io::Result<Instant>) -> io::Result<Duration> {
+    began?.elapsed(rt)
+}

@@ -1,0 +1,67 @@
+//! `nfs3d describe`: a directory on disk, as a description.
+
+use crate::key::key_of;
+use crate::shared::SharedDirectory;
+use crate::skipped::report_skipped;
+use nfs_command_line::invocation::Describe;
+use nfs_describe::description::describe;
+use nfs_describe::fault::DescribeFault;
+use nfs_disk::survey::{Purpose, Survey};
+use nfs_source::diagnostic::Diagnostic;
+use nfs_source::fault::Fault;
+use nfs_source::output::print;
+use std::alloc::{AllocError, Global};
+use std::mem::forget;
+use std::process::ExitCode;
+use std::random::RandomSource;
+use std::rt::Files;
+
+/// Prints the description of the directory that the words name. What is skipped of it is reported on
+/// standard error. `CannotRead` where there is no such directory, or the system has no key, `Sharing` where
+/// a word is faulty, `Undescribed` where a description can't hold it, `Write` and `Closed` where the output
+/// fails, `Memory`.
+pub fn describe_directory<R: Files + Print + Eprint + RandomSource + AllocGlobal>(
+    rt: &R,
+    alloc: Global,
+    words: Describe<'_, '_>,
+) -> Result<ExitCode, Diagnostic> {
+    let key = key_of(rt, alloc, words.key())?;
+    let shared = SharedDirectory::read(
+        rt,
+        alloc,
+        words.directory(),
+        words.sharing(),
+        Some(key),
+        Purpose::Describing,
+    )?;
+    report_skipped(rt, &shared.survey);
+    let printed = print_shared(rt, alloc, words, &shared);
+    forget(shared);
+    Ok(printed?)
+}
+
+// Prints the description. What was loaded is not given back file by file, since the process ends.
+fn print_shared<R: Print>(
+    rt: &R,
+    alloc: Global,
+    words: Describe<'_, '_>,
+    shared: &SharedDirectory,
+) -> Result<ExitCode, Fault> {
+    match describe(alloc, &shared.loaded.tree, &shared.loaded.table) {
+        Ok(text) => {
+            print(rt, text.as_slice())?;
+            Ok(status_of(words, &shared.survey))
+        }
+        Err(DescribeFault::Memory) => Err(Fault::Memory(AllocError)),
+        Err(fault) => Err(Fault::Undescribed(fault)),
+    }
+}
+
+// 1 where something was skipped and nothing may be.
+fn status_of(words: Describe<'_, '_>, survey: &Survey) -> ExitCode {
+    if words.is_strict() && !survey.warnings.is_empty() {
+        ExitCode::from(1)
+    } else {
+        ExitCode::SUCCESS
+    }
+}

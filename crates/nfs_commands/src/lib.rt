@@ -1,0 +1,22 @@
+//! The commands: those that ask something of a tree, and those that run a script or make a description or a directory; what the
+//! word TREE names; how a server of a tree begins, and where and when its tree is saved.
+#![tactic(auto)]
+
+mod beginning;
+pub mod check;
+pub mod copies;
+pub mod describing;
+pub mod exports;
+mod exposure;
+pub mod extracting;
+pub mod key;
+pub mod lending;
+mod life;
+pub mod named;
+pub mod replay;
+pub mod saved_file;
+pub mod saving;
+pub mod shared;
+pub mod skipped;
+mod totals;
+pub mod why;

@@ -1,0 +1,107 @@
+//! `nfs3d replay`: a script, run over a description.
+
+use crate::copies::Copies;
+use crate::named::NamedTree;
+use nfs_ask::script_fault::ScriptFault;
+use nfs_command_line::invocation::Replay;
+use nfs_load::loaded::Loaded;
+use nfs_replay::replay::replay;
+use nfs_replay::shown::Shown;
+use nfs_server::sessions::Sessions;
+use nfs_source::diagnostic::Diagnostic;
+use nfs_source::output::fault_of;
+use nfs_source::source::Source;
+use nfs_xdr::device::Device;
+use std::alloc::{AllocError, Global};
+use std::io::{self, BufWriter, Write};
+use std::mem::forget;
+use std::process::ExitCode;
+use std::random::RandomSource;
+use std::rt::Files;
+
+// How much output is written at once.
+const RUN_BYTES: usize = 65_536;
+
+/// Runs a script over a description, and saves the tree as it then is where the words ask for it. The
+/// status is 1 where a description can't hold all of it. The faults of `Copies::of`, `NamedTree::read`
+/// and `Copies::save_last`; `CannotRead` and `TooLong` where the script can't be read, `Script` with its
+/// first faulty line, `Write` and `Closed` where the output fails, `Memory`.
+pub fn replay_files<R: Files + Input + Print + Eprint + RandomSource + AllocGlobal>(
+    rt: &R,
+    alloc: Global,
+    words: Replay<'_, '_>,
+) -> Result<ExitCode, Diagnostic> {
+    let copies = Copies::of(rt, alloc, words.save(), words.key())?;
+    let loaded = NamedTree::load(rt, alloc, words.tree())?;
+    match Source::read(rt, alloc, words.script()) {
+        Ok(script) => replay_script(rt, alloc, loaded, &script, words, &copies),
+        Err(fault) => {
+            forget(loaded);
+            Err(fault.into())
+        }
+    }
+}
+
+// Runs a script over what was loaded, which is not given back file by file, since the process ends.
+fn replay_script<R: Files + Print + Eprint + RandomSource>(
+    rt: &R,
+    alloc: Global,
+    loaded: Loaded,
+    script: &Source<'_>,
+    words: Replay<'_, '_>,
+    copies: &Copies<'_>,
+) -> Result<ExitCode, Diagnostic> {
+    let sessions = run(rt, alloc, loaded, script, words)?;
+    let saved = copies.save_last(rt, alloc, sessions.server(), Ok(()));
+    forget(sessions);
+    saved
+}
+
+// Runs a script, whose lines are printed up to the first faulty one.
+fn run<R: Print>(
+    rt: &R,
+    alloc: Global,
+    loaded: Loaded,
+    script: &Source<'_>,
+    words: Replay<'_, '_>,
+) -> Result<Sessions, Diagnostic> {
+    let Ok(lines) = BufWriter::with_capacity(alloc, RUN_BYTES, io::writer(rt)) else {
+        forget(loaded);
+        return Err(AllocError.into());
+    };
+    let mut out = Device::new(lines);
+    let shown = Shown {
+        is_decoded: words.is_decoded(),
+        is_named: words.is_named(),
+    };
+    let cache = words.cache().clamp(1, 1024);
+    let done = replay(
+        alloc,
+        loaded,
+        script.text.as_slice(),
+        cache,
+        shown,
+        &mut out,
+    );
+    let flushed = out.into_inner().flush();
+    ended(alloc, script, done, flushed)
+}
+
+// The sessions of a script that ran to its end and whose output is written.
+fn ended(
+    alloc: Global,
+    script: &Source<'_>,
+    done: Result<Sessions, ScriptFault>,
+    flushed: io::Result<()>,
+) -> Result<Sessions, Diagnostic> {
+    match flushed {
+        Ok(()) => match done {
+            Ok(sessions) => Ok(sessions),
+            Err(fault) => Err(Diagnostic::of_script(alloc, fault, script)),
+        },
+        Err(error) => {
+            forget(done);
+            Err(fault_of(error).into())
+        }
+    }
+}

@@ -1,6 +1,0 @@
-use Rattle.std.proofs.Common.{◌≡◌}
-use Rattle.nfs_questions.specs.Totals.{totals_of_first}
-use Rattle.nfs_questions.proofs.totals.totals_of.Given as goal
-
-abbrev pub invariant-loop-index : goal.invariant-loop-index
-invariant-loop-index l = l.all ≡ totals_of_first l.tree l.index
