@@ -38,6 +38,10 @@ module _ {L : Type 0} (outgoing incoming : L → Option (List ℕ)) where
     such = (turned_then f.changes g.changes ∙ ap (λ l. l ++ turned g.changes) f.such.0 ∙ g.such.0, accounts_then a b c f.changes g.changes f.such.1 g.such.1);
   }
 
+  -- it begins as well where nobody came or went
+  pub begins_where : (P : List Change → Type 0) (server : Held) (old mid : Slab (Member L)) (joined now : ℕ) (w : Written) (new : Stage L) → mid ≡ old → now ≡ joined → Goes outgoing incoming P (stage server mid now w) new → Goes outgoing incoming P (stage server old joined w) new
+  begins_where P server old mid joined now w new members count g = subst (λ n. Goes outgoing incoming P (stage server old n w) new) count (subst (λ m. Goes outgoing incoming P (stage server m now w) new) members g)
+
   pub goes_none : (a : Option (List Report)) (old : Stage L) → Goes outgoing incoming (λ changes. WithoutTurns a changes a) old old
   goes_none a old = record { changes = []; are_changes = refl; shared_stays = refl; such = (refl, accounts_none a) }
 

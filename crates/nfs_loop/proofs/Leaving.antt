@@ -5,7 +5,6 @@ use Rattle.slab.specs.Slab.{Slab, get, Updates}
 use Rattle.nfs_loop.specs.declared.watches.Hold.{Hold}
 use Rattle.nfs_loop.specs.declared.watches.Watch.{Watch}
 use Rattle.nfs_loop.specs.Stages.{AllSilentLeave, IsSilent, LeavesIfSilent, OnlySilentLeave}
-use Rattle.nfs_loop.proofs.Staying.{none_some}
 
 -- so far only those have left that have been silent since then
 abbrev pub LeftIfSilent : {M : Type 0} → List Watch → List ℕ → ℕ → Slab M → Slab M → Type 0

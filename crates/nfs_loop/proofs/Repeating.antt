@@ -1,13 +1,17 @@
 -- One round after another.
-use Rattle.std.proofs.Common.{◌≡◌, ◌⊎◌, ℕ, Bool, List, [], ◌∷◌, ◌++◌, Option, None, option_map, inl, inr, refl, sym, ap, subst, ◌∙◌, append-nil}
+use Rattle.std.proofs.Common.{◌≡◌, ◌⊎◌, ℕ, ◌≤◌, Bool, true, false, not, ◌&&◌, nat_le, if◌then◌else◌, List, [], ◌∷◌, ◌++◌, length, Option, Some, None, option_map, inl, inr, refl, sym, ap, subst, ◌∙◌, append-nil, length-append, arith}
+use Rattle.std.proofs.lemmas.Bool.{leb-true, true≢false}
 use Rattle.slab.specs.Slab.{Slab, get}
+use Rattle.nfs_lines.specs.Queued.{Queued, is_full, put_plainly}
 use Rattle.nfs_loop.specs.declared.member.Member.{Member}
 use Rattle.nfs_loop.specs.declared.watches.Watch.{Watch}
 use Rattle.nfs_loop.specs.Watching.{AllStay, ReleasesBy, SomeMayBeHeld}
 use Rattle.nfs_loop.specs.Reports.{Report, since, Accounts}
-use Rattle.nfs_loop.specs.Stages.{Stage, state, seat_of, seats, turned, AsksAll, Goes, Notes, Schedule, SilentLeave, WaitAgain, WithoutTurns, IsRound, most_asked, AreRounds, Rounds, changes_of}
+use Rattle.nfs_loop.specs.Stages.{Stage, state, seat_of, seats, turned, AllOthersStay, AsksAll, Goes, Notes, Schedule, SilentLeave, WaitAgain, WithoutTurns, MayBeFull, IsRound, most_asked, AreRounds, Rounds, changes_of}
 use Rattle.nfs_loop.proofs.Reporting.{accounts_then, accounts_same, first_then}
 use Rattle.nfs_loop.proofs.Changing.{both_change, changes_then, turned_then}
+use Rattle.nfs_loop.proofs.Lengthening.{notes_account}
+use Rattle.nfs_loop.proofs.Releasing.{releases_account}
 use Rattle.nfs_loop.proofs.Rounding.{again_where_some_left}
 use Rattle.nfs_serving.proofs.Failed.{failed_logs_stay}
 use Rattle.nfs_serving.specs.Service.{Change, AreChanges}
@@ -23,6 +27,32 @@ leave_in_round watches watches_now queue later idle limit looked looks seconds n
     (subst (λ q. SilentLeave watches_now q idle looked a c looks old new) (sym same_queue)
     (subst (λ w. SilentLeave w queue idle looked a c looks old new) (sym same_watches)
     (record { millis = silent.millis; is_reported = first_then a b c (since silent.millis) [] silent.is_reported more; only = silent.only; all = silent.all; looks_is = silent.looks_is })))))
+
+-- ---- a log that is full
+
+both_are : (a b : Bool) → (a && b) ≡ true → (a ≡ true) × (b ≡ true)
+both_are true b e = (refl, e)
+both_are false b e = absurd (true≢false (sym e))
+
+not_failed : (failed : Bool) → not failed ≡ true → failed ≡ false
+not_failed true e = absurd (true≢false (sym e))
+not_failed false e = refl
+
+at_least_pending : (most : ℕ) (before pending log : List ℕ) → Some (before ++ pending) ≡ Some log → most ≤ length pending → most ≤ length log
+at_least_pending most before pending log e enough = subst (λ l. most ≤ length l) (some_is e) (omega (arith, enough, length-append before pending))
+  where
+    some_is : {X : Type 0} {a b : X} → Some a ≡ Some b → a ≡ b
+    some_is e = cc
+
+many_put : (most : ℕ) (is_plain : Bool) (taken : Option (List ℕ)) (pending log : List ℕ) → (if is_plain then option_map (λ bytes. bytes ++ pending) taken else None) ≡ Some log → most ≤ length pending → most ≤ length log
+many_put most true (Some before) pending log e enough = at_least_pending most before pending log e enough
+many_put most true None pending log e enough = cc
+many_put most false taken pending log e enough = cc
+
+pub full_where : {D : Type 0} (taken : D → Option (List ℕ)) (is_plain : Bool) (q : Queued D) → is_full q ≡ true → (q.failed ≡ false) × ((log : List ℕ) → put_plainly taken is_plain q ≡ Some log → 4194304 ≤ length log)
+full_where taken is_plain q full = let both = both_are (not q.failed) (nat_le 4194304 (length q.pending)) full in (not_failed q.failed both.0, λ log e. many_put 4194304 is_plain (taken q.device) q.pending log e (leb-true 4194304 (length q.pending) both.1))
+
+-- ---- one round
 
 module _ {L : Type 0} (outgoing incoming : L → Option (List ℕ)) (reports : L → ℕ → Came → L → Type 0) where
   before_turns : (a b c : Option (List Report)) (first : List ℕ) (old mid new : Stage L) → Goes outgoing incoming (λ changes. WithoutTurns a changes b) old mid → Goes outgoing incoming (λ changes. (turned changes ≡ first) × Accounts b changes c) mid new
@@ -47,17 +77,28 @@ module _ {L : Type 0} (outgoing incoming : L → Option (List ℕ)) (reports : L
   seat_or_none was now (inl same) = inl (ap (option_map seat_of) same)
   seat_or_none was now (inr gone) = inr (ap (option_map seat_of) gone)
 
-  pub round_of : (a b c d : Option (List Report)) (from to : Schedule) (ready_queue first : List ℕ) (old mid turned_at new : Stage L) (between before after : Option (List Report)) (members : Slab (Member L)) (held left : List Watch) (full : Bool)
-      → Notes old.members from.watches from.queue ready_queue a between → AsksAll most_asked a between → AllStay old.members from.watches members held → ReleasesBy members full before after held left ready_queue first
-      → Goes outgoing incoming (λ changes. WithoutTurns a changes b) old mid
-      → Goes outgoing incoming (λ changes. (turned changes ≡ first) × Accounts b changes c) mid turned_at
+  -- nothing more comes of what was reported before and after some changes
+  with_reports : (a b c d : Option (List Report)) (old new : Stage L) → Accounts a [] b → Accounts c [] d → Goes outgoing incoming (λ changes. WithoutTurns b changes c) old new → Goes outgoing incoming (λ changes. WithoutTurns a changes d) old new
+  with_reports a b c d old new f g goes = record {
+    changes = goes.changes;
+    are_changes = goes.are_changes;
+    shared_stays = goes.shared_stays;
+    such = (goes.such.0, accounts_then a c d goes.changes [] (subst (λ l. Accounts a l c) (append-nil goes.changes) (accounts_then a b c [] goes.changes f goes.such.1)) g);
+  }
+
+  pub round_of : (a between before after c d : Option (List Report)) (from to : Schedule) (ready_queue first : List ℕ) (old gathered turned_at new : Stage L) (held left : List Watch)
+      → Notes old.members from.watches from.queue ready_queue a between → AsksAll most_asked a between → AllStay old.members from.watches gathered.members held → ReleasesBy gathered.members from.full before after held left ready_queue first
+      → MayBeFull from.full old.written → gathered.written ≡ old.written
+      → Goes outgoing incoming (λ changes. WithoutTurns between changes before) old gathered
+      → Goes outgoing incoming (λ changes. (turned changes ≡ first) × Accounts after changes c) gathered turned_at → AllOthersStay first (seats gathered.members) (seats turned_at.members)
       → Goes outgoing incoming (λ changes. WithoutTurns c changes d) turned_at new
       → WaitAgain incoming reports to.watches (seats turned_at.members) first to.queue → ((key : ℕ) → (get new.members key ≡ get turned_at.members key) ⊎ (get new.members key ≡ None))
       → SomeMayBeHeld first left to.watches → SilentLeave to.watches to.queue from.idle from.looked c d to.looked turned_at.members new.members → to.idle ≡ from.idle
       → (changes : List Change) × IsRound outgoing incoming reports changes a d from to old new
-  unfolding after_turns
-  round_of a b c d from to ready_queue first old mid turned_at new between before after members held left full notes asked stay releases f g h again some_left some_held silent idle_stays =
-      let serving = before_turns a b c first old mid turned_at f g in
+  unfolding after_turns before_turns with_reports
+  round_of a between before after c d from to ready_queue first old gathered turned_at new held left notes asked stay releases full_is nothing_written f g others h again some_left some_held silent idle_stays =
+      let joining = with_reports a between before after old gathered (notes_account old.members from.watches from.queue ready_queue a between notes) (releases_account gathered.members from.full before after held left ready_queue first releases) f in
+      let serving = before_turns a after c first old gathered turned_at joining g in
       let whole = after_turns a c d first old turned_at new serving h in (
         whole.changes,
         record {
@@ -68,23 +109,32 @@ module _ {L : Type 0} (outgoing incoming : L → Option (List ℕ)) (reports : L
           ready_queue = ready_queue;
           notes = notes;
           asked = asked;
-          members = members;
+          gathered = gathered;
+          before = before;
+          joining = f.changes;
+          joining_leads = f.are_changes;
+          joining_accounts = f.such;
+          nothing_written = nothing_written;
           held = held;
           all_stay = stay;
-          full = full;
-          before = before;
           after = after;
           left = left;
           first = first;
           releases = releases;
+          full_is = full_is;
           turned_are = whole.such.0;
           wait_again = again_where_some_left incoming reports to.watches (seats turned_at.members) (seats new.members) first to.queue (λ key. seat_or_none (get turned_at.members key) (get new.members key) (some_left key)) again;
           some_held = some_held;
           served = turned_at;
           looks_at = c;
+          turning = g.changes;
+          turning_leads = subst (λ s. AreChanges outgoing incoming s g.changes (state gathered) (state turned_at)) f.shared_stays g.are_changes;
+          turning_accounts = g.such.1;
+          others_stay = others;
           serving = serving.changes;
           serving_leads = serving.are_changes;
           serving_accounts = serving.such.1;
+          serving_is = refl;
           ending = h.changes;
           ending_leads = subst (λ s. AreChanges outgoing incoming s h.changes (state turned_at) (state new)) serving.shared_stays h.are_changes;
           ending_accounts = h.such;
@@ -112,16 +162,16 @@ module _ {L : Type 0} (outgoing incoming : L → Option (List ℕ)) (reports : L
       (changes ∷ rounds, (before, mid, between, are, subst (λ t. IsRound outgoing incoming reports changes t reported_then mid to between new) same pass))
 
   -- rounds, and after them changes without turns
-  pub run_over : (reported reported_now after : Option (List Report)) (from to : Schedule) (old last new : Stage L) → (rounds : List (List Change)) × AreRounds outgoing incoming reports rounds reported from old reported_now to last → Goes outgoing incoming (λ changes. WithoutTurns reported_now changes after) last new
+  pub run_over : (reported reported_now after : Option (List Report)) (from to : Schedule) (old last new : Stage L) (full : Bool) → (rounds : List (List Change)) × AreRounds outgoing incoming reports rounds reported from old reported_now (record to { full = full }) last → Goes outgoing incoming (λ changes. WithoutTurns reported_now changes after) last new
       → Goes outgoing incoming (λ changes. Rounds outgoing incoming reports reported from to old changes × Accounts reported changes after) old new
-  run_over reported reported_now after from to old last new (rounds, are) g =
-      let e = rounds_go rounds reported reported_now from to old last are in
+  run_over reported reported_now after from to old last new full (rounds, are) g =
+      let e = rounds_go rounds reported reported_now from (record to { full = full }) old last are in
       record {
         changes = g.changes ++ changes_of rounds;
         are_changes = changes_then outgoing incoming old.written.shared (changes_of rounds) g.changes (state old) (state last) (state new) e.0 (subst (λ s. AreChanges outgoing incoming s g.changes (state last) (state new)) e.1 g.are_changes);
         shared_stays = g.shared_stays ∙ e.1;
         such = (
-          record { rounds = rounds; reported_now = reported_now; last = last; are_rounds = are; after = g.changes; no_turns = g.such.0; changes_are = refl },
+          record { rounds = rounds; reported_now = reported_now; last = last; full = full; are_rounds = are; after = g.changes; no_turns = g.such.0; changes_are = refl },
           accounts_then reported reported_now after (changes_of rounds) g.changes e.2 g.such.1,
         );
       }

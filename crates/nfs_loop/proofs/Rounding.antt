@@ -2,12 +2,12 @@
 use Rattle.std.proofs.Common.{◌≡◌, ◌≢◌, ◌⊎◌, ℕ, ◌-◌, ◌<◌, false, List, [], ◌∷◌, ◌++◌, length, nat_eq, Option, None, inl, inr, refl, sym, ap, subst, ◌∙◌, append_assoc, append-nil, arith}
 use Rattle.std.proofs.lemmas.Bool.{eqb-false}
 use Rattle.nfs_queue.specs.Queues.{is_waiting, AreApart}
-use Rattle.nfs_queue.proofs.Queueing.{apart_at, or_left, or_right}
+use Rattle.nfs_queue.proofs.Queueing.{apart_at, or_both, or_left, or_right}
 use Rattle.nfs_loop.specs.Reports.{Report, Accounts}
 use Rattle.nfs_loop.specs.declared.watches.Hold.{Hold}
 use Rattle.nfs_loop.specs.declared.watches.Watch.{Watch}
 use Rattle.nfs_loop.specs.Watching.{FirstMayBeHeld, hold_at}
-use Rattle.nfs_loop.specs.Stages.{Stage, turned, IsAgain, InRound, OthersStay, Sleeps, TurnsFirst, WaitAgain, Goes}
+use Rattle.nfs_loop.specs.Stages.{Stage, turned, AllOthersStay, IsAgain, InRound, OthersStay, Sleeps, TurnsFirst, WaitAgain, Goes}
 use Rattle.nfs_loop.proofs.Reporting.{accounts_then, accounts_none}
 use Rattle.nfs_loop.proofs.Staying.{others_not_held}
 use Rattle.nfs_loop.proofs.Changing.{both_change, turned_then}
@@ -19,6 +19,16 @@ none_left left e l = omega (arith, e, l)
 
 one_less : (rest : List ℕ) (key left : ℕ) → length (key ∷ rest) ≡ left → length rest ≡ left - 1
 one_less rest key left e = omega (arith, e)
+
+-- who is not among keys with another one after them is not among them, and is not that one
+not_among : (other key : ℕ) (keys : List ℕ) → is_waiting other (keys ++ key ∷ []) ≡ false → (is_waiting other keys ≡ false) × (other ≢ key)
+not_among other key [] e = (refl, eqb-false other key (or_left (nat_eq other key) false e))
+not_among other key (k ∷ keys) e =
+    let rest = not_among other key keys (or_right (nat_eq other k) (is_waiting other (keys ++ key ∷ [])) e) in
+    (or_both (nat_eq other k) (is_waiting other keys) (or_left (nat_eq other k) (is_waiting other (keys ++ key ∷ [])) e) rest.0, rest.1)
+
+others_on : {L : Type 0} (began was seat : ℕ → Option (Seat L)) (key : ℕ) (keys : List ℕ) → AllOthersStay keys began was → OthersStay key was seat → AllOthersStay (keys ++ key ∷ []) began seat
+others_on began was seat key keys before others other e = let apart = not_among other key keys e in others other apart.1 ∙ before other apart.0
 
 module _ {L : Type 0} (incoming : L → Option (List ℕ)) (reports : L → ℕ → Came → L → Type 0) where
   -- another one had its turn
@@ -50,14 +60,14 @@ module _ {L : Type 0} (incoming : L → Option (List ℕ)) (reports : L → ℕ 
   again_where_some_left watches was seat (k ∷ keys) queue left (inl w) = inl (w.0, w.1, again_where_some_left watches was seat keys w.0 left w.2)
   again_where_some_left watches was seat (k ∷ keys) queue left (inr w) = inr (sleeps_or_gone (hold_at watches k) (was k) (seat k) (left k) w.0, again_where_some_left watches was seat keys queue left w.1)
 
-  round_begins : (watches : List Watch) (seat : ℕ → Option (Seat L)) (queue : List ℕ) → InRound incoming reports watches seat queue queue (length queue) []
-  round_begins watches seat queue = record { rest = queue; again = []; first_is = refl; queue_is = sym (append-nil queue); left_is = refl; wait_again = refl }
+  round_begins : (watches : List Watch) (seat : ℕ → Option (Seat L)) (queue : List ℕ) → InRound incoming reports watches seat seat queue queue (length queue) []
+  round_begins watches seat queue = record { rest = queue; again = []; first_is = refl; queue_is = sym (append-nil queue); left_is = refl; wait_again = refl; others_stay = λ other e. refl }
 
-  step : (a b : List Watch) (was seat : ℕ → Option (Seat L)) (first queue now rest again : List ℕ) (left : ℕ) (changes later : List Change) → AreApart first
-      → first ≡ turned changes ++ rest → queue ≡ rest ++ again → length rest ≡ left → WaitAgain incoming reports a was (turned changes) again
-      → 0 < left → FirstMayBeHeld queue a b → TurnsFirst incoming reports b was seat queue later now → InRound incoming reports b seat first now (left - 1) (later ++ changes)
-  step a b was seat first queue now [] again left changes later apart f q l w some held t = absurd (none_left left l some)
-  step a b was seat first queue now (key ∷ rest) again left changes later apart f q l w some held t =
+  step : (a b : List Watch) (began was seat : ℕ → Option (Seat L)) (first queue now rest again : List ℕ) (left : ℕ) (changes later : List Change) → AreApart first
+      → first ≡ turned changes ++ rest → queue ≡ rest ++ again → length rest ≡ left → WaitAgain incoming reports a was (turned changes) again → AllOthersStay (turned changes) began was
+      → 0 < left → FirstMayBeHeld queue a b → TurnsFirst incoming reports b was seat queue later now → InRound incoming reports b began seat first now (left - 1) (later ++ changes)
+  step a b began was seat first queue now [] again left changes later apart f q l w others some held t = absurd (none_left left l some)
+  step a b began was seat first queue now (key ∷ rest) again left changes later apart f q l w others some held t =
       let s : TurnsFirst incoming reports b was seat (key ∷ (rest ++ again)) later now = subst (λ x. TurnsFirst incoming reports b was seat x later now) q t in
       let goes_on : WaitAgain incoming reports b seat (turned changes) again = again_others a b was seat key (turned changes) again (apart_at (turned changes) key rest (subst AreApart f apart)) s.1 (others_not_held queue a b key (rest ++ again) q held) w in
       let more : turned (later ++ changes) ≡ turned changes ++ key ∷ [] = turned_then changes later ∙ ap (λ x. turned changes ++ x) s.0 in
@@ -68,6 +78,7 @@ module _ {L : Type 0} (incoming : L → Option (List ℕ)) (reports : L → ℕ 
         queue_is = s.2.1 ∙ append_assoc rest again s.2.0;
         left_is = one_less rest key left l;
         wait_again = subst (λ x. WaitAgain incoming reports b seat x (again ++ s.2.0)) (sym more) (again_then b seat key (turned changes) again s.2.0 goes_on s.2.2);
+        others_stay = subst (λ x. AllOthersStay x began seat) (sym more) (others_on began was seat key (turned changes) others s.1);
       }
 
   done : (watches : List Watch) (seat : ℕ → Option (Seat L)) (first queue rest again : List ℕ) (changes : List Change) → first ≡ turned changes ++ rest → queue ≡ rest ++ again → length rest ≡ 0 → WaitAgain incoming reports watches seat (turned changes) again
@@ -78,24 +89,24 @@ module _ {L : Type 0} (incoming : L → Option (List ℕ)) (reports : L → ℕ 
   done watches seat first queue (key ∷ rest) again changes f q l w = absurd (none_left (length (key ∷ rest)) (sym l) (omega arith))
 
 pub round_starts : {L : Type 0} (outgoing incoming : L → Option (List ℕ)) (reports : L → ℕ → Came → L → Type 0) (reported : Option (List Report)) (watches : List Watch) (seat : ℕ → Option (Seat L)) (old : Stage L) (queue : List ℕ) (left : ℕ) → left ≡ length queue
-    → Goes outgoing incoming (λ changes. InRound incoming reports watches seat queue queue left changes × Accounts reported changes reported) old old
+    → Goes outgoing incoming (λ changes. InRound incoming reports watches seat seat queue queue left changes × Accounts reported changes reported) old old
 round_starts outgoing incoming reports reported watches seat old queue left is = record {
   changes = [];
   are_changes = refl;
   shared_stays = refl;
-  such = (subst (λ n. InRound incoming reports watches seat queue queue n []) (sym is) (round_begins incoming reports watches seat queue), accounts_none reported);
+  such = (subst (λ n. InRound incoming reports watches seat seat queue queue n []) (sym is) (round_begins incoming reports watches seat queue), accounts_none reported);
 }
 
-module _ {L : Type 0} (outgoing incoming : L → Option (List ℕ)) (reports : L → ℕ → Came → L → Type 0) (a : List Watch) (was : ℕ → Option (Seat L)) (first queue : List ℕ) (left : ℕ) (reported reported_now : Option (List Report)) (old mid : Stage L)
-    (before : Goes outgoing incoming (λ changes. InRound incoming reports a was first queue left changes × Accounts reported changes reported_now) old mid) where
+module _ {L : Type 0} (outgoing incoming : L → Option (List ℕ)) (reports : L → ℕ → Came → L → Type 0) (a : List Watch) (began was : ℕ → Option (Seat L)) (first queue : List ℕ) (left : ℕ) (reported reported_now : Option (List Report)) (old mid : Stage L)
+    (before : Goes outgoing incoming (λ changes. InRound incoming reports a began was first queue left changes × Accounts reported changes reported_now) old mid) where
   pub round_on : (b : List Watch) (seat : ℕ → Option (Seat L)) (now : List ℕ) (reported_then : Option (List Report)) (new : Stage L) → AreApart first → 0 < left → FirstMayBeHeld queue a b → Goes outgoing incoming (λ changes. TurnsFirst incoming reports b was seat queue changes now × Accounts reported_now changes reported_then) mid new
-      → Goes outgoing incoming (λ changes. InRound incoming reports b seat first now (left - 1) changes × Accounts reported changes reported_then) old new
+      → Goes outgoing incoming (λ changes. InRound incoming reports b began seat first now (left - 1) changes × Accounts reported changes reported_then) old new
   round_on b seat now reported_then new apart some held turn = record {
     changes = turn.changes ++ before.changes;
-    are_changes = both_change outgoing incoming (λ changes. InRound incoming reports a was first queue left changes × Accounts reported changes reported_now) (λ changes. TurnsFirst incoming reports b was seat queue changes now × Accounts reported_now changes reported_then) old mid new before turn;
+    are_changes = both_change outgoing incoming (λ changes. InRound incoming reports a began was first queue left changes × Accounts reported changes reported_now) (λ changes. TurnsFirst incoming reports b was seat queue changes now × Accounts reported_now changes reported_then) old mid new before turn;
     shared_stays = turn.shared_stays ∙ before.shared_stays;
     such = (
-      step incoming reports a b was seat first queue now before.such.0.rest before.such.0.again left before.changes turn.changes apart before.such.0.first_is before.such.0.queue_is before.such.0.left_is before.such.0.wait_again some held turn.such.0,
+      step incoming reports a b began was seat first queue now before.such.0.rest before.such.0.again left before.changes turn.changes apart before.such.0.first_is before.such.0.queue_is before.such.0.left_is before.such.0.wait_again before.such.0.others_stay some held turn.such.0,
       accounts_then reported reported_now reported_then before.changes turn.changes before.such.1 turn.such.1,
     );
   }
@@ -113,3 +124,6 @@ module _ {L : Type 0} (outgoing incoming : L → Option (List ℕ)) (reports : L
 
   pub all_wait_again : left ≡ 0 → WaitAgain incoming reports a was first queue
   all_wait_again none = (at_end none).1
+
+  pub all_others_stay : left ≡ 0 → AllOthersStay first began was
+  all_others_stay none = subst (λ keys. AllOthersStay keys began was) (at_end none).0 before.such.0.others_stay

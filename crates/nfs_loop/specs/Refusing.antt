@@ -43,7 +43,7 @@ abbrev pub is_audit_fault : End → Bool
 is_audit_fault (Fault AuditFault) = true
 is_audit_fault other = false
 
--- Where a denied call was refused so, the next connections from its address wait, by the time that the clock reported; without memory they don't. Else nothing is remembered.
-abbrev pub IsRefusedBy : Bool → Addr → Option (List Report) → List RefusedPeer → List RefusedPeer → Type 0
-IsRefusedBy false addr reported old new = new ≡ old
-IsRefusedBy true addr reported old new = (now : ℕ) × (mid : Option (List Report)) × IsReported reported (since now) mid × ((new ≡ with_refused addr now old) ⊎ (new ≡ others_waiting addr now old))
+-- Where a denied call was refused so, the next connections from its address wait, by the time that the clock reported, and nothing else was reported; without memory they don't. Else nothing is remembered.
+abbrev pub IsRefusedBy : Bool → Addr → Option (List Report) → Option (List Report) → List RefusedPeer → List RefusedPeer → Type 0
+IsRefusedBy false addr reported reported_now old new = new ≡ old
+IsRefusedBy true addr reported reported_now old new = (now : ℕ) × IsReported reported (since now) reported_now × ((new ≡ with_refused addr now old) ⊎ (new ≡ others_waiting addr now old))

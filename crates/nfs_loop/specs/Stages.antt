@@ -1,5 +1,5 @@
 -- What a service is, and what its turns bring.
-use Rattle.std.specs.Prelude.{◌≡◌, ◌≢◌, ◌⊎◌, ℕ, ◌+◌, ◌/◌, ◌<◌, Bool, false, true, List, [], ◌∷◌, ◌++◌, length, Option, Some, None, IsSome, option_map}
+use Rattle.std.specs.Prelude.{◌≡◌, ◌≢◌, ◌⊎◌, ℕ, ◌+◌, ◌/◌, ◌<◌, ◌≤◌, Bool, false, true, List, [], ◌∷◌, ◌++◌, length, Option, Some, None, IsSome, option_map}
 use Rattle.std.specs.List.{AllByRecursion}
 use Rattle.std.specs.declared.net.ip_addr.IpAddr.{IpAddr}
 use Rattle.slab.specs.Slab.{Slab, get, Updates, SameValues}
@@ -65,6 +65,10 @@ IsAgain incoming reports hold key again seat = (again ≡ key ∷ []) ⊎ ((agai
 abbrev pub OthersStay : {L : Type 0} → ℕ → (ℕ → Option (Seat L)) → (ℕ → Option (Seat L)) → Type 0
 OthersStay key was seat = (other : ℕ) → other ≢ key → seat other ≡ was other
 
+-- all sit as they sat, but for those of these keys
+abbrev pub AllOthersStay : {L : Type 0} → List ℕ → (ℕ → Option (Seat L)) → (ℕ → Option (Seat L)) → Type 0
+AllOthersStay keys was seat = (other : ℕ) → is_waiting other keys ≡ false → seat other ≡ was other
+
 -- The first of the queue has its turn. It may wait again then, after all others, or it sleeps, by what is known of the clients then.
 abbrev pub TurnsFirst : {L : Type 0} → (L → Option (List ℕ)) → (L → ℕ → Came → L → Type 0) → List Watch → (ℕ → Option (Seat L)) → (ℕ → Option (Seat L)) → List ℕ → List Change → List ℕ → Type 0
 TurnsFirst incoming reports watches was seat [] changes queue = (changes ≡ []) × (queue ≡ [])
@@ -88,14 +92,15 @@ pub record Goes {L : Type 0} (outgoing incoming : L → Option (List ℕ)) (Such
   pub shared_stays : new.written.shared ≡ old.written.shared
   pub such : Such changes
 
--- In the midst of a round, with so many turns left: those that waited first have had their turns, and then the rest has, which still waits before all others. Who had its turn waits again after the rest, or sleeps.
-pub record InRound {L : Type 0} (incoming : L → Option (List ℕ)) (reports : L → ℕ → Came → L → Type 0) (watches : List Watch) (seat : ℕ → Option (Seat L)) (first queue : List ℕ) (left : ℕ) (changes : List Change) : Type 0 where
+-- In the midst of a round, with so many turns left: those that waited first have had their turns, and then the rest has, which still waits before all others. Who had its turn waits again after the rest, or sleeps. All others sit as they sat when the turns began.
+pub record InRound {L : Type 0} (incoming : L → Option (List ℕ)) (reports : L → ℕ → Came → L → Type 0) (watches : List Watch) (began seat : ℕ → Option (Seat L)) (first queue : List ℕ) (left : ℕ) (changes : List Change) : Type 0 where
   pub rest : List ℕ
   pub again : List ℕ
   pub first_is : first ≡ turned changes ++ rest
   pub queue_is : queue ≡ rest ++ again
   pub left_is : length rest ≡ left
   pub wait_again : WaitAgain incoming reports watches seat (turned changes) again
+  pub others_stay : AllOthersStay (turned changes) began seat
 
 -- a client of this peer has joined under a key, after so many others
 pub record HasJoined {L : Type 0} (key : ℕ) (peer : IpAddr) (old : Slab (Member L)) (joined : ℕ) (new : Slab (Member L)) (now : ℕ) : Type 0 where
@@ -110,12 +115,11 @@ pub record HasJoined {L : Type 0} (key : ℕ) (peer : IpAddr) (old : Slab (Membe
 abbrev pub JoinsOrNot : {L : Type 0} → ℕ → IpAddr → Slab (Member L) → ℕ → Slab (Member L) → ℕ → Type 0
 JoinsOrNot key peer old joined new now = (SameValues old new × (now ≡ joined)) ⊎ HasJoined key peer old joined new now
 
--- What is known of a new client: it was heard of when it came, by the clock, and is held where connections from its address have to wait then.
-pub record BeginsToWatch (key : ℕ) (peer : IpAddr) (refused : List RefusedPeer) (reported : Option (List Report)) (watches : List Watch) : Type 0 where
+-- What is known of a new client: it was heard of when it came, by what the clock reported next, and nothing else was reported; it is held where connections from its address have to wait then.
+pub record BeginsToWatch (key : ℕ) (peer : IpAddr) (refused : List RefusedPeer) (reported reported_now : Option (List Report)) (watches : List Watch) : Type 0 where
   pub addr : Addr
   pub addr_is : IsAddrOf peer (Some addr)
   pub millis : ℕ
-  pub reported_now : Option (List Report)
   pub is_reported : IsReported reported (since millis) reported_now
   pub watch_is : watch_at watches key ≡ record { heard = millis / 1000; hold = hold_for addr millis refused; is_closing = false }
 
@@ -189,17 +193,22 @@ pub record SilentLeave {M : Type 0} (watches : List Watch) (queue : List ℕ) (i
 
 -- ---- the rounds of the loop
 
--- The keys of those that wait, the next one first, and what is known of the clients; for how many seconds a client may be silent, if there is a limit, and when silent ones were last looked for, in seconds since the service began.
+-- The keys of those that wait, the next one first, and what is known of the clients; for how many seconds a client may be silent, if there is a limit, and when silent ones were last looked for, in seconds since the service began; and whether the log is full.
 pub record Schedule : Type 0 where
   pub queue : List ℕ
   pub watches : List Watch
   pub idle : Option ℕ
   pub looked : ℕ
+  pub full : Bool
 
-abbrev pub schedule : List ℕ → List Watch → Option ℕ → ℕ → Schedule
-schedule queue watches idle looked = record { queue = queue; watches = watches; idle = idle; looked = looked }
+abbrev pub schedule : List ℕ → List Watch → Option ℕ → ℕ → Bool → Schedule
+schedule queue watches idle looked full = record { queue = queue; watches = watches; idle = idle; looked = looked; full = full }
 
--- A round: the network is asked what is ready. Those of which something was reported wait after those that waited, unless they get no turn for now; others may have joined; and after them wait those whose hold is over. Then each who waits has one turn, in that order, and at the end it waits again, sleeps or is gone. Only those that had a turn are held who were not before. At the end of the round, once all turns are over, those that are silent leave, and nobody else does there, by the time that the clock reported then. The changes up to there lead to those who are looked at, and nobody has a turn in the others.
+-- the log is full only where its device has not failed, and at least 4 MiB of lines were put into it, where that is known
+abbrev pub MayBeFull : Bool → Written → Type 0
+MayBeFull full written = full ≡ true → (written.broken ≡ false) × ((log : List ℕ) → written.log ≡ Some log → 4194304 ≤ length log)
+
+-- A round: the network is asked what is ready. Those of which something was reported wait after those that waited, unless they get no turn for now; others may have joined since; and after them wait those whose hold is over, by what the clock reported once these had come and before the moment of any turn, and as the log was full or not. Nothing was written up to there. Then each who waits has one turn, in that order, and at the end it waits again, sleeps or is gone. All others stay, and only those that had a turn are held who were not before. At the end of the round, once all turns are over, those that are silent leave, and nobody else does there, by the time that the clock reported then. The changes up to there lead to those who are looked at, and nobody has a turn in the others.
 pub record IsRound {L : Type 0} (outgoing incoming : L → Option (List ℕ)) (reports : L → ℕ → Came → L → Type 0) (changes : List Change) (reported reported_now : Option (List Report)) (from to : Schedule) (old new : Stage L) : Type 0 where
   pub are_changes : AreChanges outgoing incoming old.written.shared changes (state old) (state new)
   pub shared_stays : new.written.shared ≡ old.written.shared
@@ -208,23 +217,32 @@ pub record IsRound {L : Type 0} (outgoing incoming : L → Option (List ℕ)) (r
   pub ready_queue : List ℕ
   pub notes : Notes old.members from.watches from.queue ready_queue reported between
   pub asked : AsksAll most_asked reported between
-  pub members : Slab (Member L)
-  pub held : List Watch
-  pub all_stay : AllStay old.members from.watches members held
-  pub full : Bool
+  pub gathered : Stage L
   pub before : Option (List Report)
+  pub joining : List Change
+  pub joining_leads : AreChanges outgoing incoming old.written.shared joining (state old) (state gathered)
+  pub joining_accounts : WithoutTurns between joining before
+  pub nothing_written : gathered.written ≡ old.written
+  pub held : List Watch
+  pub all_stay : AllStay old.members from.watches gathered.members held
   pub after : Option (List Report)
   pub left : List Watch
   pub first : List ℕ
-  pub releases : ReleasesBy members full before after held left ready_queue first
+  pub releases : ReleasesBy gathered.members from.full before after held left ready_queue first
+  pub full_is : MayBeFull from.full old.written
   pub turned_are : turned changes ≡ first
   pub wait_again : WaitAgain incoming reports to.watches (seats new.members) first to.queue
   pub some_held : SomeMayBeHeld first left to.watches
   pub served : Stage L
   pub looks_at : Option (List Report)
+  pub turning : List Change
+  pub turning_leads : AreChanges outgoing incoming old.written.shared turning (state gathered) (state served)
+  pub turning_accounts : Accounts after turning looks_at
+  pub others_stay : AllOthersStay first (seats gathered.members) (seats served.members)
   pub serving : List Change
   pub serving_leads : AreChanges outgoing incoming old.written.shared serving (state old) (state served)
   pub serving_accounts : Accounts reported serving looks_at
+  pub serving_is : serving ≡ turning ++ joining
   pub ending : List Change
   pub ending_leads : AreChanges outgoing incoming old.written.shared ending (state served) (state new)
   pub ending_accounts : WithoutTurns looks_at ending reported_now
@@ -244,12 +262,13 @@ abbrev pub changes_of : List (List Change) → List Change
 changes_of [] = []
 changes_of (changes ∷ earlier) = changes ++ changes_of earlier
 
--- rounds, and after them changes in which nobody has a turn
+-- Rounds, and after them changes in which nobody has a turn. Whether the log was full at the end of the last round is said apart, since lines may have been passed on since.
 pub record Rounds {L : Type 0} (outgoing incoming : L → Option (List ℕ)) (reports : L → ℕ → Came → L → Type 0) (reported : Option (List Report)) (from to : Schedule) (old : Stage L) (changes : List Change) : Type 0 where
   pub rounds : List (List Change)
   pub reported_now : Option (List Report)
   pub last : Stage L
-  pub are_rounds : AreRounds outgoing incoming reports rounds reported from old reported_now to last
+  pub full : Bool
+  pub are_rounds : AreRounds outgoing incoming reports rounds reported from old reported_now (record to { full = full }) last
   pub after : List Change
   pub no_turns : turned after ≡ []
   pub changes_are : changes ≡ after ++ changes_of rounds

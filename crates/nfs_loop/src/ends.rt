@@ -35,7 +35,7 @@ impl Housekeeping {
         ensures watches { self.new.watches ≡ self.old.watches }
         ensures looked { self.new.looked ≡ self.old.looked }
         ensures limits { self.new.limits ≡ self.old.limits }
-        ensures refused { IsRefusedBy (is_audit_fault end) member.addr (N.reported net.old) self.old.refused_peers self.new.refused_peers }
+        ensures refused { IsRefusedBy (is_audit_fault end) member.addr (N.reported net.old) (N.reported net.new) self.old.refused_peers self.new.refused_peers }
         ensures lines { (by : End) × LeavesBy member.client by
             × Reported (end_text member.number member.client.calls by) (written A.taken C.taken lines.old) (written A.taken C.taken lines.new) }
     {
@@ -65,7 +65,7 @@ impl Housekeeping {
         ensures watches { self.new.watches ≡ self.old.watches }
         ensures looked { self.new.looked ≡ self.old.looked }
         ensures limits { self.new.limits ≡ self.old.limits }
-        ensures refused { IsRefusedBy (is_audit_fault end) addr (N.reported net.old) self.old.refused_peers self.new.refused_peers }
+        ensures refused { IsRefusedBy (is_audit_fault end) addr (N.reported net.old) (N.reported net.new) self.old.refused_peers self.new.refused_peers }
     {
         if is_audit_fault(end) {
             let now = net.millis();

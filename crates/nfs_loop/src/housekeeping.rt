@@ -61,7 +61,10 @@ pub(crate) struct Housekeeping {
 
 impl Housekeeping {
     /// That of a service that begins.
-    pub(crate) fn new(alloc: Global, limits: Limits) -> Housekeeping {
+    pub(crate) fn new(alloc: Global, limits: Limits) -> Housekeeping
+        ensures limits { result.limits ≡ limits }
+        ensures looked { result.looked ≡ 0 }
+    {
         Housekeeping {
             limits,
             watches: Watches::new(alloc),

@@ -130,7 +130,7 @@ impl<L: Link + Drop> Service<L> {
         ensures stay { AllStay self.old.clients.0 self.old.housekeeping.watches self.new.clients.0 self.new.housekeeping.watches }
         ensures reported { Accounts (N.reported net.old) [] (N.reported net.new) }
         ensures watch { OnOk result (BeginsToWatch key (socket_ip peer) self.old.housekeeping.refused_peers
-            (N.reported net.old) self.new.housekeeping.watches) }
+            (N.reported net.old) (N.reported net.new) self.new.housekeeping.watches) }
         ensures looked { self.new.housekeeping.looked ≡ self.old.housekeeping.looked }
         ensures limits { self.new.housekeeping.limits ≡ self.old.housekeeping.limits }
         ensures watched { AreWatched self.new.clients.0 self.new.housekeeping.watches }

@@ -3,7 +3,7 @@ ghost use Rattle.std.specs.Prelude.{◌≡◌, ◌↔◌, ℕ, false};
 ghost use Rattle.slab.specs.Slab.{get};
 ghost use Rattle.nfs_lines.specs.Queued.{is_full};
 ghost use Rattle.nfs_lines.specs.Written.{written};
-ghost use Rattle.nfs_loop.specs.Stages.{AsksAll, Goes, Notes, TurnsFirst, WaitAgain, most_asked, noted, seats, stage, turned};
+ghost use Rattle.nfs_loop.specs.Stages.{AllOthersStay, AsksAll, Goes, Notes, TurnsFirst, WaitAgain, most_asked, noted, seats, stage, turned};
 ghost use Rattle.nfs_loop.specs.Reports.{Accounts};
 ghost use Rattle.nfs_loop.specs.Watching.{AreWatched, FirstMayBeHeld, ReleasesBy, ReleasesOne, SomeMayBeHeld, hold_at};
 
@@ -127,6 +127,7 @@ impl<L: Link + Drop> Service<L> {
             (stage server.old self.old.clients.0 self.old.joined (written A.taken C.taken lines.old))
             (stage server.new self.new.clients.0 self.new.joined (written A.taken C.taken lines.new)) }
         ensures holds { SomeMayBeHeld self.old.clients.1.0 self.old.housekeeping.watches self.new.housekeeping.watches }
+        ensures others { AllOthersStay self.old.clients.1.0 (seats self.old.clients.0) (seats self.new.clients.0) }
         ensures again { WaitAgain L.incoming L.reports self.new.housekeeping.watches (seats self.new.clients.0)
             self.old.clients.1.0 self.new.clients.1.0 }
         ensures looked { self.new.housekeeping.looked ≡ self.old.housekeeping.looked }

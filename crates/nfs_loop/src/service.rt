@@ -1,6 +1,7 @@
 //! A service that serves many clients at once, in turns.
 ghost use Rattle.std.specs.Prelude.{◌≡◌, ℕ, List, None, IfOk};
 ghost use Rattle.slab.specs.Slab.{get};
+ghost use Rattle.nfs_lines.specs.Queued.{is_full};
 ghost use Rattle.nfs_lines.specs.Written.{PassedOn, written};
 ghost use Rattle.nfs_loop.specs.Stages.{Goes, IsRound, Lived, Rounds, schedule, stage};
 ghost use Rattle.nfs_loop.specs.Reports.{Accounts};
@@ -46,6 +47,8 @@ impl<L: Link + Drop> Service<L> {
         ensures members { IfOk result (λ service. (key : ℕ) → get service.clients.0 key ≡ None) }
         ensures joined { IfOk result (λ service. service.joined ≡ 0) }
         ensures watched { IfOk result (λ service. AreWatched service.clients.0 service.housekeeping.watches) }
+        ensures idle { IfOk result (λ service. service.housekeeping.limits.idle ≡ limits.idle) }
+        ensures looked { IfOk result (λ service. service.housekeeping.looked ≡ 0) }
     {
         Ok(Service {
             alloc,
@@ -73,8 +76,10 @@ impl<L: Link + Drop> Service<L> {
         requires watched { AreWatched self.old.clients.0 self.old.housekeeping.watches }
         ensures lived { ((key : ℕ) → get self.old.clients.0 key ≡ None) → (history : History) → Fits history server.old
             → Lived L.outgoing L.incoming L.reports history (N.reported net.old) (N.reported net.new)
-            (schedule self.old.clients.1.0 self.old.housekeeping.watches self.old.housekeeping.limits.idle self.old.housekeeping.looked)
-            (schedule self.new.clients.1.0 self.new.housekeeping.watches self.new.housekeeping.limits.idle self.new.housekeeping.looked)
+            (schedule self.old.clients.1.0 self.old.housekeeping.watches self.old.housekeeping.limits.idle self.old.housekeeping.looked
+            (is_full lines.old.denied.queue))
+            (schedule self.new.clients.1.0 self.new.housekeeping.watches self.new.housekeeping.limits.idle self.new.housekeeping.looked
+            (is_full lines.new.denied.queue))
             (stage server.old self.old.clients.0 self.old.joined (written A.taken C.taken lines.old))
             (stage server.new self.new.clients.0 self.new.joined (written A.taken C.taken lines.new)) }
         ensures watched { AreWatched self.new.clients.0 self.new.housekeeping.watches }
@@ -95,8 +100,10 @@ impl<L: Link + Drop> Service<L> {
         requires watched { AreWatched self.old.clients.0 self.old.housekeeping.watches }
         ensures goes { Goes L.outgoing L.incoming
             (λ changes. Rounds L.outgoing L.incoming L.reports (N.reported net.old)
-            (schedule self.old.clients.1.0 self.old.housekeeping.watches self.old.housekeeping.limits.idle self.old.housekeeping.looked)
-            (schedule self.new.clients.1.0 self.new.housekeeping.watches self.new.housekeeping.limits.idle self.new.housekeeping.looked)
+            (schedule self.old.clients.1.0 self.old.housekeeping.watches self.old.housekeeping.limits.idle self.old.housekeeping.looked
+            (is_full lines.old.denied.queue))
+            (schedule self.new.clients.1.0 self.new.housekeeping.watches self.new.housekeeping.limits.idle self.new.housekeeping.looked
+            (is_full lines.new.denied.queue))
             (stage server.old self.old.clients.0 self.old.joined (written A.taken C.taken lines.old)) changes
             × Accounts (N.reported net.old) changes (N.reported net.new))
             (stage server.old self.old.clients.0 self.old.joined (written A.taken C.taken lines.old))
@@ -126,8 +133,10 @@ impl<L: Link + Drop> Service<L> {
     )
         requires watched { AreWatched self.old.clients.0 self.old.housekeeping.watches }
         ensures round { (changes : List Change) × IsRound L.outgoing L.incoming L.reports changes (N.reported net.old) (N.reported net.new)
-            (schedule self.old.clients.1.0 self.old.housekeeping.watches self.old.housekeeping.limits.idle self.old.housekeeping.looked)
-            (schedule self.new.clients.1.0 self.new.housekeeping.watches self.new.housekeeping.limits.idle self.new.housekeeping.looked)
+            (schedule self.old.clients.1.0 self.old.housekeeping.watches self.old.housekeeping.limits.idle self.old.housekeeping.looked
+            (is_full lines.old.denied.queue))
+            (schedule self.new.clients.1.0 self.new.housekeeping.watches self.new.housekeeping.limits.idle self.new.housekeeping.looked
+            (is_full lines.new.denied.queue))
             (stage server.old self.old.clients.0 self.old.joined (written A.taken C.taken lines.old))
             (stage server.new self.new.clients.0 self.new.joined (written A.taken C.taken lines.new)) }
         ensures watched { AreWatched self.new.clients.0 self.new.housekeeping.watches }

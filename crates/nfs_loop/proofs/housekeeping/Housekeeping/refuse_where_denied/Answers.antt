@@ -1,5 +1,5 @@
-use Rattle.std.proofs.Common.{◌≡◌, ◌⊎◌, Result, Ok, Err, OnOk, OnErr, true, inl, inr, refl, sym, subst, ◌∙◌}
-use Rattle.nfs_loop.specs.Refusing.{IsRefusedBy, is_audit_fault, others_waiting, with_refused}
+use Rattle.std.proofs.Common.{◌⊎◌, Result, Ok, Err, OnOk, OnErr, inl, inr, refl, sym, subst, ◌∙◌}
+use Rattle.nfs_loop.specs.Refusing.{IsRefusedBy}
 use Rattle.nfs_loop.specs.Reports.{since}
 use Rattle.nfs_loop.proofs.Reporting.{accounts_one}
 use Rattle.nfs_loop.proofs.housekeeping.Housekeeping.refuse_where_denied.Goals as goal
@@ -14,6 +14,6 @@ returns-then-is_audit_fault g c = record {
   watches = refl;
   looked = refl;
   limits = refl;
-  refused = subst (λ b. IsRefusedBy b c.args.addr (g.N.Network.reported c.args.net.now) c.args.self.now.refused_peers c.add.new.self) (sym c.if-is_audit_fault.true ∙ c.is_audit_fault.ensures)
-      (c.millis-now.result, _, c.millis-now.ensures, one_of c.add.result c.add.ensures.ok c.add.ensures.err);
+  refused = subst (λ b. IsRefusedBy b c.args.addr (g.N.Network.reported c.args.net.now) (g.N.Network.reported c.millis-now.new.self) c.args.self.now.refused_peers c.add.new.self) (sym c.if-is_audit_fault.true ∙ c.is_audit_fault.ensures)
+      (c.millis-now.result, c.millis-now.ensures, one_of c.add.result c.add.ensures.ok c.add.ensures.err);
 }

@@ -1,4 +1,4 @@
-use Rattle.std.proofs.Common.{◌≡◌, ◌≢◌, ◌<◌, ℕ, length, rules, arith, refl, sym, ap, subst, ◌∙◌}
+use Rattle.std.proofs.Common.{◌≡◌, ◌≢◌, ◌<◌, ℕ, length, rules, arith, refl, ap, subst, ◌∙◌}
 use Rattle.std.proofs.lemmas.List.{get_or-set_same}
 use Rattle.std.specs.Net.Socket.{socket_ip}
 use Rattle.nfs_loop.specs.Reports.{since}
@@ -50,7 +50,6 @@ returns-in-Ok-clause-watch g c =
       addr = c.in-Some.addr;
       addr_is = c.in-Some.ensures;
       millis = c.millis-millis.result;
-      reported_now = _;
       is_reported = c.millis-millis.ensures;
       watch_is = ap (λ ws. watch_at ws c.args.key) c.watch.ensures.watches ∙ get_or-set_same c.make_room.new.self c.args.key _ nothing_known room;
     }

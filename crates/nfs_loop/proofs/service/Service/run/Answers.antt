@@ -1,4 +1,5 @@
 use Rattle.std.proofs.Common.{[], refl}
+use Rattle.nfs_lines.specs.Queued.{is_full}
 use Rattle.nfs_loop.proofs.Changing.{passed, quiet}
 use Rattle.nfs_loop.proofs.Repeating.{another_round, run_over}
 use Rattle.nfs_loop.proofs.Reporting.{accounts_same}
@@ -11,11 +12,11 @@ pub loop-left-preserved : goal.loop-left-preserved
 loop-left-preserved g c = record { rounds = another_round g.L.Link.outgoing g.L.Link.incoming g.L.Link.reports _ _ _ _ _ _ _ _ _ _ c.loop-left.invariant.rounds c.wait.ensures c.round.ensures.round; watched = c.round.ensures.watched }
 
 pub returns-in-Err : goal.returns-in-Err
-returns-in-Err g c = record { goes = run_over g.L.Link.outgoing g.L.Link.incoming g.L.Link.reports _ _ _ _ _ _ _ _ c.loop-left.invariant.rounds (quiet g.L.Link.outgoing g.L.Link.incoming _ _ _ c.wait.ensures); watched = c.loop-left.invariant.watched }
+returns-in-Err g c = record { goes = run_over g.L.Link.outgoing g.L.Link.incoming g.L.Link.reports _ _ _ _ _ _ _ _ (is_full c.loop-left.lines.denied.queue) c.loop-left.invariant.rounds (quiet g.L.Link.outgoing g.L.Link.incoming _ _ _ c.wait.ensures); watched = c.loop-left.invariant.watched }
 
 pub returns : goal.returns
 returns g c = record {
-  goes = run_over g.L.Link.outgoing g.L.Link.incoming g.L.Link.reports _ _ _ _ _ _ _ _ c.loop-left.invariant.rounds
+  goes = run_over g.L.Link.outgoing g.L.Link.incoming g.L.Link.reports _ _ _ _ _ _ _ _ (is_full c.loop-left.lines.denied.queue) c.loop-left.invariant.rounds
       (passed g.L.Link.outgoing g.L.Link.incoming _ _ _ _ _ _ _ c.finish.ensures.lines (accounts_same _ _ c.finish.ensures.reported));
   watched = c.loop-left.invariant.watched;
 }

@@ -1,4 +1,5 @@
 use Rattle.std.specs.Prelude.{List}
+use Rattle.nfs_lines.specs.Queued.{is_full}
 use Rattle.nfs_lines.specs.Written.{written}
 use Rattle.nfs_loop.specs.Stages.{schedule, stage, AreRounds}
 use Rattle.nfs_loop.specs.Watching.{AreWatched}
@@ -7,9 +8,9 @@ use Rattle.nfs_serving.specs.Service.{Change}
 
 abbrev pub invariant-loop-left : goal.invariant-loop-left
 invariant-loop-left g l = record {
-  rounds : (rounds : List (List Change)) × AreRounds g.L.Link.outgoing g.L.Link.incoming g.L.Link.reports rounds (g.N.Network.reported l.fn.net) (schedule l.fn.self.clients.1.0 l.fn.self.housekeeping.watches l.fn.self.housekeeping.limits.idle l.fn.self.housekeeping.looked)
+  rounds : (rounds : List (List Change)) × AreRounds g.L.Link.outgoing g.L.Link.incoming g.L.Link.reports rounds (g.N.Network.reported l.fn.net) (schedule l.fn.self.clients.1.0 l.fn.self.housekeeping.watches l.fn.self.housekeeping.limits.idle l.fn.self.housekeeping.looked (is_full l.fn.lines.denied.queue))
       (stage l.fn.server l.fn.self.clients.0 l.fn.self.joined (written g.A.LineOut.taken g.C.LineOut.taken l.fn.lines))
-      (g.N.Network.reported l.net) (schedule l.self.clients.1.0 l.self.housekeeping.watches l.self.housekeeping.limits.idle l.self.housekeeping.looked)
+      (g.N.Network.reported l.net) (schedule l.self.clients.1.0 l.self.housekeeping.watches l.self.housekeeping.limits.idle l.self.housekeeping.looked (is_full l.lines.denied.queue))
       (stage l.server l.self.clients.0 l.self.joined (written g.A.LineOut.taken g.C.LineOut.taken l.lines));
   watched : AreWatched l.self.clients.0 l.self.housekeeping.watches;
 }
