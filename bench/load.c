@@ -8,7 +8,8 @@
  * The description is that of bench/tree, and the key in its handles that of NFS3D_KEY (clients/key.h). A
  * call of missing is a LOOKUP of a name that isn't there, and one of denied a GETATTR of file 6: the root of
  * a volume that isn't exported here, which stands after bench/tree's own. With pages, file 6 is a directory
- * with more entries than a reply holds, whose names have 1 to 4 bytes. */
+ * with more entries than a reply holds, whose names have 1 to 4 bytes. READs and WRITEs begin at the byte
+ * that NFS3D_OFFSET says, 0 by default. */
 #include <arpa/inet.h>
 #include <errno.h>
 #include <fcntl.h>
@@ -39,7 +40,7 @@ static unsigned char call[MOST], room[MOST], other[MOST];
 static size_t call_size, reply_size, reply2_size, other_size;
 static double times[TIMES];
 static unsigned long measured;
-static uint32_t key[2];
+static uint32_t key[2], offset[2];
 
 static double now(void) {
     struct timespec t;
@@ -89,19 +90,19 @@ static void make_calls(const char *work) {
         uint32_t name[] = {2, 0x66340000};
         call_size = words(call, begin(call, 3, 2), name, 2), reply_size = 28 + 4 + 28 + 88 + 88;
     } else if (strcmp(work, "read4") == 0) {
-        uint32_t range[] = {0, 0, 4096};
+        uint32_t range[] = {offset[0], offset[1], 4096};
         call_size = words(call, begin(call, 6, 3), range, 3), reply_size = 28 + 4 + 88 + 12 + 4096;
     } else if (strcmp(work, "read64") == 0) {
-        uint32_t range[] = {0, 0, 65536};
+        uint32_t range[] = {offset[0], offset[1], 65536};
         call_size = words(call, begin(call, 6, 4), range, 3), reply_size = 28 + 4 + 88 + 12 + 65536;
     } else if (strcmp(work, "write64") == 0) {
-        uint32_t range[] = {0, 0, 65536, 2, 65536};
+        uint32_t range[] = {offset[0], offset[1], 65536, 2, 65536};
         call_size = words(call, begin(call, 7, 4), range, 5) + 65536, reply_size = 28 + 4 + 28 + 88 + 16;
     } else if (strcmp(work, "read128") == 0) {
-        uint32_t range[] = {0, 0, 131072};
+        uint32_t range[] = {offset[0], offset[1], 131072};
         call_size = words(call, begin(call, 6, 5), range, 3), reply_size = 28 + 4 + 88 + 12 + 131072;
     } else if (strcmp(work, "write128") == 0) {
-        uint32_t range[] = {0, 0, 131072, 2, 131072};
+        uint32_t range[] = {offset[0], offset[1], 131072, 2, 131072};
         call_size = words(call, begin(call, 7, 5), range, 5) + 131072, reply_size = 28 + 4 + 28 + 88 + 16;
     } else if (strcmp(work, "make") == 0) {
         uint32_t made[] = {4, 0, 1, 0, 0, 0, 0, 0, 0}, gone[] = {4, 0};
@@ -210,6 +211,8 @@ int main(int count, char **w) {
     Client *all = calloc((size_t)clients, sizeof *all);
     int idle = strcmp(w[2], "idle") == 0;
     read_key(key);
+    unsigned long long from = strtoull(getenv("NFS3D_OFFSET") ? getenv("NFS3D_OFFSET") : "0", NULL, 10);
+    offset[0] = (uint32_t)(from >> 32), offset[1] = (uint32_t)from;
     if (!idle) make_calls(w[2]);
     to.sin_addr.s_addr = htonl(INADDR_LOOPBACK);
     for (int i = 0; i < clients; i++) {
