@@ -7,6 +7,7 @@ pub mod Watched
 pub mod Changing
 pub mod Turning
 pub mod Rounding
+pub mod Hearing
 pub mod Joining
 pub mod Repeating
 pub mod Asking

@@ -7,20 +7,21 @@ use Rattle.slab.specs.Slab.{Slab, get}
 use Rattle.nfs_queue.specs.Queues.{is_waiting, with_ready}
 use Rattle.nfs_loop.specs.declared.watches.Watch.{Watch}
 use Rattle.nfs_loop.specs.Reports.{Report, since, Accounts}
-use Rattle.nfs_loop.specs.Watching.{hold_at, is_over, hold_after, queue_after, ReleasesOne, Releases, ReleasesBy}
+use Rattle.nfs_loop.specs.Watching.{heard_at, hold_at, is_over, hold_after, queue_after, ReleasesOne, Releases, ReleasesBy}
 use Rattle.nfs_loop.proofs.Reporting.{accounts_one, accounts_same}
-use Rattle.nfs_loop.proofs.Watching.{hold_none, hold_others}
+use Rattle.nfs_loop.proofs.Watching.{heard_stays, hold_none, hold_others}
 use Rattle.nfs_loop.proofs.Lengthening.{waits_last, waits_on}
 
 -- ---- one client
 
 module _ {M : Type 0} (members : Slab M) (full : Bool) (now key : ℕ) (old new : List Watch) (queue later : List ℕ) where
   -- its hold is over
-  pub releases_it : (w : Watch) → w.hold ≡ None → is_over full now (hold_at old key) ≡ true → new ≡ set old key w → later ≡ with_ready (get members key) key queue → ReleasesOne members full now key old new queue later
-  releases_it w none over is after = record {
+  pub releases_it : (w : Watch) → w.hold ≡ None → w.heard ≡ heard_at old key → is_over full now (hold_at old key) ≡ true → new ≡ set old key w → later ≡ with_ready (get members key) key queue → ReleasesOne members full now key old new queue later
+  releases_it w none heard over is after = record {
     hold_is = ap (λ ws. hold_at ws key) is ∙ hold_none old key w none ∙ sym (ap (λ (b : Bool). if b then None else hold_at old key) over);
     others = λ other differ. ap (λ ws. hold_at ws other) is ∙ hold_others old key other w differ;
     later_is = after ∙ sym (ap (λ b. queue_after b (get members key) key queue) over);
+    heard_stay = λ k. ap (λ ws. heard_at ws k) is ∙ heard_stays old key k w heard;
   }
 
   -- it is not
@@ -29,6 +30,7 @@ module _ {M : Type 0} (members : Slab M) (full : Bool) (now key : ℕ) (old new 
     hold_is = ap (λ ws. hold_at ws key) is ∙ sym (ap (λ (b : Bool). if b then None else hold_at old key) not);
     others = λ other differ. ap (λ ws. hold_at ws other) is;
     later_is = after ∙ sym (ap (λ b. queue_after b (get members key) key queue) not);
+    heard_stay = λ k. ap (λ ws. heard_at ws k) is;
   }
 
 -- ---- one after another, from the last key on
@@ -41,6 +43,7 @@ pub record Releasing {M : Type 0} (members : Slab M) (full : Bool) (now : ℕ) (
   pub after : later ≡ queue ++ added
   pub all_wait : (key : ℕ) → left ≤ key → is_over full now (hold_at old key) ≡ true → (get members key ≡ None) ⊎ (is_waiting key later ≡ true)
   pub no_others : (key : ℕ) → is_waiting key added ≡ true → is_over full now (hold_at old key) ≡ true
+  pub heard_stay : (key : ℕ) → heard_at new key ≡ heard_at old key
 
 beyond : (watches : List Watch) (key : ℕ) → length watches ≤ key → hold_at watches key ≡ None
 beyond watches key l = ap (λ (w : Watch). w.hold) (get_or_past watches key _ l)
@@ -90,6 +93,7 @@ module _ {M : Type 0} (members : Slab M) (full : Bool) (now : ℕ) (old : List W
     after = sym (append-nil queue);
     all_wait = λ key l over. absurd (true≢false (sym over ∙ ap (is_over full now) (beyond old key (subst (λ n. n ≤ key) e l))));
     no_others = λ key w. absurd (true≢false (sym w));
+    heard_stay = λ key. refl;
   }
 
   module _ (mid new : List Watch) (between later : List ℕ) (left key : ℕ) (is : left ≡ key + 1) (r : Releasing members full now old mid queue between left) (one : ReleasesOne members full now key mid new between later) where
@@ -135,6 +139,7 @@ module _ {M : Type 0} (members : Slab M) (full : Bool) (now : ℕ) (old : List W
       after = later_is ∙ ap (λ q. q ++ more.0) r.after ∙ append_assoc queue r.added more.0;
       all_wait = λ k l o. all_wait_on k (nat_lt key k) refl l o;
       no_others = λ k w. no_others_on k (is_waiting k r.added) refl (sym (list_any-append (nat_eq k) r.added more.0) ∙ w);
+      heard_stay = λ k. one.heard_stay k ∙ r.heard_stay k;
     }
 
   pub releasing_ends : (new : List Watch) (later : List ℕ) (left : ℕ) → left ≡ 0 → Releasing members full now old new queue later left → Releases members full now old new queue later
@@ -144,6 +149,7 @@ module _ {M : Type 0} (members : Slab M) (full : Bool) (now : ℕ) (old : List W
     after = r.after;
     all_wait = λ key o. r.all_wait key (all_above left key none) o;
     no_others = r.no_others;
+    heard_stay = r.heard_stay;
   }
     where
       all_above : (left key : ℕ) → left ≡ 0 → left ≤ key

@@ -5,9 +5,9 @@ use Rattle.slab.specs.Slab.{Slab, get}
 use Rattle.nfs_lines.specs.Queued.{Queued, is_full, put_plainly}
 use Rattle.nfs_loop.specs.declared.member.Member.{Member}
 use Rattle.nfs_loop.specs.declared.watches.Watch.{Watch}
-use Rattle.nfs_loop.specs.Watching.{AllStay, ReleasesBy, SomeMayBeHeld}
+use Rattle.nfs_loop.specs.Watching.{AllBegin, AllStay, ReleasesBy, SomeMayBeHeld}
 use Rattle.nfs_loop.specs.Reports.{Report, since, Accounts}
-use Rattle.nfs_loop.specs.Stages.{Stage, state, seat_of, seats, turned, AllOthersStay, AsksAll, Goes, Notes, Schedule, SilentLeave, WaitAgain, WithoutTurns, MayBeFull, IsRound, most_asked, AreRounds, Rounds, changes_of}
+use Rattle.nfs_loop.specs.Stages.{Stage, state, seat_of, seats, turned, AllOthersStay, AsksAll, Goes, HeardInTurns, Notes, Schedule, SilentLeave, WaitAgain, WithoutTurns, MayBeFull, IsRound, most_asked, AreRounds, Rounds, changes_of}
 use Rattle.nfs_loop.proofs.Reporting.{accounts_then, accounts_same, first_then}
 use Rattle.nfs_loop.proofs.Changing.{both_change, changes_then, turned_then}
 use Rattle.nfs_loop.proofs.Lengthening.{notes_account}
@@ -87,16 +87,17 @@ module _ {L : Type 0} (outgoing incoming : L → Option (List ℕ)) (reports : L
   }
 
   pub round_of : (a between before after c d : Option (List Report)) (from to : Schedule) (ready_queue first : List ℕ) (old gathered turned_at new : Stage L) (held left : List Watch)
-      → Notes old.members from.watches from.queue ready_queue a between → AsksAll most_asked a between → AllStay old.members from.watches gathered.members held → ReleasesBy gathered.members from.full before after held left ready_queue first
+      → Notes old.members from.watches from.queue ready_queue a between → AsksAll most_asked a between → AllStay old.members from.watches gathered.members held → AllBegin old.members between before gathered.members held → ReleasesBy gathered.members from.full before after held left ready_queue first
       → MayBeFull from.full old.written → gathered.written ≡ old.written
       → Goes outgoing incoming (λ changes. WithoutTurns between changes before) old gathered
       → Goes outgoing incoming (λ changes. (turned changes ≡ first) × Accounts after changes c) gathered turned_at → AllOthersStay first (seats gathered.members) (seats turned_at.members)
+      → HeardInTurns incoming reports after c first to.queue left to.watches (seats turned_at.members)
       → Goes outgoing incoming (λ changes. WithoutTurns c changes d) turned_at new
       → WaitAgain incoming reports to.watches (seats turned_at.members) first to.queue → ((key : ℕ) → (get new.members key ≡ get turned_at.members key) ⊎ (get new.members key ≡ None))
       → SomeMayBeHeld first left to.watches → SilentLeave to.watches to.queue from.idle from.looked c d to.looked turned_at.members new.members → to.idle ≡ from.idle
       → (changes : List Change) × IsRound outgoing incoming reports changes a d from to old new
   unfolding after_turns before_turns with_reports
-  round_of a between before after c d from to ready_queue first old gathered turned_at new held left notes asked stay releases full_is nothing_written f g others h again some_left some_held silent idle_stays =
+  round_of a between before after c d from to ready_queue first old gathered turned_at new held left notes asked stay begin releases full_is nothing_written f g others heard h again some_left some_held silent idle_stays =
       let joining = with_reports a between before after old gathered (notes_account old.members from.watches from.queue ready_queue a between notes) (releases_account gathered.members from.full before after held left ready_queue first releases) f in
       let serving = before_turns a after c first old gathered turned_at joining g in
       let whole = after_turns a c d first old turned_at new serving h in (
@@ -117,6 +118,7 @@ module _ {L : Type 0} (outgoing incoming : L → Option (List ℕ)) (reports : L
           nothing_written = nothing_written;
           held = held;
           all_stay = stay;
+          all_begin = begin;
           after = after;
           left = left;
           first = first;
@@ -131,6 +133,7 @@ module _ {L : Type 0} (outgoing incoming : L → Option (List ℕ)) (reports : L
           turning_leads = subst (λ s. AreChanges outgoing incoming s g.changes (state gathered) (state turned_at)) f.shared_stays g.are_changes;
           turning_accounts = g.such.1;
           others_stay = others;
+          some_heard = heard;
           serving = serving.changes;
           serving_leads = serving.are_changes;
           serving_accounts = serving.such.1;

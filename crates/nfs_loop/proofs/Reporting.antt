@@ -1,6 +1,6 @@
 -- What is reported, one thing after another.
 use Rattle.std.proofs.Common.{◌≡◌, List, [], ◌∷◌, ◌++◌, Option, Some, sym, ap, ◌∙◌, append_assoc}
-use Rattle.nfs_loop.specs.Reports.{Report, came, at, IsReported, IsReportedFirst, AreBy, Accounts}
+use Rattle.nfs_loop.specs.Reports.{Report, came, at, IsReported, IsReportedFirst, IsReportedIn, ReportsMore, AreBy, Accounts}
 use Rattle.nfs_serving.specs.Service.{Change, joins, turns, leaves, passes}
 
 by_more : (more news : List Report) (changes : List Change) → AreBy news changes → AreBy (more ++ news) changes
@@ -62,3 +62,37 @@ first_then a b c t later f g before e =
     let x = f before e in
     let y = g (x.0 ++ t ∷ before) x.1 in
     (y.0 ++ x.0, y.1 ∙ ap Some (sym (append_assoc y.0 x.0 (t ∷ before))))
+
+-- ---- what was reported in between
+
+pub in_one : (a b : Option (List Report)) (t : Report) → IsReported a t b → IsReportedIn a t b
+in_one a b t report before e = ([], [], report before e)
+
+pub in_then : (a b c : Option (List Report)) (t : Report) → IsReportedIn a t b → ReportsMore b c → IsReportedIn a t c
+in_then a b c t f g before e =
+    let x = f before e in
+    let y = g (x.0 ++ t ∷ (x.1 ++ before)) x.2 in
+    (y.0 ++ x.0, x.1, y.1 ∙ ap Some (sym (append_assoc y.0 x.0 (t ∷ (x.1 ++ before)))))
+
+pub in_after : (a b c : Option (List Report)) (t : Report) → ReportsMore a b → IsReportedIn b t c → IsReportedIn a t c
+in_after a b c t f g before e =
+    let x = f before e in
+    let y = g (x.0 ++ before) x.1 in
+    (y.0, y.1 ++ x.0, y.2 ∙ ap (λ l. Some (y.0 ++ t ∷ l)) (sym (append_assoc y.1 x.0 before)))
+
+-- ---- more is reported
+
+pub more_same : (a b : Option (List Report)) → b ≡ a → ReportsMore a b
+more_same a b same before e = ([], same ∙ e)
+
+pub more_one : (a b : Option (List Report)) (t : Report) → IsReported a t b → ReportsMore a b
+more_one a b t report before e = (t ∷ [], report before e)
+
+pub more_by : (a b : Option (List Report)) (changes : List Change) → Accounts a changes b → ReportsMore a b
+more_by a b changes f before e = let x = f before e in (x.0, x.1)
+
+pub more_then : (a b c : Option (List Report)) → ReportsMore a b → ReportsMore b c → ReportsMore a c
+more_then a b c f g before e =
+    let x = f before e in
+    let y = g (x.0 ++ before) x.1 in
+    (y.0 ++ x.0, y.1 ∙ ap Some (sym (append_assoc y.0 x.0 before)))

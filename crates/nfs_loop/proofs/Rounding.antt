@@ -7,8 +7,9 @@ use Rattle.nfs_loop.specs.Reports.{Report, Accounts}
 use Rattle.nfs_loop.specs.declared.watches.Hold.{Hold}
 use Rattle.nfs_loop.specs.declared.watches.Watch.{Watch}
 use Rattle.nfs_loop.specs.Watching.{FirstMayBeHeld, hold_at}
-use Rattle.nfs_loop.specs.Stages.{Stage, turned, AllOthersStay, IsAgain, InRound, OthersStay, Sleeps, TurnsFirst, WaitAgain, Goes}
-use Rattle.nfs_loop.proofs.Reporting.{accounts_then, accounts_none}
+use Rattle.nfs_loop.specs.Stages.{Stage, turned, first_of, AllOthersStay, HeardInTurns, IsAgain, InRound, OthersStay, Sleeps, TurnsFirst, WaitAgain, Goes}
+use Rattle.nfs_loop.proofs.Hearing.{heard_then, nobody_heard}
+use Rattle.nfs_loop.proofs.Reporting.{accounts_then, accounts_none, more_by}
 use Rattle.nfs_loop.proofs.Staying.{others_not_held}
 use Rattle.nfs_loop.proofs.Changing.{both_change, turned_then}
 use Rattle.nfs_xdr.specs.declared.link.Came.{Came}
@@ -60,14 +61,15 @@ module _ {L : Type 0} (incoming : L → Option (List ℕ)) (reports : L → ℕ 
   again_where_some_left watches was seat (k ∷ keys) queue left (inl w) = inl (w.0, w.1, again_where_some_left watches was seat keys w.0 left w.2)
   again_where_some_left watches was seat (k ∷ keys) queue left (inr w) = inr (sleeps_or_gone (hold_at watches k) (was k) (seat k) (left k) w.0, again_where_some_left watches was seat keys queue left w.1)
 
-  round_begins : (watches : List Watch) (seat : ℕ → Option (Seat L)) (queue : List ℕ) → InRound incoming reports watches seat seat queue queue (length queue) []
-  round_begins watches seat queue = record { rest = queue; again = []; first_is = refl; queue_is = sym (append-nil queue); left_is = refl; wait_again = refl; others_stay = λ other e. refl }
+  round_begins : (reported : Option (List Report)) (watches : List Watch) (seat : ℕ → Option (Seat L)) (queue : List ℕ) → InRound incoming reports reported reported watches watches seat seat queue queue (length queue) []
+  round_begins reported watches seat queue = record { rest = queue; again = []; first_is = refl; queue_is = sym (append-nil queue); left_is = refl; wait_again = refl; others_stay = λ other e. refl; heard = nobody_heard incoming reports reported reported [] watches seat }
 
-  step : (a b : List Watch) (began was seat : ℕ → Option (Seat L)) (first queue now rest again : List ℕ) (left : ℕ) (changes later : List Change) → AreApart first
-      → first ≡ turned changes ++ rest → queue ≡ rest ++ again → length rest ≡ left → WaitAgain incoming reports a was (turned changes) again → AllOthersStay (turned changes) began was
-      → 0 < left → FirstMayBeHeld queue a b → TurnsFirst incoming reports b was seat queue later now → InRound incoming reports b began seat first now (left - 1) (later ++ changes)
-  step a b began was seat first queue now [] again left changes later apart f q l w others some held t = absurd (none_left left l some)
-  step a b began was seat first queue now (key ∷ rest) again left changes later apart f q l w others some held t =
+  step : (reported reported_now reported_then : Option (List Report)) (watched a b : List Watch) (began was seat : ℕ → Option (Seat L)) (first queue now rest again : List ℕ) (left : ℕ) (changes later : List Change) → AreApart first
+      → first ≡ turned changes ++ rest → queue ≡ rest ++ again → length rest ≡ left → WaitAgain incoming reports a was (turned changes) again → AllOthersStay (turned changes) began was → HeardInTurns incoming reports reported reported_now (turned changes) again watched a was
+      → Accounts reported changes reported_now → Accounts reported_now later reported_then → 0 < left → FirstMayBeHeld queue a b → HeardInTurns incoming reports reported_now reported_then (first_of queue) now a b seat → TurnsFirst incoming reports b was seat queue later now
+      → InRound incoming reports reported reported_then watched b began seat first now (left - 1) (later ++ changes)
+  step reported reported_now reported_then watched a b began was seat first queue now [] again left changes later apart f q l w others heard before after some held hears t = absurd (none_left left l some)
+  step reported reported_now reported_then watched a b began was seat first queue now (key ∷ rest) again left changes later apart f q l w others heard before after some held hears t =
       let s : TurnsFirst incoming reports b was seat (key ∷ (rest ++ again)) later now = subst (λ x. TurnsFirst incoming reports b was seat x later now) q t in
       let goes_on : WaitAgain incoming reports b seat (turned changes) again = again_others a b was seat key (turned changes) again (apart_at (turned changes) key rest (subst AreApart f apart)) s.1 (others_not_held queue a b key (rest ++ again) q held) w in
       let more : turned (later ++ changes) ≡ turned changes ++ key ∷ [] = turned_then changes later ∙ ap (λ x. turned changes ++ x) s.0 in
@@ -79,40 +81,45 @@ module _ {L : Type 0} (incoming : L → Option (List ℕ)) (reports : L → ℕ 
         left_is = one_less rest key left l;
         wait_again = subst (λ x. WaitAgain incoming reports b seat x (again ++ s.2.0)) (sym more) (again_then b seat key (turned changes) again s.2.0 goes_on s.2.2);
         others_stay = subst (λ x. AllOthersStay x began seat) (sym more) (others_on began was seat key (turned changes) others s.1);
+        heard = subst (λ x. HeardInTurns incoming reports reported reported_then x (again ++ s.2.0) watched b seat) (sym more)
+            (heard_then incoming reports reported reported_now reported_then (turned changes) rest again s.2.0 queue now key watched a b was seat (more_by reported reported_now changes before) (more_by reported_now reported_then later after) (subst AreApart f apart) q s.2.1 s.1 (others_not_held queue a b key (rest ++ again) q held) heard hears);
       }
 
-  done : (watches : List Watch) (seat : ℕ → Option (Seat L)) (first queue rest again : List ℕ) (changes : List Change) → first ≡ turned changes ++ rest → queue ≡ rest ++ again → length rest ≡ 0 → WaitAgain incoming reports watches seat (turned changes) again
-      → (turned changes ≡ first) × WaitAgain incoming reports watches seat first queue
-  done watches seat first queue [] again changes f q l w =
-      let is : turned changes ≡ first = sym (f ∙ append-nil (turned changes)) in
-      (is, subst (λ x. WaitAgain incoming reports watches seat x queue) is (subst (WaitAgain incoming reports watches seat (turned changes)) (sym q) w))
-  done watches seat first queue (key ∷ rest) again changes f q l w = absurd (none_left (length (key ∷ rest)) (sym l) (omega arith))
+  done : (reported reported_now : Option (List Report)) (watched watches : List Watch) (seat : ℕ → Option (Seat L)) (first queue rest again : List ℕ) (changes : List Change) → first ≡ turned changes ++ rest → queue ≡ rest ++ again → length rest ≡ 0 → WaitAgain incoming reports watches seat (turned changes) again → HeardInTurns incoming reports reported reported_now (turned changes) again watched watches seat
+      → (turned changes ≡ first) × WaitAgain incoming reports watches seat first queue × HeardInTurns incoming reports reported reported_now first queue watched watches seat
+  done reported reported_now watched watches seat first queue [] again changes f q l w heard =
+      let is : turned changes ≡ first = sym (f ∙ append-nil (turned changes)) in (
+        is,
+        subst (λ x. WaitAgain incoming reports watches seat x queue) is (subst (WaitAgain incoming reports watches seat (turned changes)) (sym q) w),
+        subst (λ x. HeardInTurns incoming reports reported reported_now x queue watched watches seat) is (subst (λ x. HeardInTurns incoming reports reported reported_now (turned changes) x watched watches seat) (sym q) heard),
+      )
+  done reported reported_now watched watches seat first queue (key ∷ rest) again changes f q l w heard = absurd (none_left (length (key ∷ rest)) (sym l) (omega arith))
 
 pub round_starts : {L : Type 0} (outgoing incoming : L → Option (List ℕ)) (reports : L → ℕ → Came → L → Type 0) (reported : Option (List Report)) (watches : List Watch) (seat : ℕ → Option (Seat L)) (old : Stage L) (queue : List ℕ) (left : ℕ) → left ≡ length queue
-    → Goes outgoing incoming (λ changes. InRound incoming reports watches seat seat queue queue left changes × Accounts reported changes reported) old old
+    → Goes outgoing incoming (λ changes. InRound incoming reports reported reported watches watches seat seat queue queue left changes × Accounts reported changes reported) old old
 round_starts outgoing incoming reports reported watches seat old queue left is = record {
   changes = [];
   are_changes = refl;
   shared_stays = refl;
-  such = (subst (λ n. InRound incoming reports watches seat seat queue queue n []) (sym is) (round_begins incoming reports watches seat queue), accounts_none reported);
+  such = (subst (λ n. InRound incoming reports reported reported watches watches seat seat queue queue n []) (sym is) (round_begins incoming reports reported watches seat queue), accounts_none reported);
 }
 
-module _ {L : Type 0} (outgoing incoming : L → Option (List ℕ)) (reports : L → ℕ → Came → L → Type 0) (a : List Watch) (began was : ℕ → Option (Seat L)) (first queue : List ℕ) (left : ℕ) (reported reported_now : Option (List Report)) (old mid : Stage L)
-    (before : Goes outgoing incoming (λ changes. InRound incoming reports a began was first queue left changes × Accounts reported changes reported_now) old mid) where
-  pub round_on : (b : List Watch) (seat : ℕ → Option (Seat L)) (now : List ℕ) (reported_then : Option (List Report)) (new : Stage L) → AreApart first → 0 < left → FirstMayBeHeld queue a b → Goes outgoing incoming (λ changes. TurnsFirst incoming reports b was seat queue changes now × Accounts reported_now changes reported_then) mid new
-      → Goes outgoing incoming (λ changes. InRound incoming reports b began seat first now (left - 1) changes × Accounts reported changes reported_then) old new
-  round_on b seat now reported_then new apart some held turn = record {
+module _ {L : Type 0} (outgoing incoming : L → Option (List ℕ)) (reports : L → ℕ → Came → L → Type 0) (watched a : List Watch) (began was : ℕ → Option (Seat L)) (first queue : List ℕ) (left : ℕ) (reported reported_now : Option (List Report)) (old mid : Stage L)
+    (before : Goes outgoing incoming (λ changes. InRound incoming reports reported reported_now watched a began was first queue left changes × Accounts reported changes reported_now) old mid) where
+  pub round_on : (b : List Watch) (seat : ℕ → Option (Seat L)) (now : List ℕ) (reported_then : Option (List Report)) (new : Stage L) → AreApart first → 0 < left → FirstMayBeHeld queue a b → HeardInTurns incoming reports reported_now reported_then (first_of queue) now a b seat → Goes outgoing incoming (λ changes. TurnsFirst incoming reports b was seat queue changes now × Accounts reported_now changes reported_then) mid new
+      → Goes outgoing incoming (λ changes. InRound incoming reports reported reported_then watched b began seat first now (left - 1) changes × Accounts reported changes reported_then) old new
+  round_on b seat now reported_then new apart some held hears turn = record {
     changes = turn.changes ++ before.changes;
-    are_changes = both_change outgoing incoming (λ changes. InRound incoming reports a began was first queue left changes × Accounts reported changes reported_now) (λ changes. TurnsFirst incoming reports b was seat queue changes now × Accounts reported_now changes reported_then) old mid new before turn;
+    are_changes = both_change outgoing incoming (λ changes. InRound incoming reports reported reported_now watched a began was first queue left changes × Accounts reported changes reported_now) (λ changes. TurnsFirst incoming reports b was seat queue changes now × Accounts reported_now changes reported_then) old mid new before turn;
     shared_stays = turn.shared_stays ∙ before.shared_stays;
     such = (
-      step incoming reports a b began was seat first queue now before.such.0.rest before.such.0.again left before.changes turn.changes apart before.such.0.first_is before.such.0.queue_is before.such.0.left_is before.such.0.wait_again before.such.0.others_stay some held turn.such.0,
+      step incoming reports reported reported_now reported_then watched a b began was seat first queue now before.such.0.rest before.such.0.again left before.changes turn.changes apart before.such.0.first_is before.such.0.queue_is before.such.0.left_is before.such.0.wait_again before.such.0.others_stay before.such.0.heard before.such.1 turn.such.1 some held hears turn.such.0,
       accounts_then reported reported_now reported_then before.changes turn.changes before.such.1 turn.such.1,
     );
   }
 
-  at_end : left ≡ 0 → (turned before.changes ≡ first) × WaitAgain incoming reports a was first queue
-  at_end none = done incoming reports a was first queue before.such.0.rest before.such.0.again before.changes before.such.0.first_is before.such.0.queue_is (before.such.0.left_is ∙ none) before.such.0.wait_again
+  at_end : left ≡ 0 → (turned before.changes ≡ first) × WaitAgain incoming reports a was first queue × HeardInTurns incoming reports reported reported_now first queue watched a was
+  at_end none = done incoming reports reported reported_now watched a was first queue before.such.0.rest before.such.0.again before.changes before.such.0.first_is before.such.0.queue_is (before.such.0.left_is ∙ none) before.such.0.wait_again before.such.0.heard
 
   pub round_ends : left ≡ 0 → Goes outgoing incoming (λ changes. (turned changes ≡ first) × Accounts reported changes reported_now) old mid
   round_ends none = record {
@@ -127,3 +134,6 @@ module _ {L : Type 0} (outgoing incoming : L → Option (List ℕ)) (reports : L
 
   pub all_others_stay : left ≡ 0 → AllOthersStay first began was
   all_others_stay none = subst (λ keys. AllOthersStay keys began was) (at_end none).0 before.such.0.others_stay
+
+  pub all_heard : left ≡ 0 → HeardInTurns incoming reports reported reported_now first queue watched a was
+  all_heard none = (at_end none).2

@@ -7,7 +7,7 @@ use Rattle.nfs_queue.specs.Queues.{is_waiting}
 use Rattle.nfs_queue.proofs.Queueing.{or_true}
 use Rattle.nfs_loop.specs.declared.watches.Hold.TheVariants.{Lines}
 use Rattle.nfs_loop.specs.declared.watches.Watch.{Watch}
-use Rattle.nfs_loop.specs.Watching.{hold_at, watch_at, AllStay, FirstMayBeHeld, SomeMayBeHeld}
+use Rattle.nfs_loop.specs.Watching.{heard_at, hold_at, watch_at, AllStay, FirstMayBeHeld, SomeMayBeHeld}
 use Rattle.nfs_loop.proofs.Watching.{hold_set}
 
 pub none_some : {X : Type 0} (o : Option X) → o ≡ None → IsSome o → ⊥
@@ -16,23 +16,24 @@ none_some (Some x) e s = cc
 
 module _ {M : Type 0} where
   pub all_stay : (old : Slab M) (watched : List Watch) → AllStay old watched old watched
-  all_stay old watched key some = (refl, refl)
+  all_stay old watched key some = (refl, refl, refl)
 
   pub stay_then : (old mid new : Slab M) (a b c : List Watch) → AllStay old a mid b → AllStay mid b new c → AllStay old a new c
   stay_then old mid new a b c f g key some =
       let x = f key some in
       let y = g key (subst IsSome (sym x.0) some) in
-      (y.0 ∙ x.0, y.1 ∙ x.1)
+      (y.0 ∙ x.0, y.1 ∙ x.1, y.2 ∙ x.2)
 
-  -- nothing became of members, and of holds
-  pub stay_same : (old new : Slab M) (a b : List Watch) → ((key : ℕ) → get new key ≡ get old key) → ((key : ℕ) → hold_at b key ≡ hold_at a key) → AllStay old a new b
-  stay_same old new a b members holds key some = (members key, holds key)
+  -- nothing became of members, of holds, and of when they were heard of
+  pub stay_same : (old new : Slab M) (a b : List Watch) → ((key : ℕ) → get new key ≡ get old key) → ((key : ℕ) → hold_at b key ≡ hold_at a key) → ((key : ℕ) → heard_at b key ≡ heard_at a key) → AllStay old a new b
+  stay_same old new a b members holds heard key some = (members key, holds key, heard key)
 
   -- one came where none was
-  pub stay_where_one_joins : (old new : Slab M) (key : ℕ) (member : M) (a b c : List Watch) → get old key ≡ None → Updates old new key (Some member) → ((k : ℕ) → watch_at b k ≡ watch_at a k) → ((other : ℕ) → other ≢ key → hold_at c other ≡ hold_at b other) → AllStay old a new c
+  pub stay_where_one_joins : (old new : Slab M) (key : ℕ) (member : M) (a b c : List Watch) → get old key ≡ None → Updates old new key (Some member) → ((k : ℕ) → watch_at b k ≡ watch_at a k) → ((other : ℕ) → other ≢ key → watch_at c other ≡ watch_at b other) → AllStay old a new c
   stay_where_one_joins old new key member a b c free sits room others k some =
       let differ : k ≢ key = λ same. none_some (get old key) free (subst (λ n. IsSome (get old n)) same some) in
-      (sits.others k differ, others k differ ∙ ap (λ (w : Watch). w.hold) (room k))
+      let known : watch_at c k ≡ watch_at a k = others k differ ∙ room k in
+      (sits.others k differ, ap (λ (w : Watch). w.hold) known, ap (λ (w : Watch). w.heard) known)
 
 pub first_held : (watches new : List Watch) (key : ℕ) (rest queue : List ℕ) (w : Watch) → queue ≡ key ∷ rest → new ≡ set watches key w → w.hold ≡ Some Lines → FirstMayBeHeld queue watches new
 first_held watches new key rest queue w first is hold k = subst (λ ws. (hold_at ws k ≡ hold_at watches k) ⊎ (((rest : List ℕ) × (queue ≡ k ∷ rest)) × (hold_at ws k ≡ Some Lines))) (sym is) (by_set (hold_set watches key k w))

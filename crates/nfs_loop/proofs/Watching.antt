@@ -3,7 +3,7 @@ use Rattle.std.proofs.Common.{◌≡◌, ◌≢◌, ◌⊎◌, ℕ, zero, suc, �
 use Rattle.std.proofs.lemmas.List.{get_or-set_other, length-set}
 use Rattle.nfs_loop.specs.declared.watches.Hold.{Hold}
 use Rattle.nfs_loop.specs.declared.watches.Watch.{Watch}
-use Rattle.nfs_loop.specs.Watching.{nothing_known, watch_at, hold_at, one_if_held, held_count}
+use Rattle.nfs_loop.specs.Watching.{nothing_known, watch_at, heard_at, hold_at, one_if_held, held_count}
 
 -- ---- a longer list
 
@@ -114,6 +114,14 @@ holds_stay (x ∷ watches) zero zero w e = e
 holds_stay (x ∷ watches) zero (suc k) w e = refl
 holds_stay (x ∷ watches) (suc key) zero w e = refl
 holds_stay (x ∷ watches) (suc key) (suc k) w e = holds_stay watches key k w e
+
+-- what is set leaves when clients were heard of
+pub heard_stays : (watches : List Watch) (key k : ℕ) (w : Watch) → w.heard ≡ heard_at watches key → heard_at (set watches key w) k ≡ heard_at watches k
+heard_stays [] key k w e = refl
+heard_stays (x ∷ watches) zero zero w e = e
+heard_stays (x ∷ watches) zero (suc k) w e = refl
+heard_stays (x ∷ watches) (suc key) zero w e = refl
+heard_stays (x ∷ watches) (suc key) (suc k) w e = heard_stays watches key k w e
 
 -- only the one whose hold is set may have another
 pub hold_set : (watches : List Watch) (key k : ℕ) (w : Watch) → (hold_at (set watches key w) k ≡ hold_at watches k) ⊎ ((k ≡ key) × (hold_at (set watches key w) k ≡ w.hold))

@@ -1,5 +1,5 @@
 -- What a network and a clock report.
-use Rattle.std.specs.Prelude.{◌≡◌, ℕ, List, [], ◌∷◌, ◌++◌, Option, Some}
+use Rattle.std.specs.Prelude.{◌≡◌, ℕ, ◌/◌, List, [], ◌∷◌, ◌++◌, Option, Some}
 use Rattle.std.specs.declared.net.ip_addr.IpAddr.{IpAddr}
 use Rattle.nfs_attrs.specs.declared.moment.Moment.{Moment}
 use Rattle.nfs_exports.specs.declared.addr.Addr.{Addr}
@@ -22,6 +22,18 @@ IsReported old report new = (before : List Report) → old ≡ Some before → n
 -- where it is known what was reported, this was reported next, and others may have been after it
 abbrev pub IsReportedFirst : Option (List Report) → Report → Option (List Report) → Type 0
 IsReportedFirst old report new = (before : List Report) → old ≡ Some before → (news : List Report) × (new ≡ Some (news ++ report ∷ before))
+
+-- where it is known what was reported, more may have been since, and nothing else changed
+abbrev pub ReportsMore : Option (List Report) → Option (List Report) → Type 0
+ReportsMore old new = (before : List Report) → old ≡ Some before → (news : List Report) × (new ≡ Some (news ++ before))
+
+-- where it is known what was reported, this was reported in between
+abbrev pub IsReportedIn : Option (List Report) → Report → Option (List Report) → Type 0
+IsReportedIn old report new = (before : List Report) → old ≡ Some before → (later earlier : List Report) × (new ≡ Some (later ++ report ∷ (earlier ++ before)))
+
+-- a time that the clock reported in between, in seconds since the service began
+abbrev pub IsTimeIn : Option (List Report) → ℕ → Option (List Report) → Type 0
+IsTimeIn old seconds new = (millis : ℕ) × IsReportedIn old (since millis) new × (seconds ≡ millis / 1000)
 
 -- a connection came from a peer of this address
 pub record CameFrom (key : ℕ) (addr : Addr) (news after before : List Report) : Type 0 where

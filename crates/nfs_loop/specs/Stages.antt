@@ -7,18 +7,18 @@ use Rattle.nfs_exports.specs.declared.addr.Addr.{Addr}
 use Rattle.nfs_attrs.specs.declared.moment.Moment.{Moment}
 use Rattle.nfs_lines.specs.Written.{Written}
 use Rattle.nfs_loop.specs.Peers.{IsAddrOf}
-use Rattle.nfs_loop.specs.Reports.{Report, ready, listener_ready, nothing_ready, came, at, since, IsReported, IsReportedFirst, Accounts}
+use Rattle.nfs_loop.specs.Reports.{Report, ready, listener_ready, nothing_ready, came, at, since, IsReported, IsReportedFirst, IsTimeIn, Accounts}
 use Rattle.nfs_loop.specs.declared.member.Member.{Member}
 use Rattle.nfs_loop.specs.declared.watches.Hold.{Hold}
 use Rattle.nfs_loop.specs.declared.watches.Hold.TheVariants.{Lines}
 use Rattle.nfs_loop.specs.declared.watches.Watch.{Watch}
 use Rattle.nfs_loop.specs.declared.refused_peers.RefusedPeer.{RefusedPeer}
 use Rattle.nfs_loop.specs.Refusing.{hold_for}
-use Rattle.nfs_loop.specs.Watching.{watch_at, hold_at, AllStay, ReleasesBy, SomeMayBeHeld}
+use Rattle.nfs_loop.specs.Watching.{watch_at, heard_at, hold_at, AllBegin, AllStay, ReleasesBy, SomeMayBeHeld}
 use Rattle.nfs_queue.specs.Queues.{is_waiting, with_ready}
 use Rattle.nfs_server.specs.Fits.{Held, History}
 use Rattle.nfs_serving.specs.Service.{Seat, ServiceState, IsNew, Change, joins, turns, leaves, passes, AreChanges, IsOneHistory}
-use Rattle.nfs_serving.specs.Outgoing.{IsExhausted}
+use Rattle.nfs_serving.specs.Outgoing.{IsDrained, IsExhausted, IsQuiet}
 use Rattle.nfs_serving.specs.Turns.{IsHeld}
 use Rattle.nfs_xdr.specs.Known.{StaysFailed}
 use Rattle.nfs_xdr.specs.declared.link.Came.{Came}
@@ -81,6 +81,34 @@ WaitAgain incoming reports watches seat [] queue = queue ≡ []
 WaitAgain incoming reports watches seat (key ∷ keys) queue = ((rest : List ℕ) × (queue ≡ key ∷ rest) × WaitAgain incoming reports watches seat keys rest)
     ⊎ (Sleeps incoming reports (hold_at watches key) (seat key) × WaitAgain incoming reports watches seat keys queue)
 
+-- ---- when a client was heard of
+
+-- Nothing was heard of a client in its turn: nothing is pending for it, all that came was taken, and the link reported that nothing has come.
+abbrev pub IsUnheard : {L : Type 0} → (L → ℕ → Came → L → Type 0) → Option (Seat L) → Type 0
+IsUnheard reports None = ⊥
+IsUnheard reports (Some seat) = (seat.client.channel.pending ≡ []) × (seat.client.chunk ≡ []) × IsQuiet reports seat.client.channel.link
+
+-- Something was heard of a client in its turn: it is gone; it waits again, since more may have come; replies are pending that the link did not take; its next record is held; or the link brought fewer bytes than there was room for, and all were taken.
+abbrev pub IsHeard : {L : Type 0} → (L → Option (List ℕ)) → (L → ℕ → Came → L → Type 0) → Bool → Option Hold → Option (Seat L) → Type 0
+IsHeard incoming reports waits hold None = Unit {0}
+IsHeard incoming reports waits hold (Some seat) = (waits ≡ true)
+    ⊎ ((seat.client.channel.pending ≢ [])
+    ⊎ ((hold ≡ Some Lines)
+    ⊎ ((seat.client.chunk ≡ []) × IsDrained incoming reports seat.client.channel.link)))
+
+-- When each client was heard of, once each of these keys had a turn, and nobody else, and this queue waits now. Either it stays, and in the client's turn, if it had one, nothing was heard of it. Or the client had a turn in which something was heard of it, and it is a time that the clock reported in between.
+abbrev pub HeardInTurns : {L : Type 0} → (L → Option (List ℕ)) → (L → ℕ → Came → L → Type 0) → Option (List Report) → Option (List Report) → List ℕ → List ℕ → List Watch → List Watch → (ℕ → Option (Seat L)) → Type 0
+HeardInTurns incoming reports reported reported_now keys queue old new seat = (key : ℕ) →
+    ((heard_at new key ≡ heard_at old key) × (is_waiting key keys ≡ true → IsUnheard reports (seat key)))
+    ⊎ ((is_waiting key keys ≡ true) × IsTimeIn reported (heard_at new key) reported_now × IsHeard incoming reports (is_waiting key queue) (hold_at new key) (seat key))
+
+-- the first of a queue, if anyone waits
+abbrev pub first_of : List ℕ → List ℕ
+first_of [] = []
+first_of (key ∷ rest) = key ∷ []
+
+-- ---- how a service goes on
+
 -- changes by what was reported in between, in which nobody has a turn
 abbrev pub WithoutTurns : Option (List Report) → List Change → Option (List Report) → Type 0
 WithoutTurns reported changes reported_now = (turned changes ≡ []) × Accounts reported changes reported_now
@@ -92,8 +120,8 @@ pub record Goes {L : Type 0} (outgoing incoming : L → Option (List ℕ)) (Such
   pub shared_stays : new.written.shared ≡ old.written.shared
   pub such : Such changes
 
--- In the midst of a round, with so many turns left: those that waited first have had their turns, and then the rest has, which still waits before all others. Who had its turn waits again after the rest, or sleeps. All others sit as they sat when the turns began.
-pub record InRound {L : Type 0} (incoming : L → Option (List ℕ)) (reports : L → ℕ → Came → L → Type 0) (watches : List Watch) (began seat : ℕ → Option (Seat L)) (first queue : List ℕ) (left : ℕ) (changes : List Change) : Type 0 where
+-- In the midst of a round, with so many turns left: those that waited first have had their turns, and then the rest has, which still waits before all others. Who had its turn waits again after the rest, or sleeps. All others sit as they sat when the turns began, and when they were heard of stays.
+pub record InRound {L : Type 0} (incoming : L → Option (List ℕ)) (reports : L → ℕ → Came → L → Type 0) (reported reported_now : Option (List Report)) (watched watches : List Watch) (began seat : ℕ → Option (Seat L)) (first queue : List ℕ) (left : ℕ) (changes : List Change) : Type 0 where
   pub rest : List ℕ
   pub again : List ℕ
   pub first_is : first ≡ turned changes ++ rest
@@ -101,6 +129,7 @@ pub record InRound {L : Type 0} (incoming : L → Option (List ℕ)) (reports : 
   pub left_is : length rest ≡ left
   pub wait_again : WaitAgain incoming reports watches seat (turned changes) again
   pub others_stay : AllOthersStay (turned changes) began seat
+  pub heard : HeardInTurns incoming reports reported reported_now (turned changes) again watched watches seat
 
 -- a client of this peer has joined under a key, after so many others
 pub record HasJoined {L : Type 0} (key : ℕ) (peer : IpAddr) (old : Slab (Member L)) (joined : ℕ) (new : Slab (Member L)) (now : ℕ) : Type 0 where
@@ -160,7 +189,7 @@ AsksAll most reported reported_now = (before : List Report) → reported ≡ Som
 
 -- nothing was heard of a key's client since then, and it could have been: it waits for no turn, and is not held
 pub record IsSilent (watches : List Watch) (queue : List ℕ) (start key : ℕ) : Type 0 where
-  pub not_heard : (watch_at watches key).heard < start
+  pub not_heard : heard_at watches key < start
   pub not_held : hold_at watches key ≡ None
   pub not_waiting : is_waiting key queue ≡ false
 
@@ -208,7 +237,7 @@ schedule queue watches idle looked full = record { queue = queue; watches = watc
 abbrev pub MayBeFull : Bool → Written → Type 0
 MayBeFull full written = full ≡ true → (written.broken ≡ false) × ((log : List ℕ) → written.log ≡ Some log → 4194304 ≤ length log)
 
--- A round: the network is asked what is ready. Those of which something was reported wait after those that waited, unless they get no turn for now; others may have joined since; and after them wait those whose hold is over, by what the clock reported once these had come and before the moment of any turn, and as the log was full or not. Nothing was written up to there. Then each who waits has one turn, in that order, and at the end it waits again, sleeps or is gone. All others stay, and only those that had a turn are held who were not before. At the end of the round, once all turns are over, those that are silent leave, and nobody else does there, by the time that the clock reported then. The changes up to there lead to those who are looked at, and nobody has a turn in the others.
+-- A round: the network is asked what is ready. Those of which something was reported wait after those that waited, unless they get no turn for now; others may have joined since; and after them wait those whose hold is over, by what the clock reported once these had come and before the moment of any turn, and as the log was full or not. Nothing was written up to there. Then each who waits has one turn, in that order, and at the end it waits again, sleeps or is gone. All others stay, and only those that had a turn are held who were not before. When each was heard of stays, but for two: for one that joins, and for one of which something was heard in its turn, it is a time that the clock reported then. At the end of the round, once all turns are over, those that are silent leave, and nobody else does there, by the time that the clock reported then. The changes up to there lead to those who are looked at, and nobody has a turn in the others.
 pub record IsRound {L : Type 0} (outgoing incoming : L → Option (List ℕ)) (reports : L → ℕ → Came → L → Type 0) (changes : List Change) (reported reported_now : Option (List Report)) (from to : Schedule) (old new : Stage L) : Type 0 where
   pub are_changes : AreChanges outgoing incoming old.written.shared changes (state old) (state new)
   pub shared_stays : new.written.shared ≡ old.written.shared
@@ -225,6 +254,7 @@ pub record IsRound {L : Type 0} (outgoing incoming : L → Option (List ℕ)) (r
   pub nothing_written : gathered.written ≡ old.written
   pub held : List Watch
   pub all_stay : AllStay old.members from.watches gathered.members held
+  pub all_begin : AllBegin old.members between before gathered.members held
   pub after : Option (List Report)
   pub left : List Watch
   pub first : List ℕ
@@ -239,6 +269,7 @@ pub record IsRound {L : Type 0} (outgoing incoming : L → Option (List ℕ)) (r
   pub turning_leads : AreChanges outgoing incoming old.written.shared turning (state gathered) (state served)
   pub turning_accounts : Accounts after turning looks_at
   pub others_stay : AllOthersStay first (seats gathered.members) (seats served.members)
+  pub some_heard : HeardInTurns incoming reports after looks_at first to.queue left to.watches (seats served.members)
   pub serving : List Change
   pub serving_leads : AreChanges outgoing incoming old.written.shared serving (state old) (state served)
   pub serving_accounts : Accounts reported serving looks_at

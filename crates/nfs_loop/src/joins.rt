@@ -2,8 +2,8 @@
 ghost use Rattle.std.specs.Prelude.{◌≡◌, ◌+◌, ◌<◌, ◌^◌, [], OnOk};
 ghost use Rattle.std.specs.Net.Socket.{socket_ip};
 ghost use Rattle.nfs_loop.specs.Stages.{BeginsToWatch, Goes, JoinsOrNot, WithoutTurns, stage};
-ghost use Rattle.nfs_loop.specs.Reports.{Accounts, CameFrom, IsReported, came};
-ghost use Rattle.nfs_loop.specs.Watching.{AllStay, AreWatched};
+ghost use Rattle.nfs_loop.specs.Reports.{Accounts, CameFrom, IsReported, ReportsMore, came};
+ghost use Rattle.nfs_loop.specs.Watching.{AllBegin, AllStay, AreWatched};
 ghost use Rattle.nfs_lines.specs.Written.{Written};
 ghost use Rattle.nfs_server.specs.Fits.{Held};
 
@@ -36,7 +36,9 @@ impl<L: Link + Drop> Service<L> {
             (λ changes. WithoutTurns (N.reported net.old) changes (N.reported net.new))
             (stage server self.old.clients.0 self.old.joined lines) (stage server self.new.clients.0 self.new.joined lines) }
         ensures queue { self.new.clients.1.0 ≡ self.old.clients.1.0 }
+        ensures more { ReportsMore (N.reported net.old) (N.reported net.new) }
         ensures stay { AllStay self.old.clients.0 self.old.housekeeping.watches self.new.clients.0 self.new.housekeeping.watches }
+        ensures begin { AllBegin self.old.clients.0 (N.reported net.old) (N.reported net.new) self.new.clients.0 self.new.housekeeping.watches }
         ensures looked { self.new.housekeeping.looked ≡ self.old.housekeeping.looked }
         ensures limits { self.new.housekeeping.limits ≡ self.old.housekeeping.limits }
         ensures watched { AreWatched self.new.clients.0 self.new.housekeeping.watches }
@@ -55,7 +57,9 @@ impl<L: Link + Drop> Service<L> {
             (λ changes. WithoutTurns (N.reported net.old) changes (N.reported net.new))
             (stage server self.old.clients.0 self.old.joined lines) (stage server self.new.clients.0 self.new.joined lines) }
         ensures queue { self.new.clients.1.0 ≡ self.old.clients.1.0 }
+        ensures more { ReportsMore (N.reported net.old) (N.reported net.new) }
         ensures stay { AllStay self.old.clients.0 self.old.housekeeping.watches self.new.clients.0 self.new.housekeeping.watches }
+        ensures begin { AllBegin self.old.clients.0 (N.reported net.old) (N.reported net.new) self.new.clients.0 self.new.housekeeping.watches }
         ensures looked { self.new.housekeeping.looked ≡ self.old.housekeeping.looked }
         ensures limits { self.new.housekeeping.limits ≡ self.old.housekeeping.limits }
         ensures watched { AreWatched self.new.clients.0 self.new.housekeeping.watches }
@@ -98,6 +102,7 @@ impl<L: Link + Drop> Service<L> {
         ensures joins { JoinsOrNot key (socket_ip peer) self.old.clients.0 self.old.joined self.new.clients.0 self.new.joined }
         ensures queue { self.new.clients.1.0 ≡ self.old.clients.1.0 }
         ensures stay { AllStay self.old.clients.0 self.old.housekeeping.watches self.new.clients.0 self.new.housekeeping.watches }
+        ensures begin { AllBegin self.old.clients.0 (N.reported net.old) (N.reported net.new) self.new.clients.0 self.new.housekeeping.watches }
         ensures reported { Accounts (N.reported net.old) [] (N.reported net.new) }
         ensures looked { self.new.housekeeping.looked ≡ self.old.housekeeping.looked }
         ensures limits { self.new.housekeeping.limits ≡ self.old.housekeeping.limits }
@@ -128,6 +133,7 @@ impl<L: Link + Drop> Service<L> {
         ensures joins { JoinsOrNot key (socket_ip peer) self.old.clients.0 self.old.joined self.new.clients.0 self.new.joined }
         ensures queue { self.new.clients.1.0 ≡ self.old.clients.1.0 }
         ensures stay { AllStay self.old.clients.0 self.old.housekeeping.watches self.new.clients.0 self.new.housekeeping.watches }
+        ensures begin { AllBegin self.old.clients.0 (N.reported net.old) (N.reported net.new) self.new.clients.0 self.new.housekeeping.watches }
         ensures reported { Accounts (N.reported net.old) [] (N.reported net.new) }
         ensures watch { OnOk result (BeginsToWatch key (socket_ip peer) self.old.housekeeping.refused_peers
             (N.reported net.old) (N.reported net.new) self.new.housekeeping.watches) }

@@ -3,9 +3,9 @@ ghost use Rattle.std.specs.Prelude.{◌≡◌, ◌↔◌, ℕ, false};
 ghost use Rattle.slab.specs.Slab.{get};
 ghost use Rattle.nfs_lines.specs.Queued.{is_full};
 ghost use Rattle.nfs_lines.specs.Written.{written};
-ghost use Rattle.nfs_loop.specs.Stages.{AllOthersStay, AsksAll, Goes, Notes, TurnsFirst, WaitAgain, most_asked, noted, seats, stage, turned};
+ghost use Rattle.nfs_loop.specs.Stages.{AllOthersStay, AsksAll, Goes, HeardInTurns, Notes, TurnsFirst, WaitAgain, first_of, most_asked, noted, seats, stage, turned};
 ghost use Rattle.nfs_loop.specs.Reports.{Accounts};
-ghost use Rattle.nfs_loop.specs.Watching.{AreWatched, FirstMayBeHeld, ReleasesBy, ReleasesOne, SomeMayBeHeld, hold_at};
+ghost use Rattle.nfs_loop.specs.Watching.{AreWatched, FirstMayBeHeld, ReleasesBy, ReleasesOne, SomeMayBeHeld, heard_at, hold_at};
 
 use crate::housekeeping::Waiting;
 use crate::network::{EVENTS, Network, Ready};
@@ -29,6 +29,7 @@ impl<L: Link + Drop> Service<L> {
         ensures notes { Notes self.old.clients.0 self.old.housekeeping.watches self.old.clients.1.0 self.new.clients.1.0
             (N.reported net.old) (N.reported net.new) }
         ensures holds { (key : ℕ) → hold_at self.new.housekeeping.watches key ≡ hold_at self.old.housekeeping.watches key }
+        ensures heard { (key : ℕ) → heard_at self.new.housekeeping.watches key ≡ heard_at self.old.housekeeping.watches key }
         ensures all { AsksAll most_asked (N.reported net.old) (N.reported net.new) }
         ensures looked { self.new.housekeeping.looked ≡ self.old.housekeeping.looked }
         ensures limits { self.new.housekeeping.limits ≡ self.old.housekeeping.limits }
@@ -52,6 +53,7 @@ impl<L: Link + Drop> Service<L> {
         ensures members { self.new.clients.0 ≡ self.old.clients.0 }
         ensures joined { self.new.joined ≡ self.old.joined }
         ensures holds { (k : ℕ) → hold_at self.new.housekeeping.watches k ≡ hold_at self.old.housekeeping.watches k }
+        ensures heard { (k : ℕ) → heard_at self.new.housekeeping.watches k ≡ heard_at self.old.housekeeping.watches k }
         ensures queue { self.new.clients.1.0 ≡ noted (get self.old.clients.0 key)
             (hold_at self.old.housekeeping.watches key) key self.old.clients.1.0 }
         ensures looked { self.new.housekeeping.looked ≡ self.old.housekeeping.looked }
@@ -128,6 +130,8 @@ impl<L: Link + Drop> Service<L> {
             (stage server.new self.new.clients.0 self.new.joined (written A.taken C.taken lines.new)) }
         ensures holds { SomeMayBeHeld self.old.clients.1.0 self.old.housekeeping.watches self.new.housekeeping.watches }
         ensures others { AllOthersStay self.old.clients.1.0 (seats self.old.clients.0) (seats self.new.clients.0) }
+        ensures heard { HeardInTurns L.incoming L.reports (N.reported net.old) (N.reported net.new) self.old.clients.1.0 self.new.clients.1.0
+            self.old.housekeeping.watches self.new.housekeeping.watches (seats self.new.clients.0) }
         ensures again { WaitAgain L.incoming L.reports self.new.housekeeping.watches (seats self.new.clients.0)
             self.old.clients.1.0 self.new.clients.1.0 }
         ensures looked { self.new.housekeeping.looked ≡ self.old.housekeeping.looked }
@@ -156,6 +160,8 @@ impl<L: Link + Drop> Service<L> {
             (stage server.old self.old.clients.0 self.old.joined (written A.taken C.taken lines.old))
             (stage server.new self.new.clients.0 self.new.joined (written A.taken C.taken lines.new)) }
         ensures holds { FirstMayBeHeld self.old.clients.1.0 self.old.housekeeping.watches self.new.housekeeping.watches }
+        ensures heard { HeardInTurns L.incoming L.reports (N.reported net.old) (N.reported net.new) (first_of self.old.clients.1.0) self.new.clients.1.0
+            self.old.housekeeping.watches self.new.housekeeping.watches (seats self.new.clients.0) }
         ensures looked { self.new.housekeeping.looked ≡ self.old.housekeeping.looked }
         ensures limits { self.new.housekeeping.limits ≡ self.old.housekeeping.limits }
         ensures watched { AreWatched self.new.clients.0 self.new.housekeeping.watches }

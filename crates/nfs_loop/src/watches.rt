@@ -1,6 +1,6 @@
 //! What a service knows of its clients by their keys, beside the clients themselves.
 ghost use Rattle.std.specs.Prelude.{◌≡◌, ◌+◌, ◌<◌, ◌≤◌, ◌^◌, ℕ, [], false, true, if◌then◌else◌, length, nat_lt, slice_set, vec_len, OnOk};
-ghost use Rattle.nfs_loop.specs.Watching.{held_count, hold_at, is_over, nothing_known, one_if_held, watch_at};
+ghost use Rattle.nfs_loop.specs.Watching.{heard_at, held_count, hold_at, is_over, nothing_known, one_if_held, watch_at};
 
 use std::alloc::{AllocError, Global};
 use std::marker::Model;
@@ -134,6 +134,7 @@ impl Watches {
     pub fn set_closing(&mut self, key: usize)
         ensures closing { self.new ≡ slice_set self.old key (record (watch_at self.old key) { is_closing = true }) }
         ensures holds { (k : ℕ) → hold_at self.new k ≡ hold_at self.old k }
+        ensures heard { (k : ℕ) → heard_at self.new k ≡ heard_at self.old k }
     {
         let mut watch = self.at(key);
         watch.is_closing = true;

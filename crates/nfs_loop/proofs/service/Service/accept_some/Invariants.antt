@@ -1,7 +1,8 @@
 use Rattle.std.proofs.Common.{◌≡◌}
 use Rattle.nfs_lines.specs.Written.{Written}
+use Rattle.nfs_loop.specs.Reports.{ReportsMore}
 use Rattle.nfs_loop.specs.Stages.{stage, Goes, WithoutTurns}
-use Rattle.nfs_loop.specs.Watching.{AllStay, AreWatched}
+use Rattle.nfs_loop.specs.Watching.{AllBegin, AllStay, AreWatched}
 use Rattle.nfs_server.specs.Fits.{Held}
 use Rattle.nfs_loop.proofs.service.Service.accept_some.Given as goal
 
@@ -12,6 +13,8 @@ invariant-loop-left g l = record {
   queue : l.self.clients.1.0 ≡ l.fn.self.clients.1.0;
   watched : AreWatched l.self.clients.0 l.self.housekeeping.watches;
   stay : AllStay l.fn.self.clients.0 l.fn.self.housekeeping.watches l.self.clients.0 l.self.housekeeping.watches;
+  begin : AllBegin l.fn.self.clients.0 (g.N.Network.reported l.fn.net) (g.N.Network.reported l.net) l.self.clients.0 l.self.housekeeping.watches;
+  more : ReportsMore (g.N.Network.reported l.fn.net) (g.N.Network.reported l.net);
   looked : l.self.housekeeping.looked ≡ l.fn.self.housekeeping.looked;
   limits : l.self.housekeeping.limits ≡ l.fn.self.housekeeping.limits;
 }

@@ -2,8 +2,8 @@ use Rattle.std.proofs.Common.{◌∙◌, ap, refl, subst, sym}
 use Rattle.slab.specs.Slab.{get}
 use Rattle.nfs_lines.specs.Queued.{is_full}
 use Rattle.nfs_loop.specs.declared.limits.Limits.{Limits}
-use Rattle.nfs_loop.specs.Stages.{AllOthersStay, WaitAgain, seats}
-use Rattle.nfs_loop.specs.Watching.{AreWatched, ReleasesBy, SomeMayBeHeld}
+use Rattle.nfs_loop.specs.Stages.{AllOthersStay, HeardInTurns, WaitAgain, seats}
+use Rattle.nfs_loop.specs.Watching.{AllBegin, AreWatched, ReleasesBy, SomeMayBeHeld}
 use Rattle.nfs_loop.proofs.Changing.{begins_where, goes_then, passed}
 use Rattle.nfs_loop.proofs.Leaving.{stay_or_leave}
 use Rattle.nfs_loop.proofs.Repeating.{full_where, leave_in_round, round_of}
@@ -19,12 +19,15 @@ returns g c =
     record {
       round = round_of out come g.L.Link.reports _ _ _ _ _ _ _ _ _ _ _ _ _ _ _ _ c.note.ensures.notes c.note.ensures.all
           (stay_then c.args.self.now.clients.0 c.note.new.self.clients.0 c.accept_some.new.self.clients.0 c.args.self.now.housekeeping.watches c.note.new.self.housekeeping.watches c.accept_some.new.self.housekeeping.watches
-          (stay_same c.args.self.now.clients.0 c.note.new.self.clients.0 c.args.self.now.housekeeping.watches c.note.new.self.housekeeping.watches (λ key. ap (λ m. get m key) c.note.ensures.members) c.note.ensures.holds) c.accept_some.ensures.stay)
+          (stay_same c.args.self.now.clients.0 c.note.new.self.clients.0 c.args.self.now.housekeeping.watches c.note.new.self.housekeeping.watches (λ key. ap (λ m. get m key) c.note.ensures.members) c.note.ensures.holds c.note.ensures.heard) c.accept_some.ensures.stay)
+          (subst (λ m. AllBegin m (g.N.Network.reported c.note.new.net) (g.N.Network.reported c.accept_some.new.net) c.accept_some.new.self.clients.0 c.accept_some.new.self.housekeeping.watches) c.note.ensures.members c.accept_some.ensures.begin)
           (subst (λ q. ReleasesBy c.accept_some.new.self.clients.0 (is_full c.args.lines.now.denied.queue) (g.N.Network.reported c.accept_some.new.net) (g.N.Network.reported c.release.new.net) c.accept_some.new.self.housekeeping.watches c.release.new.self.housekeeping.watches q c.release.new.self.clients.1.0) c.accept_some.ensures.queue c.release.ensures.releases)
           (full_where g.A.LineOut.taken c.args.lines.now.denied.is_plain c.args.lines.now.denied.queue) refl
           (begins_where out come _ _ c.args.self.now.clients.0 c.note.new.self.clients.0 c.args.self.now.joined c.note.new.self.joined _ _ c.note.ensures.members c.note.ensures.joined (c.accept_some.ensures.goes _ _))
           (begins_where out come _ _ c.accept_some.new.self.clients.0 c.release.new.self.clients.0 c.accept_some.new.self.joined c.release.new.self.joined _ _ c.release.ensures.members c.release.ensures.joined c.turns.ensures.goes)
           (subst (λ m. AllOthersStay c.release.new.self.clients.1.0 (seats m) (seats c.turns.new.self.clients.0)) c.release.ensures.members c.turns.ensures.others)
+          (subst (λ ws. HeardInTurns come g.L.Link.reports (g.N.Network.reported c.release.new.net) (g.N.Network.reported c.turns.new.net) c.release.new.self.clients.1.0 c.end_silent.new.self.clients.1.0 c.release.new.self.housekeeping.watches ws (seats c.turns.new.self.clients.0)) (sym (c.attend.ensures.watches ∙ c.end_silent.ensures.watches))
+          (subst (λ q. HeardInTurns come g.L.Link.reports (g.N.Network.reported c.release.new.net) (g.N.Network.reported c.turns.new.net) c.release.new.self.clients.1.0 q c.release.new.self.housekeeping.watches c.turns.new.self.housekeeping.watches (seats c.turns.new.self.clients.0)) (sym c.end_silent.ensures.queue) c.turns.ensures.heard))
           (goes_then out come _ _ _ _ _ _ (c.end_silent.ensures.goes _) (passed out come _ _ _ _ _ _ _ c.attend.ensures.lines c.attend.ensures.reported))
           (subst (λ ws. WaitAgain come g.L.Link.reports ws (seats c.turns.new.self.clients.0) c.release.new.self.clients.1.0 c.end_silent.new.self.clients.1.0) (sym (c.attend.ensures.watches ∙ c.end_silent.ensures.watches))
           (subst (WaitAgain come g.L.Link.reports c.turns.new.self.housekeeping.watches (seats c.turns.new.self.clients.0) c.release.new.self.clients.1.0) (sym c.end_silent.ensures.queue) c.turns.ensures.again))
