@@ -68,7 +68,7 @@ if command -v setpriv >/dev/null; then
     # shellcheck disable=SC2086
     setpriv --bounding-set -all --inh-caps -all --reuid 65534 --regid 65534 --clear-groups "$program" serve "$top/examples/e.tree" --port 0 --register >"$work/out" 2>"$work/err"
     echo $? >"$work/status"
-    grep -q '^nfs3d: a portmapper takes changes from a port below 1024 alone, and the system gives none (Permission denied (os error 13)); run as root or with CAP_NET_BIND_SERVICE, or leave out --register$' "$work/err" && ended 3
+    grep -q '^nfs3d: a portmapper takes changes only from a port below 1024, and the system gives none (Permission denied (os error 13)); run as root or with CAP_NET_BIND_SERVICE, or leave out --register$' "$work/err" && ended 3
     ok $? "without the privilege for such a port"
     kill "$portmapper" 2>/dev/null
     wait "$portmapper" 2>/dev/null

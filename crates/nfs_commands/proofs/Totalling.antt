@@ -1,6 +1,5 @@
 -- What one volume more adds.
-use Rattle.std.proofs.Common.{◌≡◌, ℕ, suc, ◌+◌, ◌-◌, ◌^◌, ap, subst, sym, ◌∙◌, arith}
-use Rattle.std.specs.Prelude.{min}
+use Rattle.std.proofs.Common.{◌≡◌, ℕ, suc, ◌+◌, ap, subst, ◌∙◌, arith}
 use Rattle.nfs_inodes.specs.Tree.{Tree, bytes_of, files_of}
 use Rattle.nfs_inodes.specs.declared.volumes.Totals.{Totals}
 use Rattle.nfs_commands.specs.Totals.{at_most, bytes_of_first, files_of_first, totals_of_first}

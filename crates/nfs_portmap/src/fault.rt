@@ -7,7 +7,7 @@ use thiserror::Error;
 #[derive(Debug, Drop, Error)]
 pub enum PortmapFault {
     /// No port below 1024 can be had to ask from: what the system says.
-    #[error("a portmapper takes changes from a port below 1024 alone, and the system gives none ({0}); run as root or with CAP_NET_BIND_SERVICE, or leave out --register")]
+    #[error("a portmapper takes changes only from a port below 1024, and the system gives none ({0}); run as root or with CAP_NET_BIND_SERVICE, or leave out --register")]
     NoPort(io::Error),
     /// Nothing answers: what the system says.
     #[error("no portmapper answers at 127.0.0.1:111 ({0}); start rpcbind, or leave out --register")]

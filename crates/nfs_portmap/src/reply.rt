@@ -1,7 +1,6 @@
 //! What a portmapper answers.
-ghost use Rattle.std.specs.Prelude.{◌≡◌, ◌↔◌, IfOk, IsErrOf};
-ghost use Rattle.nfs_portmap.specs.Replies.{answer_at, accepted_at, done_at};
-ghost use Rattle.nfs_portmap.specs.Replies as spec;
+ghost use Rattle.std.specs.Prelude.{◌≡◌};
+ghost use Rattle.nfs_portmap.specs.Replies.{answer_at, accepted_at};
 
 use nfs_xdr::fault::XdrFault;
 use nfs_xdr::input::Input;

@@ -1,6 +1,8 @@
 //! A fault with what stands after its line.
 ghost use Rattle.std.specs.Prelude.{◌≡◌};
 ghost use Rattle.nfs_source.specs.Status.{IsReportedAs};
+ghost use Rattle.nfs_source.specs.declared.fault.Fault.TheVariants.{Network, Sharing};
+ghost use Rattle.nfs_source.specs.declared.sharing_fault.SharingFault.TheVariants.{Option};
 
 use crate::fault::Fault;
 use crate::sharing_fault::SharingFault;
@@ -48,7 +50,9 @@ impl Diagnostic {
 
     /// A fault of an option that says how a directory is shared, with the line that the option makes in these first
     /// lines of a description, and what would be right there. Without memory for that there is none.
-    pub fn of_option(alloc: Global, head: &[u8], line: u64, cause: Cause) -> Diagnostic {
+    pub fn of_option(alloc: Global, head: &[u8], line: u64, cause: Cause) -> Diagnostic
+        ensures { result.fault ≡ Sharing (Option line cause) }
+    {
         let advice = match str::from_utf8(line_of(head, line)) {
             Ok(text) => {
                 let advice = advise(head, line, cause);
@@ -63,7 +67,9 @@ impl Diagnostic {
     }
 
     /// An address that can't be listened at, with what to do. Without memory for that there is none.
-    pub fn of_listening(alloc: Global, address: SocketAddr, error: io::Error) -> Diagnostic {
+    pub fn of_listening(alloc: Global, address: SocketAddr, error: io::Error) -> Diagnostic
+        ensures { result.fault ≡ Network address error }
+    {
         let advice = listening_advice(alloc, error.kind());
         Diagnostic {
             fault: Fault::Network { address, error },
@@ -72,7 +78,9 @@ impl Diagnostic {
     }
 
     /// A fault of what is saved, with what to do. Without memory for that there is none.
-    pub fn of_saving(alloc: Global, fault: Fault) -> Diagnostic {
+    pub fn of_saving(alloc: Global, fault: Fault) -> Diagnostic
+        ensures { result.fault ≡ fault }
+    {
         let advice = match &fault {
             Fault::CannotWrite { error, .. } => saving_advice(alloc, error.kind()),
             _ => None,

@@ -1,4 +1,7 @@
 //! The answer to a question: rule by rule, and the verdict.
+ghost use Rattle.std.specs.Prelude.{◌≡◌, is_none};
+ghost use Rattle.nfs_ask.specs.declared.operation.Operation.TheVariants.{Mount};
+ghost use Rattle.nfs_mount.specs.MountRules.{mount_verdict};
 
 use crate::asked::Asked;
 use crate::grant::put_grant;
@@ -23,7 +26,10 @@ use nfs_words::text::Text;
 /// Puts the answer to a question over a description, which is the text of what was loaded: the grant that
 /// the address has, by whose ids the caller is judged, each rule in its order, and the verdict. Answers whether the
 /// call is granted.
-pub fn put_answer(text: &[u8], loaded: &Loaded, question: &Question<'_>, out: &mut Text) -> bool {
+pub fn put_answer(text: &[u8], loaded: &Loaded, question: &Question<'_>, out: &mut Text) -> bool
+    ensures mount { question.now.operation ≡ Mount
+        → (result ≡ is_none (mount_verdict loaded.now.tree loaded.now.table question.now.addr question.now.path.now)) }
+{
     if question.operation == Operation::Mount {
         return put_mount(text, loaded, question, out);
     }
@@ -40,7 +46,9 @@ pub fn put_answer(text: &[u8], loaded: &Loaded, question: &Question<'_>, out: &m
 }
 
 // The answer of MNT.
-fn put_mount(text: &[u8], loaded: &Loaded, question: &Question<'_>, out: &mut Text) -> bool {
+fn put_mount(text: &[u8], loaded: &Loaded, question: &Question<'_>, out: &mut Text) -> bool
+    ensures { result ≡ is_none (mount_verdict loaded.now.tree loaded.now.table question.now.addr question.now.path.now) }
+{
     let failure = mount_failure(&loaded.tree, &loaded.table, question.addr, question.path);
     if let Some(volume) = loaded.tree.volume_named(question.path) {
         put_grant(out, text, loaded, volume, question.addr);
