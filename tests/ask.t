@@ -18,6 +18,12 @@ grep -v '^\(reply\|deny\) ' "$work/out" >"$work/words"
 golden tests/ask/replies.words "$work/words" && quiet && ended 0
 ok $? "--decode prints a reply of each procedure in words"
 
+# A record that is sent again is named as the call that it is.
+printf '%s\n' 'ask 10.0.0.1 100 9:9 mkdir /a/pub/x' 'again 1 100 10.0.0.2' >"$work/script"
+run replay examples/e.tree "$work/script" --names
+[ "$(grep -c '^deny addr=10.0.0.[12] xid=1 .* rule=exists status=17 call=MKDIR path=/a/pub$' "$work/out")" = 2 ] && quiet && ended 0
+ok $? "--names names a record that is sent again"
+
 # A line that ends with CR and LF: the last word takes in the CR.
 for words in "stat /srv" "read /srv/n" "list /srv"; do
     printf 'ask 10.0.0.1 100 0 %s\r\n' "$words" >"$work/script"

@@ -29,6 +29,8 @@ pub enum ScriptReason {
     Seconds,
     /// No address.
     Address,
+    /// No number of a line.
+    LineNumber,
     /// A word is missing.
     Missing,
     /// No byte follows.
@@ -47,6 +49,8 @@ pub enum ScriptReason {
     NoFile,
     /// Some file that the line names has not this number.
     NoFileAmong,
+    /// The line of this number sends no record before.
+    NoCall,
 }
 
 impl ScriptReason {
@@ -62,7 +66,7 @@ impl ScriptReason {
             }
             ScriptReason::Malformed => "is not a keyword",
             ScriptReason::Unknown => {
-                "is not a keyword; the keywords are attach, feed, detach, call, ask and show"
+                "is not a keyword; the keywords are attach, feed, detach, call, ask, again and show"
             }
             ScriptReason::Connection => {
                 "is not a connection; write a number in decimal digits, up to 4294967295"
@@ -72,6 +76,9 @@ impl ScriptReason {
             }
             ScriptReason::Address => {
                 "is not an address; write four numbers up to 255, separated by dots"
+            }
+            ScriptReason::LineNumber => {
+                "is not the number of a line; write it in decimal digits, up to 4294967295"
             }
             ScriptReason::Missing =>
                 "a word is missing; docs/PROTOCOL.md lists the lines of a script",
@@ -92,11 +99,14 @@ impl ScriptReason {
             ScriptReason::NoFileAmong => {
                 "or a later @ of the line names a file that does not exist; show lists the files"
             }
+            ScriptReason::NoCall => "is not the number of an earlier ask, call or again line",
         }
     }
 }
 
-const VERBS: [&[u8]; 6] = [b"attach", b"feed", b"detach", b"call", b"ask", b"show"];
+const VERBS: [&[u8]; 7] = [
+    b"attach", b"feed", b"detach", b"call", b"ask", b"again", b"show",
+];
 
 /// What a word of a line has to be.
 #[derive(Clone, Copy)]
@@ -104,6 +114,7 @@ enum Wanted {
     Connection,
     Seconds,
     Address,
+    LineNumber,
 }
 
 /// What stands after the words of a line that are looked at.
@@ -129,6 +140,7 @@ pub fn advise_line(script: &[u8], number: u64) -> Advice<'_>
         b"feed" => fields(line, &[Wanted::Connection, Wanted::Seconds], After::Bytes),
         b"call" => fields(line, &[Wanted::Address, Wanted::Seconds], After::Bytes),
         b"ask" => fields(line, &[Wanted::Address, Wanted::Seconds], After::Question),
+        b"again" => again(line),
         b"show" => fields(line, &[], After::Nothing),
         verb => unknown_verb(word, verb),
     }
@@ -179,6 +191,18 @@ fn unknown_verb<'a>(word: Span<'a>, verb: &[u8]) -> Advice<'a>
     }
 }
 
+// What is wrong with an `again` line, whose moment and address may be missing.
+fn again(line: Span<'_>) -> Advice<'_>
+    ensures { result.span.line.now ≡ line.entry.line.now }
+{
+    let wanted: &[Wanted] = match line.count_words() {
+        0..=2 => &[Wanted::LineNumber],
+        3 => &[Wanted::LineNumber, Wanted::Seconds],
+        _ => &[Wanted::LineNumber, Wanted::Seconds, Wanted::Address],
+    };
+    fields(line, wanted, After::Nothing)
+}
+
 // The first word of a line that isn't what is wanted there, or is missing, or is one too many.
 fn fields<'a>(line: Span<'a>, wanted: &[Wanted], after: After) -> Advice<'a>
     ensures { result.span.line.now ≡ line.entry.line.now }
@@ -208,12 +232,23 @@ fn refusal(wanted: Wanted, word: &[u8]) -> Option<ScriptReason> {
         Wanted::Connection => (is_number(word), ScriptReason::Connection),
         Wanted::Seconds => (is_number(word), ScriptReason::Seconds),
         Wanted::Address => (parse_addr(word).is_ok(), ScriptReason::Address),
+        Wanted::LineNumber => (is_number(word), ScriptReason::LineNumber),
     };
     if is_right { None } else { Some(reason) }
 }
 
 fn is_number(word: &[u8]) -> bool {
     decimal(word, u64::from(u32::MAX)).is_some()
+}
+
+/// The number in an `again` line, of a line that sends no record before it. The line's own number is counted
+/// from 1.
+pub fn advise_again(script: &[u8], number: u64) -> Advice<'_>
+    ensures { result.span.line.now ≡ line_numbered number (chunks 10 script.entry.now) }
+{
+    let line = line_at(script, number);
+    let word = line.word(1).unwrap_or(line);
+    Advice::new(word, AdviceReason::Script(ScriptReason::NoCall))
 }
 
 /// What is wrong with the first word of a line that says no bytes. The line's number is counted from 1.

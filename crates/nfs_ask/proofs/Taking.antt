@@ -7,8 +7,8 @@ use Rattle.nfs_ask.specs.declared.fault.Wanted.{Wanted}
 use Rattle.nfs_ask.specs.declared.fault.Wanted.TheVariants as wanted
 use Rattle.nfs_ask.specs.declared.operation.Operation.{Operation}
 use Rattle.nfs_ask.specs.Operations.{operation_of}
-use Rattle.nfs_ask.specs.Words.{word_at, if_any, value_at, end_at, user_of}
-use Rattle.nfs_ask.specs.Asks.{Asks, AsksAs, AsksBy}
+use Rattle.nfs_ask.specs.Words.{word_at, if_any, value_at, xid_at, end_at, user_of}
+use Rattle.nfs_ask.specs.Asks.{Asks, AsksAs, AsksBy, AsksFrom}
 
 word_taken : (wanted : Wanted) (ws left : List (List ℕ)) (word : List ℕ) → word_at wanted ws ≡ Ok (word, left) → ws ≡ word ∷ left
 word_taken wanted [] left word e = absurd cc
@@ -35,13 +35,24 @@ end_taken : (ws left : List (List ℕ)) → end_at ws ≡ Ok (tt, left) → ws �
 end_taken [] left e = refl
 end_taken (w ∷ ws) left e = absurd cc
 
-pub asks_by : (ws begun after_user after_word after_path left end : List (List ℕ)) (ask : Ask) (word : List ℕ) (operation : Operation)
-    → begun ≡ ws → value_at wanted.User user_of begun ≡ Ok (credential_of ask.cred, after_user) → word_at wanted.Operation after_user ≡ Ok (word, after_word)
+asks_from : (ws after_user after_word after_path left end : List (List ℕ)) (ask : Ask) (word : List ℕ) (operation : Operation)
+    → value_at wanted.User user_of ws ≡ Ok (credential_of ask.cred, after_user) → word_at wanted.Operation after_user ≡ Ok (word, after_word)
     → operation_of word ≡ Some operation → word_at wanted.Path after_word ≡ Ok (ask.path.now, after_path)
-    → Asks operation after_path ask.request left → end_at left ≡ Ok (tt, end) → AsksBy ws ask
-asks_by ws begun a b d left end ask word operation same user first known path asks ends =
-    let u = user_taken ws a (credential_of ask.cred) (subst (λ t. value_at wanted.User user_of t ≡ Ok (credential_of ask.cred, a)) same user) in
+    → Asks operation after_path ask.request left → end_at left ≡ Ok (tt, end) → AsksFrom ws ask
+asks_from ws a b d left end ask word operation user first known path asks ends =
+    let u = user_taken ws a (credential_of ask.cred) user in
     let whole : u.user ∷ word ∷ ask.path.now ∷ d ≡ ws =
     ap (λ t. u.user ∷ word ∷ t) (sym (word_taken wanted.Path b d ask.path.now path)) ∙ ap (λ t. u.user ∷ t) (sym (word_taken wanted.Operation a b word first)) ∙ sym u.all in
-    subst (λ t. AsksBy t ask) whole
+    subst (λ t. AsksFrom t ask) whole
     (u.says, refl, subst (λ o. AsksAs o d ask.request) (sym known) (subst (λ l. Asks operation d ask.request l) (end_taken left end ends) asks))
+
+pub asks_by : (ws begun after_xid after_user after_word after_path left end : List (List ℕ)) (ask : Ask) (word : List ℕ) (operation : Operation)
+    → begun ≡ ws → xid_at begun ≡ Ok (ask.xid, after_xid)
+    → value_at wanted.User user_of after_xid ≡ Ok (credential_of ask.cred, after_user) → word_at wanted.Operation after_user ≡ Ok (word, after_word)
+    → operation_of word ≡ Some operation → word_at wanted.Path after_word ≡ Ok (ask.path.now, after_path)
+    → Asks operation after_path ask.request left → end_at left ≡ Ok (tt, end) → AsksBy ws ask
+asks_by ws begun from a b d left end ask word operation same number user first known path asks ends = (
+  from,
+  subst (λ t. xid_at t ≡ Ok (ask.xid, from)) same number,
+  asks_from from a b d left end ask word operation user first known path asks ends,
+)

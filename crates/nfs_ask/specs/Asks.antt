@@ -1,5 +1,5 @@
 -- What an `ask` asks for, and the record of its call.
-use Rattle.std.specs.Prelude.{◌≡◌, ℕ, Bool, List, [], ◌∷◌, Option, Some, None, Ok, Err}
+use Rattle.std.specs.Prelude.{◌≡◌, ℕ, Bool, true, false, ◌&&◌, List, [], ◌∷◌, Option, Some, None, is_none, unwrap_or, Ok, Err, if◌then◌else◌}
 use Rattle.nfs_xdr.specs.Reading.{◌>>=◌}
 use Rattle.nfs_rpc.specs.AuthSys.{credential_of}
 use Rattle.nfs_attrs.specs.declared.sattr.Sattr.{Sattr}
@@ -13,6 +13,7 @@ use Rattle.nfs_client.specs.declared.name_request.NameRequest.{NameRequest}
 use Rattle.nfs_client.specs.declared.name_request.NameRequest.TheVariants as of_name
 use Rattle.nfs_client.specs.declared.request.Request.{Request}
 use Rattle.nfs_client.specs.declared.request.Request.TheVariants as request
+use Rattle.nfs_client.specs.Places.{file_at}
 use Rattle.nfs_client.specs.Records.{record_in, has_long_part}
 use Rattle.nfs_client.specs.Requests.{nothing}
 use Rattle.nfs_ask.specs.declared.ask.Ask.{Ask}
@@ -22,7 +23,7 @@ use Rattle.nfs_ask.specs.declared.fault.Wanted.TheVariants as wanted
 use Rattle.nfs_ask.specs.declared.operation.Operation.{Operation}
 use Rattle.nfs_ask.specs.declared.operation.Operation.TheVariants as op
 use Rattle.nfs_ask.specs.Operations.{operation_of}
-use Rattle.nfs_ask.specs.Words.{Taken, word_at, number_at, long_number_at, mode_at, or_else, user_of, value_at, end_at}
+use Rattle.nfs_ask.specs.Words.{Taken, word_at, number_at, long_number_at, mode_at, or_else, user_of, value_at, xid_at, end_at}
 
 -- ---- what stands after a path
 
@@ -118,12 +119,16 @@ AsksAs None words r = ⊥
 AsksAs (Some operation) words r = Asks operation words r []
 
 -- who asks for what of which path
-abbrev pub AsksBy : List (List ℕ) → Ask → Type 0
-AsksBy [] ask = ⊥
-AsksBy (user ∷ []) ask = ⊥
-AsksBy (user ∷ operation ∷ []) ask = ⊥
-AsksBy (user ∷ operation ∷ path ∷ words) ask =
+abbrev pub AsksFrom : List (List ℕ) → Ask → Type 0
+AsksFrom [] ask = ⊥
+AsksFrom (user ∷ []) ask = ⊥
+AsksFrom (user ∷ operation ∷ []) ask = ⊥
+AsksFrom (user ∷ operation ∷ path ∷ words) ask =
     (user_of user ≡ Some (credential_of ask.cred)) × (path ≡ ask.path.now) × AsksAs (operation_of operation) words ask.request
+
+-- the same, after the number of the call where one is given
+abbrev pub AsksBy : List (List ℕ) → Ask → Type 0
+AsksBy words ask = (left : List (List ℕ)) × (xid_at words ≡ Ok (ask.xid, left)) × AsksFrom left ask
 
 -- ---- what is wanted where the words ask for nothing
 
@@ -154,7 +159,8 @@ after_path other words = Ok (tt, words)
 -- all of them
 abbrev pub passed_by : List (List ℕ) → Taken (Unit {0})
 passed_by words = do
-  user ← value_at wanted.User user_of words
+  xid ← xid_at words
+  user ← value_at wanted.User user_of xid.1
   operation ← value_at wanted.Operation operation_of user.1
   path ← word_at wanted.Path operation.1
   after ← after_path operation.0 path.1
@@ -167,8 +173,22 @@ IsWanted taken fault.Memory = ⊥
 
 -- ---- the record
 
+-- whether a request is one of the file that its path names
+abbrev pub needs_file : Request → Bool
+needs_file (request.File r) = true
+needs_file (request.Name r) = false
+needs_file (request.Rename to) = false
+needs_file (request.Link name) = true
+needs_file request.Mount = false
+needs_file request.Unmount = false
+
+-- what is sent over a tree: the LOOKUP of a name stands for what is asked of a file that isn't there
+abbrev pub sent_request : Tree → Ask → Request
+sent_request t ask = if needs_file ask.request && is_none (file_at t ask.path.now) then request.Name of_name.Lookup else ask.request
+
+-- by the number that the words give, or else by this one
 abbrev pub record_of : Tree → Ask → ℕ → Option (List ℕ)
-record_of t ask xid = record_in t (record { xid = xid; cred = credential_of ask.cred }) ask.path.now ask.request
+record_of t ask xid = record_in t (record { xid = unwrap_or ask.xid xid; cred = credential_of ask.cred }) ask.path.now (sent_request t ask)
 
 abbrev pub has_long_word : Tree → Ask → Bool
-has_long_word t ask = has_long_part t ask.path.now ask.request
+has_long_word t ask = has_long_part t ask.path.now (sent_request t ask)

@@ -1,6 +1,6 @@
 -- What the words of an `ask` say.
 use Rattle.std.specs.Prelude.{◌≡◌, ℕ, ◌+◌, ◌-◌, ◌*◌, Bool, true, false, ◌&&◌, List, [], ◌∷◌, ◌++◌, length, Option, Some, None, Result, Ok, Err}
-use Rattle.std.specs.Prelude.{if◌then◌else◌, nat_le, nat_lt}
+use Rattle.std.specs.Prelude.{if◌then◌else◌, nat_le, nat_lt, bytes_eq, codes, option_map}
 use Rattle.nfs_xdr.specs.Reading.{◌>>=◌}
 use Rattle.nfs_text.specs.Numbers.{decimal_of}
 use Rattle.nfs_text.specs.Chunks.{cut, chunks}
@@ -81,6 +81,19 @@ long_number_at words = value_at wanted.LongWord long_number_of words
 
 abbrev pub mode_at : List (List ℕ) → Taken ℕ
 mode_at words = value_at wanted.Mode octal_of words
+
+-- what stands after `xid=` in a word that begins so
+abbrev pub after_xid : List ℕ → Option (List ℕ)
+after_xid word = if bytes_eq (cut 61 word).0 (codes "xid") then (cut 61 word).1 else None
+
+-- the number of a call, where the first word begins so; any other word is left
+abbrev pub xid_by : Option (List ℕ) → List (List ℕ) → List (List ℕ) → Taken (Option ℕ)
+xid_by None all others = Ok (None, all)
+xid_by (Some digits) all others = if_any wanted.Xid (option_map Some (number_of digits)) others
+
+abbrev pub xid_at : List (List ℕ) → Taken (Option ℕ)
+xid_at [] = Ok (None, [])
+xid_at (word ∷ words) = xid_by (after_xid word) (word ∷ words) words
 
 abbrev pub is_nothing : List (List ℕ) → Bool
 is_nothing [] = true

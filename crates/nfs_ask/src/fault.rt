@@ -1,5 +1,5 @@
 //! Why words ask for no call.
-ghost use Rattle.std.specs.Prelude.{◌≡◌};
+ghost use Rattle.std.specs.Prelude.{◌≡◌, ◌≤◌};
 ghost use Rattle.nfs_ask.specs.Faults as spec;
 
 use nfs_client::fault::{CallFault, Part};
@@ -8,6 +8,9 @@ use thiserror::Error;
 /// What is wanted where a word is missing or is another one.
 #[derive(Clone, Copy, Debug, PartialEq, Eq, Error)]
 pub enum Wanted {
+    /// The number of a call.
+    #[error("expected xid=N: the call's number in decimal digits, up to 4294967295")]
+    Xid,
     /// A user.
     #[error("expected UID:GID[,GID..]: the numbers of a user, of its group, and of at most 16 more groups")]
     User,
@@ -46,7 +49,7 @@ pub enum Wanted {
 /// Why words ask for no call.
 #[derive(Clone, Copy, Debug, PartialEq, Eq, Error)]
 pub enum AskFault {
-    /// At a place, counted from 0, the user's, something else is wanted.
+    /// At a place, counted from 0, something else is wanted.
     #[error("{1}")]
     Word(usize, Wanted),
     /// There is no memory.
@@ -61,20 +64,30 @@ const AFTER_PATH: usize = 3;
 
 const BYTES: usize = 4;
 
-/// The fault of a call that can't be written, by the word that it is at.
-pub(crate) fn fault_of(fault: CallFault) -> AskFault
-    ensures { result ≡ spec.fault_of fault }
+/// The fault of a call that can't be written, by the word that it is at. The words may begin with the call's
+/// number.
+pub(crate) fn fault_of(fault: CallFault, has_xid: bool) -> AskFault
+    ensures { result ≡ spec.fault_of has_xid fault }
 {
     match fault {
-        CallFault::NoFile(part) => AskFault::Word(place_of(part), Wanted::File),
-        CallFault::TooLong(part) => AskFault::Word(place_of(part), Wanted::Shorter),
-        CallFault::BadDigits => AskFault::Word(BYTES, Wanted::Bytes),
+        CallFault::NoFile(part) => AskFault::Word(place_of(part, has_xid), Wanted::File),
+        CallFault::TooLong(part) => AskFault::Word(place_of(part, has_xid), Wanted::Shorter),
+        CallFault::BadDigits => AskFault::Word(place_of(Part::Bytes, has_xid), Wanted::Bytes),
         CallFault::Memory => AskFault::Memory,
     }
 }
 
-fn place_of(part: Part) -> usize
-    ensures { result ≡ spec.place_of part }
+// The place of a part among all words.
+fn place_of(part: Part, has_xid: bool) -> usize
+    ensures { result ≡ spec.place_of has_xid part }
+{
+    let place = place_from_user(part);
+    if has_xid { place + 1 } else { place }
+}
+
+fn place_from_user(part: Part) -> usize
+    ensures place { result ≡ spec.place_from_user part }
+    ensures small { result ≤ 4 }
 {
     match part {
         Part::Path => PATH,

@@ -1,9 +1,11 @@
 //! The words of an `ask`, taken from left to right.
-ghost use Rattle.std.specs.Prelude.{◌≡◌};
+ghost use Rattle.std.specs.Prelude.{◌≡◌, option_map};
 ghost use Rattle.nfs_text.specs.Words.{words_left};
-ghost use Rattle.nfs_ask.specs.Words.{Takes, word_at, number_at, long_number_at, mode_at, end_at, is_nothing, IsFault, octal_of, octal_more};
+ghost use Rattle.nfs_ask.specs.Words as spec;
+ghost use Rattle.nfs_ask.specs.Words.{Takes, word_at, number_at, long_number_at, mode_at, xid_at, end_at, is_nothing, IsFault, octal_of, octal_more};
 
 use crate::fault::{AskFault, Wanted};
+use nfs_text::chunks::cut;
 use nfs_text::number::decimal;
 use nfs_text::words::Words;
 use std::marker::Model;
@@ -85,6 +87,25 @@ impl<'a> Fields<'a> {
         }
     }
 
+    /// The number of a call, where the next word begins with `xid=`; any other word is left.
+    pub(crate) fn xid(&mut self) -> Result<Option<u32>, AskFault>
+        ensures { Takes (λ xid. xid) self.new result (xid_at self.old) }
+    {
+        let mut ahead = self.words;
+        let Some(word) = ahead.next() else {
+            return Ok(None);
+        };
+        let Some(digits) = after_xid(word) else {
+            return Ok(None);
+        };
+        self.words = ahead;
+        self.place = self.place.saturating_add(1);
+        match decimal(digits, u64::from(u32::MAX)) {
+            Some(number) => Ok(Some(number as u32)),
+            None => Err(self.fault(Wanted::Xid)),
+        }
+    }
+
     /// Whether no word is left.
     pub(crate) fn is_at_end(&self) -> bool
         ensures { result ≡ is_nothing self.now }
@@ -102,6 +123,18 @@ impl<'a> Fields<'a> {
         } else {
             Err(AskFault::Word(self.place, Wanted::Nothing))
         }
+    }
+}
+
+// What stands after `xid=` in a word that begins so.
+fn after_xid(word: &[u8]) -> Option<&[u8]>
+    ensures { option_map (λ digits. digits.now) result ≡ spec.after_xid word.now }
+{
+    let (key, digits) = cut(word, b'=');
+    if key == b"xid".as_slice() {
+        digits
+    } else {
+        None
     }
 }
 

@@ -15,7 +15,10 @@ pub enum LineCause {
     /// A word of it names a file that there isn't.
     #[error("NoHandle")]
     NoHandle,
-    /// A word of an `ask` line, counted from 0 at the user's, is not what is wanted there.
+    /// An `again` line names no earlier line that sent a record.
+    #[error("NoCall")]
+    NoCall,
+    /// A word of an `ask` line, counted from 0 after the moment, is not what is wanted there.
     #[error("BadLine")]
     BadWord(usize, Wanted),
     /// Such a word is a path that names no file that lives.

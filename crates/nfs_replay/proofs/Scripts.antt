@@ -1,7 +1,6 @@
 -- Words that are read one after another, and lines that are run so.
-use Rattle.std.proofs.Common.{◌≡◌, ℕ, ◌-◌, ◌^◌, ◌<◌, List, [], ◌∷◌, ◌++◌, length, Result, Ok, Err, IsErr, IsErrAnd, refl, sym, ap, subst, ◌∙◌, append_assoc, append-nil}
-use Rattle.std.specs.Prelude.{IfErr}
-use Rattle.std.specs.List.{AllByRecursion}
+use Rattle.std.proofs.Common.{◌≡◌, ℕ, suc, ◌+◌, ◌-◌, ◌^◌, ◌<◌, Bool, true, false, List, [], ◌∷◌, ◌++◌, length, Option, Some, None, Result, Ok, Err, IsErr, IsErrAnd, refl, sym, ap, subst, ◌∙◌, append_assoc, append-nil}
+use Rattle.std.specs.Prelude.{◌||◌, IfErr, if◌then◌else◌}
 use Rattle.std.proofs.lemmas.Bool.{false≢true}
 use Rattle.nfs_xdr.proofs.Finding.{ok_is}
 use Rattle.nfs_xdr.specs.Reading.{◌>>=◌}
@@ -14,7 +13,11 @@ use Rattle.nfs_ask.specs.declared.script_fault.LineCause.{LineCause}
 use Rattle.nfs_ask.specs.declared.script_fault.ScriptFault.{ScriptFault}
 use Rattle.nfs_ask.specs.declared.script_fault.ScriptFault.TheVariants as script
 use Rattle.nfs_ask.specs.declared.fault.AskFault.{AskFault}
-use Rattle.nfs_replay.specs.Scripts.{AskForNone, FaultsBy, IsCauseOf, IsFaulty, IsRefused, IsReported, IsRun, SayNone, StopsBy, bytes_in, fault_of, onto, word_in}
+use Rattle.nfs_replay.specs.Orders.{Asked, Nothing, Attach, Feed, Detach, Call, Ask, Again, Show, has_again, is_again, order_in}
+use Rattle.nfs_replay.specs.Scripts.{AllRun, AreRun, AskForNone, FaultsBy, HasCause, IsCauseOf, IsRefused, IsReported, IsRun, Runs, SayNone, Sends, StopsBy, bytes_in, fault_of, onto, word_in, xid_of}
+use Rattle.nfs_replay.specs.Sending.{Sent, kept_of}
+use Rattle.nfs_replay.specs.declared.queued_call.QueuedCall.{QueuedCall}
+use Rattle.nfs_replay.specs.declared.sent.SentRecords.{SentRecords}
 use Rattle.nfs_replay.specs.declared.fault.RunFault.{RunFault}
 use Rattle.nfs_replay.specs.declared.line_fault.LineFault.{LineFault}
 use Rattle.nfs_replay.specs.declared.line_fault.LineFault.TheVariants.{OfLine, OfRun}
@@ -75,29 +78,117 @@ stopped_so text (Err it) e h stops = subst (StopsBy text) (sym h.1) stops
 
 -- ---- lines
 
-pub all_more : (before : List (List ℕ)) (line : List ℕ) → AllByRecursion IsRun before → IsRun line → AllByRecursion IsRun (before ++ line ∷ [])
-all_more [] line all is = (is, tt)
-all_more (first ∷ before) line all is = (all.0, all_more before line all.1 is)
+-- one line more is run
+pub run_more : (before : List (Option Sent)) (lines : List (List ℕ)) (sents : List (Option Sent)) (line : List ℕ) (sent : Option Sent)
+    → AreRun before lines sents → IsRun (before ++ sents) line sent → AreRun before (lines ++ line ∷ []) (sents ++ sent ∷ [])
+run_more before [] [] line sent all is = (subst (λ b. IsRun b line sent) (append-nil before) is, tt)
+run_more before [] (one ∷ sents) line sent all is = absurd all
+run_more before (first ∷ lines) [] line sent all is = absurd all
+run_more before (first ∷ lines) (one ∷ sents) line sent all is =
+    (all.0, run_more (before ++ one ∷ []) lines sents line sent all.1 (subst (λ b. IsRun b line sent) (sym (append_assoc before (one ∷ []) sents)) is))
+
+-- each line sent a record or none
+pub each_sent : (before : List (Option Sent)) (lines : List (List ℕ)) (sents : List (Option Sent)) → AreRun before lines sents → length sents ≡ length lines
+each_sent before [] [] all = refl
+each_sent before [] (one ∷ sents) all = absurd all
+each_sent before (first ∷ lines) [] all = absurd all
+each_sent before (first ∷ lines) (one ∷ sents) all = ap suc (each_sent (before ++ one ∷ []) lines sents all.1)
+
+-- ---- what is kept
+
+-- it is what the lines so far sent, or else none of those left asks for it
+pub record Accounts (kept : SentRecords) (sents : List (Option Sent)) (left : List (List ℕ)) : Type 0 where
+  pub kept_so : kept.is_kept ≡ true → kept_of kept ≡ sents
+  pub none_again : kept.is_kept ≡ false → has_again left ≡ false
+
+none_of : (first others : Bool) → first || others ≡ false → (first ≡ false) × (others ≡ false)
+none_of true others e = absurd (false≢true (sym e))
+none_of false others e = (refl, e)
+
+-- what other lines ask for doesn't depend on it
+other_sends : (line : ℕ) (one two : List (Option Sent)) (o : Option Asked) (sent : Option Sent) → is_again o ≡ false → Sends line one o sent → Sends line two o sent
+other_sends line one two None sent none is = is
+other_sends line one two (Some Nothing) sent none is = is
+other_sends line one two (Some (Attach conn addr)) sent none is = is
+other_sends line one two (Some (Feed conn moment left)) sent none is = is
+other_sends line one two (Some (Detach conn)) sent none is = is
+other_sends line one two (Some (Call addr moment left)) sent none is = is
+other_sends line one two (Some (Ask addr moment left)) sent none is = is
+other_sends line one two (Some (Again number moment addr)) sent none is = absurd (false≢true (sym none))
+other_sends line one two (Some Show) sent none is = is
+
+other_fails : (line : ℕ) (one two : List (Option Sent)) (o : Option Asked) (e : LineFault) → is_again o ≡ false → FaultsBy (HasCause line one o) e → FaultsBy (HasCause line two o) e
+other_fails line one two None e none has = has
+other_fails line one two (Some Nothing) e none has = has
+other_fails line one two (Some (Attach conn addr)) e none has = has
+other_fails line one two (Some (Feed conn moment left)) e none has = has
+other_fails line one two (Some (Detach conn)) e none has = has
+other_fails line one two (Some (Call addr moment left)) e none has = has
+other_fails line one two (Some (Ask addr moment left)) e none has = has
+other_fails line one two (Some (Again number moment addr)) e none has = absurd (false≢true (sym none))
+other_fails line one two (Some Show) e none has = has
+
+-- so a line does what it does over all that was sent
+pub accounted_sends : (line : ℕ) (is_kept : Bool) (kept sents : List (Option Sent)) (o : Option Asked) (sent : Option Sent)
+    → (is_kept ≡ true → kept ≡ sents) → (is_kept ≡ false → is_again o ≡ false) → Sends line kept o sent → Sends line sents o sent
+accounted_sends line true kept sents o sent so none is = subst (λ k. Sends line k o sent) (so refl) is
+accounted_sends line false kept sents o sent so none is = other_sends line kept sents o sent (none refl) is
+
+pub accounted_fails : (line : ℕ) (is_kept : Bool) (kept sents : List (Option Sent)) (o : Option Asked) (e : LineFault)
+    → (is_kept ≡ true → kept ≡ sents) → (is_kept ≡ false → is_again o ≡ false) → FaultsBy (HasCause line kept o) e → FaultsBy (HasCause line sents o) e
+accounted_fails line true kept sents o e so none has = subst (λ k. FaultsBy (HasCause line k o) e) (so refl) has
+accounted_fails line false kept sents o e so none has = other_fails line kept sents o e (none refl) has
+
+again_next : (kept : SentRecords) (sents : List (Option Sent)) (left rest : List (List ℕ)) (line : List ℕ) → left ≡ line ∷ rest → Accounts kept sents left
+    → kept.is_kept ≡ false → (is_again (order_in line) ≡ false) × (has_again rest ≡ false)
+again_next kept sents left rest line more account none = none_of (is_again (order_in line)) (has_again rest) (ap has_again (sym more) ∙ account.none_again none)
+
+kept_more : (is_kept : Bool) (old new sents : List (Option Sent)) (sent : Option Sent)
+    → new ≡ (if is_kept then old ++ sent ∷ [] else old) → (is_kept ≡ true → old ≡ sents) → is_kept ≡ true → new ≡ sents ++ sent ∷ []
+kept_more true old new sents sent is so kept = is ∙ ap (λ k. k ++ sent ∷ []) (so refl)
+kept_more false old new sents sent is so kept = absurd (false≢true kept)
+
+-- the next line is run
+pub line_run : (text : List ℕ) (past : List (List ℕ)) (sents : List (Option Sent)) (left rest : List (List ℕ)) (line : List ℕ) (count : ℕ) (kept new : SentRecords) (calls : List QueuedCall)
+    → AreRun [] past sents → lines text ≡ past ++ left → left ≡ line ∷ rest → count ≡ length past → length text < 2 ^ 64 - 1 → Accounts kept sents left
+    → Runs count kept (order_in line) new calls
+    → (sent : Option Sent) × AreRun [] (past ++ line ∷ []) (sents ++ sent ∷ []) × Accounts new (sents ++ sent ∷ []) rest
+line_run text past sents left rest line count kept new calls run all more counted few account runs =
+    let number : number_after count ≡ length sents + 1 = number_is text past left count all counted few ∙ ap (λ n. n + 1) (sym (each_sent [] past sents run)) in
+    let sends : Sends (length sents + 1) (kept_of kept) (order_in line) runs.sent = subst (λ n. Sends n (kept_of kept) (order_in line) runs.sent) number runs.sends in (
+      runs.sent,
+      run_more [] past sents line runs.sent run (accounted_sends _ kept.is_kept (kept_of kept) sents (order_in line) runs.sent account.kept_so (λ none. (again_next kept sents left rest line more account none).0) sends),
+      record {
+        kept_so = λ is. kept_more kept.is_kept (kept_of kept) (kept_of new) sents runs.sent runs.keeps.kept account.kept_so (sym runs.keeps.is_kept ∙ is);
+        none_again = λ none. (again_next kept sents left rest line more account (sym runs.keeps.is_kept ∙ none)).1;
+      },
+    )
 
 -- a line is faulty, after so many that were run
-pub line_stops : (text : List ℕ) (before left rest : List (List ℕ)) (line : List ℕ) (count : ℕ) (found : LineFault) (reported : ScriptFault)
-    → lines text ≡ before ++ left → left ≡ line ∷ rest → count ≡ length before → length text < 2 ^ 64 - 1
-    → AllByRecursion IsRun before → FaultsBy (IsFaulty line) found → IsReported found (number_after count) reported → StopsBy text reported
-line_stops text before left rest line count found (script.Line number cause) all more counted few run has so = record {
-  before = before;
-  line = line;
-  after = rest;
-  all_are = all ∙ ap (λ it. before ++ it) more;
-  number_is = so.1 ∙ number_is text before left count all counted few;
-  are_run = run;
-  is_faulty = subst (FaultsBy (IsFaulty line)) so.0 has;
-}
-line_stops text before left rest line count found script.Write all more counted few run has so = tt
-line_stops text before left rest line count found script.Memory all more counted few run has so = tt
+pub line_stops : (text : List ℕ) (past : List (List ℕ)) (sents : List (Option Sent)) (left rest : List (List ℕ)) (line : List ℕ) (count : ℕ) (kept : SentRecords) (found : LineFault) (reported : ScriptFault)
+    → AreRun [] past sents → lines text ≡ past ++ left → left ≡ line ∷ rest → count ≡ length past → length text < 2 ^ 64 - 1 → Accounts kept sents left
+    → FaultsBy (HasCause (number_after count) (kept_of kept) (order_in line)) found → IsReported found (number_after count) reported → StopsBy text reported
+line_stops text past sents left rest line count kept found (script.Line number cause) run all more counted few account has so =
+    let is : number_after count ≡ length past + 1 = number_is text past left count all counted few in
+    let has_now : FaultsBy (HasCause (number_after count) sents (order_in line)) found =
+    accounted_fails _ kept.is_kept (kept_of kept) sents (order_in line) found account.kept_so (λ none. (again_next kept sents left rest line more account none).0) has in
+    record {
+      before = past;
+      line = line;
+      after = rest;
+      all_are = all ∙ ap (λ it. past ++ it) more;
+      number_is = so.1 ∙ is;
+      sent = sents;
+      are_run = run;
+      is_faulty = subst (λ n. HasCause n sents (order_in line) cause) (is ∙ ap (λ n. n + 1) (sym (each_sent [] past sents run)))
+          (subst (FaultsBy (HasCause (number_after count) sents (order_in line))) so.0 has_now);
+    }
+line_stops text past sents left rest line count kept found script.Write run all more counted few account has so = tt
+line_stops text past sents left rest line count kept found script.Memory run all more counted few account has so = tt
 
 -- no line is left
-pub all_run : (text : List ℕ) (before left : List (List ℕ)) → AllByRecursion IsRun before → lines text ≡ before ++ left → left ≡ [] → AllByRecursion IsRun (lines text)
-all_run text before left run all none = subst (AllByRecursion IsRun) (sym (all ∙ ap (λ it. before ++ it) none ∙ append-nil before)) run
+pub all_run : (text : List ℕ) (past : List (List ℕ)) (sents : List (Option Sent)) (left : List (List ℕ)) → AreRun [] past sents → lines text ≡ past ++ left → left ≡ [] → AllRun (lines text)
+all_run text past sents left run all none = (sents, subst (λ it. AreRun [] it sents) (sym (all ∙ ap (λ it. past ++ it) none ∙ append-nil past)) run)
 
 -- ---- the words of a line
 
@@ -105,6 +196,6 @@ pub say_none : (t : Tree) (left : List (List ℕ)) (e : LineFault) → IsCauseOf
 say_none t left (OfLine cause) has = (t, has)
 say_none t left (OfRun e) has = has
 
-pub ask_for_none : (t : Tree) (left : List (List ℕ)) (e : AskFault) (it : LineFault) → it ≡ fault_of e → IsRefused t left e → FaultsBy (AskForNone left) it
-ask_for_none t left e (OfLine cause) so refused = (t, e, refused, sym so)
-ask_for_none t left e (OfRun r) so refused = tt
+pub ask_for_none : (t : Tree) (line : ℕ) (left : List (List ℕ)) (e : AskFault) (it : LineFault) → it ≡ fault_of e → IsRefused t (xid_of line) left e → FaultsBy (AskForNone line left) it
+ask_for_none t line left e (OfLine cause) so refused = (t, e, refused, sym so)
+ask_for_none t line left e (OfRun r) so refused = tt

@@ -1,3 +1,4 @@
 pub mod Orders
 pub mod Printed
 pub mod Scripts
+pub mod Sending

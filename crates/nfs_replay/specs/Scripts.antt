@@ -1,6 +1,5 @@
--- Which lines of a script can be run, and at which one a run stops.
-use Rattle.std.specs.Prelude.{◌≡◌, ◌⊎◌, ⊤, ℕ, ◌+◌, List, [], ◌∷◌, ◌++◌, length, Option, Some, None, Result, Ok, Err, nat_eq, if◌then◌else◌}
-use Rattle.std.specs.List.{AllByRecursion}
+-- What the lines of a script send when they are run, and at which one a run stops.
+use Rattle.std.specs.Prelude.{◌≡◌, ◌⊎◌, ⊤, ℕ, ◌+◌, List, [], ◌∷◌, ◌++◌, length, min, Option, Some, None, option_map, IsSome, Result, Ok, Err, nat_eq, if◌then◌else◌}
 use Rattle.hex.specs.Hex.{decode_of}
 use Rattle.hex.specs.declared.error.FromHexError.{FromHexError}
 use Rattle.nfs_ask.specs.Asks as asks
@@ -14,12 +13,19 @@ use Rattle.nfs_ask.specs.declared.fault.Wanted.TheVariants as wanted
 use Rattle.nfs_handles.specs.Handles.{handle_at}
 use Rattle.nfs_inodes.specs.Reading.{numbered_files}
 use Rattle.nfs_inodes.specs.Tree.{Tree}
-use Rattle.nfs_replay.specs.Orders.{Asked, Nothing, Attach, Feed, Detach, Call, Ask, Show, order_in}
+use Rattle.nfs_attrs.specs.declared.moment.Moment.{Moment}
+use Rattle.nfs_exports.specs.declared.addr.Addr.{Addr}
+use Rattle.nfs_replay.specs.Orders.{Asked, Nothing, Attach, Feed, Detach, Call, Ask, Again, Show, order_in}
+use Rattle.nfs_load.specs.Loadings.{number_after}
+use Rattle.nfs_replay.specs.Sending.{Keeps, Sent, Waits, kept_of, sent_again, sent_at, sent_from, sent_of}
+use Rattle.nfs_replay.specs.declared.queued_call.QueuedCall.{QueuedCall}
+use Rattle.nfs_replay.specs.declared.sent.SentRecord.{SentRecord}
+use Rattle.nfs_replay.specs.declared.sent.SentRecords.{SentRecords}
 use Rattle.nfs_replay.specs.declared.line_fault.LineFault.{LineFault}
 use Rattle.nfs_replay.specs.declared.line_fault.LineFault.TheVariants.{OfLine, OfRun}
 use Rattle.nfs_replay.specs.declared.fault.RunFault.TheVariants as run
 use Rattle.nfs_ask.specs.declared.script_fault.LineCause.{LineCause}
-use Rattle.nfs_ask.specs.declared.script_fault.LineCause.TheVariants.{BadLine, BadHex, NoHandle, BadWord, NoFile}
+use Rattle.nfs_ask.specs.declared.script_fault.LineCause.TheVariants.{BadLine, BadHex, NoHandle, NoCall, BadWord, NoFile}
 use Rattle.nfs_ask.specs.declared.script_fault.ScriptFault.{ScriptFault}
 use Rattle.nfs_ask.specs.declared.script_fault.ScriptFault.TheVariants as script
 use Rattle.nfs_text.specs.Lines.{lines}
@@ -73,22 +79,24 @@ IsCauseOf found e = FaultsBy (λ cause. found ≡ Err cause) e
 
 -- ---- calls in words
 
+-- the number of the call of a line, where its words give none
+abbrev pub xid_of : ℕ → ℕ
+xid_of line = min line 4294967295
+
 -- the words ask for a call, and this is its record in a tree
-pub record HasRecord (t : Tree) (left : List (List ℕ)) (bytes : List ℕ) : Type 0 where
+pub record HasRecord (t : Tree) (xid : ℕ) (left : List (List ℕ)) (bytes : List ℕ) : Type 0 where
   pub ask : words.Ask
   pub asks_so : AsksBy left ask
-  pub xid : ℕ
   pub record_is : asks.record_of t ask xid ≡ Some bytes
 
 -- they ask for a call that has none, for this reason
-pub record HasNoRecord (t : Tree) (left : List (List ℕ)) (e : AskFault) : Type 0 where
+pub record HasNoRecord (t : Tree) (xid : ℕ) (left : List (List ℕ)) (e : AskFault) : Type 0 where
   pub ask : words.Ask
   pub asks_so : AsksBy left ask
-  pub xid : ℕ
   pub without : OnlyWithout (asks.record_of t ask xid) (has_long_word t ask) e
 
-abbrev pub IsRefused : Tree → List (List ℕ) → AskFault → Type 0
-IsRefused t left e = IsWanted (passed_by left) e ⊎ HasNoRecord t left e
+abbrev pub IsRefused : Tree → ℕ → List (List ℕ) → AskFault → Type 0
+IsRefused t xid left e = IsWanted (passed_by left) e ⊎ HasNoRecord t xid left e
 
 -- the fault of a line, where this is that of its words
 abbrev pub fault_of : AskFault → LineFault
@@ -98,47 +106,82 @@ fault_of fault.Memory = OfRun run.Memory
 
 -- ---- lines, in the tree that the server then has
 
--- words say bytes, or don't for a cause
-abbrev pub SayBytes : List (List ℕ) → Type 0
-SayBytes left = (t : Tree) × (bytes : List ℕ) × (bytes_in t left ≡ Ok bytes)
+-- words say these bytes, or none for a cause
+abbrev pub SayBytes : List (List ℕ) → List ℕ → Type 0
+SayBytes left bytes = (t : Tree) × (bytes_in t left ≡ Ok bytes)
 
 abbrev pub SayNone : List (List ℕ) → LineCause → Type 0
 SayNone left cause = (t : Tree) × (bytes_in t left ≡ Err cause)
 
--- words ask for a call, or don't for a cause
-abbrev pub AskForCall : List (List ℕ) → Type 0
-AskForCall left = (t : Tree) × (bytes : List ℕ) × HasRecord t left bytes
+-- words ask for the call of this record, on the line of a number, or for none for a cause
+abbrev pub AskForCall : ℕ → List (List ℕ) → List ℕ → Type 0
+AskForCall line left bytes = (t : Tree) × HasRecord t (xid_of line) left bytes
 
-abbrev pub AskForNone : List (List ℕ) → LineCause → Type 0
-AskForNone left cause = (t : Tree) × (e : AskFault) × IsRefused t left e × (fault_of e ≡ OfLine cause)
+abbrev pub AskForNone : ℕ → List (List ℕ) → LineCause → Type 0
+AskForNone line left cause = (t : Tree) × (e : AskFault) × IsRefused t (xid_of line) left e × (fault_of e ≡ OfLine cause)
 
-abbrev pub CanRun : Option Asked → Type 0
-CanRun None = ⊥
-CanRun (Some Nothing) = ⊤
-CanRun (Some (Attach conn addr)) = ⊤
-CanRun (Some (Feed conn moment left)) = SayBytes left
-CanRun (Some (Detach conn)) = ⊤
-CanRun (Some (Call addr moment left)) = SayBytes left
-CanRun (Some (Ask addr moment left)) = AskForCall left
-CanRun (Some Show) = ⊤
+-- a record is sent from an address at a moment, with bytes of which this holds
+abbrev pub SendsFrom : Addr → Moment → (List ℕ → Type 0) → Option Sent → Type 0
+SendsFrom addr moment Holds sent = (bytes : List ℕ) × Holds bytes × (sent ≡ Some (sent_from addr moment bytes))
 
-abbrev pub HasCause : Option Asked → LineCause → Type 0
-HasCause None cause = cause ≡ BadLine
-HasCause (Some Nothing) cause = ⊥
-HasCause (Some (Attach conn addr)) cause = ⊥
-HasCause (Some (Feed conn moment left)) cause = SayNone left cause
-HasCause (Some (Detach conn)) cause = ⊥
-HasCause (Some (Call addr moment left)) cause = SayNone left cause
-HasCause (Some (Ask addr moment left)) cause = AskForNone left cause
-HasCause (Some Show) cause = ⊥
+-- What is asked for by the line of a number can be run, where the lines before sent these records or none, and sends this one or none.
+abbrev pub Sends : ℕ → List (Option Sent) → Option Asked → Option Sent → Type 0
+Sends line before None sent = ⊥
+Sends line before (Some Nothing) sent = sent ≡ None
+Sends line before (Some (Attach conn addr)) sent = sent ≡ None
+Sends line before (Some (Feed conn moment left)) sent = (sent ≡ None) × (bytes : List ℕ) × SayBytes left bytes
+Sends line before (Some (Detach conn)) sent = sent ≡ None
+Sends line before (Some (Call addr moment left)) sent = SendsFrom addr moment (SayBytes left) sent
+Sends line before (Some (Ask addr moment left)) sent = SendsFrom addr moment (AskForCall line left) sent
+Sends line before (Some (Again number moment addr)) sent = IsSome sent × (option_map (sent_again moment addr) (sent_at number before) ≡ sent)
+Sends line before (Some Show) sent = sent ≡ None
 
-abbrev pub IsRun : List ℕ → Type 0
-IsRun line = CanRun (order_in line)
+-- It can't, for a cause.
+abbrev pub HasCause : ℕ → List (Option Sent) → Option Asked → LineCause → Type 0
+HasCause line before None cause = cause ≡ BadLine
+HasCause line before (Some Nothing) cause = ⊥
+HasCause line before (Some (Attach conn addr)) cause = ⊥
+HasCause line before (Some (Feed conn moment left)) cause = SayNone left cause
+HasCause line before (Some (Detach conn)) cause = ⊥
+HasCause line before (Some (Call addr moment left)) cause = SayNone left cause
+HasCause line before (Some (Ask addr moment left)) cause = AskForNone line left cause
+HasCause line before (Some (Again number moment addr)) cause = (cause ≡ NoCall) × (sent_at number before ≡ None)
+HasCause line before (Some Show) cause = ⊥
 
-abbrev pub IsFaulty : List ℕ → LineCause → Type 0
-IsFaulty line cause = HasCause (order_in line) cause
+-- the next line after those that sent these
+abbrev pub IsRun : List (Option Sent) → List ℕ → Option Sent → Type 0
+IsRun before line sent = Sends (length before + 1) before (order_in line) sent
+
+abbrev pub IsFaulty : List (Option Sent) → List ℕ → LineCause → Type 0
+IsFaulty before line cause = HasCause (length before + 1) before (order_in line) cause
+
+-- ---- over what is kept, for the line after so many
+
+abbrev pub SendsBy : ℕ → SentRecords → Option Asked → Option SentRecord → Type 0
+SendsBy count kept asked sent = Sends (number_after count) (kept_of kept) asked (option_map sent_of sent)
+
+abbrev pub FailsBy : ℕ → SentRecords → Option Asked → LineCause → Type 0
+FailsBy count kept asked cause = HasCause (number_after count) (kept_of kept) asked cause
+
+-- A line is run: what it sends waits, and is kept.
+pub record Runs (count : ℕ) (old : SentRecords) (asked : Option Asked) (new : SentRecords) (calls : List QueuedCall) : Type 0 where
+  pub sent : Option Sent
+  pub sends : Sends (number_after count) (kept_of old) asked sent
+  pub keeps : Keeps old sent new
+  pub waits : Waits sent calls
 
 -- ---- scripts
+
+-- lines are run one after another, after those that sent the first of these, and send these themselves
+abbrev pub AreRun : List (Option Sent) → List (List ℕ) → List (Option Sent) → Type 0
+AreRun before [] [] = ⊤
+AreRun before [] (sent ∷ others) = ⊥
+AreRun before (line ∷ left) [] = ⊥
+AreRun before (line ∷ left) (sent ∷ others) = IsRun before line sent × AreRun (before ++ sent ∷ []) left others
+
+-- all of them are run
+abbrev pub AllRun : List (List ℕ) → Type 0
+AllRun lines = (sent : List (Option Sent)) × AreRun [] lines sent
 
 -- the first line that is faulty: those before it were run
 pub record IsFirst (all : List (List ℕ)) (number : ℕ) (cause : LineCause) : Type 0 where
@@ -147,8 +190,9 @@ pub record IsFirst (all : List (List ℕ)) (number : ℕ) (cause : LineCause) : 
   pub after : List (List ℕ)
   pub all_are : all ≡ before ++ line ∷ after
   pub number_is : number ≡ length before + 1
-  pub are_run : AllByRecursion IsRun before
-  pub is_faulty : IsFaulty line cause
+  pub sent : List (Option Sent)
+  pub are_run : AreRun [] before sent
+  pub is_faulty : IsFaulty sent line cause
 
 -- A run ends at its first faulty line, or by the machine.
 abbrev pub StopsBy : List ℕ → ScriptFault → Type 0

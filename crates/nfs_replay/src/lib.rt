@@ -11,4 +11,5 @@ pub mod printing;
 pub mod queued_call;
 pub mod replay;
 mod script;
+mod sent;
 pub mod shown;

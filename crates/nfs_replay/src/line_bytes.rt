@@ -58,15 +58,15 @@ fn push_handle(tree: &Tree, bytes: &mut Vec<u8>, digits: &[u8]) -> Result<(), Li
     }
 }
 
-/// The record that words ask for, by this number.
+/// The record that words ask for, by this number where they give none.
 pub(crate) fn record_of(
     alloc: Global,
     tree: &Tree,
     words: Words<'_>,
     xid: u32,
 ) -> Result<Vec<u8>, AskFault>
-    ensures record { IfOk result (λ bytes. HasRecord tree.now (words_left words.entry) bytes.items) }
-    ensures fault { IfErr result (IsRefused tree.now (words_left words.entry)) }
+    ensures record { IfOk result (λ bytes. HasRecord tree.now xid (words_left words.entry) bytes.items) }
+    ensures fault { IfErr result (IsRefused tree.now xid (words_left words.entry)) }
 {
     match Ask::read(words) {
         Ok(ask) => ask.record(alloc, tree, xid),

@@ -7,6 +7,7 @@ ghost use Rattle.nfs_replay.specs.Scripts.{IsReported};
 use crate::fault::RunFault;
 use nfs_ask::fault::{AskFault, Wanted};
 use nfs_ask::script_fault::{LineCause, ScriptFault};
+use std::alloc::AllocError;
 
 /// What is wrong with a line, or the fault of what it asks for.
 #[derive(Clone, Copy)]
@@ -52,5 +53,17 @@ impl From<RunFault> for LineFault {
 
     fn from(fault: RunFault) -> LineFault {
         LineFault::OfRun(fault)
+    }
+}
+
+impl From<AllocError> for LineFault {
+    ghost use Rattle.std.specs.Prelude.{◌≡◌};
+    ghost use Rattle.nfs_replay.specs.declared.fault.RunFault.TheVariants.{Memory};
+    ghost use Rattle.nfs_replay.specs.declared.line_fault.LineFault.TheVariants.{OfRun};
+
+    ghost from_gives = { λ _ it. it ≡ OfRun Memory };
+
+    fn from(_error: AllocError) -> LineFault {
+        LineFault::OfRun(RunFault::Memory)
     }
 }

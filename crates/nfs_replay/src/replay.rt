@@ -1,9 +1,9 @@
 //! A script, run against a server of its own.
-ghost use Rattle.std.specs.Prelude.{◌≤◌, Some, IfErr, OnOk};
-ghost use Rattle.std.specs.List.{AllByRecursion};
+ghost use Rattle.std.specs.Prelude.{◌≡◌, ◌≤◌, ℕ, List, Some, IfErr, IfOk, OnOk};
 ghost use Rattle.nfs_load.specs.Loadings.{number_after};
-ghost use Rattle.nfs_replay.specs.Orders.{asked_by};
-ghost use Rattle.nfs_replay.specs.Scripts.{AskForCall, AskForNone, CanRun, FaultsBy, HasCause, IsFaulty, IsReported, IsRun, SayBytes, SayNone, StopsBy};
+ghost use Rattle.nfs_replay.specs.Orders.{asked_by, order_in, record_asked_by};
+ghost use Rattle.nfs_replay.specs.Scripts.{AllRun, AskForCall, AskForNone, FailsBy, FaultsBy, IsReported, Runs, SayBytes, SayNone, SendsBy, SendsFrom, StopsBy, xid_of};
+ghost use Rattle.nfs_replay.specs.Sending.{Waits, sent_of};
 ghost use Rattle.nfs_text.specs.Lines.{lines};
 ghost use Rattle.nfs_text.specs.Words.{words_left};
 
@@ -14,7 +14,8 @@ use crate::line_bytes::{bytes_of, record_of};
 use crate::line_fault::LineFault;
 use crate::printing::{Printer, Replies};
 use crate::queued_call::QueuedCall;
-use crate::script::{Order, order_of};
+use crate::script::{Order, Sending, has_again, order_of};
+use crate::sent::{SentRecord, SentRecords};
 use crate::shown::Shown;
 use nfs_ask::script_fault::{LineCause, ScriptFault};
 use nfs_attrs::moment::Moment;
@@ -37,9 +38,9 @@ use std::mem;
 /// brings. Answers the connections, with the server as it then is.
 ///
 /// What stands before a faulty line is run and printed. `Line` with the number of a faulty one:
-/// `BadLine` for a line that is none, else for its first faulty word `BadHex` where that says no
-/// bytes, and `NoHandle` where it names no file that lives; `Write` where the output fails, `Memory`
-/// where there is no memory.
+/// `BadLine` for a line that is none, `NoCall` for one that asks for the record of a line that sent none,
+/// else for its first faulty word `BadHex` where that says no bytes, and `NoHandle` where it names no file
+/// that lives; `Write` where the output fails, `Memory` where there is no memory.
 pub fn replay<W: ByteOut>(
     alloc: Global,
     loaded: Loaded,
@@ -50,7 +51,7 @@ pub fn replay<W: ByteOut>(
 ) -> Result<Sessions, ScriptFault>
     requires some { 1 ≤ cache }
     requires few { cache ≤ 1024 }
-    ensures all { OnOk result (AllByRecursion IsRun (lines script.now)) }
+    ensures all { OnOk result (AllRun (lines script.now)) }
     ensures first { IfErr result (StopsBy script.now) }
 {
     let mut player = Player::new(alloc, loaded, cache, shown)?;
@@ -86,15 +87,16 @@ impl Player {
         })
     }
 
-    // Runs the lines of a script in order.
+    // Runs the lines of a script in order. What they send is kept only for a script that sends a record again.
     fn play<W: ByteOut>(&mut self, script: &[u8], out: &mut W) -> Result<(), ScriptFault>
-        ensures all { OnOk result (AllByRecursion IsRun (lines script.now)) }
+        ensures all { OnOk result (AllRun (lines script.now)) }
         ensures first { IfErr result (StopsBy script.now) }
     {
+        let mut sent = SentRecords::new(self.alloc, has_again(script));
         let mut before: u64 = 0;
         let mut lines = Lines::new(script);
         while let Some(line) = lines.next() {
-            if let Err(fault) = self.line(line, before, out) {
+            if let Err(fault) = self.line(line, before, &mut sent, out) {
                 return Err(self.stop(fault, before, out));
             }
             before = before.saturating_add(1);
@@ -113,71 +115,116 @@ impl Player {
         }
     }
 
-    // What a line asks for, before which so many stand.
-    fn line<W: ByteOut>(&mut self, line: &[u8], before: u64, out: &mut W) -> Result<(), LineFault>
-        ensures run { OnOk result (IsRun line.now) }
-        ensures fault { IfErr result (FaultsBy (IsFaulty line.now)) }
+    // Does what a line asks for, before which so many stand. The record that it sends waits for those that
+    // follow it.
+    fn line<W: ByteOut>(
+        &mut self,
+        line: &[u8],
+        before: u64,
+        sent: &mut SentRecords,
+        out: &mut W,
+    ) -> Result<(), LineFault>
+        ensures run { OnOk result (Runs before sent.old (order_in line.now) sent.new self.new.calls.items) }
+        ensures fault { IfErr result (FaultsBy (FailsBy before sent.old (order_in line.now))) }
     {
-        match order_of(line) {
-            Some(order) => self.execute(order, before, out),
-            None => Err(LineFault::OfLine(LineCause::BadLine)),
+        let Some(order) = order_of(line) else {
+            return Err(LineFault::OfLine(LineCause::BadLine));
+        };
+        let record = self.execute(order, before, sent, out)?;
+        sent.keep(&record)?;
+        match record {
+            Some(record) => Ok(self.call(record, out)?),
+            None => Ok(()),
         }
     }
 
-    // What an order asks for. A call waits for those that follow it; anything else comes after the
-    // calls that wait, as does a call that names files, whose handles are those of the tree then.
+    // Does what an order asks for, or answers the record that is to be sent. Anything else comes after the
+    // calls that wait, and so does a call that names files, whose handles are those of the tree then.
     fn execute<W: ByteOut>(
         &mut self,
         order: Order<'_>,
         before: u64,
+        sent: &SentRecords,
         out: &mut W,
-    ) -> Result<(), LineFault>
-        ensures run { OnOk result (CanRun (Some (asked_by order.entry))) }
-        ensures fault { IfErr result (FaultsBy (HasCause (Some (asked_by order.entry)))) }
+    ) -> Result<Option<SentRecord>, LineFault>
+        ensures run { IfOk result (SendsBy before sent.now (Some (asked_by order.entry))) }
+        ensures fault { IfErr result (FaultsBy (FailsBy before sent.now (Some (asked_by order.entry)))) }
     {
         match order {
-            Order::Nothing => Ok(()),
-            Order::QueuedCall {
-                addr,
-                moment,
-                bytes,
-            } => self.call_line(addr, moment, bytes, out),
-            Order::Ask {
-                addr,
-                moment,
-                words,
-            } => self.ask_line(addr, moment, words, before, out),
+            Order::Nothing => Ok(None),
+            Order::Send(sending) => Ok(Some(self.record_to_send(sending, before, sent, out)?)),
             Order::Feed {
                 conn,
                 moment,
                 bytes,
-            } => self.feed_line(conn, moment, bytes, out),
-            Order::Attach { conn, addr } => Ok(self.attach(conn, addr, out)?),
-            Order::Detach { conn } => Ok(self.detach(conn, out)?),
-            Order::Show => Ok(self.show(out)?),
+            } => {
+                self.feed_line(conn, moment, bytes, out)?;
+                Ok(None)
+            }
+            Order::Attach { conn, addr } => {
+                self.attach(conn, addr, out)?;
+                Ok(None)
+            }
+            Order::Detach { conn } => {
+                self.detach(conn, out)?;
+                Ok(None)
+            }
+            Order::Show => {
+                self.show(out)?;
+                Ok(None)
+            }
         }
     }
 
-    // A record that waits for those that follow it.
+    // The record that is to be sent.
+    fn record_to_send<W: ByteOut>(
+        &mut self,
+        sending: Sending<'_>,
+        before: u64,
+        sent: &SentRecords,
+        out: &mut W,
+    ) -> Result<SentRecord, LineFault>
+        ensures run { IfOk result (λ it. SendsBy before sent.now (Some (record_asked_by sending.entry)) (Some it)) }
+        ensures fault { IfErr result (FaultsBy (FailsBy before sent.now (Some (record_asked_by sending.entry)))) }
+    {
+        match sending {
+            Sending::Call {
+                addr,
+                moment,
+                bytes,
+            } => self.call_line(addr, moment, bytes, out),
+            Sending::Ask {
+                addr,
+                moment,
+                words,
+            } => self.ask_line(addr, moment, words, before, out),
+            Sending::Again { line, moment, addr } => sent.again(line, moment, addr),
+        }
+    }
+
+    // The record that words say.
     fn call_line<W: ByteOut>(
         &mut self,
         addr: Addr,
         moment: Moment,
         words: Words<'_>,
         out: &mut W,
-    ) -> Result<(), LineFault>
-        ensures run { OnOk result (SayBytes (words_left words.entry)) }
+    ) -> Result<SentRecord, LineFault>
+        ensures run { IfOk result (λ it. SendsFrom addr moment (SayBytes (words_left words.entry)) (Some (sent_of it))) }
         ensures fault { IfErr result (FaultsBy (SayNone (words_left words.entry))) }
     {
         if names_files(words) {
             self.run_calls(out)?;
         }
         let bytes = bytes_of(self.alloc, self.sessions.server().tree(), words)?;
-        self.call(addr, moment, bytes, out)?;
-        Ok(())
+        Ok(SentRecord {
+            addr,
+            moment,
+            bytes,
+        })
     }
 
-    // A call in words, before whose line so many stand.
+    // The record of a call in words, before whose line so many stand.
     fn ask_line<W: ByteOut>(
         &mut self,
         addr: Addr,
@@ -185,14 +232,19 @@ impl Player {
         words: Words<'_>,
         before: u64,
         out: &mut W,
-    ) -> Result<(), LineFault>
-        ensures run { OnOk result (AskForCall (words_left words.entry)) }
-        ensures fault { IfErr result (FaultsBy (AskForNone (words_left words.entry))) }
+    ) -> Result<SentRecord, LineFault>
+        ensures run { IfOk result (λ it.
+            SendsFrom addr moment (AskForCall (number_after before) (words_left words.entry)) (Some (sent_of it))) }
+        ensures fault { IfErr result (FaultsBy (AskForNone (number_after before) (words_left words.entry))) }
     {
         self.run_calls(out)?;
-        let xid = u32::try_from(before).unwrap_or(u32::MAX).saturating_add(1);
+        let xid = xid_after(before);
         match record_of(self.alloc, self.sessions.server().tree(), words, xid) {
-            Ok(bytes) => Ok(self.call(addr, moment, bytes, out)?),
+            Ok(bytes) => Ok(SentRecord {
+                addr,
+                moment,
+                bytes,
+            }),
             Err(fault) => Err(LineFault::of_ask(fault)),
         }
     }
@@ -205,7 +257,7 @@ impl Player {
         words: Words<'_>,
         out: &mut W,
     ) -> Result<(), LineFault>
-        ensures run { OnOk result (SayBytes (words_left words.entry)) }
+        ensures run { OnOk result ((bytes : List ℕ) × SayBytes (words_left words.entry) bytes) }
         ensures fault { IfErr result (FaultsBy (SayNone (words_left words.entry))) }
     {
         self.run_calls(out)?;
@@ -229,20 +281,16 @@ impl Player {
         self.fault(conn, detached, out)
     }
 
-    // A call waits for those that follow it. Where its names are printed they are those before it.
-    fn call<W: ByteOut>(
-        &mut self,
-        addr: Addr,
-        moment: Moment,
-        bytes: Vec<u8>,
-        out: &mut W,
-    ) -> Result<(), RunFault> {
-        let mut names = Vec::new(self.alloc);
-        if self.shown.is_named {
-            self.run_calls(out)?;
-            let tree = self.sessions.server().tree();
-            names = names_of(self.alloc, tree, bytes.as_slice(), false)?;
-        }
+    // A record waits for those that follow it.
+    fn call<W: ByteOut>(&mut self, sent: SentRecord, out: &mut W) -> Result<(), RunFault>
+        ensures { OnOk result (Waits (Some (sent_of sent)) self.new.calls.items) }
+    {
+        let SentRecord {
+            addr,
+            moment,
+            bytes,
+        } = sent;
+        let names = self.names(bytes.as_slice(), out)?;
         self.calls.push(QueuedCall {
             addr,
             moment,
@@ -250,6 +298,16 @@ impl Player {
             names,
         })?;
         Ok(())
+    }
+
+    // The names of a record, where they are printed: those in the tree before it.
+    fn names<W: ByteOut>(&mut self, bytes: &[u8], out: &mut W) -> Result<Vec<u8>, RunFault> {
+        if !self.shown.is_named {
+            return Ok(Vec::new(self.alloc));
+        }
+        self.run_calls(out)?;
+        let tree = self.sessions.server().tree();
+        Ok(names_of(self.alloc, tree, bytes, false)?)
     }
 
     // Prints the listing of the tree, after the calls that wait.
@@ -369,6 +427,18 @@ impl Player {
                 self.printer.text(out, text.as_str())
             }
         }
+    }
+}
+
+// The number of the call of a line, before which so many stand.
+fn xid_after(before: u64) -> u32
+    ensures { result ≡ xid_of (number_after before) }
+{
+    let number = before.saturating_add(1);
+    if number > u64::from(u32::MAX) {
+        u32::MAX
+    } else {
+        number as u32
     }
 }
 

@@ -4,11 +4,13 @@ ghost use Rattle.nfs_ask.specs.Words.{is_nothing, number_of};
 ghost use Rattle.nfs_exports.specs.Addresses.{address_of};
 ghost use Rattle.nfs_load.specs.Lines as lines;
 ghost use Rattle.nfs_replay.specs.Orders as spec;
-ghost use Rattle.nfs_replay.specs.Orders.{asked_by, moment_of, next_by, order_in};
+ghost use Rattle.nfs_replay.specs.Orders.{asked_by, given_by, moment_of, next_by, order_in};
+ghost use Rattle.nfs_text.specs.Lines as text;
 ghost use Rattle.nfs_text.specs.Words.{words_left};
 
 use nfs_attrs::moment::Moment;
 use nfs_exports::addr::{Addr, parse_addr};
+use nfs_text::lines::Lines;
 use nfs_text::number::decimal;
 use nfs_text::words::Words;
 
@@ -32,20 +34,33 @@ pub enum Order<'a> {
     Detach {
         conn: u32,
     },
-    /// A whole record.
-    QueuedCall {
+    /// A record.
+    Send(Sending<'a>),
+    /// The listing of the tree.
+    Show,
+}
+
+/// Which record a line sends.
+#[derive(Clone, Copy)]
+pub enum Sending<'a> {
+    /// The one of these bytes.
+    Call {
         addr: Addr,
         moment: Moment,
         bytes: Words<'a>,
     },
-    /// A call that is asked for in words.
+    /// That of a call in words.
     Ask {
         addr: Addr,
         moment: Moment,
         words: Words<'a>,
     },
-    /// The listing of the tree.
-    Show,
+    /// That of an earlier line, once more.
+    Again {
+        line: u32,
+        moment: Option<Moment>,
+        addr: Option<Addr>,
+    },
 }
 
 /// What a line asks for, if it is one that there is. The words of its bytes, at least one, are not
@@ -61,6 +76,25 @@ pub(crate) fn order_of(line: &[u8]) -> Option<Order<'_>>
         Some(word) => order_by(word, words),
         None => Some(Order::Nothing),
     }
+}
+
+/// Whether a line of a script asks for the record of an earlier one.
+pub(crate) fn has_again(script: &[u8]) -> bool
+    ensures { result ≡ spec.has_again (text.lines script.now) }
+{
+    let mut left = Lines::new(script);
+    while let Some(line) = left.next() {
+        if is_again(line) {
+            return true;
+        }
+    }
+    false
+}
+
+fn is_again(line: &[u8]) -> bool
+    ensures { result ≡ spec.is_again (order_in line.now) }
+{
+    matches!(order_of(line), Some(Order::Send(Sending::Again { .. })))
 }
 
 // Whether a line is one of the writer's own.
@@ -87,6 +121,8 @@ fn order_by<'a>(word: &[u8], words: Words<'a>) -> Option<Order<'a>>
         call(words)
     } else if word == b"ask".as_slice() {
         ask(words)
+    } else if word == b"again".as_slice() {
+        again(words)
     } else if word == b"show".as_slice() {
         show(words)
     } else {
@@ -144,11 +180,11 @@ fn call<'a>(words: Words<'a>) -> Option<Order<'a>>
     if is_at_end(bytes) {
         return None;
     }
-    Some(Order::QueuedCall {
+    Some(Order::Send(Sending::Call {
         addr,
         moment,
         bytes,
-    })
+    }))
 }
 
 fn ask<'a>(words: Words<'a>) -> Option<Order<'a>>
@@ -157,11 +193,25 @@ fn ask<'a>(words: Words<'a>) -> Option<Order<'a>>
     let mut left = words;
     let addr = address(&mut left)?;
     let moment = moment(&mut left)?;
-    Some(Order::Ask {
+    Some(Order::Send(Sending::Ask {
         addr,
         moment,
         words: left,
-    })
+    }))
+}
+
+fn again<'a>(words: Words<'a>) -> Option<Order<'a>>
+    ensures { option_map asked_by result ≡ spec.again_in (words_left words.entry) }
+{
+    let mut left = words;
+    let line = number(&mut left)?;
+    let moment = moment_given(&mut left)?;
+    let addr = address_given(&mut left)?;
+    if is_at_end(left) {
+        Some(Order::Send(Sending::Again { line, moment, addr }))
+    } else {
+        None
+    }
 }
 
 fn show<'a>(words: Words<'a>) -> Option<Order<'a>>
@@ -191,11 +241,28 @@ fn number(words: &mut Words<'_>) -> Option<u32>
     }
 }
 
-// The next word as a moment, in whole seconds.
+// The next word as a moment.
 fn moment(words: &mut Words<'_>) -> Option<Moment>
     ensures { option_map (λ m. (m, words_left words.new)) result ≡ next_by moment_of (words_left words.old) }
 {
-    match decimal(words.next()?, u64::from(u32::MAX)) {
+    moment_in(words.next()?)
+}
+
+// The same, or that no word is left.
+fn moment_given(words: &mut Words<'_>) -> Option<Option<Moment>>
+    ensures { option_map (λ m. (m, words_left words.new)) result ≡ given_by moment_of (words_left words.old) }
+{
+    match words.next() {
+        Some(word) => Some(Some(moment_in(word)?)),
+        None => Some(None),
+    }
+}
+
+// A word as a moment, in whole seconds.
+fn moment_in(word: &[u8]) -> Option<Moment>
+    ensures { result ≡ moment_of word.now }
+{
+    match decimal(word, u64::from(u32::MAX)) {
         Some(seconds) => Some(Moment {
             seconds: seconds as u32,
             nanos: 0,
@@ -208,7 +275,24 @@ fn moment(words: &mut Words<'_>) -> Option<Moment>
 fn address(words: &mut Words<'_>) -> Option<Addr>
     ensures { option_map (λ a. (a, words_left words.new)) result ≡ next_by address_of (words_left words.old) }
 {
-    match parse_addr(words.next()?) {
+    address_in(words.next()?)
+}
+
+// The same, or that no word is left.
+fn address_given(words: &mut Words<'_>) -> Option<Option<Addr>>
+    ensures { option_map (λ a. (a, words_left words.new)) result ≡ given_by address_of (words_left words.old) }
+{
+    match words.next() {
+        Some(word) => Some(Some(address_in(word)?)),
+        None => Some(None),
+    }
+}
+
+// A word as an address.
+fn address_in(word: &[u8]) -> Option<Addr>
+    ensures { result ≡ address_of word.now }
+{
+    match parse_addr(word) {
         Ok(addr) => Some(addr),
         Err(_) => None,
     }

@@ -9,7 +9,7 @@ use crate::sharing_fault::SharingFault;
 use crate::source::Source;
 use nfs_advice::advice::Advice;
 use nfs_advice::description::advise;
-use nfs_advice::script::{advise_bytes, advise_file, advise_line};
+use nfs_advice::script::{advise_again, advise_bytes, advise_file, advise_line};
 use nfs_ask::fault::Wanted;
 use nfs_ask::script_fault::{LineCause, ScriptFault};
 use nfs_load::cause::Cause;
@@ -19,8 +19,8 @@ use std::fmt;
 use std::io::{self, ErrorKind};
 use std::net::SocketAddr;
 
-// The words of an `ask` line before the user's: `ask`, the address and the seconds.
-const WORDS_BEFORE_USER: usize = 3;
+// The words of an `ask` line before those that ask for the call: `ask`, the address and the seconds.
+const WORDS_BEFORE_CALL: usize = 3;
 
 /// A fault, and the line that says where in a description or a script it is and what would be right.
 #[derive(Drop)]
@@ -156,6 +156,7 @@ fn script_advice(
         LineCause::BadLine => reported(alloc, name, line, advise_line(script, line)),
         LineCause::BadHex => reported(alloc, name, line, advise_bytes(script, line)),
         LineCause::NoHandle => reported(alloc, name, line, advise_file(script, line)),
+        LineCause::NoCall => reported(alloc, name, line, advise_again(script, line)),
         _ if ends_in_return(line_of(script, line)) => {
             reported(alloc, name, line, advise_line(script, line))
         }
@@ -187,7 +188,7 @@ fn wanted_at(
     word: usize,
     wanted: Wanted,
 ) -> Option<String> {
-    let column = column_of(script, line, word.saturating_add(WORDS_BEFORE_USER));
+    let column = column_of(script, line, word.saturating_add(WORDS_BEFORE_CALL));
     format!(in alloc; "\n  {name}:{line}:{column}: {wanted}").ok()
 }
 
