@@ -45,7 +45,7 @@ module _ (setup : Setup) (old : State) (event : Event) (choice : Choice) (answer
   described bytes (inr g) d =
       let f = g.effect in
       let said = asks_said event g.caller g.args bytes g.asks in
-      elim (granted_described (scene_of setup old event g.caller g.args) d said.0 said.1 f.doing f.doing_is f.one f.two f.tag f.fits f.granted) [
+      elim (granted_described (scene_of setup old event g.caller g.args) d said.0 said.1 f.doing f.doing_is f.one f.two f.tag f.tag_is.fits f.granted) [
         | inl is ↦ inl (subst (λ t. IsDescribable t setup.exports) (sym f.new_is) is)
         | inr u ↦ inr (unsaid g u)
       ]

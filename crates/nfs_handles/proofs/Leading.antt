@@ -1,11 +1,11 @@
 -- Where numbers lead, and what becomes of it where one slot changes.
-use Rattle.std.proofs.Common.{◌≡◌, ◌≢◌, ℕ, ◌%◌, ◌^◌, Bool, true, false, cond, List, [], ◌∷◌, ◌++◌, Option, Some, None, option_map, is_some, nat_eq, sym, ap, subst, refl, ◌∙◌}
+use Rattle.std.proofs.Common.{◌≡◌, ◌≢◌, ℕ, Bool, true, false, cond, List, [], ◌∷◌, ◌++◌, Option, Some, None, option_map, is_some, nat_eq, sym, ap, subst, refl, ◌∙◌}
 use Rattle.std.specs.Map.{keys_of, lookup, set_value, remove_entry}
 use Rattle.std.specs.List.{cons_option, IsDistinct, AllByRecursion}
 use Rattle.std.proofs.lemmas.Bool.{eq-eqb, eqb-true}
-use Rattle.slab.specs.Slab.{Slab, get}
+use Rattle.nfs_handles.specs.SlotList.{SlotList, get}
 use Rattle.nfs_handles.specs.NumberedFiles.{TaggedFile}
-use Rattle.nfs_handles.specs.Slotted.{tagged, file_in, filed, Leads, AllLead}
+use Rattle.nfs_handles.specs.Slotted.{tag_of, tagged, file_in, filed, Leads, AllLead}
 use Rattle.nfs_handles.specs.declared.slots.Stored.{Stored}
 use Rattle.nfs_handles.proofs.Lookups.{lookup_last}
 
@@ -36,18 +36,18 @@ not_equal a b other = by_test (nat_eq a b) (λ y. absurd (other (eqb-true a b y)
 
 module _ {T : Type 0} where
   -- the file in a slot, if a number leads to one
-  abbrev pub held : Slab (Stored T) → Option ℕ → Option (TaggedFile T)
+  abbrev pub held : SlotList (Stored T) → Option ℕ → Option (TaggedFile T)
   held slots None = None
   held slots (Some slot) = option_map (tagged slot) (get slots slot)
 
-  pub filed_cons : (slots : Slab (Stored T)) (e : ℕ × ℕ) (es : List (ℕ × ℕ)) (l : Leads slots e) → filed slots (e ∷ es) ≡ (e.0, tagged e.1 l.0) ∷ filed slots es
+  pub filed_cons : (slots : SlotList (Stored T)) (e : ℕ × ℕ) (es : List (ℕ × ℕ)) (l : Leads slots e) → filed slots (e ∷ es) ≡ (e.0, tagged e.1 l.0) ∷ filed slots es
   filed_cons slots e es l = ap (λ o. cons_option (option_map (λ (s : Stored T). (e.0, tagged e.1 s)) o) (filed slots es)) l.1
 
-  pub keys_filed : (slots : Slab (Stored T)) (es : List (ℕ × ℕ)) → AllLead slots es → keys_of (filed slots es) ≡ keys_of es
+  pub keys_filed : (slots : SlotList (Stored T)) (es : List (ℕ × ℕ)) → AllLead slots es → keys_of (filed slots es) ≡ keys_of es
   keys_filed slots [] a = refl
   keys_filed slots (e ∷ es) a = ap keys_of (filed_cons slots e es a.0) ∙ ap (λ ks. e.0 ∷ ks) (keys_filed slots es a.1)
 
-  pub lookup_filed : (test : ℕ → Bool) (slots : Slab (Stored T)) (es : List (ℕ × ℕ)) → AllLead slots es → lookup test (filed slots es) ≡ held slots (lookup test es)
+  pub lookup_filed : (test : ℕ → Bool) (slots : SlotList (Stored T)) (es : List (ℕ × ℕ)) → AllLead slots es → lookup test (filed slots es) ≡ held slots (lookup test es)
   lookup_filed test slots [] a = refl
   lookup_filed test slots (e ∷ es) a =
       ap (lookup test) (filed_cons slots e es a.0)
@@ -59,7 +59,7 @@ module _ {T : Type 0} where
       choose false = refl
 
   -- where a number leads
-  pub lead_at : (slots : Slab (Stored T)) (n slot : ℕ) (es : List (ℕ × ℕ)) → AllLead slots es → lookup (nat_eq n) es ≡ Some slot → Leads slots (n, slot)
+  pub lead_at : (slots : SlotList (Stored T)) (n slot : ℕ) (es : List (ℕ × ℕ)) → AllLead slots es → lookup (nat_eq n) es ≡ Some slot → Leads slots (n, slot)
   lead_at slots n slot [] a found = absurd (not_both refl found)
   lead_at slots n slot (e ∷ es) a found = by_test (nat_eq n e.0)
       (λ y.
@@ -67,7 +67,7 @@ module _ {T : Type 0} where
       (a.0.0, subst (λ k. get slots k ≡ Some a.0.0) there a.0.1, a.0.2 ∙ sym (eqb-true n e.0 y)))
       (λ f. lead_at slots n slot es a.1 (sym (if_false (Some e.1) (lookup (nat_eq n) es) f) ∙ found))
 
-  pub none_held : (slots : Slab (Stored T)) (n : ℕ) (es : List (ℕ × ℕ)) → AllLead slots es → lookup (nat_eq n) (filed slots es) ≡ None → lookup (nat_eq n) es ≡ None
+  pub none_held : (slots : SlotList (Stored T)) (n : ℕ) (es : List (ℕ × ℕ)) → AllLead slots es → lookup (nat_eq n) (filed slots es) ≡ None → lookup (nat_eq n) es ≡ None
   none_held slots n es a none = by (lookup (nat_eq n) es) refl
     where
       by : (o : Option ℕ) → lookup (nat_eq n) es ≡ o → o ≡ None
@@ -78,7 +78,7 @@ module _ {T : Type 0} where
 
 -- ---- one slot changes
 
-module _ {T : Type 0} (old new : Slab (Stored T)) (slot : ℕ) (others : (k : ℕ) → k ≢ slot → get new k ≡ get old k) where
+module _ {T : Type 0} (old new : SlotList (Stored T)) (slot : ℕ) (others : (k : ℕ) → k ≢ slot → get new k ≡ get old k) where
   abbrev pub Apart : List (ℕ × ℕ) → Type 0
   Apart es = AllByRecursion (λ (e : ℕ × ℕ). e.1 ≢ slot) es
 
@@ -145,7 +145,7 @@ module _ {T : Type 0} (old new : Slab (Stored T)) (slot : ℕ) (others : (k : �
 
     module _ (w : T) (at_new : get new slot ≡ Some (record s { value = w })) where
       abbrev pub revalued_file : TaggedFile T
-      revalued_file = record { tag = slot % 2 ^ 32; value = w }
+      revalued_file = record { tag = tag_of slot; value = w }
 
       pub valued : (es : List (ℕ × ℕ)) → AllLead old es → IsDistinct nat_eq (keys_of es) → lookup (nat_eq n) es ≡ Some slot → filed new es ≡ set_value (nat_eq n) (filed old es) revalued_file
       unfolding IsDistinct leads_still
@@ -154,7 +154,7 @@ module _ {T : Type 0} (old new : Slab (Stored T)) (slot : ℕ) (others : (k : �
           (λ y.
           let there : e.1 ≡ slot = same_some (sym (if_true (Some e.1) (lookup (nat_eq n) es) y) ∙ found) in
           ap (λ o. cons_option (option_map (λ (s : Stored T). (e.0, tagged e.1 s)) o) (filed new es)) (ap (get new) there ∙ at_new)
-          ∙ (λ i. (e.0, record { tag = there i % 2 ^ 32; value = w }) ∷ same_filed es (apart_number es a.1 (after e es y d)) i)
+          ∙ (λ i. (e.0, record { tag = tag_of (there i); value = w }) ∷ same_filed es (apart_number es a.1 (after e es y d)) i)
           ∙ sym (if_true ((e.0, revalued_file) ∷ filed old es) (file ∷ set_value (nat_eq n) (filed old es) revalued_file) y) ∙ whole)
           (λ f. filed_cons new e es (leads_still e (apart_one e a.0 f) a.0)
           ∙ ap (λ l. file ∷ l) (valued es a.1 d.1 (sym (if_false (Some e.1) (lookup (nat_eq n) es) f) ∙ found))
@@ -180,13 +180,13 @@ module _ {T : Type 0} (old new : Slab (Stored T)) (slot : ℕ) (others : (k : �
   -- ---- a file comes
 
   module _ (next : ℕ) (v : T) (vacant : get old slot ≡ None) (at_new : get new slot ≡ Some (record { number = next; value = v })) where
-    pub filed_more : (es : List (ℕ × ℕ)) → AllLead old es → filed new (es ++ (next, slot) ∷ []) ≡ filed old es ++ (next, record { tag = slot % 2 ^ 32; value = v }) ∷ []
+    pub filed_more : (es : List (ℕ × ℕ)) → AllLead old es → filed new (es ++ (next, slot) ∷ []) ≡ filed old es ++ (next, record { tag = tag_of slot; value = v }) ∷ []
     unfolding leads_still
     filed_more [] a = ap (λ o. cons_option (option_map (λ (s : Stored T). (next, tagged slot s)) o) []) at_new
     filed_more (e ∷ es) a =
         filed_cons new e (es ++ (next, slot) ∷ []) (leads_still e (apart_vacant vacant (e ∷ es) a).0 a.0)
         ∙ ap (λ l. (e.0, tagged e.1 a.0.0) ∷ l) (filed_more es a.1)
-        ∙ ap (λ l. l ++ (next, record { tag = slot % 2 ^ 32; value = v }) ∷ []) (sym (filed_cons old e es a.0))
+        ∙ ap (λ l. l ++ (next, record { tag = tag_of slot; value = v }) ∷ []) (sym (filed_cons old e es a.0))
 
     pub lead_more : (es : List (ℕ × ℕ)) → AllLead old es → AllLead new (es ++ (next, slot) ∷ [])
     lead_more [] a = ((record { number = next; value = v }, at_new, refl), tt)

@@ -1,7 +1,9 @@
 pub mod Numbers
 pub mod Leading
+pub mod VacantSlots
 pub mod Rising
 pub mod Slotted
 pub mod Lookups
+pub mod Tags
 pub mod Handles
 pub mod Runs

@@ -33,7 +33,7 @@ module _ {T : Type 0} where
   -- ---- one change
 
   puts_go : (old new : NumberedFiles T) (v : T) (result : Result Number (PutFault T)) → Puts old v result new → Goes old new
-  puts_go old new v (Ok n) p = (Put p.2.tag v, (p.2.fits, p.1), p.2.new_is)
+  puts_go old new v (Ok n) p = (Put p.2.tag v, (p.2.tag_is.fits, p.1), p.2.new_is)
   puts_go old new v (Err (Spent back)) p = (Nothing, tt, p.2)
   puts_go old new v (Err (Memory back refused)) p = (Nothing, tt, p.2)
 

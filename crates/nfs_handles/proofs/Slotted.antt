@@ -1,5 +1,5 @@
 -- What becomes of files as they are kept, as numbered files.
-use Rattle.std.proofs.Common.{inl, inr, Bor, ◌≡◌, ◌≢◌, ℕ, ◌+◌, ◌-◌, ◌%◌, ◌^◌, ◌<◌, List, [], ◌∷◌, ◌++◌, length, get_or, append_assoc, w32, w64, Option, Some, None, IfSome, IfNone, is_some, option_map, nat_eq, sym, ap, subst, refl, ◌∙◌, arith}
+use Rattle.std.proofs.Common.{inl, inr, Bor, ◌≡◌, ◌≢◌, ℕ, ◌+◌, ◌-◌, ◌^◌, ◌<◌, List, [], ◌∷◌, ◌++◌, length, get_or, append_assoc, w32, w64, Option, Some, None, IsSome, IfSome, IfNone, is_some, option_map, nat_eq, sym, ap, subst, refl, ◌∙◌, arith}
 use Rattle.std.specs.Int.{to_be_bytes}
 use Rattle.std.specs.Option.{option_copied}
 use Rattle.std.specs.Ordering.{nat_cmp}
@@ -8,22 +8,23 @@ use Rattle.std.specs.Map.{keys_of, lookup, remove_entry}
 use Rattle.std.proofs.lemmas.Map.{lookup-remove_entry}
 use Rattle.std.proofs.lemmas.Map.Keys.{IsDistinct-from_sorted}
 use Rattle.std.proofs.lemmas.Bool.{eq-eqb}
-use Rattle.slab.specs.Slab.{Slab, get}
-use Rattle.slab.specs.Slab as slab
-use Rattle.slab.proofs.SlabLemmas.{Updates-with_value}
-use Rattle.nfs_handles.specs.NumberedFiles.{TaggedFile, NumberedFiles, at, value_at, with_new, revalued, with_value, without, IsNumbered}
+use Rattle.nfs_handles.specs.SlotList.{SlotList, get}
+use Rattle.nfs_handles.specs.SlotList as slot_list
+use Rattle.nfs_handles.proofs.VacantSlots.{Updates-with_value}
+use Rattle.nfs_handles.specs.NumberedFiles.{TaggedFile, NumberedFiles, at, value_at, tag_at, with_new, revalued, with_value, without, IsNumbered}
 use Rattle.nfs_handles.specs.Handles.{handle_text, handle_at, live_with, number, LivesWith}
 use Rattle.nfs_handles.specs.declared.reading.Reading.TheVariants.{Live, Stale}
 use Rattle.nfs_handles.specs.declared.slots.Stored.{Stored}
 use Rattle.nfs_handles.specs.Lending.{with_value_in}
-use Rattle.nfs_handles.specs.Slotted.{value_in, tagged, filed, slotted, Leads, LeadsOr, AllLead, AllLeadBack, IsKept}
+use Rattle.nfs_handles.specs.Slotted.{value_in, tag_of, tagged, filed, slotted, Leads, LeadsOr, AllLead, AllLeadBack, IsKept}
+use Rattle.nfs_handles.specs.Tags.{IsNextTag}
 use Rattle.nfs_handles.specs.Changes.{Adds, Takes}
 use Rattle.nfs_handles.proofs.Lookups.{compared, numbers_equal, one_number, none_is_next}
 use Rattle.nfs_handles.proofs.Numbers.{numbered_new, numbered_value, numbered_without}
 use Rattle.nfs_handles.proofs.Leading.{by_number, not_equal, same_some, not_both, if_true, if_false, held, keys_filed, lookup_filed, lead_at, none_held, gone, lead_without, valued, lead_valued, filed_more, lead_more, found_more, found_last}
 
 -- the number of a file that is found in a slot leads there
-pub leads_back : {T : Type 0} (slots : Slab (Stored T)) (places : List (ℕ × ℕ)) → AllLeadBack slots places → (slot n : ℕ) (s : Stored T) → Some s ≡ get slots slot → s.number ≡ n → Some slot ≡ lookup (nat_eq n) places
+pub leads_back : {T : Type 0} (slots : SlotList (Stored T)) (places : List (ℕ × ℕ)) → AllLeadBack slots places → (slot n : ℕ) (s : Stored T) → Some s ≡ get slots slot → s.number ≡ n → Some slot ≡ lookup (nat_eq n) places
 leads_back slots places led slot n s there its = sym (ap (λ m. lookup (nat_eq m) places) (sym its) ∙ led slot s (sym there))
 
 eight : (key rest : List ℕ) → length key ≡ 8 → get_or key 0 0 ∷ get_or key 1 0 ∷ get_or key 2 0 ∷ get_or key 3 0 ∷ get_or key 4 0 ∷ get_or key 5 0 ∷ get_or key 6 0 ∷ get_or key 7 0 ∷ rest ≡ key ++ rest
@@ -54,14 +55,14 @@ pub same_both : {E D Z : Type 0} (read : (E → D) → D → Z) (F G : E → D) 
 same_both read F G v w f e = λ i. read (λ x. f x i) (e i)
 
 module _ {T : Type 0} where
-  -- a slab that has room for more holds the same
-  pub kept_reserved : (olds news : Slab (Stored T)) (capacity : ℕ) (places : List (ℕ × ℕ)) (next : ℕ) (key : List ℕ) → news ≡ record olds { capacity = capacity } → IsKept olds places next key → IsKept news places next key
+  -- a list of slots that has room for more holds the same
+  pub kept_reserved : (olds news : SlotList (Stored T)) (capacity : ℕ) (places : List (ℕ × ℕ)) (next : ℕ) (key : List ℕ) → news ≡ record olds { capacity = capacity } → IsKept olds places next key → IsKept news places next key
   kept_reserved olds news capacity places next key same h = subst (λ s. IsKept s places next key) (sym same) (record { numbered = h.numbered; lead = h.lead; led = h.led })
 
-  pub slotted_reserved : (olds news : Slab (Stored T)) (capacity : ℕ) (places : List (ℕ × ℕ)) (next : ℕ) (key : List ℕ) → news ≡ record olds { capacity = capacity } → slotted news places next key ≡ slotted olds places next key
+  pub slotted_reserved : (olds news : SlotList (Stored T)) (capacity : ℕ) (places : List (ℕ × ℕ)) (next : ℕ) (key : List ℕ) → news ≡ record olds { capacity = capacity } → slotted news places next key ≡ slotted olds places next key
   slotted_reserved olds news capacity places next key same = ap (λ s. slotted s places next key) same
 
-  module _ (slots : Slab (Stored T)) (places : List (ℕ × ℕ)) (next : ℕ) (key : List ℕ) (h : IsKept slots places next key) where
+  module _ (slots : SlotList (Stored T)) (places : List (ℕ × ℕ)) (next : ℕ) (key : List ℕ) (h : IsKept slots places next key) where
     abbrev t : NumberedFiles T
     t = slotted slots places next key
 
@@ -86,15 +87,43 @@ module _ {T : Type 0} where
     pub value_there : (n slot : ℕ) → Some slot ≡ lookup (nat_eq n) places → value_at t n ≡ option_map (λ (s : Stored T). s.value) (get slots slot)
     value_there n slot found = value_slotted n (Some slot) found ∙ values slot (get slots slot)
 
+    -- ---- which tag is next
+
+    tag_in_slot : (slot : ℕ) (s : Stored T) → get slots slot ≡ Some s → tag_at t s.number ≡ Some (tag_of slot)
+    tag_in_slot slot s there = ap (option_map (λ (f : TaggedFile T). f.tag)) (at_slotted s.number (Some slot) (sym (h.led slot s there)) ∙ ap (option_map (tagged slot)) there)
+
+    pub next_tag : (slot : ℕ) → get slots slot ≡ None → ((lesser : ℕ) → lesser < slot → IsSome (get slots lesser)) → IsNextTag t (tag_of slot)
+    next_tag slot vacant least = record {
+      fits = omega arith;
+      below = λ lesser less.
+          let it = some_value (get slots lesser) (least lesser (omega (arith, less))) in
+          let its : tag_of lesser ≡ lesser = omega (arith, less) in
+          (it.0.number, tag_in_slot lesser it.0 it.1 ∙ ap Some its);
+      free = λ other n taken. free other n taken (lookup (nat_eq n) places) refl;
+    }
+      where
+        some_value : (o : Option (Stored T)) → IsSome o → (s : Stored T) × (o ≡ Some s)
+        some_value None some = cc
+        some_value (Some s) some = (s, refl)
+
+        free : tag_of slot ≢ 2 ^ 32 - 1 → (n : ℕ) → tag_at t n ≡ Some (tag_of slot) → (o : Option ℕ) → lookup (nat_eq n) places ≡ o → ⊥
+        free other n taken None is = not_both (ap (option_map (λ (f : TaggedFile T). f.tag)) (at_slotted n None (sym is))) taken
+        free other n taken (Some k) is =
+            let l = leads_there n k (sym is) in
+            let its : tag_at t n ≡ Some (tag_of k) = ap (option_map (λ (f : TaggedFile T). f.tag)) (at_slotted n (Some k) (sym is) ∙ ap (option_map (tagged k)) l.1) in
+            let same : tag_of k ≡ tag_of slot = same_some (sym its ∙ taken) in
+            let here : k ≡ slot = omega (arith, same, other) in
+            not_both vacant (ap (get slots) (sym here) ∙ l.1)
+
     -- ---- a file comes
 
-    module _ (slot : ℕ) (v : T) (news : Slab (Stored T)) (more : List (ℕ × ℕ)) (vacant : get slots slot ≡ None) (at_new : get news slot ≡ Some (record { number = next; value = v }))
+    module _ (slot : ℕ) (v : T) (news : SlotList (Stored T)) (more : List (ℕ × ℕ)) (vacant : get slots slot ≡ None) (at_new : get news slot ≡ Some (record { number = next; value = v }))
         (others : (k : ℕ) → k ≢ slot → get news k ≡ get slots k) (more_is : more ≡ places ++ (next, slot) ∷ []) where
-      new_is : slotted news more (next + 1) key ≡ with_new t (slot % 2 ^ 32) v
+      new_is : slotted news more (next + 1) key ≡ with_new t (tag_of slot) v
       new_is = ap (λ es. record { files = es; next = next + 1; key = key }) (ap (filed news) more_is ∙ filed_more slots news slot others next v vacant at_new places h.lead)
 
-      pub adds_slotted : Adds t v (slotted news more (next + 1) key)
-      adds_slotted = record { tag = slot % 2 ^ 32; fits = omega arith; new_is = new_is }
+      pub adds_slotted : ((lesser : ℕ) → lesser < slot → IsSome (get slots lesser)) → Adds t v (slotted news more (next + 1) key)
+      adds_slotted least = record { tag = tag_of slot; tag_is = next_tag slot vacant least; new_is = new_is }
 
       none_yet : lookup (nat_eq next) places ≡ None
       none_yet = none_held slots next places h.lead (none_is_next t h.numbered)
@@ -103,7 +132,7 @@ module _ {T : Type 0} where
       kept_put below =
           let room : next + 1 < 2 ^ 64 = omega (arith, h.numbered.last, below) in
           record {
-            numbered = subst IsNumbered (sym new_is) (numbered_new t (slot % 2 ^ 32) v h.numbered (omega arith) room);
+            numbered = subst IsNumbered (sym new_is) (numbered_new t (tag_of slot) v h.numbered (omega arith) room);
             lead = subst (AllLead news) (sym more_is) (lead_more slots news slot others next v vacant at_new places h.lead);
             led = λ k s there. subst (λ es. lookup (nat_eq s.number) es ≡ Some k) (sym more_is) (by_number k slot
                 (λ same.
@@ -115,7 +144,7 @@ module _ {T : Type 0} where
 
     -- ---- a file goes
 
-    module _ (n slot : ℕ) (news : Slab (Stored T)) (fewer : List (ℕ × ℕ)) (found : Some slot ≡ lookup (nat_eq n) places) (at_new : get news slot ≡ None)
+    module _ (n slot : ℕ) (news : SlotList (Stored T)) (fewer : List (ℕ × ℕ)) (found : Some slot ≡ lookup (nat_eq n) places) (at_new : get news slot ≡ None)
         (others : (k : ℕ) → k ≢ slot → get news k ≡ get slots k) (fewer_is : fewer ≡ remove_entry (nat_eq n) places) where
       leads : Leads slots (n, slot)
       leads = leads_there n slot found
@@ -139,7 +168,7 @@ module _ {T : Type 0} where
 
     -- ---- a file has another value
 
-    module _ (n slot : ℕ) (w : T) (news : Slab (Stored T)) (found : Some slot ≡ lookup (nat_eq n) places) (s : Stored T) (at_slot : get slots slot ≡ Some s) (at_new : get news slot ≡ Some (record s { value = w }))
+    module _ (n slot : ℕ) (w : T) (news : SlotList (Stored T)) (found : Some slot ≡ lookup (nat_eq n) places) (s : Stored T) (at_slot : get slots slot ≡ Some s) (at_new : get news slot ≡ Some (record s { value = w }))
         (others : (k : ℕ) → k ≢ slot → get news k ≡ get slots k) where
       its : s.number ≡ n
       its = let l = leads_there n slot found in ap (λ (s : Stored T). s.number) (same_some (sym at_slot ∙ l.1)) ∙ l.2
@@ -172,7 +201,7 @@ module _ {T : Type 0} where
         by None is leads = (h, sym (ap (revalued t n w) (none_there n slot leads is)))
         by (Some s) is (inl found) =
             let u = Updates-with_value slots slot (record s { value = w }) (ap is_some is) in
-            let news = slab.with_value slots slot (record s { value = w }) in
+            let news = slot_list.with_value slots slot (record s { value = w }) in
             (kept_lent n slot w news (sym found) s is u.changed u.others, value_lent n slot w news (sym found) s is u.changed u.others)
         by (Some s) is (inr vacant) = absurd (not_both vacant.1 is)
 
@@ -188,13 +217,13 @@ module _ {T : Type 0} where
     found_in : (n slot : ℕ) (found : Some slot ≡ lookup (nat_eq n) places) → at t n ≡ Some (tagged slot (leads_there n slot found).0)
     found_in n slot found = at_slotted n (Some slot) found ∙ ap (option_map (tagged slot)) (leads_there n slot found).1
 
-    pub of_another : (tag n slot : ℕ) → Some slot ≡ lookup (nat_eq n) places → (slot % 2 ^ 32 ≡ tag → ⊥) → live_with tag n (at t n) ≡ Stale
-    of_another tag n slot found other = ap (live_with tag n) (found_in n slot found) ∙ if_false (Live (number n)) Stale (not_equal tag (slot % 2 ^ 32) (λ same. other (sym same)))
+    pub of_another : (tag n slot : ℕ) → Some slot ≡ lookup (nat_eq n) places → (tag_of slot ≡ tag → ⊥) → live_with tag n (at t n) ≡ Stale
+    of_another tag n slot found other = ap (live_with tag n) (found_in n slot found) ∙ if_false (Live (number n)) Stale (not_equal tag (tag_of slot) (λ same. other (sym same)))
 
-    pub lives_in : (tag n slot : ℕ) (r : Option (Bor T)) → Some slot ≡ lookup (nat_eq n) places → slot % 2 ^ 32 ≡ tag → option_copied r ≡ value_in slots slot → IfSome r (λ value. LivesWith t tag n value.now)
+    pub lives_in : (tag n slot : ℕ) (r : Option (Bor T)) → Some slot ≡ lookup (nat_eq n) places → tag_of slot ≡ tag → option_copied r ≡ value_in slots slot → IfSome r (λ value. LivesWith t tag n value.now)
     lives_in tag n slot None found same e = tt
     lives_in tag n slot (Some v) found same e =
-        (ap (live_with tag n) (found_in n slot found) ∙ if_true (Live (number n)) Stale (eq-eqb tag (slot % 2 ^ 32) (sym same)), value_there n slot found ∙ sym e)
+        (ap (live_with tag n) (found_in n slot found) ∙ if_true (Live (number n)) Stale (eq-eqb tag (tag_of slot) (sym same)), value_there n slot found ∙ sym e)
 
     pub never_none : (P : Type 0) (n slot : ℕ) (r : Option (Bor T)) → Some slot ≡ lookup (nat_eq n) places → option_copied r ≡ value_in slots slot → IfNone r P
     never_none P n slot None found e = absurd (not_both (sym e) (ap (option_map (λ (s : Stored T). s.value)) (leads_there n slot found).1))
@@ -202,7 +231,7 @@ module _ {T : Type 0} where
 
     -- ---- what is taken
 
-    pub takes_slotted : (n slot : ℕ) (r : Option T) (news : Slab (Stored T)) (fewer : List (ℕ × ℕ)) (found : Some slot ≡ lookup (nat_eq n) places) → r ≡ value_in slots slot → get news slot ≡ None
+    pub takes_slotted : (n slot : ℕ) (r : Option T) (news : SlotList (Stored T)) (fewer : List (ℕ × ℕ)) (found : Some slot ≡ lookup (nat_eq n) places) → r ≡ value_in slots slot → get news slot ≡ None
         → ((k : ℕ) → k ≢ slot → get news k ≡ get slots k) → fewer ≡ remove_entry (nat_eq n) places → Takes t n r (slotted news fewer next key)
     takes_slotted n slot r news fewer found e at_new others fewer_is =
         let l = leads_there n slot found in
@@ -211,7 +240,7 @@ module _ {T : Type 0} where
 
     -- ---- handles
 
-    pub handle_slotted : (n slot : ℕ) (text : List ℕ) → Some slot ≡ lookup (nat_eq n) places → text ≡ handle_text key (slot % 2 ^ 32) n → handle_at t n ≡ Some text
+    pub handle_slotted : (n slot : ℕ) (text : List ℕ) → Some slot ≡ lookup (nat_eq n) places → text ≡ handle_text key (tag_of slot) n → handle_at t n ≡ Some text
     handle_slotted n slot text found e =
         let l = leads_there n slot found in
         ap (option_map (λ (file : TaggedFile T). handle_text key file.tag n)) (at_slotted n (Some slot) found ∙ ap (option_map (tagged slot)) l.1) ∙ ap Some (sym e)

@@ -1,16 +1,17 @@
 -- What the calls that change files do to them.
-use Rattle.std.specs.Prelude.{◌≡◌, ℕ, ◌-◌, ◌^◌, ◌<◌, ◌≢◌, Option, Some, None, Result, Ok, Err}
+use Rattle.std.specs.Prelude.{◌≡◌, ℕ, ◌-◌, ◌^◌, ◌≢◌, Option, Some, None, Result, Ok, Err}
 use Rattle.std.specs.Borrow.{Fml, RattleType, MutBor, LendsIf}
 use Rattle.nfs_handles.specs.NumberedFiles.{NumberedFiles, at, value_at, with_new, with_value, without}
+use Rattle.nfs_handles.specs.Tags.{IsNextTag}
 use Rattle.nfs_handles.specs.declared.number.Number.{Number}
 use Rattle.nfs_handles.specs.declared.fault.PutFault.{PutFault}
 use Rattle.nfs_handles.specs.declared.fault.PutFault.TheVariants.{Spent, Memory}
 use Rattle.nfs_handles.specs.contracts.files.Files.{the_row}
 
--- with a new file of some tag
+-- with a new file, which takes the next tag
 pub record Adds {T : Type 0} (old : NumberedFiles T) (v : T) (new : NumberedFiles T) : Type 0 where
   pub tag : ℕ
-  pub fits : tag < 2 ^ 32
+  pub tag_is : IsNextTag old tag
   pub new_is : new ≡ with_new old tag v
 
 -- A value was put, at the next number; or it is handed back, and nothing has changed.

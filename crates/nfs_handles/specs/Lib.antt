@@ -1,6 +1,9 @@
 pub mod NumberedFiles
+pub mod Tags
 pub mod Handles
 pub mod Placed
+pub mod SlotList
+pub mod VacantSlots
 pub mod Slotted
 pub mod Lending
 pub mod Changes

@@ -1,6 +1,6 @@
 //! Numbered files: slots with their values, and the slots that numbers lead to.
 ghost use Rattle.std.specs.Prelude.{not, ◌||◌, nat_eq, nat_le};
-ghost use Rattle.std.specs.Prelude.{◌≡◌, ℕ, ◌%◌, ◌-◌, ◌^◌, ◌<◌, ◌≤◌, ◌≢◌, Some, IsSome, IfSome, IfNone, IfOk, OnOk, OnErr};
+ghost use Rattle.std.specs.Prelude.{◌≡◌, ℕ, ◌-◌, ◌^◌, ◌<◌, ◌≤◌, ◌≢◌, Some, IsSome, IfSome, IfNone, IfOk, OnOk, OnErr};
 ghost use Rattle.std.specs.Prelude.{IfErr, true, length, bytes_eq, option_copied};
 ghost use Rattle.std.specs.Borrow.{sem};
 ghost use Rattle.std.specs.Map.{lookup};
@@ -10,7 +10,7 @@ ghost use Rattle.nfs_handles.specs.NumberedFiles.{IsNumbered};
 ghost use Rattle.nfs_handles.specs.Handles.{handle_at, is_shaped, key_in, live_with, Names};
 ghost use Rattle.nfs_handles.specs.Handles.{LivesWith, reading, reading_without};
 ghost use Rattle.nfs_handles.specs.declared.reading.Reading.TheVariants.{Stale};
-ghost use Rattle.nfs_handles.specs.Slotted.{AllLeadBack, LeadsOr};
+ghost use Rattle.nfs_handles.specs.Slotted.{AllLeadBack, LeadsOr, tag_of};
 ghost use Rattle.nfs_handles.specs.Changes.{Adds, Puts, Takes, LendsValue};
 
 use crate::fault::PutFault;
@@ -24,12 +24,12 @@ use std::marker::Model;
 // The first bytes of each handle.
 const MAGIC: [u8; 4] = *b"NFS3";
 
-// How many tags there are.
-const TAGS: usize = 1 << 32;
+// The last tag, which each file in a slot from there on has.
+const LAST_TAG: usize = u32::MAX as usize;
 
 /// Files that each have a number of their own, beside the number of the next and the key of the
-/// server whose files they are. No number is given twice. A handle's tag is the slot of its file, so
-/// the file that it names is found without a search.
+/// server whose files they are. No number is given twice. A new handle's tag is the least that no file
+/// has, which is the slot of its file, so the file is found without a search.
 #[derive(Drop)]
 pub struct Files<T> {
     slots: Slots<T>,
@@ -112,7 +112,7 @@ impl<T: Drop> Files<T> {
         };
         match self.places.push(slot) {
             Ok(()) => {
-                self.slots.fill(number, value);
+                self.slots.fill(slot, number, value);
                 Ok(Number(number, Hint(tag_of(slot))))
             }
             Err(refused) => Err(PutFault::Memory(value, refused)),
@@ -289,9 +289,9 @@ fn slot_of<T: Drop>(slots: &Slots<T>, places: &NumberSlots, number: Number) -> u
 // The tag of a file in a slot.
 #[inline(always)]
 fn tag_of(slot: usize) -> u32
-    ensures { result ≡ slot % 2 ^ 32 }
+    ensures { result ≡ tag_of slot }
 {
-    (slot % TAGS) as u32
+    slot.min(LAST_TAG) as u32
 }
 
 // Whether bytes have the length of a handle and begin as one.

@@ -1,6 +1,7 @@
 //! Laws over the definitions alone.
 ghost use Rattle.nfs_handles.specs.Runs.{CallsGo, FilesAre, HandlesNameOne, RunsKeep};
 ghost use Rattle.nfs_handles.specs.Runs.{NumbersAreForGood};
+ghost use Rattle.nfs_handles.specs.Tags.{OneIsNext};
 
 /// Each call goes by one change, or by none: so calls, one after another, are a run.
 pub fn calls_are_changes<T>()
@@ -11,6 +12,11 @@ pub fn calls_are_changes<T>()
 /// touches one number alone, and each file that lives is at a number that was given.
 pub fn files_are_reported<T>()
     ensures { FilesAre T }
+{}
+
+/// The tag of the next new file follows from the files that live: there is exactly one.
+pub fn tags_follow_from_files<T>()
+    ensures { OneIsNext T }
 {}
 
 /// The handle of a file that lives reads as that file, so no two files that live have one handle.

@@ -1,13 +1,15 @@
 //! The slots that values are kept in.
-ghost use Rattle.std.specs.Prelude.{◌≡◌, ◌≢◌, ℕ, [], Some, None, OnOk, IfOk, option_copied};
+ghost use Rattle.std.specs.Prelude.{◌≡◌, ◌≢◌, ℕ, [], Some, None, IfOk, IsSome, option_copied};
 ghost use Rattle.std.specs.Borrow.{sem};
 ghost use Rattle.std.specs.Option.{option_copied_mut};
-ghost use Rattle.slab.specs.Slab.{HasRoomFor, Updates, get};
-ghost use Rattle.nfs_handles.specs.Lending.{LendsSlot};
+ghost use Rattle.std.specs.Option.Follows.{option_follows_value};
+ghost use Rattle.nfs_handles.specs.SlotList.{IsNextSlot, Updates, get};
+ghost use Rattle.nfs_handles.specs.Lending.{LendsSlot, LendsStored, LendsStoredIf};
 ghost use Rattle.nfs_handles.specs.Slotted.{value_in};
 
-use slab::Slab;
 use std::alloc::{AllocError, Global};
+use std::cmp::Reverse;
+use std::collections::BinaryHeap;
 use std::marker::Model;
 
 /// A file's value, with its number.
@@ -17,19 +19,29 @@ pub(crate) struct Stored<T> {
     pub(crate) value: T,
 }
 
-/// Values in slots, each with its number.
+/// Values in slots, each with its number. The next value comes into the least vacant slot.
 #[derive(Drop)]
 pub(crate) struct Slots<T> {
-    slab: Slab<Stored<T>>,
+    slots: Vec<Option<Stored<T>>>,
+    // The vacant ones among them. It has memory for all slots, so a value is taken out in no memory.
+    vacant: BinaryHeap<Reverse<usize>>,
 }
 
 impl<T> Model for Slots<T> {
-    ghost use Rattle.slab.specs.Slab.{Slab};
+    ghost use Rattle.std.specs.Prelude.{min, vec_capacity};
+    ghost use Rattle.std.specs.BinaryHeap.{heap_items, heap_capacity};
+    ghost use Rattle.nfs_handles.specs.SlotList.{SlotList};
+    ghost use Rattle.nfs_handles.specs.VacantSlots.{HasVacant};
     ghost use Rattle.nfs_handles.specs.declared.slots.Stored.{Stored};
 
-    ghost Value = { Slab (Stored T) };
+    ghost Value = { SlotList (Stored T) };
 
-    ghost view = { λ s. s.slab };
+    ghost view = { λ s. record {
+      slots = s.slots.items;
+      capacity = min (vec_capacity s.slots) (heap_capacity s.vacant);
+    } };
+
+    ghost invariant = { λ s. HasVacant s.slots.items (heap_items s.vacant) (heap_capacity s.vacant) };
 }
 
 impl<T: Drop> Slots<T> {
@@ -38,29 +50,39 @@ impl<T: Drop> Slots<T> {
         ensures { result.slots ≡ [] }
     {
         Slots {
-            slab: Slab::new(alloc),
+            slots: Vec::new(alloc),
+            vacant: BinaryHeap::new(alloc),
         }
     }
 
-    /// A vacant slot, which the next value comes into.
+    /// Makes room for the next value, and answers the slot that it comes into, the least that is vacant.
+    /// Refused without memory; then nothing else changes.
     #[inline(always)]
     pub(crate) fn reserve(&mut self) -> Result<usize, AllocError>
-        ensures room { OnOk result (HasRoomFor self.new 1) }
-        ensures slot { IfOk result (λ slot. slot ≡ self.new.vacant_key) }
-        ensures vacant { IfOk result (λ slot. get self.new slot ≡ None) }
+        ensures slot { IfOk result (IsNextSlot self.new) }
         ensures same { self.new ≡ record self.old { capacity = self.new.capacity } }
     {
-        self.slab.reserve(1)?;
-        Ok(self.slab.vacant_key())
+        if let Some(least) = self.vacant.peek() {
+            return Ok(least.0);
+        }
+        self.slots.reserve(1)?;
+        self.vacant.reserve(self.slots.capacity())?;
+        Ok(self.slots.len())
     }
 
     /// Puts a value with its number into the slot that was reserved.
     #[inline(always)]
-    pub(crate) fn fill(&mut self, number: u64, value: T)
-        requires { HasRoomFor self.old 1 }
-        ensures { Updates self.old self.new self.old.vacant_key (Some (record { number = number; value = value })) }
+    pub(crate) fn fill(&mut self, slot: usize, number: u64, value: T)
+        requires { IsNextSlot self.old slot }
+        ensures { Updates self.old self.new slot (Some (record { number = number; value = value })) }
     {
-        self.slab.insert_reserved(Stored { number, value });
+        let stored = Some(Stored { number, value });
+        if slot == self.slots.len() {
+            self.slots.push_reserved(stored);
+            return;
+        }
+        self.vacant.pop();
+        self.slots[slot] = stored;
     }
 
     /// A slot with nothing in it.
@@ -68,7 +90,7 @@ impl<T: Drop> Slots<T> {
     pub(crate) fn vacant(&self) -> usize
         ensures { get self.now result ≡ None }
     {
-        self.slab.vacant_key()
+        self.slots.len()
     }
 
     /// What is in a slot.
@@ -76,7 +98,10 @@ impl<T: Drop> Slots<T> {
     pub(crate) fn get(&self, slot: usize) -> Option<&Stored<T>>
         ensures { option_copied result ≡ get self.now slot }
     {
-        self.slab.get(slot)
+        match self.slots.get(slot) {
+            Some(Some(stored)) => Some(stored),
+            _ => None,
+        }
     }
 
     /// The value in a slot.
@@ -84,7 +109,7 @@ impl<T: Drop> Slots<T> {
     pub(crate) fn value(&self, slot: usize) -> Option<&T>
         ensures { option_copied result ≡ value_in self.now slot }
     {
-        match self.slab.get(slot) {
+        match self.get(slot) {
             Some(stored) => Some(&stored.value),
             None => None,
         }
@@ -96,10 +121,33 @@ impl<T: Drop> Slots<T> {
         ensures* writes_back { sem 𝓛 (LendsSlot T.row self.entry slot result) }
         ensures value { option_copied_mut result ≡ value_in self.old slot }
     {
-        match self.slab.get_mut(slot) {
+        match self.get_mut(slot) {
             Some(stored) => Some(&mut stored.value),
             None => None,
         }
+    }
+
+    // What is in a slot, to be changed.
+    #[inline(always)]
+    fn get_mut(&mut self, slot: usize) -> Option<&mut Stored<T>>
+        ensures* writes_back { sem 𝓛 (LendsStoredIf T.row self.entry slot result) }
+        ensures value { option_copied_mut result ≡ get self.old slot }
+    {
+        if self.get(slot).is_some() {
+            Some(self.stored_mut(slot))
+        } else {
+            None
+        }
+    }
+
+    // What is in a slot that has a value, to be changed.
+    #[inline(always)]
+    fn stored_mut(&mut self, slot: usize) -> &mut Stored<T>
+        requires { IsSome (get self.old slot) }
+        ensures* writes_back { sem 𝓛 (LendsStored T.row self.entry slot result) }
+        ensures value { get self.old slot ≡ Some result.now }
+    {
+        inside(&mut self.slots[slot])
     }
 
     /// Takes the value out of a slot.
@@ -109,9 +157,24 @@ impl<T: Drop> Slots<T> {
         ensures vacant { get self.new slot ≡ None }
         ensures others { (other : ℕ) → other ≢ slot → get self.new other ≡ get self.old other }
     {
-        match self.slab.try_remove(slot) {
-            Some(stored) => Some(stored.value),
-            None => None,
+        if slot >= self.slots.len() {
+            return None;
         }
+        let stored = self.slots[slot].take()?;
+        self.vacant.push(Reverse(slot)).unwrap();
+        Some(stored.value)
+    }
+}
+
+// What an option that has a value holds, to be changed.
+#[inline(always)]
+fn inside<X>(option: &mut Option<X>) -> &mut X
+    requires { IsSome option.old }
+    ensures* writes_back { sem 𝓛 (option_follows_value X.row option.entry result) }
+    ensures value { option.old ≡ Some result.now }
+{
+    match option {
+        Some(value) => value,
+        None => unreachable!(),
     }
 }

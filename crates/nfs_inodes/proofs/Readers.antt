@@ -3,6 +3,7 @@ use Rattle.std.proofs.Common.{◌≡◌, ℕ, zero, suc, ◌<◌, List, [], ◌�
 use Rattle.std.specs.Prelude.{slice_get, not, if◌then◌else◌, ◌||◌, nat_eq, nat_le, bytes_eq}
 use Rattle.std.proofs.lemmas.Option.{slice_get-map, slice_get_within}
 use Rattle.nfs_handles.specs.NumberedFiles.{NumberedFiles, TaggedFile, at, value_at}
+use Rattle.nfs_handles.specs.Tags.{IsNextTag}
 use Rattle.nfs_handles.specs.Handles.{handle_text, handle_at, reading, live_with, is_shaped, key_in, tag_in, number_in, number}
 use Rattle.nfs_handles.specs.declared.number.Number.{Number}
 use Rattle.nfs_attrs.specs.declared.fattr.Fattr.{Fattr}
@@ -19,6 +20,7 @@ use Rattle.nfs_inodes.specs.Storage.{file_of, kind_of, counted_files, counted_vo
 use Rattle.nfs_inodes.specs.Reading.{attributes_of, attributes_at, kind_at, listing, listing_at, cookie_of_next, next_cookie_at, path_of, path_at, bytes_at, totals_at, numbered_files, IsFirstChunk}
 use Rattle.nfs_inodes.specs.Views.{kind_seen, bytes_seen, IsSeen}
 use Rattle.nfs_inodes.specs.Views.{FileView}
+use Rattle.nfs_handles.proofs.Tags.{same_next_tag}
 use Rattle.nfs_inodes.proofs.Maps.{at_shows}
 use Rattle.nfs_inodes.proofs.StoredFiles.{counted_file, at_counted_file}
 use Rattle.nfs_inodes.proofs.Lists.{same_some, not_both}
@@ -180,3 +182,11 @@ handle_kept limits a stored_volumes n = same (at a n) ∙ sym (ap (option_map (�
 
 pub handle_there : {limits : Limits} (a : NumberedFiles StoredFile) (stored_volumes : List StoredVolume) (t : Tree) → tree_in (counted_tree_of limits a stored_volumes) ≡ t → (n : ℕ) → handle_at a n ≡ handle_at (numbered_files t) n
 handle_there {limits} a stored_volumes t view n = handle_kept limits a stored_volumes n ∙ ap (λ (t : Tree). handle_at (numbered_files t) n) view
+
+-- the next tag of the files that are kept is that of the tree
+pub next_tag_there : (limits : Limits) (a : NumberedFiles StoredFile) (stored_volumes : List StoredVolume) (tag : ℕ) → IsNextTag a tag → IsNextTag (numbered_files (tree_in (counted_tree_of limits a stored_volumes))) tag
+next_tag_there limits a stored_volumes tag is = same_next_tag a (numbered_files (tree_in (counted_tree_of limits a stored_volumes))) tag (λ n. ap (option_map (λ (f : TaggedFile File). f.tag)) (numbered_at limits a stored_volumes n) ∙ same (at a n)) is
+  where
+    same : (o : Option (TaggedFile StoredFile)) → option_map (λ (f : TaggedFile File). f.tag) (option_map filed_as o) ≡ option_map (λ (f : TaggedFile StoredFile). f.tag) o
+    same None = refl
+    same (Some f) = refl

@@ -29,6 +29,7 @@ use Rattle.nfs_inodes.proofs.law.Operations.{apart_kinds}
 use Rattle.nfs_inodes.proofs.law.NewFiles.{new_here, may_be_founded}
 use Rattle.nfs_inodes.proofs.law.WithNewFile.{MayBeFounded}
 use Rattle.nfs_inodes.proofs.Tests.{like_there, no_entry_named}
+use Rattle.nfs_inodes.proofs.Readers.{next_tag_there}
 use Rattle.nfs_inodes.proofs.Views.{lives, kept_at, mapped, place_there, stored_volume_at, stored_volume_counted}
 
 pub counted_parts : (k l : CountedTree) → l.files ≡ k.files → l.next ≡ k.next → l.key ≡ k.key → l.volumes ≡ k.volumes → l.limits ≡ k.limits → l ≡ k
@@ -123,7 +124,7 @@ module _ {limits : Limits} (a : NumberedFiles StoredFile) (stored_volumes : List
       entered = ap (λ (f : File). retagged f adds.dir.tag) adds.enters.file;
       links = adds.enters.nlink;
       first_links = may.nlink;
-      new_file = record { tag = adds.fits; sound = retagged_sound (file_of 0 stored_file) adds.tag may.is_new.sound; volume = may.is_new.volume; empty = may.is_new.empty; bytes = may.is_new.bytes; parent = may.is_new.parent };
+      new_file = record { tag = adds.tag_is.fits; sound = retagged_sound (file_of 0 stored_file) adds.tag may.is_new.sound; volume = may.is_new.volume; empty = may.is_new.empty; bytes = may.is_new.bytes; parent = may.is_new.parent };
       few = may.links;
     }
       where
@@ -136,10 +137,10 @@ module _ {limits : Limits} (a : NumberedFiles StoredFile) (stored_volumes : List
         same_volume : stored_file.volume ≡ dir_held.file.volume
         same_volume = may.is_new.volume ∙ ap (λ (f : File). f.volume) (same_some (sym may.may.enter.at_dir.0 ∙ lives limits a stored_volumes d adds.dir adds.at_dir))
 
-    pub stored_view_after_make : Makes (λ tag. with_named_file (tree_in (counted_tree_of limits a stored_volumes)) d name (retagged (file_of 0 stored_file) tag) now) (tree_in (counted_tree_of limits b news))
+    pub stored_view_after_make : Makes (tree_in (counted_tree_of limits a stored_volumes)) (λ tag. with_named_file (tree_in (counted_tree_of limits a stored_volumes)) d name (retagged (file_of 0 stored_file) tag) now) (tree_in (counted_tree_of limits b news))
     stored_view_after_make = record {
       tag = adds.tag;
-      fits = adds.fits;
+      tag_is = next_tag_there limits a stored_volumes adds.tag adds.tag_is;
       new_is = ap tree_in counted_is ∙ view_after_make (counted_tree_of limits a stored_volumes) d size name now dir_held dir_now new_held stored_file.volume keeps.law has;
     }
 
@@ -184,9 +185,9 @@ module _ {limits : Limits} (a : NumberedFiles StoredFile) (stored_volumes : List
       may_add_still = subst (λ (t : Tree). MayAdd t d name stored_file) (sym view_still)
           (may_add t d (length (bytes_in k)) name k given verifier now stored_file index may.may (is_place index at_index) is links may.fresh may.links)
 
-      pub makes_still : (new : Tree) → Makes (λ tag. with_named_file (tree_in (counted_tree_of limits b stored_volumes)) d name (retagged (file_of 0 stored_file) tag) now) new → Makes (λ tag. with_named_file t d name (new_file (changes.volume_index t d) k given verifier tag now) now) new
-      makes_still new makes = subst (λ (f : File). Makes (λ tag. with_named_file t d name (retagged f tag) now) new) (is ∙ ap (λ index. new_file index k given verifier 0 now) (is_place index at_index))
-          (subst (λ (t : Tree). Makes (λ tag. with_named_file t d name (retagged (file_of 0 stored_file) tag) now) new) view_still makes)
+      pub makes_still : (new : Tree) → Makes (tree_in (counted_tree_of limits b stored_volumes)) (λ tag. with_named_file (tree_in (counted_tree_of limits b stored_volumes)) d name (retagged (file_of 0 stored_file) tag) now) new → Makes t (λ tag. with_named_file t d name (new_file (changes.volume_index t d) k given verifier tag now) now) new
+      makes_still new makes = subst (λ (f : File). Makes t (λ tag. with_named_file t d name (retagged f tag) now) new) (is ∙ ap (λ index. new_file index k given verifier 0 now) (is_place index at_index))
+          (subst (λ (t : Tree). Makes t (λ tag. with_named_file t d name (retagged (file_of 0 stored_file) tag) now) new) view_still makes)
 
 -- ---- a link
 
@@ -283,15 +284,15 @@ module _ {limits : Limits} (a : NumberedFiles StoredFile) (stored_volumes : List
         refl
 
     may_be : MayBeFounded (tree_in (counted_tree_of limits a stored_volumes)) the_volume root_held.file
-    may_be = may_be_founded (tree_in (counted_tree_of limits a stored_volumes)) path max_bytes max_files adds.tag given now root_held.file may adds.fits root_is
+    may_be = may_be_founded (tree_in (counted_tree_of limits a stored_volumes)) path max_bytes max_files adds.tag given now root_held.file may adds.tag_is.fits root_is
 
     pub stored_agree_after_add_volume : Agrees (counted_tree_of limits b (stored_volumes ++ stored_volume ∷ []))
     stored_agree_after_add_volume = subst Agrees (sym founded_kept) (agree_after_add_volume (counted_tree_of limits a stored_volumes) the_volume root_held keeps may_be two wide wide_files)
 
-    pub stored_view_after_add_volume : Makes (λ tag. after_add_volume (tree_in (counted_tree_of limits a stored_volumes)) path max_bytes max_files given tag now) (tree_in (counted_tree_of limits b (stored_volumes ++ stored_volume ∷ [])))
+    pub stored_view_after_add_volume : Makes (tree_in (counted_tree_of limits a stored_volumes)) (λ tag. after_add_volume (tree_in (counted_tree_of limits a stored_volumes)) path max_bytes max_files given tag now) (tree_in (counted_tree_of limits b (stored_volumes ++ stored_volume ∷ [])))
     stored_view_after_add_volume = record {
       tag = adds.tag;
-      fits = adds.fits;
+      tag_is = next_tag_there limits a stored_volumes adds.tag adds.tag_is;
       new_is = ap tree_in founded_kept ∙ view_after_add_volume (counted_tree_of limits a stored_volumes) the_volume root_held
           ∙ ap (with_new_volume (tree_in (counted_tree_of limits a stored_volumes)) the_volume) root_is;
     }

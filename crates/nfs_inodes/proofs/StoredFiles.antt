@@ -118,7 +118,7 @@ module _ (t1 t2 : NumberedFiles StoredFile) (d : ℕ) (stored_file : StoredFile)
       let value : Enters name number links now takes.dir.value enters.value = subst (λ (f : TaggedFile StoredFile). Enters name number links now f.value enters.value) was enters.from in
       record {
         tag = adds.tag;
-        fits = adds.fits;
+        tag_is = adds.tag_is;
         dir = takes.dir;
         at_dir = takes.at_dir;
         value = enters.value;

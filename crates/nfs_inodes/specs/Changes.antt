@@ -1,12 +1,13 @@
 -- What operations do to the tree.
-use Rattle.std.specs.Prelude.{◌≡◌, ℕ, ◌+◌, ◌%◌, ◌<◌, ◌^◌, max, not, nat_eq, List, [], ◌∷◌, ◌++◌, length, filter}
+use Rattle.std.specs.Prelude.{◌≡◌, ℕ, ◌+◌, ◌%◌, max, not, nat_eq, List, [], ◌∷◌, ◌++◌, length, filter}
 use Rattle.std.specs.Prelude.{Option, None, if◌then◌else◌}
 pub use Rattle.nfs_content.specs.Bytes.{zeros, put_bytes, sized}
 use Rattle.nfs_attrs.specs.declared.moment.Moment.{Moment}
 use Rattle.nfs_inodes.specs.declared.limits.Limits.{Limits}
 use Rattle.nfs_inodes.specs.declared.given_attributes.GivenAttributes.{GivenAttributes}
 use Rattle.nfs_inodes.specs.declared.new_file.NewFile.{NewFile}
-use Rattle.nfs_inodes.specs.Reading.{has_name, entry_at}
+use Rattle.nfs_handles.specs.Tags.{IsNextTag}
+use Rattle.nfs_inodes.specs.Reading.{has_name, entry_at, numbered_files}
 use Rattle.nfs_inodes.specs.Tree.{Tree, File, Kind, Regular, Directory, Link, Entry, Volume, at, with_at, without_at, on_some, bytes_in, names_of}
 
 -- ---- the elementary changes
@@ -197,8 +198,8 @@ with_key t key = record t { key = key }
 abbrev pub with_limits : Tree → Limits → Tree
 with_limits t limits = record t { limits = limits }
 
--- the tree after an operation that made a file, whose tag was chosen freely
-pub record Makes (make : ℕ → Tree) (new : Tree) : Type 0 where
+-- the tree after an operation that made a file, which has the next tag
+pub record Makes (old : Tree) (make : ℕ → Tree) (new : Tree) : Type 0 where
   pub tag : ℕ
-  pub fits : tag < 2 ^ 32
+  pub tag_is : IsNextTag (numbered_files old) tag
   pub new_is : new ≡ make tag

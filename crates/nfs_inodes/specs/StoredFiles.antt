@@ -2,6 +2,7 @@
 use Rattle.std.specs.Prelude.{◌≡◌, ℕ, ◌≢◌, ◌+◌, ◌-◌, ◌<◌, ◌≤◌, ◌^◌, true, List, [], ◌∷◌, ◌++◌, length, Some, None}
 use Rattle.nfs_attrs.specs.declared.moment.Moment.{Moment}
 use Rattle.nfs_handles.specs.NumberedFiles.{NumberedFiles, TaggedFile, at, value_at, with_value}
+use Rattle.nfs_handles.specs.Tags.{IsNextTag}
 use Rattle.nfs_inodes.specs.Limits.{max_file_bytes, max_links}
 use Rattle.nfs_inodes.specs.declared.given_attributes.GivenAttributes.{GivenAttributes}
 use Rattle.nfs_inodes.specs.declared.stored_file.StoredFile.{StoredFile}
@@ -42,10 +43,10 @@ pub record Enters (name : List ℕ) (number : ℕ) (links : ℕ) (now : Moment) 
   pub file : file_of 0 new ≡ entered (file_of 0 old) name number now
   pub nlink : new.nlink ≡ old.nlink + links
 
--- a new file, of some tag, with its entry in directory d
+-- a new file, of the next tag, with its entry in directory d
 pub record AddsFile (old : NumberedFiles StoredFile) (d : ℕ) (name : List ℕ) (stored_file : StoredFile) (now : Moment) (new : NumberedFiles StoredFile) : Type 0 where
   pub tag : ℕ
-  pub fits : tag < 2 ^ 32
+  pub tag_is : IsNextTag old tag
   pub dir : TaggedFile StoredFile
   pub at_dir : at old d ≡ Some dir
   pub value : StoredFile

@@ -133,7 +133,7 @@ impl Tree {
         now: Moment,
     ) -> Result<Number, AllocError>
         requires { MayMake self.old dir.0 name.now (length content.pages) }
-        ensures ok { OnOk result (Makes (λ tag. after_make_file self.old dir.0 name.now content.pages given.now content.verifier tag now)
+        ensures ok { OnOk result (Makes self.old (λ tag. after_make_file self.old dir.0 name.now content.pages given.now content.verifier tag now)
             self.new) }
         ensures number { IfOk result (λ n. n.0 ≡ self.old.next) }
         ensures err { OnErr result (self.new ≡ self.old) }
@@ -157,7 +157,7 @@ impl Tree {
         now: Moment,
     ) -> Result<Number, AllocError>
         requires { MayMakeDirectory self.old dir.0 name.now }
-        ensures ok { OnOk result (Makes (λ tag. after_mkdir self.old dir.0 name.now given.now tag now) self.new) }
+        ensures ok { OnOk result (Makes self.old (λ tag. after_mkdir self.old dir.0 name.now given.now tag now) self.new) }
         ensures number { IfOk result (λ n. n.0 ≡ self.old.next) }
         ensures err { OnErr result (self.new ≡ self.old) }
     {
@@ -181,7 +181,7 @@ impl Tree {
         now: Moment,
     ) -> Result<Number, AllocError>
         requires { MayMakeLink self.old dir.0 name.now path.now }
-        ensures ok { OnOk result (Makes (λ tag. after_make_link self.old dir.0 name.now path.now given.now tag now) self.new) }
+        ensures ok { OnOk result (Makes self.old (λ tag. after_make_link self.old dir.0 name.now path.now given.now tag now) self.new) }
         ensures number { IfOk result (λ n. n.0 ≡ self.old.next) }
         ensures err { OnErr result (self.new ≡ self.old) }
     {
@@ -269,7 +269,7 @@ impl Tree {
         now: Moment,
     ) -> Result<Number, AllocError>
         requires { MayAddVolume self.old path.now max_bytes max_files }
-        ensures ok { OnOk result (Makes (λ tag. after_add_volume self.old path.now max_bytes max_files given.now tag now) self.new) }
+        ensures ok { OnOk result (Makes self.old (λ tag. after_add_volume self.old path.now max_bytes max_files given.now tag now) self.new) }
         ensures number { IfOk result (λ n. n.0 ≡ self.old.next) }
         ensures err { OnErr result (self.new ≡ self.old) }
     {
@@ -314,7 +314,7 @@ impl Tree {
         now: Moment,
     ) -> Result<Number, AllocError>
         requires { MayAddKind self.old dir.0 name.items (kind_of made.node) }
-        ensures ok { OnOk result (Makes (λ tag. with_named_file self.old dir.0 name.items
+        ensures ok { OnOk result (Makes self.old (λ tag. with_named_file self.old dir.0 name.items
             (new_file (volume_index self.old dir.0) (kind_of made.node) given.now made.verifier tag now) now) self.new) }
         ensures number { IfOk result (λ n. n.0 ≡ self.old.next) }
         ensures err { OnErr result (self.new ≡ self.old) }

@@ -67,22 +67,22 @@ links_found (Err cause) = Err cause
 abbrev pub AddsVolume : Tree → VolumeLine → Result Unit Refusal → Tree → Type 0
 AddsVolume t line result new = Does t (free_path t line.path)
     (λ path. MayAddVolume t path line.max_bytes line.max_files)
-    (λ path. Makes (λ tag. after_add_volume t path line.max_bytes line.max_files (attributes line.given) tag start)) result new
+    (λ path. Makes t (λ tag. after_add_volume t path line.max_bytes line.max_files (attributes line.given) tag start)) result new
 
 abbrev pub MakesDir : Tree → ℕ → DirLine → Result Unit Refusal → Tree → Type 0
 MakesDir t root line result new = Does t (free_end t root line.path)
     (λ end. MayMakeDirectory t end.dir end.name)
-    (λ end. Makes (λ tag. after_mkdir t end.dir end.name (attributes line.given) tag start)) result new
+    (λ end. Makes t (λ tag. after_mkdir t end.dir end.name (attributes line.given) tag start)) result new
 
 abbrev pub MakesFile : Tree → ℕ → FileLine → Result Unit Refusal → Tree → Type 0
 MakesFile t root line result new = Does t (free_end t root line.path)
     (λ end. MayMake t end.dir end.name (length line.content))
-    (λ end. Makes (λ tag. after_make_file t end.dir end.name line.content (attributes line.given) None tag start)) result new
+    (λ end. Makes t (λ tag. after_make_file t end.dir end.name line.content (attributes line.given) None tag start)) result new
 
 abbrev pub MakesLink : Tree → ℕ → LinkLine → Result Unit Refusal → Tree → Type 0
 MakesLink t root line result new = Does t (free_end t root line.path)
     (λ end. MayMakeLink t end.dir end.name line.target)
-    (λ end. Makes (λ tag. after_make_link t end.dir end.name line.target (link_attributes line.uid line.gid) tag start)) result new
+    (λ end. Makes t (λ tag. after_make_link t end.dir end.name line.target (link_attributes line.uid line.gid) tag start)) result new
 
 -- a hard link of a file
 abbrev pub AddsName : Tree → ℕ → HardLine → Result Unit Refusal → Tree → Type 0

@@ -14,7 +14,9 @@ use Rattle.nfs_inodes.proofs.law.Alike.{sum_same}
 use Rattle.nfs_inodes.specs.Law.{parent_of}
 use Rattle.nfs_inodes.specs.Reading.{attributes_of, attributes_at, listing, listing_at, entry_named, entry_at, cookie_of_next, next_cookie_at, path_at, path_of, verifier_at, totals_at, numbered_files}
 use Rattle.nfs_inodes.specs.Tree.{Tree, File, Kind, Entry, Volume, Regular, Directory, Link, at, on_some, entries_in, bytes_in, parent_in, is_directory, names_in, names_of, names_directory, subdirectories, nlink, bytes_for, one_for, bytes_of, files_of, one_when}
-use Rattle.nfs_policy.specs.Shape.{blank_kind, blank_file, blank_where, blank}
+use Rattle.nfs_handles.specs.Tags.{IsNextTag}
+use Rattle.nfs_handles.proofs.Tags.{same_next_tag}
+use Rattle.nfs_policy.specs.Shape.{blank_kind, blank_file, blank_where, blank, AgreeOutside}
 
 abbrev pub shown : (ℕ → Bool) → ℕ × File → ℕ × File
 shown p e = (e.0, blank_where (p e.0) e.1)
@@ -147,6 +149,14 @@ module _ (p : ℕ → Bool) (t : Tree) where
       of true (Some f) = refl
       of false (Some f) = refl
 
+  pub tag_blank : (n : ℕ) → numbered.tag_at (numbered_files (blank p t)) n ≡ numbered.tag_at (numbered_files t) n
+  tag_blank n = ap (option_map (λ (f : TaggedFile File). f.tag)) (at_numbered (blank p t) n ∙ ap (option_map tagged) (at_blank p n t.files)) ∙ of (p n) (at n t.files) ∙ sym (ap (option_map (λ (f : TaggedFile File). f.tag)) (at_numbered t n))
+    where
+      of : (b : Bool) (o : Option File) → option_map (λ (f : TaggedFile File). f.tag) (option_map tagged (option_map (blank_where b) o)) ≡ option_map (λ (f : TaggedFile File). f.tag) (option_map tagged o)
+      of b None = refl
+      of true (Some f) = refl
+      of false (Some f) = refl
+
   live_blank : (tag n : ℕ) → live_with tag n (numbered.at (numbered_files (blank p t)) n) ≡ live_with tag n (numbered.at (numbered_files t) n)
   live_blank tag n = ap (live_with tag n) (at_numbered (blank p t) n ∙ ap (option_map tagged) (at_blank p n t.files)) ∙ of (p n) (at n t.files) ∙ sym (ap (live_with tag n) (at_numbered t n))
     where
@@ -161,3 +171,8 @@ module _ (p : ℕ → Bool) (t : Tree) where
       else (if not (bytes_eq (key_in handle) t.key) then Stale
       else (if nat_eq (number_in handle) 0 || nat_le t.next (number_in handle) then Bad
       else live_blank (tag_in handle) (number_in handle) i))
+
+-- the next tag of trees that agree outside a file is the same
+pub next_tag_outside : (f : ℕ) (t u : Tree) → AgreeOutside f t u → (tag : ℕ) → IsNextTag (numbered_files t) tag → IsNextTag (numbered_files u) tag
+next_tag_outside f t u agree tag is = same_next_tag (numbered_files t) (numbered_files u) tag
+    (λ n. sym (tag_blank (nat_eq f) u n) ∙ ap (λ (v : Tree). numbered.tag_at (numbered_files v) n) (sym agree) ∙ tag_blank (nat_eq f) t n) is

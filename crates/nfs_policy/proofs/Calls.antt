@@ -37,7 +37,7 @@ use Rattle.nfs_rules.specs.declared.rights.Right.TheVariants.{Execute}
 use Rattle.nfs_xdr.specs.Written.{Written}
 use Rattle.nfs_policy.specs.Shape.{blank, blank_where, AgreeOutside}
 use Rattle.nfs_policy.specs.Reading.{ReadsNot, CallsAreConfined}
-use Rattle.nfs_policy.proofs.Blanks.{at_blank, attributes_blank, listing_blank, handle_blank, path_blank, totals_blank}
+use Rattle.nfs_policy.proofs.Blanks.{at_blank, attributes_blank, listing_blank, handle_blank, path_blank, totals_blank, next_tag_outside}
 use Rattle.nfs_policy.proofs.Changes.{blank_twice, set_blank, unlink_blank, rename_blank, link_blank, make_file_blank, mkdir_blank, make_link_blank, write_blank, resize_blank}
 use Rattle.nfs_policy.proofs.Wants.{wants_blank}
 use Rattle.nfs_policy.proofs.Rules.{veiled, found_veiled, subject_blank, subjects_blank, both_veiled, verdict_blank}
@@ -268,7 +268,7 @@ module _ (f : ℕ) (c : Scene) (other : Tree) (agree : AgreeOutside f c.tree oth
             two = o.1;
             granted = record { subjects = o.2; verdict = sym same_verdict ∙ h.granted.verdict };
             tag = h.tag;
-            fits = h.fits;
+            tag_is = next_tag_outside f c.tree other agree h.tag h.tag_is;
             new_is = refl;
             written = subst (λ a. AppendsAnswer a before after) (same_answer h.one h.two o.0 o.1 new new' o.3 o.4 same (λ a e. apart h.one.file.fileid (reads a h.one h.two e h.granted))) h.written;
           },

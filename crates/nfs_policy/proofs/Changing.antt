@@ -1,11 +1,13 @@
 -- An event leaves the tree, or it is a call of NFS that is granted.
-use Rattle.std.proofs.Common.{inl, inr, ◌≡◌, ◌⊎◌, ◌<◌, ◌^◌, ℕ, Bool, true, false, List, Option, Some, None, refl, sym, ap}
+use Rattle.std.proofs.Common.{inl, inr, ◌≡◌, ◌⊎◌, ℕ, Bool, true, false, List, Option, Some, None, refl, sym, ap}
 use Rattle.std.specs.Prelude.{Result, Ok, Err, if◌then◌else◌, option_map, not, ◌&&◌}
 use Rattle.nfs_args.specs.declared.args.NfsArgs.{NfsArgs}
 use Rattle.nfs_args.specs.declared.mount_args.MountArgs.{MountArgs}
 use Rattle.nfs_args.specs.declared.mount_args.MountArgs.TheVariants as asked
 use Rattle.nfs_exports.specs.declared.addr.Addr.{Addr}
 use Rattle.nfs_inodes.proofs.Lists.{same_some, not_both}
+use Rattle.nfs_handles.specs.Tags.{IsNextTag}
+use Rattle.nfs_inodes.specs.Reading.{numbered_files}
 use Rattle.nfs_inodes.specs.Tree.{Tree}
 use Rattle.nfs_mount.specs.MountRules.{mount_verdict}
 use Rattle.nfs_procs.specs.Doing.{Doing}
@@ -33,7 +35,7 @@ pub record IsEffect (c : Scene) (new : Tree) : Type 0 where
   pub one : Subject
   pub two : Subject
   pub tag : ℕ
-  pub fits : tag < 2 ^ 32
+  pub tag_is : IsNextTag (numbered_files c.tree) tag
   pub granted : IsGranted c one two
   pub new_is : new ≡ doing.effect one two c.now tag
 
@@ -41,11 +43,11 @@ module _ (c : Scene) (call : Call) (choice : Choice) (answer : Answer) (new : Tr
   abbrev LeavesOr : Type 0
   LeavesOr = (new ≡ c.tree) ⊎ IsEffect c new
 
-  decided : (doing : Doing) → doing_of c.args ≡ Some doing → (v : Option Rule) → verdict_in c ≡ v → Decided v c doing call choice.tag answer new → LeavesOr
+  decided : (doing : Doing) → doing_of c.args ≡ Some doing → (v : Option Rule) → verdict_in c ≡ v → Decided v c doing call answer new → LeavesOr
   decided doing is (Some rule) v h = inl h.new_is
-  decided doing is None v h = inr (record { doing = doing; doing_is = is; one = h.one; two = h.two; tag = choice.tag; fits = choice.fits; granted = record { subjects = h.subjects; verdict = v }; new_is = h.new_is })
+  decided doing is None v h = inr (record { doing = doing; doing_is = is; one = h.one; two = h.two; tag = h.tag; tag_is = h.tag_is; granted = record { subjects = h.subjects; verdict = v }; new_is = h.new_is })
 
-  refusable : (refused : Bool) (o : Option Doing) → doing_of c.args ≡ o → Refusable refused o c call choice.tag answer new → LeavesOr
+  refusable : (refused : Bool) (o : Option Doing) → doing_of c.args ≡ o → Refusable refused o c call answer new → LeavesOr
   refusable true o is h = inl h.new_is
   refusable false None is h = inl h.1
   refusable false (Some doing) is h = decided doing is (verdict_in c) refl h

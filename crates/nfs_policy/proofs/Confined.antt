@@ -38,11 +38,11 @@ module _ (setup : Setup) (old : State) (event : Event) (choice : Choice) (answer
 
   lawful : Changes setup old event choice answer new → Law new.tree
   lawful (inl e) = subst Law (sym e) law
-  lawful (inr g) = let f = g.effect in subst Law (sym f.new_is) (granted_law (scene_of setup old event g.caller g.args) law f.doing f.doing_is f.one f.two f.tag f.fits f.granted)
+  lawful (inr g) = let f = g.effect in subst Law (sym f.new_is) (granted_law (scene_of setup old event g.caller g.args) law f.doing f.doing_is f.one f.two f.tag f.tag_is.fits f.granted)
 
   goes : Changes setup old event choice answer new → Goes old.tree new.tree
   goes (inl e) = subst (Goes old.tree) (sym e) (goes_itself old.tree)
-  goes (inr g) = let f = g.effect in subst (Goes old.tree) (sym f.new_is) (granted_goes (scene_of setup old event g.caller g.args) law f.doing f.doing_is f.one f.two f.tag f.fits f.granted)
+  goes (inr g) = let f = g.effect in subst (Goes old.tree) (sym f.new_is) (granted_goes (scene_of setup old event g.caller g.args) law f.doing f.doing_is f.one f.two f.tag f.tag_is.fits f.granted)
 
 pub change_is_confined : ChangeIsConfined
 change_is_confined setup history old event choice answer new law step = confined setup old event choice answer new law (step_changes setup history old event choice answer new step)

@@ -11,6 +11,7 @@ pub mod Granted
 pub mod Policies
 pub mod Led
 pub mod Runs
+pub mod Choices
 pub mod Changing
 pub mod Agreeing
 pub mod Lawful

@@ -31,7 +31,7 @@ use Rattle.nfs_server.specs.Steps.{Setup, State, success, Decided, Refusable, Pe
 use Rattle.nfs_server.specs.Retransmissions.{first_reply, may_change}
 use Rattle.nfs_server.specs.declared.audit_line.DenialReason.TheVariants as reason
 use Rattle.nfs_server.specs.declared.rpc_rules.RpcRule.{RpcRule}
-use Rattle.nfs_policy.proofs.Blanks.{handle_blank}
+use Rattle.nfs_policy.proofs.Blanks.{handle_blank, next_tag_outside}
 use Rattle.nfs_policy.proofs.Calls.{d, same_verdict, same_seen, same_uid, others, apart, same_effect, same_answer}
 use Rattle.nfs_policy.specs.Confining.{Asks, AgreeThrough, ReadingIsConfined}
 use Rattle.nfs_policy.specs.Reading.{ReadsNot}
@@ -46,7 +46,7 @@ module _ (f : ℕ) (c : Scene) (other : Tree) (agree : AgreeOutside f c.tree oth
   abbrev Goes : (Tree → Type 0) → Type 0
   Goes P = (new' : Tree) × P new' × AgreeOutside f new new'
 
-  decided : ReadsNot f c → (doing : Doing) → doing_of c.args ≡ Some doing → (v : Option Rule) → verdict_in c ≡ v → Decided v c doing call choice.tag answer new → Goes (Decided v there doing call choice.tag answer)
+  decided : ReadsNot f c → (doing : Doing) → doing_of c.args ≡ Some doing → (v : Option Rule) → verdict_in c ≡ v → Decided v c doing call answer new → Goes (Decided v there doing call answer)
   decided reads doing is (Some rule) v h = (
     other,
     record {
@@ -58,8 +58,8 @@ module _ (f : ℕ) (c : Scene) (other : Tree) (agree : AgreeOutside f c.tree oth
   )
   decided reads doing is None v h =
       let o = others f c other agree h.one h.two h.subjects in
-      let new' = doing.effect o.0 o.1 c.now choice.tag in
-      let same : AgreeOutside f new new' = ap (blank (nat_eq f)) h.new_is ∙ same_effect f c other agree doing is h.one h.two o.0 o.1 c.now choice.tag o.3 o.4 in
+      let new' = doing.effect o.0 o.1 c.now h.tag in
+      let same : AgreeOutside f new new' = ap (blank (nat_eq f)) h.new_is ∙ same_effect f c other agree doing is h.one h.two o.0 o.1 c.now h.tag o.3 o.4 in
       let same_answer_is = same_answer f c other agree doing is h.one h.two o.0 o.1 new new' o.3 o.4 same
       (λ a e. apart f c other agree h.one.file.fileid (reads a h.one h.two e (record { subjects = h.subjects; verdict = v }))) in (
         new',
@@ -67,6 +67,8 @@ module _ (f : ℕ) (c : Scene) (other : Tree) (agree : AgreeOutside f c.tree oth
           one = o.0;
           two = o.1;
           subjects = o.2;
+          tag = h.tag;
+          tag_is = next_tag_outside f c.tree other agree h.tag h.tag_is;
           new_is = refl;
           answer_is = h.answer_is ∙ ap (λ a. granted (success call (nfs_text a))) same_answer_is;
           encoded = subst IsEncoded same_answer_is h.encoded;
@@ -74,10 +76,10 @@ module _ (f : ℕ) (c : Scene) (other : Tree) (agree : AgreeOutside f c.tree oth
         same,
       )
 
-  refusable : ReadsNot f c → (refused : Bool) (o : Option Doing) → doing_of c.args ≡ o → Refusable refused o c call choice.tag answer new → Goes (Refusable refused o there call choice.tag answer)
+  refusable : ReadsNot f c → (refused : Bool) (o : Option Doing) → doing_of c.args ≡ o → Refusable refused o c call answer new → Goes (Refusable refused o there call answer)
   refusable reads true o is h = (other, record { new_is = refl; answer_is = h.answer_is }, ap (blank (nat_eq f)) h.new_is ∙ agree)
   refusable reads false None is h = (other, (h.0, refl), ap (blank (nat_eq f)) h.1 ∙ agree)
-  refusable reads false (Some doing) is h = subst (λ v. Goes (Decided v there doing call choice.tag answer)) (same_verdict f c other agree) (decided reads doing is (verdict_in c) refl h)
+  refusable reads false (Some doing) is h = subst (λ v. Goes (Decided v there doing call answer)) (same_verdict f c other agree) (decided reads doing is (verdict_in c) refl h)
 
   performed : ReadsNot f c → (o : Option Doing) → doing_of c.args ≡ o → Performed o c call choice answer new → Goes (Performed o there call choice answer)
   performed reads o is h = refusable reads (not choice.has_memory && may_change c.args) o is h
@@ -152,15 +154,17 @@ module _ (f : ℕ) (setup : Setup) (old : State) (other : Tree) (agree : AgreeOu
 same_mounts : (f : ℕ) (setup : Setup) (old : State) (state : State) (P : State → Type 0) → state.mounts ≡ old.mounts → P (record old { tree = state.tree }) → P state
 same_mounts f setup old state P e h = subst P (λ i. record { tree = state.tree; mounts = sym e i }) h
 
+-- trees that agree all the way agree at the end
+pub agree_at_end : (f : ℕ) (setup : Setup) (opening : State) (other : Tree) (history : List Done) (state state' : State) (run : IsRun setup opening history state) (run' : IsRun setup (record opening { tree = other }) history state')
+    → AgreeThrough f setup opening (record opening { tree = other }) history state state' run run' → AgreeOutside f state.tree state'.tree × (state'.mounts ≡ state.mounts)
+agree_at_end f setup opening other [] state state' run run' h = h
+agree_at_end f setup opening other (d ∷ history) state state' run run' h = (h.1, h.2)
+
 pub reading_is_confined : ReadingIsConfined
 reading_is_confined f setup opening [] state run never other agree = (record opening { tree = other }, refl, (ap (λ (s : State). blank (nat_eq f) s.tree) run ∙ agree, ap (λ (s : State). s.mounts) (sym run)))
 reading_is_confined f setup opening (e ∷ before) state run never other agree =
     let r = reading_is_confined f setup opening before run.0 run.1 never.0 other agree in
-    let now = agree_now before run.0 r.0 run.1 r.1 r.2 in
+    let now = agree_at_end f setup opening other before run.0 r.0 run.1 r.1 r.2 in
     let s = retransmitted f setup run.0 r.0.tree now.0 e.event e.choice e.answer state (first_reply setup.places e.choice.again before e.event) never.1 run.2 in
     let step : Step setup before r.0 e.event e.choice e.answer s.0 = same_mounts f setup run.0 r.0 (λ old. Step setup before old e.event e.choice e.answer s.0) now.1 s.1 in
     (s.0, (r.0, r.1, step), (r.2, s.2, s.3))
-  where
-    agree_now : (history : List Done) (state state' : State) (run : IsRun setup opening history state) (run' : IsRun setup (record opening { tree = other }) history state') → AgreeThrough f setup opening (record opening { tree = other }) history state state' run run' → AgreeOutside f state.tree state'.tree × (state'.mounts ≡ state.mounts)
-    agree_now [] state state' run run' h = h
-    agree_now (d ∷ history) state state' run run' h = (h.1, h.2)

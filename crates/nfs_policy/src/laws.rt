@@ -1,5 +1,6 @@
 //! Laws over the definitions alone.
 ghost use Rattle.nfs_policy.specs.Complete.{HasBoth, HasChanged, HasFound, HasListed, HasMade, HasPath, HasVolume, OfGranted};
+ghost use Rattle.nfs_policy.specs.Choices.{AnswersFollow, BytesAreHidden};
 ghost use Rattle.nfs_policy.specs.Confining.{ChangeIsConfined, ReadingIsConfined, RunsAreConfined};
 ghost use Rattle.nfs_policy.specs.Confining.{ServersAreConfined};
 ghost use Rattle.nfs_policy.specs.Naming.{HandlesNameForGood};
@@ -53,6 +54,17 @@ pub fn calls_are_confined()
 /// The bytes of a file that no call of a run was granted to read show in no reply and no line.
 pub fn reading_is_confined()
     ensures { ReadingIsConfined }
+{}
+
+/// From one state, the same events with the same free choices get the same answers.
+pub fn answers_follow_from_choices()
+    ensures { AnswersFollow }
+{}
+
+/// Where no call was granted to read a file, the same events with the same free choices get the same replies
+/// and lines over any other bytes of it.
+pub fn bytes_are_hidden()
+    ensures { BytesAreHidden }
 {}
 
 /// What the policy refuses of the example, and what it doesn't speak of.

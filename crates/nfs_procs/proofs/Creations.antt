@@ -54,7 +54,7 @@ abbrev after_plan : Tree → Create → Moment → ℕ → Fattr → Option Fatt
 after_plan t a now tag dir present uid given = on_some present (after_make_file t dir.fileid a.place.name (zeros (on_some (size_in a.how) 0 (λ size. size))) given (verifier_in a.how) tag now) (λ f. after_taking t uid f a.how now)
 
 pub created : (c : Scene) (a : Create) (s : Subject) (plan : FilePlan) (new : Tree) (n : ℕ) (dir : Wcc) (x y z : Written) → IsGranted c s s → PlansFile c.tree c.now a plan s
-    → Makes (after_making_or_taking c.tree plan a c.now) new → n ≡ number_of c.tree (present_in plan)
+    → Makes c.tree (after_making_or_taking c.tree plan a c.now) new → n ≡ number_of c.tree (present_in plan)
     → dir ≡ change (Some plan.dir.attributes) (attributes_at new plan.dir.attributes.fileid)
     → Appends (to_be_bytes w32 0) x y → Appends (made_text (new_file_in new n dir)) y z → IsMade (new_file_in new n dir) (made_text (new_file_in new n dir))
     → HasEffect c (create a) new x z
@@ -63,7 +63,7 @@ created c a s plan new n dir x y z granted plans makes number shown status made 
   two = s;
   granted = granted;
   tag = makes.tag;
-  fits = makes.fits;
+  tag_is = makes.tag_is;
   new_is = makes.new_is
       ∙ ap (λ dir. after_plan c.tree a c.now makes.tag dir (present_in plan) plan.uid plan.given) plans.dir
       ∙ ap (λ present. after_plan c.tree a c.now makes.tag s.file present plan.uid plan.given) plans.present

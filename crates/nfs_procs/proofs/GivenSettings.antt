@@ -1,5 +1,5 @@
 -- Attributes are set.
-use Rattle.std.proofs.Common.{◌≡◌, ℕ, List, [], ◌∷◌, Option, Some, None, Ok, sym, ap, subst, ◌∙◌, arith}
+use Rattle.std.proofs.Common.{◌≡◌, ℕ, List, [], ◌∷◌, Option, Some, None, Ok, sym, ap, subst, ◌∙◌}
 use Rattle.nfs_args.specs.declared.answer.NfsAnswer.TheVariants as answer
 use Rattle.nfs_args.specs.declared.setattr.Setattr.{Setattr}
 use Rattle.nfs_attrs.specs.declared.fattr.Fattr.{Fattr}
@@ -10,7 +10,8 @@ use Rattle.nfs_inodes.proofs.Maps.{at_with_same}
 use Rattle.nfs_inodes.proofs.law.Settings.{resized_is}
 use Rattle.nfs_inodes.specs.Changes.{after_resize, resized_to, after_write_at, file_with_bytes, with_file}
 use Rattle.nfs_inodes.specs.Law.{Lives}
-use Rattle.nfs_inodes.specs.Reading.{attributes_at}
+use Rattle.nfs_handles.proofs.Tags.{some_next_tag}
+use Rattle.nfs_inodes.specs.Reading.{attributes_at, numbered_files}
 use Rattle.nfs_inodes.specs.Tree.{Tree, File, on_some}
 use Rattle.nfs_procs.specs.Changers.{setattr, after_settings, with_cleared_mode}
 use Rattle.nfs_procs.specs.Doing.{change}
@@ -40,8 +41,8 @@ has_set c a s file given new shown x y granted plans is shows written = record {
   one = s;
   two = s;
   granted = granted;
-  tag = 0;
-  fits = omega arith;
+  tag = (some_next_tag (numbered_files c.tree)).0;
+  tag_is = (some_next_tag (numbered_files c.tree)).1;
   new_is = is
       ∙ ap (λ (f : Fattr). after_settings c.tree f.fileid given c.now) plans.same
       ∙ ap (λ g. after_settings c.tree s.file.fileid g c.now) plans.given

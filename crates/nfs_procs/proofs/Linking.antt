@@ -1,5 +1,5 @@
 -- A file has a hard link, or another one.
-use Rattle.std.proofs.Common.{◌≡◌, ℕ, List, Option, Some, refl, sym, ap, subst, arith, ◌∙◌}
+use Rattle.std.proofs.Common.{◌≡◌, ℕ, List, Option, Some, refl, sym, ap, subst, ◌∙◌}
 use Rattle.std.specs.Int.{w32, to_be_bytes}
 use Rattle.std.specs.Prelude.{Ok}
 use Rattle.nfs_args.specs.Results.{IsLinked, IsRenamed, linked_text, renamed_text}
@@ -10,7 +10,8 @@ use Rattle.nfs_attrs.specs.declared.fattr.Fattr.{Fattr}
 use Rattle.nfs_attrs.specs.declared.wcc.Wcc.{Wcc}
 use Rattle.nfs_inodes.specs.Changes.{after_link, after_rename}
 use Rattle.nfs_inodes.specs.Conditions.{NameApart}
-use Rattle.nfs_inodes.specs.Reading.{attributes_at}
+use Rattle.nfs_handles.proofs.Tags.{some_next_tag}
+use Rattle.nfs_inodes.specs.Reading.{attributes_at, numbered_files}
 use Rattle.nfs_inodes.specs.Tree.{Tree}
 use Rattle.nfs_procs.proofs.Growth.{they_differ}
 use Rattle.nfs_procs.proofs.Encoded.{granted_encoded}
@@ -34,8 +35,8 @@ links c a plan s u new bytes attributes dir x y z granted plans same is shown wc
   one = s;
   two = u;
   granted = granted;
-  tag = 0;
-  fits = omega arith;
+  tag = (some_next_tag (numbered_files c.tree)).0;
+  tag_is = (some_next_tag (numbered_files c.tree)).1;
   new_is = is ∙ ap (λ b. after_link c.tree plan.0.attributes.fileid plan.1.attributes.fileid b c.now) same
       ∙ ap (λ (f : Fattr). after_link c.tree f.fileid plan.1.attributes.fileid a.place.name c.now) plans.file_is
       ∙ ap (λ (f : Fattr). after_link c.tree s.file.fileid f.fileid a.place.name c.now) plans.dir_is
@@ -56,8 +57,8 @@ renames c a plan s u new bytes others from to x y z granted plans same same_too 
       one = s;
       two = u;
       granted = granted;
-      tag = 0;
-      fits = omega arith;
+      tag = (some_next_tag (numbered_files c.tree)).0;
+      tag_is = (some_next_tag (numbered_files c.tree)).1;
       new_is = is ∙ ap (λ b. after_rename c.tree plan.route.from.0 b plan.route.to.0 others c.now) same ∙ ap (λ b. after_rename c.tree plan.route.from.0 a.from.name plan.route.to.0 b c.now) same_too
           ∙ ap (λ d. after_rename c.tree d a.from.name plan.route.to.0 a.to.name c.now) routes.from_number
           ∙ ap (λ d. after_rename c.tree s.file.fileid a.from.name d a.to.name c.now) routes.to_number

@@ -25,7 +25,7 @@ use Rattle.nfs_xdr.proofs.Writing.{appends_then}
 use Rattle.nfs_xdr.specs.Written.{Written, Appends}
 
 pub made_link : (c : Scene) (a : Symlink) (s : Subject) (plan : Plan) (new : Tree) (n : ℕ) (dir : Wcc) (x y z : Written) → IsGranted c s s → PlansSymlink c.tree c.now a plan s
-    → Makes (λ tag. after_make_link c.tree plan.dir.attributes.fileid a.place.name a.path plan.given tag c.now) new → n ≡ c.tree.next
+    → Makes c.tree (λ tag. after_make_link c.tree plan.dir.attributes.fileid a.place.name a.path plan.given tag c.now) new → n ≡ c.tree.next
     → dir ≡ change (Some plan.dir.attributes) (attributes_at new plan.dir.attributes.fileid)
     → Appends (to_be_bytes w32 0) x y → Appends (made_text (new_file_in new n dir)) y z → IsMade (new_file_in new n dir) (made_text (new_file_in new n dir))
     → HasEffect c (symlink a) new x z
@@ -34,7 +34,7 @@ made_link c a s plan new n dir x y z granted plans makes number shown status mad
   two = s;
   granted = granted;
   tag = makes.tag;
-  fits = makes.fits;
+  tag_is = makes.tag_is;
   new_is = makes.new_is
       ∙ ap (λ (d : Fattr). after_make_link c.tree d.fileid a.place.name a.path plan.given makes.tag c.now) plans.dir
       ∙ ap (λ g. after_make_link c.tree s.file.fileid a.place.name a.path g makes.tag c.now) plans.given

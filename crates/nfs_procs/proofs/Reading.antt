@@ -10,7 +10,8 @@ use Rattle.nfs_attrs.specs.declared.moment.Moment.{Moment}
 use Rattle.nfs_attrs.specs.declared.wcc.Wcc.{Wcc}
 use Rattle.nfs_inodes.proofs.Lists.{same_some, not_both}
 use Rattle.nfs_inodes.specs.Law.{Law}
-use Rattle.nfs_inodes.specs.Reading.{path_at, path_of}
+use Rattle.nfs_handles.proofs.Tags.{some_next_tag}
+use Rattle.nfs_inodes.specs.Reading.{path_at, path_of, numbered_files}
 use Rattle.nfs_inodes.specs.Tree.{Tree, File, Kind, Regular, Directory, Link, at, on_some, path_in}
 use Rattle.nfs_procs.proofs.Judged.{denied_by_handle, granted_by_rules}
 use Rattle.nfs_procs.specs.Denials.{IsNamed, IsUnnamed, IsDenied, IsDeniedPair}
@@ -36,9 +37,9 @@ reads c doing s x y same granted tree written = record {
   one = s;
   two = s;
   granted = granted;
-  tag = 0;
-  fits = omega arith;
-  new_is = sym tree ∙ ap (λ (e : Subject → Subject → Moment → ℕ → Tree). e s s c.now 0) (sym same);
+  tag = (some_next_tag (numbered_files c.tree)).0;
+  tag_is = (some_next_tag (numbered_files c.tree)).1;
+  new_is = sym tree ∙ ap (λ (e : Subject → Subject → Moment → ℕ → Tree). e s s c.now (some_next_tag (numbered_files c.tree)).0) (sym same);
   written = written;
 }
 

@@ -1,5 +1,5 @@
 -- An entry is taken away.
-use Rattle.std.proofs.Common.{◌≡◌, ℕ, List, [], ◌∷◌, Some, None, sym, ap, subst, arith, ◌∙◌}
+use Rattle.std.proofs.Common.{◌≡◌, ℕ, List, [], ◌∷◌, Some, None, sym, ap, subst, ◌∙◌}
 use Rattle.std.specs.Prelude.{Result, Ok, Err, IfOk}
 use Rattle.nfs_args.specs.declared.answer.NfsAnswer.{NfsAnswer}
 use Rattle.nfs_attrs.specs.declared.fattr.Fattr.{Fattr}
@@ -7,7 +7,8 @@ use Rattle.nfs_args.specs.declared.args.NfsArgs.{NfsArgs}
 use Rattle.nfs_attrs.specs.declared.wcc.Wcc.{Wcc}
 use Rattle.nfs_inodes.specs.Changes.{after_unlink}
 use Rattle.nfs_inodes.specs.Conditions.{MayUnlinkSeen}
-use Rattle.nfs_inodes.specs.Reading.{attributes_at}
+use Rattle.nfs_handles.proofs.Tags.{some_next_tag}
+use Rattle.nfs_inodes.specs.Reading.{attributes_at, numbered_files}
 use Rattle.nfs_inodes.specs.Tree.{Tree}
 use Rattle.nfs_inodes.specs.Views.{FileView, standing_of}
 use Rattle.nfs_procs.proofs.Judged.{denied_by_rule, granted_by_rules}
@@ -29,16 +30,16 @@ use Rattle.nfs_rules.specs.declared.rule.Rule.{Rule}
 use Rattle.nfs_xdr.specs.Written.{Written}
 
 pub removes : (c : Scene) (doing : Doing) (answer : Wcc → NfsAnswer) (name bytes : List ℕ) (plan : RemovalPlan) (s : Subject) (new : Tree) (x y : Written) → IsGranted c s s → PlansRemoval c.tree name plan s → bytes ≡ name
-    → doing.effect s s c.now 0 ≡ after_unlink s.tree s.file.fileid name c.now → doing.granted s s new ≡ answer (changed new s)
+    → ((tag : ℕ) → doing.effect s s c.now tag ≡ after_unlink s.tree s.file.fileid name c.now) → doing.granted s s new ≡ answer (changed new s)
     → new ≡ after_unlink c.tree plan.dir.attributes.fileid bytes c.now → AppendsAnswer (answer (change (Some plan.dir.attributes) (attributes_at new plan.dir.attributes.fileid))) x y → HasEffect c doing new x y
 removes c doing answer name bytes plan s new x y granted plans same effect reports is written = record {
   one = s;
   two = s;
   granted = granted;
-  tag = 0;
-  fits = omega arith;
+  tag = (some_next_tag (numbered_files c.tree)).0;
+  tag_is = (some_next_tag (numbered_files c.tree)).1;
   new_is = is ∙ ap (λ b. after_unlink c.tree plan.dir.attributes.fileid b c.now) same ∙ ap (λ (f : Fattr). after_unlink c.tree f.fileid name c.now) plans.dir
-      ∙ ap (λ t. after_unlink t s.file.fileid name c.now) (sym plans.tree) ∙ sym effect;
+      ∙ ap (λ t. after_unlink t s.file.fileid name c.now) (sym plans.tree) ∙ sym (effect (some_next_tag (numbered_files c.tree)).0);
   written = subst (λ a. AppendsAnswer a x y) (sym reports) (subst (λ (f : Fattr). AppendsAnswer (answer (change (Some f) (attributes_at new f.fileid))) x y) plans.dir written);
 }
 

@@ -11,7 +11,8 @@ use Rattle.nfs_attrs.specs.declared.moment.Moment.{Moment}
 use Rattle.nfs_attrs.specs.declared.wcc.Wcc.{Wcc}
 use Rattle.nfs_inodes.specs.Changes.{after_write_at}
 use Rattle.nfs_inodes.specs.Law.{Lives}
-use Rattle.nfs_inodes.specs.Reading.{attributes_at}
+use Rattle.nfs_handles.proofs.Tags.{some_next_tag}
+use Rattle.nfs_inodes.specs.Reading.{attributes_at, numbered_files}
 use Rattle.nfs_inodes.specs.Tree.{Tree, File}
 use Rattle.nfs_procs.proofs.GivenSettings.{lives_written}
 use Rattle.nfs_procs.specs.Changers.{write, changed, after_writing, cleared_mode, has_bytes}
@@ -41,8 +42,8 @@ wrote c a s file mode new shown count verifier x y granted plans is shows counts
   one = s;
   two = s;
   granted = granted;
-  tag = 0;
-  fits = omega arith;
+  tag = (some_next_tag (numbered_files c.tree)).0;
+  tag_is = (some_next_tag (numbered_files c.tree)).1;
   new_is = is
       ∙ ap (λ (f : Fattr). after_writing c.tree f.fileid a.offset a.content mode c.now) plans.same
       ∙ ap (λ m. after_writing c.tree s.file.fileid a.offset a.content m c.now) plans.mode

@@ -1,7 +1,9 @@
 -- What becomes of a call.
-use Rattle.std.specs.Prelude.{◌≡◌, ℕ, ◌<◌, ◌^◌, true, Option, Some, None, option_map}
+use Rattle.std.specs.Prelude.{◌≡◌, ℕ, true, Option, Some, None, option_map}
 use Rattle.nfs_args.specs.Answers.{IsAnswerOf, answered, nfs_text}
 use Rattle.nfs_args.specs.declared.answer.NfsAnswer.{NfsAnswer}
+use Rattle.nfs_handles.specs.Tags.{IsNextTag}
+use Rattle.nfs_inodes.specs.Reading.{numbered_files}
 use Rattle.nfs_inodes.specs.Tree.{Tree}
 use Rattle.nfs_procs.specs.Doing.{Doing}
 use Rattle.nfs_procs.specs.Scenes.{Scene, verdict_in, subjects_in, seen_in}
@@ -26,13 +28,13 @@ pub record AppendsAnswer (value : NfsAnswer) (before after : Written) : Type 0 w
   pub text : Appends (nfs_text value) before after
   pub encoded : IsEncoded value
 
--- the procedure is done and answered; the tag of a new file is chosen freely
+-- the procedure is done and answered; a new file has the next tag
 pub record HasEffect (c : Scene) (doing : Doing) (new : Tree) (before after : Written) : Type 0 where
   pub one : Subject
   pub two : Subject
   pub granted : IsGranted c one two
   pub tag : ℕ
-  pub fits : tag < 2 ^ 32
+  pub tag_is : IsNextTag (numbered_files c.tree) tag
   pub new_is : new ≡ doing.effect one two c.now tag
   pub written : AppendsAnswer (doing.granted one two new) before after
 

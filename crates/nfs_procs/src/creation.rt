@@ -27,7 +27,7 @@ pub(crate) fn make_or_take(
     now: Moment,
 ) -> Result<Number, AllocError>
     requires { MayMakeOrTake tree.old plan.now.dir.attributes.fileid args.now (present_in plan.now) }
-    ensures ok { OnOk result (Makes (after_making_or_taking tree.old plan.now args.now now) tree.new) }
+    ensures ok { OnOk result (Makes tree.old (after_making_or_taking tree.old plan.now args.now now) tree.new) }
     ensures number { IfOk result (λ n. n.0 ≡ number_of tree.old (present_in plan.now)) }
     ensures err { OnErr result (tree.new ≡ tree.old) }
     ensures full { OnErr result (on_some (present_in plan.now) true (λ f. changers.taking_grows tree.old f.fileid args.now.how) ≡ true) }
@@ -49,7 +49,7 @@ fn make(
     now: Moment,
 ) -> Result<Number, AllocError>
     requires { MayMake tree.old plan.now.dir.attributes.fileid args.now.place.name (on_some (size_in args.now.how) 0 (λ size. size)) }
-    ensures ok { OnOk result (Makes (after_making tree.old plan.now args.now now) tree.new) }
+    ensures ok { OnOk result (Makes tree.old (after_making tree.old plan.now args.now now) tree.new) }
     ensures number { IfOk result (λ n. n.0 ≡ tree.old.next) }
     ensures err { OnErr result (tree.new ≡ tree.old) }
 {

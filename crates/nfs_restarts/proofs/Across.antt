@@ -1,9 +1,9 @@
 -- What handles name from one life to the next.
-use Rattle.std.proofs.Common.{◌≡◌, ℕ, ◌+◌, ◌-◌, ◌<◌, ◌≤◌, max, Bool, true, false, List, [], ◌∷◌, length, Option, Some, None, is_some, option_map, inl, inr, refl, sym, ap, subst, ◌∙◌, arith}
+use Rattle.std.proofs.Common.{◌≡◌, ◌⊎◌, ℕ, zero, suc, ◌+◌, ◌-◌, ◌<◌, ◌≤◌, max, Bool, true, false, List, [], ◌∷◌, length, Option, Some, None, is_some, option_map, inl, inr, refl, sym, ap, subst, ◌∙◌, arith}
 use Rattle.std.specs.Prelude.{◌≢◌, ◌||◌, bytes_eq, nat_eq, nat_le, if◌then◌else◌}
 use Rattle.std.proofs.lemmas.Slice.Eq.{bytes_eq-Decides}
-use Rattle.std.proofs.lemmas.Bool.{leb-true, leb-false}
-use Rattle.nfs_handles.specs.Handles.{handle_at, is_shaped, key_in, live_with, number, number_in, reading, tag_in}
+use Rattle.std.proofs.lemmas.Bool.{cases_lt, leb-true, leb-false}
+use Rattle.nfs_handles.specs.Handles.{handle_at, handle_text, is_shaped, key_in, live_with, number, number_in, reading, tag_in}
 use Rattle.nfs_handles.specs.NumberedFiles as numbered
 use Rattle.nfs_handles.specs.NumberedFiles.{TaggedFile, IsGiven}
 use Rattle.nfs_handles.specs.declared.reading.Reading.{Reading}
@@ -18,8 +18,9 @@ use Rattle.nfs_policy.proofs.Confined.{handles_name_for_good, runs_are_confined}
 use Rattle.nfs_policy.specs.Naming.{NamesOn, Through}
 use Rattle.nfs_server.specs.Events.{Done}
 use Rattle.nfs_server.specs.Steps.{Setup, State, IsRun}
-use Rattle.nfs_restarts.proofs.Made.{AllMade, MadeIn, all_made, making}
-use Rattle.nfs_restarts.specs.Lives.{Follows, HandlesAcrossLives, IsMadeBy, IsMadeInBoth, HandlesOfOthersAreStale, Life, ReadsOn, key_of}
+use Rattle.nfs_restarts.proofs.Made.{AllMade, MadeIn, all_filled, all_made, making}
+use Rattle.nfs_restarts.proofs.Tags.{AreFilled, tag_there}
+use Rattle.nfs_restarts.specs.Lives.{DescribedHandlesStay, Follows, HandlesAcrossLives, IsMadeBy, IsMadeInBoth, HandlesOfOthersAreStale, Life, ReadsOn, key_of}
 use Rattle.nfs_lives.specs.Paths.{PathRow, life_key, rows_of}
 
 abbrev tagged : File → TaggedFile File
@@ -137,6 +138,50 @@ module _ (earlier later : Life) (follows : Follows earlier later) where
 
 pub handles_live_on : HandlesAcrossLives
 handles_live_on = λ earlier later follows n handle is. handle_lives_on earlier later follows n handle is
+
+-- ---- the handles that a description gives
+
+module _ (earlier later : Life) (follows : Follows earlier later) where
+  same_tags : (n : ℕ) → tag_there later.loaded.tree n ≡ tag_there earlier.loaded.tree n
+  same_tags n = by (cases_lt n next) n refl
+    where
+      here : AreFilled earlier.loaded.tree
+      here = all_filled earlier.lines earlier.loaded earlier.described
+
+      there : AreFilled later.loaded.tree
+      there = all_filled later.lines later.loaded later.described
+
+      next : ℕ
+      next = earlier.loaded.tree.next
+
+      same_next : later.loaded.tree.next ≡ next
+      same_next =
+          let old = (made earlier).0 in
+          let new = (made later).0 in
+          let rows : making (rows_of later.lines) ≡ making (rows_of earlier.lines) = ap making follows.paths in
+          let count : length (making (rows_of later.lines)) ≡ length (making (rows_of earlier.lines)) = ap length rows in
+          omega (arith, old, new, count)
+
+      by : (n < next) ⊎ (next ≤ n) → (m : ℕ) → m ≡ n → tag_there later.loaded.tree m ≡ tag_there earlier.loaded.tree m
+      by (inr above) m is = there.above m (omega (arith, above, is, same_next)) ∙ sym (here.above m (omega (arith, above, is)))
+      by (inl below) zero is = there.none ∙ sym here.none
+      by (inl below) (suc m) is = there.given (suc m) (omega arith) (omega (arith, below, is, same_next)) ∙ sym (here.given (suc m) (omega arith) (omega (arith, below, is)))
+
+handle_opened : (life : Life) (n : ℕ) → handle_at (numbered_files life.opening.tree) n ≡ option_map (λ tag. handle_text (key_of life) tag n) (tag_there life.loaded.tree n)
+handle_opened life n = ap (λ (t : Tree). handle_at (numbered_files t) n) life.opens
+    ∙ ap (option_map (λ (f : TaggedFile File). handle_text (key_of life) f.tag n)) (at_shows tagged n life.loaded.tree.files) ∙ of (at n life.loaded.tree.files)
+  where
+    of : (o : Option File) → option_map (λ (f : TaggedFile File). handle_text (key_of life) f.tag n) (option_map tagged o) ≡ option_map (λ tag. handle_text (key_of life) tag n) (option_map (λ (f : File). f.tag) o)
+    of None = refl
+    of (Some f) = refl
+
+pub described_handles_stay : DescribedHandlesStay
+described_handles_stay earlier later follows n handle is =
+    let key : key_of later ≡ key_of earlier = ap (λ k. life_key k (rows_of later.lines)) follows.key ∙ ap (life_key earlier.loaded.tree.key) follows.paths in
+    let there : handle_at (numbered_files later.opening.tree) n ≡ Some handle =
+    handle_opened later n ∙ ap (λ k. option_map (λ tag. handle_text k tag n) (tag_there later.loaded.tree n)) key
+    ∙ ap (option_map (λ tag. handle_text (key_of earlier) tag n)) (same_tags earlier later follows n) ∙ sym (handle_opened earlier n) ∙ is in
+    (names_on later).handles handle n (handles_name_one.read (numbered_files later.opening.tree) n handle later.opens_lawful.numbers there)
 
 -- ---- another key
 

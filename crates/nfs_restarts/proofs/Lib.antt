@@ -1,2 +1,3 @@
+mod Tags
 mod Made
 mod Across

@@ -2,7 +2,7 @@
 use Rattle.std.proofs.Common.{◌≡◌, ◌⊎◌, ℕ, ◌+◌, ◌<◌, zero, suc, Bool, true, false, List, [], ◌∷◌, ◌++◌, length, Option, Some, None, Result, Ok, Err, inl, inr, refl, sym, ap, subst, ◌∙◌, arith}
 use Rattle.std.specs.Prelude.{if◌then◌else◌}
 use Rattle.nfs_attrs.specs.declared.moment.Moment.{Moment}
-use Rattle.nfs_inodes.specs.Changes.{with_file, with_new_file, with_named_file, with_entry, entered, touched, new_file, volume_index, after_link}
+use Rattle.nfs_inodes.specs.Changes.{with_file, with_limits, with_new_file, with_named_file, with_entry, entered, touched, new_file, volume_index, after_link}
 use Rattle.nfs_inodes.specs.Limits.{default_limits}
 use Rattle.nfs_inodes.specs.declared.limits.Limits.{Limits}
 use Rattle.nfs_inodes.specs.Tree.{Tree, File, Regular, Directory, Link, at, on_some}
@@ -19,6 +19,7 @@ use Rattle.nfs_load.specs.Fields.{by, key_in, ◌>>=◌}
 use Rattle.nfs_load.specs.Lines.{counted, is_comment, is_text, keyword_named, shape_of, takes}
 use Rattle.nfs_load.specs.Statements.{FileLine, LinkLine, Read, VolumeLine, dir_in, export_in, file_in, hard_in, link_in, volume_in}
 use Rattle.nfs_text.specs.Words.{words}
+use Rattle.nfs_restarts.proofs.Tags.{AreFilled, dir_fills, file_fills, filled_alike, hard_fills, link_fills, volume_fills}
 use Rattle.nfs_lives.specs.Paths.{PathRow, row_by, row_if, row_in, row_of, rows_of, onto, makes_file}
 
 -- ---- the next number
@@ -79,12 +80,21 @@ in_volume Done Goal (Ok n) (Err cause) goes done = cc
 in_volume Done Goal (Err cause) read goes done = cc
 
 module _ (old new : Loaded) where
-  volume_taken : (read : Read VolumeLine) → Then read (Ok tt) (λ line. VolumeTaken old line (Ok tt) new) → new.tree.next ≡ old.tree.next + 1
-  volume_taken (Ok line) done = ap next_of done.0.3.new_is
+  -- the next number is this one, and where all numbers are those of files, with the tags of their places, they still are
+  abbrev GoesTo : ℕ → Type 0
+  GoesTo next = (new.tree.next ≡ next) × (AreFilled old.tree → AreFilled new.tree)
+
+  same_tree : new.tree ≡ old.tree → GoesTo old.tree.next
+  same_tree same = (ap next_of same, λ filled. subst AreFilled (sym same) filled)
+
+  volume_taken : (read : Read VolumeLine) → Then read (Ok tt) (λ line. VolumeTaken old line (Ok tt) new) → GoesTo (old.tree.next + 1)
+  volume_taken (Ok line) done =
+      let made = done.0.3 in
+      (ap next_of made.new_is, volume_fills old.tree new.tree done.0.0 line.0.max_bytes line.0.max_files made.tag (attributes line.0.given) made.tag_is made.new_is)
   volume_taken (Err cause) done = cc
 
-  limits_set : (read : Result Limits Cause) → LimitsSet old read (Ok tt) new → new.tree.next ≡ old.tree.next
-  limits_set (Ok limits) done = ap (λ (l : Loaded). l.tree.next) done.1
+  limits_set : (read : Result Limits Cause) → LimitsSet old read (Ok tt) new → GoesTo old.tree.next
+  limits_set (Ok limits) done = (ap (λ (l : Loaded). l.tree.next) done.1, λ filled. subst (λ (l : Loaded). AreFilled l.tree) (sym done.1) (filled_alike old.tree (with_limits old.tree limits) refl (λ n. refl) filled))
   limits_set (Err cause) done = cc
 
   -- the number that follows a row
@@ -93,47 +103,47 @@ module _ (old new : Loaded) where
   next_after (Some row) n = if makes_file row.keyword then n + 1 else n
 
   goes_on : (keyword : Keyword) (fields : List (List ℕ)) → takes keyword (length fields) ≡ true → GoesOn old keyword fields (Ok tt) new
-      → new.tree.next ≡ next_after (row_by keyword fields) old.tree.next
+      → GoesTo (next_after (row_by keyword fields) old.tree.next)
   goes_on keyword.Server fields few done = cc
   goes_on keyword.Limits fields few done = limits_set (early_limits old.tree fields) done
   goes_on keyword.Volume [] few done = cc
   goes_on keyword.Volume (path ∷ rest) few done = volume_taken (volume_in old.tree.limits.files (path ∷ rest)) done
   goes_on keyword.Export fields few done =
-      in_volume (λ n line. ExportDone old line (Ok tt) new) (new.tree.next ≡ old.tree.next) (last_root old.tree) (export_in fields)
-      (λ n line it. ap (λ (l : Loaded). l.tree.next) it.1) done
+      in_volume (λ n line. ExportDone old line (Ok tt) new) (GoesTo old.tree.next) (last_root old.tree) (export_in fields)
+      (λ n line it. same_tree (ap (λ (l : Loaded). l.tree) it.1)) done
   goes_on keyword.Dir [] few done = cc
   goes_on keyword.Dir (path ∷ rest) few done =
-      in_volume (λ n line. MakesDir old.tree n line (Ok tt) new.tree × (new.table ≡ old.table)) (new.tree.next ≡ old.tree.next + 1) (last_root old.tree) (dir_in (path ∷ rest))
-      (λ n line it. dir_steps old.tree new.tree n line it.0) done
+      in_volume (λ n line. MakesDir old.tree n line (Ok tt) new.tree × (new.table ≡ old.table)) (GoesTo (old.tree.next + 1)) (last_root old.tree) (dir_in (path ∷ rest))
+      (λ n line it. (dir_steps old.tree new.tree n line it.0, dir_fills old.tree new.tree n line it.0)) done
   goes_on keyword.File [] few done = cc
   goes_on keyword.File (path ∷ rest) few (inl done) =
-      in_volume (λ n line. MakesFile old.tree n line (Ok tt) new.tree × (new.table ≡ old.table)) (new.tree.next ≡ old.tree.next + 1) (last_root old.tree) (file_in old.tree.limits.file_size (path ∷ rest))
-      (λ n line it. file_steps old.tree new.tree n line it.0) done
+      in_volume (λ n line. MakesFile old.tree n line (Ok tt) new.tree × (new.table ≡ old.table)) (GoesTo (old.tree.next + 1)) (last_root old.tree) (file_in old.tree.limits.file_size (path ∷ rest))
+      (λ n line it. (file_steps old.tree new.tree n line it.0, file_fills old.tree new.tree n line it.0)) done
   goes_on keyword.File (path ∷ rest) few (inr (refused, found, wants)) = cc
   goes_on keyword.Link [] few done = cc
   goes_on keyword.Link (path ∷ rest) few done =
-      in_volume (λ n line. MakesLink old.tree n line (Ok tt) new.tree × (new.table ≡ old.table)) (new.tree.next ≡ old.tree.next + 1) (last_root old.tree) (link_in old.tree.limits.link_path (path ∷ rest))
-      (λ n line it. link_steps old.tree new.tree n line it.0) done
+      in_volume (λ n line. MakesLink old.tree n line (Ok tt) new.tree × (new.table ≡ old.table)) (GoesTo (old.tree.next + 1)) (last_root old.tree) (link_in old.tree.limits.link_path (path ∷ rest))
+      (λ n line it. (link_steps old.tree new.tree n line it.0, link_fills old.tree new.tree n line it.0)) done
   goes_on keyword.Hard [] few done = cc
   goes_on keyword.Hard (path ∷ []) few done = cc
   goes_on keyword.Hard (path ∷ target ∷ rest) few done =
-      in_volume (λ n line. AddsName old.tree n line (Ok tt) new.tree × (new.table ≡ old.table)) (new.tree.next ≡ old.tree.next) (last_root old.tree) (hard_in (path ∷ target ∷ rest))
-      (λ n line it. hard_steps old.tree new.tree n line it.0) done
+      in_volume (λ n line. AddsName old.tree n line (Ok tt) new.tree × (new.table ≡ old.table)) (GoesTo old.tree.next) (last_root old.tree) (hard_in (path ∷ target ∷ rest))
+      (λ n line it. (hard_steps old.tree new.tree n line it.0, hard_fills old.tree new.tree n line it.0)) done
 
 -- what a line in order does: where nothing was described, nothing is, or a tree is begun
 abbrev Begun : Option Loaded → Type 0
-Begun new = (loaded : Loaded) × (new ≡ Some loaded) × (loaded.tree.next ≡ 1)
+Begun new = (loaded : Loaded) × (new ≡ Some loaded) × (loaded.tree.next ≡ 1) × AreFilled loaded.tree
 
 abbrev Steps : Option Loaded → Option PathRow → Option Loaded → Type 0
 Steps None row new = (row ≡ None) × ((new ≡ None) ⊎ Begun new)
-Steps (Some old) row new = (loaded : Loaded) × (new ≡ Some loaded) × (loaded.tree.next ≡ next_after old loaded row old.tree.next)
+Steps (Some old) row new = (loaded : Loaded) × (new ≡ Some loaded) × GoesTo old loaded (next_after old loaded row old.tree.next)
 
 begins : (k : Keyword) (fields : List (List ℕ)) (new : Option Loaded) → Begins (begun k fields) (Ok tt) new → Steps None (row_by k fields) new
 begins keyword.Server fields new done = (refl, inr (of (by key_in fields) done))
   where
     of : (read : Result (List ℕ × List (List ℕ)) Cause)
         → Begins (read >>= λ key. Ok (record { tree = record { files = []; next = 1; key = key.0; volumes = []; limits = default_limits }; table = [] })) (Ok tt) new → Begun new
-    of (Ok key) done = (record { tree = record { files = []; next = 1; key = key.0; volumes = []; limits = default_limits }; table = [] }, done.1, refl)
+    of (Ok key) done = (record { tree = record { files = []; next = 1; key = key.0; volumes = []; limits = default_limits }; table = [] }, done.1, refl, record { some = omega arith; none = refl; given = λ n low less. absurd (omega (arith, low, less)); above = λ n le. refl })
     of (Err cause) done = cc
 begins keyword.Limits fields new done = cc
 begins keyword.Volume fields new done = cc
@@ -149,7 +159,7 @@ module _ (new : Option Loaded) where
 
   nothing : (old : Option Loaded) → Asked old (Ok None) (Ok tt) new → Steps old None new
   nothing None done = (refl, inl done.1)
-  nothing (Some old) done = (old, done.1, refl)
+  nothing (Some old) done = (old, done.1, (refl, λ filled. filled))
 
   counted_steps : (old : Option Loaded) (k : Option Keyword) (fields : List (List ℕ)) → Asked old (counted k fields) (Ok tt) new → Steps old (row_if k fields) new
   counted_steps old None fields done = cc
@@ -290,7 +300,7 @@ from_loaded (line ∷ after) old new through =
     let mid : Loaded = steps.0 in
     let done : LineDone (Some old) line (Ok tt) (Some mid) = subst (λ it. LineDone (Some old) line (Ok tt) it) steps.1 through.1 in
     let rest : Through (Some mid) after (Some new) = subst (λ it. Through it after (Some new)) steps.1 through.2 in
-    line_made line after old mid new done steps.2 (rows_of after) (from_loaded after mid new rest)
+    line_made line after old mid new done steps.2.0 (rows_of after) (from_loaded after mid new rest)
 
 -- the files of a description are those of its rows, from number 1 on
 pub all_made : (lines : List (List ℕ)) (new : Loaded) → Through None lines (Some new) → AllMade None lines 1 (making (rows_of lines)) new
@@ -307,3 +317,20 @@ all_made (line ∷ after) new (between, done, rest) =
         let all = from_loaded after begun.0 new (subst (λ it. Through it after (Some new)) begun.1 rest) in
         subst (λ it. AllMade it after 1 (making (rows_of after)) new) (sym begun.1)
         (subst (λ from. AllMade (Some begun.0) after from (making (rows_of after)) new) begun.2 all)
+
+-- ---- their tags
+
+filled_from : (lines : List (List ℕ)) (old new : Loaded) → AreFilled old.tree → Through (Some old) lines (Some new) → AreFilled new.tree
+filled_from [] old new filled through = subst AreFilled (let one : old ≡ new = cc in ap (λ (l : Loaded). l.tree) one) filled
+filled_from (line ∷ after) old new filled (between, done, rest) =
+    let steps = line_steps between (Some old) line done in
+    filled_from after steps.0 new (steps.2.1 filled) (subst (λ it. Through it after (Some new)) steps.1 rest)
+
+-- all numbers that a description gives are those of files, each with the tag of its place
+pub all_filled : (lines : List (List ℕ)) (new : Loaded) → Through None lines (Some new) → AreFilled new.tree
+all_filled [] new through = cc
+all_filled (line ∷ after) new (between, done, rest) = of (λ through. all_filled after new through) (line_steps between None line done).1
+  where
+    of : (Through None after (Some new) → AreFilled new.tree) → (between ≡ None) ⊎ Begun between → AreFilled new.tree
+    of before (inl none) = before (subst (λ it. Through it after (Some new)) none rest)
+    of before (inr begun) = filled_from after begun.0 new begun.3 (subst (λ it. Through it after (Some new)) begun.1 rest)

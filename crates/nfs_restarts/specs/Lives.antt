@@ -1,9 +1,10 @@
 -- The lives of one server, one after another, and what handles name from one to the next.
-use Rattle.std.specs.Prelude.{◌≡◌, ◌≢◌, ◌⊎◌, ℕ, ◌≤◌, true, List, ◌∷◌, ◌++◌, Some, None, Ok}
+use Rattle.std.specs.Prelude.{◌≡◌, ◌≢◌, ◌⊎◌, ℕ, ◌≤◌, true, List, ◌∷◌, ◌++◌, Some, None, is_some, Ok, if◌then◌else◌}
 use Rattle.nfs_handles.specs.Handles.{handle_at, reading, number}
 use Rattle.nfs_handles.specs.declared.reading.Reading.TheVariants.{Live, Stale}
 use Rattle.nfs_inodes.specs.Law.{Law}
 use Rattle.nfs_inodes.specs.Reading.{numbered_files}
+use Rattle.nfs_inodes.specs.Tree.{at}
 use Rattle.nfs_load.specs.Descriptions.{LineDone, Through}
 use Rattle.nfs_load.specs.declared.loaded.Loaded.{Loaded}
 use Rattle.nfs_server.specs.Events.{Done}
@@ -71,3 +72,9 @@ abbrev pub HandlesOfOthersAreStale : Type 0
 HandlesOfOthersAreStale = (one other : Life) → key_of one ≢ key_of other
     → (n : ℕ) (handle : List ℕ) → handle_at (numbered_files one.state.tree) n ≡ Some handle
     → reading (numbered_files other.state.tree) handle ≡ Stale
+
+-- A handle that the earlier life opened with names, in the later, the file of the same path while that lives, and is stale after it.
+abbrev pub DescribedHandlesStay : Type 0
+DescribedHandlesStay = (earlier later : Life) → Follows earlier later
+    → (n : ℕ) (handle : List ℕ) → handle_at (numbered_files earlier.opening.tree) n ≡ Some handle
+    → reading (numbered_files later.state.tree) handle ≡ (if is_some (at n later.state.tree.files) then Live (number n) else Stale)

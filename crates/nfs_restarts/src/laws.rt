@@ -1,11 +1,17 @@
 //! Laws over the definitions alone.
-ghost use Rattle.nfs_restarts.specs.Lives.{HandlesAcrossLives, HandlesOfOthersAreStale};
+ghost use Rattle.nfs_restarts.specs.Lives.{DescribedHandlesStay, HandlesAcrossLives, HandlesOfOthersAreStale};
 
 /// Of two lives with one list of paths and one server key, the later with numbers above all that
 /// the earlier gave: each handle of the earlier reads in the later as the file of the same path, or
 /// is stale (RFC 1813, section 2.6).
 pub fn handles_live_on()
     ensures { HandlesAcrossLives }
+{}
+
+/// Of two such lives: the handles of the files of the description are the same in both, so that a client that
+/// holds one goes on in the later life.
+pub fn described_handles_stay()
+    ensures { DescribedHandlesStay }
 {}
 
 /// Of two lives whose handles have different keys, no handle of the one names a file in the other.

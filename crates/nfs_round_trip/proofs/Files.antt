@@ -191,7 +191,7 @@ module _ (Last : Option Loaded → Type 0) (t : Tree) (law : Law t) (number : �
                 ))
                 (does_made old.tree (free_end old.tree (number w.root) names)
                 (λ (e : PathEnd). MayMake old.tree e.dir e.name (length bytes))
-                (λ (e : PathEnd). Makes (λ tag. after_make_file old.tree e.dir e.name bytes (attributes given) None tag start)) result loaded.tree end free
+                (λ (e : PathEnd). Makes old.tree (λ tag. after_make_file old.tree e.dir e.name bytes (attributes given) None tag start)) result loaded.tree end free
                 (may_make t law number all ns vs old.tree part s f next.at_dir next.has next.rest next.here next.room w (copied_volume number w)
                 next.at_w next.at_vs refl refl g next.lives new
                 (length bytes) (ap (λ k. length (bytes_in k)) is)) it.0)
@@ -220,7 +220,7 @@ module _ (Last : Option Loaded → Type 0) (t : Tree) (law : Law t) (number : �
           ))
           (does_made old.tree (free_end old.tree (number w.root) names)
           (λ (e : PathEnd). MayMakeDirectory old.tree e.dir e.name)
-          (λ (e : PathEnd). Makes (λ tag. after_mkdir old.tree e.dir e.name (attributes given) tag start)) result loaded.tree end free
+          (λ (e : PathEnd). Makes old.tree (λ tag. after_mkdir old.tree e.dir e.name (attributes given) tag start)) result loaded.tree end free
           (may_mkdir t law number all ns vs old.tree part s f next.at_dir next.has next.rest next.here next.room w (copied_volume number w)
           next.at_w next.at_vs refl refl g next.lives new dir) it.0)))
 
@@ -240,7 +240,7 @@ module _ (Last : Option Loaded → Type 0) (t : Tree) (law : Law t) (number : �
           ))
           (does_made old.tree (free_end old.tree (number w.root) names)
           (λ (e : PathEnd). MayMakeLink old.tree e.dir e.name target)
-          (λ (e : PathEnd). Makes (λ tag. after_make_link old.tree e.dir e.name target (link_attributes g.uid g.gid) tag start)) result loaded.tree end free
+          (λ (e : PathEnd). Makes old.tree (λ tag. after_make_link old.tree e.dir e.name target (link_attributes g.uid g.gid) tag start)) result loaded.tree end free
           (may_make_link t law number all ns vs old.tree part s f next.at_dir next.has next.rest next.here next.room w (copied_volume number w)
           next.at_w next.at_vs refl refl g next.lives new target is) it.0)))
 

@@ -281,7 +281,7 @@ goes_held old new keyword.Volume fields said it held =
     let path : made.0 ≡ line.0.path = free_is old.tree line.0.path made.0 made.1 in
     record {
       tree = subst IsKept (sym is)
-          (kept_volume old.tree made.0 line.0.max_bytes line.0.max_files made.3.tag line.0.given made.2 made.3.fits words.ids held.tree);
+          (kept_volume old.tree made.0 line.0.max_bytes line.0.max_files made.3.tag line.0.given made.2 made.3.tag_is.fits words.ids held.tree);
       volumes = subst (All IsVolumeSaid) (sym volumes) (All-push IsVolumeSaid old.tree.volumes volume held.volumes (record {
         word = ap is_said path ∙ words.word;
         path = ap volume_path_in path ∙ words.path ∙ ap Ok (sym path);
@@ -322,7 +322,7 @@ goes_held old new keyword.Dir fields said it held =
     let line = then_of (dir_in fields) _ root.1 in
     let made = line.3.0 in
     held_on old new held
-    (subst IsKept (sym made.3.new_is) (kept_dir old.tree made.0.dir made.3.tag made.0.name line.0.given made.2 made.3.fits
+    (subst IsKept (sym made.3.new_is) (kept_dir old.tree made.0.dir made.3.tag made.0.name line.0.given made.2 made.3.tag_is.fits
     (dir_bound fields line.0 line.1 line.2) held.tree))
     (ap (λ (u : Tree). u.volumes) made.3.new_is ∙ entry_volumes _ made.0.dir made.0.name old.tree.next start) line.3.1
 goes_held old new keyword.File fields said it held = elim it [
@@ -333,7 +333,7 @@ goes_held old new keyword.File fields said it held = elim it [
       let bound = file_bound old.tree.limits.file_size fields line.0 line.1 line.2 in
       held_on old new held
       (subst IsKept (sym made.3.new_is)
-      (kept_file old.tree made.0.dir made.3.tag made.0.name line.0.content line.0.given made.2 made.3.fits bound.0 bound.1 held.tree))
+      (kept_file old.tree made.0.dir made.3.tag made.0.name line.0.content line.0.given made.2 made.3.tag_is.fits bound.0 bound.1 held.tree))
       (ap (λ (u : Tree). u.volumes) made.3.new_is ∙ entry_volumes _ made.0.dir made.0.name old.tree.next start) line.3.1
   | inr memory ↦ absurd (not_both (Ok tt) tt Memory refl memory.0)
 ]
@@ -344,7 +344,7 @@ goes_held old new keyword.Link fields said it held =
     let bound = link_bound old.tree.limits.link_path held.tree.0.limits.link_path fields line.0 line.1 said line.2 in
     held_on old new held
     (subst IsKept (sym made.3.new_is)
-    (kept_link old.tree made.0.dir made.3.tag made.0.name line.0.target line.0.uid line.0.gid made.2 made.3.fits bound.0 bound.1 bound.2 held.tree))
+    (kept_link old.tree made.0.dir made.3.tag made.0.name line.0.target line.0.uid line.0.gid made.2 made.3.tag_is.fits bound.0 bound.1 bound.2 held.tree))
     (ap (λ (u : Tree). u.volumes) made.3.new_is ∙ entry_volumes _ made.0.dir made.0.name old.tree.next start) line.3.1
 goes_held old new keyword.Hard fields said it held =
     let root = root_of (last_root old.tree) _ it in

@@ -154,11 +154,11 @@ module _ (Last : Option Loaded → Type 0) (t : Tree) (law : Law t) (number : �
       (λ result loaded done.
       taken old line result loaded (λ u. IsPart t number all (ns ++ w.root ∷ []) (vs ++ copied_volume number w ∷ []) u)
       (λ result adds. done_map result
-      (λ (made : Makes (λ tag. after_add_volume old.tree w.path w.max_bytes w.max_files (attributes given) tag start) loaded.tree).
+      (λ (made : Makes old.tree (λ tag. after_add_volume old.tree w.path w.max_bytes w.max_files (attributes given) tag start) loaded.tree).
       subst (IsPart t number all (ns ++ w.root ∷ []) (vs ++ copied_volume number w ∷ [])) (sym made.new_is)
       (part_with_volume t law number all ns vs old.tree part w f at_w lives parent index new fresh made.tag))
       (does_made old.tree (free_path old.tree w.path) (λ (p : List ℕ). MayAddVolume old.tree p w.max_bytes w.max_files)
-      (λ (p : List ℕ). Makes (λ tag. after_add_volume old.tree p w.max_bytes w.max_files (attributes given) tag start))
+      (λ (p : List ℕ). Makes old.tree (λ tag. after_add_volume old.tree p w.max_bytes w.max_files (attributes given) tag start))
       result loaded.tree w.path free may_add adds))
       (then_is (volume_in old.tree.limits.files r.0) line [] result (λ (it : VolumeLine). VolumeTaken old it result loaded) r.2 done)))
 

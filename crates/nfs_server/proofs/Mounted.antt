@@ -1,5 +1,5 @@
 -- What became of a call of MOUNT is a step of the server.
-use Rattle.std.proofs.Common.{◌≡◌, ℕ, Bool, true, false, List, ◌++◌, Option, Some, None, refl, sym, ap, subst, ◌∙◌, arith}
+use Rattle.std.proofs.Common.{◌≡◌, ℕ, Bool, true, false, List, ◌++◌, Option, Some, None, refl, sym, ap, subst, ◌∙◌}
 use Rattle.std.proofs.lemmas.Bool.{true≢false}
 use Rattle.std.specs.Prelude.{Result, Ok, Err}
 use Rattle.std.specs.Result.{result_ok}
@@ -111,7 +111,7 @@ module _ (t : Tree) (exports : List (List Export)) (addr : Addr) (call : Call) (
   refused_mount (asked.Mount path) line refused e m reply_is line_is =
       let r : Mounts t exports addr path (Memory refused) old new before after = subst (λ x. Mounts t exports addr path x old new before after) e m in
       λ again.
-      let choice : Choice = record { tag = 0; fits = omega arith; has_memory = false; again = again } in
+      let choice : Choice = record { has_memory = false; again = again } in
       (choice, refl, subst (λ v. MountDecided v false (StateOf old) addr path call (reported reply (Some line)) (StateOf new)) (sym r.0) (r.1, ap (λ x. denied x line) reply_is ∙ ap (denied (accepted_text call.xid SystemErr)) line_is, ap StateOf r.2))
   refused_mount asked.Dump line refused e m reply_is line_is = absurd (true≢false (ap is_granted (sym m.0 ∙ e)))
   refused_mount (asked.Unmount path) line refused e m reply_is line_is = absurd (true≢false (ap is_granted (sym m.0 ∙ e)))

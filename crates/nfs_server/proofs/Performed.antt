@@ -1,5 +1,5 @@
 -- What became of a call of NFS is a step of the server.
-use Rattle.std.proofs.Common.{◌≡◌, ℕ, Bool, true, false, List, [], ◌++◌, Option, Some, None, refl, sym, ap, subst, ◌∙◌, append-nil, arith}
+use Rattle.std.proofs.Common.{◌≡◌, ℕ, Bool, true, false, List, [], ◌++◌, Option, Some, None, refl, sym, ap, subst, ◌∙◌, append-nil}
 use Rattle.std.proofs.lemmas.Bool.{false≢true}
 use Rattle.std.specs.declared.alloc.AllocError.{AllocError}
 use Rattle.nfs_args.specs.Answers.{nfs_text}
@@ -43,7 +43,7 @@ adds_result c (Some doing) (Some (Memory refused)) new before after p = adds_non
 
 -- nothing is chosen but what is said of a retransmission
 abbrev pub no_choice : Bool → Choice
-no_choice again = record { tag = 0; fits = omega arith; has_memory = true; again = again }
+no_choice again = record { has_memory = true; again = again }
 
 -- a procedure that may find no memory may change the tree
 wanting : (args : NfsArgs) (one two : Subject) → on_some (doing_of args) false (λ d. d.takes_memory one two) ≡ true → may_change args ≡ true
@@ -88,11 +88,11 @@ granted_done c None came new before after call reply line unset e performs wrote
 granted_done c (Some doing) came new before after call reply line unset e performs wrote =
     let h : HasEffect c doing new before after = subst (λ d. PerformsAs c (Some doing) d new before after) e performs in
     λ again.
-    let choice : Choice = record { tag = h.tag; fits = h.fits; has_memory = true; again = again } in (
+    let choice : Choice = record { has_memory = true; again = again } in (
       choice,
       refl,
-      subst (λ v. Decided v c doing call h.tag (reported reply line) new) (sym h.granted.verdict)
-          (record { one = h.one; two = h.two; subjects = h.granted.subjects; new_is = h.new_is; answer_is = ap (reported reply) unset ∙ ap granted (wrote _ h.written.text.bytes); encoded = h.written.encoded }),
+      subst (λ v. Decided v c doing call (reported reply line) new) (sym h.granted.verdict)
+          (record { one = h.one; two = h.two; subjects = h.granted.subjects; tag = h.tag; tag_is = h.tag_is; new_is = h.new_is; answer_is = ap (reported reply) unset ∙ ap granted (wrote _ h.written.text.bytes); encoded = h.written.encoded }),
     )
 
 pub denied_done : (c : Scene) (o : Option Doing) (came : Option Done) (new : Tree) (before after : Written) (call : Call) (reply : List ℕ) (line : AuditLine) (rule : Rule) (uid : Option ℕ) → came ≡ Some (Denied rule uid) → PerformsAs c o came new before after
@@ -105,7 +105,7 @@ denied_done c (Some doing) came new before after call reply line rule uid e perf
     λ again. (
       no_choice again,
       refl,
-      subst (λ v. Decided v c doing call 0 (reported reply (Some line)) new) (sym h.verdict)
+      subst (λ v. Decided v c doing call (reported reply (Some line)) new) (sym h.verdict)
           (record {
             new_is = h.new_is;
             encoded = h.written.encoded;
@@ -120,10 +120,10 @@ refused_done c None came new before after call reply line refused asks e perform
 refused_done c (Some doing) came new before after call reply line refused asks e performs reply_is line_is =
     let h : HasNoMemory c doing new before after = subst (λ d. PerformsAs c (Some doing) d new before after) e performs in
     λ again.
-    let choice : Choice = record { tag = 0; fits = omega arith; has_memory = false; again = again } in (
+    let choice : Choice = record { has_memory = false; again = again } in (
       choice,
       refl,
-      subst (λ b. Refusable b (Some doing) c call 0 (reported reply (Some line)) new) (sym (wanting c.args h.one h.two (ap (λ o. on_some o false (λ d. d.takes_memory h.one h.two)) asks ∙ h.takes)))
+      subst (λ b. Refusable b (Some doing) c call (reported reply (Some line)) new) (sym (wanting c.args h.one h.two (ap (λ o. on_some o false (λ d. d.takes_memory h.one h.two)) asks ∙ h.takes)))
           (record { new_is = h.new_is; answer_is = ap (λ r. denied r line) reply_is ∙ ap (denied (accepted_text call.xid SystemErr)) line_is }),
     )
 
@@ -132,9 +132,9 @@ pub no_place : (c : Scene) (o : Option Doing) (new : Tree) (call : Call) (reply 
     → reply ≡ accepted_text call.xid SystemErr → line ≡ line_of c.caller.addr call reason.Memory
     → Performs o c call (reported reply (Some line)) new
 no_place c o new call reply line changes new_is reply_is line_is = λ again.
-    let choice : Choice = record { tag = 0; fits = omega arith; has_memory = false; again = again } in (
+    let choice : Choice = record { has_memory = false; again = again } in (
       choice,
       refl,
-      subst (λ b. Refusable b o c call 0 (reported reply (Some line)) new) (sym changes)
+      subst (λ b. Refusable b o c call (reported reply (Some line)) new) (sym changes)
           (record { new_is = new_is; answer_is = ap (λ r. denied r line) reply_is ∙ ap (denied (accepted_text call.xid SystemErr)) line_is }),
     )

@@ -35,14 +35,14 @@ by_grant answer reply e = none_line answer None (ap (λ (a : Answer). a.line) e)
 
 -- ---- of NFS
 
-decided : (verdict : Option Rule) (c : Scene) (doing : Doing) (call : Call) (tag : ℕ) (answer : Answer) (new : Tree) → is_some verdict ≡ false → Decided verdict c doing call tag answer new → IsSpared answer.line
-decided None c doing call tag answer new kept done = by_grant answer _ done.answer_is
-decided (Some rule) c doing call tag answer new kept done = cc
+decided : (verdict : Option Rule) (c : Scene) (doing : Doing) (call : Call) (answer : Answer) (new : Tree) → is_some verdict ≡ false → Decided verdict c doing call answer new → IsSpared answer.line
+decided None c doing call answer new kept done = by_grant answer _ done.answer_is
+decided (Some rule) c doing call answer new kept done = cc
 
-refusable : (refused : Bool) (procedure : Option Doing) (c : Scene) (call : Call) (tag : ℕ) (answer : Answer) (new : Tree) → is_some (verdict_in c) ≡ false → Refusable refused procedure c call tag answer new → IsSpared answer.line
-refusable true procedure c call tag answer new kept none = none_line answer (Some _) (ap (λ (a : Answer). a.line) none.answer_is) refl
-refusable false (Some doing) c call tag answer new kept done = decided (verdict_in c) c doing call tag answer new kept done
-refusable false None c call tag answer new kept done = by_grant answer _ done.0
+refusable : (refused : Bool) (procedure : Option Doing) (c : Scene) (call : Call) (answer : Answer) (new : Tree) → is_some (verdict_in c) ≡ false → Refusable refused procedure c call answer new → IsSpared answer.line
+refusable true procedure c call answer new kept none = none_line answer (Some _) (ap (λ (a : Answer). a.line) none.answer_is) refl
+refusable false (Some doing) c call answer new kept done = decided (verdict_in c) c doing call answer new kept done
+refusable false None c call answer new kept done = by_grant answer _ done.0
 
 -- ---- of MOUNT
 
@@ -67,8 +67,8 @@ module _ (s : Held) (event : Event) (call : Call) (choice : Choice) (answer : An
   nfs_cached : (changes : Bool) (reply : Option (List ℕ)) (caller : Caller) (args : NfsArgs) (kept : List Place) → not (changes && is_some reply) && is_some (verdict_in (scene_of s.setup s.state event caller args)) ≡ false
       → AnswersCached changes reply (Requested (Some (OfNfs caller args)) s.setup s.state event call choice answer new) s event answer new kept → IsSpared answer.line
   nfs_cached true (Some reply) caller args kept passes a = by_grant answer reply a.0
-  nfs_cached true None caller args kept passes a = refusable (not choice.has_memory && may_change args) (doing_of args) (scene_of s.setup s.state event caller args) call choice.tag answer new.tree passes a.0.0
-  nfs_cached false reply caller args kept passes a = refusable (not choice.has_memory && may_change args) (doing_of args) (scene_of s.setup s.state event caller args) call choice.tag answer new.tree passes a.0.0
+  nfs_cached true None caller args kept passes a = refusable (not choice.has_memory && may_change args) (doing_of args) (scene_of s.setup s.state event caller args) call answer new.tree passes a.0.0
+  nfs_cached false reply caller args kept passes a = refusable (not choice.has_memory && may_change args) (doing_of args) (scene_of s.setup s.state event caller args) call answer new.tree passes a.0.0
 
   judged : (failure : Option RpcRule) (request : Option Request) (reply : Option (List ℕ)) (kept : List Place) → fails_judged failure request reply s event ≡ false
       → AnswersCached (is_change failure request) reply (Judged failure request s.setup s.state event call choice answer new) s event answer new kept → IsSpared answer.line

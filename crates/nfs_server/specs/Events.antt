@@ -1,5 +1,5 @@
 -- Events, answers, and what a server may choose.
-use Rattle.std.specs.Prelude.{ℕ, ◌<◌, ◌^◌, Bool, List, Option, None, Some}
+use Rattle.std.specs.Prelude.{ℕ, Bool, List, Option, None, Some}
 use Rattle.nfs_attrs.specs.declared.moment.Moment.{Moment}
 use Rattle.nfs_exports.specs.declared.addr.Addr.{Addr}
 use Rattle.nfs_server.specs.declared.audit_line.AuditLine.{AuditLine}
@@ -15,10 +15,8 @@ pub record Answer : Type 0 where
   pub reply : Option (List ℕ)
   pub line : Option AuditLine
 
--- what a server may choose at an event: the tag of a new file, whether there is memory, and whether a retransmission that isn't surely held is answered as one
+-- what a server may choose at an event: whether there is memory, and whether a retransmission that isn't surely held is answered as one
 pub record Choice : Type 0 where
-  pub tag : ℕ
-  pub fits : tag < 2 ^ 32
   pub has_memory : Bool
   pub again : Bool
 

@@ -9,6 +9,8 @@ use Rattle.nfs_args.specs.declared.mount_args.MountArgs.{MountArgs}
 use Rattle.nfs_args.specs.declared.mount_args.MountArgs.TheVariants as asked
 use Rattle.nfs_exports.specs.declared.addr.Addr.{Addr}
 use Rattle.nfs_exports.specs.declared.export_table.Export.{Export}
+use Rattle.nfs_handles.specs.Tags.{IsNextTag}
+use Rattle.nfs_inodes.specs.Reading.{numbered_files}
 use Rattle.nfs_inodes.specs.Tree.{Tree}
 use Rattle.nfs_mount.specs.MountAnswers.{IsMountEncoded, denied_answer, dump_answer, export_answer, granted_answer, root_of}
 use Rattle.nfs_mount.specs.MountRules.{mount_verdict}
@@ -49,11 +51,14 @@ pub record State : Type 0 where
 abbrev pub success : Call → List ℕ → List ℕ
 success call result = accepted_text call.xid Success ++ result
 
--- The tree has the effect of the procedure, and the reply its result, as it is encoded; both are of what the handles name.
-pub record HasDone (c : Scene) (doing : Doing) (call : Call) (tag : ℕ) (answer : Answer) (new : Tree) : Type 0 where
+-- The tree has the effect of the procedure, with the next tag for a new file, and the reply its result, as it is
+-- encoded; both are of what the handles name.
+pub record HasDone (c : Scene) (doing : Doing) (call : Call) (answer : Answer) (new : Tree) : Type 0 where
   pub one : Subject
   pub two : Subject
   pub subjects : subjects_in c ≡ Some (one, two)
+  pub tag : ℕ
+  pub tag_is : IsNextTag (numbered_files c.tree) tag
   pub new_is : new ≡ doing.effect one two c.now tag
   pub answer_is : answer ≡ granted (success call (nfs_text (doing.granted one two new)))
   pub encoded : IsEncoded (doing.granted one two new)
@@ -71,19 +76,19 @@ pub record IsDenied (c : Scene) (doing : Doing) (call : Call) (rule : Rule) (ans
   pub encoded : IsEncoded (doing.denied (status_of rule) (seen_in c))
 
 -- by the first rule that fails
-abbrev pub Decided : Option Rule → Scene → Doing → Call → ℕ → Answer → Tree → Type 0
-Decided (Some rule) c doing call tag answer new = IsDenied c doing call rule answer new
-Decided None c doing call tag answer new = HasDone c doing call tag answer new
+abbrev pub Decided : Option Rule → Scene → Doing → Call → Answer → Tree → Type 0
+Decided (Some rule) c doing call answer new = IsDenied c doing call rule answer new
+Decided None c doing call answer new = HasDone c doing call answer new
 
 -- By whether it is refused for memory. A procedure that does nothing has an empty result.
-abbrev pub Refusable : Bool → Option Doing → Scene → Call → ℕ → Answer → Tree → Type 0
-Refusable true procedure c call tag answer new = HasNone c call answer new
-Refusable false (Some doing) c call tag answer new = Decided (verdict_in c) c doing call tag answer new
-Refusable false None c call tag answer new = (answer ≡ granted (success call [])) × (new ≡ c.tree)
+abbrev pub Refusable : Bool → Option Doing → Scene → Call → Answer → Tree → Type 0
+Refusable true procedure c call answer new = HasNone c call answer new
+Refusable false (Some doing) c call answer new = Decided (verdict_in c) c doing call answer new
+Refusable false None c call answer new = (answer ≡ granted (success call [])) × (new ≡ c.tree)
 
 -- only a call that may change the tree wants memory
 abbrev pub Performed : Option Doing → Scene → Call → Choice → Answer → Tree → Type 0
-Performed procedure c call choice answer new = Refusable (not choice.has_memory && may_change c.args) procedure c call choice.tag answer new
+Performed procedure c call choice answer new = Refusable (not choice.has_memory && may_change c.args) procedure c call answer new
 
 -- ---- a call of MOUNT
 

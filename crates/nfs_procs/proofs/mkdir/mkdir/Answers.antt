@@ -16,7 +16,7 @@ pub returns : goal.returns
 returns c =
     let plans = c.in-Ok.ensures in
     made_directory (scene c.args.tree.now c.args.call.now (nfs.Mkdir c.args.args.now)) c.args.args.now plans.0 c.in-Ok.plan c.mkdir.new.self c.in-Ok-mkdir.made.0 c.change.result _ _ _ plans.1 plans.2
-    (subst (λ name. Makes (λ tag. after_mkdir c.args.tree.now c.in-Ok.plan.dir.attributes.fileid name c.in-Ok.plan.given tag c.args.call.now.moment) c.mkdir.new.self) c.bytes.ensures c.in-Ok-mkdir.ensures.ok)
+    (subst (λ name. Makes c.args.tree.now (λ tag. after_mkdir c.args.tree.now c.in-Ok.plan.dir.attributes.fileid name c.in-Ok.plan.given tag c.args.call.now.moment) c.mkdir.new.self) c.bytes.ensures c.in-Ok-mkdir.ensures.ok)
     c.in-Ok-mkdir.ensures.number (c.change.ensures ∙ ap (change (Some c.in-Ok.plan.dir.attributes)) c.attributes.ensures) c.u32.ensures.text c.write_new_file.ensures.text c.write_new_file.ensures.encoded
 
 pub returns-in-Err : goal.returns-in-Err

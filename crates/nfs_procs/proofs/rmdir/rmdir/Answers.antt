@@ -19,7 +19,7 @@ remove_entry-requires c = record {
 
 pub returns-in-Ok : goal.returns-in-Ok
 returns-in-Ok c =
-    removes (scene c.args.tree.now c.args.call.now (nfs.Rmdir c.args.args.now)) (procedure.rmdir c.args.args.now) (λ dir. answer.Rmdir (Ok dir)) c.args.args.now.name c.bytes.result.now c.in-Ok.plan c.in-Ok.ensures.0 c.remove_entry.new.tree _ _ c.in-Ok.ensures.1 c.in-Ok.ensures.2 c.bytes.ensures refl refl
+    removes (scene c.args.tree.now c.args.call.now (nfs.Rmdir c.args.args.now)) (procedure.rmdir c.args.args.now) (λ dir. answer.Rmdir (Ok dir)) c.args.args.now.name c.bytes.result.now c.in-Ok.plan c.in-Ok.ensures.0 c.remove_entry.new.tree _ _ c.in-Ok.ensures.1 c.in-Ok.ensures.2 c.bytes.ensures (λ tag. refl) refl
     c.remove_entry.ensures.tree (record { text = c.remove_entry.ensures.text; encoded = granted_encoded answer.Rmdir IsWcc IsWcc wcc_text _ c.remove_entry.ensures.encoded })
 
 pub returns-in-Err : goal.returns-in-Err

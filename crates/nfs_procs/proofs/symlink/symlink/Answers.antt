@@ -17,8 +17,8 @@ returns c =
     let plans = c.in-Ok.ensures in
     let plan = c.in-Ok.plan in
     made_link (scene c.args.tree.now c.args.call.now (nfs.Symlink c.args.args.now)) c.args.args.now plans.0 plan c.make_link.new.self c.in-Ok-make_link.made.0 c.change.result _ _ _ plans.1 plans.2
-    (subst (λ path. Makes (λ tag. after_make_link c.args.tree.now plan.dir.attributes.fileid c.args.args.now.place.name path plan.given tag c.args.call.now.moment) c.make_link.new.self) c.bytes-2.ensures
-    (subst (λ name. Makes (λ tag. after_make_link c.args.tree.now plan.dir.attributes.fileid name c.bytes-2.result.now plan.given tag c.args.call.now.moment) c.make_link.new.self) c.bytes.ensures c.in-Ok-make_link.ensures.ok))
+    (subst (λ path. Makes c.args.tree.now (λ tag. after_make_link c.args.tree.now plan.dir.attributes.fileid c.args.args.now.place.name path plan.given tag c.args.call.now.moment) c.make_link.new.self) c.bytes-2.ensures
+    (subst (λ name. Makes c.args.tree.now (λ tag. after_make_link c.args.tree.now plan.dir.attributes.fileid name c.bytes-2.result.now plan.given tag c.args.call.now.moment) c.make_link.new.self) c.bytes.ensures c.in-Ok-make_link.ensures.ok))
     c.in-Ok-make_link.ensures.number (c.change.ensures ∙ ap (change (Some plan.dir.attributes)) c.attributes.ensures) c.u32.ensures.text c.write_new_file.ensures.text c.write_new_file.ensures.encoded
 
 pub returns-in-Err : goal.returns-in-Err

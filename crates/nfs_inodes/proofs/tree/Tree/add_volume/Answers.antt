@@ -40,8 +40,8 @@ invariant_of-self-2 c = subst (λ (n : List StoredVolume). Agrees (counted_tree_
 
 pub returns-clause-ok : goal.returns-clause-ok
 returns-clause-ok c =
-    subst (λ (n : List StoredVolume). Makes (λ tag. after_add_volume c.args.self.now c.args.path.now c.args.max_bytes c.args.max_files c.args.given.now tag c.args.now) (tree_in (counted_tree_of c.self.inside.limits c.add.new.self n))) (sym (c.append.ensures ∙ ap (λ l. l ++ the_share c ∷ []) c.reserve.ensures.items))
-    (subst (λ (path : List ℕ). Makes (λ tag. after_add_volume c.args.self.now path c.args.max_bytes c.args.max_files c.args.given.now tag c.args.now) (tree_in (counted_tree_of c.self.inside.limits c.add.new.self (c.self.inside.volumes.items ++ the_share c ∷ [])))) c.in_ok-path.ensures
-    (subst (λ (t : Tree). Makes (λ tag. after_add_volume t c.in_ok-path.path.items c.args.max_bytes c.args.max_files c.args.given.now tag c.args.now) (tree_in (counted_tree_of c.self.inside.limits c.add.new.self (c.self.inside.volumes.items ++ the_share c ∷ [])))) c.self.view_is
+    subst (λ (n : List StoredVolume). Makes c.args.self.now (λ tag. after_add_volume c.args.self.now c.args.path.now c.args.max_bytes c.args.max_files c.args.given.now tag c.args.now) (tree_in (counted_tree_of c.self.inside.limits c.add.new.self n))) (sym (c.append.ensures ∙ ap (λ l. l ++ the_share c ∷ []) c.reserve.ensures.items))
+    (subst (λ (path : List ℕ). Makes c.args.self.now (λ tag. after_add_volume c.args.self.now path c.args.max_bytes c.args.max_files c.args.given.now tag c.args.now) (tree_in (counted_tree_of c.self.inside.limits c.add.new.self (c.self.inside.volumes.items ++ the_share c ∷ [])))) c.in_ok-path.ensures
+    (subst (λ (t : Tree). Makes t (λ tag. after_add_volume t c.in_ok-path.path.items c.args.max_bytes c.args.max_files c.args.given.now tag c.args.now) (tree_in (counted_tree_of c.self.inside.limits c.add.new.self (c.self.inside.volumes.items ++ the_share c ∷ [])))) c.self.view_is
     (stored_view_after_add_volume c.self.inside.files c.self.inside.volumes.items c.in_ok-path.path.items c.args.max_bytes c.args.max_files c.args.given.now c.args.now c.self.invariant (may c)
     c.new-stored_file.result (its_root c) (its_links c) (bounded c.ranges.max_bytes) (bounded c.ranges.max_files) c.add.new.self c.in_ok-root.ensures.adds (the_share c) (is_counted c))))
