@@ -10,6 +10,7 @@ use Rattle.nfs_handles.specs.declared.reading.Reading.{Reading}
 use Rattle.nfs_handles.specs.declared.reading.Reading.TheVariants.{Live, Stale}
 use Rattle.nfs_handles.proofs.Handles.{handles_name_one, judged, names, history_checks}
 use Rattle.nfs_handles.proofs.Lookups.{live_is_given}
+use Rattle.nfs_inodes.proofs.Lists.{not_both}
 use Rattle.nfs_inodes.proofs.Maps.{at_shows}
 use Rattle.nfs_inodes.specs.Law.{Law}
 use Rattle.nfs_inodes.specs.Reading.{numbered_files}
@@ -175,13 +176,27 @@ handle_opened life n = ap (λ (t : Tree). handle_at (numbered_files t) n) life.o
     of None = refl
     of (Some f) = refl
 
+-- a life opens with the handles of the files that its description makes, and no others
+is_described : (life : Life) (n : ℕ) (handle : List ℕ) → handle_at (numbered_files life.opening.tree) n ≡ Some handle → (1 ≤ n) × (n < life.loaded.tree.next)
+is_described life n handle is = by n (cases_lt n life.loaded.tree.next)
+    (λ none. not_both (handle_opened life n ∙ ap (option_map (λ tag. handle_text (key_of life) tag n)) none) is)
+  where
+    filled : AreFilled life.loaded.tree
+    filled = all_filled life.lines life.loaded life.described
+
+    by : (m : ℕ) → (m < life.loaded.tree.next) ⊎ (life.loaded.tree.next ≤ m) → (tag_there life.loaded.tree m ≡ None → ⊥) → (1 ≤ m) × (m < life.loaded.tree.next)
+    by zero order some = absurd (some filled.none)
+    by (suc m) (inl below) some = (omega arith, below)
+    by (suc m) (inr above) some = absurd (some (filled.above (suc m) above))
+
 pub described_handles_stay : DescribedHandlesStay
 described_handles_stay earlier later follows n handle is =
     let key : key_of later ≡ key_of earlier = ap (λ k. life_key k (rows_of later.lines)) follows.key ∙ ap (life_key earlier.loaded.tree.key) follows.paths in
     let there : handle_at (numbered_files later.opening.tree) n ≡ Some handle =
     handle_opened later n ∙ ap (λ k. option_map (λ tag. handle_text k tag n) (tag_there later.loaded.tree n)) key
     ∙ ap (option_map (λ tag. handle_text (key_of earlier) tag n)) (same_tags earlier later follows n) ∙ sym (handle_opened earlier n) ∙ is in
-    (names_on later).handles handle n (handles_name_one.read (numbered_files later.opening.tree) n handle later.opens_lawful.numbers there)
+    let given = is_described later n handle there in
+    (in_both earlier later follows n given.0 given.1, (names_on later).handles handle n (handles_name_one.read (numbered_files later.opening.tree) n handle later.opens_lawful.numbers there))
 
 -- ---- another key
 

@@ -77,4 +77,5 @@ HandlesOfOthersAreStale = (one other : Life) → key_of one ≢ key_of other
 abbrev pub DescribedHandlesStay : Type 0
 DescribedHandlesStay = (earlier later : Life) → Follows earlier later
     → (n : ℕ) (handle : List ℕ) → handle_at (numbered_files earlier.opening.tree) n ≡ Some handle
-    → reading (numbered_files later.state.tree) handle ≡ (if is_some (at n later.state.tree.files) then Live (number n) else Stale)
+    → IsMadeInBoth earlier later n
+    × (reading (numbered_files later.state.tree) handle ≡ (if is_some (at n later.state.tree.files) then Live (number n) else Stale))

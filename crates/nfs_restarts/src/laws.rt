@@ -8,8 +8,8 @@ pub fn handles_live_on()
     ensures { HandlesAcrossLives }
 {}
 
-/// Of two such lives: the handles of the files of the description are the same in both, so that a client that
-/// holds one goes on in the later life.
+/// Of two such lives: a handle of a file of the description names, in the later too, the file of the same path
+/// while that lives. So a client that holds one goes on.
 pub fn described_handles_stay()
     ensures { DescribedHandlesStay }
 {}
