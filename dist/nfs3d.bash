@@ -18,7 +18,7 @@ _nfs3d() {
     case ${COMP_WORDS[1]}:$word in
     check:-*) COMPREPLY=($(compgen -W "--mount --export --bytes --files --chown --strict --all --help" -- "$word")) ;;
     serve:-*) COMPREPLY=($(compgen -W "--mount --export --bytes --files --chown --strict --listen --port --register --connections --clients --idle --cache --audit --audit-failed --audit-skip --times --names --save --save-every --key --verbose --help" -- "$word")) ;;
-    describe:-*) COMPREPLY=($(compgen -W "--mount --export --bytes --files --chown --strict --key --help" -- "$word")) ;;
+    describe:-*) COMPREPLY=($(compgen -W "--mount --export --bytes --files --chown --times --strict --key --help" -- "$word")) ;;
     replay:-*) COMPREPLY=($(compgen -W "--mount --export --bytes --files --chown --cache --save --key --decode --names --help" -- "$word")) ;;
     why:-*) COMPREPLY=($(compgen -W "--mount --export --bytes --files --chown --quiet --help" -- "$word")) ;;
     exports:-* | extract:-*) COMPREPLY=($(compgen -W "--mount --export --bytes --files --chown --help" -- "$word")) ;;

@@ -7,9 +7,16 @@ disk=$work/disk
 tests/describe/fill "$disk"
 run describe "$disk" --mount /share --export '*=ro' --key 6e66733364000001
 mv "$work/out" "$work/described"
+run describe "$disk" --mount /share --export '*=ro' --key 6e66733364000001 --times
+mv "$work/out" "$work/timed"
+grep -v '^times ' "$work/timed" | same "$work/described" -
+ok $? "describe --times adds lines of times"
+find "$disk" \( -type d -o -links 1 \) -printf 'times /%P %A@ %T@ %C@\n' | sed 's/\(\.[0-9]\{9\}\)[0-9]*/\1/g; s/\.0\{9\}//g' | sort >"$work/wanted"
+awk 'NR == FNR { if ($1 == "hard") twice[$3]; next } $1 == "times" && !($2 in twice)' "$work/timed" "$work/timed" | sort | same "$work/wanted" -
+ok $? "they are the times that find prints"
 run replay "$disk" examples/null.script --mount /share --export '*=ro' --save "$work/saved" --key 6e66733364000001
-ended 0 && quiet && same "$work/described" "$work/saved"
-ok $? "the tree of a directory is the one that its description has"
+ended 0 && quiet && same "$work/timed" "$work/saved"
+ok $? "the tree of a directory is the one that its description with times has"
 run check "$disk" --mount /share --export '*=ro'
 mv "$work/out" "$work/totals"
 run check "$work/described"

@@ -59,6 +59,7 @@ sattr="00000001 000001ff 00000000 00000000 00000000 00000000 00000000"
     echo "server 00112233445566ff"
     sed -n '2,5p' "$work/odd.tree"
     echo "link /d/good 0 0 keep"
+    printf 'times %s\n' '/ 0 1 1' '/d 0 1 1' '/d/keep 0 0 1' '/d/good 1 1 1'
 } >"$work/wanted"
 run replay "$work/odd.tree" "$work/calls" --save "$work/saved" --key 00112233445566ff
 ended 1 && [ "$(grep -c '^reply ' "$work/out")" -eq 7 ] && ! grep -q '^deny ' "$work/out" &&
@@ -86,7 +87,37 @@ for script in examples/*.script tests/scripts/procedure-*.script; do
     run replay "$work/saved" "$work/show"
     [ -s "$work/wanted" ] && tests/describe/paths "$work/out" | sed 's/ link mode=0[0-7]*/ link/' | sort | same "$work/wanted" -
     ok $? "the tree that $script leaves is the same, saved and loaded"
+    run replay "$work/saved" "$work/nothing" --save "$work/twice"
+    tail -n +2 "$work/saved" >"$work/wanted" && tail -n +2 "$work/twice" | same "$work/wanted" -
+    ok $? "the tree that $script leaves is saved as the same text, once it was saved and loaded"
 done
+
+# The times of files are saved and loaded: as SETATTR and the server's clock gave them, also more nanoseconds than a second has.
+printf 'server 0102030405060708\nvolume /v 100 10 0755 0 0\nexport * rw,no_root_squash\ndir /d 0755 0 0\nfile /f 0644 0 0 -\nhard /d/g /f\nlink /l 0 0 /f\n' >"$work/timed.tree"
+cp "$work/timed.tree" "$work/wanted"
+cat >>"$work/timed.tree" <<END
+times /d/g 1700000000.25 5+4000000000 4294967295
+times / 1.000000001 0 0.5
+times /l 0 0 0
+END
+cat >>"$work/wanted" <<END
+times / 1.000000001 0 0.500000000
+times /f 1700000000.250000000 5+4000000000 4294967295
+END
+run replay "$work/timed.tree" "$work/nothing" --save "$work/saved" --key 0102030405060708
+ended 0 && same "$work/wanted" "$work/saved"
+ok $? "times are written for the files whose times are not 0, by their first names"
+printf 'ask 10.0.0.1 0 0 stat /v%s\n' "" /d /d/g /l >"$work/asked"
+run replay "$work/saved" "$work/asked" --decode
+sed -n 's/.*\( atime=.*\)/\1/p' "$work/out" >"$work/got"
+cat >"$work/wanted" <<END
+ atime=1+1ns mtime=0 ctime=0+500000000ns
+ atime=0 mtime=0 ctime=0
+ atime=1700000000+250000000ns mtime=5+4000000000ns ctime=4294967295
+ atime=0 mtime=0 ctime=0
+END
+same "$work/wanted" "$work/got"
+ok $? "GETATTR returns the times that are described"
 
 # A file that can't be written: it is reported what the system says and what to do, before anything is run. The file is as it
 # was, and nothing is beside it.
@@ -179,13 +210,14 @@ serving "$work/tree" --connections 1 --save "$work/left.tree" --key 010203040506
 "$work/load" "$port" make 1 1 20 >"$work/out" && server_ends 0 && serves_quietly
 ok $? "serve --save ends without a fault"
 run replay "$work/tree" examples/null.script --save "$work/same.tree" --key 0102030405060708
-ended 0 && same "$work/same.tree" "$work/left.tree"
+ended 0 && grep -v '^times ' "$work/left.tree" | same "$work/same.tree" -
 ok $? "serve --save writes the tree that clients leave"
 
 compiles touch clients/touch.c
 printf 'server 0102030405060708\nvolume /a 1000000 20 0755 0 0\nexport 127.0.0.0/8 rw,no_root_squash\n' >"$work/small.tree"
 serving "$work/small.tree" --connections 1 --save "$work/left.tree"
-"$work/touch" "$port" 127.0.0.1 /a left && server_ends 0 && grep -qx 'file /left 0644 0 0 -' "$work/left.tree" && [ "$(wc -l <"$work/left.tree")" -eq 4 ]
+"$work/touch" "$port" 127.0.0.1 /a left && server_ends 0 && grep -qx 'file /left 0644 0 0 -' "$work/left.tree" &&
+    [ "$(grep -vc '^times ' "$work/left.tree")" -eq 4 ] && [ "$(grep -c '^times / 0 \|^times /left [1-9]' "$work/left.tree")" -eq 2 ]
 ok $? "serve --save writes a file that a client made and left"
 
 # Between turns the tree is saved only where it has changed. Each description that is written has another key.

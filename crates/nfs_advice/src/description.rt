@@ -73,6 +73,9 @@ fn bad_path_of(line: Span<'_>) -> Span<'_>
     ensures { result.line.now ≡ line.entry.line.now }
 {
     let path = line.word(1).unwrap_or(line);
+    if line.word(0).unwrap_or(line).bytes() == b"times".as_slice() {
+        return path;
+    }
     if Fields::new(Words::new(path.bytes())).path().is_err() {
         return path;
     }

@@ -18,7 +18,7 @@ pub enum EarlierReason {
     Taken,
     /// So it is, in a line that may have its two paths in the wrong order.
     TakenByHardLink,
-    /// The file that gets a hard link is missing.
+    /// The file that gets a hard link or times is missing.
     NoTarget,
     /// It is a directory.
     TargetIsDirectory,
@@ -223,11 +223,12 @@ fn reason_of_taken(above: Above<'_>, line: &[u8]) -> EarlierReason {
     }
 }
 
-/// The second path of a line, which names no file, or a directory.
+/// The path of a `times` line or the second one of another, which names no file, or a directory.
 pub(crate) fn no_target<'a>(above: Above<'a>, line: Span<'a>) -> Advice<'a>
     ensures { result.span.line.now ≡ line.entry.line.now }
 {
-    let word = line.word(2).unwrap_or(line);
+    let is_times = word_of(line.bytes(), 0) == b"times".as_slice();
+    let word = line.word(if is_times { 1 } else { 2 }).unwrap_or(line);
     match above.maker_of(word.bytes()) {
         Some(maker) => Advice::new(
             word,

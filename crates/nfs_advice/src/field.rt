@@ -29,6 +29,12 @@ pub enum Field {
     Content,
     /// What a link holds.
     Target,
+    /// When a file was read last.
+    Atime,
+    /// When it was written last.
+    Mtime,
+    /// When its attributes were changed last.
+    Ctime,
     /// The bytes that a regular file may have.
     FileSize,
     /// The links that a file may have.
@@ -55,6 +61,9 @@ impl Field {
             Field::Old => "OLD",
             Field::Content => "CONTENT",
             Field::Target => "TARGET",
+            Field::Atime => "ATIME",
+            Field::Mtime => "MTIME",
+            Field::Ctime => "CTIME",
             Field::FileSize => "file-size=N",
             Field::Links => "links=N",
             Field::LinkPath => "link-path=N",
@@ -98,8 +107,10 @@ const LINK: [Field; 4] = [Field::Path, Field::Uid, Field::Gid, Field::Target];
 
 const HARD: [Field; 2] = [Field::Path, Field::Old];
 
+const TIMES: [Field; 4] = [Field::Path, Field::Atime, Field::Mtime, Field::Ctime];
+
 // The words that lines begin with.
-const KEYWORDS: [(&[u8], &[Field]); 8] = [
+const KEYWORDS: [(&[u8], &[Field]); 9] = [
     (b"server", &SERVER),
     (b"limits", &LIMITS),
     (b"volume", &VOLUME),
@@ -108,6 +119,7 @@ const KEYWORDS: [(&[u8], &[Field]); 8] = [
     (b"file", &FILE),
     (b"link", &LINK),
     (b"hard", &HARD),
+    (b"times", &TIMES),
 ];
 
 /// The fields of the lines that begin with this word, in their order.

@@ -45,6 +45,8 @@ pub enum NumberFault {
     NoDigit,
     /// A volume has no file.
     NoFile,
+    /// It is no time.
+    NoTime,
     /// It is below the field's least number.
     Small(u64),
     /// It is above the field's largest number.
@@ -64,6 +66,9 @@ impl NumberFault {
             NumberFault::Name => "write the number that id prints, not the name",
             NumberFault::NoDigit => "write only decimal digits",
             NumberFault::NoFile => "a volume has at least one file, its root",
+            NumberFault::NoTime => {
+                "write the seconds since 1970, at most 4,294,967,295, and after a point up to nine digits"
+            }
             NumberFault::Small(_) => "it is too small, below ",
             NumberFault::Large(_) => "it is too large, above ",
         }
@@ -145,11 +150,15 @@ fn is_refused(field: Field, word: &[u8], bounds: (u64, u64)) -> bool {
         Field::Mode => fields.mode().is_err(),
         Field::Uid | Field::Gid => fields.id().is_err(),
         Field::Bytes | Field::Files => fields.number(bounds.0, bounds.1).is_err(),
+        Field::Atime | Field::Mtime | Field::Ctime => fields.moment().is_err(),
         _ => false,
     }
 }
 
 fn fault_of(field: Field, word: &[u8], bounds: (u64, u64)) -> NumberFault {
+    if field == Field::Atime || field == Field::Mtime || field == Field::Ctime {
+        return NumberFault::NoTime;
+    }
     if has_prefix(word) {
         return NumberFault::Prefix;
     }

@@ -256,6 +256,13 @@ impl<'a, 'w> Describe<'a, 'w> {
     {
         self.words.get_flag("strict")
     }
+
+    /// Whether times are described.
+    pub fn has_times(&self) -> bool
+        ensures { IsFlag self.now.words.now (codes "times") result }
+    {
+        self.words.get_flag("times")
+    }
 }
 
 /// The words of `extract`.

@@ -52,7 +52,7 @@ pub(crate) const DESCRIBE: CommandRow = CommandRow {
     args: &DESCRIBE_ARGS,
 };
 
-const DESCRIBE_ARGS: [ArgRow; 8] = [
+const DESCRIBE_ARGS: [ArgRow; 9] = [
     ArgRow {
         id: "directory",
         value: "DIRECTORY",
@@ -64,6 +64,12 @@ const DESCRIBE_ARGS: [ArgRow; 8] = [
     BYTES,
     FILES,
     CHOWN,
+    ArgRow {
+        id: "times",
+        value: "",
+        help: "Describe the times of files too",
+        takes: Takes::Flag,
+    },
     STRICT,
     KEY,
 ];

@@ -32,12 +32,20 @@ pub fn describe_directory<R: Files + Print + Eprint + RandomSource + AllocGlobal
         words.directory(),
         words.sharing(),
         Some(key),
-        Purpose::Describing,
+        purpose_of(words),
     )?;
     report_skipped(rt, &shared.survey);
     let printed = print_shared(rt, alloc, words, &shared);
     forget(shared);
     Ok(printed?)
+}
+
+fn purpose_of(words: Describe<'_, '_>) -> Purpose {
+    if words.has_times() {
+        Purpose::DescribingTimes
+    } else {
+        Purpose::Describing
+    }
 }
 
 // Prints the description. What was loaded is not given back file by file, since the process ends.

@@ -6,7 +6,7 @@ use Rattle.std.proofs.lemmas.List.Folds.{find-append}
 use Rattle.nfs_inodes.specs.Tree.{Tree, on_some}
 use Rattle.nfs_describe.specs.Lines.{hard_line}
 use Rattle.nfs_describe.specs.Places.{FilePath}
-use Rattle.nfs_describe.specs.Texts.{files_text, first_name, named_text, own_text, place_text}
+use Rattle.nfs_describe.specs.Texts.{files_text, first_here, first_name, first_places, named_text, own_text, place_text}
 
 abbrev path_of : Option FilePath → Option (List ℕ)
 path_of o = option_map (λ (p : FilePath). p.path) o
@@ -17,7 +17,7 @@ named : (t : Tree) (p : FilePath) (o : Option FilePath) → named_text t p (path
 named t p None = refl
 named t p (Some first) = refl
 
-goes_on : (text here after rest old new : List ℕ) → text ++ rest ≡ old → new ≡ text ++ here → here ++ after ≡ rest → new ++ after ≡ old
+goes_on : {X : Type 0} (text here after rest old new : List X) → text ++ rest ≡ old → new ≡ text ++ here → here ++ after ≡ rest → new ++ after ≡ old
 goes_on text here after rest old new before is step = ap (λ l. l ++ after) is ∙ append_assoc text here after ∙ ap (λ l. text ++ l) step ∙ before
 
 -- the text of one place more
@@ -29,6 +29,25 @@ files_more t places i d kept text old new inside before is name =
     goes_on text (place_text t (take i places) (get_or places i d)) (files_text t (take (i + 1) places) (drop (i + 1) places)) (files_text t (take i places) (drop i places)) old new before
     (is ∙ ap (λ o. text ++ named_text t (get_or places i d) o) name ∙ ap (λ l. text ++ l) (named t (get_or places i d) (first_name (get_or places i d).number (take i places))))
     (ap (λ l. place_text t (take i places) (get_or places i d) ++ files_text t l (drop (i + 1) places)) (take_more places i d inside) ∙ sym (ap (λ l. files_text t (take i places) l) (drop_more places i d inside)))
+
+-- ---- first places
+
+here : (o : Option FilePath) (p : FilePath) (after : List FilePath) → first_here p (path_of o) ++ after ≡ on_some o (p ∷ after) (λ first. after)
+here None p after = refl
+here (Some first) p after = refl
+
+-- the first places among one place more
+firsts_more : (places : List FilePath) (i : ℕ) (d : FilePath) (kept : Option (List ℕ)) (firsts old new : List FilePath) → i < length places
+    → firsts ++ first_places (take i places) (drop i places) ≡ old
+    → new ≡ firsts ++ first_here (get_or places i d) kept → kept ≡ path_of (first_name (get_or places i d).number (take i places))
+    → new ++ first_places (take (i + 1) places) (drop (i + 1) places) ≡ old
+firsts_more places i d kept firsts old new inside before is name =
+    goes_on firsts (first_here (get_or places i d) (path_of (first_name (get_or places i d).number (take i places)))) (first_places (take (i + 1) places) (drop (i + 1) places))
+    (first_places (take i places) (drop i places)) old new before
+    (is ∙ ap (λ o. firsts ++ first_here (get_or places i d) o) name)
+    (here (first_name (get_or places i d).number (take i places)) (get_or places i d) (first_places (take (i + 1) places) (drop (i + 1) places))
+    ∙ ap (λ l. on_some (first_name (get_or places i d).number (take i places)) (get_or places i d ∷ first_places l (drop (i + 1) places)) (λ first. first_places l (drop (i + 1) places))) (take_more places i d inside)
+    ∙ sym (ap (λ l. first_places (take i places) l) (drop_more places i d inside)))
 
 -- ---- names
 
@@ -60,3 +79,10 @@ pub names_at : (places : List FilePath) (i n : ℕ) (p : FilePath) (kept more : 
     → more ≡ path_of (first_name n (take (i + 1) places))
 names_at places i n p kept more inside item is grows =
     names_more places i n p kept more inside is (grows ∙ ap (λ (q : FilePath). option_or kept (cond (nat_eq q.number n) (Some q.path) None)) item)
+
+pub firsts_at : (places : List FilePath) (i : ℕ) (p : FilePath) (kept : Option (List ℕ)) (firsts old new : List FilePath) → i < length places → p ≡ get_or places i p
+    → firsts ++ first_places (take i places) (drop i places) ≡ old
+    → new ≡ firsts ++ first_here p kept → kept ≡ path_of (first_name p.number (take i places))
+    → new ++ first_places (take (i + 1) places) (drop (i + 1) places) ≡ old
+firsts_at places i p kept firsts old new inside item before is name = firsts_more places i p kept firsts old new inside before
+    (is ∙ ap (λ (q : FilePath). firsts ++ first_here q kept) item) (name ∙ ap (λ (q : FilePath). path_of (first_name q.number (take i places))) item)

@@ -1,7 +1,8 @@
 -- The lines of a description, each as a text.
-use Rattle.std.specs.Prelude.{ℕ, ◌&&◌, Bool, List, [], ◌∷◌, ◌++◌, length, codes, decimal, nat_eq, nat_le, nat_lt, if◌then◌else◌}
+use Rattle.std.specs.Prelude.{ℕ, ◌+◌, ◌/◌, ◌%◌, ◌&&◌, Bool, List, [], ◌∷◌, ◌++◌, length, map, codes, decimal, nat_eq, nat_le, nat_lt, if◌then◌else◌}
 use Rattle.std.specs.List.{list_all}
 use Rattle.hex.specs.Hex.{encode_lower}
+use Rattle.nfs_attrs.specs.declared.moment.Moment.{Moment}
 use Rattle.nfs_exports.specs.Addresses.{addr_text}
 use Rattle.nfs_exports.specs.declared.options.Options.{Options}
 use Rattle.nfs_exports.specs.declared.options.Squash.{Squash}
@@ -43,6 +44,18 @@ abbrev pub options_text : Options → List ℕ
 options_text o = (if o.read_only then codes "ro" else codes "rw") ++ squash_text o.squash
     ++ anonymous_text (codes ",anonuid=") o.anonuid ++ anonymous_text (codes ",anongid=") o.anongid
 
+-- nine digits
+abbrev pub nine_digits : ℕ → List ℕ
+nine_digits n = map (λ place. 48 + n / place % 10)
+    (100000000 ∷ 10000000 ∷ 1000000 ∷ 100000 ∷ 10000 ∷ 1000 ∷ 100 ∷ 10 ∷ 1 ∷ [])
+
+-- seconds, and what is beyond them: after a point where it is less than a second, after a plus where a client said more
+abbrev pub moment_text : Moment → List ℕ
+moment_text m =
+    if nat_eq m.nanos 0 then decimal m.seconds
+    else (if nat_lt m.nanos 1000000000 then decimal m.seconds ++ codes "." ++ nine_digits m.nanos
+    else decimal m.seconds ++ codes "+" ++ decimal m.nanos)
+
 -- ---- lines
 
 abbrev pub server_line : List ℕ → List ℕ
@@ -81,6 +94,10 @@ link_line path uid gid target = codes "link " ++ path ++ codes " " ++ decimal ui
 
 abbrev pub hard_line : List ℕ → List ℕ → List ℕ
 hard_line path old = codes "hard " ++ path ++ codes " " ++ old ++ codes "\n"
+
+abbrev pub times_line : List ℕ → Moment → Moment → Moment → List ℕ
+times_line path atime mtime ctime =
+    codes "times " ++ path ++ codes " " ++ moment_text atime ++ codes " " ++ moment_text mtime ++ codes " " ++ moment_text ctime ++ codes "\n"
 
 -- ---- what may stand in a line as a word
 

@@ -1,18 +1,19 @@
 -- The description of a tree with its exports, as a text.
-use Rattle.std.specs.Prelude.{◌≡◌, ℕ, zero, suc, true, List, [], ◌∷◌, ◌++◌, length, slice_get, nat_eq, Option, Some, None, option_map, if◌then◌else◌}
+use Rattle.std.specs.Prelude.{◌≡◌, ℕ, zero, suc, ◌&&◌, Bool, true, List, [], ◌∷◌, ◌++◌, length, map, slice_get, codes, nat_eq, Option, Some, None, option_map, if◌then◌else◌}
 use Rattle.std.specs.Borrow.{Bor}
 use Rattle.std.specs.BTreeMap.{is_at}
 use Rattle.std.specs.List.{find, flat_map}
 use Rattle.std.specs.Map.{lookup}
 use Rattle.std.specs.Ordering.{nat_cmp}
 use Rattle.nfs_attrs.specs.declared.fattr.Fattr.{Fattr}
+use Rattle.nfs_attrs.specs.declared.moment.Moment.{Moment}
 use Rattle.nfs_exports.specs.Tables.{exports_of}
 use Rattle.nfs_exports.specs.declared.export_table.Export.{Export}
 use Rattle.nfs_inodes.specs.Tree.{Tree, Kind, Volume, Regular, Directory, Link, at, nlink, on_some}
 use Rattle.nfs_inodes.specs.Reading.{attributes_at, attributes_of, is_directory_type}
 use Rattle.nfs_inodes.specs.Views.{FileView, bytes_seen}
 use Rattle.nfs_load.specs.declared.statement.Given.{Given}
-use Rattle.nfs_describe.specs.Lines.{server_line, limits_line, volume_line, export_line, dir_line, file_line, link_line, hard_line}
+use Rattle.nfs_describe.specs.Lines.{server_line, limits_line, volume_line, export_line, dir_line, file_line, link_line, hard_line, times_line}
 use Rattle.nfs_describe.specs.Places.{FilePath, Skipped, IsSayableWalk, IsWalk, are_sayable, skipped_below}
 
 abbrev pub given_of : Fattr → Given
@@ -55,15 +56,51 @@ abbrev pub files_text : Tree → List FilePath → List FilePath → List ℕ
 files_text t before [] = []
 files_text t before (p ∷ after) = place_text t before p ++ files_text t (before ++ p ∷ []) after
 
+-- ---- times
+
+-- of some places after others those that come first of all that their file has
+abbrev pub first_places : List FilePath → List FilePath → List FilePath
+first_places before [] = []
+first_places before (p ∷ after) = on_some (first_name p.number before) (p ∷ first_places (before ++ p ∷ []) after) (λ first. first_places (before ++ p ∷ []) after)
+
+-- places that are lent
+abbrev pub lent : List (Bor FilePath) → List FilePath
+lent places = map (λ p. p.now) places
+
+-- a place, where no path is kept for its file
+abbrev pub first_here : FilePath → Option (List ℕ) → List FilePath
+first_here p None = p ∷ []
+first_here p (Some first) = []
+
+-- the time that a file has whose times no line gives
+abbrev pub is_start : Moment → Bool
+is_start m = nat_eq m.seconds 0 && nat_eq m.nanos 0
+
+-- the path of a line that gives times: the slash is the root
+abbrev pub path_or_root : List ℕ → List ℕ
+path_or_root [] = codes "/"
+path_or_root (byte ∷ path) = byte ∷ path
+
+-- no line where all three are such
+abbrev pub file_times : List ℕ → Fattr → List ℕ
+file_times path a = if is_start a.atime && (is_start a.mtime && is_start a.ctime) then [] else times_line (path_or_root path) a.atime a.mtime a.ctime
+
+abbrev pub place_times : Tree → FilePath → List ℕ
+place_times t p = on_some (attributes_at t p.number) [] (file_times p.path)
+
+-- the times of the files of a walk, each by its first name
+abbrev pub times_text : Tree → List FilePath → List ℕ
+times_text t walk = flat_map (place_times t) (first_places [] walk)
+
 -- ---- volumes
 
 abbrev pub root_text : Volume → Option Fattr → List ℕ
 root_text v None = []
 root_text v (Some a) = volume_line v.path v.max_bytes v.max_files (given_of a)
 
--- a volume, to whom it is exported, and its files in the order of a walk
+-- a volume, to whom it is exported, and its files in the order of a walk, then their times
 abbrev pub volume_text : Tree → List (List Export) → ℕ → Volume → List FilePath → List ℕ
-volume_text t table place v walk = root_text v (attributes_at t v.root) ++ flat_map export_line (exports_of table place) ++ files_text t [] walk
+volume_text t table place v walk = root_text v (attributes_at t v.root) ++ flat_map export_line (exports_of table place) ++ files_text t [] walk ++ times_text t walk
 
 -- the text of the volume at a place, of whose walk a description has words for each path
 pub record IsVolumeText (t : Tree) (table : List (List Export)) (place : ℕ) (text : List ℕ) : Type 0 where

@@ -14,6 +14,7 @@ use crate::fault::DescribeFault;
 use crate::files::{given_of, put_files};
 use crate::lines::{put_head, put_volume_line};
 use crate::skipped::Skipped;
+use crate::times::put_times;
 use crate::walk::walk;
 use nfs_exports::export_table::{Export, ExportTable};
 use nfs_inodes::tree::Tree;
@@ -36,8 +37,8 @@ pub struct Described {
 
 /// The description of a tree with its exports: the key, the limits that are not the defaults, and each
 /// volume with its limits, its exports and its files, directory by directory, each by its first name and
-/// then `hard` for the others.
-/// Times are not described, and neither are the mode of a link and the numbers of files.
+/// then `hard` for the others; then the times of each file by its first name, unless all three are 0.
+/// The mode of a link isn't described, and neither are the numbers of files.
 ///
 /// `Unsayable` for the first path that a description can't hold, or for the first of a link that
 /// holds what no word says; `TooLong` where the text would have more than 1 GiB; `Memory`.
@@ -102,7 +103,8 @@ fn put_volume(
     let text = &mut described.text;
     put_root(tree, &volume, text)?;
     put_exports(table.patterns(place), text)?;
-    put_files(alloc, tree, below.places.as_slice(), text)?;
+    let firsts = put_files(alloc, tree, below.places.as_slice(), text)?;
+    put_times(tree, firsts.as_slice(), text)?;
     described.skipped.append(&mut below.skipped)?;
     Ok(())
 }

@@ -1,10 +1,10 @@
 //! The lines of the files of a volume.
-ghost use Rattle.std.specs.Prelude.{◌≡◌, ℕ, ◌≤◌, [], ◌++◌, Some, None, OnOk, cond, length, nat_eq};
+ghost use Rattle.std.specs.Prelude.{◌≡◌, ℕ, ◌≤◌, [], ◌++◌, Some, None, IfOk, OnOk, cond, length, nat_eq};
 ghost use Rattle.std.specs.Option.{option_or};
 ghost use Rattle.nfs_inodes.specs.Limits.{max_file_bytes};
 ghost use Rattle.nfs_inodes.specs.Views.{bytes_seen};
 ghost use Rattle.nfs_describe.specs.Lines.{link_line};
-ghost use Rattle.nfs_describe.specs.Texts.{files_text, given_of, kept_name, named_text, node_line, own_text};
+ghost use Rattle.nfs_describe.specs.Texts.{files_text, first_here, first_places, given_of, kept_name, lent, named_text, node_line, own_text};
 
 use crate::file_path::FilePath;
 use crate::lines::{put_dir, put_file, put_hard, put_link};
@@ -17,40 +17,46 @@ use std::alloc::{AllocError, Global};
 use std::collections::BTreeMap;
 
 /// A line for each place after the root: the file by its first name, and a `hard` line for each
-/// other name. Refused without memory.
-pub(crate) fn put_files(
+/// other name. Gives the places that come first of all that their file has. Refused without memory.
+pub(crate) fn put_files<'a>(
     alloc: Global,
     tree: &Tree,
-    places: &[FilePath],
+    places: &'a [FilePath],
     text: &mut Vec<u8>,
-) -> Result<(), AllocError>
-    ensures { OnOk result (text.new.items ≡ text.old.items ++ files_text tree.now [] places.now) }
+) -> Result<Vec<&'a FilePath>, AllocError>
+    ensures text { OnOk result (text.new.items ≡ text.old.items ++ files_text tree.now [] places.entry.now) }
+    ensures firsts { IfOk result (λ firsts. lent firsts.items ≡ first_places [] places.entry.now) }
 {
     let mut first_names = BTreeMap::new(alloc);
+    let mut firsts = Vec::new(alloc);
     for place in places {
-        put_place(alloc, tree, place, &mut first_names, text)?;
+        put_place(alloc, tree, place, &mut first_names, &mut firsts, text)?;
     }
-    Ok(())
+    Ok(firsts)
 }
 
-// The line of a file by one of its names. Its first name is kept.
+// The line of a file by one of its names. Its first name is kept, and its first place.
 fn put_place<'a>(
     alloc: Global,
     tree: &Tree,
     place: &'a FilePath,
     first_names: &mut BTreeMap<u64, &'a [u8]>,
+    firsts: &mut Vec<&'a FilePath>,
     text: &mut Vec<u8>,
 ) -> Result<(), AllocError>
     ensures text { OnOk result (text.new.items ≡ text.old.items ++
         named_text tree.now place.entry.now (kept_name first_names.old.entries place.entry.now.number)) }
     ensures names { OnOk result ((n : ℕ) → kept_name first_names.new.entries n ≡
         option_or (kept_name first_names.old.entries n) (cond (nat_eq place.entry.now.number n) (Some place.entry.now.path) None)) }
+    ensures firsts { OnOk result (lent firsts.new.items ≡ lent firsts.old.items ++
+        first_here place.entry.now (kept_name first_names.old.entries place.entry.now.number)) }
 {
     match first_names.get(&place.number.0).copied() {
         Some(first) => put_hard(text, place.path.as_slice(), first),
         None => {
             put_own(alloc, tree, place, text)?;
             first_names.insert(place.number.0, place.path.as_slice())?;
+            firsts.push(place)?;
             Ok(())
         }
     }

@@ -10,4 +10,5 @@ pub mod lines;
 mod numbers;
 pub mod sayable;
 pub mod skipped;
+mod times;
 mod walk;

@@ -3,9 +3,10 @@ ghost use Rattle.std.specs.Prelude.{◌≡◌, ◌≤◌, ◌+◌, ◌++◌, OnO
 ghost use Rattle.arrayvec.specs.ArrayVec.{array_vec_len};
 ghost use Rattle.nfs_inodes.specs.Limits.{max_file_bytes};
 ghost use Rattle.nfs_inodes.specs.Views.{bytes_seen};
-ghost use Rattle.nfs_describe.specs.Lines.{content_text, dir_line, file_line, hard_line, limit_text, limits_line, limits_text, line_of_limits, link_line, server_line, volume_line};
+ghost use Rattle.nfs_describe.specs.Lines.{content_text, dir_line, file_line, hard_line, limit_text, limits_line, limits_text, line_of_limits, link_line, server_line, times_line, volume_line};
 
-use crate::numbers::put_given;
+use crate::numbers::{put_given, put_moment};
+use nfs_attrs::moment::Moment;
 use nfs_inodes::limits::Limits;
 use nfs_inodes::view::FileView;
 use nfs_load::statement::Given;
@@ -170,6 +171,24 @@ pub(crate) fn put_hard(text: &mut Vec<u8>, path: &[u8], first: &[u8]) -> Result<
     text.extend_from_slice(first)?;
     text.push(b'\n')?;
     Ok(())
+}
+
+/// The line of a file's times.
+pub(crate) fn put_times_line(
+    text: &mut Vec<u8>,
+    path: &[u8],
+    atime: Moment,
+    mtime: Moment,
+    ctime: Moment,
+) -> Result<(), AllocError>
+    ensures { OnOk result (text.new.items ≡ text.old.items ++ times_line path.now atime mtime ctime) }
+{
+    let mut line = Line::new();
+    put_moment(&mut line, atime);
+    put_moment(&mut line, mtime);
+    put_moment(&mut line, ctime);
+    put(&mut line, b"\n");
+    put_words(text, b"times ", path, line.as_slice())
 }
 
 // A keyword, a path, and what stands after it.

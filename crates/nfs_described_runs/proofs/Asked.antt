@@ -1,4 +1,4 @@
--- What is read of an event of bytes fits into lines of a description: ids of 32 bits, and contents of bytes.
+-- What is read of an event of bytes fits into lines of a description: ids and times of 32 bits, and contents of bytes.
 use Rattle.std.proofs.Common.{◌≡◌, ℕ, suc, zero, ◌<◌, ◌^◌, Bool, true, false, List, [], ◌∷◌, ◌++◌, Option, Some, None, option_map, refl, ap, subst, arith}
 use Rattle.std.specs.Prelude.{Ok, Err, if◌then◌else◌}
 use Rattle.std.specs.Int.{w32}
@@ -15,10 +15,13 @@ use Rattle.nfs_args.specs.Procedures.{procedure_number, procedures}
 use Rattle.nfs_args.specs.Reading.{args_at}
 use Rattle.nfs_args.proofs.Finds.{finds_args}
 use Rattle.nfs_attrs.specs.declared.sattr.Sattr.{Sattr}
-use Rattle.nfs_attrs.specs.Encoding.{IsSattr}
+use Rattle.nfs_attrs.specs.declared.time_setting.TimeSetting.{TimeSetting}
+use Rattle.nfs_attrs.specs.declared.time_setting.TimeSetting.TheVariants.{Leave, ServerTime, ClientTime}
+use Rattle.nfs_attrs.specs.Encoding.{IsSattr, IsTimeSetting}
 use Rattle.nfs_exports.specs.declared.addr.Addr.{Addr}
 use Rattle.nfs_inodes.proofs.Lists.{not_both, same_some}
 use Rattle.nfs_inodes.specs.Tree.{on_some}
+use Rattle.nfs_load.specs.Moments.{IsTime}
 use Rattle.nfs_policy.specs.Confining.{Asks}
 use Rattle.nfs_rpc.proofs.AuthSys.{finds_cred}
 use Rattle.nfs_rpc.proofs.Calls.{finds_head}
@@ -54,9 +57,16 @@ opaque_bytes max item text is h = let fixed = is.encoded.second in front_bytes i
 abbrev pub IsIdSaid : Option ℕ → Type 0
 IsIdSaid id = (n : ℕ) → id ≡ Some n → n < 2 ^ 32
 
+-- so have both numbers of a time that a client gives
+abbrev pub IsTimeSaid : TimeSetting → Type 0
+IsTimeSaid (ClientTime moment) = IsTime moment
+IsTimeSaid other = Unit {0}
+
 pub record IsSattrSaid (a : Sattr) : Type 0 where
   pub uid : IsIdSaid a.uid
   pub gid : IsIdSaid a.gid
+  pub atime : IsTimeSaid a.atime
+  pub mtime : IsTimeSaid a.mtime
 
 abbrev pub IsHowSaid : CreateHow → Type 0
 IsHowSaid (how.Unchecked attributes) = IsSattrSaid attributes
@@ -75,11 +85,20 @@ id_said : (id : Option ℕ) (text : List ℕ) → IsOptional (IsNumber w32) id t
 id_said None text is n e = absurd (not_both refl e)
 id_said (Some m) text is n e = subst (λ k. k < 2 ^ 32) (same_some e) is.second.fits
 
+time_said : (setting : TimeSetting) (text : List ℕ) → IsTimeSetting setting text → IsTimeSaid setting
+time_said Leave text is = tt
+time_said ServerTime text is = tt
+time_said (ClientTime moment) text is = (is.second.first.fits, is.second.second.fits)
+
 sattr_said : (a : Sattr) (text : List ℕ) → IsSattr a text → IsSattrSaid a
-sattr_said a text is = record {
-  uid = id_said a.uid is.second.front is.second.first;
-  gid = id_said a.gid is.second.second.front is.second.second.first;
-}
+sattr_said a text is =
+    let times = is.second.second.second.second in
+    record {
+      uid = id_said a.uid is.second.front is.second.first;
+      gid = id_said a.gid is.second.second.front is.second.second.first;
+      atime = time_said a.atime times.front times.first;
+      mtime = time_said a.mtime times.back times.second;
+    }
 
 write_said : (a : Write) (text : List ℕ) → IsWrite a text → AreBytes text → AreBytes a.content
 write_said a text is h =

@@ -13,6 +13,8 @@ use Rattle.nfs_args.specs.declared.write.Write.{Write}
 use Rattle.nfs_attrs.specs.declared.fattr.Fattr.{Fattr}
 use Rattle.nfs_attrs.specs.declared.moment.Moment.{Moment}
 use Rattle.nfs_attrs.specs.declared.sattr.Sattr.{Sattr}
+use Rattle.nfs_attrs.specs.declared.time_setting.TimeSetting.{TimeSetting}
+use Rattle.nfs_attrs.specs.declared.time_setting.TimeSetting.TheVariants.{Leave, ServerTime, ClientTime}
 use Rattle.nfs_describe.specs.Lines.{is_target}
 use Rattle.nfs_exports.specs.Ids.{Ids, squash_as}
 use Rattle.nfs_exports.specs.Patterns.{covers}
@@ -29,12 +31,14 @@ use Rattle.nfs_inodes.specs.Changes.{after_resize, after_set, after_write_at, re
 use Rattle.nfs_inodes.specs.Conditions.{MayMake, MayResize}
 use Rattle.nfs_inodes.specs.Law.{Lives}
 use Rattle.nfs_inodes.specs.Tree.{Tree, File, at, on_some}
+use Rattle.nfs_inodes.specs.declared.new_file.NewFile.{NewFile}
+use Rattle.nfs_load.specs.Moments.{IsTime}
 use Rattle.nfs_policy.proofs.Changes.{length_zeros}
 use Rattle.nfs_policy.proofs.Granted.{IsSubject, AreSubjects, are_subjects, rules_kept}
 use Rattle.nfs_procs.proofs.GivenSettings.{lives_written}
-use Rattle.nfs_procs.specs.Changers.{setattr, write, create, mkdir, symlink, remove, rmdir, rename, link, given_of, sets_something, file_mode, directory_mode, link_mode, attributes_in, nothing_given, verifier_in, after_settings, after_writing, after_taking, after_creating, with_cleared_mode, cleared_mode, has_bytes, size_alone, size_taken, mode_alone}
+use Rattle.nfs_procs.specs.Changers.{setattr, setting, write, create, mkdir, symlink, remove, rmdir, rename, link, given_of, sets_something, file_mode, directory_mode, link_mode, attributes_in, nothing_given, verifier_in, after_settings, after_writing, after_taking, after_creating, with_cleared_mode, cleared_mode, has_bytes, size_alone, size_taken, mode_alone}
 use Rattle.nfs_procs.specs.Doing.{Doing}
-use Rattle.nfs_procs.specs.NewFiles.{gid_of, new_file_of, uid_of}
+use Rattle.nfs_procs.specs.NewFiles.{gid_of, new_file_of, time_of, uid_of}
 use Rattle.nfs_procs.specs.Performing.{IsGranted}
 use Rattle.nfs_procs.specs.Procedures.{doing_of}
 use Rattle.nfs_procs.specs.Readers.{getattr, lookup, access, readlink, read, readdir, readdirplus, mknod, fsstat, fsinfo, pathconf, commit}
@@ -55,7 +59,7 @@ use Rattle.nfs_rules.specs.Table.{rules_of, setattr_rules, write_rules, create_r
 use Rattle.nfs_rules.specs.Tests as test
 use Rattle.nfs_rules.specs.Tests.{first, found}
 use Rattle.nfs_xdr.specs.Reading.{AreBytes}
-use Rattle.nfs_described_runs.proofs.Asked.{AreSaid, IsCredSaid, IsHowSaid, IsIdSaid, IsSattrSaid}
+use Rattle.nfs_described_runs.proofs.Asked.{AreSaid, IsCredSaid, IsHowSaid, IsIdSaid, IsSattrSaid, IsTimeSaid}
 
 zero_bytes : (n : ℕ) → AreBytes (zeros n)
 zero_bytes zero i = omega arith
@@ -94,6 +98,20 @@ module _ (t : Tree) (exports : List (List Export)) (d : IsDescribable t exports)
       let said = options_said place caller.addr (find (λ (e : Export). covers e.pattern caller.addr) (exports_of exports place)) s.options refl is.options in
       subst IsIdsSaid (sym is.ids) (squash_said s.options.squash s.options caller.cred said.0 said.1 cred)
 
+-- ---- times
+
+new_time : (now : Moment) → IsTime now → (setting : TimeSetting) → IsTimeSaid setting → IsTime (time_of now setting)
+new_time now time Leave said = time
+new_time now time ServerTime said = time
+new_time now time (ClientTime moment) said = said
+
+set_time : (now : Moment) → IsTime now → (given : TimeSetting) → IsTimeSaid given → (m : Moment) → setting now given ≡ Some m → IsTime m
+set_time now time Leave said m e = absurd (not_both refl e)
+set_time now time ServerTime said m e = subst IsTime (same_some e) time
+set_time now time (ClientTime moment) said m e = subst IsTime (same_some e) said
+
+-- ---- attributes
+
 module _ (ids : Ids) (own : IsIdsSaid ids) where
   new_uid : (id : Option ℕ) → IsIdSaid id → uid_of ids id < 2 ^ 32
   new_uid None said = own.uid
@@ -103,15 +121,24 @@ module _ (ids : Ids) (own : IsIdsSaid ids) where
   new_gid None said = own.gid
   new_gid (Some n) said = either_said (nat_eq ids.uid 0 || nat_eq n ids.gid || list_any (nat_eq n) ids.gids) n ids.gid (said n refl) own.gid
 
-  new_said : (mode : ℕ) (now : Moment) (given : Sattr) → IsSattrSaid given → IsNewSaid (new_file_of mode ids now given)
-  new_said mode now given said = (new_uid given.uid said.uid, new_gid given.gid said.gid)
+  new_said : (mode : ℕ) (now : Moment) (given : Sattr) → IsTime now → IsSattrSaid given → IsNewSaid (new_file_of mode ids now given)
+  new_said mode now given time said = record {
+    uid = new_uid given.uid said.uid;
+    gid = new_gid given.gid said.gid;
+    atime = new_time now time given.atime said.atime;
+    mtime = new_time now time given.mtime said.mtime;
+  }
+
+-- whatever its mode
+with_mode : (mode : ℕ) (given : NewFile) → IsNewSaid given → IsNewSaid (record given { mode = mode })
+with_mode mode given said = record { uid = said.uid; gid = said.gid; atime = said.atime; mtime = said.mtime }
 
 none_said : IsIdSaid None
 none_said n e = absurd (not_both refl e)
 
--- nothing, a size or a mode gives no ids
+-- nothing, a size or a mode gives no ids and no times
 nothing_said : IsSattrSaid nothing_given
-nothing_said = record { uid = none_said; gid = none_said }
+nothing_said = record { uid = none_said; gid = none_said; atime = tt; mtime = tt }
 
 how_attributes : (how : CreateHow) → IsHowSaid how → IsSattrSaid (attributes_in how)
 how_attributes (Unchecked attributes) said = said
@@ -120,11 +147,11 @@ how_attributes (Exclusive verifier) said = nothing_said
 
 -- ---- SETATTR and CREATE of what is there
 
-module _ (exports : List (List Export)) where
+module _ (exports : List (List Export)) (now : Moment) (time : IsTime now) where
   abbrev D : Tree → Type 0
   D t = IsDescribable t exports
 
-  module _ (t : Tree) (d : D t) (n : ℕ) (now : Moment) where
+  module _ (t : Tree) (d : D t) (n : ℕ) where
     record IsSized (u : Tree) : Type 0 where
       described : D u
       file : File
@@ -133,7 +160,7 @@ module _ (exports : List (List Export)) where
     sized_by : (f : File) → Lives t n f → (size : Option ℕ) → ((k : ℕ) → size ≡ Some k → MayResize t n k) → IsSized (on_some size t (λ size. after_resize t n size now))
     sized_by f at_f None may = record { described = d; file = f; at_file = at_f }
     sized_by f at_f (Some size) may = record {
-      described = changes_stay.sizes t n size now (may size refl) exports d;
+      described = changes_stay.sizes t n size now time (may size refl) exports d;
       file = resized_to f size now;
       at_file = ap (λ (u : Tree). at n u.files) (resized_is t n size now f at_f) ∙ at_with_same n f (resized_to f size now) t.files at_f;
     }
@@ -143,24 +170,27 @@ module _ (exports : List (List Export)) where
       where
         by : (b : Bool) → D (if b then after_set (on_some g.size t (λ size. after_resize t n size now)) n (given_of now g) now else t)
         by true = let z = sized_by f at_f g.size may in
-            changes_stay.attributes (on_some g.size t (λ size. after_resize t n size now)) n (given_of now g) now z.file z.at_file (said.uid, said.gid) exports z.described
+            changes_stay.attributes (on_some g.size t (λ size. after_resize t n size now)) n (given_of now g) now z.file time z.at_file
+            (record { uid = said.uid; gid = said.gid; atime = set_time now time g.atime said.atime; mtime = set_time now time g.mtime said.mtime }) exports z.described
         by false = d
 
-  module _ (s : Subject) (d : D s.tree) (t : Tree) (caller : Caller) (is : IsSubject t exports caller s) (ids : IsIdsSaid s.ids) (now : Moment) where
+  module _ (s : Subject) (d : D s.tree) (t : Tree) (caller : Caller) (is : IsSubject t exports caller s) (ids : IsIdsSaid s.ids) where
     given : (a : Setattr) → IsSattrSaid a.attributes → first (setattr_rules s a) ≡ None → D (after_settings s.tree s.file.fileid (with_cleared_mode s.ids.uid s.file a.attributes) now)
     given a said none = let lives = seen_lives s.tree s.file is.seen in
-        settled s.tree d s.file.fileid now lives.0 lives.1 (with_cleared_mode s.ids.uid s.file a.attributes) (record { uid = said.uid; gid = said.gid }) (may_set_size s d.law is.seen a none)
+        settled s.tree d s.file.fileid lives.0 lives.1 (with_cleared_mode s.ids.uid s.file a.attributes)
+        (record { uid = said.uid; gid = said.gid; atime = said.atime; mtime = said.mtime }) (may_set_size s d.law is.seen a none)
 
     written : (a : Write) → AreBytes a.content → first (write_rules s a) ≡ None → (mode : Option ℕ) → D (after_writing s.tree s.file.fileid a.offset a.content mode now)
     written a bytes none mode = let lives = seen_lives s.tree s.file is.seen in
         let there = lives_written s.tree s.file.fileid a.offset a.content now lives.0 lives.1 in
         settled (after_write_at s.tree s.file.fileid a.offset a.content now)
-        (changes_stay.bytes s.tree s.file.fileid a.offset a.content now (may_write s d.law is.seen a none) bytes exports d)
-        s.file.fileid now there.0 there.1 (mode_alone mode) (record { uid = none_said; gid = none_said }) (λ k e. absurd (not_both refl e))
+        (changes_stay.bytes s.tree s.file.fileid a.offset a.content now time (may_write s d.law is.seen a none) bytes exports d)
+        s.file.fileid there.0 there.1 (mode_alone mode) (record { uid = none_said; gid = none_said; atime = tt; mtime = tt }) (λ k e. absurd (not_both refl e))
 
     taken : (a : Create) → first (create_rules s a) ≡ None → (f : Fattr) → found s a.place.name ≡ Some f → (how : CreateHow) → a.how ≡ how → D (after_taking s.tree s.ids.uid f how now)
     taken a none f e how same = let lives = seen_lives s.tree f (found_seen s a.place.name f e).1 in
-        settled s.tree d f.fileid now lives.0 lives.1 (with_cleared_mode s.ids.uid f (size_alone (size_taken how))) (record { uid = none_said; gid = none_said }) (may how same)
+        settled s.tree d f.fileid lives.0 lives.1 (with_cleared_mode s.ids.uid f (size_alone (size_taken how)))
+        (record { uid = none_said; gid = none_said; atime = tt; mtime = tt }) (may how same)
       where
         may : (how : CreateHow) → a.how ≡ how → (k : ℕ) → size_taken how ≡ Some k → MayResize s.tree f.fileid k
         may (Unchecked attributes) same k size = may_resize_present s d.law a none f e attributes same k size
@@ -169,9 +199,9 @@ module _ (exports : List (List Export)) where
 
     created : (a : Create) → IsHowSaid a.how → (tag : ℕ) → tag < 2 ^ 32 → first (create_rules s a) ≡ None → (o : Option Fattr) → found s a.place.name ≡ o → D (on_some o (after_creating s a now tag) (λ f. after_taking s.tree s.ids.uid f a.how now))
     created a said tag fits none None e = let size = on_some (size_in a.how) 0 (λ (size : ℕ). size) in
-        changes_stay.files s.tree s.file.fileid tag a.place.name (zeros size) (new_file_of file_mode s.ids now (attributes_in a.how)) (verifier_in a.how) now
+        changes_stay.files s.tree s.file.fileid tag a.place.name (zeros size) (new_file_of file_mode s.ids now (attributes_in a.how)) (verifier_in a.how) now time
         (subst (MayMake s.tree s.file.fileid a.place.name) (sym (length_zeros size)) (may_make_file s d.law is.seen a none e)) fits
-        (new_said s.ids ids file_mode now (attributes_in a.how) (how_attributes a.how said)) (zero_bytes size) exports d
+        (new_said s.ids ids file_mode now (attributes_in a.how) time (how_attributes a.how said)) (zero_bytes size) exports d
     created a said tag fits none (Some f) e = taken a none f e a.how refl
 
 -- ---- a granted call
@@ -184,9 +214,9 @@ IsUnsaid args = (a : Symlink) × (args ≡ nfs.Symlink a) × (is_target a.path �
 abbrev Leaves : Scene → Subject → Subject → ℕ → Doing → Type 0
 Leaves c one two tag doing = IsDescribable (doing.effect one two c.now tag) c.exports ⊎ IsUnsaid c.args
 
-pub granted_described : (c : Scene) → IsDescribable c.tree c.exports → IsCredSaid c.caller.cred → AreSaid c.args → (doing : Doing) → doing_of c.args ≡ Some doing
+pub granted_described : (c : Scene) → IsDescribable c.tree c.exports → IsTime c.now → IsCredSaid c.caller.cred → AreSaid c.args → (doing : Doing) → doing_of c.args ≡ Some doing
     → (one two : Subject) (tag : ℕ) → tag < 2 ^ 32 → IsGranted c one two → Leaves c one two tag doing
-granted_described c described cred said doing e one two tag fits granted = by c.args refl said e (rules_kept c one two granted)
+granted_described c described time cred said doing e one two tag fits granted = by c.args refl said e (rules_kept c one two granted)
   where
     are : AreSubjects c one two
     are = are_subjects c one two granted
@@ -208,31 +238,31 @@ granted_described c described cred said doing e one two tag fits granted = by c.
 
     linked : (a : Symlink) → c.args ≡ nfs.Symlink a → IsSattrSaid a.attributes → first (rules_of one two (nfs.Symlink a)) ≡ None → Leaves c one two tag (symlink a)
     linked a same said none = by_test (is_target a.path)
-        (λ y. inl (changes_stay.links one.tree one.file.fileid tag a.place.name a.path (record (new_file_of link_mode one.ids c.now a.attributes) { mode = link_mode }) c.now
-        (may_make_link one d.law is.seen a.place.name a.path none) fits (new_said one.ids ids link_mode c.now a.attributes said) y c.exports d))
+        (λ y. inl (changes_stay.links one.tree one.file.fileid tag a.place.name a.path (record (new_file_of link_mode one.ids c.now a.attributes) { mode = link_mode }) c.now time
+        (may_make_link one d.law is.seen a.place.name a.path none) fits (with_mode link_mode (new_file_of link_mode one.ids c.now a.attributes) (new_said one.ids ids link_mode c.now a.attributes time said)) y c.exports d))
         (λ n. inr (a, same, n))
 
     by : (args : NfsArgs) → c.args ≡ args → AreSaid args → doing_of args ≡ Some doing → first (rules_of one two args) ≡ None → Leaves c one two tag doing
     by nfs.Null same said e none = absurd (not_both refl e)
     by (nfs.Getattr file) same said e none = reported_as getattr e d
-    by (nfs.Setattr a) same said e none = reported_as (setattr a) e (given c.exports one d c.tree c.caller is ids c.now a said none)
+    by (nfs.Setattr a) same said e none = reported_as (setattr a) e (given c.exports c.now time one d c.tree c.caller is ids a said none)
     by (nfs.Lookup a) same said e none = reported_as (lookup a) e d
     by (nfs.Access a) same said e none = reported_as (access a) e d
     by (nfs.Readlink file) same said e none = reported_as (readlink file) e d
     by (nfs.Read a) same said e none = reported_as (read a) e d
-    by (nfs.Write a) same said e none = reported_as (write a) e (written c.exports one d c.tree c.caller is ids c.now a said none (cleared_mode one.ids.uid one.file (has_bytes a.content)))
-    by (nfs.Create a) same said e none = reported_as (create a) e (created c.exports one d c.tree c.caller is ids c.now a said tag fits none (found one a.place.name) refl)
-    by (nfs.Mkdir a) same said e none = reported_as (mkdir a) e (changes_stay.directories one.tree one.file.fileid tag a.place.name (new_file_of directory_mode one.ids c.now a.attributes) c.now
-        (may_make_directory one d.law is.seen a.place.name none) fits (new_said one.ids ids directory_mode c.now a.attributes said) c.exports d)
+    by (nfs.Write a) same said e none = reported_as (write a) e (written c.exports c.now time one d c.tree c.caller is ids a said none (cleared_mode one.ids.uid one.file (has_bytes a.content)))
+    by (nfs.Create a) same said e none = reported_as (create a) e (created c.exports c.now time one d c.tree c.caller is ids a said tag fits none (found one a.place.name) refl)
+    by (nfs.Mkdir a) same said e none = reported_as (mkdir a) e (changes_stay.directories one.tree one.file.fileid tag a.place.name (new_file_of directory_mode one.ids c.now a.attributes) c.now time
+        (may_make_directory one d.law is.seen a.place.name none) fits (new_said one.ids ids directory_mode c.now a.attributes time said) c.exports d)
     by (nfs.Symlink a) same said e none = or_unsaid (symlink a) e (linked a same said none)
     by (nfs.Mknod a) same said e none = reported_as (mknod a) e d
     by (nfs.Remove a) same said e none = let f = some_from_is_none (found one a.name) (passed_at (remove_rules one a.name) none 6 (test.no_entry one a.name) refl) in
-        reported_as (remove a) e (changes_stay.removals one.tree one.file.fileid a.name c.now (may_remove one d.law is.seen a.name none f.0 f.1).may c.exports d)
+        reported_as (remove a) e (changes_stay.removals one.tree one.file.fileid a.name c.now time (may_remove one d.law is.seen a.name none f.0 f.1).may c.exports d)
     by (nfs.Rmdir a) same said e none = let f = some_from_is_none (found one a.name) (passed_at (rmdir_rules one a.name) none 7 (test.no_entry one a.name) refl) in
-        reported_as (rmdir a) e (changes_stay.removals one.tree one.file.fileid a.name c.now (may_remove_directory one d.law is.seen a.name none f.0 f.1).may c.exports d)
-    by (nfs.Rename a) same said e none = reported_as (rename a) e (changes_stay.renames one.tree one.file.fileid a.from.name two.file.fileid a.to.name c.now
+        reported_as (rmdir a) e (changes_stay.removals one.tree one.file.fileid a.name c.now time (may_remove_directory one d.law is.seen a.name none f.0 f.1).may c.exports d)
+    by (nfs.Rename a) same said e none = reported_as (rename a) e (changes_stay.renames one.tree one.file.fileid a.from.name two.file.fileid a.to.name c.now time
         (may_rename one.tree d.law one two refl (are.second.tree ∙ sym are.first.tree) is.seen are.second.seen are.volume a none) c.exports d)
-    by (nfs.Link a) same said e none = reported_as (link a) e (changes_stay.names one.tree one.file.fileid two.file.fileid a.place.name c.now
+    by (nfs.Link a) same said e none = reported_as (link a) e (changes_stay.names one.tree one.file.fileid two.file.fileid a.place.name c.now time
         (may_link one.tree d.law one two refl (are.second.tree ∙ sym are.first.tree) is.seen are.second.seen are.volume a.place.name none) c.exports d)
     by (nfs.Readdir a) same said e none = reported_as (readdir a) e d
     by (nfs.Readdirplus a) same said e none = reported_as (readdirplus a) e d

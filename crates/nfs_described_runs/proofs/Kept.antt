@@ -19,10 +19,9 @@ use Rattle.nfs_round_trip.specs.RoundTrip.{IsDescribable}
 use Rattle.nfs_server.specs.Events.{Event, Answer, Choice}
 use Rattle.nfs_server.specs.Fits.{GoesOn, Held, History}
 use Rattle.nfs_server.specs.Steps.{Setup, State, scene_of}
-use Rattle.nfs_xdr.specs.Reading.{AreBytes}
 use Rattle.nfs_described_runs.proofs.Asked.{asks_said}
 use Rattle.nfs_described_runs.proofs.Granted.{IsUnsaid, granted_described}
-use Rattle.nfs_described_runs.specs.Described.{IsKept, LeavesDescribable, MakesUnsaidLink, RunsStayDescribable, ServersLoadAgain, StepsStayDescribable}
+use Rattle.nfs_described_runs.specs.Described.{IsEvent, IsKept, LeavesDescribable, MakesUnsaidLink, RunsStayDescribable, ServersLoadAgain, StepsStayDescribable}
 
 -- ---- an event
 
@@ -40,23 +39,23 @@ module _ (setup : Setup) (old : State) (event : Event) (choice : Choice) (answer
     unsaid = u.2;
   }
 
-  described : AreBytes event.bytes → Changes setup old event choice answer new → LeavesDescribable setup old event new
-  described bytes (inl e) d = inl (subst (λ t. IsDescribable t setup.exports) (sym e) d)
-  described bytes (inr g) d =
+  described : IsEvent event → Changes setup old event choice answer new → LeavesDescribable setup old event new
+  described is (inl e) d = inl (subst (λ t. IsDescribable t setup.exports) (sym e) d)
+  described is (inr g) d =
       let f = g.effect in
-      let said = asks_said event g.caller g.args bytes g.asks in
-      elim (granted_described (scene_of setup old event g.caller g.args) d said.0 said.1 f.doing f.doing_is f.one f.two f.tag f.tag_is.fits f.granted) [
-        | inl is ↦ inl (subst (λ t. IsDescribable t setup.exports) (sym f.new_is) is)
+      let said = asks_said event g.caller g.args is.bytes g.asks in
+      elim (granted_described (scene_of setup old event g.caller g.args) d is.moment said.0 said.1 f.doing f.doing_is f.one f.two f.tag f.tag_is.fits f.granted) [
+        | inl stays ↦ inl (subst (λ t. IsDescribable t setup.exports) (sym f.new_is) stays)
         | inr u ↦ inr (unsaid g u)
       ]
 
 pub steps_stay : StepsStayDescribable
-steps_stay setup history old event choice answer new bytes step = described setup old event choice answer new bytes (step_changes setup history old event choice answer new step)
+steps_stay setup history old event choice answer new is step = described setup old event choice answer new is (step_changes setup history old event choice answer new step)
 
 -- one event more of a server
-pub handled_stays : (history : History) (old : Held) (event : Event) (choice : Choice) (answer : Answer) (new : Held) → AreBytes event.bytes
+pub handled_stays : (history : History) (old : Held) (event : Event) (choice : Choice) (answer : Answer) (new : Held) → IsEvent event
     → GoesOn history old event choice answer new → LeavesDescribable old.setup old.state event new.state
-handled_stays history old event choice answer new bytes step = steps_stay old.setup history.done old.state event choice answer new.state bytes step.0
+handled_stays history old event choice answer new is step = steps_stay old.setup history.done old.state event choice answer new.state is step.0
 
 -- ---- runs
 

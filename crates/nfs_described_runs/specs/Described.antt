@@ -12,6 +12,7 @@ use Rattle.nfs_load.specs.Descriptions.{Describes}
 use Rattle.nfs_load.specs.declared.load_error.LoadError.{LoadError}
 use Rattle.nfs_load.specs.declared.load_error.LoadError.TheVariants.{Memory}
 use Rattle.nfs_load.specs.declared.loaded.Loaded.{Loaded}
+use Rattle.nfs_load.specs.Moments.{IsTime}
 use Rattle.nfs_policy.specs.Confining.{Asks, Throughout}
 use Rattle.nfs_procs.specs.Changers.{symlink}
 use Rattle.nfs_procs.specs.Performing.{IsGranted}
@@ -39,13 +40,18 @@ abbrev pub LeavesDescribable : Setup → State → Event → State → Type 0
 LeavesDescribable setup old event new = IsDescribable old.tree setup.exports
     → IsDescribable new.tree setup.exports ⊎ MakesUnsaidLink setup old event new
 
+-- an event of bytes, at a moment of 32 bits
+pub record IsEvent (event : Event) : Type 0 where
+  pub bytes : AreBytes event.bytes
+  pub moment : IsTime event.moment
+
 abbrev pub StepsStayDescribable : Type 0
 StepsStayDescribable = (setup : Setup) (history : List Done) (old : State) (event : Event) (choice : Choice) (answer : Answer) (new : State)
-    → AreBytes event.bytes → Step setup history old event choice answer new → LeavesDescribable setup old event new
+    → IsEvent event → Step setup history old event choice answer new → LeavesDescribable setup old event new
 
--- an event of bytes makes no such link
+-- such an event makes no such link
 abbrev pub MakesNone : Setup → State → Event → State → Type 0
-MakesNone setup old event new = AreBytes event.bytes × (MakesUnsaidLink setup old event new → ⊥)
+MakesNone setup old event new = IsEvent event × (MakesUnsaidLink setup old event new → ⊥)
 
 abbrev pub RunsStayDescribable : Type 0
 RunsStayDescribable = (setup : Setup) (opening : State) → IsDescribable opening.tree setup.exports

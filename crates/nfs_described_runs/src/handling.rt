@@ -1,10 +1,12 @@
 //! A server's call, with what it leaves describable.
 ghost use Rattle.std.specs.Prelude.{◌≡◌};
 ghost use Rattle.nfs_described_runs.specs.Described.{LeavesDescribable};
+ghost use Rattle.nfs_load.specs.Moments.{IsTime};
 ghost use Rattle.nfs_server.specs.Fits.{Fits, History};
 ghost use Rattle.nfs_server.specs.InMemory.{event_of};
 ghost use Rattle.nfs_xdr.specs.Reading.{AreBytes};
 
+use nfs_attrs::moment::Moment;
 use nfs_server::event::{Event, Handled};
 use nfs_server::reply_buf::ReplyBuf;
 use nfs_server::server::Server;
@@ -17,6 +19,7 @@ pub fn handle(server: &mut Server, event: Event<'_>, reply: &mut ReplyBuf) -> Ha
         → LeavesDescribable server.old.setup server.old.state (event_of event.entry) server.new.state }
 {
     lent(event.bytes);
+    now(event.moment);
     server.handle(event, reply)
 }
 
@@ -26,4 +29,12 @@ fn lent(bytes: &[u8]) -> &[u8]
     ensures bytes { AreBytes result.now }
 {
     bytes
+}
+
+// The same moment. That both its numbers are below 2^32 is known of what is handed over.
+fn now(moment: Moment) -> Moment
+    ensures all { result ≡ moment }
+    ensures time { IsTime result }
+{
+    moment
 }

@@ -49,7 +49,7 @@ pub fn build<R: Files + AllocGlobal>(
     for found in survey.found.iter().skip(1) {
         builder.add(rt, found)?;
     }
-    if survey.purpose == Purpose::Serving {
+    if survey.purpose.has_times() {
         builder.set_times(survey.found.as_slice());
     }
     let Builder {
@@ -199,7 +199,7 @@ impl Builder<'_> {
             return Ok(Err(SkipReason::Unreadable));
         };
         let target = target.to_string_lossy().as_bytes();
-        if self.purpose == Purpose::Describing && !is_target(target) {
+        if self.purpose.is_description() && !is_target(target) {
             return Ok(Err(SkipReason::Target));
         }
         if !self.tree.may_make_link(dir, name, target) {

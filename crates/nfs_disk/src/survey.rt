@@ -20,10 +20,24 @@ use std::rt::Files;
 /// What a directory on disk is read for.
 #[derive(Clone, Copy, Debug, PartialEq, Eq)]
 pub enum Purpose {
-    /// A description: what it can't hold is skipped.
+    /// A description without times: what it can't hold is skipped.
     Describing,
+    /// The same, with times.
+    DescribingTimes,
     /// A volume that is served as it is.
     Serving,
+}
+
+impl Purpose {
+    /// Whether what a description can't hold is skipped.
+    pub(crate) fn is_description(self) -> bool {
+        self != Purpose::Serving
+    }
+
+    /// Whether files get the times that they have on disk.
+    pub(crate) fn has_times(self) -> bool {
+        self != Purpose::Describing
+    }
 }
 
 /// What a directory on disk holds, with what is skipped of it.
@@ -213,7 +227,7 @@ fn is_because(reason: SkipReason, found: SkipReason) -> bool
 // What kind of file stands at a path, or why it is skipped.
 fn kind_for(purpose: Purpose, metadata: &Metadata, path: &str) -> Result<Kind, SkipReason> {
     match kind_of(metadata) {
-        Some(kind) if purpose == Purpose::Describing => kind_to_say(kind, metadata.len(), path),
+        Some(kind) if purpose.is_description() => kind_to_say(kind, metadata.len(), path),
         Some(kind) => Ok(kind),
         None => Err(SkipReason::OtherKind),
     }

@@ -184,6 +184,7 @@ keyword_reported keyword.Hard [] row said e = cc
 keyword_reported keyword.Hard (path ∷ []) row said e = cc
 keyword_reported keyword.Hard (path ∷ old ∷ rest) row said e =
     reported_as row (record { keyword = keyword.Hard; path = path; old = Some old }) e (hard_reported path said.0 old said.1.0)
+keyword_reported keyword.Times fields row said e = cc
 
 words_reported : (ws : List (List ℕ)) (row : PathRow) → AllSaid ws → row_in ws ≡ Some row → IsReported row
 words_reported [] row said e = cc

@@ -4,7 +4,7 @@ use Rattle.sha2.specs.Sha256.{sha256}
 use Rattle.nfs_text.specs.Words.{words}
 use Rattle.nfs_load.specs.Lines.{is_comment, keyword_named}
 use Rattle.nfs_load.specs.declared.line.Keyword.{Keyword}
-use Rattle.nfs_load.specs.declared.line.Keyword.TheVariants.{Server, Limits, Volume, Export, Dir, File, Link, Hard}
+use Rattle.nfs_load.specs.declared.line.Keyword.TheVariants.{Server, Limits, Volume, Export, Dir, File, Link, Hard, Times}
 
 -- what a line names: a path, and, where the file at it has another name, that path too, both as they are written
 pub record PathRow : Type 0 where
@@ -33,6 +33,7 @@ row_by Dir fields = one_path Dir fields
 row_by File fields = one_path File fields
 row_by Link fields = one_path Link fields
 row_by Hard fields = two_paths Hard fields
+row_by Times fields = None
 
 abbrev pub row_if : Option Keyword → List (List ℕ) → Option PathRow
 row_if None fields = None
@@ -66,6 +67,7 @@ makes_file Dir = true
 makes_file File = true
 makes_file Link = true
 makes_file Hard = false
+makes_file Times = false
 
 -- ---- the key
 
@@ -78,6 +80,7 @@ word_of Dir = codes "dir"
 word_of File = codes "file"
 word_of Link = codes "link"
 word_of Hard = codes "hard"
+word_of Times = codes "times"
 
 abbrev pub old_text : Option (List ℕ) → List ℕ
 old_text None = []

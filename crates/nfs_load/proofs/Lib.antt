@@ -6,3 +6,4 @@ pub mod Writes
 pub mod Entries
 pub mod Statements
 pub mod Loadings
+pub mod Timed

@@ -18,11 +18,11 @@ use Rattle.nfs_load.specs.declared.loaded.Loaded.{Loaded}
 use Rattle.nfs_load.specs.declared.refusal.Refusal.{Refusal}
 use Rattle.nfs_load.specs.declared.refusal.Refusal.TheVariants.{Fault, Memory}
 use Rattle.nfs_load.specs.declared.statement.ExportLine.{ExportLine}
-use Rattle.nfs_load.specs.Effects.{AddsVolume, IsOpen, MakesDir, MakesFile, MakesLink, AddsName, free_path}
+use Rattle.nfs_load.specs.Effects.{AddsVolume, IsOpen, MakesDir, MakesFile, MakesLink, AddsName, SetsTimes, free_path}
 use Rattle.nfs_load.specs.Fields.{◌>>=◌, by, key_in}
 use Rattle.nfs_load.specs.LimitFields.{limits_in}
 use Rattle.nfs_load.specs.Lines.{Line, shape}
-use Rattle.nfs_load.specs.Statements.{Read, VolumeLine, WantsContent, volume_in, export_in, dir_in, file_in, link_in, hard_in}
+use Rattle.nfs_load.specs.Statements.{Read, VolumeLine, WantsContent, volume_in, export_in, dir_in, file_in, link_in, hard_in, times_in}
 
 -- ---- one line
 
@@ -91,6 +91,7 @@ GoesOn old keyword.Dir fields result new = OnTree (dir_in fields) MakesDir old r
 GoesOn old keyword.File fields result new = FileDone old fields result new
 GoesOn old keyword.Link fields result new = OnTree (link_in old.tree.limits.link_path fields) MakesLink old result new
 GoesOn old keyword.Hard fields result new = OnTree (hard_in fields) AddsName old result new
+GoesOn old keyword.Times fields result new = OnTree (times_in fields) SetsTimes old result new
 
 -- the server line makes an empty tree and an empty table
 abbrev pub begun : Keyword → List (List ℕ) → Result Loaded Cause
@@ -104,6 +105,7 @@ begun keyword.Dir fields = Err NoServer
 begun keyword.File fields = Err NoServer
 begun keyword.Link fields = Err NoServer
 begun keyword.Hard fields = Err NoServer
+begun keyword.Times fields = Err NoServer
 
 abbrev pub Begins : Result Loaded Cause → Result Unit Refusal → Option Loaded → Type 0
 Begins (Ok loaded) result new = (result ≡ Ok tt) × (new ≡ Some loaded)

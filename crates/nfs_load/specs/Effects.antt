@@ -1,9 +1,10 @@
 -- What the lines of a description do to a tree, each by itself.
 use Rattle.std.specs.Prelude.{◌≡◌, ℕ, List, length, Option, Some, None, is_some, Result, Ok, Err, if◌then◌else◌}
 use Rattle.nfs_attrs.specs.declared.moment.Moment.{Moment}
+use Rattle.nfs_inodes.specs.declared.given_attributes.GivenAttributes.{GivenAttributes}
 use Rattle.nfs_inodes.specs.declared.new_file.NewFile.{NewFile}
 use Rattle.nfs_inodes.specs.Tree.{Tree}
-use Rattle.nfs_inodes.specs.Changes.{Makes, after_add_volume, after_mkdir, after_make_file, after_make_link, after_link}
+use Rattle.nfs_inodes.specs.Changes.{Makes, after_add_volume, after_mkdir, after_make_file, after_make_link, after_link, after_set}
 use Rattle.nfs_inodes.specs.Conditions.{MayAddVolume, MayMakeDirectory, MayMake, MayMakeLink, MayLink}
 use Rattle.nfs_inodes.specs.Reading.{attributes_at, volume_named}
 use Rattle.nfs_load.specs.declared.cause.Cause.{Cause}
@@ -16,8 +17,8 @@ use Rattle.nfs_load.specs.declared.statement.DirLine.{DirLine}
 use Rattle.nfs_load.specs.declared.statement.HardLine.{HardLine}
 use Rattle.nfs_handles.specs.declared.number.Number.{Number}
 use Rattle.nfs_load.specs.Fields.{◌>>=◌}
-use Rattle.nfs_load.specs.PathEnds.{PathEnd, file_at, free_end, is_directory, end_of}
-use Rattle.nfs_load.specs.Statements.{VolumeLine, FileLine, LinkLine}
+use Rattle.nfs_load.specs.PathEnds.{PathEnd, file_at, file_or_root_at, free_end, is_directory, end_of}
+use Rattle.nfs_load.specs.Statements.{VolumeLine, FileLine, LinkLine, TimesLine}
 
 -- the time of everything that a description makes
 abbrev pub start : Moment
@@ -62,6 +63,18 @@ abbrev pub links_found : Result (kept.PathEnd × Number) Cause → Result (PathE
 links_found (Ok it) = Ok (end_of it.0, it.1.0)
 links_found (Err cause) = Err cause
 
+-- a file that lives
+abbrev pub living_file : Tree → Option ℕ → Result ℕ Cause
+living_file t None = Err NoTarget
+living_file t (Some n) = if is_some (attributes_at t n) then Ok n else Err NoTarget
+
+-- the file whose times a line gives
+abbrev pub timed_file : Tree → ℕ → TimesLine → Result ℕ Cause
+timed_file t root line = living_file t (file_or_root_at t root line.path)
+
+abbrev pub times_given : TimesLine → GivenAttributes
+times_given line = record { mode = None; uid = None; gid = None; atime = Some line.atime; mtime = Some line.mtime }
+
 -- ---- the lines, in the volume of a root
 
 abbrev pub AddsVolume : Tree → VolumeLine → Result Unit Refusal → Tree → Type 0
@@ -89,3 +102,11 @@ abbrev pub AddsName : Tree → ℕ → HardLine → Result Unit Refusal → Tree
 AddsName t root line result new = Does t (link_end t root line.path line.old)
     (λ it. MayLink t it.1 it.0.dir it.0.name)
     (λ it u. u ≡ after_link t it.1 it.0.dir it.0.name start) result new
+
+-- a file's times; no memory is wanted
+abbrev pub TimesSet : Tree → Result ℕ Cause → TimesLine → Result Unit Refusal → Tree → Type 0
+TimesSet t (Ok n) line result new = (result ≡ Ok tt) × (new ≡ after_set t n (times_given line) line.ctime)
+TimesSet t (Err cause) line result new = (result ≡ Err (Fault cause)) × (new ≡ t)
+
+abbrev pub SetsTimes : Tree → ℕ → TimesLine → Result Unit Refusal → Tree → Type 0
+SetsTimes t root line result new = TimesSet t (timed_file t root line) line result new

@@ -2,6 +2,7 @@ pub mod Causes
 pub mod Lines
 pub mod Fields
 pub mod LimitFields
+pub mod Moments
 pub mod Paths
 pub mod Statements
 pub mod PathEnds

@@ -6,7 +6,7 @@ use Rattle.nfs_text.specs.Words.{words, words_left}
 use Rattle.nfs_load.specs.declared.cause.Cause.{Cause}
 use Rattle.nfs_load.specs.declared.cause.Cause.TheVariants.{BadByte, UnknownWord, FieldCount}
 use Rattle.nfs_load.specs.declared.line.Keyword.{Keyword}
-use Rattle.nfs_load.specs.declared.line.Keyword.TheVariants.{Server, Limits, Volume, Export, Dir, File, Link, Hard}
+use Rattle.nfs_load.specs.declared.line.Keyword.TheVariants.{Server, Limits, Volume, Export, Dir, File, Link, Hard, Times}
 use Rattle.nfs_load.specs.declared.line.Line as kept
 
 -- the byte `#`
@@ -31,7 +31,8 @@ keyword_named word =
     else (if bytes_eq word (codes "file") then Some File
     else (if bytes_eq word (codes "link") then Some Link
     else (if bytes_eq word (codes "hard") then Some Hard
-    else None)))))))
+    else (if bytes_eq word (codes "times") then Some Times
+    else None))))))))
 
 -- whether a keyword takes so many fields
 abbrev pub takes : Keyword → ℕ → Bool
@@ -43,6 +44,7 @@ takes Dir count = nat_eq count 4
 takes File count = nat_eq count 5
 takes Link count = nat_eq count 4
 takes Hard count = nat_eq count 2
+takes Times count = nat_eq count 4
 
 -- a line that asks for something: its keyword, and the words after it
 pub record Line : Type 0 where

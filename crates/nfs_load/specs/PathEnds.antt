@@ -34,6 +34,11 @@ end_at t root (name ∷ names) = end_after t root name names
 abbrev pub file_at : Tree → ℕ → List (List ℕ) → Option ℕ
 file_at t root path = on_some (end_at t root path) None (λ end. number_under t end.dir end.name)
 
+-- the same of a path that may have no names, which is the root's
+abbrev pub file_or_root_at : Tree → ℕ → List (List ℕ) → Option ℕ
+file_or_root_at t root [] = Some root
+file_or_root_at t root (name ∷ names) = file_at t root (name ∷ names)
+
 abbrev pub unless_taken : Tree → Option PathEnd → Result PathEnd Cause
 unless_taken t None = Err NoParent
 unless_taken t (Some end) = if is_some (number_under t end.dir end.name) then Err NameTaken else Ok end

@@ -29,6 +29,10 @@ named_path (Some rest) = Ok (chunks 47 rest)
 abbrev pub path_in : List ℕ → Result (List (List ℕ)) Cause
 path_in field = named_path (after_slash field)
 
+-- the slash alone, which is the root, or such a path
+abbrev pub path_or_root_in : List ℕ → Result (List (List ℕ)) Cause
+path_or_root_in field = if bytes_eq field (codes "/") then Ok [] else path_in field
+
 abbrev pub is_volume_path : List ℕ → Bool
 is_volume_path field = bytes_eq field (codes "/") || (nat_le (length field) max_volume_path_bytes && is_some (after_slash field))
 

@@ -1,5 +1,7 @@
 -- What the lines of a description say, by their fields from left to right.
-use Rattle.std.specs.Prelude.{◌≡◌, ℕ, List, Result, Ok}
+use Rattle.std.specs.Prelude.{◌≡◌, ℕ, List, [], Result, Ok}
+use Rattle.nfs_attrs.specs.declared.moment.Moment.{Moment}
+use Rattle.nfs_inodes.specs.Tree.{on_some}
 use Rattle.nfs_load.specs.declared.cause.Cause.{Cause}
 use Rattle.nfs_load.specs.declared.statement.Given.{Given}
 use Rattle.nfs_load.specs.declared.statement.DirLine.{DirLine}
@@ -7,9 +9,11 @@ use Rattle.nfs_load.specs.declared.statement.HardLine.{HardLine}
 use Rattle.nfs_load.specs.declared.statement.VolumeLine as volume
 use Rattle.nfs_load.specs.declared.statement.LinkLine as link
 use Rattle.nfs_load.specs.declared.statement.FileLine as file
+use Rattle.nfs_load.specs.declared.statement.TimesLine as times
 use Rattle.nfs_load.specs.declared.statement.ExportLine.{ExportLine}
 use Rattle.nfs_load.specs.Fields.{by, ◌>>=◌, SaysBytes, OfNext, content_in, mode_in, number_in, options_at, pattern_in, target_in}
-use Rattle.nfs_load.specs.Paths.{path_in, volume_path_in}
+use Rattle.nfs_load.specs.Moments.{moment_in}
+use Rattle.nfs_load.specs.Paths.{path_in, path_or_root_in, volume_path_in}
 
 -- a value and the fields after it, or a cause
 abbrev pub Read : Type 0 → Type 0
@@ -98,12 +102,30 @@ hard_in fields = do
   old ← by path_in path.1
   Ok (record { path = path.0; old = old.0 }, old.1)
 
+-- PATH ATIME MTIME CTIME; the root has no names
+pub record TimesLine : Type 0 where
+  pub path : List (List ℕ)
+  pub atime : Moment
+  pub mtime : Moment
+  pub ctime : Moment
+
+abbrev pub times_in : List (List ℕ) → Read TimesLine
+times_in fields = do
+  path ← by path_or_root_in fields
+  atime ← by moment_in path.1
+  mtime ← by moment_in atime.1
+  ctime ← by moment_in mtime.1
+  Ok (record { path = path.0; atime = atime.0; mtime = mtime.0; ctime = ctime.0 }, ctime.1)
+
 -- lines as they are in memory
 abbrev pub volume_line_of : volume.VolumeLine → VolumeLine
 volume_line_of line = record { path = line.path.now; max_bytes = line.max_bytes; max_files = line.max_files; given = line.given }
 
 abbrev pub link_line_of : link.LinkLine → LinkLine
 link_line_of line = record { path = line.path; uid = line.uid; gid = line.gid; target = line.target.now }
+
+abbrev pub times_line_of : times.TimesLine → TimesLine
+times_line_of line = record { path = on_some line.path [] (λ names. names); atime = line.atime; mtime = line.mtime; ctime = line.ctime }
 
 abbrev pub file_line_of : file.FileLine → FileLine
 file_line_of line = record { path = line.path; given = line.given; content = line.content.items }

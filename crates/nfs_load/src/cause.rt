@@ -44,7 +44,7 @@ pub enum Cause {
     NoParent,
     /// The name is taken.
     NameTaken,
-    /// The other name of the file is missing, or a directory's.
+    /// The file that a line is about is missing; of a `hard` line also where it is a directory.
     NoTarget,
     /// A limit of the tree, of the volume or of the table is reached.
     Full,

@@ -1,17 +1,19 @@
 //! What a line does to the tree.
 ghost use Rattle.std.specs.Prelude.{◌≡◌};
-ghost use Rattle.nfs_load.specs.Statements.{file_line_of, link_line_of, volume_line_of};
-ghost use Rattle.nfs_load.specs.Effects.{AddsName, AddsVolume, MakesDir, MakesFile, MakesLink};
-ghost use Rattle.nfs_load.specs.Effects.{attributes, link_attributes, link_end, links_found};
+ghost use Rattle.std.specs.Result.{result_map_both};
+ghost use Rattle.nfs_load.specs.Statements.{file_line_of, link_line_of, times_line_of, volume_line_of};
+ghost use Rattle.nfs_load.specs.Effects.{AddsName, AddsVolume, MakesDir, MakesFile, MakesLink, SetsTimes};
+ghost use Rattle.nfs_load.specs.Effects.{attributes, link_attributes, link_end, links_found, timed_file};
 
 use crate::cause::Cause;
 use crate::path::Path;
-use crate::path_end::{PathEnd, find_file, find_free_end, is_directory};
+use crate::path_end::{PathEnd, find_file, find_file_or_root, find_free_end, is_directory};
 use crate::refusal::Refusal;
-use crate::statement::{DirLine, FileLine, Given, HardLine, LinkLine, VolumeLine};
+use crate::statement::{DirLine, FileLine, Given, HardLine, LinkLine, TimesLine, VolumeLine};
 use nfs_attrs::moment::Moment;
 use nfs_content::pages::Pages;
 use nfs_handles::number::Number;
+use nfs_inodes::given_attributes::GivenAttributes;
 use nfs_inodes::new_file::{NewContent, NewFile};
 use nfs_inodes::tree::Tree;
 
@@ -104,6 +106,33 @@ pub(crate) fn add_name(tree: &mut Tree, root: Number, line: &HardLine<'_>) -> Re
     }
     tree.link(file, end.dir, end.name, START)?;
     Ok(())
+}
+
+/// A `times` line, in the volume of this root: a file has these times. `NoTarget` where its path
+/// names none.
+pub(crate) fn set_times(tree: &mut Tree, root: Number, line: &TimesLine<'_>) -> Result<(), Refusal>
+    ensures { SetsTimes tree.old root.0 (times_line_of line.now) result tree.new }
+{
+    let file = find_timed_file(tree, root, line)?;
+    let given = GivenAttributes {
+        mode: None,
+        uid: None,
+        gid: None,
+        atime: Some(line.atime),
+        mtime: Some(line.mtime),
+    };
+    tree.set(file, &given, line.ctime);
+    Ok(())
+}
+
+// The file of a `times` line.
+fn find_timed_file(tree: &Tree, root: Number, line: &TimesLine<'_>) -> Result<Number, Cause>
+    ensures { result_map_both (λ n. n.0) (λ cause. cause) result ≡ timed_file tree.now root.0 (times_line_of line.now) }
+{
+    match find_file_or_root(tree, root, &line.path) {
+        Some(file) if tree.attributes(file).is_some() => Ok(file),
+        _ => Err(Cause::NoTarget),
+    }
 }
 
 // The free end of a path, and a file that is no directory.

@@ -1,14 +1,18 @@
 //! The fields of a line, read from left to right.
-ghost use Rattle.std.specs.Prelude.{◌≡◌, Ok};
+ghost use Rattle.std.specs.Prelude.{◌≡◌, [], Ok};
+ghost use Rattle.nfs_inodes.specs.Tree.{on_some};
 ghost use Rattle.nfs_text.specs.Words.{words_left};
 ghost use Rattle.nfs_load.specs.Fields.{by, content_in, key_in, mode_in, number_in, options_at, pattern_in, target_in, SaysBytes, OfNext, Takes, TakesIfRoom};
-ghost use Rattle.nfs_load.specs.Paths.{path_in, volume_path_in};
+ghost use Rattle.nfs_load.specs.Moments.{moment_in};
+ghost use Rattle.nfs_load.specs.Paths.{path_in, path_or_root_in, volume_path_in};
 
 use crate::cause::Cause;
 use crate::field::{read_content, read_key, read_mode, read_number};
 use crate::limits::MAX_ID;
-use crate::path::{Path, read_path, read_volume_path};
+use crate::moment::read_moment;
+use crate::path::{Path, read_path, read_path_or_root, read_volume_path};
 use crate::refusal::Refusal;
+use nfs_attrs::moment::Moment;
 use nfs_exports::options::{Options, parse_options};
 use nfs_exports::pattern::{Pattern, parse_pattern};
 use nfs_inodes::tree::Tree;
@@ -75,6 +79,20 @@ impl<'a> Fields<'a> {
         ensures { Takes (λ path. path) self.new result (by path_in self.old) }
     {
         read_path(self.next()?)
+    }
+
+    /// A path, or `None` for the root. `BadPath` where the field is neither.
+    pub fn path_or_root(&mut self) -> Result<Option<Path<'a>>, Cause>
+        ensures { Takes (λ path. on_some path [] (λ names. names)) self.new result (by path_or_root_in self.old) }
+    {
+        read_path_or_root(self.next()?)
+    }
+
+    /// A time. `BadNumber` where the field is none.
+    pub fn moment(&mut self) -> Result<Moment, Cause>
+        ensures { Takes (λ moment. moment) self.new result (by moment_in self.old) }
+    {
+        read_moment(self.next()?)
     }
 
     /// A volume's path. `BadVolumePath` where the field is none.

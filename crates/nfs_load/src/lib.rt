@@ -14,6 +14,7 @@ mod listing_line;
 pub mod load_error;
 pub mod loaded;
 pub mod loading;
+mod moment;
 pub mod path;
 pub mod path_end;
 pub mod refusal;

@@ -26,6 +26,8 @@ pub enum Keyword {
     Link,
     /// A hard link of a file.
     Hard,
+    /// The times of a file.
+    Times,
 }
 
 /// A line that asks for something: its keyword, and its fields.
@@ -112,6 +114,8 @@ pub fn keyword_of(word: &[u8]) -> Option<Keyword>
         Some(Keyword::Link)
     } else if word == b"hard".as_slice() {
         Some(Keyword::Hard)
+    } else if word == b"times".as_slice() {
+        Some(Keyword::Times)
     } else {
         None
     }
@@ -126,7 +130,7 @@ fn takes(keyword: Keyword, count: usize) -> bool
         Keyword::Limits => count >= 1 && count <= 4,
         Keyword::Volume => count == 6,
         Keyword::Export => count == 1 || count == 2,
-        Keyword::Dir | Keyword::Link => count == 4,
+        Keyword::Dir | Keyword::Link | Keyword::Times => count == 4,
         Keyword::File => count == 5,
         Keyword::Hard => count == 2,
     }

@@ -8,14 +8,14 @@ ghost use Rattle.nfs_load.specs.Descriptions.{GoesOn, LineDone, begun, finished}
 ghost use Rattle.nfs_load.specs.Loadings.{LineTaken, at_end, nothing};
 
 use crate::cause::Cause;
-use crate::changes::{add_name, add_volume, make_file, make_link, mkdir};
+use crate::changes::{add_name, add_volume, make_file, make_link, mkdir, set_times};
 use crate::fields::Fields;
 use crate::limit_fields::read_limits;
 use crate::line::{Keyword, Line, read_line};
 use crate::load_error::LoadError;
 use crate::loaded::Loaded;
 use crate::refusal::Refusal;
-use crate::statement::{DirLine, ExportLine, FileLine, HardLine, LinkLine, VolumeLine};
+use crate::statement::{DirLine, ExportLine, FileLine, HardLine, LinkLine, TimesLine, VolumeLine};
 use nfs_exports::export_table::ExportTable;
 use nfs_exports::limits::MAX_PATTERNS;
 use nfs_handles::number::Number;
@@ -146,6 +146,7 @@ fn go_on(alloc: Global, loaded: &mut Loaded, line: Line<'_>) -> Result<(), Refus
         Keyword::File => take_file(alloc, loaded, &mut fields),
         Keyword::Link => take_link(loaded, &mut fields),
         Keyword::Hard => take_hard(loaded, &mut fields),
+        Keyword::Times => take_times(loaded, &mut fields),
     }
 }
 
@@ -227,6 +228,16 @@ fn take_hard(loaded: &mut Loaded, fields: &mut Fields<'_>) -> Result<(), Refusal
     let root = last_root(&loaded.tree)?;
     let line = HardLine::read(fields)?;
     add_name(&mut loaded.tree, root, &line)
+}
+
+fn take_times(loaded: &mut Loaded, fields: &mut Fields<'_>) -> Result<(), Refusal>
+    requires { length loaded.old.table ≡ length loaded.old.tree.volumes }
+    ensures done { GoesOn loaded.old Keyword.Times fields.old result loaded.new }
+    ensures lists { OnOk result (length loaded.new.table ≡ length loaded.new.tree.volumes) }
+{
+    let root = last_root(&loaded.tree)?;
+    let line = TimesLine::read(fields)?;
+    set_times(&mut loaded.tree, root, &line)
 }
 
 // The root of the last volume. `NoVolume` where there is none.

@@ -1,10 +1,11 @@
 //! Paths: names after slashes.
-ghost use Rattle.std.specs.Prelude.{◌≡◌, option_map};
+ghost use Rattle.std.specs.Prelude.{◌≡◌, ◌≢◌, [], option_map};
 ghost use Rattle.std.specs.List.{list_all};
 ghost use Rattle.std.specs.Result.{result_map_both};
 ghost use Rattle.nfs_text.specs.Chunks.{chunks, chunks_left};
 ghost use Rattle.nfs_load.specs.Paths as spec;
-ghost use Rattle.nfs_load.specs.Paths.{path_in, volume_path_in};
+ghost use Rattle.nfs_inodes.specs.Tree.{on_some};
+ghost use Rattle.nfs_load.specs.Paths.{path_in, path_or_root_in, volume_path_in};
 
 use crate::cause::Cause;
 use crate::limits::MAX_PATH_BYTES;
@@ -19,12 +20,14 @@ pub struct Path<'a> {
 }
 
 impl<'a> Model for Path<'a> {
-    ghost use Rattle.std.specs.Prelude.{ℕ, List};
+    ghost use Rattle.std.specs.Prelude.{◌≢◌, ℕ, List, []};
     ghost use Rattle.nfs_text.specs.Chunks.{chunks};
 
     ghost Value = { List (List ℕ) };
 
     ghost view = { λ path. chunks 47 path.after_slash.now };
+
+    ghost invariant = { λ path. chunks 47 path.after_slash.now ≢ [] };
 }
 
 impl<'a> Path<'a> {
@@ -33,6 +36,13 @@ impl<'a> Path<'a> {
         ensures { chunks_left result ≡ self.now }
     {
         Chunks::new(self.after_slash, b'/')
+    }
+
+    /// There is at least one.
+    pub(crate) fn law(&self)
+        ensures { self.now ≢ [] }
+    {
+        let _ = &self.after_slash;
     }
 }
 
@@ -45,6 +55,17 @@ pub(crate) fn read_path(field: &[u8]) -> Result<Path<'_>, Cause>
         Some(after_slash) => Ok(Path { after_slash }),
         None => Err(Cause::BadPath),
     }
+}
+
+/// A path, or `None` where the field is `/` alone, which is the root. `BadPath` where it is neither.
+pub(crate) fn read_path_or_root(field: &[u8]) -> Result<Option<Path<'_>>, Cause>
+    ensures { result_map_both (λ path. on_some path [] (λ names. names)) (λ cause. cause) result ≡ path_or_root_in field.now }
+{
+    if field == b"/".as_slice() {
+        return Ok(None);
+    }
+    let path = read_path(field)?;
+    Ok(Some(path))
 }
 
 /// A volume's path. `BadVolumePath` where the field is neither `/` alone nor a path of at most 255

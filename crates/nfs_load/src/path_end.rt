@@ -1,8 +1,9 @@
 //! Where a path leads in a volume.
-ghost use Rattle.std.specs.Prelude.{◌≡◌, option_map};
+ghost use Rattle.std.specs.Prelude.{◌≡◌, [], option_map};
+ghost use Rattle.nfs_inodes.specs.Tree.{on_some};
 ghost use Rattle.nfs_inodes.specs.Reading.{attributes_at};
 ghost use Rattle.nfs_load.specs.PathEnds as spec;
-ghost use Rattle.nfs_load.specs.PathEnds.{file_at, free_end, end_at, end_of, ends_of};
+ghost use Rattle.nfs_load.specs.PathEnds.{file_at, file_or_root_at, free_end, end_at, end_of, ends_of};
 
 use crate::cause::Cause;
 use crate::path::Path;
@@ -61,6 +62,23 @@ pub(crate) fn find_file(tree: &Tree, root: Number, path: &Path<'_>) -> Option<Nu
 {
     let end = find_path_end(tree, root, path)?;
     tree.lookup(end.dir, end.name)
+}
+
+/// The file that a path names; without one, the root.
+pub(crate) fn find_file_or_root(
+    tree: &Tree,
+    root: Number,
+    path: &Option<Path<'_>>,
+) -> Option<Number>
+    ensures { option_map (λ n. n.0) result ≡ file_or_root_at tree.now root.0 (on_some path.now [] (λ names. names)) }
+{
+    match path {
+        Some(path) => {
+            path.law();
+            find_file(tree, root, path)
+        }
+        None => Some(root),
+    }
 }
 
 /// Whether a file is a directory.

@@ -1,12 +1,13 @@
 //! What a line says.
 ghost use Rattle.std.specs.Prelude.{◌≡◌};
 ghost use Rattle.nfs_load.specs.Fields.{Takes, TakesIfRoom};
-ghost use Rattle.nfs_load.specs.Statements.{WantsContent, dir_in, export_in, file_in, file_line_of, given_in, hard_in, link_line_of, link_in, volume_in, volume_line_of};
+ghost use Rattle.nfs_load.specs.Statements.{WantsContent, dir_in, export_in, file_in, file_line_of, given_in, hard_in, link_line_of, link_in, times_in, times_line_of, volume_in, volume_line_of};
 
 use crate::cause::Cause;
 use crate::fields::Fields;
 use crate::path::Path;
 use crate::refusal::Refusal;
+use nfs_attrs::moment::Moment;
 use nfs_exports::options::Options;
 use nfs_exports::pattern::Pattern;
 use nfs_inodes::limits::MAX_VOLUME_BYTES;
@@ -86,6 +87,19 @@ pub struct HardLine<'a> {
     pub path: Path<'a>,
     /// A path that the file has.
     pub old: Path<'a>,
+}
+
+/// `times PATH ATIME MTIME CTIME`: the times of a file (RFC 1813, section 2.6).
+#[derive(Drop)]
+pub struct TimesLine<'a> {
+    /// Its path in the last volume; `None` for the root.
+    pub path: Option<Path<'a>>,
+    /// When it was read last.
+    pub atime: Moment,
+    /// When it was written last.
+    pub mtime: Moment,
+    /// When its attributes were changed last.
+    pub ctime: Moment,
 }
 
 impl Given {
@@ -190,5 +204,23 @@ impl<'a> HardLine<'a> {
         let path = fields.path()?;
         let old = fields.path()?;
         Ok(HardLine { path, old })
+    }
+}
+
+impl<'a> TimesLine<'a> {
+    /// The fields of such a line. The first cause from left to right: `BadPath` or `BadNumber`.
+    pub fn read(fields: &mut Fields<'a>) -> Result<TimesLine<'a>, Cause>
+        ensures { Takes times_line_of fields.new result (times_in fields.old) }
+    {
+        let path = fields.path_or_root()?;
+        let atime = fields.moment()?;
+        let mtime = fields.moment()?;
+        let ctime = fields.moment()?;
+        Ok(TimesLine {
+            path,
+            atime,
+            mtime,
+            ctime,
+        })
     }
 }

@@ -28,15 +28,15 @@ shown_digit c digit = grind (arith, nat_tests)
 ascii_digit : (c : ℕ) → digit_value c < 10 → is_ascii_digit c ≡ true
 ascii_digit c digit = grind (arith, nat_tests)
 
-digits_shown : (ds : List ℕ) → AllDigits 10 ds → list_all is_shown ds ≡ true
+pub digits_shown : (ds : List ℕ) → AllDigits 10 ds → list_all is_shown ds ≡ true
 digits_shown [] all = refl
 digits_shown (c ∷ ds) all = and_true (is_shown c) (list_all is_shown ds) (shown_digit c all.0) (digits_shown ds all.1)
 
-digits_ascii : (ds : List ℕ) → AllDigits 10 ds → list_all is_ascii_digit ds ≡ true
+pub digits_ascii : (ds : List ℕ) → AllDigits 10 ds → list_all is_ascii_digit ds ≡ true
 digits_ascii [] all = refl
 digits_ascii (c ∷ ds) all = and_true (is_ascii_digit c) (list_all is_ascii_digit ds) (ascii_digit c all.0) (digits_ascii ds all.1)
 
-some : (n : ℕ) → 0 < n → nat_lt 0 n ≡ true
+pub some : (n : ℕ) → 0 < n → nat_lt 0 n ≡ true
 some n less = grind (arith, nat_tests)
 
 pub upto : (m n : ℕ) → m ≤ n → nat_le m n ≡ true
@@ -46,7 +46,7 @@ pub decimal_said : (n : ℕ) → n < 2 ^ 64 → is_said (decimal n) ≡ true
 decimal_said n small = let d = decimal_is_IsNumeral n small in
     and_true (nat_lt 0 (length (decimal n))) (list_all is_shown (decimal n)) (some (length (decimal n)) d.0.0) (digits_shown (decimal n) d.0.1)
 
-decimal_read : (max n : ℕ) (text : List ℕ) → 0 < length text → list_all is_ascii_digit text ≡ true → digits_value 10 text ≡ n → n ≤ max → decimal_of max text ≡ Some n
+pub decimal_read : (max n : ℕ) (text : List ℕ) → 0 < length text → list_all is_ascii_digit text ≡ true → digits_value 10 text ≡ n → n ≤ max → decimal_of max text ≡ Some n
 decimal_read max n text long digits value le =
     ap (λ b. if b then Some (digits_value 10 text) else None)
     (and_true (nat_lt 0 (length text)) (list_all is_ascii_digit text && nat_le (digits_value 10 text) max) (some (length text) long)

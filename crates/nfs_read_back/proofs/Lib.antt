@@ -3,6 +3,7 @@ pub mod ExportOptions
 pub mod Exports
 pub mod Limits
 pub mod Lines
+pub mod Moments
 pub mod Patterns
 pub mod Separators
 pub mod Statements

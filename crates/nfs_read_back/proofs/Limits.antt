@@ -1,13 +1,12 @@
 -- The limits of a tree, as they are written and read.
-use Rattle.std.proofs.Common.{inl, inr, ◌≡◌, ◌⊎◌, ℕ, ◌+◌, ◌<◌, ◌≤◌, ◌^◌, Bool, true, false, nat_eq, List, [], ◌∷◌, ◌++◌, length, Some, Ok, refl, sym, ap, subst, ◌∙◌, append_assoc, append-nil, arith}
+use Rattle.std.proofs.Common.{inl, inr, ◌≡◌, ◌⊎◌, ℕ, ◌<◌, ◌≤◌, ◌^◌, Bool, true, false, nat_eq, List, [], ◌∷◌, ◌++◌, length, Some, Ok, refl, sym, ap, subst, ◌∙◌, append_assoc, append-nil, arith}
 use Rattle.std.specs.List.{list_all}
 use Rattle.std.specs.Prelude.{Err, Result, codes, decimal, nat_le, if◌then◌else◌}
 use Rattle.std.proofs.lemmas.Bool.{eqb-true, le-leb}
 use Rattle.std.proofs.lemmas.List.{length-append}
-use Rattle.nfs_text.specs.Chunks.{cut}
 use Rattle.nfs_inodes.specs.Limits.{AreLimits, default_limits, max_path_bytes}
 use Rattle.nfs_inodes.specs.declared.limits.Limits.{Limits}
-use Rattle.nfs_load.specs.Fields.{◌>>=◌, number_in}
+use Rattle.nfs_load.specs.Fields.{◌>>=◌}
 use Rattle.nfs_load.specs.LimitFields.{limit_in, limit_of, limits_in}
 use Rattle.nfs_load.specs.Lines.{takes}
 use Rattle.nfs_load.specs.declared.cause.Cause.{Cause}

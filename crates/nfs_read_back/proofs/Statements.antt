@@ -3,20 +3,23 @@ use Rattle.std.proofs.Common.{◌≡◌, ℕ, ◌<◌, ◌≤◌, ◌^◌, true,
 use Rattle.std.specs.Prelude.{Result, Err, codes, decimal, nat_le, nat_lt, if◌then◌else◌}
 use Rattle.std.specs.List.{list_all}
 use Rattle.hex.specs.Hex.{encode_lower}
+use Rattle.nfs_attrs.specs.declared.moment.Moment.{Moment}
 use Rattle.nfs_inodes.specs.Limits.{max_path_bytes}
 use Rattle.nfs_load.specs.Fields.{◌>>=◌, after, by, content_in, mode_in, number_in, target_in}
 use Rattle.nfs_load.specs.Listings.{octal}
-use Rattle.nfs_load.specs.Paths.{path_in, volume_path_in}
-use Rattle.nfs_load.specs.Statements.{Read, id_in, given_in, volume_in, dir_in, file_in, link_in, hard_in}
+use Rattle.nfs_load.specs.Moments.{moment_in}
+use Rattle.nfs_load.specs.Paths.{path_in, path_or_root_in, volume_path_in}
+use Rattle.nfs_load.specs.Statements.{Read, id_in, given_in, volume_in, dir_in, file_in, link_in, hard_in, times_in}
 use Rattle.nfs_load.specs.declared.cause.Cause.{Cause}
 use Rattle.nfs_load.specs.declared.cause.Cause.TheVariants.{BadContent}
-use Rattle.nfs_load.specs.declared.line.Keyword.TheVariants.{Server, Volume, Dir, File, Link, Hard}
+use Rattle.nfs_load.specs.declared.line.Keyword.TheVariants.{Server, Volume, Dir, File, Link, Hard, Times}
 use Rattle.nfs_load.specs.declared.statement.Given.{Given}
-use Rattle.nfs_describe.specs.Lines.{content_text, dir_line, file_line, hard_line, is_shown, is_target, link_line, server_line, volume_line}
+use Rattle.nfs_describe.specs.Lines.{content_text, dir_line, file_line, hard_line, is_shown, is_target, link_line, moment_text, server_line, times_line, volume_line}
 use Rattle.nfs_read_back.specs.ReadBack.{IsGiven, is_said}
 use Rattle.nfs_read_back.specs.ReadBack as law
 use Rattle.nfs_read_back.proofs.Digits.{and_true, content_read, content_said, decimal_said, key_read, key_said, mode_read, mode_said, number_read, upto}
 use Rattle.nfs_read_back.proofs.Lines.{read_as}
+use Rattle.nfs_read_back.proofs.Moments.{moment_read, moment_said}
 use Rattle.nfs_read_back.proofs.Words.{both}
 
 -- ---- fields
@@ -68,6 +71,16 @@ hard_read : (path old : List ℕ) (names olds : List (List ℕ)) → path_in pat
 hard_read path old names olds is was =
     ap (λ (r : Result (List (List ℕ)) Cause). after (old ∷ []) r >>= (λ (path : List (List ℕ) × List (List ℕ)). by path_in path.1 >>= (λ (old : List (List ℕ) × List (List ℕ)). Ok (record { path = path.0; old = old.0 }, old.1)))) is
     ∙ ap (λ (r : Result (List (List ℕ)) Cause). after [] r >>= (λ (old : List (List ℕ) × List (List ℕ)). Ok (record { path = names; old = old.0 }, old.1))) was
+
+times_read : (path a m c : List ℕ) (names : List (List ℕ)) (atime mtime ctime : Moment) → path_or_root_in path ≡ Ok names → moment_in a ≡ Ok atime → moment_in m ≡ Ok mtime → moment_in c ≡ Ok ctime
+    → times_in (path ∷ a ∷ m ∷ c ∷ []) ≡ Ok (record { path = names; atime = atime; mtime = mtime; ctime = ctime }, [])
+times_read path a m c names atime mtime ctime is one two three =
+    ap (λ (r : Result (List (List ℕ)) Cause). after (a ∷ m ∷ c ∷ []) r >>= (λ (path : List (List ℕ) × List (List ℕ)). by moment_in path.1 >>= (λ (atime : Moment × List (List ℕ)). by moment_in atime.1 >>= (λ (mtime : Moment × List (List ℕ)).
+    by moment_in mtime.1 >>= (λ (ctime : Moment × List (List ℕ)). Ok (record { path = path.0; atime = atime.0; mtime = mtime.0; ctime = ctime.0 }, ctime.1)))))) is
+    ∙ ap (λ (r : Result Moment Cause). after (m ∷ c ∷ []) r >>= (λ (atime : Moment × List (List ℕ)). by moment_in atime.1 >>= (λ (mtime : Moment × List (List ℕ)).
+    by moment_in mtime.1 >>= (λ (ctime : Moment × List (List ℕ)). Ok (record { path = names; atime = atime.0; mtime = mtime.0; ctime = ctime.0 }, ctime.1))))) one
+    ∙ ap (λ (r : Result Moment Cause). after (c ∷ []) r >>= (λ (mtime : Moment × List (List ℕ)). by moment_in mtime.1 >>= (λ (ctime : Moment × List (List ℕ)). Ok (record { path = names; atime = atime; mtime = mtime.0; ctime = ctime.0 }, ctime.1)))) two
+    ∙ ap (λ (r : Result Moment Cause). after [] r >>= (λ (ctime : Moment × List (List ℕ)). Ok (record { path = names; atime = atime; mtime = mtime; ctime = ctime.0 }, ctime.1))) three
 
 volume_read : (limit : ℕ) (path b f : List ℕ) (bytes files : ℕ) (given : Given) (fields : List (List ℕ)) → volume_path_in path ≡ Ok path → number_in 0 1099511627776 b ≡ Ok bytes → number_in 1 limit f ≡ Ok files
     → given_in fields ≡ Ok (given, []) → volume_in limit (path ∷ b ∷ f ∷ fields) ≡ Ok (record { path = path; max_bytes = bytes; max_files = files; given = given }, [])
@@ -180,4 +193,13 @@ hards path old names olds said is old_said was = (
   path ∷ old ∷ [],
   read_as (hard_line path old) (codes "hard") (path ∷ old ∷ []) Hard (hard_words (codes "hard ") (codes " ") path old (10 ∷ []) space) (refl, (said, old_said)) refl refl refl,
   hard_read path old names olds is was,
+)
+
+pub times : law.TimesAreReadBack
+times path names atime mtime ctime said is accessed modified changed = (
+  path ∷ moment_text atime ∷ moment_text mtime ∷ moment_text ctime ∷ [],
+  read_as (times_line path atime mtime ctime) (codes "times") (path ∷ moment_text atime ∷ moment_text mtime ∷ moment_text ctime ∷ []) Times
+      (link_words (codes "times ") (codes " ") path (moment_text atime) (moment_text mtime) (moment_text ctime) (10 ∷ []) space)
+      (refl, (said, (moment_said atime accessed, (moment_said mtime modified, moment_said ctime changed)))) refl refl refl,
+  times_read path (moment_text atime) (moment_text mtime) (moment_text ctime) names atime mtime ctime is (moment_read atime accessed) (moment_read mtime modified) (moment_read ctime changed),
 )

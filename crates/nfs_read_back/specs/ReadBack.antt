@@ -3,19 +3,21 @@ use Rattle.std.specs.Prelude.{◌≡◌, ◌⊎◌, ℕ, ◌<◌, ◌≤◌, ◌
 use Rattle.std.specs.List.{list_all}
 use Rattle.hex.specs.Hex.{IsBytes}
 use Rattle.nfs_text.specs.Lines.{lines}
+use Rattle.nfs_attrs.specs.declared.moment.Moment.{Moment}
 use Rattle.nfs_exports.specs.declared.export_table.Export.{Export}
 use Rattle.nfs_inodes.specs.Limits.{AreLimits, default_limits}
 use Rattle.nfs_inodes.specs.declared.limits.Limits.{Limits}
 use Rattle.nfs_load.specs.Fields.{by, key_in}
 use Rattle.nfs_load.specs.LimitFields.{limits_in}
 use Rattle.nfs_load.specs.Lines.{shape}
-use Rattle.nfs_load.specs.Paths.{path_in, volume_path_in}
-use Rattle.nfs_load.specs.Statements.{volume_in, export_in, dir_in, file_in, link_in, hard_in}
+use Rattle.nfs_load.specs.Moments.{IsTime}
+use Rattle.nfs_load.specs.Paths.{path_in, path_or_root_in, volume_path_in}
+use Rattle.nfs_load.specs.Statements.{volume_in, export_in, dir_in, file_in, link_in, hard_in, times_in}
 use Rattle.nfs_load.specs.declared.line.Keyword.{Keyword}
 use Rattle.nfs_load.specs.declared.line.Keyword.TheVariants as keyword
-use Rattle.nfs_load.specs.declared.line.Keyword.TheVariants.{Server, Volume, Dir, File, Link, Hard}
+use Rattle.nfs_load.specs.declared.line.Keyword.TheVariants.{Server, Volume, Dir, File, Link, Hard, Times}
 use Rattle.nfs_load.specs.declared.statement.Given.{Given}
-use Rattle.nfs_describe.specs.Lines.{server_line, limits_line, volume_line, dir_line, file_line, link_line, hard_line, is_shown, is_target, export_line}
+use Rattle.nfs_describe.specs.Lines.{server_line, limits_line, volume_line, dir_line, file_line, link_line, hard_line, times_line, is_shown, is_target, export_line}
 
 -- a word: one or more bytes from `!` to `~`
 abbrev pub is_said : List ℕ → Bool
@@ -68,6 +70,12 @@ LinksAreReadBack = (most : ℕ) (path : List ℕ) (names : List (List ℕ)) (uid
 abbrev pub HardsAreReadBack : Type 0
 HardsAreReadBack = (path old : List ℕ) (names olds : List (List ℕ)) → is_said path ≡ true → path_in path ≡ Ok names → is_said old ≡ true → path_in old ≡ Ok olds
     → (fields : List (List ℕ)) × IsReadAs (hard_line path old) Hard fields × (hard_in fields ≡ Ok (record { path = names; old = olds }, []))
+
+abbrev pub TimesAreReadBack : Type 0
+TimesAreReadBack = (path : List ℕ) (names : List (List ℕ)) (atime mtime ctime : Moment) → is_said path ≡ true → path_or_root_in path ≡ Ok names
+    → IsTime atime → IsTime mtime → IsTime ctime
+    → (fields : List (List ℕ)) × IsReadAs (times_line path atime mtime ctime) Times fields
+    × (times_in fields ≡ Ok (record { path = names; atime = atime; mtime = mtime; ctime = ctime }, []))
 
 -- the bits of a pattern and the ids of the anonymous are within their bounds
 abbrev pub IsExport : Export → Type 0

@@ -1,14 +1,15 @@
 //! Laws over the definitions alone.
-ghost use Rattle.nfs_read_back.specs.ReadBack.{DirsAreReadBack, FilesAreReadBack, HardsAreReadBack, LinksAreReadBack};
+ghost use Rattle.nfs_read_back.specs.ReadBack.{DirsAreReadBack, FilesAreReadBack, HardsAreReadBack, LinksAreReadBack, TimesAreReadBack};
 ghost use Rattle.nfs_read_back.specs.ReadBack.{ExportsAreReadBack, LimitsAreReadBack, ServersAreReadBack, VolumesAreReadBack};
 
-/// The line that is written for a directory, a file, a link or a hard link asks for exactly that,
-/// wherever it stands in a text: the same path, mode, owner, group and content.
+/// The line that is written for a directory, a file, a link, a hard link or for times asks for exactly
+/// that, wherever it stands in a text: the same path, mode, owner, group, content and times.
 pub fn files_are_read_back()
     ensures dirs { DirsAreReadBack }
     ensures files { FilesAreReadBack }
     ensures links { LinksAreReadBack }
     ensures hards { HardsAreReadBack }
+    ensures times { TimesAreReadBack }
 {}
 
 /// The line that is written for a server says its key, the one for a tree its limits, and the one for a

@@ -2,8 +2,9 @@
 use Rattle.std.proofs.Common.{◌≡◌, ◌⊎◌, ℕ, ◌+◌, ◌<◌, zero, suc, Bool, true, false, List, [], ◌∷◌, ◌++◌, length, Option, Some, None, Result, Ok, Err, inl, inr, refl, sym, ap, subst, ◌∙◌, arith}
 use Rattle.std.specs.Prelude.{if◌then◌else◌}
 use Rattle.nfs_attrs.specs.declared.moment.Moment.{Moment}
-use Rattle.nfs_inodes.specs.Changes.{with_file, with_limits, with_new_file, with_named_file, with_entry, entered, touched, new_file, volume_index, after_link}
+use Rattle.nfs_inodes.specs.Changes.{with_file, with_limits, with_new_file, with_named_file, with_entry, entered, touched, new_file, volume_index, after_link, after_set, with_given}
 use Rattle.nfs_inodes.specs.Limits.{default_limits}
+use Rattle.nfs_inodes.specs.declared.given_attributes.GivenAttributes.{GivenAttributes}
 use Rattle.nfs_inodes.specs.declared.limits.Limits.{Limits}
 use Rattle.nfs_inodes.specs.Tree.{Tree, File, Regular, Directory, Link, at, on_some}
 use Rattle.nfs_load.specs.declared.cause.Cause.{Cause}
@@ -14,12 +15,12 @@ use Rattle.nfs_load.specs.declared.loaded.Loaded.{Loaded}
 use Rattle.nfs_load.specs.declared.statement.DirLine.{DirLine}
 use Rattle.nfs_load.specs.declared.statement.HardLine.{HardLine}
 use Rattle.nfs_load.specs.Descriptions.{Asked, Begins, ExportDone, GoesOn, InRoot, LimitsSet, LineDone, Then, Through, VolumeTaken, begun, early_limits, last_root}
-use Rattle.nfs_load.specs.Effects.{AddsName, MakesDir, MakesFile, MakesLink, attributes, link_attributes, start}
+use Rattle.nfs_load.specs.Effects.{AddsName, MakesDir, MakesFile, MakesLink, SetsTimes, TimesSet, attributes, link_attributes, start, timed_file, times_given}
 use Rattle.nfs_load.specs.Fields.{by, key_in, ◌>>=◌}
 use Rattle.nfs_load.specs.Lines.{counted, is_comment, is_text, keyword_named, shape_of, takes}
-use Rattle.nfs_load.specs.Statements.{FileLine, LinkLine, Read, VolumeLine, dir_in, export_in, file_in, hard_in, link_in, volume_in}
+use Rattle.nfs_load.specs.Statements.{FileLine, LinkLine, Read, TimesLine, VolumeLine, dir_in, export_in, file_in, hard_in, link_in, times_in, volume_in}
 use Rattle.nfs_text.specs.Words.{words}
-use Rattle.nfs_restarts.proofs.Tags.{AreFilled, dir_fills, file_fills, filled_alike, hard_fills, link_fills, volume_fills}
+use Rattle.nfs_restarts.proofs.Tags.{AreFilled, dir_fills, file_fills, filled_alike, hard_fills, link_fills, times_fill, volume_fills}
 use Rattle.nfs_lives.specs.Paths.{PathRow, row_by, row_if, row_in, row_of, rows_of, onto, makes_file}
 
 -- ---- the next number
@@ -43,6 +44,13 @@ next_named t d name f now = next_entered (with_new_file t f) d t.next name now
 
 next_linked : (t : Tree) (n d : ℕ) (name : List ℕ) (now : Moment) → (after_link t n d name now).next ≡ t.next
 next_linked t n d name now = next_entered (touched t n now) d n name now ∙ next_touched t n now
+
+next_set : (t : Tree) (n : ℕ) (given : GivenAttributes) (now : Moment) → (after_set t n given now).next ≡ t.next
+next_set t n given now = of (at n t.files)
+  where
+    of : (o : Option File) → (on_some o t (λ f. with_file t n (with_given f given now))).next ≡ t.next
+    of None = refl
+    of (Some f) = refl
 
 abbrev next_of : Tree → ℕ
 next_of t = t.next
@@ -69,6 +77,13 @@ hard_steps : (old new : Tree) (root : ℕ) (line : HardLine) → AddsName old ro
 hard_steps old new root line does =
     let it = does.0 in
     ap next_of does.3 ∙ next_linked old it.1 it.0.dir it.0.name start
+
+times_step : (old new : Tree) (root : ℕ) (line : TimesLine) → SetsTimes old root line (Ok tt) new → new.next ≡ old.next
+times_step old new root line does = of (timed_file old root line) does
+  where
+    of : (found : Result ℕ Cause) → TimesSet old found line (Ok tt) new → new.next ≡ old.next
+    of (Ok n) done = ap next_of done.1 ∙ next_set old n (times_given line) line.ctime
+    of (Err cause) done = cc
 
 -- ---- one line
 
@@ -129,6 +144,9 @@ module _ (old new : Loaded) where
   goes_on keyword.Hard (path ∷ target ∷ rest) few done =
       in_volume (λ n line. AddsName old.tree n line (Ok tt) new.tree × (new.table ≡ old.table)) (GoesTo old.tree.next) (last_root old.tree) (hard_in (path ∷ target ∷ rest))
       (λ n line it. (hard_steps old.tree new.tree n line it.0, hard_fills old.tree new.tree n line it.0)) done
+  goes_on keyword.Times fields few done =
+      in_volume (λ n line. SetsTimes old.tree n line (Ok tt) new.tree × (new.table ≡ old.table)) (GoesTo old.tree.next) (last_root old.tree) (times_in fields)
+      (λ n line it. (times_step old.tree new.tree n line it.0, times_fill old.tree new.tree n line it.0)) done
 
 -- what a line in order does: where nothing was described, nothing is, or a tree is begun
 abbrev Begun : Option Loaded → Type 0
@@ -152,6 +170,7 @@ begins keyword.Dir fields new done = cc
 begins keyword.File fields new done = cc
 begins keyword.Link fields new done = cc
 begins keyword.Hard fields new done = cc
+begins keyword.Times fields new done = cc
 
 module _ (new : Option Loaded) where
   faulty : (old : Option Loaded) (cause : Cause) (row : Option PathRow) → Asked old (Err cause) (Ok tt) new → Steps old row new

@@ -1,6 +1,6 @@
 -- The tags of the files that a description makes: the first has tag 0, the next 1, and so on.
 use Rattle.std.proofs.Common.{inl, inr, ◌≡◌, ◌⊎◌, ◌≢◌, ℕ, ◌+◌, ◌-◌, ◌^◌, ◌<◌, ◌≤◌, zero, suc, min, List, [], Option, Some, None, option_map, refl, sym, ap, subst, ◌∙◌, arith}
-use Rattle.std.specs.Prelude.{Ok, length}
+use Rattle.std.specs.Prelude.{Err, Ok, Result, length}
 use Rattle.std.proofs.lemmas.Bool.{cases_lt}
 use Rattle.nfs_attrs.specs.declared.moment.Moment.{Moment}
 use Rattle.nfs_handles.proofs.Tags.{one_is_next}
@@ -9,12 +9,14 @@ use Rattle.nfs_handles.specs.NumberedFiles.{TaggedFile}
 use Rattle.nfs_handles.specs.Tags.{IsNextTag, OneIsNext}
 use Rattle.nfs_inodes.proofs.Lists.{by_number, not_both, same_some}
 use Rattle.nfs_inodes.proofs.Maps.{at_push_other, at_push_same, at_shows, at_with_other, at_with_same}
-use Rattle.nfs_inodes.specs.Changes.{after_add_volume, entered, new_file, touched, volume_index, with_entry, with_file, with_named_file, with_new_file}
+use Rattle.nfs_inodes.specs.Changes.{after_add_volume, after_set, entered, new_file, touched, volume_index, with_entry, with_file, with_given, with_named_file, with_new_file}
 use Rattle.nfs_inodes.specs.Reading.{numbered_files}
+use Rattle.nfs_inodes.specs.declared.given_attributes.GivenAttributes.{GivenAttributes}
 use Rattle.nfs_inodes.specs.declared.new_file.NewFile.{NewFile}
 use Rattle.nfs_inodes.specs.Tree.{Directory, File, Link, Regular, Tree, at, on_some}
-use Rattle.nfs_load.specs.Effects.{AddsName, MakesDir, MakesFile, MakesLink, attributes, link_attributes, start}
-use Rattle.nfs_load.specs.Statements.{FileLine, LinkLine}
+use Rattle.nfs_load.specs.Effects.{AddsName, MakesDir, MakesFile, MakesLink, SetsTimes, TimesSet, attributes, link_attributes, start, timed_file, times_given}
+use Rattle.nfs_load.specs.Statements.{FileLine, LinkLine, TimesLine}
+use Rattle.nfs_load.specs.declared.cause.Cause.{Cause}
 use Rattle.nfs_load.specs.declared.statement.DirLine.{DirLine}
 use Rattle.nfs_load.specs.declared.statement.HardLine.{HardLine}
 
@@ -96,6 +98,13 @@ filled_touched t n now filled = of (at n t.files) refl
     of None is = filled
     of (Some f) is = filled_with t n f (record f { ctime = now }) is refl filled
 
+filled_set : (t : Tree) (n : ℕ) (given : GivenAttributes) (now : Moment) → AreFilled t → AreFilled (after_set t n given now)
+filled_set t n given now filled = of (at n t.files) refl
+  where
+    of : (o : Option File) → at n t.files ≡ o → AreFilled (on_some o t (λ f. with_file t n (with_given f given now)))
+    of None is = filled
+    of (Some f) is = filled_with t n f (with_given f given now) is refl filled
+
 filled_new : (t : Tree) (f : File) → f.tag ≡ nth_tag t.next → AreFilled t → AreFilled (with_new_file t f)
 filled_new t f tag filled = record {
   some = omega arith;
@@ -153,3 +162,10 @@ pub hard_fills : (old new : Tree) (root : ℕ) (line : HardLine) → AddsName ol
 hard_fills old new root line does filled =
     let it = does.0 in
     subst AreFilled (sym does.3) (filled_entered (touched old it.1 start) it.0.dir it.1 it.0.name start (filled_touched old it.1 start filled))
+
+pub times_fill : (old new : Tree) (root : ℕ) (line : TimesLine) → SetsTimes old root line (Ok tt) new → AreFilled old → AreFilled new
+times_fill old new root line does filled = of (timed_file old root line) does
+  where
+    of : (found : Result ℕ Cause) → TimesSet old found line (Ok tt) new → AreFilled new
+    of (Ok n) done = subst AreFilled (sym done.1) (filled_set old n (times_given line) line.ctime filled)
+    of (Err cause) done = cc

@@ -18,7 +18,7 @@ use Rattle.nfs_load.specs.declared.loaded.Loaded.{Loaded}
 use Rattle.nfs_load.specs.declared.statement.Given.{Given}
 use Rattle.nfs_describe.specs.Lines.{dir_line, export_line, file_line, hard_line, limits_line, link_line, server_line, volume_line}
 use Rattle.nfs_describe.specs.Places.{IsWalk, FilePath, are_sayable, is_sayable, place_below, places_below}
-use Rattle.nfs_describe.specs.Texts.{Says, SaysTo, files_text, first_name, given_of, own_line, own_text, place_text, root_text, volume_text}
+use Rattle.nfs_describe.specs.Texts.{Says, SaysTo, file_times, files_text, first_name, first_places, given_of, own_line, own_text, place_text, place_times, root_text, times_text, volume_text}
 use Rattle.nfs_round_trip.specs.Copies.{copied, copied_entries, copied_kind, copied_mode, copied_volume, new_number}
 use Rattle.nfs_round_trip.specs.RoundTrip as law
 use Rattle.nfs_round_trip.specs.RoundTrip.{IsCopy, IsDescribable}
@@ -26,6 +26,7 @@ use Rattle.nfs_round_trip.proofs.Numbers.{inside_walk}
 use Rattle.nfs_round_trip.proofs.Rooms.{same_test}
 use Rattle.nfs_round_trip.proofs.RoundTrip.{load_again}
 use Rattle.nfs_round_trip.proofs.Runs.{same_ok}
+use Rattle.nfs_round_trip.proofs.Times.{first_in}
 use Rattle.nfs_round_trip.proofs.Walks.{one_walk, root_place}
 use Rattle.nfs_round_trip.proofs.Whole.{length_map}
 
@@ -135,6 +136,16 @@ module _ (t : Tree) (law : Law t) (number : ℕ → ℕ) (u : Tree) (copy : IsCo
       by None = own_again p here
       by (Some first) = refl
 
+  one_more : (before : List FilePath) (p : FilePath) → ((q : FilePath) → Contains before q → Live q) → Live p
+      → (q : FilePath) → Contains (before ++ p ∷ []) q → Live q
+  one_more before p known here q c = elim (Contains-append_cases before (p ∷ []) q c) [
+    | inl was ↦ known q was
+    | inr is ↦ elim (head_or_tail p q [] is) [
+      | inl e ↦ subst Live e here
+      | inr none ↦ absurd (not_in_empty [] q refl none)
+    ]
+  ]
+
   files_again : (before places : List FilePath) → ((q : FilePath) → Contains before q → Live q) → ((q : FilePath) → Contains places q → Live q)
       → files_text u (map (again number) before) (map (again number) places) ≡ files_text t before places
   files_again before [] known live = refl
@@ -143,14 +154,45 @@ module _ (t : Tree) (law : Law t) (number : ℕ → ℕ) (u : Tree) (copy : IsCo
       (place_again before p known (live p (in_head p places)))
       ∙ ap (λ l. place_text t before p ++ files_text u l (map (again number) places)) (sym (map-append (again number) before (p ∷ [])))
       ∙ ap (λ l. place_text t before p ++ l) (files_again (before ++ p ∷ []) places
-      (λ q c. elim (Contains-append_cases before (p ∷ []) q c) [
-        | inl was ↦ known q was
-        | inr is ↦ elim (head_or_tail p q [] is) [
-          | inl e ↦ subst Live e (live p (in_head p places))
-          | inr none ↦ absurd (not_in_empty [] q refl none)
-        ]
-      ])
-      (λ q c. live q (in_tail p q places c)))
+      (one_more before p known (live p (in_head p places))) (λ q c. live q (in_tail p q places c)))
+
+  -- ---- times
+
+  firsts_again : (before places : List FilePath) → ((q : FilePath) → Contains before q → Live q) → ((q : FilePath) → Contains places q → Live q)
+      → first_places (map (again number) before) (map (again number) places) ≡ map (again number) (first_places before places)
+  firsts_again before [] known live = refl
+  firsts_again before (p ∷ places) known live =
+      let here = live p (in_head p places) in
+      let rest : first_places (map (again number) before ++ again number p ∷ []) (map (again number) places) ≡ map (again number) (first_places (before ++ p ∷ []) places) =
+      ap (λ l. first_places l (map (again number) places)) (sym (map-append (again number) before (p ∷ [])))
+      ∙ firsts_again (before ++ p ∷ []) places (one_more before p known here) (λ q c. live q (in_tail p q places c)) in
+      ap (λ o. on_some o (again number p ∷ first_places (map (again number) before ++ again number p ∷ []) (map (again number) places))
+      (λ (first : FilePath). first_places (map (again number) before ++ again number p ∷ []) (map (again number) places))) (first_again p.number here.0 here.1 before known)
+      ∙ ap (λ l. on_some (option_map (again number) (first_name p.number before)) (again number p ∷ l) (λ (first : FilePath). l)) rest
+      ∙ by (first_name p.number before)
+    where
+      by : (o : Option FilePath) → on_some (option_map (again number) o) (again number p ∷ map (again number) (first_places (before ++ p ∷ []) places))
+          (λ (first : FilePath). map (again number) (first_places (before ++ p ∷ []) places))
+          ≡ map (again number) (on_some o (p ∷ first_places (before ++ p ∷ []) places) (λ (first : FilePath). first_places (before ++ p ∷ []) places))
+      by None = refl
+      by (Some first) = refl
+
+  place_times_again : (p : FilePath) → Live p → place_times u (again number p) ≡ place_times t p
+  place_times_again p live =
+      let made = copy.each p.number live.0 live.1 in
+      ap (λ o. on_some (option_map (λ (f : File). attributes_of (number p.number) f (nlink u.files (number p.number) f)) o) [] (file_times p.path)) made.1
+      ∙ ap (λ o. on_some (option_map (λ (f : File). attributes_of p.number f (nlink t.files p.number f)) o) [] (file_times p.path)) (sym live.1)
+
+  all_times_again : (places : List FilePath) → ((q : FilePath) → Contains places q → Live q)
+      → flat_map (place_times u) (map (again number) places) ≡ flat_map (place_times t) places
+  all_times_again [] live = refl
+  all_times_again (p ∷ places) live =
+      ap (λ l. l ++ flat_map (place_times u) (map (again number) places)) (place_times_again p (live p (in_head p places)))
+      ∙ ap (λ l. place_times t p ++ l) (all_times_again places (λ q c. live q (in_tail p q places c)))
+
+  times_again : (walk : List FilePath) → ((q : FilePath) → Contains walk q → Live q) → times_text u (map (again number) walk) ≡ times_text t walk
+  times_again walk live = ap (flat_map (place_times u)) (firsts_again [] walk (λ q c. absurd (not_in_empty [] q refl c)) live)
+      ∙ all_times_again (first_places [] walk) (λ q c. live q (first_in walk [] q c))
 
   root_again : (index : ℕ) (v : Volume) → slice_get t.volumes index ≡ Some v
       → root_text (copied_volume number v) (attributes_at u (number v.root)) ≡ root_text v (attributes_at t v.root)
@@ -184,9 +226,12 @@ module _ (t : Tree) (law : Law t) (number : ℕ → ℕ) (u : Tree) (copy : IsCo
           walked = walk_again is.volume.root is.walk is.walked live;
           sayable = sayable_again number is.walk ∙ is.sayable;
           text_is = is.text_is
-              ∙ ap (λ l. l ++ flat_map export_line (exports_of table n) ++ files_text t [] is.walk) (sym (root_again n is.volume is.at_place))
-              ∙ ap (λ l. root_text (copied_volume number is.volume) (attributes_at u (number is.volume.root)) ++ flat_map export_line (exports_of table n) ++ l)
-              (sym (files_again [] is.walk (λ q c. absurd (not_in_empty [] q refl c)) live));
+              ∙ ap (λ l. l ++ flat_map export_line (exports_of table n) ++ files_text t [] is.walk ++ times_text t is.walk) (sym (root_again n is.volume is.at_place))
+              ∙ ap (λ l. root_text (copied_volume number is.volume) (attributes_at u (number is.volume.root)) ++ flat_map export_line (exports_of table n) ++ l
+              ++ times_text t is.walk)
+              (sym (files_again [] is.walk (λ q c. absurd (not_in_empty [] q refl c)) live))
+              ∙ ap (λ l. root_text (copied_volume number is.volume) (attributes_at u (number is.volume.root)) ++ flat_map export_line (exports_of table n)
+              ++ files_text u [] (map (again number) is.walk) ++ l) (sym (times_again is.walk live));
         },
         e,
       )

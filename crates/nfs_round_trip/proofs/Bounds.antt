@@ -1,5 +1,5 @@
 -- What fields say is within the bounds of what is written.
-use Rattle.std.proofs.Common.{◌≡◌, ℕ, ◌<◌, ◌≤◌, ◌^◌, ◌&&◌, Bool, true, false, List, [], ◌∷◌, length, nat_eq, Option, Some, None, option_map, Ok, refl, sym, ap}
+use Rattle.std.proofs.Common.{◌≡◌, ℕ, suc, zero, ◌*◌, ◌-◌, ◌<◌, ◌≤◌, ◌^◌, ◌&&◌, Bool, true, false, List, [], ◌∷◌, length, nat_eq, Option, Some, None, option_map, Ok, refl, sym, ap}
 use Rattle.std.proofs.Common.{subst, ◌∙◌, arith}
 use Rattle.std.specs.Prelude.{Err, Result, bytes_eq, codes, if◌then◌else◌, nat_le, nat_lt}
 use Rattle.std.specs.List.{list_all}
@@ -10,6 +10,7 @@ use Rattle.std.specs.Int.{from_be_bytes, w32}
 use Rattle.hex.specs.Hex.{IsBytes, decode_of, decode_sized}
 use Rattle.hex.specs.declared.error.FromHexError.{FromHexError}
 use Rattle.hex.proofs.HexLemmas.{decode_of-ok, decode_sized-ok, decode_sized-twice}
+use Rattle.nfs_attrs.specs.declared.moment.Moment.{Moment}
 use Rattle.nfs_text.specs.Numbers.{decimal_of, is_decimal}
 use Rattle.nfs_text.specs.Chunks.{cut, chunks}
 use Rattle.nfs_exports.specs.Addresses as addresses
@@ -30,6 +31,7 @@ use Rattle.nfs_exports.specs.declared.settings.Settings.{Settings}
 use Rattle.nfs_inodes.proofs.Lists.{by_test, not_both, same_some}
 use Rattle.nfs_load.specs.Fields.{◌>>=◌, at_least, after, by, content_in, found_pattern, key_in, mode_in, keyed, number_in, options_at, options_or_cause}
 use Rattle.nfs_load.specs.Fields.{pattern_in, target_in, within}
+use Rattle.nfs_load.specs.Moments.{IsTime, after_plus, after_point, fraction_in, moment_in, moment_of, seconds_in, units_in}
 use Rattle.nfs_load.specs.Statements.{given_in, id_in}
 use Rattle.nfs_load.specs.declared.cause.Cause.{Cause}
 use Rattle.nfs_load.specs.declared.cause.Cause.TheVariants.{BadContent, BadNumber as BadNumberCause}
@@ -134,6 +136,58 @@ target_bound most field target e = by_test (nat_le (length field) most)
     (λ y. let same : field ≡ target = same_ok (target_in most field) field target (ap (λ b. if b then Ok field else Err BadContent) y) e in
     (same, subst (λ l. nat_le (length l) most ≡ true) same y))
     (λ o. absurd (err_is (target_in most field) BadContent target (ap (λ b. if b then Ok field else Err BadContent) o) e))
+
+-- ---- times
+
+seconds_bound : (text : List ℕ) (n : ℕ) → seconds_in text ≡ Ok n → n < 2 ^ 32
+seconds_bound text n e = let high = number_bound 0 4294967295 text n e in omega (arith, high)
+
+-- so many digits after a point are less than a second
+scaled : (k n : ℕ) → k ≤ 9 → n ≤ 10 ^ k - 1 → n * 10 ^ (9 - k) < 2 ^ 32
+scaled zero n few high = omega (arith, high)
+scaled (suc zero) n few high = omega (arith, high)
+scaled (suc (suc zero)) n few high = omega (arith, high)
+scaled (suc (suc (suc zero))) n few high = omega (arith, high)
+scaled (suc (suc (suc (suc zero)))) n few high = omega (arith, high)
+scaled (suc (suc (suc (suc (suc zero))))) n few high = omega (arith, high)
+scaled (suc (suc (suc (suc (suc (suc zero)))))) n few high = omega (arith, high)
+scaled (suc (suc (suc (suc (suc (suc (suc zero))))))) n few high = omega (arith, high)
+scaled (suc (suc (suc (suc (suc (suc (suc (suc zero)))))))) n few high = omega (arith, high)
+scaled (suc (suc (suc (suc (suc (suc (suc (suc (suc zero))))))))) n few high = omega (arith, high)
+scaled (suc (suc (suc (suc (suc (suc (suc (suc (suc (suc k)))))))))) n few high = absurd (omega (arith, few))
+
+fraction_bound : (text : List ℕ) (n : ℕ) → fraction_in text ≡ Ok n → n < 2 ^ 32
+fraction_bound text n e = by_test (nat_lt 0 (length text) && nat_le (length text) 9)
+    (λ y.
+    let scale : ℕ → Result ℕ Cause = λ (d : ℕ). Ok (d * 10 ^ (9 - length text)) in
+    let d = bind_is (number_in 0 (10 ^ length text - 1) text) scale n (sym (ap (λ b. if b then read else Err BadNumberCause) y) ∙ e) in
+    let few = at_most (length text) 9 (both (nat_lt 0 (length text)) (nat_le (length text) 9) y).1 in
+    subst (λ m. m < 2 ^ 32) (same_ok (scale d.0) (d.0 * 10 ^ (9 - length text)) n refl d.2)
+    (scaled (length text) d.0 few (number_bound 0 (10 ^ length text - 1) text d.0 d.1)))
+    (λ o. absurd (err_is (fraction_in text) BadNumberCause n (ap (λ b. if b then read else Err BadNumberCause) o) e))
+  where
+    read : Result ℕ Cause
+    read = units_in (10 ^ length text - 1) (10 ^ (9 - length text)) text
+
+moment_of_bound : (whole beyond : Result ℕ Cause) (m : Moment) → ((n : ℕ) → whole ≡ Ok n → n < 2 ^ 32) → ((n : ℕ) → beyond ≡ Ok n → n < 2 ^ 32)
+    → moment_of whole beyond ≡ Ok m → IsTime m
+moment_of_bound (Ok seconds) (Ok nanos) m one two e =
+    let made : Moment = record { seconds = seconds; nanos = nanos } in
+    subst IsTime (same_ok {E = Cause} (Ok made) made m refl e) (one seconds refl, two nanos refl)
+moment_of_bound (Ok seconds) (Err cause) m one two e = cc
+moment_of_bound (Err cause) beyond m one two e = cc
+
+plus_bound : (whole : List ℕ) (beyond : Option (List ℕ)) (m : Moment) → after_plus whole beyond ≡ Ok m → IsTime m
+plus_bound whole None m e = moment_of_bound (seconds_in whole) (Ok 0) m (seconds_bound whole)
+    (λ n is. let same : 0 ≡ n = same_ok {E = Cause} (Ok 0) 0 n refl is in omega (arith, same)) e
+plus_bound whole (Some nanos) m e = moment_of_bound (seconds_in whole) (seconds_in nanos) m (seconds_bound whole) (seconds_bound nanos) e
+
+point_bound : (whole : List ℕ) (beyond : Option (List ℕ)) (m : Moment) → after_point whole beyond ≡ Ok m → IsTime m
+point_bound whole None m e = plus_bound (cut 43 whole).0 (cut 43 whole).1 m e
+point_bound whole (Some fraction) m e = moment_of_bound (seconds_in whole) (fraction_in fraction) m (seconds_bound whole) (fraction_bound fraction) e
+
+pub moment_bound : (field : List ℕ) (m : Moment) → moment_in field ≡ Ok m → IsTime m
+moment_bound field m e = point_bound (cut 46 field).0 (cut 46 field).1 m e
 
 -- ---- patterns
 

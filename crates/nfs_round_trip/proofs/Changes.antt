@@ -1,5 +1,5 @@
 -- A tree that is made again, with one step more.
-use Rattle.std.proofs.Common.{inl, inr, ◌≡◌, ◌≢◌, ℕ, suc, ◌+◌, true, false, List, [], ◌∷◌, ◌++◌, length, Some, refl, sym, ap, subst, ◌∙◌, append_assoc, arith}
+use Rattle.std.proofs.Common.{inl, inr, ◌≡◌, ◌≢◌, ℕ, suc, ◌+◌, Bool, true, false, List, [], ◌∷◌, ◌++◌, length, Some, refl, sym, ap, subst, ◌∙◌, append_assoc, arith}
 use Rattle.std.proofs.lemmas.List.{length-append}
 use Rattle.nfs_inodes.specs.Changes.{after_link, entered, kind_with_entry, with_entry, with_file, with_named_file, with_new_file}
 use Rattle.nfs_inodes.specs.Law.{Law, Lives, LivesAsDirectory}
@@ -10,8 +10,8 @@ use Rattle.nfs_inodes.proofs.Maps.{at_push_other, at_with_other}
 use Rattle.nfs_load.specs.Effects.{start}
 use Rattle.nfs_round_trip.specs.Copies.{copied, copied_entries, copied_kind, copied_mode}
 use Rattle.nfs_round_trip.proofs.Directories.{shown, shown_here, shown_there}
-use Rattle.nfs_round_trip.proofs.Made.{AreMade, Has, has_last, has_push, holding, made_bounds, made_once, made_push, made_with, push_has, with_entries}
-use Rattle.nfs_round_trip.proofs.Parts.{IsDirectoryMade, IsPart, directory_made, file_made, known_number, known_step, not_yet, shown_unknown}
+use Rattle.nfs_round_trip.proofs.Made.{AreMade, Has, has_last, has_push, made_bounds, made_once, made_push, made_with, partly, push_has, with_entries}
+use Rattle.nfs_round_trip.proofs.Parts.{IsDirectoryMade, IsPart, directory_made, file_made, known_number, known_step, not_yet, shown_unknown, so_far}
 use Rattle.nfs_round_trip.proofs.Walks.{Step}
 
 -- ---- a directory with one entry more
@@ -44,25 +44,29 @@ mode_same es fs (Directory parent next_cookie entries) mode = refl
 mode_same es fs (Link path) mode = refl
 
 entered_is : (number : ℕ → ℕ) (tag : ℕ) (es : List Entry) (e : Entry) (f : File) → is_directory f.kind ≡ true
-    → entered (copied number tag (holding es f)) e.name (number e.number) start ≡ copied number tag (holding (es ++ e ∷ []) f)
+    → entered (copied number tag (partly es false f)) e.name (number e.number) start ≡ copied number tag (partly (es ++ e ∷ []) false f)
 entered_is number tag es e f y =
-    let old : File = copied number tag (holding es f) in
+    let old : File = copied number tag (partly es false f) in
     ap (λ (k : Kind). record old { kind = k }) (kind_more number es e f.kind y)
     ∙ ap (λ (mode : ℕ). record old { kind = copied_kind number (with_entries (es ++ e ∷ []) f.kind); mode = mode }) (mode_same es (es ++ e ∷ []) f.kind f.mode)
 
-module _ (t : Tree) (law : Law t) (number : ℕ → ℕ) (done : List Step) (s : Step) (f : File) (at_dir : LivesAsDirectory t s.0.number f) where
-  entry_more : (ns : List ℕ) (xs : List (ℕ × File)) (u : Tree) (h : File) → AreMade t number (shown done) 1 ns xs → Has s.0.number ns
-      → IsDirectoryMade t number (shown done s.0.number) u s.0.number f h
-      → AreMade t number (shown (done ++ s ∷ [])) 1 ns (with_at (number s.0.number) (entered h s.1.name (number s.1.number) start) xs)
-  entry_more ns xs u h files has made = made_with t number (shown done)
-      (shown (done ++ s ∷ [])) 1 ns xs s.0.number (entered h s.1.name (number s.1.number) start) files has
-      (λ m o. shown_there done s m (λ e. o (sym e)))
+module _ (t : Tree) (law : Law t) (number : ℕ → ℕ) (timed : ℕ → Bool) (done : List Step) (s : Step) (f : File) (at_dir : LivesAsDirectory t s.0.number f)
+    (untimed : timed s.0.number ≡ false) where
+  entry_more : (ns : List ℕ) (xs : List (ℕ × File)) (u : Tree) (h : File) → AreMade t number (so_far done timed) 1 ns xs → Has s.0.number ns
+      → IsDirectoryMade t number (shown done s.0.number) (timed s.0.number) u s.0.number f h
+      → AreMade t number (so_far (done ++ s ∷ []) timed) 1 ns (with_at (number s.0.number) (entered h s.1.name (number s.1.number) start) xs)
+  entry_more ns xs u h files has made = made_with t number (so_far done timed)
+      (so_far (done ++ s ∷ []) timed) 1 ns xs s.0.number (entered h s.1.name (number s.1.number) start) files has
+      (λ m o. ap (λ es. partly es (timed m)) (shown_there done s m (λ e. o (sym e))))
       (record {
         file = f;
         at_file = at_dir.0;
         tag = made.tag;
-        is = ap (λ (g : File). entered g s.1.name (number s.1.number) start) made.is ∙ entered_is number made.tag (shown done s.0.number) s.1 f at_dir.1
-            ∙ ap (λ es. copied number made.tag (holding es f)) (sym (shown_here done s s.0.number refl));
+        is = ap (λ (g : File). entered g s.1.name (number s.1.number) start)
+            (made.is ∙ ap (λ b. copied number made.tag (partly (shown done s.0.number) b f)) untimed)
+            ∙ entered_is number made.tag (shown done s.0.number) s.1 f at_dir.1
+            ∙ ap (λ es. copied number made.tag (partly es false f)) (sym (shown_here done s s.0.number refl))
+            ∙ ap (λ b. copied number made.tag (partly (shown (done ++ s ∷ []) s.0.number) b f)) (sym untimed);
       })
 
   begun_more : (m : ℕ) (rest : List Entry) → entries_at t s.0.number ≡ shown done s.0.number ++ s.1 ∷ rest → (old : List Entry)
@@ -76,21 +80,26 @@ module _ (t : Tree) (law : Law t) (number : ℕ → ℕ) (done : List Step) (s :
       ))
       (λ o. (old, was ∙ ap (λ l. l ++ old) (sym (shown_there done s m o))))
 
-  module _ (ns : List ℕ) (vs : List Volume) (u : Tree) (part : IsPart t number done ns vs u) (has : Has s.0.number ns) (rest : List Entry)
+  module _ (ns : List ℕ) (vs : List Volume) (u : Tree) (part : IsPart t number timed done ns vs u) (has : Has s.0.number ns) (rest : List Entry)
       (here : entries_at t s.0.number ≡ shown done s.0.number ++ s.1 ∷ rest) where
     -- a new file
-    pub part_with_file : (tag : ℕ) (g : File) → Lives t s.1.number g → number s.1.number ≡ suc (length ns)
-        → IsPart t number (done ++ s ∷ []) (ns ++ s.1.number ∷ []) vs (with_named_file u (number s.0.number) s.1.name (copied number tag (holding [] g)) start)
-    part_with_file tag g lives new =
-        let made = directory_made t law number done ns vs u part s.0.number f has at_dir in
-        let f0 : File = copied number tag (holding [] g) in
+    pub part_with_file : (tag : ℕ) (g : File) → Lives t s.1.number g → timed s.1.number ≡ false → number s.1.number ≡ suc (length ns)
+        → IsPart t number timed (done ++ s ∷ []) (ns ++ s.1.number ∷ []) vs (with_named_file u (number s.0.number) s.1.name (copied number tag (partly [] false g)) start)
+    part_with_file tag g lives early new =
+        let made = directory_made t law number timed done ns vs u part s.0.number f has at_dir in
+        let f0 : File = copied number tag (partly [] false g) in
         let name : number s.1.number ≡ u.next = new ∙ sym part.next in
-        let fresh : Has s.1.number ns → ⊥ = not_yet t law number done ns vs u part s.1.number g lives new in
+        let fresh : Has s.1.number ns → ⊥ = not_yet t law number timed done ns vs u part s.1.number g lives new in
         let none : shown done s.1.number ≡ [] = shown_unknown ns done s.1.number part.known fresh in
-        let pushed : AreMade t number (shown done) 1 (ns ++ s.1.number ∷ []) (u.files ++ (u.next, f0) ∷ []) =
-        made_push t number (shown done) 1 ns u.files s.1.number u.next f0 part.files (let n = part.next in omega (arith, n)) name
-        (record { file = g; at_file = lives; tag = tag; is = ap (λ es. copied number tag (holding es g)) (sym none) }) in
-        let apart : number s.0.number ≢ u.next = λ e. let high = (made_bounds t number (shown done) 1 ns u.files s.0.number part.files has).1 in
+        let pushed : AreMade t number (so_far done timed) 1 (ns ++ s.1.number ∷ []) (u.files ++ (u.next, f0) ∷ []) =
+        made_push t number (so_far done timed) 1 ns u.files s.1.number u.next f0 part.files (let n = part.next in omega (arith, n)) name
+        (record {
+          file = g;
+          at_file = lives;
+          tag = tag;
+          is = ap (λ es. copied number tag (partly es false g)) (sym none) ∙ ap (λ b. copied number tag (partly (shown done s.1.number) b g)) (sym early);
+        }) in
+        let apart : number s.0.number ≢ u.next = λ e. let high = (made_bounds t number (so_far done timed) 1 ns u.files s.0.number part.files has).1 in
         let n = part.next in omega (arith, high, e, n) in
         let found : at (number s.0.number) (u.files ++ (u.next, f0) ∷ []) ≡ Some made.0 = at_push_other u.next (number s.0.number) f0 u.files apart
         ∙ made.1.lives.0 in
@@ -99,7 +108,7 @@ module _ (t : Tree) (law : Law t) (number : ℕ → ℕ) (done : List Step) (s :
         ap (λ m. with_file (with_new_file u f0) (number s.0.number) (entered made.0 s.1.name m start)) name
         ∙ ap (λ o. on_some o (with_new_file u f0) (λ (h : File). with_file (with_new_file u f0) (number s.0.number) (entered h s.1.name u.next start)))
         (sym found) in
-        subst (IsPart t number (done ++ s ∷ []) (ns ++ s.1.number ∷ []) vs) is (record {
+        subst (IsPart t number timed (done ++ s ∷ []) (ns ++ s.1.number ∷ []) vs) is (record {
           files = entry_more (ns ++ s.1.number ∷ []) (u.files ++ (u.next, f0) ∷ []) u made.0 pushed (has_push s.0.number s.1.number ns has) made.1;
           next = let n = part.next in let l = length-append ns (s.1.number ∷ []) in omega (arith, n, l);
           known = known_step (ns ++ s.1.number ∷ []) done s (known_number s.1.number ns done part.known) (has_push s.0.number s.1.number ns has)
@@ -115,18 +124,24 @@ module _ (t : Tree) (law : Law t) (number : ℕ → ℕ) (done : List Step) (s :
         })
 
     -- a hard link
-    pub part_with_name : (g : File) → Lives t s.1.number g → is_directory g.kind ≡ false → Has s.1.number ns
-        → IsPart t number (done ++ s ∷ []) ns vs (after_link u (number s.1.number) (number s.0.number) s.1.name start)
-    part_with_name g lives no_dir there =
-        let made = directory_made t law number done ns vs u part s.0.number f has at_dir in
-        let named = file_made t law number done ns vs u part s.1.number g there lives in
+    pub part_with_name : (g : File) → Lives t s.1.number g → timed s.1.number ≡ false → is_directory g.kind ≡ false → Has s.1.number ns
+        → IsPart t number timed (done ++ s ∷ []) ns vs (after_link u (number s.1.number) (number s.0.number) s.1.name start)
+    part_with_name g lives early no_dir there =
+        let made = directory_made t law number timed done ns vs u part s.0.number f has at_dir in
+        let named = file_made t law number timed done ns vs u part s.1.number g there lives in
         let touched_file : File = record (named.0) { ctime = start } in
         let touched_files : List (ℕ × File) = with_at (number s.1.number) touched_file u.files in
-        let changed : AreMade t number (shown done) 1 ns touched_files =
-        made_with t number (shown done) (shown done) 1 ns u.files s.1.number touched_file part.files there (λ m o. refl)
-        (record { file = g; at_file = lives; tag = named.2; is = ap (λ (h : File). record h { ctime = start }) named.3 }) in
+        let changed : AreMade t number (so_far done timed) 1 ns touched_files =
+        made_with t number (so_far done timed) (so_far done timed) 1 ns u.files s.1.number touched_file part.files there (λ m o. refl)
+        (record {
+          file = g;
+          at_file = lives;
+          tag = named.2;
+          is = ap (λ (h : File). record h { ctime = start }) (named.3 ∙ ap (λ b. copied number named.2 (partly (shown done s.1.number) b g)) early)
+              ∙ ap (λ b. copied number named.2 (partly (shown done s.1.number) b g)) (sym early);
+        }) in
         let apart : number s.0.number ≢ number s.1.number = λ e.
-        let same : s.0.number ≡ s.1.number = made_once t number (shown done) 1 ns u.files s.0.number s.1.number part.files has there e in
+        let same : s.0.number ≡ s.1.number = made_once t number (so_far done timed) 1 ns u.files s.0.number s.1.number part.files has there e in
         let same_file : f ≡ g = same_some (sym at_dir.0 ∙ ap (λ i. at i t.files) same ∙ lives) in
         true_and_false at_dir.1 (ap (λ (h : File). is_directory h.kind) same_file ∙ no_dir) in
         let found : at (number s.0.number) touched_files ≡ Some made.0 = at_with_other (number s.1.number) (number s.0.number) touched_file u.files apart
@@ -137,7 +152,7 @@ module _ (t : Tree) (law : Law t) (number : ℕ → ℕ) (done : List Step) (s :
         ap (λ o. on_some o touched_tree (λ (h : File). with_file touched_tree (number s.0.number) (entered h s.1.name (number s.1.number) start))) (sym found)
         ∙ ap (λ (v : Tree). with_entry v (number s.0.number) s.1.name (number s.1.number) start)
         (ap (λ o. on_some o u (λ (h : File). with_file u (number s.1.number) (record h { ctime = start }))) (sym named.1)) in
-        subst (IsPart t number (done ++ s ∷ []) ns vs) is (record {
+        subst (IsPart t number timed (done ++ s ∷ []) ns vs) is (record {
           files = entry_more ns touched_files u made.0 changed has made.1;
           next = part.next;
           known = known_step ns done s part.known has there;

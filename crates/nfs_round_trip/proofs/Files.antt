@@ -36,10 +36,10 @@ use Rattle.nfs_read_back.proofs.Statements as read_back
 use Rattle.nfs_round_trip.specs.Copies.{CanBeSaid, copied, copied_kind, copied_mode, copied_volume}
 use Rattle.nfs_round_trip.proofs.Changes.{part_with_file, part_with_name}
 use Rattle.nfs_round_trip.proofs.Directories.{entries_of, none_named, one_named, shown}
-use Rattle.nfs_round_trip.proofs.Going.{IsNamed, end_free, file_found, last_of, path_in_names, path_said}
-use Rattle.nfs_round_trip.proofs.Made.{Has, holding, with_entries}
+use Rattle.nfs_round_trip.proofs.Going.{IsNamed, end_free, file_found, named_path, path_in_names, path_said}
+use Rattle.nfs_round_trip.proofs.Made.{Has, partly, with_entries}
 use Rattle.nfs_round_trip.proofs.Parts.{IsPart, copy_is_directory, directory_made, file_made, none_before}
-use Rattle.nfs_round_trip.proofs.Paths.{AreNames, names_push, slashed, slashed_push}
+use Rattle.nfs_round_trip.proofs.Paths.{names_push, slashed, slashed_push}
 use Rattle.nfs_round_trip.proofs.Reaches.{HasNone, leads}
 use Rattle.nfs_round_trip.proofs.Rooms.{has_name, is_entry, may_link, may_make, may_mkdir, may_make_link, same_volume}
 use Rattle.nfs_round_trip.proofs.Runs.{Done, Goes, does_made, goes_on, root_is, then_is}
@@ -71,7 +71,7 @@ no_end [] name e = cc
 no_end (x ∷ path) name e = cc
 
 -- what a line does in the last volume
-on_tree : {A : Type 0} (old : Loaded) (w : Volume) (number : ℕ → ℕ) → last_root old.tree ≡ Ok (number w.root) → (read : Read A) (line : A)
+pub on_tree : {A : Type 0} (old : Loaded) (w : Volume) (number : ℕ → ℕ) → last_root old.tree ≡ Ok (number w.root) → (read : Read A) (line : A)
     → read ≡ Ok (line, [])
     → (Does : Tree → ℕ → A → Result Unit Refusal → Tree → Type 0) (result : Result Unit Refusal) (loaded : Loaded) → OnTree read Does old result loaded
     → Does old.tree (number w.root) line result loaded.tree × (loaded.table ≡ old.table)
@@ -81,7 +81,7 @@ on_tree {A} old w number last read line is Does result loaded on =
     (λ root. Then read result (λ (it : A). Does old.tree root it result loaded.tree × (loaded.table ≡ old.table))) last on)
 
 -- what is known before the next step
-pub record IsNext (t : Tree) (number : ℕ → ℕ) (all : List Step) (ns : List ℕ) (vs : List Volume) (w : Volume) (s : Step) (f g : File) : Type 0 where
+pub record IsNext (t : Tree) (number : ℕ → ℕ) (timed : ℕ → Bool) (all : List Step) (ns : List ℕ) (vs : List Volume) (w : Volume) (s : Step) (f g : File) : Type 0 where
   pub at_w : slice_get t.volumes f.volume ≡ Some w
   pub at_vs : slice_get vs f.volume ≡ Some (copied_volume number w)
   pub last : length vs ≡ suc f.volume
@@ -91,14 +91,16 @@ pub record IsNext (t : Tree) (number : ℕ → ℕ) (all : List Step) (ns : List
   pub rest : List Entry
   pub here : entries_at t s.0.number ≡ shown all s.0.number ++ s.1 ∷ rest
   pub lives : Lives t s.1.number g
+  pub untimed : timed s.0.number ≡ false
+  pub early : timed s.1.number ≡ false
   pub words : CanBeSaid g
   pub room : length all + length vs ≤ 1099511627776
   pub named : IsNamed all w.root s.0
   pub said : is_sayable (place_of s).path ≡ true
 
-module _ (Last : Option Loaded → Type 0) (t : Tree) (law : Law t) (number : ℕ → ℕ) (all : List Step) (ns : List ℕ) (vs : List Volume) (old : Loaded)
-    (part : IsPart t number all ns vs old.tree)
-    (w : Volume) (s : Step) (f g : File) (next : IsNext t number all ns vs w s f g) where
+module _ (Last : Option Loaded → Type 0) (t : Tree) (law : Law t) (number : ℕ → ℕ) (timed : ℕ → Bool) (all : List Step) (ns : List ℕ) (vs : List Volume)
+    (old : Loaded) (part : IsPart t number timed all ns vs old.tree)
+    (w : Volume) (s : Step) (f g : File) (next : IsNext t number timed all ns vs w s f g) where
   abbrev names : List (List ℕ)
   names = next.named.names ++ s.1.name ∷ []
 
@@ -109,7 +111,7 @@ module _ (Last : Option Loaded → Type 0) (t : Tree) (law : Law t) (number : �
   end = record { dir = number s.0.number; name = s.1.name }
 
   pub is_name : IsName s.1.name
-  is_name = has_name t law number all ns vs old.tree part s f next.at_dir next.has next.rest next.here next.room
+  is_name = has_name t law number timed all ns vs old.tree part s f next.at_dir next.has next.rest next.here next.room
 
   pub fresh : HasNone s.1.name (shown all s.0.number)
   fresh = none_before (shown all s.0.number) s.1 next.rest
@@ -129,7 +131,7 @@ module _ (Last : Option Loaded → Type 0) (t : Tree) (law : Law t) (number : �
   path_word = path_said path path_long next.said
 
   free : free_end old.tree (number w.root) names ≡ Ok end
-  free = end_free t law number all ns vs old.tree part w.root next.has_root s f next.at_dir next.named is_name fresh
+  free = end_free t law number timed all ns vs old.tree part w.root next.has_root s f next.at_dir next.named is_name fresh
 
   last_is : last_root old.tree ≡ Ok (number w.root)
   last_is =
@@ -143,31 +145,31 @@ module _ (Last : Option Loaded → Type 0) (t : Tree) (law : Law t) (number : �
   module _ (new : number s.1.number ≡ suc (length ns)) where
     -- one file more, and the same table
     abbrev pub IsMore : Loaded → Type 0
-    IsMore loaded = IsPart t number (all ++ s ∷ []) (ns ++ s.1.number ∷ []) vs loaded.tree × (loaded.table ≡ old.table)
+    IsMore loaded = IsPart t number timed (all ++ s ∷ []) (ns ++ s.1.number ∷ []) vs loaded.tree × (loaded.table ≡ old.table)
 
     volume_is : volume_index old.tree (number s.0.number) ≡ g.volume
     volume_is =
-        let made = directory_made t law number all ns vs old.tree part s.0.number f next.has next.at_dir in
+        let made = directory_made t law number timed all ns vs old.tree part s.0.number f next.has next.at_dir in
         ap (λ o. on_some o 0 (λ (h : File). h.volume)) made.1.lives.0 ∙ made.1.volume
-        ∙ sym (same_volume t law number all ns vs old.tree part s f next.at_dir next.has next.rest next.here next.room w (copied_volume number w)
+        ∙ sym (same_volume t law number timed all ns vs old.tree part s f next.at_dir next.has next.rest next.here next.room w (copied_volume number w)
         next.at_w next.at_vs refl refl g next.lives new)
 
     file_is : (tag mode : ℕ) (k : Kind) → k ≡ copied_kind number (with_entries [] g.kind) → mode % 4096 ≡ copied_mode (with_entries [] g.kind) g.mode
         → new_file (volume_index old.tree (number s.0.number)) k (attributes (record { mode = mode; uid = g.uid; gid = g.gid })) None tag start
-        ≡ copied number tag (holding [] g)
+        ≡ copied number tag (partly [] false g)
     file_is tag mode k kind_is mode_is =
         let given : Given = record { mode = mode; uid = g.uid; gid = g.gid } in
         ap (λ v. new_file v k (attributes given) None tag start) volume_is
         ∙ ap (λ k. new_file g.volume k (attributes given) None tag start) kind_is
-        ∙ ap (λ m. record (copied number tag (holding [] g)) { mode = m }) mode_is
+        ∙ ap (λ m. record (copied number tag (partly [] false g)) { mode = m }) mode_is
 
     more : (tag mode : ℕ) (k : Kind) → k ≡ copied_kind number (with_entries [] g.kind) → mode % 4096 ≡ copied_mode (with_entries [] g.kind) g.mode → (u : Tree)
         → u ≡ with_named_file old.tree (number s.0.number) s.1.name
         (new_file (volume_index old.tree (number s.0.number)) k (attributes (record { mode = mode; uid = g.uid; gid = g.gid })) None tag start) start
-        → IsPart t number (all ++ s ∷ []) (ns ++ s.1.number ∷ []) vs u
-    more tag mode k kind_is mode_is u is = subst (IsPart t number (all ++ s ∷ []) (ns ++ s.1.number ∷ []) vs)
+        → IsPart t number timed (all ++ s ∷ []) (ns ++ s.1.number ∷ []) vs u
+    more tag mode k kind_is mode_is u is = subst (IsPart t number timed (all ++ s ∷ []) (ns ++ s.1.number ∷ []) vs)
         (ap (λ h. with_named_file old.tree (number s.0.number) s.1.name h start) (sym (file_is tag mode k kind_is mode_is)) ∙ sym is)
-        (part_with_file t law number all s f next.at_dir ns vs old.tree part next.has next.rest next.here tag g next.lives new)
+        (part_with_file t law number timed all s f next.at_dir next.untimed ns vs old.tree part next.has next.rest next.here tag g next.lives next.early new)
 
     abbrev given : Given
     given = record { mode = g.mode; uid = g.uid; gid = g.gid }
@@ -192,7 +194,7 @@ module _ (Last : Option Loaded → Type 0) (t : Tree) (law : Law t) (number : �
                 (does_made old.tree (free_end old.tree (number w.root) names)
                 (λ (e : PathEnd). MayMake old.tree e.dir e.name (length bytes))
                 (λ (e : PathEnd). Makes old.tree (λ tag. after_make_file old.tree e.dir e.name bytes (attributes given) None tag start)) result loaded.tree end free
-                (may_make t law number all ns vs old.tree part s f next.at_dir next.has next.rest next.here next.room w (copied_volume number w)
+                (may_make t law number timed all ns vs old.tree part s f next.at_dir next.has next.rest next.here next.room w (copied_volume number w)
                 next.at_w next.at_vs refl refl g next.lives new
                 (length bytes) (ap (λ k. length (bytes_in k)) is)) it.0)
             | inr memory ↦ inl memory.0
@@ -205,7 +207,7 @@ module _ (Last : Option Loaded → Type 0) (t : Tree) (law : Law t) (number : �
           let sound = law.sound s.1.number g next.lives in
           let dir : is_directory g.kind ≡ true = ap is_directory is in
           let above : parent ≡ s.0.number = ap parent_in (sym is)
-          ∙ law.parents s.0.number f s.1 g next.at_dir.0 (is_entry t law number all ns vs old.tree part s f next.at_dir next.has next.rest next.here next.room)
+          ∙ law.parents s.0.number f s.1 g next.at_dir.0 (is_entry t law number timed all ns vs old.tree part s f next.at_dir next.has next.rest next.here next.room)
           (next.lives, dir) in
           let r = read_back.dirs path names given path_word path_read (sound.mode, next.words.uid, next.words.gid) in
           subst (λ l. Goes Last (Some old) l All)
@@ -221,7 +223,7 @@ module _ (Last : Option Loaded → Type 0) (t : Tree) (law : Law t) (number : �
           (does_made old.tree (free_end old.tree (number w.root) names)
           (λ (e : PathEnd). MayMakeDirectory old.tree e.dir e.name)
           (λ (e : PathEnd). Makes old.tree (λ tag. after_mkdir old.tree e.dir e.name (attributes given) tag start)) result loaded.tree end free
-          (may_mkdir t law number all ns vs old.tree part s f next.at_dir next.has next.rest next.here next.room w (copied_volume number w)
+          (may_mkdir t law number timed all ns vs old.tree part s f next.at_dir next.has next.rest next.here next.room w (copied_volume number w)
           next.at_w next.at_vs refl refl g next.lives new dir) it.0)))
 
       link_goes : (target : List ℕ) → g.kind ≡ Link target → Goes Last (Some old) (own_line path (attributes_of s.1.number g links) (Link target)) All
@@ -241,7 +243,7 @@ module _ (Last : Option Loaded → Type 0) (t : Tree) (law : Law t) (number : �
           (does_made old.tree (free_end old.tree (number w.root) names)
           (λ (e : PathEnd). MayMakeLink old.tree e.dir e.name target)
           (λ (e : PathEnd). Makes old.tree (λ tag. after_make_link old.tree e.dir e.name target (link_attributes g.uid g.gid) tag start)) result loaded.tree end free
-          (may_make_link t law number all ns vs old.tree part s f next.at_dir next.has next.rest next.here next.room w (copied_volume number w)
+          (may_make_link t law number timed all ns vs old.tree part s f next.at_dir next.has next.rest next.here next.room w (copied_volume number w)
           next.at_w next.at_vs refl refl g next.lives new target is) it.0)))
 
       by_kind : (k : Kind) → g.kind ≡ k → Goes Last (Some old) (own_line path (attributes_of s.1.number g links) k) All
@@ -259,7 +261,7 @@ module _ (Last : Option Loaded → Type 0) (t : Tree) (law : Law t) (number : �
       (there : Has s.1.number ns) (no_dir : is_directory g.kind ≡ false) where
     -- one name more, and the same table
     abbrev pub IsNamedMore : Loaded → Type 0
-    IsNamedMore loaded = IsPart t number (all ++ s ∷ []) ns vs loaded.tree × (loaded.table ≡ old.table)
+    IsNamedMore loaded = IsPart t number timed (all ++ s ∷ []) ns vs loaded.tree × (loaded.table ≡ old.table)
 
     no_root : named.names ≢ []
     no_root none =
@@ -267,16 +269,11 @@ module _ (Last : Option Loaded → Type 0) (t : Tree) (law : Law t) (number : �
         let nowhere = none_named t law s.1.number s.0.number (ap (λ n. names_of n t.files) (sym is_root) ∙ (law.roots f.volume w next.at_w).4) in
         let one = one_named s.1.number (entries_at t s.0.number) s.1
         (subst (λ l. Contains l s.1) (sym (entries_of t law s.0.number f next.at_dir.0))
-        (is_entry t law number all ns vs old.tree part s f next.at_dir next.has next.rest next.here next.room)) refl in
+        (is_entry t law number timed all ns vs old.tree part s f next.at_dir next.has next.rest next.here next.room)) refl in
         omega (arith, nowhere, one)
 
     first_read : (paths.path_in first.path ≡ Ok named.names) × (is_said first.path ≡ true)
-    first_read =
-        let l = last_of named.names no_root in
-        let is : first.path ≡ slashed (l.0 ++ l.1 ∷ []) = named.path ∙ ap slashed l.2 in
-        let long : length first.path ≡ length (slashed l.0 ++ 47 ∷ l.1) = ap length (is ∙ slashed_push l.0 l.1) in
-        let sum = length-append (slashed l.0) (47 ∷ l.1) in
-        (path_in_names first.path l.0 l.1 is (subst AreNames l.2 named.are) said ∙ ap Ok (sym l.2), path_said first.path (omega (arith, long, sum)) said)
+    first_read = named_path all w.root first named no_root said
 
     not_directory : (o : Option File) (h : File) → o ≡ Some h → is_directory h.kind ≡ false
         → path_ends.is_directory (option_map (λ (k : File). attributes_of (number s.1.number) k (nlink old.tree.files (number s.1.number) k)) o) ≡ false
@@ -291,8 +288,8 @@ module _ (Last : Option Loaded → Type 0) (t : Tree) (law : Law t) (number : �
     link_end_is : link_end old.tree (number w.root) names named.names ≡ Ok (end, number s.1.number)
     link_end_is =
         let found : file_at old.tree (number w.root) named.names ≡ Some (number s.1.number) =
-        file_found t law number all ns vs old.tree part w.root next.has_root first named no_root ∙ ap (λ n. Some (number n)) same in
-        let made = file_made t law number all ns vs old.tree part s.1.number g there next.lives in
+        file_found t law number timed all ns vs old.tree part w.root next.has_root first named no_root ∙ ap (λ n. Some (number n)) same in
+        let made = file_made t law number timed all ns vs old.tree part s.1.number g there next.lives in
         let no : is_directory made.0.kind ≡ false = ap (λ (h : File). is_directory h.kind) made.3 ∙ copy_is_directory number (shown all s.1.number) g.kind
         ∙ no_dir in
         let plain = not_directory (at (number s.1.number) old.tree.files) made.0 made.1 no in
@@ -312,11 +309,11 @@ module _ (Last : Option Loaded → Type 0) (t : Tree) (law : Law t) (number : �
           goes_on Last old (hard_line path first.path) keyword.Hard r.0 IsNamedMore All r.1 goes (λ result loaded on.
           let it = on_tree old w number last_is (hard_in r.0) line r.2 AddsName result loaded on in
           done_map result (λ (made : loaded.tree ≡ after_link old.tree (number s.1.number) (number s.0.number) s.1.name start). (
-            subst (IsPart t number (all ++ s ∷ []) ns vs) (sym made)
-                (part_with_name t law number all s f next.at_dir ns vs old.tree part next.has next.rest next.here g next.lives no_dir there),
+            subst (IsPart t number timed (all ++ s ∷ []) ns vs) (sym made)
+                (part_with_name t law number timed all s f next.at_dir next.untimed ns vs old.tree part next.has next.rest next.here g next.lives next.early no_dir there),
             it.1,
           ))
           (does_made old.tree (link_end old.tree (number w.root) names named.names)
           (λ (e : PathEnd × ℕ). MayLink old.tree e.1 e.0.dir e.0.name)
           (λ (e : PathEnd × ℕ) (u : Tree). u ≡ after_link old.tree e.1 e.0.dir e.0.name start) result loaded.tree (end, number s.1.number) link_end_is
-          (may_link t law number all ns vs old.tree part s f next.at_dir next.has next.rest next.here next.room g next.lives no_dir there) it.0))
+          (may_link t law number timed all ns vs old.tree part s f next.at_dir next.has next.rest next.here next.room g next.lives no_dir there) it.0))

@@ -4,6 +4,7 @@ use Rattle.std.proofs.Common.{refl, sym, ap, subst, ◌∙◌, arith}
 use Rattle.std.specs.List.{find, list_all}
 use Rattle.std.specs.Prelude.{Contains, Err, Result, bytes_eq, if◌then◌else◌, is_some, nat_le, nat_lt}
 use Rattle.std.proofs.lemmas.Bool.Decides.{nat_tests}
+use Rattle.std.proofs.lemmas.List.{length-append}
 use Rattle.nfs_inodes.specs.Law.{IsName, Law, LivesAsDirectory}
 use Rattle.nfs_inodes.specs.Reading.{entries_at, has_name, number_named, number_under}
 use Rattle.nfs_inodes.specs.Tree.{Tree, File, Kind, Regular, Directory, Link, Entry, Volume, at, entries_in, is_directory, on_some}
@@ -106,13 +107,23 @@ leads_split list n m (name ∷ init) last e =
     let rest = leads_split list s.0 m init last s.2 in
     (rest.0, ap (λ o. on_some o None (λ i. leads list i init)) s.1 ∙ rest.1, rest.2)
 
+pub named_path : (all : List Step) (root : ℕ) (p : FilePath) (named : IsNamed all root p) → named.names ≢ [] → is_sayable p.path ≡ true
+    → (path_in p.path ≡ Ok named.names) × (is_said p.path ≡ true)
+named_path all root p named more said =
+    let l = last_of named.names more in
+    let is : p.path ≡ slashed (l.0 ++ l.1 ∷ []) = named.path ∙ ap slashed l.2 in
+    let long : length p.path ≡ length (slashed l.0 ++ 47 ∷ l.1) = ap length (is ∙ slashed_push l.0 l.1) in
+    let sum = length-append (slashed l.0) (47 ∷ l.1) in
+    (path_in_names p.path l.0 l.1 is (subst AreNames l.2 named.are) said ∙ ap Ok (sym l.2), path_said p.path (omega (arith, long, sum)) said)
+
 names_split : (init : List (List ℕ)) (last : List ℕ) → AreNames (init ++ last ∷ []) → AreNames init × IsName last
 names_split [] last are = (tt, are.0)
 names_split (name ∷ init) last are = let rest = names_split init last are.1 in ((are.0, rest.0), rest.1)
 
 -- ---- names in the tree that is made again
 
-module _ (t : Tree) (law : Law t) (number : ℕ → ℕ) (all : List Step) (ns : List ℕ) (vs : List Volume) (u : Tree) (part : IsPart t number all ns vs u) where
+module _ (t : Tree) (law : Law t) (number : ℕ → ℕ) (timed : ℕ → Bool) (all : List Step) (ns : List ℕ) (vs : List Volume) (u : Tree)
+    (part : IsPart t number timed all ns vs u) where
   some_entry : (es : List Entry) (name : List ℕ) (i : ℕ) → number_named name es ≡ Some i → es ≢ []
   some_entry es name i e s = not_both (ap (number_named name) s) e
 
@@ -155,7 +166,7 @@ module _ (t : Tree) (law : Law t) (number : ℕ → ℕ) (all : List Step) (ns :
   pub under_made : (d : ℕ) (f : File) (name : List ℕ) → Has d ns → LivesAsDirectory t d f → IsName name
       → number_under u (number d) name ≡ option_map number (number_named name (shown all d))
   under_made d f name has lives is =
-      let made = directory_made t law number all ns vs u part d f has lives in
+      let made = directory_made t law number timed all ns vs u part d f has lives in
       under_directory u (number d) made.0 name made.1.lives is ∙ ap (number_named name) made.1.entries ∙ found_copied number 3 name (shown all d)
 
   pub reached_is : (n m : ℕ) (names : List (List ℕ)) → Has n ns → AreNames names → leads (shown all) n names ≡ Some m
@@ -175,7 +186,7 @@ module _ (t : Tree) (law : Law t) (number : ℕ → ℕ) (all : List Step) (ns :
     end_found : end_at u (number root) (named.names ++ s.1.name ∷ []) ≡ Some (record { dir = number s.0.number; name = s.1.name })
     end_found =
         let r = reached_is root s.0.number named.names has_root named.are named.lead in
-        let made = directory_made t law number all ns vs u part s.0.number f r.1 at_dir in
+        let made = directory_made t law number timed all ns vs u part s.0.number f r.1 at_dir in
         end_is u (number root) (number s.0.number) named.names s.1.name made.0 r.0 made.1.lives
 
     pub end_free : HasNone s.1.name (shown all s.0.number)
@@ -200,7 +211,7 @@ module _ (t : Tree) (law : Law t) (number : ℕ → ℕ) (all : List Step) (ns :
       let parts = names_split l.0 l.1 are in
       let r = reached_is root split.0 l.0 has_root parts.0 split.1 in
       let dir = directory_of split.0 r.1 (some_entry (shown all split.0) l.1 p.number split.2) in
-      let made = directory_made t law number all ns vs u part split.0 dir.0 r.1 dir.1 in
+      let made = directory_made t law number timed all ns vs u part split.0 dir.0 r.1 dir.1 in
       ap (file_at u (number root)) l.2
       ∙ ap (λ o. on_some o None (λ (end : PathEnd). number_under u end.dir end.name)) (end_is u (number root) (number split.0) l.0 l.1 made.0 r.0 made.1.lives)
       ∙ under_made split.0 dir.0 l.1 r.1 dir.1 parts.1 ∙ ap (option_map number) split.2

@@ -19,6 +19,7 @@ pub mod Roots
 pub mod RoundTrip
 pub mod Runs
 pub mod Stays
+pub mod Times
 pub mod Truths
 pub mod Volumes
 pub mod Walks

@@ -8,9 +8,10 @@ use Rattle.hex.specs.Hex.{IsBytes}
 use Rattle.nfs_attrs.specs.declared.moment.Moment.{Moment}
 use Rattle.nfs_text.specs.Chunks.{chunks}
 use Rattle.nfs_text.specs.Words.{is_word, words}
+use Rattle.nfs_inodes.specs.declared.given_attributes.GivenAttributes.{GivenAttributes}
 use Rattle.nfs_inodes.specs.declared.new_file.NewFile.{NewFile}
 use Rattle.nfs_inodes.specs.Changes.{after_add_volume, after_link, after_mkdir, after_make_file, after_make_link, entered, kind_with_entry, new_file}
-use Rattle.nfs_inodes.specs.Changes.{touched, with_entry, with_file, with_named_file, with_new_file}
+use Rattle.nfs_inodes.specs.Changes.{after_set, or_else, touched, with_entry, with_file, with_given, with_named_file, with_new_file}
 use Rattle.nfs_inodes.specs.Conditions.{MayAddVolume, MayLink, MayMake, MayMakeDirectory, MayMakeLink}
 use Rattle.nfs_inodes.specs.Law.{Law, Lives}
 use Rattle.nfs_inodes.specs.Tree.{Tree, File, Kind, Regular, Directory, Link, at, bytes_in, on_some}
@@ -18,14 +19,17 @@ use Rattle.nfs_inodes.proofs.Lists.{by_test, same_some}
 use Rattle.nfs_inodes.proofs.Maps.{at_next, push_back, with_back}
 use Rattle.nfs_inodes.proofs.law.NewFiles.{law_after_add_volume, law_after_mkdir, law_after_make_file, law_after_make_link}
 use Rattle.nfs_inodes.proofs.law.Operations.{law_after_link}
+use Rattle.nfs_inodes.proofs.law.Settings.{law_after_set, set_is}
 use Rattle.nfs_load.specs.Effects.{attributes, link_attributes, start}
 use Rattle.nfs_load.specs.Lines.{Line, counted, is_comment, is_printable, is_text, keyword_named, shape, shape_of, takes}
+use Rattle.nfs_load.specs.Moments.{IsTime}
 use Rattle.nfs_load.specs.declared.cause.Cause.{Cause}
 use Rattle.nfs_load.specs.declared.cause.Cause.TheVariants.{BadByte, FieldCount}
 use Rattle.nfs_load.specs.declared.line.Keyword.{Keyword}
 use Rattle.nfs_load.specs.declared.statement.Given.{Given}
 use Rattle.nfs_describe.specs.Lines.{is_shown, is_target}
 use Rattle.nfs_read_back.specs.ReadBack.{is_said}
+use Rattle.nfs_round_trip.specs.Changes.{IsGivenSaid, IsNewSaid}
 use Rattle.nfs_round_trip.specs.Copies.{CanBeSaid}
 use Rattle.nfs_round_trip.proofs.Runs as runs
 use Rattle.nfs_round_trip.proofs.Runs.{same_ok}
@@ -100,10 +104,16 @@ FilesSaid u = (n : ℕ) (f : File) → Lives u n f → CanBeSaid f
 said_with : (u : Tree) (d : ℕ) (h g : File) → Lives u d h → CanBeSaid g → FilesSaid u → FilesSaid (with_file u d g)
 said_with u d h g lives said all n f is = with_back d n h g f u.files lives is (λ s e. subst CanBeSaid e said) (λ o was. all n f was)
 
-pub entered_said : (f : File) (name : List ℕ) (n : ℕ) (now : Moment) → CanBeSaid f → CanBeSaid (entered f name n now)
-entered_said f name n now said = record {
+pub start_time : IsTime start
+start_time = (omega arith, omega arith)
+
+pub entered_said : (f : File) (name : List ℕ) (n : ℕ) (now : Moment) → IsTime now → CanBeSaid f → CanBeSaid (entered f name n now)
+entered_said f name n now time said = record {
   uid = said.uid;
   gid = said.gid;
+  atime = said.atime;
+  mtime = time;
+  ctime = time;
   bytes = subst IsBytes (sym (same f.kind)) said.bytes;
   target = λ path is. said.target path (back f.kind path is);
 }
@@ -118,32 +128,68 @@ entered_said f name n now said = record {
     back (Directory parent next_cookie entries) path is = cc
     back (Link other) path is = is
 
-said_entry : (u : Tree) (d : ℕ) (name : List ℕ) (n : ℕ) (now : Moment) → FilesSaid u → FilesSaid (with_entry u d name n now)
-said_entry u d name n now all = of (at d u.files) refl
-  where
-    of : (o : Option File) → at d u.files ≡ o → FilesSaid (on_some o u (λ f. with_file u d (entered f name n now)))
-    of None e = all
-    of (Some h) e = said_with u d h (entered h name n now) e (entered_said h name n now (all d h e)) all
+pub touched_said : (f : File) (now : Moment) → IsTime now → CanBeSaid f → CanBeSaid (record f { ctime = now })
+touched_said f now time said = record {
+  uid = said.uid;
+  gid = said.gid;
+  atime = said.atime;
+  mtime = said.mtime;
+  ctime = time;
+  bytes = said.bytes;
+  target = said.target;
+}
 
-said_touched : (u : Tree) (n : ℕ) (now : Moment) → FilesSaid u → FilesSaid (touched u n now)
-said_touched u n now all = of (at n u.files) refl
+or_said : {X : Type 0} (Is : X → Type 0) (o : Option X) (was : X) → ((x : X) → o ≡ Some x → Is x) → Is was → Is (or_else o was)
+or_said Is None was each old = old
+or_said Is (Some x) was each old = each x refl
+
+pub given_said : (f : File) (given : GivenAttributes) (now : Moment) → IsGivenSaid given → IsTime now → CanBeSaid f → CanBeSaid (with_given f given now)
+given_said f given now is time said = record {
+  uid = or_said (λ n. n < 2 ^ 32) given.uid f.uid is.uid said.uid;
+  gid = or_said (λ n. n < 2 ^ 32) given.gid f.gid is.gid said.gid;
+  atime = or_said IsTime given.atime f.atime is.atime said.atime;
+  mtime = or_said IsTime given.mtime f.mtime is.mtime said.mtime;
+  ctime = time;
+  bytes = said.bytes;
+  target = said.target;
+}
+
+said_entry : (u : Tree) (d : ℕ) (name : List ℕ) (n : ℕ) → FilesSaid u → FilesSaid (with_entry u d name n start)
+said_entry u d name n all = of (at d u.files) refl
   where
-    of : (o : Option File) → at n u.files ≡ o → FilesSaid (on_some o u (λ f. with_file u n (record f { ctime = now })))
+    of : (o : Option File) → at d u.files ≡ o → FilesSaid (on_some o u (λ f. with_file u d (entered f name n start)))
     of None e = all
-    of (Some h) e = let said = all n h e in said_with u n h (record h { ctime = now }) e
-        (record { uid = said.uid; gid = said.gid; bytes = said.bytes; target = said.target }) all
+    of (Some h) e = said_with u d h (entered h name n start) e (entered_said h name n start start_time (all d h e)) all
+
+said_touched : (u : Tree) (n : ℕ) → FilesSaid u → FilesSaid (touched u n start)
+said_touched u n all = of (at n u.files) refl
+  where
+    of : (o : Option File) → at n u.files ≡ o → FilesSaid (on_some o u (λ f. with_file u n (record f { ctime = start })))
+    of None e = all
+    of (Some h) e = said_with u n h (record h { ctime = start }) e (touched_said h start start_time (all n h e)) all
 
 said_push : (u : Tree) (f : File) → Law u → CanBeSaid f → FilesSaid u → (n : ℕ) (g : File) → at n (u.files ++ (u.next, f) ∷ []) ≡ Some g → CanBeSaid g
 said_push u f law said all n g is = push_back u.next n f g u.files (at_next 0 u.next u.files law.rising) is (λ s e. subst CanBeSaid e said)
     (λ o was. all n g was)
 
-said_named : (u : Tree) (d : ℕ) (name : List ℕ) (f : File) (now : Moment) → Law u → CanBeSaid f → FilesSaid u → FilesSaid (with_named_file u d name f now)
-said_named u d name f now law said all = said_entry (with_new_file u f) d name u.next now (said_push u f law said all)
+said_named : (u : Tree) (d : ℕ) (name : List ℕ) (f : File) → Law u → CanBeSaid f → FilesSaid u → FilesSaid (with_named_file u d name f start)
+said_named u d name f law said all = said_entry (with_new_file u f) d name u.next (said_push u f law said all)
 
-new_said : (volume : ℕ) (k : Kind) (given : NewFile) (tag : ℕ) → given.uid < 2 ^ 32 → given.gid < 2 ^ 32 → IsBytes (bytes_in k)
+pub new_said : (volume : ℕ) (k : Kind) (given : NewFile) (verifier : Option (List ℕ)) (tag : ℕ) (now : Moment) → IsNewSaid given → IsTime now → IsBytes (bytes_in k)
     → ((path : List ℕ) → k ≡ Link path → is_target path ≡ true)
-    → CanBeSaid (new_file volume k given None tag start)
-new_said volume k given tag uid gid bytes target = record { uid = uid; gid = gid; bytes = bytes; target = target }
+    → CanBeSaid (new_file volume k given verifier tag now)
+new_said volume k given verifier tag now is time bytes target = record {
+  uid = is.uid;
+  gid = is.gid;
+  atime = is.atime;
+  mtime = is.mtime;
+  ctime = time;
+  bytes = bytes;
+  target = target;
+}
+
+attributes_said : (given : Given) → (given.uid < 2 ^ 32) × (given.gid < 2 ^ 32) → IsNewSaid (attributes given)
+attributes_said given ids = record { uid = ids.0; gid = ids.1; atime = start_time; mtime = start_time }
 
 pub no_bytes : IsBytes []
 no_bytes i = omega arith
@@ -157,7 +203,7 @@ pub kept_dir : (u : Tree) (d tag : ℕ) (name : List ℕ) (given : Given) → Ma
     → IsKept (after_mkdir u d name (attributes given) tag start)
 kept_dir u d tag name given may fits ids kept = (
   law_after_mkdir u d tag name (attributes given) start may fits kept.0,
-  said_named u d name _ start kept.0 (new_said _ (Directory d 3 []) (attributes given) tag ids.0 ids.1 no_bytes (λ path is. cc)) kept.1,
+  said_named u d name _ kept.0 (new_said _ (Directory d 3 []) (attributes given) None tag start (attributes_said given ids) start_time no_bytes (λ path is. cc)) kept.1,
 )
 
 pub kept_file : (u : Tree) (d tag : ℕ) (name bytes : List ℕ) (given : Given) → MayMake u d name (length bytes) → tag < 2 ^ 32 → (given.uid < 2 ^ 32)
@@ -165,7 +211,7 @@ pub kept_file : (u : Tree) (d tag : ℕ) (name bytes : List ℕ) (given : Given)
     → IsKept (after_make_file u d name bytes (attributes given) None tag start)
 kept_file u d tag name bytes given may fits ids all kept = (
   law_after_make_file u d tag name bytes (attributes given) None start may fits kept.0,
-  said_named u d name _ start kept.0 (new_said _ (Regular bytes) (attributes given) tag ids.0 ids.1 all (λ path is. cc)) kept.1,
+  said_named u d name _ kept.0 (new_said _ (Regular bytes) (attributes given) None tag start (attributes_said given ids) start_time all (λ path is. cc)) kept.1,
 )
 
 pub link_said : (target : List ℕ) → is_target target ≡ true → (path : List ℕ) → Link target ≡ Link path → is_target path ≡ true
@@ -176,16 +222,25 @@ pub kept_link : (u : Tree) (d tag : ℕ) (name target : List ℕ) (uid gid : ℕ
     → IsKept (after_make_link u d name target (link_attributes uid gid) tag start)
 kept_link u d tag name target uid gid may fits owner group holds kept = (
   law_after_make_link u d tag name target (link_attributes uid gid) start may fits kept.0,
-  said_named u d name _ start kept.0 (new_said _ (Link target) (link_attributes uid gid) tag owner group no_bytes (link_said target holds)) kept.1,
+  said_named u d name _ kept.0 (new_said _ (Link target) (link_attributes uid gid) None tag start
+      (attributes_said (record { mode = 511; uid = uid; gid = gid }) (owner, group)) start_time no_bytes (link_said target holds)) kept.1,
 )
 
 pub kept_name : (u : Tree) (n d : ℕ) (name : List ℕ) → MayLink u n d name → IsKept u → IsKept (after_link u n d name start)
-kept_name u n d name may kept = (law_after_link u n d name start may kept.0, said_entry (touched u n start) d name n start (said_touched u n start kept.1))
+kept_name u n d name may kept = (law_after_link u n d name start may kept.0, said_entry (touched u n start) d name n (said_touched u n kept.1))
 
 pub kept_volume : (u : Tree) (path : List ℕ) (max_bytes max_files tag : ℕ) (given : Given) → MayAddVolume u path max_bytes max_files → tag < 2 ^ 32
     → (given.uid < 2 ^ 32) × (given.gid < 2 ^ 32) → IsKept u
     → IsKept (after_add_volume u path max_bytes max_files (attributes given) tag start)
 kept_volume u path max_bytes max_files tag given may fits ids kept = (
   law_after_add_volume u max_bytes max_files tag path (attributes given) start may fits kept.0,
-  said_push u _ kept.0 (new_said _ (Directory u.next 3 []) (attributes given) tag ids.0 ids.1 no_bytes (λ path is. cc)) kept.1,
+  said_push u _ kept.0 (new_said _ (Directory u.next 3 []) (attributes given) None tag start (attributes_said given ids) start_time no_bytes (λ path is. cc)) kept.1,
+)
+
+pub kept_times : (u : Tree) (n : ℕ) (given : GivenAttributes) (now : Moment) (f : File) → Lives u n f → IsGivenSaid given → IsTime now → IsKept u
+    → IsKept (after_set u n given now)
+kept_times u n given now f lives is time kept = (
+  law_after_set u n given now f lives kept.0,
+  subst FilesSaid (sym (set_is u n given now f lives))
+      (said_with u n f (with_given f given now) lives (given_said f given now is time (kept.1 n f lives)) kept.1),
 )

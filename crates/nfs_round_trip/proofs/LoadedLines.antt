@@ -16,19 +16,22 @@ use Rattle.nfs_exports.specs.Tables.{added, exports_of, pattern_count}
 use Rattle.nfs_exports.specs.declared.options.Options.{Options}
 use Rattle.nfs_exports.specs.declared.pattern.Pattern.{Pattern}
 use Rattle.nfs_exports.specs.declared.export_table.Export.{Export}
-use Rattle.nfs_inodes.specs.Changes.{entered, touched, with_entry, with_file}
+use Rattle.nfs_inodes.specs.Changes.{after_set, entered, touched, with_entry, with_file}
 use Rattle.nfs_inodes.specs.declared.limits.Limits.{Limits}
 use Rattle.nfs_inodes.specs.Law.{IsWithin, Law}
 use Rattle.nfs_inodes.proofs.law.Opened.{law_limited}
+use Rattle.nfs_inodes.proofs.law.Settings.{set_is}
 use Rattle.nfs_inodes.specs.Limits.{default_limits, max_path_bytes}
 use Rattle.nfs_inodes.specs.Tree.{Tree, File, Volume, at, on_some}
-use Rattle.nfs_inodes.proofs.Lists.{by_test, head_or_tail, in_head, in_tail, not_in_empty, true_and_false}
+use Rattle.nfs_inodes.proofs.Lists.{by_test, head_or_tail, in_head, in_tail, not_both as not_one, not_in_empty, same_some, true_and_false}
 use Rattle.nfs_load.specs.Descriptions.{Asked, Begins, GoesOn, InRoot, IsFault, LimitsSet, early_limits, Then, Through, begun, finished, last_root}
-use Rattle.nfs_load.specs.Effects.{free_path, start}
+use Rattle.nfs_load.specs.Effects.{TimesSet, free_path, start, timed_file, times_given}
 use Rattle.nfs_load.specs.Fields.{◌>>=◌, by, content_in, key_in, number_in, options_at, pattern_in, target_in}
 use Rattle.nfs_load.specs.Lines.{Line, shape}
-use Rattle.nfs_load.specs.Paths.{is_volume_path, path_in, volume_path_in}
-use Rattle.nfs_load.specs.Statements.{FileLine, LinkLine, Read, VolumeLine, dir_in, export_in, file_in, given_in, hard_in, id_in, link_in, volume_in}
+use Rattle.nfs_load.specs.Moments.{IsTime, moment_in}
+use Rattle.nfs_load.specs.PathEnds.{file_or_root_at}
+use Rattle.nfs_load.specs.Paths.{is_volume_path, path_in, path_or_root_in, volume_path_in}
+use Rattle.nfs_load.specs.Statements.{FileLine, LinkLine, Read, TimesLine, VolumeLine, dir_in, export_in, file_in, given_in, hard_in, id_in, link_in, times_in, volume_in}
 use Rattle.nfs_load.specs.declared.cause.Cause.{Cause}
 use Rattle.nfs_load.specs.declared.cause.Cause.TheVariants.{BadVolumePath, NoVolume, ServerTwice, VolumeTwice}
 use Rattle.nfs_load.specs.declared.line.Keyword.{Keyword}
@@ -39,13 +42,15 @@ use Rattle.nfs_load.specs.declared.statement.DirLine.{DirLine}
 use Rattle.nfs_load.specs.declared.statement.ExportLine.{ExportLine}
 use Rattle.nfs_load.specs.declared.statement.Given.{Given}
 use Rattle.nfs_load.proofs.Descriptions.{length_added}
+use Rattle.nfs_load.proofs.Timed.{living_lives}
 use Rattle.nfs_describe.specs.Lines.{is_shown, is_target}
 use Rattle.nfs_read_back.specs.ReadBack.{IsExport, is_said}
+use Rattle.nfs_round_trip.specs.Changes.{IsGivenSaid}
 use Rattle.nfs_round_trip.specs.RoundTrip as law
 use Rattle.nfs_round_trip.specs.RoundTrip.{IsDescribable, IsVolumeSaid}
-use Rattle.nfs_round_trip.proofs.Bounds.{bind_is, by_is, content_bound, given_bound, key_bound, number_bound, options_bound, pattern_bound, target_bound}
+use Rattle.nfs_round_trip.proofs.Bounds.{bind_is, by_is, content_bound, given_bound, key_bound, moment_bound, number_bound, options_bound, pattern_bound, target_bound}
 use Rattle.nfs_round_trip.proofs.LimitBounds.{early, limits_kept}
-use Rattle.nfs_round_trip.proofs.Loaded.{AllSaid, IsKept, fields_said, kept_dir, kept_file, kept_link, kept_name, kept_volume}
+use Rattle.nfs_round_trip.proofs.Loaded.{AllSaid, IsKept, fields_said, kept_dir, kept_file, kept_link, kept_name, kept_times, kept_volume}
 use Rattle.nfs_round_trip.proofs.Runs.{not_both, same_ok}
 use Rattle.nfs_round_trip.proofs.Truths.{and_true, both}
 
@@ -85,6 +90,41 @@ file_bound most fields line rest e =
     let c = by_is (content_in most) given.0.1 content.0.0 content.0.1 content.1 in
     subst (λ (l : FileLine). Ids l.given × IsBytes l.content) (line_is made line content.0.1 rest (Ok (made, content.0.1)) refl content.2)
     (given_bound path.0.1 given.0.0 given.0.1 given.1, content_bound most c.0 content.0.0 c.2)
+
+-- what a line of times says
+record AreTimes (l : TimesLine) : Type 0 where
+  atime : IsTime l.atime
+  mtime : IsTime l.mtime
+  ctime : IsTime l.ctime
+
+times_bound : (fields : List (List ℕ)) (line : TimesLine) (rest : List (List ℕ)) → times_in fields ≡ Ok (line, rest) → AreTimes line
+times_bound fields line rest e =
+    let path = bind_is (by path_or_root_in fields) (λ (path : Left (List (List ℕ))). by moment_in path.1 >>=
+    (λ (atime : Left Moment). by moment_in atime.1 >>= (λ (mtime : Left Moment). by moment_in mtime.1 >>= (λ (ctime : Left Moment).
+    Ok (record { path = path.0; atime = atime.0; mtime = mtime.0; ctime = ctime.0 }, ctime.1))))) (line, rest) e in
+    let atime = bind_is (by moment_in path.0.1) (λ (atime : Left Moment). by moment_in atime.1 >>= (λ (mtime : Left Moment). by moment_in mtime.1 >>=
+    (λ (ctime : Left Moment). Ok (record { path = path.0.0; atime = atime.0; mtime = mtime.0; ctime = ctime.0 }, ctime.1)))) (line, rest) path.2 in
+    let mtime = bind_is (by moment_in atime.0.1) (λ (mtime : Left Moment). by moment_in mtime.1 >>= (λ (ctime : Left Moment).
+    Ok (record { path = path.0.0; atime = atime.0.0; mtime = mtime.0; ctime = ctime.0 }, ctime.1))) (line, rest) atime.2 in
+    let ctime = bind_is (by moment_in mtime.0.1) (λ (ctime : Left Moment).
+    Ok (record { path = path.0.0; atime = atime.0.0; mtime = mtime.0.0; ctime = ctime.0 }, ctime.1)) (line, rest) mtime.2 in
+    let made : TimesLine = record { path = path.0.0; atime = atime.0.0; mtime = mtime.0.0; ctime = ctime.0.0 } in
+    let a = by_is moment_in path.0.1 atime.0.0 atime.0.1 atime.1 in
+    let m = by_is moment_in atime.0.1 mtime.0.0 mtime.0.1 mtime.1 in
+    let c = by_is moment_in mtime.0.1 ctime.0.0 ctime.0.1 ctime.1 in
+    subst AreTimes (line_is made line ctime.0.1 rest (Ok (made, ctime.0.1)) refl ctime.2) (record {
+      atime = moment_bound a.0 atime.0.0 a.2;
+      mtime = moment_bound m.0 mtime.0.0 m.2;
+      ctime = moment_bound c.0 ctime.0.0 c.2;
+    })
+
+times_said : (line : TimesLine) → AreTimes line → IsGivenSaid (times_given line)
+times_said line are = record {
+  uid = λ n e. absurd (not_one refl e);
+  gid = λ n e. absurd (not_one refl e);
+  atime = λ m e. subst IsTime (same_some e) are.atime;
+  mtime = λ m e. subst IsTime (same_some e) are.mtime;
+}
 
 word_target : (target : List ℕ) → is_said target ≡ true → nat_le (length target) max_path_bytes ≡ true → is_target target ≡ true
 word_target target said short = let p = both (nat_lt 0 (length target)) (list_all is_shown target) said in
@@ -256,6 +296,11 @@ then_of : {A : Type 0} (read : Read A) (Holds : A → Type 0) → Then read (Ok 
 then_of (Ok line) Holds it = (line.0, line.1, refl, it)
 then_of (Err cause) Holds it = absurd (no_fault cause it)
 
+times_of : (u new : Tree) (found : Result ℕ Cause) (line : TimesLine) → TimesSet u found line (Ok tt) new
+    → (n : ℕ) × (found ≡ Ok n) × (new ≡ after_set u n (times_given line) line.ctime)
+times_of u new (Ok n) line it = (n, refl, it.1)
+times_of u new (Err cause) line it = absurd (no_fault cause it.0)
+
 goes_held : (old new : Loaded) (k : Keyword) (fields : List (List ℕ)) → AllSaid fields → GoesOn old k fields (Ok tt) new → IsHeld old → IsHeld new
 goes_held old new keyword.Server fields said it held = absurd (no_fault ServerTwice it)
 goes_held old new keyword.Limits fields said it held = limits_held old new (early_limits old.tree fields) refl it held
@@ -354,6 +399,15 @@ goes_held old new keyword.Hard fields said it held =
     (subst IsKept (sym made.3) (kept_name old.tree made.0.1 made.0.0.dir made.0.0.name made.2 held.tree))
     (ap (λ (u : Tree). u.volumes) made.3 ∙ entry_volumes (touched old.tree made.0.1 start) made.0.0.dir made.0.0.name made.0.1 start
     ∙ touched_volumes old.tree made.0.1 start) line.3.1
+goes_held old new keyword.Times fields said it held =
+    let root = root_of (last_root old.tree) _ it in
+    let line = then_of (times_in fields) _ root.1 in
+    let are = times_bound fields line.0 line.1 line.2 in
+    let set = times_of old.tree new.tree (timed_file old.tree root.0 line.0) line.0 line.3.0 in
+    let f = living_lives old.tree (file_or_root_at old.tree root.0 line.0.path) set.0 set.1 in
+    held_on old new held
+    (subst IsKept (sym set.2) (kept_times old.tree set.0 (times_given line.0) line.0.ctime f.0 f.1 (times_said line.0 are) are.ctime held.tree))
+    (ap (λ (u : Tree). u.volumes) (set.2 ∙ set_is old.tree set.0 (times_given line.0) line.0.ctime f.0 f.1)) line.3.1
 
 -- ---- the whole text
 
@@ -414,6 +468,7 @@ begun_held keyword.Dir fields loaded e = cc
 begun_held keyword.File fields loaded e = cc
 begun_held keyword.Link fields loaded e = cc
 begun_held keyword.Hard fields loaded e = cc
+begun_held keyword.Times fields loaded e = cc
 
 begins_held : (b : Result Loaded Cause) (new : Option Loaded) → Begins b (Ok tt) new → ((loaded : Loaded) → b ≡ Ok loaded → IsHeld loaded) → HeldOr new
 begins_held (Ok loaded) new it each = subst HeldOr (sym it.1) (each loaded refl)

@@ -1,11 +1,13 @@
 -- The files of a tree that is made again, as far as it is made.
 use Rattle.std.proofs.Common.{inl, inr, ◌≡◌, ◌≢◌, ◌⊎◌, ℕ, suc, zero, ◌+◌, ◌*◌, ◌<◌, ◌≤◌, true, List, [], ◌∷◌, ◌++◌, length, sum_by, nat_eq, Some, None, refl}
 use Rattle.std.proofs.Common.{sym, ap, subst, ◌∙◌, arith}
+use Rattle.std.specs.Prelude.{Bool, if◌then◌else◌}
 use Rattle.std.proofs.lemmas.List.Sums.{sum_by-cons}
-use Rattle.nfs_inodes.specs.Tree.{Tree, File, Kind, Entry, Regular, Directory, Link, at, with_at, on_some, one_when, entries_in}
+use Rattle.nfs_inodes.specs.Tree.{Tree, File, Kind, Entry, Regular, Directory, Link, at, with_at, on_some, one_when}
 use Rattle.nfs_inodes.specs.Law.{AreRising, Lives}
 use Rattle.nfs_inodes.proofs.Lists.{by_number, if_true, if_false, none_from, same_some, not_both}
 use Rattle.nfs_inodes.proofs.Maps.{at_here, at_after, apart_number, itself, rising_bounds}
+use Rattle.nfs_load.specs.Effects.{start}
 use Rattle.nfs_round_trip.specs.Copies.{copied}
 
 -- ---- numbers of a list
@@ -40,67 +42,72 @@ with_entries es (Regular bytes) = Regular bytes
 with_entries es (Directory parent next_cookie entries) = Directory parent next_cookie es
 with_entries es (Link path) = Link path
 
-abbrev pub holding : List Entry → File → File
-holding es f = record f { kind = with_entries es f.kind }
-
-pub holds_all : (k : Kind) → with_entries (entries_in k) k ≡ k
-holds_all (Regular bytes) = refl
-holds_all (Directory parent next_cookie entries) = refl
-holds_all (Link path) = refl
+-- a file with these entries, and with its times or those of everything that a description makes
+abbrev pub partly : List Entry → Bool → File → File
+partly es timed f = record f {
+  kind = with_entries es f.kind;
+  atime = if timed then f.atime else start;
+  mtime = if timed then f.mtime else start;
+  ctime = if timed then f.ctime else start;
+}
 
 -- ---- files that are made
 
--- the file of a number, made with these of its entries
-pub record IsMade (t : Tree) (number : ℕ → ℕ) (shown : ℕ → List Entry) (n : ℕ) (h : File) : Type 0 where
+-- the file of a number, made as far as this
+pub record IsMade (t : Tree) (number : ℕ → ℕ) (so_far : ℕ → File → File) (n : ℕ) (h : File) : Type 0 where
   pub file : File
   pub at_file : Lives t n file
   pub tag : ℕ
-  pub is : h ≡ copied number tag (holding (shown n) file)
+  pub is : h ≡ copied number tag (so_far n file)
 
 -- those of some numbers, in their order, under rising numbers
-abbrev pub AreMade : Tree → (ℕ → ℕ) → (ℕ → List Entry) → ℕ → List ℕ → List (ℕ × File) → Type 0
-AreMade t number shown k [] [] = Unit {0}
-AreMade t number shown k [] (x ∷ xs) = ⊥
-AreMade t number shown k (n ∷ ns) [] = ⊥
-AreMade t number shown k (n ∷ ns) (x ∷ xs) = (x.0 ≡ k) × (number n ≡ k) × IsMade t number shown n x.1 × AreMade t number shown (suc k) ns xs
+abbrev pub AreMade : Tree → (ℕ → ℕ) → (ℕ → File → File) → ℕ → List ℕ → List (ℕ × File) → Type 0
+AreMade t number so_far k [] [] = Unit {0}
+AreMade t number so_far k [] (x ∷ xs) = ⊥
+AreMade t number so_far k (n ∷ ns) [] = ⊥
+AreMade t number so_far k (n ∷ ns) (x ∷ xs) = (x.0 ≡ k) × (number n ≡ k) × IsMade t number so_far n x.1 × AreMade t number so_far (suc k) ns xs
 
 module _ (t : Tree) (number : ℕ → ℕ) where
-  pub made_push : (shown : ℕ → List Entry) (k : ℕ) (ns : List ℕ) (xs : List (ℕ × File)) (n m : ℕ) (h : File)
-      → AreMade t number shown k ns xs → m ≡ k + length ns → number n ≡ m → IsMade t number shown n h
-      → AreMade t number shown k (ns ++ n ∷ []) (xs ++ (m, h) ∷ [])
-  made_push shown k [] [] n m h all is named made = let e : m ≡ k = omega (arith, is) in (e, named ∙ e, made, tt)
-  made_push shown k [] (x ∷ xs) n m h all is named made = absurd all
-  made_push shown k (a ∷ ns) [] n m h all is named made = absurd all
-  made_push shown k (a ∷ ns) (x ∷ xs) n m h all is named made =
-      (all.0, all.1, all.2, made_push shown (suc k) ns xs n m h all.3 (omega (arith, is)) named made)
+  pub made_push : (so_far : ℕ → File → File) (k : ℕ) (ns : List ℕ) (xs : List (ℕ × File)) (n m : ℕ) (h : File)
+      → AreMade t number so_far k ns xs → m ≡ k + length ns → number n ≡ m → IsMade t number so_far n h
+      → AreMade t number so_far k (ns ++ n ∷ []) (xs ++ (m, h) ∷ [])
+  made_push so_far k [] [] n m h all is named made = let e : m ≡ k = omega (arith, is) in (e, named ∙ e, made, tt)
+  made_push so_far k [] (x ∷ xs) n m h all is named made = absurd all
+  made_push so_far k (a ∷ ns) [] n m h all is named made = absurd all
+  made_push so_far k (a ∷ ns) (x ∷ xs) n m h all is named made =
+      (all.0, all.1, all.2, made_push so_far (suc k) ns xs n m h all.3 (omega (arith, is)) named made)
 
-  pub made_bounds : (shown : ℕ → List Entry) (k : ℕ) (ns : List ℕ) (xs : List (ℕ × File)) (n : ℕ)
-      → AreMade t number shown k ns xs → Has n ns → (k ≤ number n) × (number n < k + length ns)
-  made_bounds shown k [] xs n all has = absurd has
-  made_bounds shown k (a ∷ ns) [] n all has = absurd all
-  made_bounds shown k (a ∷ ns) (x ∷ xs) n all has = elim has [
+  pub made_bounds : (so_far : ℕ → File → File) (k : ℕ) (ns : List ℕ) (xs : List (ℕ × File)) (n : ℕ)
+      → AreMade t number so_far k ns xs → Has n ns → (k ≤ number n) × (number n < k + length ns)
+  made_bounds so_far k [] xs n all has = absurd has
+  made_bounds so_far k (a ∷ ns) [] n all has = absurd all
+  made_bounds so_far k (a ∷ ns) (x ∷ xs) n all has = elim has [
     | inl e ↦ let is : number n ≡ k = ap number (sym e) ∙ all.1 in (omega (arith, is), omega (arith, is))
-    | inr r ↦ let b = made_bounds shown (suc k) ns xs n all.3 r in let low = b.0 in let high = b.1 in (omega (arith, low), omega (arith, high))
+    | inr r ↦ let b = made_bounds so_far (suc k) ns xs n all.3 r in let low = b.0 in let high = b.1 in (omega (arith, low), omega (arith, high))
   ]
 
-  same_made : (old new : ℕ → List Entry) (n : ℕ) (h : File) → new n ≡ old n → IsMade t number old n h → IsMade t number new n h
+  pub same_made : (old new : ℕ → File → File) (n : ℕ) (h : File) → new n ≡ old n → IsMade t number old n h → IsMade t number new n h
   same_made old new n h e made = record {
     file = made.file;
     at_file = made.at_file;
     tag = made.tag;
-    is = made.is ∙ ap (λ es. copied number made.tag (holding es made.file)) (sym e);
+    is = made.is ∙ ap (λ (to : File → File). copied number made.tag (to made.file)) (sym e);
   }
 
-  pub made_same : (old new : ℕ → List Entry) (k : ℕ) (ns : List ℕ) (xs : List (ℕ × File))
+  pub made_each : (old new : ℕ → File → File) (k : ℕ) (ns : List ℕ) (xs : List (ℕ × File))
+      → AreMade t number old k ns xs → ((n : ℕ) (h : File) → Has n ns → IsMade t number old n h → IsMade t number new n h) → AreMade t number new k ns xs
+  made_each old new k [] [] all each = tt
+  made_each old new k [] (x ∷ xs) all each = absurd all
+  made_each old new k (a ∷ ns) [] all each = absurd all
+  made_each old new k (a ∷ ns) (x ∷ xs) all each =
+      (all.0, all.1, each a x.1 (inl refl) all.2, made_each old new (suc k) ns xs all.3 (λ n h has made. each n h (inr has) made))
+
+  made_same : (old new : ℕ → File → File) (k : ℕ) (ns : List ℕ) (xs : List (ℕ × File))
       → AreMade t number old k ns xs → ((n : ℕ) → Has n ns → new n ≡ old n) → AreMade t number new k ns xs
-  made_same old new k [] [] all same = tt
-  made_same old new k [] (x ∷ xs) all same = absurd all
-  made_same old new k (a ∷ ns) [] all same = absurd all
-  made_same old new k (a ∷ ns) (x ∷ xs) all same =
-      (all.0, all.1, same_made old new a x.1 (same a (inl refl)) all.2, made_same old new (suc k) ns xs all.3 (λ n has. same n (inr has)))
+  made_same old new k ns xs all same = made_each old new k ns xs all (λ n h has made. same_made old new n h (same n has) made)
 
   -- one of them made anew
-  pub made_with : (old new : ℕ → List Entry) (k : ℕ) (ns : List ℕ) (xs : List (ℕ × File)) (d : ℕ) (h : File)
+  pub made_with : (old new : ℕ → File → File) (k : ℕ) (ns : List ℕ) (xs : List (ℕ × File)) (d : ℕ) (h : File)
       → AreMade t number old k ns xs → Has d ns → ((n : ℕ) → n ≢ d → new n ≡ old n) → IsMade t number new d h
       → AreMade t number new k ns (with_at (number d) h xs)
   made_with old new k [] xs d h all has same made = absurd has
@@ -122,49 +129,49 @@ module _ (t : Tree) (number : ℕ → ℕ) where
         (all.0, all.1, same_made old new a x.1 (same a other) all.2, made_with old new (suc k) ns xs d h all.3 r same made)
   ]
 
-  module _ (shown : ℕ → List Entry) where
-    pub made_at : (k : ℕ) (ns : List ℕ) (xs : List (ℕ × File)) (n : ℕ) → AreMade t number shown k ns xs → Has n ns → (h : File) × (at (number n) xs ≡ Some h)
-        × IsMade t number shown n h
+  module _ (so_far : ℕ → File → File) where
+    pub made_at : (k : ℕ) (ns : List ℕ) (xs : List (ℕ × File)) (n : ℕ) → AreMade t number so_far k ns xs → Has n ns → (h : File) × (at (number n) xs ≡ Some h)
+        × IsMade t number so_far n h
     made_at k [] xs n all has = absurd has
     made_at k (a ∷ ns) [] n all has = absurd all
     made_at k (a ∷ ns) (x ∷ xs) n all has = elim has [
       | inl e ↦
           let is : number n ≡ x.0 = ap number (sym e) ∙ all.1 ∙ sym all.0 in
-          (x.1, ap (λ m. at m (x ∷ xs)) is ∙ at_here x xs, subst (λ m. IsMade t number shown m x.1) e all.2)
+          (x.1, ap (λ m. at m (x ∷ xs)) is ∙ at_here x xs, subst (λ m. IsMade t number so_far m x.1) e all.2)
       | inr r ↦
-          let low = (made_bounds shown (suc k) ns xs n all.3 r).0 in
+          let low = (made_bounds so_far (suc k) ns xs n all.3 r).0 in
           let apart : number n ≢ x.0 = λ s. let one = all.0 in omega (arith, low, s, one) in
           let rest = made_at (suc k) ns xs n all.3 r in
           (rest.0, at_after (number n) x xs apart ∙ rest.1, rest.2)
     ]
 
-    pub made_back : (k : ℕ) (ns : List ℕ) (xs : List (ℕ × File)) (m : ℕ) (h : File) → AreMade t number shown k ns xs → at m xs ≡ Some h
-        → (n : ℕ) × Has n ns × (number n ≡ m) × IsMade t number shown n h
+    pub made_back : (k : ℕ) (ns : List ℕ) (xs : List (ℕ × File)) (m : ℕ) (h : File) → AreMade t number so_far k ns xs → at m xs ≡ Some h
+        → (n : ℕ) × Has n ns × (number n ≡ m) × IsMade t number so_far n h
     made_back k [] [] m h all lives = absurd (not_both refl lives)
     made_back k [] (x ∷ xs) m h all lives = absurd all
     made_back k (a ∷ ns) [] m h all lives = absurd all
     made_back k (a ∷ ns) (x ∷ xs) m h all lives = by_number m x.0
         (λ s. let is : x.1 ≡ h = same_some (sym (at_here x xs) ∙ ap (λ i. at i (x ∷ xs)) (sym s) ∙ lives) in
-        (a, inl refl, all.1 ∙ sym all.0 ∙ sym s, subst (λ f. IsMade t number shown a f) is all.2))
+        (a, inl refl, all.1 ∙ sym all.0 ∙ sym s, subst (λ f. IsMade t number so_far a f) is all.2))
         (λ o. let rest = made_back (suc k) ns xs m h all.3 (sym (at_after m x xs o) ∙ lives) in (rest.0, inr rest.1, rest.2, rest.3))
 
-    pub made_once : (k : ℕ) (ns : List ℕ) (xs : List (ℕ × File)) (m n : ℕ) → AreMade t number shown k ns xs → Has m ns → Has n ns → number m ≡ number n → m ≡ n
+    pub made_once : (k : ℕ) (ns : List ℕ) (xs : List (ℕ × File)) (m n : ℕ) → AreMade t number so_far k ns xs → Has m ns → Has n ns → number m ≡ number n → m ≡ n
     made_once k [] xs m n all one two e = absurd one
     made_once k (a ∷ ns) [] m n all one two e = absurd all
     made_once k (a ∷ ns) (x ∷ xs) m n all one two e = elim one [
       | inl here ↦ elim two [
         | inl there ↦ sym here ∙ there
-        | inr there ↦ absurd (let low = (made_bounds shown (suc k) ns xs n all.3 there).0 in let is : number n ≡ k = sym e ∙ ap number (sym here) ∙ all.1 in
+        | inr there ↦ absurd (let low = (made_bounds so_far (suc k) ns xs n all.3 there).0 in let is : number n ≡ k = sym e ∙ ap number (sym here) ∙ all.1 in
             omega (arith, low, is))
       ]
       | inr here ↦ elim two [
-        | inl there ↦ absurd (let low = (made_bounds shown (suc k) ns xs m all.3 here).0 in let is : number m ≡ k = e ∙ ap number (sym there) ∙ all.1 in
+        | inl there ↦ absurd (let low = (made_bounds so_far (suc k) ns xs m all.3 here).0 in let is : number m ≡ k = e ∙ ap number (sym there) ∙ all.1 in
             omega (arith, low, is))
         | inr there ↦ made_once (suc k) ns xs m n all.3 here there e
       ]
     ]
 
-    pub made_length : (k : ℕ) (ns : List ℕ) (xs : List (ℕ × File)) → AreMade t number shown k ns xs → length xs ≡ length ns
+    pub made_length : (k : ℕ) (ns : List ℕ) (xs : List (ℕ × File)) → AreMade t number so_far k ns xs → length xs ≡ length ns
     made_length k [] [] all = refl
     made_length k [] (x ∷ xs) all = absurd all
     made_length k (a ∷ ns) [] all = absurd all
@@ -173,7 +180,7 @@ module _ (t : Tree) (number : ℕ → ℕ) where
     -- ---- what is counted
 
     -- a number that none of them has doesn't stand among them
-    none_low : (k : ℕ) (ns : List ℕ) (xs : List (ℕ × File)) (n : ℕ) → AreMade t number shown k ns xs → number n < k → times n ns ≡ 0
+    none_low : (k : ℕ) (ns : List ℕ) (xs : List (ℕ × File)) (n : ℕ) → AreMade t number so_far k ns xs → number n < k → times n ns ≡ 0
     none_low k [] xs n all low = refl
     none_low k (a ∷ ns) [] n all low = absurd all
     none_low k (a ∷ ns) (x ∷ xs) n all low =
@@ -182,7 +189,7 @@ module _ (t : Tree) (number : ℕ → ℕ) where
         let here : one_when (nat_eq a n) ≡ 0 = ap one_when (apart_number a n other) in
         let sum = sum_by-cons (λ (m : ℕ). one_when (nat_eq m n)) a ns in omega (arith, rest, here, sum)
 
-    pub none_high : (k : ℕ) (ns : List ℕ) (xs : List (ℕ × File)) (n : ℕ) → AreMade t number shown k ns xs → k + length ns ≤ number n → times n ns ≡ 0
+    pub none_high : (k : ℕ) (ns : List ℕ) (xs : List (ℕ × File)) (n : ℕ) → AreMade t number so_far k ns xs → k + length ns ≤ number n → times n ns ≡ 0
     none_high k [] xs n all high = refl
     none_high k (a ∷ ns) [] n all high = absurd all
     none_high k (a ∷ ns) (x ∷ xs) n all high =
@@ -191,7 +198,7 @@ module _ (t : Tree) (number : ℕ → ℕ) where
         let here : one_when (nat_eq a n) ≡ 0 = ap one_when (apart_number a n other) in
         let sum = sum_by-cons (λ (m : ℕ). one_when (nat_eq m n)) a ns in omega (arith, rest, here, sum)
 
-    pub at_most_once : (k : ℕ) (ns : List ℕ) (xs : List (ℕ × File)) (n : ℕ) → AreMade t number shown k ns xs → times n ns ≤ 1
+    pub at_most_once : (k : ℕ) (ns : List ℕ) (xs : List (ℕ × File)) (n : ℕ) → AreMade t number so_far k ns xs → times n ns ≤ 1
     at_most_once k [] xs n all = omega arith
     at_most_once k (a ∷ ns) [] n all = absurd all
     at_most_once k (a ∷ ns) (x ∷ xs) n all =
@@ -203,8 +210,8 @@ module _ (t : Tree) (number : ℕ → ℕ) where
         (λ o. let rest = at_most_once (suc k) ns xs n all.3 in
         let here : one_when (nat_eq a n) ≡ 0 = ap one_when (apart_number a n o) in omega (arith, rest, here, sum))
 
-    pub made_sum : (weight : File → ℕ) (share : ℕ → ℕ) (k : ℕ) (ns : List ℕ) (xs : List (ℕ × File)) → AreMade t number shown k ns xs
-        → ((n : ℕ) (h : File) → Has n ns → IsMade t number shown n h → weight h ≤ share n) → sum_by (λ (e : ℕ × File). weight e.1) xs ≤ sum_by share ns
+    pub made_sum : (weight : File → ℕ) (share : ℕ → ℕ) (k : ℕ) (ns : List ℕ) (xs : List (ℕ × File)) → AreMade t number so_far k ns xs
+        → ((n : ℕ) (h : File) → Has n ns → IsMade t number so_far n h → weight h ≤ share n) → sum_by (λ (e : ℕ × File). weight e.1) xs ≤ sum_by share ns
     made_sum weight share k [] [] all each = omega arith
     made_sum weight share k [] (x ∷ xs) all each = absurd all
     made_sum weight share k (a ∷ ns) [] all each = absurd all
@@ -214,8 +221,8 @@ module _ (t : Tree) (number : ℕ → ℕ) where
         let one = sum_by-cons (λ (e : ℕ × File). weight e.1) x xs in
         let two = sum_by-cons share a ns in omega (arith, here, rest, one, two)
 
-    pub made_sum_is : (weight : File → ℕ) (share : ℕ → ℕ) (k : ℕ) (ns : List ℕ) (xs : List (ℕ × File)) → AreMade t number shown k ns xs
-        → ((n : ℕ) (h : File) → Has n ns → IsMade t number shown n h → weight h ≡ share n) → sum_by (λ (e : ℕ × File). weight e.1) xs ≡ sum_by share ns
+    pub made_sum_is : (weight : File → ℕ) (share : ℕ → ℕ) (k : ℕ) (ns : List ℕ) (xs : List (ℕ × File)) → AreMade t number so_far k ns xs
+        → ((n : ℕ) (h : File) → Has n ns → IsMade t number so_far n h → weight h ≡ share n) → sum_by (λ (e : ℕ × File). weight e.1) xs ≡ sum_by share ns
     made_sum_is weight share k [] [] all each = refl
     made_sum_is weight share k [] (x ∷ xs) all each = absurd all
     made_sum_is weight share k (a ∷ ns) [] all each = absurd all

@@ -1,7 +1,7 @@
 -- A tree that is made again as far as some steps: what it has, and what there is room for.
 use Rattle.std.proofs.Common.{◌≡◌, ◌≢◌, ℕ, suc, ◌+◌, ◌<◌, ◌≤◌, true, cond, List, [], ◌∷◌, ◌++◌, length, sum_by, nat_eq, get_or, Some, refl, sym, ap, subst, ◌∙◌}
 use Rattle.std.proofs.Common.{arith}
-use Rattle.std.specs.Prelude.{All, AllPairs, if◌then◌else◌}
+use Rattle.std.specs.Prelude.{Bool, All, AllPairs, if◌then◌else◌}
 use Rattle.std.proofs.lemmas.List.{length-append}
 use Rattle.std.proofs.lemmas.List.Elements.{All-cons, All-nil}
 use Rattle.std.proofs.lemmas.List.Sums.{sum_by_push}
@@ -13,7 +13,7 @@ use Rattle.nfs_inodes.proofs.Lists.{by_number, same_some}
 use Rattle.nfs_inodes.proofs.Maps.{apart_number, itself}
 use Rattle.nfs_round_trip.specs.Copies.{copied, copied_entries, copied_kind}
 use Rattle.nfs_round_trip.proofs.Directories.{listed_by, shown}
-use Rattle.nfs_round_trip.proofs.Made.{AreMade, Has, at_most_once, has_push, holding, made_at, made_bounds, made_sum, none_high, times, weighed, weighed_all}
+use Rattle.nfs_round_trip.proofs.Made.{AreMade, Has, at_most_once, has_push, made_at, made_bounds, made_sum, none_high, partly, times, weighed, weighed_all}
 use Rattle.nfs_round_trip.proofs.Made.{with_entries}
 use Rattle.nfs_round_trip.proofs.Reaches.{HasNone}
 use Rattle.nfs_round_trip.proofs.Walks.{Step}
@@ -107,8 +107,12 @@ all_other number cookie name (e ∷ es) none =
 
 -- ---- the tree
 
-pub record IsPart (t : Tree) (number : ℕ → ℕ) (done : List Step) (ns : List ℕ) (vs : List Volume) (u : Tree) : Type 0 where
-  pub files : AreMade t number (shown done) 1 ns u.files
+-- a file as it is made after some steps, with its times where they are given
+abbrev pub so_far : List Step → (ℕ → Bool) → ℕ → File → File
+so_far done timed n = partly (shown done n) (timed n)
+
+pub record IsPart (t : Tree) (number : ℕ → ℕ) (timed : ℕ → Bool) (done : List Step) (ns : List ℕ) (vs : List Volume) (u : Tree) : Type 0 where
+  pub files : AreMade t number (so_far done timed) 1 ns u.files
   pub next : u.next ≡ suc (length ns)
   pub known : Known ns done
   pub begun : (d : ℕ) → Has d ns → (rest : List Entry) × (entries_at t d ≡ shown done d ++ rest)
@@ -118,23 +122,24 @@ pub record IsPart (t : Tree) (number : ℕ → ℕ) (done : List Step) (ns : Lis
   pub limits : u.limits ≡ t.limits
 
 -- what there is of a directory
-pub record IsDirectoryMade (t : Tree) (number : ℕ → ℕ) (es : List Entry) (u : Tree) (d : ℕ) (f h : File) : Type 0 where
+pub record IsDirectoryMade (t : Tree) (number : ℕ → ℕ) (es : List Entry) (timed : Bool) (u : Tree) (d : ℕ) (f h : File) : Type 0 where
   pub lives : LivesAsDirectory u (number d) h
   pub volume : h.volume ≡ f.volume
   pub entries : entries_in h.kind ≡ copied_entries number 3 es
   pub cookie : next_cookie_in h.kind ≡ 3 + length es
   pub tag : ℕ
-  pub is : h ≡ copied number tag (holding es f)
+  pub is : h ≡ copied number tag (partly es timed f)
 
-module _ (t : Tree) (law : Law t) (number : ℕ → ℕ) (done : List Step) (ns : List ℕ) (vs : List Volume) (u : Tree) (part : IsPart t number done ns vs u) where
+module _ (t : Tree) (law : Law t) (number : ℕ → ℕ) (timed : ℕ → Bool) (done : List Step) (ns : List ℕ) (vs : List Volume) (u : Tree)
+    (part : IsPart t number timed done ns vs u) where
   pub file_made : (n : ℕ) (f : File) → Has n ns → Lives t n f → (h : File) × (at (number n) u.files ≡ Some h) × (tag : ℕ)
-      × (h ≡ copied number tag (holding (shown done n) f))
+      × (h ≡ copied number tag (so_far done timed n f))
   file_made n f has lives =
-      let m = made_at t number (shown done) 1 ns u.files n part.files has in
+      let m = made_at t number (so_far done timed) 1 ns u.files n part.files has in
       let same : m.2.file ≡ f = same_some (sym m.2.at_file ∙ lives) in
-      (m.0, m.1, m.2.tag, m.2.is ∙ ap (λ (g : File). copied number m.2.tag (holding (shown done n) g)) same)
+      (m.0, m.1, m.2.tag, m.2.is ∙ ap (λ (g : File). copied number m.2.tag (so_far done timed n g)) same)
 
-  pub directory_made : (d : ℕ) (f : File) → Has d ns → LivesAsDirectory t d f → (h : File) × IsDirectoryMade t number (shown done d) u d f h
+  pub directory_made : (d : ℕ) (f : File) → Has d ns → LivesAsDirectory t d f → (h : File) × IsDirectoryMade t number (shown done d) (timed d) u d f h
   directory_made d f has lives =
       let m = file_made d f has lives.0 in (
         m.0,
@@ -152,22 +157,22 @@ module _ (t : Tree) (law : Law t) (number : ℕ → ℕ) (done : List Step) (ns 
 
   module _ (n : ℕ) (g : File) (lives : Lives t n g) (new : number n ≡ suc (length ns)) where
     pub not_yet : Has n ns → ⊥
-    not_yet has = let high = (made_bounds t number (shown done) 1 ns u.files n part.files has).1 in omega (arith, high, new)
+    not_yet has = let high = (made_bounds t number (so_far done timed) 1 ns u.files n part.files has).1 in omega (arith, high, new)
 
     once_more : (m : ℕ) → times m (ns ++ n ∷ []) ≤ 1
     once_more m =
         let sum = sum_by_push (λ (k : ℕ). one_when (nat_eq k m)) ns n in by_number n m
-        (λ s. let none = none_high t number (shown done) 1 ns u.files n part.files (omega (arith, new)) in
+        (λ s. let none = none_high t number (so_far done timed) 1 ns u.files n part.files (omega (arith, new)) in
         let same : times m ns ≡ times n ns = ap (λ i. times i ns) (sym s) in
         let one : one_when (nat_eq n m) ≡ 1 = ap one_when (subst (λ i. nat_eq n i ≡ true) s (itself n)) in omega (arith, sum, none, same, one))
-        (λ o. let rest = at_most_once t number (shown done) 1 ns u.files m part.files in
+        (λ o. let rest = at_most_once t number (so_far done timed) 1 ns u.files m part.files in
         let none : one_when (nat_eq n m) ≡ 0 = ap one_when (apart_number n m o) in omega (arith, sum, rest, none))
 
     -- with one file more no more is counted than in the tree that is made again
-    pub room_for : (weight : File → ℕ) → ((m tag : ℕ) (f : File) → weight (copied number tag (holding (shown done m) f)) ≡ weight f)
+    pub room_for : (weight : File → ℕ) → ((m tag : ℕ) (f : File) → weight (copied number tag (so_far done timed m f)) ≡ weight f)
         → sum_by (λ (e : ℕ × File). weight e.1) u.files + weight g ≤ sum_by (λ (e : ℕ × File). weight e.1) t.files
     room_for weight keeps =
-        let made = made_sum t number (shown done) weight (weighed weight t.files) 1 ns u.files part.files
+        let made = made_sum t number (so_far done timed) weight (weighed weight t.files) 1 ns u.files part.files
         (λ m h has is. let e : weight h ≡ weighed weight t.files m =
         ap weight is.is ∙ keeps m is.tag is.file ∙ ap (λ o. on_some o 0 weight) (sym is.at_file) in omega (arith, e)) in
         let all = weighed_all weight t.files (ns ++ n ∷ []) once_more in

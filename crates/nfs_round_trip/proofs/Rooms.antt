@@ -1,7 +1,7 @@
 -- Where the next step may be done in a tree that is made again.
 use Rattle.std.proofs.Common.{◌≡◌, ◌≢◌, ℕ, suc, ◌+◌, ◌<◌, ◌≤◌, true, false, List, [], ◌∷◌, ◌++◌, length, nat_eq, Option, Some, None, refl, sym, ap, subst, ◌∙◌}
 use Rattle.std.proofs.Common.{arith}
-use Rattle.std.specs.Prelude.{All, AllPairs, Contains, if◌then◌else◌, slice_get}
+use Rattle.std.specs.Prelude.{Bool, All, AllPairs, Contains, if◌then◌else◌, slice_get}
 use Rattle.std.proofs.lemmas.List.Elements.{All-contains}
 use Rattle.std.proofs.lemmas.List.Sums.{sum_by-cons, sum_by-append}
 use Rattle.nfs_inodes.specs.Conditions.{MayEnter, MayMake, MayMakeDirectory, MayMakeLink, MayLink}
@@ -16,7 +16,7 @@ use Rattle.nfs_round_trip.specs.Copies.{copied_entries, copied_kind}
 use Rattle.nfs_round_trip.proofs.Directories.{entries_of, shown}
 use Rattle.nfs_round_trip.proofs.Made.{Has, made_at, made_once, made_sum, sum_less, weighed, weighed_all, at_most_once, with_entries}
 use Rattle.nfs_round_trip.proofs.Parts.{AllHave, IsDirectoryMade, IsPart, all_other, copy_is_directory, directory_made, file_made, none_before, room_for_bytes}
-use Rattle.nfs_round_trip.proofs.Parts.{room_for_files, shown_few, shown_have}
+use Rattle.nfs_round_trip.proofs.Parts.{room_for_files, shown_few, shown_have, so_far}
 use Rattle.nfs_round_trip.proofs.Walks.{Step}
 
 no_bytes : (k : Kind) → is_directory k ≡ true → length (bytes_in k) ≡ 0
@@ -61,12 +61,13 @@ in_option : (n : ℕ) (o : Option File) → names_in n (on_some o [] (λ (f : Fi
 in_option n None = refl
 in_option n (Some f) = refl
 
-module _ (t : Tree) (law : Law t) (number : ℕ → ℕ) (done : List Step) (ns : List ℕ) (vs : List Volume) (u : Tree) (part : IsPart t number done ns vs u) where
+module _ (t : Tree) (law : Law t) (number : ℕ → ℕ) (timed : ℕ → Bool) (done : List Step) (ns : List ℕ) (vs : List Volume) (u : Tree)
+    (part : IsPart t number timed done ns vs u) where
   -- a directory's copies name directories where it does
   one_copied : (e : Entry) (cookie : ℕ) → Has e.number ns
       → names_directory u.files (record { cookie = cookie; name = e.name; number = number e.number }) ≡ names_directory t.files e
   one_copied e cookie has =
-      let m = made_at t number (shown done) 1 ns u.files e.number part.files has in
+      let m = made_at t number (so_far done timed) 1 ns u.files e.number part.files has in
       ap (λ o. on_some o false (λ (f : File). is_directory f.kind)) m.1 ∙ ap (λ (f : File). is_directory f.kind) m.2.is
       ∙ copy_is_directory number (shown done e.number) m.2.file.kind
       ∙ ap (λ o. on_some o false (λ (f : File). is_directory f.kind)) (sym m.2.at_file)
@@ -84,10 +85,10 @@ module _ (t : Tree) (law : Law t) (number : ℕ → ℕ) (done : List Step) (ns 
   module _ (s : Step) (f : File) (at_dir : LivesAsDirectory t s.0.number f) (has : Has s.0.number ns) (rest : List Entry)
       (here : entries_at t s.0.number ≡ shown done s.0.number ++ s.1 ∷ rest) (room : length done + length vs ≤ 1099511627776) where
     abbrev dir : File
-    dir = (directory_made t law number done ns vs u part s.0.number f has at_dir).0
+    dir = (directory_made t law number timed done ns vs u part s.0.number f has at_dir).0
 
-    dir_made : IsDirectoryMade t number (shown done s.0.number) u s.0.number f dir
-    dir_made = (directory_made t law number done ns vs u part s.0.number f has at_dir).1
+    dir_made : IsDirectoryMade t number (shown done s.0.number) (timed s.0.number) u s.0.number f dir
+    dir_made = (directory_made t law number timed done ns vs u part s.0.number f has at_dir).1
 
     entries_are : entries_in f.kind ≡ shown done s.0.number ++ s.1 ∷ rest
     entries_are = sym (entries_of t law s.0.number f at_dir.0) ∙ here
@@ -145,14 +146,14 @@ module _ (t : Tree) (law : Law t) (number : ℕ → ℕ) (done : List Step) (ns 
         at_volume = ap (slice_get u.volumes) (dir_made).volume ∙ ap (λ l. slice_get l f.volume) part.volumes ∙ at_w;
         files =
             let index = (dir_made).volume in
-            let total = room_for_files t law number done ns vs u part s.1.number g lives new f.volume in
+            let total = room_for_files t law number timed done ns vs u part s.1.number g lives new f.volume in
             let one = one_here g f.volume same_volume in
             let most = law.count f.volume v at_v in
             let same : files_of dir.volume u.files ≡ files_of f.volume u.files = ap (λ i. files_of i u.files) index in
             omega (arith, total, one, most, same, files);
         bytes =
             let index = (dir_made).volume in
-            let total = room_for_bytes t law number done ns vs u part s.1.number g lives new f.volume in
+            let total = room_for_bytes t law number timed done ns vs u part s.1.number g lives new f.volume in
             let one = bytes_here g f.volume same_volume in
             let most = law.bytes f.volume v at_v in
             let same : bytes_of dir.volume u.files ≡ bytes_of f.volume u.files = ap (λ i. bytes_of i u.files) index in
@@ -193,9 +194,9 @@ module _ (t : Tree) (law : Law t) (number : ℕ → ℕ) (done : List Step) (ns 
 
       pub names_few : names_of (number s.1.number) u.files < u.limits.links
       names_few =
-          let once = λ (a : ℕ) (has_a : Has a ns) (e : number a ≡ number s.1.number). made_once t number (shown done)
+          let once = λ (a : ℕ) (has_a : Has a ns) (e : number a ≡ number s.1.number). made_once t number (so_far done timed)
           1 ns u.files a s.1.number part.files has_a there e in
-          let made = made_sum t number (shown done) (λ (h : File). names_in (number s.1.number) (entries_in h.kind))
+          let made = made_sum t number (so_far done timed) (λ (h : File). names_in (number s.1.number) (entries_in h.kind))
           (λ m. names_in s.1.number (shown done m)) 1 ns u.files part.files
           (λ m h has_m is. subst (λ (k : File). names_in (number s.1.number) (entries_in k.kind) ≤ names_in s.1.number (shown done m)) (sym is.is)
           (no_names (number s.1.number) (names_in s.1.number (shown done m)) number (shown done m) is.file.kind
@@ -203,7 +204,7 @@ module _ (t : Tree) (law : Law t) (number : ℕ → ℕ) (done : List Step) (ns 
           let less = sum_less (λ m. names_in s.1.number (shown done m))
           (weighed (λ (h : File). names_in s.1.number (entries_in h.kind)) t.files) ns s.0.number share_least has share_here in
           let all = weighed_all (λ (h : File). names_in s.1.number (entries_in h.kind)) t.files ns
-          (λ m. at_most_once t number (shown done) 1 ns u.files m part.files) in
+          (λ m. at_most_once t number (so_far done timed) 1 ns u.files m part.files) in
           let most = law.links s.1.number g lives in
           let links : nlink t.files s.1.number g ≡ names_of s.1.number t.files =
           ap (λ b. if b then 2 + subdirectories t.files (entries_in g.kind) else names_of s.1.number t.files) no_dir in
@@ -213,7 +214,7 @@ module _ (t : Tree) (law : Law t) (number : ℕ → ℕ) (done : List Step) (ns 
       pub may_link : MayLink u (number s.1.number) (number s.0.number) s.1.name
       unfolding may_enter
       may_link =
-          let m = file_made t law number done ns vs u part s.1.number g there lives in
+          let m = file_made t law number timed done ns vs u part s.1.number g there lives in
           let e = law.entries s.0.number f s.1 at_dir.0 is_entry in
           record {
             enter = may_enter;

@@ -1,5 +1,5 @@
 -- The line of a volume makes its root, and those of its exports add them.
-use Rattle.std.proofs.Common.{inl, inr, ◌≡◌, ◌≢◌, ℕ, suc, ◌+◌, ◌-◌, ◌^◌, ◌<◌, ◌≤◌, true, List, [], ◌∷◌, ◌++◌, length, Option, Some, None, option_map, Ok, refl}
+use Rattle.std.proofs.Common.{inl, inr, ◌≡◌, ◌≢◌, ℕ, suc, ◌+◌, ◌-◌, ◌^◌, ◌<◌, ◌≤◌, Bool, true, false, List, [], ◌∷◌, ◌++◌, length, Option, Some, None, option_map, Ok, refl}
 use Rattle.std.proofs.Common.{sym, ap, subst, ◌∙◌, append_assoc, append-nil, arith}
 use Rattle.std.specs.List.{flat_map}
 use Rattle.std.specs.Prelude.{All, Contains, Err, Result, bytes_eq, if◌then◌else◌, is_some, slice_get}
@@ -34,8 +34,8 @@ use Rattle.nfs_read_back.proofs.Statements as read_back
 use Rattle.nfs_round_trip.specs.Copies.{CanBeSaid, copied, copied_kind, copied_mode, copied_volume}
 use Rattle.nfs_round_trip.proofs.Directories.{shown}
 use Rattle.nfs_round_trip.proofs.Files.{done_map, small}
-use Rattle.nfs_round_trip.proofs.Made.{Has, holding, made_push, push_has, with_entries}
-use Rattle.nfs_round_trip.proofs.Parts.{IsPart, known_number, shown_unknown}
+use Rattle.nfs_round_trip.proofs.Made.{Has, made_push, partly, push_has, with_entries}
+use Rattle.nfs_round_trip.proofs.Parts.{IsPart, known_number, shown_unknown, so_far}
 use Rattle.nfs_round_trip.proofs.Paths.{other_bytes}
 use Rattle.nfs_round_trip.proofs.Runs.{Done, Goes, does_made, goes_both, goes_none, goes_on, not_both, root_is, then_is}
 use Rattle.nfs_round_trip.proofs.Walks.{Step}
@@ -55,31 +55,38 @@ root_mode (Link path) mode y = cc
 volume_given : File → Given
 volume_given f = record { mode = f.mode; uid = f.uid; gid = f.gid }
 
-module _ (t : Tree) (law : Law t) (number : ℕ → ℕ) (all : List Step) (ns : List ℕ) (vs : List Volume) (u : Tree) (part : IsPart t number all ns vs u)
+module _ (t : Tree) (law : Law t) (number : ℕ → ℕ) (timed : ℕ → Bool) (all : List Step) (ns : List ℕ) (vs : List Volume) (u : Tree)
+    (part : IsPart t number timed all ns vs u)
     (w : Volume) (f : File) (at_w : slice_get t.volumes f.volume ≡ Some w) (lives : LivesAsDirectory t w.root f) (parent : parent_in f.kind ≡ w.root)
-    (index : length vs ≡ f.volume) (new : number w.root ≡ suc (length ns)) (fresh : Has w.root ns → ⊥) where
+    (index : length vs ≡ f.volume) (new : number w.root ≡ suc (length ns)) (fresh : Has w.root ns → ⊥) (early : timed w.root ≡ false) where
   next_is : number w.root ≡ u.next
   next_is = new ∙ sym part.next
 
   root_is_copy : (tag : ℕ) → new_file (length u.volumes) (Directory u.next 3 [])
-      (attributes (record { mode = f.mode; uid = f.uid; gid = f.gid })) None tag start ≡ copied number tag (holding [] f)
+      (attributes (record { mode = f.mode; uid = f.uid; gid = f.gid })) None tag start ≡ copied number tag (partly [] false f)
   root_is_copy tag =
       let given : Given = record { mode = f.mode; uid = f.uid; gid = f.gid } in
       ap (λ v. new_file v (Directory u.next 3 []) (attributes given) None tag start) (ap length part.volumes ∙ index)
       ∙ ap (λ k. new_file f.volume k (attributes given) None tag start)
       (ap (λ n. Directory n 3 []) (sym next_is ∙ ap number (sym parent)) ∙ root_kind number f.kind lives.1)
-      ∙ ap (λ m. record (copied number tag (holding [] f)) { mode = m }) (small f.mode (law.sound w.root f lives.0).mode ∙ root_mode f.kind f.mode lives.1)
+      ∙ ap (λ m. record (copied number tag (partly [] false f)) { mode = m }) (small f.mode (law.sound w.root f lives.0).mode ∙ root_mode f.kind f.mode lives.1)
 
   -- with the volume and its root
-  pub part_with_volume : (tag : ℕ) → IsPart t number all (ns ++ w.root ∷ []) (vs ++ copied_volume number w ∷ [])
+  pub part_with_volume : (tag : ℕ) → IsPart t number timed all (ns ++ w.root ∷ []) (vs ++ copied_volume number w ∷ [])
       (after_add_volume u w.path w.max_bytes w.max_files (attributes (record { mode = f.mode; uid = f.uid; gid = f.gid })) tag start)
   part_with_volume tag =
       let given : Given = record { mode = f.mode; uid = f.uid; gid = f.gid } in
       let root : File = new_file (length u.volumes) (Directory u.next 3 []) (attributes given) None tag start in
       let none : shown all w.root ≡ [] = shown_unknown ns all w.root part.known fresh in
       record {
-        files = made_push t number (shown all) 1 ns u.files w.root u.next root part.files (let n = part.next in omega (arith, n)) next_is
-            (record { file = f; at_file = lives.0; tag = tag; is = root_is_copy tag ∙ ap (λ es. copied number tag (holding es f)) (sym none) });
+        files = made_push t number (so_far all timed) 1 ns u.files w.root u.next root part.files (let n = part.next in omega (arith, n)) next_is
+            (record {
+              file = f;
+              at_file = lives.0;
+              tag = tag;
+              is = root_is_copy tag ∙ ap (λ es. copied number tag (partly es false f)) (sym none)
+                  ∙ ap (λ b. copied number tag (partly (shown all w.root) b f)) (sym early);
+            });
         next = let n = part.next in let l = length-append ns (w.root ∷ []) in omega (arith, n, l);
         known = known_number w.root ns all part.known;
         begun = λ m has_m. elim (push_has m w.root ns has_m) [
@@ -113,10 +120,10 @@ taken old line (Err (Fault cause)) new Made does it = elim (does (Err (Fault cau
 ]
 taken old line (Err Memory) new Made does it = inl refl
 
-module _ (Last : Option Loaded → Type 0) (t : Tree) (law : Law t) (number : ℕ → ℕ) (all : List Step) (ns : List ℕ) (vs : List Volume) (old : Loaded)
-    (part : IsPart t number all ns vs old.tree)
+module _ (Last : Option Loaded → Type 0) (t : Tree) (law : Law t) (number : ℕ → ℕ) (timed : ℕ → Bool) (all : List Step) (ns : List ℕ) (vs : List Volume)
+    (old : Loaded) (part : IsPart t number timed all ns vs old.tree)
     (w : Volume) (f : File) (at_w : slice_get t.volumes f.volume ≡ Some w) (lives : LivesAsDirectory t w.root f) (parent : parent_in f.kind ≡ w.root)
-    (index : length vs ≡ f.volume) (new : number w.root ≡ suc (length ns)) (fresh : Has w.root ns → ⊥)
+    (index : length vs ≡ f.volume) (new : number w.root ≡ suc (length ns)) (fresh : Has w.root ns → ⊥) (early : timed w.root ≡ false)
     (words : CanBeSaid f) (said : is_said w.path ≡ true) (path : volume_path_in w.path ≡ Ok w.path) (bytes : w.max_bytes ≤ 1099511627776)
     (some : 1 ≤ w.max_files) (files : w.max_files ≤ t.limits.files)
     (other : All (λ v. v.path ≢ w.path) vs) (few : length vs < 64) (short : length w.path ≤ 255) (room : length all + length vs ≤ 1099511627776) where
@@ -137,13 +144,13 @@ module _ (Last : Option Loaded → Type 0) (t : Tree) (law : Law t) (number : �
       unless_found : Option ℕ → Result (List ℕ) Cause
       unless_found o = if is_some o then Err VolumeTwice else Ok w.path
 
-  pub root_goes : (All : Option Loaded → Type 0) → ((loaded : Loaded) → IsPart t number all (ns ++ w.root ∷ []) (vs ++ copied_volume number w ∷ []) loaded.tree
+  pub root_goes : (All : Option Loaded → Type 0) → ((loaded : Loaded) → IsPart t number timed all (ns ++ w.root ∷ []) (vs ++ copied_volume number w ∷ []) loaded.tree
       → loaded.table ≡ old.table ++ [] ∷ [] → All (Some loaded))
       → Goes Last (Some old) (root_text w (attributes_at t w.root)) All
   root_goes All goes =
       let given : Given = record { mode = f.mode; uid = f.uid; gid = f.gid } in
       let line : VolumeLine = record { path = w.path; max_bytes = w.max_bytes; max_files = w.max_files; given = given } in
-      let Rooted : Loaded → Type 0 = λ loaded. IsPart t number all (ns ++ w.root ∷ []) (vs ++ copied_volume number w ∷ []) loaded.tree
+      let Rooted : Loaded → Type 0 = λ loaded. IsPart t number timed all (ns ++ w.root ∷ []) (vs ++ copied_volume number w ∷ []) loaded.tree
       × (loaded.table ≡ old.table ++ [] ∷ []) in
       let few : w.max_files < 2 ^ 64 = let cap = law.limits.files in omega (arith, files, cap) in
       let r = read_back.volumes old.tree.limits.files w.path w.max_bytes w.max_files given said path bytes some
@@ -152,11 +159,11 @@ module _ (Last : Option Loaded → Type 0) (t : Tree) (law : Law t) (number : �
       (sym (ap (λ o. root_text w (option_map (λ (g : File). attributes_of w.root g (nlink t.files w.root g)) o)) lives.0))
       (goes_on Last old (volume_line w.path w.max_bytes w.max_files given) keyword.Volume r.0 Rooted All r.1 (λ loaded it. goes loaded it.0 it.1)
       (λ result loaded done.
-      taken old line result loaded (λ u. IsPart t number all (ns ++ w.root ∷ []) (vs ++ copied_volume number w ∷ []) u)
+      taken old line result loaded (λ u. IsPart t number timed all (ns ++ w.root ∷ []) (vs ++ copied_volume number w ∷ []) u)
       (λ result adds. done_map result
       (λ (made : Makes old.tree (λ tag. after_add_volume old.tree w.path w.max_bytes w.max_files (attributes given) tag start) loaded.tree).
-      subst (IsPart t number all (ns ++ w.root ∷ []) (vs ++ copied_volume number w ∷ [])) (sym made.new_is)
-      (part_with_volume t law number all ns vs old.tree part w f at_w lives parent index new fresh made.tag))
+      subst (IsPart t number timed all (ns ++ w.root ∷ []) (vs ++ copied_volume number w ∷ [])) (sym made.new_is)
+      (part_with_volume t law number timed all ns vs old.tree part w f at_w lives parent index new fresh early made.tag))
       (does_made old.tree (free_path old.tree w.path) (λ (p : List ℕ). MayAddVolume old.tree p w.max_bytes w.max_files)
       (λ (p : List ℕ). Makes old.tree (λ tag. after_add_volume old.tree p w.max_bytes w.max_files (attributes given) tag start))
       result loaded.tree w.path free may_add adds))

@@ -1,5 +1,5 @@
 -- The whole text.
-use Rattle.std.proofs.Common.{inl, inr, ◌≡◌, ◌≢◌, ◌⊎◌, ℕ, suc, zero, ◌+◌, ◌<◌, ◌≤◌, true, List, [], ◌∷◌, ◌++◌, length, map, take, Option, Some, None, Ok, refl}
+use Rattle.std.proofs.Common.{inl, inr, ◌≡◌, ◌≢◌, ◌⊎◌, ℕ, suc, zero, ◌+◌, ◌<◌, ◌≤◌, true, false, List, [], ◌∷◌, ◌++◌, length, map, take, Option, Some, None, Ok, refl}
 use Rattle.std.proofs.Common.{sym, ap, subst, ◌∙◌, append_assoc, append-nil, arith}
 use Rattle.std.specs.List.{flat_map}
 use Rattle.std.specs.Prelude.{Contains, Err, Result, if◌then◌else◌, slice_get}
@@ -23,7 +23,7 @@ use Rattle.nfs_load.specs.declared.line.Keyword.TheVariants as keyword
 use Rattle.nfs_load.specs.declared.loaded.Loaded.{Loaded}
 use Rattle.nfs_describe.specs.Lines.{export_line, limits_line, server_line}
 use Rattle.nfs_describe.specs.Places.{IsWalk, FilePath}
-use Rattle.nfs_describe.specs.Texts.{IsVolumeText, SaysTo, files_text, first_name, root_text}
+use Rattle.nfs_describe.specs.Texts.{IsVolumeText, SaysTo, files_text, first_name, root_text, times_text}
 use Rattle.nfs_read_back.proofs.Limits as limits_back
 use Rattle.nfs_read_back.proofs.Statements as read_back
 use Rattle.nfs_round_trip.specs.Copies.{copied, copied_volume, counted_from, first_seen}
@@ -31,9 +31,9 @@ use Rattle.nfs_round_trip.specs.RoundTrip as law
 use Rattle.nfs_round_trip.specs.RoundTrip.{IsCopy, IsDescribable}
 use Rattle.nfs_round_trip.proofs.Directories.{entries_of, shown}
 use Rattle.nfs_round_trip.proofs.Links.{links_same}
-use Rattle.nfs_round_trip.proofs.Made.{Has, made_back, made_length, made_once, with_entries}
+use Rattle.nfs_round_trip.proofs.Made.{Has, made_back, made_length, made_once, partly, with_entries}
 use Rattle.nfs_round_trip.proofs.Numbers.{inside_walk, numbered_from}
-use Rattle.nfs_round_trip.proofs.Parts.{file_made}
+use Rattle.nfs_round_trip.proofs.Parts.{file_made, so_far}
 use Rattle.nfs_round_trip.proofs.Runs.{Goes, Runs, describes, goes_both, goes_first, goes_none, goes_on}
 use Rattle.nfs_round_trip.proofs.Volumes.{Numbered}
 use Rattle.nfs_round_trip.proofs.Walks.{Step, place_of, places_of_steps, root_place, steps}
@@ -133,7 +133,9 @@ module _ (t : Tree) (table : List (List Export)) (d : IsDescribable t table) whe
       let all : length (steps_to n before says ++ steps t is.walk) ≡ length (steps_to n before says) + length (steps t is.walk) =
       length-append (steps_to n before says) (steps t is.walk) in
       let long : length text ≡ length before + length part = ap length e ∙ length-append before part in
-      let part_long : length part ≡ length front + length (files_text t [] is.walk) = ap length is.text_is ∙ length-append front (files_text t [] is.walk) in
+      let part_long : length part ≡ length (front ++ files_text t [] is.walk) + length (times_text t is.walk) =
+      ap length is.text_is ∙ length-append (front ++ files_text t [] is.walk) (times_text t is.walk) in
+      let front_long = length-append front (files_text t [] is.walk) in
       let walk_is : is.walk ≡ root_place t is.volume.root ∷ map place_of (steps t is.walk) = is.walked
       ∙ ap (λ l. root_place t is.volume.root ∷ l) (sym (places_of_steps t is.walk)) in
       let files : files_text t [] is.walk ≡ files_text t (root_place t is.volume.root ∷ []) (map place_of (steps t is.walk)) =
@@ -146,7 +148,7 @@ module _ (t : Tree) (table : List (List Export)) (d : IsDescribable t table) whe
       (subst (λ l. Contains l (place_of s)) (sym walk_is)
       (in_tail (root_place t is.volume.root) (place_of s) (map place_of (steps t is.walk)) (contains_map place_of (steps t is.walk) s c))) in
       (inside.0, inside.1)) in
-      omega (arith, rest, all, long, part_long, same, each)
+      omega (arith, rest, all, long, part_long, front_long, same, each)
 
   module _ (order : List ℕ) (Last : Option Loaded → Type 0) where
     abbrev number : ℕ → ℕ
@@ -170,6 +172,7 @@ module _ (t : Tree) (table : List (List Export)) (d : IsDescribable t table) whe
     none_through : IsThrough t number table 0 [] 1 (empty_tree t.limits)
     none_through = record {
       ns = [];
+      timed = λ m. false;
       part = record { files = tt; next = refl; known = tt; begun = λ m has. absurd has; few = omega arith; key = refl; volumes = refl; limits = refl };
       count = refl;
       table_is = refl;
@@ -177,6 +180,8 @@ module _ (t : Tree) (table : List (List Export)) (d : IsDescribable t table) whe
       have = λ m f lives less. absurd (omega (arith, less));
       full = λ m f lives less. absurd (omega (arith, less));
       others = λ m f lives more. refl;
+      given = λ m f lives less. absurd (omega (arith, less));
+      early = λ m f lives more. refl;
     }
 
     server_goes : Goes Last None (server_line t.key) (λ new. new ≡ Some (empty_tree default_limits))
@@ -237,23 +242,25 @@ copy_is t table d number all k loaded through =
       record {
         each = λ n f lives.
             let has : Has n through.ns = inside n f lives in
-            let made = file_made t d.law number all through.ns (map (copied_volume number) (take (length t.volumes) t.volumes))
+            let made = file_made t d.law number through.timed all through.ns (map (copied_volume number) (take (length t.volumes) t.volumes))
             loaded.tree part n f has lives in
             let v = d.law.placed n f lives in
+            let inside_t = get_within t.volumes f.volume v.0 v.1 in
             let whole : with_entries (shown all n) f.kind ≡ f.kind = all_or_none (shown all n) f.kind
-            (λ y. through.full n f (lives, y) (get_within t.volumes f.volume v.0 v.1) ∙ entries_of t d.law n f lives) in (
+            (λ y. through.full n f (lives, y) inside_t ∙ entries_of t d.law n f lives) in (
               made.2,
-              made.1 ∙ ap Some (made.3 ∙ ap (λ kind. copied number made.2 (record f { kind = kind })) whole),
-              links_same t d.law number all through.ns (map (copied_volume number) (take (length t.volumes) t.volumes)) loaded.tree part inside
+              made.1 ∙ ap Some (made.3 ∙ ap (λ timed. copied number made.2 (partly (shown all n) timed f)) (through.given n f lives inside_t)
+                  ∙ ap (λ kind. copied number made.2 (record f { kind = kind })) whole),
+              links_same t d.law number through.timed all through.ns (map (copied_volume number) (take (length t.volumes) t.volumes)) loaded.tree part inside
                   (λ m g dir. let w = d.law.placed m g dir.0 in through.full m g dir (get_within t.volumes g.volume w.0 w.1) ∙ entries_of t d.law m g dir.0)
                   n made.2 f lives,
             );
-        once = λ m n f g one two same. made_once t number (shown all) 1 through.ns loaded.tree.files m n part.files (inside m f one) (inside n g two) same;
-        all = λ j h lives. let b = made_back t number (shown all) 1 through.ns loaded.tree.files j h part.files lives in (b.0, b.3.file, b.3.at_file, b.2);
+        once = λ m n f g one two same. made_once t number (so_far all through.timed) 1 through.ns loaded.tree.files m n part.files (inside m f one) (inside n g two) same;
+        all = λ j h lives. let b = made_back t number (so_far all through.timed) 1 through.ns loaded.tree.files j h part.files lives in (b.0, b.3.file, b.3.at_file, b.2);
         volumes = part.volumes ∙ ap (map (copied_volume number)) (take_whole t.volumes);
         key = part.key;
         limits = part.limits;
-        next = let n = part.next in let l = made_length t number (shown all) 1 through.ns loaded.tree.files part.files in omega (arith, n, l);
+        next = let n = part.next in let l = made_length t number (so_far all through.timed) 1 through.ns loaded.tree.files part.files in omega (arith, n, l);
       },
       through.table_is ∙ ap (λ n. take n table) (sym d.lists) ∙ take_whole table,
     )

@@ -1,13 +1,12 @@
 -- What clients do leaves a tree describable.
-use Rattle.std.proofs.Common.{◌≡◌, ℕ, suc, zero, ◌+◌, ◌-◌, ◌<◌, ◌^◌, Bool, true, false, List, [], ◌∷◌, ◌++◌, drop, length, nat_eq, take, Option, Some, None}
+use Rattle.std.proofs.Common.{◌≡◌, ℕ, suc, zero, ◌+◌, ◌-◌, ◌<◌, Bool, true, false, List, [], ◌∷◌, ◌++◌, drop, length, nat_eq, take, Option, Some, None}
 use Rattle.std.proofs.Common.{refl, sym, ap, subst, ◌∙◌, arith}
 use Rattle.std.specs.Prelude.{All, if◌then◌else◌}
 use Rattle.hex.specs.Hex.{IsBytes}
 use Rattle.nfs_attrs.specs.declared.moment.Moment.{Moment}
 use Rattle.nfs_exports.specs.declared.export_table.Export.{Export}
-use Rattle.nfs_inodes.specs.declared.given_attributes.GivenAttributes.{GivenAttributes}
 use Rattle.nfs_inodes.specs.Changes.{after_link, after_rename, after_unlink, after_write_at, carried, entered, file_with_bytes, kind_with_bytes}
-use Rattle.nfs_inodes.specs.Changes.{kind_with_parent, kind_without_entry, left, moved, moved_to, or_else, put_bytes, released, resized_to, sized, touched}
+use Rattle.nfs_inodes.specs.Changes.{kind_with_parent, kind_without_entry, left, moved, moved_to, put_bytes, released, resized_to, sized, touched}
 use Rattle.nfs_inodes.specs.Changes.{with_file, with_given, with_named_file, with_new_file, without_entry, without_file, zeros}
 use Rattle.nfs_inodes.specs.Law.{AreRising, Law}
 use Rattle.nfs_inodes.specs.Reading.{entry_at}
@@ -18,11 +17,12 @@ use Rattle.nfs_inodes.proofs.law.Operations.{law_after_link, law_after_write_at}
 use Rattle.nfs_inodes.proofs.law.Renames.{law_after_rename}
 use Rattle.nfs_inodes.proofs.law.Settings.{law_after_resize, law_after_set}
 use Rattle.nfs_inodes.proofs.law.Unlinks.{law_after_unlink}
+use Rattle.nfs_load.specs.Moments.{IsTime}
 use Rattle.nfs_round_trip.specs.Changes as law
 use Rattle.nfs_round_trip.specs.Changes.{IsGivenSaid, IsNewSaid, Stays}
 use Rattle.nfs_round_trip.specs.Copies.{CanBeSaid}
 use Rattle.nfs_round_trip.specs.RoundTrip.{IsDescribable, IsVolumeSaid}
-use Rattle.nfs_round_trip.proofs.Loaded.{FilesSaid, entered_said, link_said, no_bytes}
+use Rattle.nfs_round_trip.proofs.Loaded.{FilesSaid, entered_said, given_said, link_said, new_said, no_bytes, touched_said}
 
 -- ---- bytes
 
@@ -72,10 +72,13 @@ sized_is_bytes old size one = all_bytes (sized old size)
 
 -- ---- one file
 
-left_said : (f : File) (name : List ℕ) (now : Moment) → CanBeSaid f → CanBeSaid (left f name now)
-left_said f name now said = record {
+left_said : (f : File) (name : List ℕ) (now : Moment) → IsTime now → CanBeSaid f → CanBeSaid (left f name now)
+left_said f name now time said = record {
   uid = said.uid;
   gid = said.gid;
+  atime = said.atime;
+  mtime = time;
+  ctime = time;
   bytes = subst IsBytes (sym (same f.kind)) said.bytes;
   target = λ path is. said.target path (back f.kind path is);
 }
@@ -90,10 +93,13 @@ left_said f name now said = record {
     back (Directory parent next_cookie entries) path is = cc
     back (Link other) path is = is
 
-moved_said : (f : File) (d : ℕ) (now : Moment) → CanBeSaid f → CanBeSaid (moved_to f d now)
-moved_said f d now said = record {
+moved_said : (f : File) (d : ℕ) (now : Moment) → IsTime now → CanBeSaid f → CanBeSaid (moved_to f d now)
+moved_said f d now time said = record {
   uid = said.uid;
   gid = said.gid;
+  atime = said.atime;
+  mtime = said.mtime;
+  ctime = time;
   bytes = subst IsBytes (sym (same f.kind)) said.bytes;
   target = λ path is. said.target path (back f.kind path is);
 }
@@ -108,9 +114,6 @@ moved_said f d now said = record {
     back (Directory parent next_cookie entries) path is = cc
     back (Link other) path is = is
 
-touched_said : (f : File) (now : Moment) → CanBeSaid f → CanBeSaid (record f { ctime = now })
-touched_said f now said = record { uid = said.uid; gid = said.gid; bytes = said.bytes; target = said.target }
-
 bytes_said : (k : Kind) (bytes : List ℕ) → IsBytes bytes → IsBytes (bytes_in (kind_with_bytes k bytes))
 bytes_said (Regular old) bytes is = is
 bytes_said (Directory parent next_cookie entries) bytes is = no_bytes
@@ -121,33 +124,27 @@ bytes_back (Regular old) bytes path is = cc
 bytes_back (Directory parent next_cookie entries) bytes path is = cc
 bytes_back (Link other) bytes path is = is
 
-written_said : (f : File) (offset : ℕ) (bytes : List ℕ) (now : Moment) → IsBytes bytes → CanBeSaid f → CanBeSaid (file_with_bytes f offset bytes now)
-written_said f offset bytes now is said = record {
+written_said : (f : File) (offset : ℕ) (bytes : List ℕ) (now : Moment) → IsTime now → IsBytes bytes → CanBeSaid f → CanBeSaid (file_with_bytes f offset bytes now)
+written_said f offset bytes now time is said = record {
   uid = said.uid;
   gid = said.gid;
+  atime = said.atime;
+  mtime = time;
+  ctime = time;
   bytes = bytes_said f.kind (put_bytes (bytes_in f.kind) offset bytes) (put_is_bytes (bytes_in f.kind) offset bytes said.bytes is);
   target = λ path e. said.target path (bytes_back f.kind (put_bytes (bytes_in f.kind) offset bytes) path e);
 }
 
-resized_said : (f : File) (size : ℕ) (now : Moment) → CanBeSaid f → CanBeSaid (resized_to f size now)
-resized_said f size now said = record {
+resized_said : (f : File) (size : ℕ) (now : Moment) → IsTime now → CanBeSaid f → CanBeSaid (resized_to f size now)
+resized_said f size now time said = record {
   uid = said.uid;
   gid = said.gid;
+  atime = said.atime;
+  mtime = time;
+  ctime = time;
   bytes = bytes_said f.kind (sized (bytes_in f.kind) size) (sized_is_bytes (bytes_in f.kind) size said.bytes);
   target = λ path e. said.target path (bytes_back f.kind (sized (bytes_in f.kind) size) path e);
 }
-
-given_said : (f : File) (given : GivenAttributes) (now : Moment) → IsGivenSaid given → CanBeSaid f → CanBeSaid (with_given f given now)
-given_said f given now ids said = record {
-  uid = id given.uid f.uid ids.0 said.uid;
-  gid = id given.gid f.gid ids.1 said.gid;
-  bytes = said.bytes;
-  target = said.target;
-}
-  where
-    id : (o : Option ℕ) (was : ℕ) → ((n : ℕ) → o ≡ Some n → n < 2 ^ 32) → was < 2 ^ 32 → or_else o was < 2 ^ 32
-    id None was each old = old
-    id (Some n) was each old = each n refl
 
 -- ---- the tree
 
@@ -169,13 +166,6 @@ module _ (vs : List Volume) where
         volumes = holds.volumes;
       }
 
-  named : (u : Tree) (d : ℕ) (name : List ℕ) (f : File) (now : Moment) → CanBeSaid f → IsHolding vs u → IsHolding vs (with_named_file u d name f now)
-  named u d name f now said holds = changed (with_new_file u f) d (λ h. entered h name u.next now) (λ h it. entered_said h name u.next now it) (record {
-    files = λ n g is. push_back u.next n f g u.files (at_next 0 u.next u.files holds.rising) is (λ s e. subst CanBeSaid e said) (λ o was. holds.files n g was);
-    rising = rising_push 0 u.next u.files f holds.rising;
-    volumes = holds.volumes;
-  })
-
   gone : (u : Tree) (n : ℕ) → IsHolding vs u → IsHolding vs (without_file u n)
   gone u n holds = record {
     files = λ m f is. holds.files m f (without_back 0 u.next n m f u.files holds.rising is).1;
@@ -183,42 +173,50 @@ module _ (vs : List Volume) where
     volumes = holds.volumes;
   }
 
-  let_go : (u : Tree) (n : ℕ) (now : Moment) → IsHolding vs u → IsHolding vs (released u n now)
-  let_go u n now holds = of (nat_eq (names_of n u.files) 0)
+module _ (vs : List Volume) (now : Moment) (time : IsTime now) where
+  named : (u : Tree) (d : ℕ) (name : List ℕ) (f : File) → CanBeSaid f → IsHolding vs u → IsHolding vs (with_named_file u d name f now)
+  named u d name f said holds = changed vs (with_new_file u f) d (λ h. entered h name u.next now) (λ h it. entered_said h name u.next now time it) (record {
+    files = λ n g is. push_back u.next n f g u.files (at_next 0 u.next u.files holds.rising) is (λ s e. subst CanBeSaid e said) (λ o was. holds.files n g was);
+    rising = rising_push 0 u.next u.files f holds.rising;
+    volumes = holds.volumes;
+  })
+
+  let_go : (u : Tree) (n : ℕ) → IsHolding vs u → IsHolding vs (released u n now)
+  let_go u n holds = of (nat_eq (names_of n u.files) 0)
     where
       of : (b : Bool) → IsHolding vs (if b then without_file u n else touched u n now)
-      of true = gone u n holds
-      of false = changed u n (λ h. record h { ctime = now }) (λ h said. touched_said h now said) holds
+      of true = gone vs u n holds
+      of false = changed vs u n (λ h. record h { ctime = now }) (λ h said. touched_said h now time said) holds
 
-  linked : (u : Tree) (n d : ℕ) (name : List ℕ) (now : Moment) → IsHolding vs u → IsHolding vs (after_link u n d name now)
-  linked u n d name now holds = changed (touched u n now) d (λ h. entered h name n now) (λ h said. entered_said h name n now said)
-      (changed u n (λ h. record h { ctime = now }) (λ h said. touched_said h now said) holds)
+  linked : (u : Tree) (n d : ℕ) (name : List ℕ) → IsHolding vs u → IsHolding vs (after_link u n d name now)
+  linked u n d name holds = changed vs (touched u n now) d (λ h. entered h name n now) (λ h said. entered_said h name n now time said)
+      (changed vs u n (λ h. record h { ctime = now }) (λ h said. touched_said h now time said) holds)
 
-  unlinked : (u : Tree) (d : ℕ) (name : List ℕ) (now : Moment) → IsHolding vs u → IsHolding vs (after_unlink u d name now)
-  unlinked u d name now holds = of (entry_at u d name)
+  unlinked : (u : Tree) (d : ℕ) (name : List ℕ) → IsHolding vs u → IsHolding vs (after_unlink u d name now)
+  unlinked u d name holds = of (entry_at u d name)
     where
       of : (o : Option Entry) → IsHolding vs (on_some o u (λ e. released (without_entry u d name now) e.number now))
       of None = holds
-      of (Some e) = let_go (without_entry u d name now) e.number now (changed u d (λ h. left h name now) (λ h said. left_said h name now said) holds)
+      of (Some e) = let_go (without_entry u d name now) e.number (changed vs u d (λ h. left h name now) (λ h said. left_said h name now time said) holds)
 
-  carries : (u : Tree) (from : ℕ) (name : List ℕ) (n to : ℕ) (new_name : List ℕ) (now : Moment) → IsHolding vs u
+  carries : (u : Tree) (from : ℕ) (name : List ℕ) (n to : ℕ) (new_name : List ℕ) → IsHolding vs u
       → IsHolding vs (carried u from name n to new_name now)
-  carries u from name n to new_name now holds =
-      let one = changed u from (λ h. left h name now) (λ h said. left_said h name now said) holds in
-      let two = changed (without_entry u from name now) n (λ h. moved_to h to now) (λ h said. moved_said h to now said) one in
-      changed (moved (without_entry u from name now) n to now) to (λ h. entered h new_name n now) (λ h said. entered_said h new_name n now said) two
+  carries u from name n to new_name holds =
+      let one = changed vs u from (λ h. left h name now) (λ h said. left_said h name now time said) holds in
+      let two = changed vs (without_entry u from name now) n (λ h. moved_to h to now) (λ h said. moved_said h to now time said) one in
+      changed vs (moved (without_entry u from name now) n to now) to (λ h. entered h new_name n now) (λ h said. entered_said h new_name n now time said) two
 
-  renamed : (u : Tree) (from : ℕ) (name : List ℕ) (to : ℕ) (new_name : List ℕ) (now : Moment) → IsHolding vs u
+  renamed : (u : Tree) (from : ℕ) (name : List ℕ) (to : ℕ) (new_name : List ℕ) → IsHolding vs u
       → IsHolding vs (after_rename u from name to new_name now)
-  renamed u from name to new_name now holds = of (entry_at u from name)
+  renamed u from name to new_name holds = of (entry_at u from name)
     where
       same : (b : Bool) (e : Entry) → IsHolding vs (if b then u else carried (after_unlink u to new_name now) from name e.number to new_name now)
       same true e = holds
-      same false e = carries (after_unlink u to new_name now) from name e.number to new_name now (unlinked u to new_name now holds)
+      same false e = carries (after_unlink u to new_name now) from name e.number to new_name (unlinked u to new_name holds)
 
       over : (e : Entry) (o : Option Entry) → IsHolding vs (on_some o (carried u from name e.number to new_name now)
           (λ old. if nat_eq e.number old.number then u else carried (after_unlink u to new_name now) from name e.number to new_name now))
-      over e None = carries u from name e.number to new_name now holds
+      over e None = carries u from name e.number to new_name holds
       over e (Some old) = same (nat_eq e.number old.number) e
 
       of : (o : Option Entry) → IsHolding vs (on_some o u (λ e. on_some (entry_at u to new_name) (carried u from name e.number to new_name now)
@@ -242,31 +240,31 @@ stays t u table d keeps holds = record {
   exports = d.exports;
 }
 
-after_write : (t : Tree) (n offset : ℕ) (bytes : List ℕ) (now : Moment) → IsBytes bytes → IsHolding t.volumes t
+after_write : (t : Tree) (n offset : ℕ) (bytes : List ℕ) (now : Moment) → IsTime now → IsBytes bytes → IsHolding t.volumes t
     → IsHolding t.volumes (after_write_at t n offset bytes now)
-after_write t n offset [] now all holds = holds
-after_write t n offset (byte ∷ bytes) now all holds =
-    changed t.volumes t n (λ h. file_with_bytes h offset (byte ∷ bytes) now) (λ h said. written_said h offset (byte ∷ bytes) now all said) holds
+after_write t n offset [] now time all holds = holds
+after_write t n offset (byte ∷ bytes) now time all holds =
+    changed t.volumes t n (λ h. file_with_bytes h offset (byte ∷ bytes) now) (λ h said. written_said h offset (byte ∷ bytes) now time all said) holds
 
 pub changes_stay : law.ChangesStayDescribable
 changes_stay = record {
-  files = λ t d tag name bytes given verifier now may fits ids all table it. stays t _ table it
+  files = λ t d tag name bytes given verifier now time may fits is all table it. stays t _ table it
       (law_after_make_file t d tag name bytes given verifier now may fits it.law)
-      (named t.volumes t d name _ now (record { uid = ids.0; gid = ids.1; bytes = all; target = λ path is. cc }) (holding_of t table it));
-  directories = λ t d tag name given now may fits ids table it. stays t _ table it (law_after_mkdir t d tag name given now may fits it.law)
-      (named t.volumes t d name _ now (record { uid = ids.0; gid = ids.1; bytes = no_bytes; target = λ path is. cc }) (holding_of t table it));
-  links = λ t d tag name path given now may fits ids holds table it. stays t _ table it (law_after_make_link t d tag name path given now may fits it.law)
-      (named t.volumes t d name _ now (record { uid = ids.0; gid = ids.1; bytes = no_bytes; target = link_said path holds }) (holding_of t table it));
-  names = λ t n d name now may table it. stays t _ table it (law_after_link t n d name now may it.law)
-      (linked t.volumes t n d name now (holding_of t table it));
-  bytes = λ t n offset bytes now may all table it. stays t _ table it (law_after_write_at t n offset bytes now may it.law)
-      (after_write t n offset bytes now all (holding_of t table it));
-  sizes = λ t n size now may table it. stays t _ table it (law_after_resize t n size now may it.law)
-      (changed t.volumes t n (λ h. resized_to h size now) (λ h said. resized_said h size now said) (holding_of t table it));
-  attributes = λ t n given now f lives ids table it. stays t _ table it (law_after_set t n given now f lives it.law)
-      (changed t.volumes t n (λ h. with_given h given now) (λ h said. given_said h given now ids said) (holding_of t table it));
-  removals = λ t d name now may table it. stays t _ table it (law_after_unlink t d name now may it.law)
-      (unlinked t.volumes t d name now (holding_of t table it));
-  renames = λ t from name to new_name now may table it. stays t _ table it (law_after_rename t from name to new_name now may it.law)
-      (renamed t.volumes t from name to new_name now (holding_of t table it));
+      (named t.volumes now time t d name _ (new_said _ (Regular bytes) given verifier tag now is time all (λ path e. cc)) (holding_of t table it));
+  directories = λ t d tag name given now time may fits is table it. stays t _ table it (law_after_mkdir t d tag name given now may fits it.law)
+      (named t.volumes now time t d name _ (new_said _ (Directory d 3 []) given None tag now is time no_bytes (λ path e. cc)) (holding_of t table it));
+  links = λ t d tag name path given now time may fits is holds table it. stays t _ table it (law_after_make_link t d tag name path given now may fits it.law)
+      (named t.volumes now time t d name _ (new_said _ (Link path) given None tag now is time no_bytes (link_said path holds)) (holding_of t table it));
+  names = λ t n d name now time may table it. stays t _ table it (law_after_link t n d name now may it.law)
+      (linked t.volumes now time t n d name (holding_of t table it));
+  bytes = λ t n offset bytes now time may all table it. stays t _ table it (law_after_write_at t n offset bytes now may it.law)
+      (after_write t n offset bytes now time all (holding_of t table it));
+  sizes = λ t n size now time may table it. stays t _ table it (law_after_resize t n size now may it.law)
+      (changed t.volumes t n (λ h. resized_to h size now) (λ h said. resized_said h size now time said) (holding_of t table it));
+  attributes = λ t n given now f time lives is table it. stays t _ table it (law_after_set t n given now f lives it.law)
+      (changed t.volumes t n (λ h. with_given h given now) (λ h said. given_said h given now is time said) (holding_of t table it));
+  removals = λ t d name now time may table it. stays t _ table it (law_after_unlink t d name now may it.law)
+      (unlinked t.volumes now time t d name (holding_of t table it));
+  renames = λ t from name to new_name now time may table it. stays t _ table it (law_after_rename t from name to new_name now may it.law)
+      (renamed t.volumes now time t from name to new_name (holding_of t table it));
 }

@@ -1,5 +1,5 @@
 -- The files of a volume, in the order of its walk.
-use Rattle.std.proofs.Common.{inl, inr, ◌≡◌, ℕ, suc, ◌+◌, ◌<◌, ◌≤◌, true, false, List, [], ◌∷◌, ◌++◌, length, map, nat_eq, Option, Some, None, refl, sym, ap}
+use Rattle.std.proofs.Common.{inl, inr, ◌≡◌, ℕ, suc, ◌+◌, ◌<◌, ◌≤◌, Bool, true, false, List, [], ◌∷◌, ◌++◌, length, map, nat_eq, Option, Some, None, refl, sym, ap}
 use Rattle.std.proofs.Common.{subst, ◌∙◌, append_assoc, append-nil, arith}
 use Rattle.std.specs.Prelude.{Contains, slice_get}
 use Rattle.std.proofs.lemmas.List.{length-append, map-append}
@@ -39,11 +39,13 @@ Numbered number last before (p ∷ after) k = OnFirst (first_name p.number befor
 
 -- ---- a volume that is to be made
 
-pub record IsToMake (t : Tree) (number : ℕ → ℕ) (earlier : List Step) (vs : List Volume) (index : ℕ) (w : Volume) (walk : List FilePath) : Type 0 where
+pub record IsToMake (t : Tree) (number : ℕ → ℕ) (timed : ℕ → Bool) (earlier : List Step) (vs : List Volume) (index : ℕ) (w : Volume) (walk : List FilePath)
+    : Type 0 where
   pub at_w : slice_get t.volumes index ≡ Some w
   pub walked : IsWalk t w.root walk
   pub sayable : are_sayable walk ≡ true
   pub others : (m : ℕ) (f : File) → LivesAsDirectory t m f → f.volume ≡ index → shown earlier m ≡ []
+  pub early : (m : ℕ) (f : File) → Lives t m f → f.volume ≡ index → timed m ≡ false
   pub at_vs : slice_get vs index ≡ Some (copied_volume number w)
   pub last : length vs ≡ suc index
   pub room : length (earlier ++ steps t walk) + length vs ≤ 1099511627776
@@ -57,10 +59,10 @@ pub record IsStood (t : Tree) (all : List Step) (ns : List ℕ) (index : ℕ) (w
   pub volume : file.volume ≡ index
 
 -- what was made of it at some places, with the next number
-pub record IsGoing (t : Tree) (number : ℕ → ℕ) (vs : List Volume) (table : List (List Export)) (index : ℕ) (w : Volume) (all : List Step) (before : List FilePath)
-    (k : ℕ) (loaded : Loaded) : Type 0 where
+pub record IsGoing (t : Tree) (number : ℕ → ℕ) (timed : ℕ → Bool) (vs : List Volume) (table : List (List Export)) (index : ℕ) (w : Volume) (all : List Step)
+    (before : List FilePath) (k : ℕ) (loaded : Loaded) : Type 0 where
   pub ns : List ℕ
-  pub part : IsPart t number all ns vs loaded.tree
+  pub part : IsPart t number timed all ns vs loaded.tree
   pub count : suc (length ns) ≡ k
   pub table_is : loaded.table ≡ table
   pub stood : (p : FilePath) → Contains before p → IsStood t all ns index w p
@@ -68,10 +70,10 @@ pub record IsGoing (t : Tree) (number : ℕ → ℕ) (vs : List Volume) (table :
   pub have : (m : ℕ) (f : File) → Lives t m f → f.volume < index → Has m ns
 
 module _ (Last : Option Loaded → Type 0) (t : Tree) (law : Law t) (words : (n : ℕ) (f : File) → Lives t n f → CanBeSaid f) (number : ℕ → ℕ)
-    (earlier : List Step) (vs : List Volume)
-    (table : List (List Export)) (index : ℕ) (w : Volume) (walk : List FilePath) (to_make : IsToMake t number earlier vs index w walk) (last : ℕ) where
+    (timed : ℕ → Bool) (earlier : List Step) (vs : List Volume)
+    (table : List (List Export)) (index : ℕ) (w : Volume) (walk : List FilePath) (to_make : IsToMake t number timed earlier vs index w walk) (last : ℕ) where
   abbrev Going : List Step → List FilePath → ℕ → Loaded → Type 0
-  Going all before k loaded = IsGoing t number vs table index w all before k loaded
+  Going all before k loaded = IsGoing t number timed vs table index w all before k loaded
 
   has_entries : (k : Kind) (e : Entry) → Contains (entries_in k) e → is_directory k ≡ true
   has_entries (Regular bytes) e c = absurd (not_in_empty [] e refl c)
@@ -111,7 +113,7 @@ module _ (Last : Option Loaded → Type 0) (t : Tree) (law : Law t) (words : (n 
         sym (shown_once t walk s.0.number once) ∙ ap (λ l. shown l s.0.number) are ∙ shown_append done (s ∷ todo) s.0.number
         ∙ ap (λ l. shown done s.0.number ++ l) (listed_yes s (shown todo s.0.number) s.0.number refl) ∙ ap (λ l. l ++ s.1 ∷ shown todo s.0.number) (sym so_far)
 
-    next : IsNext t number all going.ns vs w s parent.file target.0
+    next : IsNext t number timed all going.ns vs w s parent.file target.0
     next = record {
       at_w = ap (slice_get t.volumes) parent.volume ∙ to_make.at_w;
       at_vs = ap (slice_get vs) parent.volume ∙ to_make.at_vs;
@@ -123,6 +125,8 @@ module _ (Last : Option Loaded → Type 0) (t : Tree) (law : Law t) (words : (n 
       rest = shown todo s.0.number;
       here = here;
       lives = target.1;
+      untimed = to_make.early s.0.number parent.file parent.lives parent.volume;
+      early = to_make.early s.1.number target.0 target.1 (target.2 ∙ parent.volume);
       words = words s.1.number target.0 target.1;
       room =
           let room = to_make.room in
@@ -140,8 +144,8 @@ module _ (Last : Option Loaded → Type 0) (t : Tree) (law : Law t) (words : (n 
     new_place ns has = record {
       has = has;
       named = named_new all s w.root parent.named
-          (is_name Last t law number all going.ns vs old going.part w s parent.file target.0 next)
-          (fresh Last t law number all going.ns vs old going.part w s parent.file target.0 next);
+          (is_name Last t law number timed all going.ns vs old going.part w s parent.file target.0 next)
+          (fresh Last t law number timed all going.ns vs old going.part w s parent.file target.0 next);
       file = target.0;
       lives = target.1;
       volume = target.2 ∙ parent.volume;
@@ -195,7 +199,7 @@ module _ (Last : Option Loaded → Type 0) (t : Tree) (law : Law t) (words : (n 
         → Goes Last (Some old) (on_some o (own_text t (place_of s)) (λ first. hard_line (place_of s).path first.path)) All
     step_goes None found numbers All goes =
         subst (λ l. Goes Last (Some old) l All) (sym own_is)
-        (own_goes Last t law number all going.ns vs old going.part w s parent.file target.0 next (numbers.0 ∙ sym going.count) All
+        (own_goes Last t law number timed all going.ns vs old going.part w s parent.file target.0 next (numbers.0 ∙ sym going.count) All
         (λ loaded more. goes (suc k) loaded numbers.1 (record {
           ns = going.ns ++ s.1.number ∷ [];
           part = more.0;
@@ -217,7 +221,7 @@ module _ (Last : Option Loaded → Type 0) (t : Tree) (law : Law t) (words : (n 
         let said : is_sayable first.path ≡ true = one_passes (λ (p : FilePath). is_sayable p.path) walk first to_make.sayable
         (subst (λ l. Contains l first) (sym (walk_cut done todo s are ∙ ap (λ l. l ++ place_of s ∷ map place_of todo) (sym before_is)))
         (Contains-append_left before (place_of s ∷ map place_of todo) first there)) in
-        hard_goes Last t law number all going.ns vs old going.part w s parent.file target.0 next first stood.named same said has (no_directory first found) All
+        hard_goes Last t law number timed all going.ns vs old going.part w s parent.file target.0 next first stood.named same said has (no_directory first found) All
         (λ loaded more. goes k loaded numbers (record {
           ns = going.ns;
           part = more.0;

@@ -1,5 +1,5 @@
 -- All volumes, one after another.
-use Rattle.std.proofs.Common.{inl, inr, ◌≡◌, ◌≢◌, ℕ, suc, zero, ◌+◌, ◌-◌, ◌<◌, ◌≤◌, true, List, [], ◌∷◌, ◌++◌, length, map, nat_eq, get_or, take, Option, Some}
+use Rattle.std.proofs.Common.{inl, inr, ◌≡◌, ◌≢◌, ℕ, suc, zero, ◌+◌, ◌-◌, ◌<◌, ◌≤◌, Bool, true, false, List, [], ◌∷◌, ◌++◌, length, map, nat_eq, get_or, take, Option, Some}
 use Rattle.std.proofs.Common.{None, option_map, Ok, refl, sym, ap, subst, ◌∙◌, append-nil, arith}
 use Rattle.std.specs.List.{flat_map}
 use Rattle.std.specs.Prelude.{All, AllPairs, Contains, slice_get}
@@ -15,16 +15,17 @@ use Rattle.nfs_inodes.proofs.Maps.{itself, apart_number, sum_some}
 use Rattle.nfs_load.specs.Descriptions.{last_root, root_or_cause}
 use Rattle.nfs_load.specs.declared.loaded.Loaded.{Loaded}
 use Rattle.nfs_describe.specs.Lines.{export_line, hard_line}
-use Rattle.nfs_describe.specs.Places.{IsWalk, FilePath, are_sayable}
-use Rattle.nfs_describe.specs.Texts.{files_text, first_name, own_line, own_text, place_text, root_text, volume_text}
+use Rattle.nfs_describe.specs.Places.{IsWalk, FilePath, are_sayable, is_sayable}
+use Rattle.nfs_describe.specs.Texts.{files_text, first_name, first_places, own_line, own_text, place_text, root_text, times_text, volume_text}
 use Rattle.nfs_round_trip.specs.Copies.{copied_volume}
 use Rattle.nfs_round_trip.specs.RoundTrip.{IsDescribable, IsVolumeSaid}
 use Rattle.nfs_round_trip.proofs.Directories.{all_stand, shown, shown_append, shown_none, shown_once, some_of_sum, stands_elsewhere, stands_here}
-use Rattle.nfs_round_trip.proofs.Going.{named_root}
+use Rattle.nfs_round_trip.proofs.Going.{named_root, one_passes}
 use Rattle.nfs_round_trip.proofs.Made.{Has, has_last, has_push, push_has}
 use Rattle.nfs_round_trip.proofs.Parts.{IsPart}
 use Rattle.nfs_round_trip.proofs.Roots.{exports_go, root_goes}
 use Rattle.nfs_round_trip.proofs.Runs.{Goes, goes_both}
+use Rattle.nfs_round_trip.proofs.Times.{first_in, first_there, gets_timed, stays_as_timed, timed_all, times_go}
 use Rattle.nfs_round_trip.proofs.Volumes.{IsGoing, IsStood, Numbered, files_go}
 use Rattle.nfs_round_trip.proofs.Walks.{Step, place_of, places_of_steps, root_place, steps}
 
@@ -127,13 +128,16 @@ module _ (t : Tree) where
 -- the first volumes are made
 pub record IsThrough (t : Tree) (number : ℕ → ℕ) (table : List (List Export)) (n : ℕ) (all : List Step) (k : ℕ) (loaded : Loaded) : Type 0 where
   pub ns : List ℕ
-  pub part : IsPart t number all ns (map (copied_volume number) (take n t.volumes)) loaded.tree
+  pub timed : ℕ → Bool
+  pub part : IsPart t number timed all ns (map (copied_volume number) (take n t.volumes)) loaded.tree
   pub count : suc (length ns) ≡ k
   pub table_is : loaded.table ≡ take n table
   pub below : (m : ℕ) → Has m ns → (f : File) × Lives t m f × (f.volume < n)
   pub have : (m : ℕ) (f : File) → Lives t m f → f.volume < n → Has m ns
   pub full : (d : ℕ) (f : File) → LivesAsDirectory t d f → f.volume < n → shown all d ≡ entries_at t d
   pub others : (d : ℕ) (f : File) → LivesAsDirectory t d f → n ≤ f.volume → shown all d ≡ []
+  pub given : (m : ℕ) (f : File) → Lives t m f → f.volume < n → timed m ≡ true
+  pub early : (m : ℕ) (f : File) → Lives t m f → n ≤ f.volume → timed m ≡ false
 
 last_root_is : (u : Tree) (vs : List Volume) (v : Volume) → u.volumes ≡ vs ++ v ∷ [] → last_root u ≡ Ok v.root
 last_root_is u vs v is =
@@ -192,32 +196,59 @@ module _ (Last : Option Loaded → Type 0) (t : Tree) (table : List (List Export
       ∙ ap (λ l. l ++ files_text t (root_place t w.root ∷ []) (map place_of (steps t walk))) (root_is_none t w.root (at w.root t.files))
 
   -- what is known of it when its files are made
-  through_next : (loaded : Loaded) → IsGoing t number (vs ++ copied_volume number w ∷ []) (take (suc n) table) n w (all ++ steps t walk) walk last loaded
-      → ((m : ℕ) (f : File) → LivesAsDirectory t m f → f.volume < n → shown all m ≡ entries_at t m)
-      → ((m : ℕ) (f : File) → LivesAsDirectory t m f → n ≤ f.volume → shown all m ≡ [])
-      → IsThrough t number table (suc n) (all ++ steps t walk) last loaded
-  through_next loaded going full others = record {
-    ns = going.ns;
-    part = subst (λ l. IsPart t number (all ++ steps t walk) going.ns l loaded.tree) vs_next going.part;
-    count = going.count;
-    table_is = going.table_is;
-    below = going.below;
-    have = λ m f lives less. by_number f.volume n
-        (λ here.
-        let place = some_of_sum (λ (p : FilePath). one_when (nat_eq p.number m)) walk (all_stand t d.law n w at_w walk walked m f lives here) in
-        let is : place.0.number ≡ m = by_number place.0.number m (λ s. s)
-        (λ o. absurd (let none : one_when (nat_eq place.0.number m) ≡ 0 = ap one_when (apart_number place.0.number m o) in let some = place.2 in
-        omega (arith, none, some))) in
-        subst (λ i. Has i going.ns) is (going.stood place.0 place.1).has)
-        (λ other. going.have m f lives (omega (arith, less, other)));
-    full = λ m f lives less. shown_append all (steps t walk) m ∙ by_number f.volume n
-        (λ here. ap (λ l. l ++ shown (steps t walk) m) (others m f lives (omega (arith, here)))
-        ∙ shown_once t walk m (stands_here t d.law n w at_w walk walked m f lives here))
-        (λ other. ap (λ l. shown all m ++ l) (shown_none t walk m (stands_elsewhere t d.law n w at_w walk walked m f lives other)) ∙ append-nil (shown all m)
-        ∙ full m f lives (omega (arith, less, other)));
-    others = λ m f lives more. shown_append all (steps t walk) m ∙ ap (λ l. l ++ shown (steps t walk) m) (others m f lives (omega (arith, more)))
-        ∙ shown_none t walk m (stands_elsewhere t d.law n w at_w walk walked m f lives (λ e. omega (arith, e, more)));
-  }
+  module _ (timed : ℕ → Bool) (made : Loaded)
+      (going : IsGoing t number timed (vs ++ copied_volume number w ∷ []) (take (suc n) table) n w (all ++ steps t walk) walk last made) where
+    place_there : (m : ℕ) (f : File) → Lives t m f → f.volume ≡ n → (p : FilePath) × Contains walk p × (p.number ≡ m)
+    place_there m f lives here =
+        let place = some_of_sum (λ (p : FilePath). one_when (nat_eq p.number m)) walk (all_stand t d.law n w at_w walk walked m f lives here) in (
+          place.0,
+          place.1,
+          by_number place.0.number m (λ s. s)
+              (λ o. absurd (let none : one_when (nat_eq place.0.number m) ≡ 0 = ap one_when (apart_number place.0.number m o) in let some = place.2 in
+              omega (arith, none, some))),
+        )
+
+    -- a file of another volume has none of these places
+    as_before : (m : ℕ) (f : File) → Lives t m f → f.volume ≢ n → timed_all timed (first_places [] walk) m ≡ timed m
+    as_before m f lives other = stays_as_timed timed (first_places [] walk) m (λ p c e.
+        let stood = going.stood p (first_in walk [] p c) in
+        let same : stood.file ≡ f = same_some (sym stood.lives ∙ ap (λ i. at i t.files) e ∙ lives) in
+        other (ap (λ (g : File). g.volume) (sym same) ∙ stood.volume))
+
+    -- and have their times
+    through_next : (loaded : Loaded)
+        → IsPart t number (timed_all timed (first_places [] walk)) (all ++ steps t walk) going.ns (vs ++ copied_volume number w ∷ []) loaded.tree
+        → loaded.table ≡ take (suc n) table
+        → ((m : ℕ) (f : File) → LivesAsDirectory t m f → f.volume < n → shown all m ≡ entries_at t m)
+        → ((m : ℕ) (f : File) → LivesAsDirectory t m f → n ≤ f.volume → shown all m ≡ [])
+        → ((m : ℕ) (f : File) → Lives t m f → f.volume < n → timed m ≡ true)
+        → ((m : ℕ) (f : File) → Lives t m f → n ≤ f.volume → timed m ≡ false)
+        → IsThrough t number table (suc n) (all ++ steps t walk) last loaded
+    through_next loaded part table_is full others given early = record {
+      ns = going.ns;
+      timed = timed_all timed (first_places [] walk);
+      part = subst (λ l. IsPart t number (timed_all timed (first_places [] walk)) (all ++ steps t walk) going.ns l loaded.tree) vs_next part;
+      count = going.count;
+      table_is = table_is;
+      below = going.below;
+      have = λ m f lives less. by_number f.volume n
+          (λ here. let place = place_there m f lives here in subst (λ i. Has i going.ns) place.2 (going.stood place.0 place.1).has)
+          (λ other. going.have m f lives (omega (arith, less, other)));
+      full = λ m f lives less. shown_append all (steps t walk) m ∙ by_number f.volume n
+          (λ here. ap (λ l. l ++ shown (steps t walk) m) (others m f lives (omega (arith, here)))
+          ∙ shown_once t walk m (stands_here t d.law n w at_w walk walked m f lives here))
+          (λ other. ap (λ l. shown all m ++ l) (shown_none t walk m (stands_elsewhere t d.law n w at_w walk walked m f lives other)) ∙ append-nil (shown all m)
+          ∙ full m f lives (omega (arith, less, other)));
+      others = λ m f lives more. shown_append all (steps t walk) m ∙ ap (λ l. l ++ shown (steps t walk) m) (others m f lives (omega (arith, more)))
+          ∙ shown_none t walk m (stands_elsewhere t d.law n w at_w walk walked m f lives (λ e. omega (arith, e, more)));
+      given = λ m f lives less. by_number f.volume n
+          (λ here.
+          let place = place_there m f lives here in
+          let first = first_there m walk [] place.0 place.1 place.2 refl in
+          subst (λ i. timed_all timed (first_places [] walk) i ≡ true) first.2 (gets_timed timed (first_places [] walk) first.0 first.1))
+          (λ other. as_before m f lives other ∙ given m f lives (omega (arith, less, other)));
+      early = λ m f lives more. as_before m f lives (λ e. omega (arith, e, more)) ∙ early m f lives (omega (arith, more));
+    }
 
   module _ (old : Loaded) (through : IsThrough t number table n all k old) (All : Option Loaded → Type 0)
       (goes : (loaded : Loaded) → IsThrough t number table (suc n) (all ++ steps t walk) last loaded → All (Some loaded)) where
@@ -225,7 +256,7 @@ module _ (Last : Option Loaded → Type 0) (t : Tree) (table : List (List Export
     ns = through.ns ++ w.root ∷ []
 
     abbrev Rooted : List (List Export) → Option Loaded → Type 0
-    Rooted exports new = (loaded : Loaded) × (new ≡ Some loaded) × IsPart t number all ns (vs ++ copied_volume number w ∷ []) loaded.tree
+    Rooted exports new = (loaded : Loaded) × (new ≡ Some loaded) × IsPart t number through.timed all ns (vs ++ copied_volume number w ∷ []) loaded.tree
         × (loaded.table ≡ exports)
 
     room_so_far : length all + length vs ≤ 1099511627776
@@ -238,13 +269,16 @@ module _ (Last : Option Loaded → Type 0) (t : Tree) (table : List (List Export
         let same : b.0 ≡ r.0 = same_some (sym b.1 ∙ r.1.0) in
         let less = b.2 in let volume : b.0.volume ≡ n = ap (λ (g : File). g.volume) same ∙ r.3 in omega (arith, less, volume)
 
+    root_early : through.timed w.root ≡ false
+    root_early = let r = root in let v = r.3 in through.early w.root r.0 r.1.0 (omega (arith, v))
+
     first_goes : Goes Last (Some old) (root_text w (attributes_at t w.root)) (Rooted (take n table ++ [] ∷ []))
     first_goes =
         let r = root in
         let said : IsVolumeSaid w = all_get IsVolumeSaid t.volumes n w d.volumes at_w in
         let within : IsWithin t.limits w = all_get (IsWithin t.limits) t.volumes n w d.law.volumes.within at_w in
-        root_goes Last t d.law number all through.ns vs old through.part w r.0 (ap (slice_get t.volumes) r.3 ∙ at_w) r.1 r.2 (vs_long ∙ sym r.3)
-        (root_numbers.0 ∙ sym through.count) fresh (d.files w.root r.0 r.1.0) said.word said.path within.bytes some_files within.files
+        root_goes Last t d.law number through.timed all through.ns vs old through.part w r.0 (ap (slice_get t.volumes) r.3 ∙ at_w) r.1 r.2 (vs_long ∙ sym r.3)
+        (root_numbers.0 ∙ sym through.count) fresh root_early (d.files w.root r.0 r.1.0) said.word said.path within.bytes some_files within.files
         (others_apart number t.volumes n w at_w d.law.volumes.apart)
         (let m = vs_long in let i = inside in let f = few_volumes in omega (arith, m, i, f))
         (all_get (λ (v : Volume). length v.path ≤ 255) t.volumes n w d.law.volumes.paths at_w) room_so_far
@@ -259,16 +293,21 @@ module _ (Last : Option Loaded → Type 0) (t : Tree) (table : List (List Export
         (ap length it.2.volumes ∙ length-append vs (copied_volume number w ∷ []) ∙ (let l = vs_long in let m = front_long in omega (arith, l, m)))
         (exports_of table n) [] it.0 refl it.3 (let f = few_to table n in let c = d.few in omega (arith, f, c)) (λ e c. d.exports n e c)
         (Rooted (take (suc n) table))
-        (λ loaded same table_is. (loaded, refl, subst (IsPart t number all ns (vs ++ copied_volume number w ∷ [])) (sym same) it.2, table_is ∙ sym table_next)))
+        (λ loaded same table_is. (loaded, refl, subst (IsPart t number through.timed all ns (vs ++ copied_volume number w ∷ [])) (sym same) it.2, table_is ∙ sym table_next)))
 
-    third_goes : (new : Option Loaded) → Rooted (take (suc n) table) new → Goes Last new (files_text t [] walk) All
-    third_goes new it = subst (λ o. Goes Last o (files_text t [] walk) All) (sym it.1) (subst (λ l. Goes Last (Some it.0) l All) (sym files_are)
-        (files_go Last t d.law d.files number all (vs ++ copied_volume number w ∷ []) (take (suc n) table) n w walk
+    abbrev AllMade : Option Loaded → Type 0
+    AllMade new = (loaded : Loaded) × (new ≡ Some loaded)
+        × IsGoing t number through.timed (vs ++ copied_volume number w ∷ []) (take (suc n) table) n w (all ++ steps t walk) walk last loaded
+
+    third_goes : (new : Option Loaded) → Rooted (take (suc n) table) new → Goes Last new (files_text t [] walk) AllMade
+    third_goes new it = subst (λ o. Goes Last o (files_text t [] walk) AllMade) (sym it.1) (subst (λ l. Goes Last (Some it.0) l AllMade) (sym files_are)
+        (files_go Last t d.law d.files number through.timed all (vs ++ copied_volume number w ∷ []) (take (suc n) table) n w walk
         (record {
           at_w = at_w;
           walked = walked;
           sayable = sayable;
           others = λ m f lives e. through.others m f lives (omega (arith, e));
+          early = λ m f lives e. through.early m f lives (omega (arith, e));
           at_vs = get_last vs n (copied_volume number w) vs_long;
           last = length-append vs (copied_volume number w ∷ []) ∙ (let l = vs_long in omega (arith, l));
           room = let l = vs_long in let m = length-append vs (copied_volume number w ∷ []) in let i = inside in let f = few_volumes in
@@ -296,12 +335,29 @@ module _ (Last : Option Loaded → Type 0) (t : Tree) (table : List (List Export
           ];
           have = λ m f lives less. has_push m w.root through.ns (through.have m f lives less);
         })
-        All (λ loaded going. goes loaded (through_next loaded going through.full through.others))))
+        AllMade (λ loaded going. (loaded, refl, going))))
+
+    fourth_goes : (new : Option Loaded) → AllMade new → Goes Last new (times_text t walk) All
+    fourth_goes new it =
+        let going = it.2 in
+        let at_root : Contains walk (root_place t w.root) =
+        subst (λ l. Contains l (root_place t w.root)) (sym walk_is) (in_head (root_place t w.root) (map place_of (steps t walk))) in
+        subst (λ o. Goes Last o (times_text t walk) All) (sym it.1)
+        (times_go Last t d.law d.files number (all ++ steps t walk) going.ns (vs ++ copied_volume number w ∷ []) (take (suc n) table) n w
+        (going.stood (root_place t w.root) at_root).has (λ u is. last_root_is u vs (copied_volume number w) is)
+        (first_places [] walk) through.timed it.0
+        (λ p c. let there = first_in walk [] p c in (going.stood p there, one_passes (λ (q : FilePath). is_sayable q.path) walk p sayable there))
+        going.part going.table_is All
+        (λ loaded part table_is. goes loaded
+        (through_next through.timed it.0 going loaded part table_is through.full through.others through.given through.early)))
 
     -- the text of a volume
     pub volume_goes : Goes Last (Some old) (volume_text t table n w walk) All
-    volume_goes = goes_both Last (Some old) (root_text w (attributes_at t w.root) ++ flat_map export_line (exports_of table n)) (files_text t [] walk)
-        (Rooted (take (suc n) table)) All
+    volume_goes = goes_both Last (Some old) (root_text w (attributes_at t w.root) ++ flat_map export_line (exports_of table n) ++ files_text t [] walk)
+        (times_text t walk) AllMade All
+        (goes_both Last (Some old) (root_text w (attributes_at t w.root) ++ flat_map export_line (exports_of table n)) (files_text t [] walk)
+        (Rooted (take (suc n) table)) AllMade
         (goes_both Last (Some old) (root_text w (attributes_at t w.root)) (flat_map export_line (exports_of table n)) (Rooted (take n table ++ [] ∷ []))
         (Rooted (take (suc n) table)) first_goes second_goes)
-        third_goes
+        third_goes)
+        fourth_goes

@@ -5,7 +5,7 @@ use Rattle.hex.specs.Hex.{IsBytes}
 use Rattle.nfs_describe.specs.Lines.{is_target}
 use Rattle.nfs_describe.specs.Places.{FilePath}
 use Rattle.nfs_describe.specs.Texts.{first_name}
-use Rattle.nfs_load.specs.Effects.{start}
+use Rattle.nfs_load.specs.Moments.{IsTime}
 use Rattle.nfs_inodes.specs.Tree.{File, Kind, Entry, Volume, Regular, Directory, Link, bytes_in, on_some}
 
 -- ---- new numbers
@@ -44,7 +44,7 @@ copied_mode (Regular bytes) mode = mode
 copied_mode (Directory parent next_cookie entries) mode = mode
 copied_mode (Link path) mode = 511
 
--- a file as it is made again, with some tag: its times are 0
+-- a file as it is made again, with some tag
 abbrev pub copied : (ℕ → ℕ) → ℕ → File → File
 copied number tag f = record {
   volume = f.volume;
@@ -52,9 +52,9 @@ copied number tag f = record {
   mode = copied_mode f.kind f.mode;
   uid = f.uid;
   gid = f.gid;
-  atime = start;
-  mtime = start;
-  ctime = start;
+  atime = f.atime;
+  mtime = f.mtime;
+  ctime = f.ctime;
   tag = tag;
   verifier = None;
 }
@@ -62,9 +62,12 @@ copied number tag f = record {
 abbrev pub copied_volume : (ℕ → ℕ) → Volume → Volume
 copied_volume number v = record v { root = number v.root }
 
--- what a line can say of a file: bytes, an owner and a group of 32 bits, and what a link holds
+-- what lines can say of a file: bytes, an owner, a group and times of 32 bits, and what a link holds
 pub record CanBeSaid (f : File) : Type 0 where
   pub uid : f.uid < 2 ^ 32
   pub gid : f.gid < 2 ^ 32
+  pub atime : IsTime f.atime
+  pub mtime : IsTime f.mtime
+  pub ctime : IsTime f.ctime
   pub bytes : IsBytes (bytes_in f.kind)
   pub target : (path : List ℕ) → f.kind ≡ Link path → is_target path ≡ true
