@@ -146,7 +146,7 @@ key_words() { echo "$NFS3D_KEY" | sed 's/^......../& /'; }
 
 # is_listening: whether the server reported its port, which is $port then, or has ended.
 is_listening() {
-    port=$(sed -n 's/^\([^ ]*Z \)\{0,1\}listening .*:\([0-9]*\)$/\2/p' "$work/served")
+    port=$(sed -n 's/^\([^ ]*Z \)\{0,1\}listening .*:\([0-9]*\)$/\2/p' "$work/served" | head -n 1)
     [ -n "$port" ] || ! kill -0 "$server" 2>/dev/null
 }
 

@@ -102,6 +102,20 @@ serving tests/unread/one.tree
 [ -n "$port" ] && serves_quietly
 ok $? "the server does not warn where it listens to this machine alone"
 
+# answer ADDRESS: the reply to NULL there, in hexadecimal digits.
+answer() {
+    bash -c 'exec 3<>"/dev/tcp/$0/$1" && printf "\200\0\0\050\0\0\0\052\0\0\0\0\0\0\0\002\0\001\206\243\0\0\0\003" >&3 &&
+        head -c 20 /dev/zero >&3 && head -c 28 <&3' "$1" "$port" | od -An -v -tx1 | tr -d ' \n'
+}
+serving examples/e.tree --listen 127.0.0.1 --listen 127.0.0.2 --connections 2
+printf 'listening 127.0.0.%s:'"$port"'\n' 1 2 >"$work/wanted"
+sed -n 1,2p "$work/served" | same "$work/wanted" - && [ "$(answer 127.0.0.2)" = 800000180000002a0000000100000000000000000000000000000000 ] &&
+    [ "$(answer 127.0.0.1)" = 800000180000002a0000000100000000000000000000000000000000 ] && server_ends 0
+ok $? "--listen twice: both addresses are served, at one port"
+run serve examples/e.tree --listen 127.0.0.1 --listen 127.0.0.1 --port 0
+ended 3 && [ ! -s "$work/out" ] && grep -q ': Address already in use ' "$work/err"
+ok $? "--listen of one address twice: nothing is served"
+
 serving examples/e.tree
 printf 'nfs3d: network fault: 127.0.0.1:%s: Address already in use (os error 98)\n  another program listens there; --port names another port\n' "$port" >"$work/wanted"
 run serve examples/e.tree --port "$port"

@@ -23,13 +23,13 @@ use nfs_tcp::network::TcpNetwork;
 use nfs_tcp::service_fault::ServiceFault;
 use std::alloc::{AllocError, Global};
 use std::fs::File;
-use std::net::{IpAddr, Net, SocketAddr};
+use std::net::{IpAddr, Ipv4Addr, Net, SocketAddr};
 use std::process::ExitCode;
 use std::random::RandomSource;
 use std::rt::Files;
 use std::time::Clock;
 
-/// Serves a description or a directory: prints the address that it listens on, and serves clients until as
+/// Serves a description or a directory: prints the addresses that it listens on, and serves clients until as
 /// many connections have ended as there may be. The tree that they leave is saved where the words ask for
 /// it, also where a fault ends the service once it has begun. The status is 2 where a word is faulty.
 pub(crate) fn serve_tree<R>(
@@ -40,26 +40,26 @@ pub(crate) fn serve_tree<R>(
 where
     R: Files<File = File> + Input + Print + Eprint + Net + Clock + RandomSource + AllocGlobal,
 {
-    let Some(ip) = address_of(rt, words) else {
+    let Some(addresses) = addresses_of(rt, alloc, words)? else {
         return Ok(ExitCode::from(2));
     };
     let copies = Copies::of(rt, alloc, words.save(), words.key())?;
     let service = ServiceAt {
         rt,
         alloc,
-        address: SocketAddr::new(ip, words.port()),
+        addresses: addresses.as_slice(),
         words,
         copies: &copies,
     };
-    lend_life(rt, alloc, words, ip, &service)
+    lend_life(rt, alloc, words, most_open(addresses.as_slice()), &service)
 }
 
-// A service at an address.
+// A service at some addresses.
 #[derive(Drop)]
 struct ServiceAt<'a, 'w, R> {
     rt: &'a R,
     alloc: Global,
-    address: SocketAddr,
+    addresses: &'a [IpAddr],
     words: Serve<'a, 'w>,
     copies: &'a Copies<'a>,
 }
@@ -69,8 +69,8 @@ where
     R: Files<File = File> + Print + Eprint + Net + Clock + RandomSource,
 {
     fn run(&self, server: &mut Server) -> Result<ExitCode, Diagnostic> {
-        let (address, words) = (self.address, self.words);
-        serve_and_save(self.rt, self.alloc, server, address, words, self.copies)
+        let (addresses, words) = (self.addresses, self.words);
+        serve_and_save(self.rt, self.alloc, server, addresses, words, self.copies)
     }
 }
 
@@ -79,11 +79,11 @@ fn serve_and_save<R: Files<File = File> + Print + Eprint + Net + Clock + RandomS
     rt: &R,
     alloc: Global,
     server: &mut Server,
-    address: SocketAddr,
+    addresses: &[IpAddr],
     words: Serve<'_, '_>,
     copies: &Copies<'_>,
 ) -> Result<ExitCode, Diagnostic> {
-    let served = Served::listen(rt, alloc, address, words)?;
+    let served = Served::listen(rt, alloc, addresses, words)?;
     let out = output(rt, alloc)?;
     match words.audit() {
         Some(name) => {
@@ -122,15 +122,43 @@ where
     copies.save_last(rt, alloc, server, done)
 }
 
-// The address that is listened at; none, which is reported, where a word is faulty.
-fn address_of<R: Eprint>(rt: &R, words: Serve<'_, '_>) -> Option<IpAddr> {
+// The addresses that are listened at; none, which is reported, where a word is faulty.
+fn addresses_of<R: Eprint>(
+    rt: &R,
+    alloc: Global,
+    words: Serve<'_, '_>,
+) -> Result<Option<Vec<IpAddr>>, AllocError> {
     if let Some(name) = words.audit_skip().and_then(first_unknown) {
         let _ = eprintln!(rt;
             "error: invalid value for '--audit-skip <RULES>': there is no rule '{name}'; docs/PROTOCOL.md names them"
         );
-        return None;
+        return Ok(None);
     }
-    let listen = words.listen();
+    let mut addresses = Vec::new(alloc);
+    for listen in words.listen() {
+        let Some(address) = address_of(rt, listen) else {
+            return Ok(None);
+        };
+        addresses.push(address)?;
+    }
+    if addresses.is_empty() {
+        addresses.push(IpAddr::V4(Ipv4Addr::LOCALHOST))?;
+    }
+    Ok(Some(addresses))
+}
+
+// The first address that other machines can reach; where there is none, the first.
+fn most_open(addresses: &[IpAddr]) -> IpAddr {
+    for address in addresses {
+        if !address.is_loopback() {
+            return *address;
+        }
+    }
+    IpAddr::V4(Ipv4Addr::LOCALHOST)
+}
+
+// The address that a word is; none, which is reported, where it is no address.
+fn address_of<R: Eprint>(rt: &R, listen: &str) -> Option<IpAddr> {
     if let Ok(ip) = listen.parse::<IpAddr>() {
         return Some(ip);
     }
@@ -146,25 +174,23 @@ fn address_of<R: Eprint>(rt: &R, words: Serve<'_, '_>) -> Option<IpAddr> {
 #[derive(Drop)]
 struct Served {
     alloc: Global,
+    // The one that faults of the network name.
     address: SocketAddr,
     limits: Limits,
-    listener: TcpListener,
+    listeners: Vec<TcpListener>,
     level: Level,
     is_registered: bool,
 }
 
 impl Served {
-    // Listens at an address.
+    // Listens at these addresses.
     fn listen<R: Net>(
         rt: &R,
         alloc: Global,
-        address: SocketAddr,
+        addresses: &[IpAddr],
         words: Serve<'_, '_>,
     ) -> Result<Served, Diagnostic> {
-        let listener = match TcpListener::bind(rt, address) {
-            Ok(listener) => listener,
-            Err(error) => return Err(Diagnostic::of_listening(alloc, address, error)),
-        };
+        let listeners = listen_at_all(rt, alloc, addresses, words.port())?;
         let limits = Limits {
             connections: words.connections(),
             clients: words.clients(),
@@ -178,9 +204,9 @@ impl Served {
         };
         Ok(Served {
             alloc,
-            address,
+            address: SocketAddr::new(most_open(addresses), words.port()),
             limits,
-            listener,
+            listeners,
             level,
             is_registered: words.is_registered(),
         })
@@ -191,18 +217,17 @@ impl Served {
         if !self.is_registered {
             return Ok(None);
         }
-        let address = self.address;
-        let port = match self.listener.local_addr() {
-            Ok(local) => local.port(),
-            Err(error) => return Err(Fault::Network { address, error }),
+        let Some(listener) = self.listeners.first() else {
+            return Ok(None);
         };
+        let port = port_of(listener, self.address)?;
         match Registration::at(rt, self.alloc, port) {
             Ok(registration) => Ok(Some(registration)),
             Err(fault) => Err(Fault::Unregistered(fault)),
         }
     }
 
-    // Says where it is listened, and serves the clients of the listener.
+    // Says where it is listened, and serves the clients of the listeners.
     fn run<R, A, C>(
         self,
         rt: &R,
@@ -217,7 +242,9 @@ impl Served {
     {
         let address = self.address;
         let logged = Logged::new(rt, self.level, Console(rt));
-        announce(&logged, self.alloc, &self.listener, address, lines)?;
+        for listener in &self.listeners {
+            announce(&logged, self.alloc, listener, address, lines)?;
+        }
         let mut saver = ServedSaver {
             copies: copies.saver(&logged, self.alloc),
         };
@@ -229,7 +256,7 @@ impl Served {
         }
     }
 
-    // Serves the clients of the listener.
+    // Serves the clients of the listeners.
     fn serve<R, A, C, S>(
         self,
         rt: &R,
@@ -243,12 +270,52 @@ impl Served {
         C: LineOut,
         S: Saver,
     {
-        let mut net = TcpNetwork::new(rt, self.alloc, self.listener)?;
+        let mut net = TcpNetwork::new(rt, self.alloc, self.listeners)?;
         let mut service = Service::new(self.alloc, self.limits)?;
         match service.serve(rt, server, &mut net, lines, saver) {
             Ok(()) => Ok(()),
             Err(error) => Err(error.into()),
         }
+    }
+}
+
+// Listens at addresses with this port, or where it is 0 with the one that the system chooses for the first.
+fn listen_at_all<R: Net>(
+    rt: &R,
+    alloc: Global,
+    addresses: &[IpAddr],
+    port: u16,
+) -> Result<Vec<TcpListener>, Diagnostic> {
+    let mut listeners = Vec::new(alloc);
+    let mut port = port;
+    for ip in addresses {
+        let address = SocketAddr::new(*ip, port);
+        let listener = listen_at(rt, alloc, address)?;
+        port = port_of(&listener, address)?;
+        if let Err(error) = listeners.push(listener) {
+            return Err(AllocError::from(error).into());
+        }
+    }
+    Ok(listeners)
+}
+
+// Listens at an address.
+fn listen_at<R: Net>(
+    rt: &R,
+    alloc: Global,
+    address: SocketAddr,
+) -> Result<TcpListener, Diagnostic> {
+    match TcpListener::bind(rt, address) {
+        Ok(listener) => Ok(listener),
+        Err(error) => Err(Diagnostic::of_listening(alloc, address, error)),
+    }
+}
+
+// The port that is listened at.
+fn port_of(listener: &TcpListener, address: SocketAddr) -> Result<u16, Fault> {
+    match listener.local_addr() {
+        Ok(local) => Ok(local.port()),
+        Err(error) => Err(Fault::Network { address, error }),
     }
 }
 

@@ -1,10 +1,10 @@
 //! The words of `serve`.
-ghost use Rattle.std.specs.Prelude.{◌≡◌, ◌≢◌, Some, codes, option_map};
-ghost use Rattle.nfs_command_line.specs.Given.{IsFlag, IsNumber, IsNumberOr, text_given, text_of};
+ghost use Rattle.std.specs.Prelude.{◌≡◌, ◌≢◌, Some, codes, map, option_map};
+ghost use Rattle.nfs_command_line.specs.Given.{IsFlag, IsNumber, IsNumberOr, text_given, texts_given};
 ghost use Rattle.nfs_command_line.specs.declared.serve.AuditFailed.TheVariants.{Count, Refuse};
 
 use crate::sharing::TreeWords;
-use crate::values::{cache, text};
+use crate::values::{cache, texts};
 use clap::ArgMatches;
 use std::str::FromStr;
 
@@ -37,11 +37,11 @@ impl<'a, 'w> Serve<'a, 'w> {
         TreeWords::new(self.words)
     }
 
-    /// The address that is listened at.
-    pub fn listen(&self) -> &'a str
-        ensures { result.now ≡ text_of self.now.words.now (codes "listen") }
+    /// The addresses that are listened at; none where nothing else is said than the default.
+    pub fn listen(&self) -> &'a [&'a str]
+        ensures { map (λ text. text.now) result.now ≡ texts_given self.now.words.now (codes "listen") }
     {
-        text(self.words, "listen")
+        texts(self.words, "listen")
     }
 
     /// Its port.

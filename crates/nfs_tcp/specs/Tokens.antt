@@ -1,4 +1,4 @@
--- The tokens by which the system reports clients: that of the listener is 0, a client's is its key and one.
+-- The tokens by which the system reports clients: that of the listeners is 0, a client's is its key and one.
 use Rattle.std.specs.Prelude.{ℕ, ◌-◌, Option, Some, None, nat_eq, if◌then◌else◌}
 use Rattle.mio.specs.declared.token.Token.{Token}
 

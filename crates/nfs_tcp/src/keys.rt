@@ -1,10 +1,10 @@
-//! The tokens by which the system reports clients and of the listener.
+//! The tokens by which the system reports clients and listeners.
 ghost use Rattle.std.specs.Prelude.{◌≡◌, ◌+◌, ◌<◌, ◌^◌, Some};
 ghost use Rattle.nfs_tcp.specs.Tokens.{client_of};
 
 use mio::Token;
 
-/// The listener's token. No client has it.
+/// The listeners' token. No client has it.
 pub(crate) const LISTENER: Token = Token(0);
 
 /// The token of a client, by its key.
@@ -15,7 +15,7 @@ pub(crate) fn token_of(key: usize) -> Token
     Token(key + 1)
 }
 
-/// The key of a token's client. The listener's has none.
+/// The key of a token's client. The listeners' has none.
 pub(crate) fn key_of(token: Token) -> Option<usize>
     ensures { result ≡ client_of token }
 {

@@ -17,7 +17,7 @@ use std::io::{self, ErrorKind};
 use std::net::Net;
 use std::time::{Clock, Duration, Instant};
 
-/// A listener, the streams of its connections, and the clock, by the system, of which nothing is known.
+/// Listeners, the streams of their connections, and the clock, by the system, of which nothing is known.
 #[derive(Drop)]
 pub struct TcpNetwork<'a, R> {
     rt: &'a R,
@@ -27,19 +27,21 @@ pub struct TcpNetwork<'a, R> {
     events: Events,
     // Those of the events that were not handed out.
     ready: VecDeque<Ready>,
-    listener: Option<TcpListener>,
+    listeners: Vec<TcpListener>,
 }
 
 impl<'a, R: Net + Clock + Log> TcpNetwork<'a, R> {
-    /// The network of a listener.
+    /// The network of these listeners.
     pub fn new(
         rt: &'a R,
         alloc: Global,
-        mut listener: TcpListener,
+        mut listeners: Vec<TcpListener>,
     ) -> Result<TcpNetwork<'a, R>, ServiceFault> {
         let poll = Poll::new(rt)?;
-        poll.registry()
-            .register(&mut listener, LISTENER, Interest::READABLE)?;
+        for listener in &mut listeners {
+            poll.registry()
+                .register(listener, LISTENER, Interest::READABLE)?;
+        }
         Ok(TcpNetwork {
             rt,
             clock: SystemClock::new(rt),
@@ -47,8 +49,25 @@ impl<'a, R: Net + Clock + Log> TcpNetwork<'a, R> {
             poll,
             events: Events::with_capacity(alloc, EVENTS as usize)?,
             ready: VecDeque::with_capacity(alloc, EVENTS as usize)?,
-            listener: Some(listener),
+            listeners,
         })
+    }
+
+    // The next connection of a listener.
+    fn accept_at(&self, listener: &TcpListener, key: usize) -> Accepted<Socket>
+        requires { key + 1 < 2 ^ 64 }
+    {
+        match listener.accept() {
+            Ok((stream, peer)) => match self.register(stream, key) {
+                Ok(socket) => Accepted::Connection(socket, peer),
+                Err(error) => Accepted::Closed(peer, error),
+            },
+            Err(error) => match error.kind() {
+                ErrorKind::WouldBlock => Accepted::None,
+                ErrorKind::ConnectionAborted | ErrorKind::Interrupted => Accepted::Gone,
+                _ => Accepted::Refused(error),
+            },
+        }
     }
 
     // Has what is reported of a stream have a token of this key.
@@ -91,24 +110,17 @@ impl<R: Net + Clock + Log> Network for TcpNetwork<'_, R> {
     }
 
     fn accept(&mut self, key: usize) -> Accepted<Socket> {
-        let Some(listener) = &self.listener else {
-            return Accepted::None;
-        };
-        match listener.accept() {
-            Ok((stream, peer)) => match self.register(stream, key) {
-                Ok(socket) => Accepted::Connection(socket, peer),
-                Err(error) => Accepted::Closed(peer, error),
-            },
-            Err(error) => match error.kind() {
-                ErrorKind::WouldBlock => Accepted::None,
-                ErrorKind::ConnectionAborted | ErrorKind::Interrupted => Accepted::Gone,
-                _ => Accepted::Refused(error),
-            },
+        for listener in &self.listeners {
+            match self.accept_at(listener, key) {
+                Accepted::None => {}
+                accepted => return accepted,
+            }
         }
+        Accepted::None
     }
 
     fn close_listener(&mut self) {
-        self.listener = None;
+        self.listeners.clear();
     }
 
     fn was_reset(&self, stream: &Socket) -> bool {
