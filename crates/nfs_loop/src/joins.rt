@@ -16,6 +16,7 @@ use log::{Log, info, warn};
 use nfs_exports::addr::Addr;
 use nfs_serving::client::Client;
 use nfs_xdr::link::Link;
+use std::io;
 use std::net::SocketAddr;
 use thiserror::Error;
 
@@ -79,10 +80,10 @@ impl<L: Link + Drop> Service<L> {
             Accepted::None => self.housekeeping.waiting = Waiting::None,
             Accepted::Gone => {}
             Accepted::Refused(error) => {
-                warn!(rt; "no connection can be accepted: {error}");
+                warn_of_none(rt, &error);
                 self.housekeeping.waiting = Waiting::Refused;
             }
-            Accepted::Closed(peer, error) => warn!(rt; "{peer}: closed: {error}"),
+            Accepted::Closed(peer, error) => warn_of_closed(rt, peer, &error),
         }
     }
 
@@ -109,12 +110,12 @@ impl<L: Link + Drop> Service<L> {
         ensures watched { AreWatched self.new.clients.0 self.new.housekeeping.watches }
     {
         if self.clients.len() >= self.housekeeping.limits.clients {
-            warn!(rt; "{peer}: closed: there are already {} clients", self.housekeeping.limits.clients);
+            warn_of_many(rt, peer, self.housekeeping.limits.clients);
             return;
         }
         match self.join(net, key, stream, peer) {
-            Ok(()) => info!(rt; "{peer}: connection {}", self.joined),
-            Err(refusal) => warn!(rt; "{peer}: closed: {refusal}"),
+            Ok(()) => say_joined(rt, peer, self.joined),
+            Err(refusal) => warn_of_refused(rt, peer, refusal),
         }
     }
 
@@ -165,4 +166,24 @@ impl<L: Link + Drop> Service<L> {
             Err(_) => Err(Refusal::Memory),
         }
     }
+}
+
+fn warn_of_none<R: Log>(rt: &R, error: &io::Error) {
+    warn!(rt; "no connection can be accepted: {error}");
+}
+
+fn warn_of_closed<R: Log>(rt: &R, peer: SocketAddr, error: &io::Error) {
+    warn!(rt; "{peer}: closed: {error}");
+}
+
+fn warn_of_many<R: Log>(rt: &R, peer: SocketAddr, clients: usize) {
+    warn!(rt; "{peer}: closed: there are already {clients} clients");
+}
+
+fn warn_of_refused<R: Log>(rt: &R, peer: SocketAddr, refusal: Refusal) {
+    warn!(rt; "{peer}: closed: {refusal}");
+}
+
+fn say_joined<R: Log>(rt: &R, peer: SocketAddr, number: u64) {
+    info!(rt; "{peer}: connection {number}");
 }
