@@ -2,7 +2,7 @@
 ghost use Rattle.std.specs.Prelude.{◌≡◌};
 
 use crate::advice::{Advice, AdviceReason};
-use crate::grouped::write_grouped;
+use crate::grouped::write_between;
 use crate::limit_fields::limits_above;
 use crate::span::Span;
 use std::fmt;
@@ -40,14 +40,10 @@ impl fmt::Display for ContentReason {
                 f.write_str("has an odd number of digits; write two for each byte")
             }
             ContentReason::Long(most) => {
-                f.write_str("is too long; a file has at most ")?;
-                write_grouped(f, *most)?;
-                f.write_str(" bytes")
+                write_between(f, "is too long; a file has at most ", *most, " bytes")
             }
             ContentReason::LongTarget(most) => {
-                f.write_str("is too long; a link holds at most ")?;
-                write_grouped(f, *most)?;
-                f.write_str(" bytes")
+                write_between(f, "is too long; a link holds at most ", *most, " bytes")
             }
         }
     }

@@ -24,3 +24,15 @@ pub(crate) fn write_grouped<W: fmt::Write>(f: &mut fmt::Formatter<W>, number: u6
     }
     Ok(())
 }
+
+/// Writes a number between two texts.
+pub(crate) fn write_between<W: fmt::Write>(
+    f: &mut fmt::Formatter<W>,
+    before: &str,
+    number: u64,
+    after: &str,
+) -> fmt::Result {
+    f.write_str(before)?;
+    write_grouped(f, number)?;
+    f.write_str(after)
+}

@@ -15,6 +15,7 @@ pub mod keys;
 pub mod keywords;
 pub mod limit_fields;
 pub mod limits;
+mod line_kind;
 pub mod nearest;
 pub mod numbers;
 pub mod options;

@@ -3,8 +3,9 @@ ghost use Rattle.std.specs.Prelude.{◌≡◌};
 
 use crate::advice::{Advice, AdviceReason, Remedy};
 use crate::earlier::{first_word, word_of};
-use crate::grouped::write_grouped;
+use crate::grouped::write_between;
 use crate::limit_fields::limits_above;
+use crate::line_kind::{LineKind, kind_of};
 use crate::skipped::bytes_of;
 use crate::span::Span;
 use nfs_text::lines::Lines;
@@ -46,14 +47,20 @@ impl fmt::Display for LimitReason {
                 "has too many bytes; the volume has {left} of its {limit} bytes left"
             ),
             LimitReason::Names(limit) => {
-                f.write_str("already has ")?;
-                write_grouped(f, *limit)?;
-                f.write_str(" names, the most that a file may have")
+                write_between(
+                    f,
+                    "already has ",
+                    *limit,
+                    " names, the most that a file may have",
+                )
             }
             LimitReason::Directories(limit) => {
-                f.write_str("is one directory too many; a directory has at most ")?;
-                write_grouped(f, *limit)?;
-                f.write_str(" subdirectories")
+                write_between(
+                    f,
+                    "is one directory too many; a directory has at most ",
+                    *limit,
+                    " subdirectories",
+                )
             }
         }
     }
@@ -95,16 +102,16 @@ impl Held {
 
     // The same with one line more.
     fn with(self, line: &[u8], number: u64) -> Held {
-        match first_word(line) {
-            b"volume" => Held {
+        match kind_of(first_word(line)) {
+            LineKind::Volume => Held {
                 line: number,
                 max_bytes: number_of(word_of(line, 2)),
                 max_files: number_of(word_of(line, 3)),
                 bytes: 0,
                 files: 1,
             },
-            b"file" => self.with_file(bytes_of(word_of(line, 5))),
-            b"dir" | b"link" => self.with_file(0),
+            LineKind::File => self.with_file(bytes_of(word_of(line, 5))),
+            LineKind::Dir | LineKind::Link => self.with_file(0),
             _ => self,
         }
     }
@@ -130,10 +137,10 @@ pub(crate) fn full<'a>(text: &'a [u8], number: u64, line: Span<'a>) -> Advice<'a
     ensures { result.span.line.now ≡ line.entry.line.now }
 {
     let word = line.word(1).unwrap_or(line);
-    match line.word(0).unwrap_or(line).bytes() {
-        b"volume" => Advice::new(word, AdviceReason::Limit(LimitReason::Volumes)),
-        b"export" => Advice::new(word, AdviceReason::Limit(LimitReason::Patterns)),
-        b"hard" => {
+    match kind_of(line.word(0).unwrap_or(line).bytes()) {
+        LineKind::Volume => Advice::new(word, AdviceReason::Limit(LimitReason::Volumes)),
+        LineKind::Export => Advice::new(word, AdviceReason::Limit(LimitReason::Patterns)),
+        LineKind::Hard => {
             let old = line.word(2).unwrap_or(line);
             let links = limits_above(text, number).links;
             Advice::new(
@@ -141,11 +148,11 @@ pub(crate) fn full<'a>(text: &'a [u8], number: u64, line: Span<'a>) -> Advice<'a
                 AdviceReason::Limit(LimitReason::Names(u64::from(links))),
             )
         }
-        keyword => {
+        kind => {
             let held = Held::above(text, number);
             // A directory has two links beside those of its subdirectories.
             let directories = u64::from(limits_above(text, number).links) - 2;
-            let is_directory = keyword == b"dir".as_slice();
+            let is_directory = matches!(kind, LineKind::Dir);
             let reason = reason_of(&held, is_directory, directories);
             let advice = Advice::new(word, AdviceReason::Limit(reason));
             match reason {

@@ -15,6 +15,13 @@ use nfs_text::number::decimal;
 use nfs_text::words::Words;
 use std::fmt;
 
+// The fields of limits by their names, but for the last.
+const LIMITS: [(&[u8], Field); 3] = [
+    (b"file-size", Field::FileSize),
+    (b"links", Field::Links),
+    (b"link-path", Field::LinkPath),
+];
+
 /// Why a word is no number of its field.
 #[derive(Clone, Copy)]
 pub struct NumberReason {
@@ -120,14 +127,19 @@ fn bad_limit_number<'a>(text: &[u8], number: u64, line: Span<'a>) -> Advice<'a>
 {
     let word = faulty_field(text, number, line, Cause::BadNumber);
     let (name, value) = cut(word.bytes(), b'=');
-    let field = match name {
-        b"file-size" => Field::FileSize,
-        b"links" => Field::Links,
-        b"link-path" => Field::LinkPath,
-        _ => Field::MostFiles,
-    };
+    let field = limit_of(name);
     let fault = fault_of(field, value.unwrap_or(&[]), bounds_of(field, MAX_FILES));
     Advice::new(word, AdviceReason::Number(NumberReason { field, fault }))
+}
+
+// The field of limits of this name.
+fn limit_of(name: &[u8]) -> Field {
+    for (known, field) in &LIMITS {
+        if name == *known {
+            return *field;
+        }
+    }
+    Field::MostFiles
 }
 
 // The least number of a field and the largest, where a volume may have so many files.

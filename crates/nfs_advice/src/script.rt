@@ -125,6 +125,24 @@ enum After {
     Question,
 }
 
+// What stands after the first word of a line, but for `again`.
+const LINES: [(&[u8], &[Wanted], After); 6] = [
+    (
+        b"attach",
+        &[Wanted::Connection, Wanted::Address],
+        After::Nothing,
+    ),
+    (b"detach", &[Wanted::Connection], After::Nothing),
+    (
+        b"feed",
+        &[Wanted::Connection, Wanted::Seconds],
+        After::Bytes,
+    ),
+    (b"call", &[Wanted::Address, Wanted::Seconds], After::Bytes),
+    (b"ask", &[Wanted::Address, Wanted::Seconds], After::Question),
+    (b"show", &[], After::Nothing),
+];
+
 /// What is wrong with a line that is none of a script. The line's number is counted from 1.
 pub fn advise_line(script: &[u8], number: u64) -> Advice<'_>
     ensures { result.span.line.now ≡ line_numbered number (chunks 10 script.entry.now) }
@@ -134,16 +152,15 @@ pub fn advise_line(script: &[u8], number: u64) -> Advice<'_>
         return advice;
     }
     let word = line.word(0).unwrap_or(line);
-    match word.bytes() {
-        b"attach" => fields(line, &[Wanted::Connection, Wanted::Address], After::Nothing),
-        b"detach" => fields(line, &[Wanted::Connection], After::Nothing),
-        b"feed" => fields(line, &[Wanted::Connection, Wanted::Seconds], After::Bytes),
-        b"call" => fields(line, &[Wanted::Address, Wanted::Seconds], After::Bytes),
-        b"ask" => fields(line, &[Wanted::Address, Wanted::Seconds], After::Question),
-        b"again" => again(line),
-        b"show" => fields(line, &[], After::Nothing),
-        verb => unknown_verb(word, verb),
+    if word.bytes() == b"again".as_slice() {
+        return again(line);
     }
+    for (verb, wanted, after) in &LINES {
+        if word.bytes() == *verb {
+            return fields(line, wanted, *after);
+        }
+    }
+    unknown_verb(word, word.bytes())
 }
 
 // The line of this number, from 1.

@@ -5,6 +5,7 @@ ghost use Rattle.nfs_advice.specs.Open.{is_open_export};
 
 use crate::advice::{Advice, AdviceReason, Remedy};
 use crate::earlier::{export_line, first_word};
+use crate::line_kind::{LineKind, kind_of};
 use crate::span::Span;
 use nfs_exports::addr::Addr;
 use nfs_exports::export_table::Export;
@@ -107,23 +108,23 @@ impl<'a> Location<'a> {
         loaded: &Loaded,
         found: &mut Vec<Warning<'a>>,
     ) -> Result<(), AllocError> {
-        match first_word(line.bytes()) {
-            b"volume" => {
+        match kind_of(first_word(line.bytes())) {
+            LineKind::Volume => {
                 let exports = loaded.table.patterns(self.volumes);
                 self.volumes = self.volumes.saturating_add(1);
                 self.exports = 0;
                 self.add(unexported(line, exports), found)?;
                 self.add(decimal_mode(line.word(4)), found)
             }
-            b"export" => {
+            LineKind::Export => {
                 let exports = loaded.table.patterns(self.volumes.saturating_sub(1));
                 let place = self.exports;
                 self.exports = place.saturating_add(1);
                 self.add(covered(*self, line, exports, place), found)?;
                 self.add(host_bits(line, exports, place), found)
             }
-            b"dir" => self.add(decimal_mode(line.word(2)), found),
-            b"file" => {
+            LineKind::Dir => self.add(decimal_mode(line.word(2)), found),
+            LineKind::File => {
                 let exports = loaded.table.patterns(self.volumes.saturating_sub(1));
                 let mode = line.word(2);
                 self.add(decimal_mode(mode), found)?;

@@ -88,18 +88,39 @@ impl<'a> Words<'a> {
     }
 }
 
+// The program's command, with one for each row.
 fn command<'a>(alloc: Global) -> Result<Command<'a>, AllocError> {
-    let mut command = Command::new(alloc, "nfs3d")
-        .bin_name("nfs3d")?
+    with_commands(alloc, program(alloc)?, &COMMANDS)
+}
+
+// The program's command without others.
+fn program<'a>(alloc: Global) -> Result<Command<'a>, AllocError> {
+    Ok(
+        described(Command::new(alloc, "nfs3d").bin_name("nfs3d")?)
+            .subcommand_required(true)
+            .arg_required_else_help(true),
+    )
+}
+
+// A command with what the program's help and version say.
+fn described<'a>(command: Command<'a>) -> Command<'a> {
+    command
         .version(VERSION)
         .about("An in-memory NFS version 3 server with its MOUNT service and proved access rules")
         .after_help(
             "To try it, in the repository: nfs3d replay examples/e.tree examples/read.script",
         )
-        .subcommand_required(true)
-        .arg_required_else_help(true);
-    for row in &COMMANDS {
-        command = command.subcommand(command_of(alloc, row)?)?;
+}
+
+// A command with these others under it.
+fn with_commands<'a>(
+    alloc: Global,
+    command: Command<'a>,
+    rows: &[CommandRow],
+) -> Result<Command<'a>, AllocError> {
+    let mut all = command;
+    for row in rows {
+        all = all.subcommand(command_of(alloc, row)?)?;
     }
-    Ok(command)
+    Ok(all)
 }
