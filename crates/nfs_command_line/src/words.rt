@@ -7,7 +7,7 @@ use crate::rows::{CommandRow, command_of};
 use crate::runs::{DESCRIBE, EXTRACT, REPLAY, SELF_CALL, SERVE};
 use crate::usage::UsageFault;
 use clap::error::ErrorKind;
-use clap::{ArgMatches, Command};
+use clap::{ArgMatches, Command, Error};
 use std::alloc::{AllocError, Global};
 use std::process::ExitCode;
 
@@ -57,10 +57,7 @@ impl<'a> Words<'a> {
     ) -> Result<Words<'a>, Reported> {
         match command(alloc)?.try_get_matches_from(words) {
             Ok(matches) => Words { matches }.checked(rt),
-            Err(error) if error.kind() == ErrorKind::OutOfMemory => Err(Reported::Memory),
-            Err(error) if error.print(rt).is_err() => Err(Reported::Write),
-            Err(error) if error.exit_code() == 0 => Err(Reported::All(ExitCode::SUCCESS)),
-            Err(_) => Err(Reported::All(ExitCode::from(2))),
+            Err(error) => Err(report(rt, &error)),
         }
     }
 
@@ -85,6 +82,19 @@ impl<'a> Words<'a> {
     {
         let (name, words) = self.matches.subcommand()?;
         Invocation::of(name, words)
+    }
+}
+
+// Prints what is wrong with words, or what they ask for.
+fn report<R: Print + Eprint>(rt: &R, error: &Error) -> Reported {
+    if error.kind() == ErrorKind::OutOfMemory {
+        Reported::Memory
+    } else if error.print(rt).is_err() {
+        Reported::Write
+    } else if error.exit_code() == 0 {
+        Reported::All(ExitCode::SUCCESS)
+    } else {
+        Reported::All(ExitCode::from(2))
     }
 }
 
