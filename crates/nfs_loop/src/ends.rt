@@ -18,7 +18,6 @@ use nfs_lines::lines::Lines;
 use nfs_server::serve_fault::ServeFault;
 use nfs_serving::turn::End;
 use nfs_xdr::link::Link;
-use std::net::SocketAddr;
 
 impl Housekeeping {
     /// Reports how the connection of a client ended that has left, and has one that waits accepted.
@@ -88,17 +87,11 @@ fn is_audit_fault(end: End) -> bool
 // Says how a connection ended, where that is asked for.
 fn say<R: Log, L>(rt: &R, member: &Member<L>, end: End) {
     match end {
-        End::Closed => say_closed(rt, member.peer, member.number),
-        End::Fault(fault) => say_fault(rt, member.peer, member.number, fault),
+        End::Closed => info!(rt; "{}: connection {} ended", member.peer, member.number),
+        End::Fault(fault) => {
+            info!(rt; "{}: connection {} ended: {fault}", member.peer, member.number);
+        }
     }
-}
-
-fn say_closed<R: Log>(rt: &R, peer: SocketAddr, number: u64) {
-    info!(rt; "{peer}: connection {number} ended");
-}
-
-fn say_fault<R: Log>(rt: &R, peer: SocketAddr, number: u64, fault: ServeFault) {
-    info!(rt; "{peer}: connection {number} ended: {fault}");
 }
 
 // How a connection ended. One that its peer has reset with nothing on its way has ended as one that it

@@ -35,37 +35,20 @@ impl LinesReported {
         lines: &Lines<'_, A, C>,
         seconds: u64,
     ) {
-        self.report_failures(rt, lines);
+        if lines.denied.has_failed() && !self.audit {
+            self.audit = true;
+            warn!(rt; "the lines of denied calls can no longer be written: make room, or restart their reader, and then restart the server");
+        }
+        if lines.connections_have_failed() && !self.connections {
+            self.connections = true;
+            warn!(rt; "the lines about connections can no longer be written, and are dropped");
+        }
         if lines.denied.counted() > self.counted
             && seconds.saturating_sub(self.last) >= REPORTED_EVERY
         {
             self.counted = lines.denied.counted();
             self.last = seconds;
-            warn_of_counted(rt, self.counted);
+            warn!(rt; "{} calls were denied without a line", self.counted);
         }
     }
-
-    // Says once that a device has failed.
-    fn report_failures<R: Log, A: LineOut, C: LineOut>(&mut self, rt: &R, lines: &Lines<'_, A, C>) {
-        if lines.denied.has_failed() && !self.audit {
-            self.audit = true;
-            warn_of_denied(rt);
-        }
-        if lines.connections_have_failed() && !self.connections {
-            self.connections = true;
-            warn_of_connections(rt);
-        }
-    }
-}
-
-fn warn_of_denied<R: Log>(rt: &R) {
-    warn!(rt; "the lines of denied calls can no longer be written: make room, or restart their reader, and then restart the server");
-}
-
-fn warn_of_connections<R: Log>(rt: &R) {
-    warn!(rt; "the lines about connections can no longer be written, and are dropped");
-}
-
-fn warn_of_counted<R: Log>(rt: &R, calls: u64) {
-    warn!(rt; "{calls} calls were denied without a line");
 }
