@@ -5,6 +5,7 @@ use crate::totals::totals_line;
 use nfs_advice::every::{Faulty, every_fault};
 use nfs_advice::warnings::{Warning, warnings};
 use nfs_command_line::invocation::Check;
+use nfs_command_line::sharing::TreeWords;
 use nfs_load::load_error::LoadError;
 use nfs_load::loaded::Loaded;
 use nfs_source::description::Description;
@@ -30,17 +31,28 @@ pub fn check_file<R: Files + Input + Print + Eprint + AllocGlobal>(
         refuse_sharing(tree.sharing())?;
         return check_whole(rt, alloc, tree.name(), is_strict);
     }
+    check_tree(rt, alloc, tree, is_strict)
+}
+
+// Prints what a tree holds, and warns. What was loaded is not given back file by file, since the process
+// ends.
+fn check_tree<R: Files + Input + Print + Eprint + AllocGlobal>(
+    rt: &R,
+    alloc: Global,
+    tree: TreeWords<'_, '_>,
+    is_strict: bool,
+) -> Result<ExitCode, Diagnostic> {
     let NamedTree {
         description,
         is_partial,
     } = NamedTree::read(rt, alloc, tree)?;
-    let Description { source, loaded } = description;
-    let status = report_loaded(rt, alloc, &source, loaded, is_strict)?;
-    Ok(if is_strict && is_partial {
-        ExitCode::from(1)
-    } else {
-        status
-    })
+    let Description { source, loaded } = &description;
+    let status = report_loaded(rt, alloc, source, loaded, is_strict);
+    forget(description);
+    if is_strict && is_partial && status.is_ok() {
+        return Ok(ExitCode::from(1));
+    }
+    status
 }
 
 // The same with all its faulty lines.
@@ -55,22 +67,22 @@ fn check_whole<R: Files + Input + Print + Eprint>(
         return Ok(ExitCode::from(1));
     }
     let loaded = description.load(alloc)?;
-    report_loaded(rt, alloc, &description, loaded, is_strict)
+    let status = report_loaded(rt, alloc, &description, &loaded, is_strict);
+    forget(loaded);
+    status
 }
 
-// Prints what a description holds, and warns. What was loaded is not given back file by file, since
-// the process ends.
+// Prints what a description holds, and warns.
 fn report_loaded<R: Print + Eprint>(
     rt: &R,
     alloc: Global,
     description: &Source<'_>,
-    loaded: Loaded,
+    loaded: &Loaded,
     is_strict: bool,
 ) -> Result<ExitCode, Diagnostic> {
     let totals = totals_line(alloc, &loaded.tree)?;
     print(rt, totals.as_slice())?;
-    let warnings = warn(rt, alloc, description, &loaded)?;
-    forget(loaded);
+    let warnings = warn(rt, alloc, description, loaded)?;
     Ok(if is_strict && warnings > 0 {
         ExitCode::from(1)
     } else {
@@ -98,12 +110,8 @@ fn report_faults<R: Eprint>(
 
 fn report<R: Eprint>(rt: &R, alloc: Global, description: &Source<'_>, faulty: Faulty) {
     let Faulty { line, cause } = faulty;
-    let diagnostic = Diagnostic::of_description(
-        alloc,
-        LoadError::Fault { line, cause },
-        description,
-    );
-    let _ = eprintln!(rt; "{diagnostic}");
+    let error = LoadError::Fault { line, cause };
+    Diagnostic::of_description(alloc, error, description).report(rt);
 }
 
 // Prints a line for each warning, and reports how many there are.

@@ -22,9 +22,9 @@ pub fn print_exports<R: Files + Input + Print + Eprint + AllocGlobal>(
     words: TreeWords<'_, '_>,
 ) -> Result<ExitCode, Diagnostic> {
     let loaded = NamedTree::load(rt, alloc, words)?;
-    let lines = lines_of(alloc, &loaded)?;
+    let lines = lines_of(alloc, &loaded);
     forget(loaded);
-    print(rt, lines.as_slice())?;
+    print(rt, lines?.as_slice())?;
     Ok(ExitCode::SUCCESS)
 }
 

@@ -41,16 +41,18 @@ impl<'a> NamedTree<'a> {
             });
         }
         let shared = share(rt, alloc, words)?;
+        Ok(NamedTree::of_shared(words.name(), shared))
+    }
+
+    // The tree of a directory of this name.
+    fn of_shared(name: &'a str, shared: SharedDirectory) -> NamedTree<'a> {
         let is_partial = !shared.survey.warnings.is_empty();
         let SharedDirectory { head, loaded, .. } = shared;
-        let source = Source {
-            name: words.name(),
-            text: head,
-        };
-        Ok(NamedTree {
+        let source = Source { name, text: head };
+        NamedTree {
             description: Description { source, loaded },
             is_partial,
-        })
+        }
     }
 
     /// The tree alone.
@@ -82,19 +84,38 @@ pub fn begin_life<R: Files + Input + Eprint + AllocGlobal>(
     if words.sharing().exports().is_empty() {
         return Err(Fault::Sharing(SharingFault::NoExport).into());
     }
+    begin_shared_life(rt, alloc, words, is_strict)
+}
+
+// The same of a directory.
+fn begin_shared_life<R: Files + Eprint + AllocGlobal>(
+    rt: &R,
+    alloc: Global,
+    words: TreeWords<'_, '_>,
+    is_strict: bool,
+) -> Result<Life, Diagnostic> {
     let shared = share(rt, alloc, words)?;
-    if is_strict && !shared.survey.warnings.is_empty() {
-        return Err(Fault::Sharing(SharingFault::Skipped).into());
+    match shared_key(alloc, &shared, is_strict) {
+        Ok(key) => {
+            let SharedDirectory { loaded, .. } = shared;
+            Ok(Life { loaded, key })
+        }
+        Err(fault) => Err(fault.into()),
     }
-    let key = life_key(
+}
+
+// The key of a life of a directory, of which nothing may be skipped where that is strict.
+fn shared_key(alloc: Global, shared: &SharedDirectory, is_strict: bool) -> Result<[u8; 8], Fault> {
+    if is_strict && !shared.survey.warnings.is_empty() {
+        return Err(Fault::Sharing(SharingFault::Skipped));
+    }
+    Ok(life_key(
         alloc,
         shared.loaded.tree.key(),
         shared.head.as_slice(),
         shared.survey.found.as_slice(),
         shared.numbers.as_slice(),
-    )?;
-    let SharedDirectory { loaded, .. } = shared;
-    Ok(Life { loaded, key })
+    )?)
 }
 
 /// Whether this is the name of a directory on disk.

@@ -65,10 +65,23 @@ fn run<R: Print>(
     script: &Source<'_>,
     words: Replay<'_, '_>,
 ) -> Result<Sessions, Diagnostic> {
-    let Ok(lines) = BufWriter::with_capacity(alloc, RUN_BYTES, io::writer(rt)) else {
-        forget(loaded);
-        return Err(AllocError.into());
-    };
+    match BufWriter::with_capacity(alloc, RUN_BYTES, io::writer(rt)) {
+        Ok(lines) => run_into(alloc, loaded, script, words, lines),
+        Err(_) => {
+            forget(loaded);
+            Err(AllocError.into())
+        }
+    }
+}
+
+// The same, with its lines written there.
+fn run_into<W: Write + Drop>(
+    alloc: Global,
+    loaded: Loaded,
+    script: &Source<'_>,
+    words: Replay<'_, '_>,
+    lines: W,
+) -> Result<Sessions, Diagnostic> {
     let mut out = Device::new(lines);
     let shown = Shown {
         is_decoded: words.is_decoded(),

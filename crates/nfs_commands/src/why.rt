@@ -4,6 +4,7 @@ use crate::named::NamedTree;
 use nfs_command_line::invocation::Why;
 use nfs_source::description::Description;
 use nfs_source::diagnostic::Diagnostic;
+use nfs_source::fault::Fault;
 use nfs_source::output::print;
 use nfs_why::question::{BadQuestion, Question};
 use nfs_why::why::put_answer;
@@ -50,16 +51,21 @@ fn print_answer<R: Files + Input + Print + Eprint + AllocGlobal>(
     question: &Question<'_>,
 ) -> Result<ExitCode, Diagnostic> {
     let NamedTree { description, .. } = NamedTree::read(rt, alloc, words.tree())?;
-    let Description { source, loaded } = description;
+    let Description { source, loaded } = &description;
     let mut answer = Text::new(alloc);
-    let is_granted = put_answer(source.text.as_slice(), &loaded, question, &mut answer);
-    forget(loaded);
+    let is_granted = put_answer(source.text.as_slice(), loaded, question, &mut answer);
+    forget(description);
     if !words.is_quiet() {
-        print(rt, answer.into_bytes()?.as_slice())?;
+        print_text(rt, answer)?;
     }
     Ok(if is_granted {
         ExitCode::SUCCESS
     } else {
         ExitCode::FAILURE
     })
+}
+
+fn print_text<R: Print>(rt: &R, text: Text) -> Result<(), Fault> {
+    let bytes = text.into_bytes()?;
+    print(rt, bytes.as_slice())
 }
