@@ -111,8 +111,9 @@ mkdir -p "$work/small/inner"
 echo text >"$work/small/one"
 ln "$work/small/one" "$work/small/inner/two"
 ln -s one "$work/small/link"
-refused_each describe "$work/small" --mount /small --export '*=ro' --key 0102030405060708
-refused_each replay examples/e.tree examples/read.script --save "$work/left.tree" --key 0102030405060708
+refused_each describe "$work/small" --mount /small --export '*=ro' --times --key 0102030405060708
+{ cat examples/e.tree; echo 'times / 1 2.5 3+4000000000'; } >"$work/timed.tree"
+refused_each replay "$work/timed.tree" examples/read.script --save "$work/left.tree" --key 0102030405060708
 refused_each replay examples/e.tree examples/read.script --decode --names
 refused_each why examples/farm.tree 10.1.4.7 500 write /tools/bin/cc
 refused_each exports examples/farm.tree
