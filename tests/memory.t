@@ -111,6 +111,8 @@ mkdir -p "$work/small/inner"
 echo text >"$work/small/one"
 ln "$work/small/one" "$work/small/inner/two"
 ln -s one "$work/small/link"
+# A file that is read for the first time gets another atime.
+run describe "$work/small" --mount /small
 refused_each describe "$work/small" --mount /small --export '*=ro' --times --key 0102030405060708
 { cat examples/e.tree; echo 'times / 1 2.5 3+4000000000'; } >"$work/timed.tree"
 refused_each replay "$work/timed.tree" examples/read.script --save "$work/left.tree" --key 0102030405060708
