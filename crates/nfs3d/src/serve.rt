@@ -154,7 +154,8 @@ fn most_open(addresses: &[IpAddr]) -> IpAddr {
             return *address;
         }
     }
-    IpAddr::V4(Ipv4Addr::LOCALHOST)
+    let first = addresses.first().copied();
+    first.unwrap_or(IpAddr::V4(Ipv4Addr::LOCALHOST))
 }
 
 // The address that a word is; none, which is reported, where it is no address.
