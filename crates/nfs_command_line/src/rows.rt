@@ -44,6 +44,8 @@ pub(crate) enum Takes {
     TextBeside(&'static str),
     /// A text, and the option may be repeated.
     Texts,
+    /// A text, and the option may be repeated; without it this one.
+    TextsOr(&'static str),
     /// One of two texts; without it the first.
     OneOf(&'static [&'static str; 2]),
     /// A number of 64 bits.
@@ -77,6 +79,9 @@ fn arg_of<'a>(alloc: Global, row: &ArgRow) -> Result<Arg<'a>, AllocError> {
                 .help(row.help),
         ),
         Takes::Texts => Ok(option(alloc, row).action(ArgAction::Append)),
+        Takes::TextsOr(default) => Ok(option(alloc, row)
+            .action(ArgAction::Append)
+            .default_value(default)),
         Takes::TextBeside(other) => option(alloc, row).requires_arg(other),
         Takes::BetweenBeside(from, to, other) => between(alloc, row, from, to).requires_arg(other),
         other => Ok(valued(alloc, row, other)),

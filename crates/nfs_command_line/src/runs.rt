@@ -114,8 +114,8 @@ const SERVE_ARGS: [ArgRow; 23] = [
     ArgRow {
         id: "listen",
         value: "ADDRESS",
-        help: "An IPv4 or IPv6 address to listen on; may be repeated [default: 127.0.0.1]",
-        takes: Takes::Texts,
+        help: "An IPv4 or IPv6 address to listen on; may be repeated",
+        takes: Takes::TextsOr("127.0.0.1"),
     },
     ArgRow {
         id: "port",

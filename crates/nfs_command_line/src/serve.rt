@@ -37,7 +37,7 @@ impl<'a, 'w> Serve<'a, 'w> {
         TreeWords::new(self.words)
     }
 
-    /// The addresses that are listened at; none where nothing else is said than the default.
+    /// The addresses to listen on.
     pub fn listen(&self) -> &'a [&'a str]
         ensures { map (λ text. text.now) result.now ≡ texts_given self.now.words.now (codes "listen") }
     {

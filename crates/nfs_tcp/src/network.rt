@@ -27,6 +27,7 @@ pub struct TcpNetwork<'a, R> {
     events: Events,
     // Those of the events that were not handed out.
     ready: VecDeque<Ready>,
+    // The next connection is that of the first one that has any.
     listeners: Vec<TcpListener>,
 }
 
@@ -110,10 +111,13 @@ impl<R: Net + Clock + Log> Network for TcpNetwork<'_, R> {
     }
 
     fn accept(&mut self, key: usize) -> Accepted<Socket> {
-        for listener in &self.listeners {
-            match self.accept_at(listener, key) {
+        for place in 0..self.listeners.len() {
+            match self.accept_at(&self.listeners[place], key) {
                 Accepted::None => {}
-                accepted => return accepted,
+                accepted => {
+                    self.listeners.rotate_left(place + 1);
+                    return accepted;
+                }
             }
         }
         Accepted::None
