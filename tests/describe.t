@@ -44,22 +44,32 @@ awk '$1 == "hard" { twice[$3] } { line[NR] = $0 } END { for (i = 1; i <= NR; i++
     "$work/disk.tree" | sed 's/^\(file [^ ]* \)0*/\1/' | sort | same "$work/wanted" -
 ok $? "the description has the bytes that od prints"
 
-# What a description can't hold is skipped.
-mkdir "$work/odd" && mkfifo "$work/odd/pipe" && : >"$work/odd/with space" && : >"$work/odd/per%cent" && ln -s "to nowhere" "$work/odd/link" &&
+# Devices and large files are skipped. Names and links that lines can't hold as they are stand with %xx.
+mkdir "$work/odd" && mkfifo "$work/odd/pi pe" && : >"$work/odd/with space" && : >"$work/odd/per%cent" && ln -s "to nowhere" "$work/odd/link" &&
     truncate -s 536870913 "$work/odd/large" && echo fine >"$work/odd/fine"
-run describe "$work/odd" --mount /odd
-ended 0 && [ "$(grep -c '^nfs3d: skipped: ' "$work/err")" -eq 5 ] && [ "$(grep -c '^file ' "$work/out")" -eq 1 ] &&
-    grep -qx 'file /fine 0[0-7]* [0-9]* [0-9]* 66696e650a' "$work/out" && [ "$(grep -vc '^\(server\|volume\|file\) ' "$work/out")" -eq 0 ]
-ok $? "describe skips what a description can't hold, with a warning"
+run describe "$work/odd" --mount /odd --key 0102030405060708
+ended 0 && [ "$(grep -c '^nfs3d: skipped: ' "$work/err")" -eq 2 ]
+ok $? "describe skips what is no file and what is too large, with a warning"
+id="$(id -u) $(id -g)"
+sed 's/ [0-9]* [0-9]* 0[0-7]* [0-9]* [0-9]*$//' "$work/out" | head -n 3 >"$work/got"
+sed '1,3d; s/ 0[0-7][0-7][0-7] / /' "$work/out" >>"$work/got"
+cat >"$work/wanted" <<END
+server 0102030405060708
+names percent
+volume /odd
+file /fine $id 66696e650a
+link /link $id to%20nowhere
+file /per%25cent $id -
+file /with%20space $id -
+END
+same "$work/wanted" "$work/got"
+ok $? "names and links are written with %xx where one of them needs it"
 grep -qx "nfs3d: skipped: $work/odd/large: more than 536870912 bytes" "$work/err"
 ok $? "the warning of a file that is too large"
-grep -qx "nfs3d: skipped: $work/odd/with%20space: a description can't hold the name, or the path is too long" "$work/err" &&
-    grep -qx "nfs3d: skipped: $work/odd/per%25cent: a description can't hold the name, or the path is too long" "$work/err"
-ok $? "names in warnings have %xx for the bytes that a description can't hold"
+grep -qx "nfs3d: skipped: $work/odd/pi%20pe: a device, a socket or a pipe" "$work/err"
+ok $? "names in warnings have %xx for bytes outside ! to ~"
 grep '^nfs3d: skipped in all: ' "$work/err" | sort >"$work/counts"
-printf '%s\n' "nfs3d: skipped in all: 1: a description can't hold what the link holds" "nfs3d: skipped in all: 1: a device, a socket or a pipe" \
-    "nfs3d: skipped in all: 1: more than 536870912 bytes" "nfs3d: skipped in all: 2: a description can't hold the name, or the path is too long" |
-    same "$work/counts" -
+printf '%s\n' "nfs3d: skipped in all: 1: a device, a socket or a pipe" "nfs3d: skipped in all: 1: more than 536870912 bytes" | same "$work/counts" -
 ok $? "what was skipped is counted for each reason"
 run describe "$work/odd" --mount /odd --strict
 ended 1 && [ -s "$work/out" ]
@@ -87,10 +97,10 @@ run describe "$work/wide" --mount /wide --key 6e66733364000001
 [ -s "$work/out" ] && same "$work/wide.tree" "$work/out"
 ok $? "it is described the same again"
 run describe "$work/odd" --mount /odd --files 2000000 --key 6e66733364000001
-ended 0 && [ "$(sed -n 2p "$work/out")" = "limits files=2000000" ] && sed -n 3p "$work/out" | grep -q '^volume /odd 1000000000 2000000 '
+ended 0 && [ "$(sed -n 2,3p "$work/out" | paste -s -d ';')" = "limits files=2000000;names percent" ] && sed -n 4p "$work/out" | grep -q '^volume /odd 1000000000 2000000 '
 ok $? "describe --files above the default"
 run describe "$work/odd"
-[ "$(sed -n 2p "$work/out" | cut -d ' ' -f 1-2)" = "volume /odd" ] && ended 0
+[ "$(sed -n 3p "$work/out" | cut -d ' ' -f 1-2)" = "volume /odd" ] && ended 0
 ok $? "describe without --mount takes the directory's name"
 run describe "$work/none" --mount /odd
 echo "nfs3d: cannot read $work/none: No such file or directory (os error 2)" >"$work/wanted"

@@ -23,7 +23,7 @@ run check "$work/described"
 same "$work/totals" "$work/out"
 ok $? "check of a directory prints what check of its description prints"
 
-# What a description can't hold.
+# What lines can't hold as it is.
 mkdir "$work/odd" && cd "$work/odd" && echo one >"my notes.txt" && echo three >Köln && echo 100 >100% && ln -s "to nowhere" link &&
     mkdir many && (cd many && seq 1100 | xargs mkdir) && truncate -s 1G hole && printf end >>hole && head -c 40000000 /dev/zero | tr '\0' x >large &&
     chmod 4711 100% && touch -d '2001-02-03 04:05:06.789 UTC' 100% && touch -d '2002-03-04 05:06:07 UTC' many
@@ -34,6 +34,22 @@ cd "$top" || exit 1
 )
 says "ok volumes=1 files=$(find "$work/odd" | grep -c .) bytes=$(find "$work/odd" -type f -printf '%s\n' | awk '{ all += $1 } END { printf "%d", all }')"
 ok $? "a directory with 1,100 subdirectories, a large file, a hole that takes no memory, and odd names"
+# named DIRECTORY: files, links and directories below it, of names that lines can't hold as they are.
+named() {
+    mkdir -p "$1/sub dir" && echo one >"$1/sub dir/my notes.txt" && echo two >"$1/$(printf 'line\nend')" && echo three >"$1/Köln" &&
+        ln -s "to nowhere" "$1/link" && ln "$1/Köln" "$1/100%" && deep=$1 && for at in 1 2 3 4 5; do
+        deep=$deep/$(printf '%0255d' "$at") && mkdir "$deep" || return
+    done
+}
+named "$work/named"
+run describe "$work/named" --mount /share # which sets the times of reading
+run describe "$work/named" --mount /share --export '*' --times --key 6e66733364000001
+ended 0 && quiet && mv "$work/out" "$work/named.tree" && run replay "$work/named" examples/null.script --mount /share --export '*' --save "$work/saved" --key 6e66733364000001
+ended 0 && quiet && same "$work/named.tree" "$work/saved" && [ "$(sed -n 2p "$work/saved")" = "names percent" ]
+ok $? "a directory with odd names and a path of 1,280 bytes: what describe --times prints is what is saved of it"
+run extract "$work/named.tree" "$work/renamed"
+ended 0 && quiet && diff -r --no-dereference "$work/named" "$work/renamed" >"$work/difference"
+ok $? "its description is the directory again, by extract"
 echo show >"$work/show"
 run replay "$work/odd" "$work/show" --mount /share --export '*'
 tests/describe/paths "$work/out" | sed -n 's/^1\(\/[^ ]*\) \(file\|link\) \(.*\)/\1 \3/p' | sort >"$work/shown"

@@ -1,5 +1,5 @@
 #!/bin/sh
-# Trees that are saved (`--save`), by `replay` and by `serve`: what is saved, what is skipped, and when nothing is written.
+# Trees that are saved (`--save`), by `replay` and by `serve`: what is saved, and when nothing is written.
 # shellcheck source=tests/lib.sh
 . "$(dirname "$0")/lib.sh"
 
@@ -19,7 +19,7 @@ done
 tests/describe/new-keys "$work/disk.tree" "$work/keyed1" "$work/keyed2"
 ok $? "--save without --key gives a new key each time, and else the same"
 
-# Names and links that a description can't hold are skipped, with all that is below them; everything else is saved.
+# Names and links that lines can't hold as they are make the description say names with %xx, and nothing is skipped.
 cat >"$work/odd.tree" <<END
 server 0102030405060708
 volume /v 100000 100 0777 0 0
@@ -48,23 +48,41 @@ sattr="00000001 000001ff 00000000 00000000 00000000 00000000 00000000"
     sent 5 10 "$(handle 2) $(opaque good) $sattr $(opaque keep)"
     sent 6 15 "$(handle 3) $(handle 1) $(opaque 'a b')"
     sent 7 14 "$(handle 1) $(opaque sub) $(handle 1) $(opaque 'su b')"
+    sent 8 10 "$(handle 2) $(opaque empty) $sattr 00000000"
 } >"$work/calls"
 {
-    for path in /v/with%20space /v/per%25cent /v/%c3%a9 /v/a%20b /v/su%20b; do
-        echo "nfs3d: warning: $work/saved: skipped $path: a description can't hold this name; rename it and save again"
-    done
-    echo "nfs3d: warning: $work/saved: skipped the link /v/d/link: a description can't hold its target; make the link again and save again"
-} | sort >"$work/skipped"
-{
     echo "server 00112233445566ff"
-    sed -n '2,5p' "$work/odd.tree"
-    echo "link /d/good 0 0 keep"
-    printf 'times %s\n' '/ 0 1 1' '/d 0 1 1' '/d/keep 0 0 1' '/d/good 1 1 1'
+    echo "names percent"
+    sed -n '2,4p' "$work/odd.tree"
+    cat <<END
+file /with%20space 0777 0 0 -
+file /per%25cent 0777 0 0 -
+file /%c3%a9 0777 0 0 -
+file /a%20b 0644 0 0 6869
+dir /su%20b 0777 0 0
+hard /d/keep /a%20b
+link /d/link 0 0 to%20nowhere
+link /d/good 0 0 keep
+link /d/empty 0 0 %
+file /su%20b/x 0644 0 0 -
+times / 0 1 1
+times /d 0 1 1
+times /with%20space 1 1 1
+times /per%25cent 1 1 1
+times /%c3%a9 1 1 1
+times /a%20b 0 0 1
+times /su%20b 0 0 1
+times /d/link 1 1 1
+times /d/good 1 1 1
+times /d/empty 1 1 1
+END
 } >"$work/wanted"
 run replay "$work/odd.tree" "$work/calls" --save "$work/saved" --key 00112233445566ff
-ended 1 && [ "$(grep -c '^reply ' "$work/out")" -eq 7 ] && ! grep -q '^deny ' "$work/out" &&
-    sort "$work/err" | same "$work/skipped" - && same "$work/wanted" "$work/saved" && [ ! -e "$work/saved.part" ]
-ok $? "--save skips what a description can't hold, with a warning; everything else is saved"
+ended 0 && quiet && [ "$(grep -c '^reply ' "$work/out")" -eq 8 ] && ! grep -q '^deny ' "$work/out" && same "$work/wanted" "$work/saved" && [ ! -e "$work/saved.part" ]
+ok $? "--save writes names with %xx where lines can't hold them as they are"
+run replay "$work/saved" "$work/nothing" --save "$work/twice" --key 00112233445566ff
+ended 0 && same "$work/saved" "$work/twice"
+ok $? "such a description loads, and is saved as the same text"
 
 # A tree that calls have changed, saved and loaded, is that tree, whatever its numbers are.
 for script in examples/*.script tests/scripts/procedure-*.script; do
@@ -75,12 +93,6 @@ for script in examples/*.script tests/scripts/procedure-*.script; do
     { cat "$script"; echo; echo "# the end"; cat "$work/show"; } >"$work/calls"
     rm -f "$work/saved"
     run replay "$tree" "$work/calls" --save "$work/saved"
-    if ended 1; then
-        [ -s "$work/err" ] && ! grep -qv "^nfs3d: warning: $work/saved: skipped .*/.*: a description can't hold" "$work/err" && run check "$work/saved" &&
-            ended 0
-        ok $? "the tree that $script leaves is saved as far as a description can hold it"
-        continue
-    fi
     : >"$work/listing"
     awk '/^(dir|file|link) 1 / { all = "" } /^(dir|file|link) |^ / { all = all $0 "\n" } END { printf "%s", all }' "$work/out" >"$work/listing"
     tests/describe/paths "$work/listing" | sed 's/ link mode=0[0-7]*/ link/' | sort >"$work/wanted"

@@ -119,7 +119,8 @@ where
     if let Some(registration) = registration {
         registration.remove(rt);
     }
-    copies.save_last(rt, alloc, server, done)
+    copies.save_last(rt, alloc, server, done)?;
+    Ok(ExitCode::SUCCESS)
 }
 
 // The addresses that are listened at; none, which is reported, where a word is faulty.
@@ -140,9 +141,6 @@ fn addresses_of<R: Eprint>(
             return Ok(None);
         };
         addresses.push(address)?;
-    }
-    if addresses.is_empty() {
-        addresses.push(IpAddr::V4(Ipv4Addr::LOCALHOST))?;
     }
     Ok(Some(addresses))
 }

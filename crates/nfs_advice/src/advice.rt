@@ -10,6 +10,7 @@ use crate::keys::KeyReason;
 use crate::keywords::KeywordReason;
 use crate::limit_fields::LimitFieldReason;
 use crate::limits::LimitReason;
+use crate::name_forms::NameFormReason;
 use crate::numbers::NumberReason;
 use crate::options::OptionReason;
 use crate::order::OrderReason;
@@ -64,6 +65,8 @@ pub enum AdviceReason {
     Limit(LimitReason),
     /// A field that sets a limit.
     LimitField(LimitFieldReason),
+    /// A form of names.
+    NameForm(NameFormReason),
     /// A line of a script.
     Script(ScriptReason),
     /// A word that is in order, and may not be meant.
@@ -137,6 +140,7 @@ impl fmt::Display for AdviceReason {
             AdviceReason::Earlier(reason) => f.write_str(reason.text()),
             AdviceReason::Limit(reason) => reason.fmt(f),
             AdviceReason::LimitField(reason) => f.write_str(reason.text()),
+            AdviceReason::NameForm(reason) => f.write_str(reason.text()),
             AdviceReason::Script(reason) => f.write_str(reason.text()),
             AdviceReason::Warning(reason) => reason.fmt(f),
         }

@@ -4,7 +4,9 @@ ghost use Rattle.std.specs.Prelude.{◌≡◌};
 use crate::advice::{Advice, AdviceReason};
 use crate::grouped::write_between;
 use crate::limit_fields::limits_above;
+use crate::name_forms::{LONE_PERCENT, has_lone_percent, names_above};
 use crate::span::Span;
+use nfs_load::name_form::NameForm;
 use std::fmt;
 
 /// Why a word is no content.
@@ -22,6 +24,8 @@ pub enum ContentReason {
     Long(u64),
     /// A link is given more bytes than one may hold: so many.
     LongTarget(u64),
+    /// What a link is given has a `%` that stands for nothing.
+    LonePercent,
 }
 
 impl fmt::Display for ContentReason {
@@ -45,6 +49,7 @@ impl fmt::Display for ContentReason {
             ContentReason::LongTarget(most) => {
                 write_between(f, "is too long; a link holds at most ", *most, " bytes")
             }
+            ContentReason::LonePercent => f.write_str(LONE_PERCENT),
         }
     }
 }
@@ -54,12 +59,7 @@ pub(crate) fn bad_content<'a>(text: &[u8], number: u64, line: Span<'a>) -> Advic
     ensures { result.span.line.now ≡ line.entry.line.now }
 {
     if line.word(0).unwrap_or(line).bytes() == b"link".as_slice() {
-        let target = line.word(4).unwrap_or(line);
-        let most = limits_above(text, number).link_path as u64;
-        return Advice::new(
-            target,
-            AdviceReason::Content(ContentReason::LongTarget(most)),
-        );
+        return bad_target(text, number, line);
     }
     let word = line.word(5).unwrap_or(line);
     let digits = word.bytes();
@@ -79,6 +79,18 @@ pub(crate) fn bad_content<'a>(text: &[u8], number: u64, line: Span<'a>) -> Advic
         ContentReason::Odd
     } else {
         ContentReason::Long(limits_above(text, number).file_size as u64)
+    };
+    Advice::new(word, AdviceReason::Content(reason))
+}
+
+// What a line gives a link to hold, which is too long or can't be read.
+fn bad_target<'a>(text: &[u8], number: u64, line: Span<'a>) -> Advice<'a>
+    ensures { result.span.line.now ≡ line.entry.line.now }
+{
+    let word = line.word(4).unwrap_or(line);
+    let reason = match names_above(text, number) {
+        NameForm::Percent if has_lone_percent(word.bytes()) => ContentReason::LonePercent,
+        _ => ContentReason::LongTarget(limits_above(text, number).link_path as u64),
     };
     Advice::new(word, AdviceReason::Content(reason))
 }

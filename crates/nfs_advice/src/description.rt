@@ -12,6 +12,7 @@ use crate::keys::bad_key;
 use crate::keywords::unknown_word;
 use crate::limit_fields::bad_limit;
 use crate::limits::full;
+use crate::name_forms::{bad_names, names_above};
 use crate::numbers::bad_number;
 use crate::options::bad_options;
 use crate::order::out_of_order;
@@ -20,6 +21,7 @@ use crate::patterns::bad_pattern;
 use crate::span::Span;
 use nfs_load::cause::Cause;
 use nfs_load::fields::Fields;
+use nfs_load::name_form::NameForm;
 use nfs_text::lines::Lines;
 use nfs_text::words::Words;
 
@@ -29,21 +31,25 @@ pub fn advise(text: &[u8], number: u64, cause: Cause) -> Advice<'_>
     ensures { result.span.line.now ≡ line_numbered number (lines text.entry.now) }
 {
     let line = line_at(text, number);
-    let above = Above::new(text, number);
+    let names = names_above(text, number);
+    let above = Above::new(text, number, names);
     match cause {
         Cause::BadByte => bad_byte(line),
         Cause::UnknownWord => unknown_word(line),
         Cause::FieldCount => field_count(line),
-        Cause::NoServer | Cause::ServerTwice | Cause::NoVolume | Cause::LimitsLate => {
-            out_of_order(text, line, cause)
-        }
+        Cause::NoServer
+        | Cause::ServerTwice
+        | Cause::NoVolume
+        | Cause::LimitsLate
+        | Cause::NamesLate => out_of_order(text, line, cause),
         Cause::BadKey => bad_key(line),
         Cause::BadLimit => bad_limit(text, number, line),
+        Cause::BadNames => bad_names(text, number, line),
         Cause::BadVolumePath => bad_volume_path(line),
         Cause::BadNumber => bad_number(text, number, line),
         Cause::BadPattern => bad_pattern(line),
         Cause::BadOptions => bad_options(line),
-        Cause::BadPath => bad_path(bad_path_of(line)),
+        Cause::BadPath => bad_path(bad_path_of(line, names), names),
         Cause::BadContent => bad_content(text, number, line),
         Cause::VolumeTwice => volume_twice(above, line),
         Cause::NoParent => no_parent(above, line),
@@ -69,14 +75,14 @@ pub(crate) fn line_at(text: &[u8], number: u64) -> Span<'_>
 }
 
 // The first field that is no path, of those that have to be one.
-fn bad_path_of(line: Span<'_>) -> Span<'_>
+fn bad_path_of(line: Span<'_>, names: NameForm) -> Span<'_>
     ensures { result.line.now ≡ line.entry.line.now }
 {
     let path = line.word(1).unwrap_or(line);
     if line.word(0).unwrap_or(line).bytes() == b"times".as_slice() {
         return path;
     }
-    if Fields::new(Words::new(path.bytes())).path().is_err() {
+    if Fields::new(Words::new(path.bytes())).path(names).is_err() {
         return path;
     }
     line.word(2).unwrap_or(path)

@@ -2,7 +2,9 @@
 ghost use Rattle.std.specs.Prelude.{◌≡◌, IfSome};
 
 use crate::advice::{Advice, AdviceReason, Remedy};
+use crate::name_forms::is_same_path;
 use crate::span::Span;
+use nfs_load::name_form::NameForm;
 use nfs_text::lines::Lines;
 
 /// What a line above has made, or hasn't.
@@ -46,11 +48,12 @@ impl EarlierReason {
 // What the lines begin with that make a file or a name.
 const MAKERS: [&[u8]; 4] = [b"dir", b"file", b"link", b"hard"];
 
-/// The lines of a text above one of them.
+/// The lines of a text above one of them, and how they write names.
 #[derive(Clone, Copy)]
 pub struct Above<'a> {
     text: &'a [u8],
     number: u64,
+    names: NameForm,
 }
 
 /// A line that makes something: its number, and its first word.
@@ -61,9 +64,13 @@ pub struct Maker<'a> {
 }
 
 impl<'a> Above<'a> {
-    /// The lines above the one of this number.
-    pub(crate) fn new(text: &'a [u8], number: u64) -> Above<'a> {
-        Above { text, number }
+    /// The lines above the one of this number, which write names in this form.
+    pub(crate) fn new(text: &'a [u8], number: u64, names: NameForm) -> Above<'a> {
+        Above {
+            text,
+            number,
+            names,
+        }
     }
 
     /// The line that makes a path in the last volume. `None` where none does.
@@ -78,7 +85,7 @@ impl<'a> Above<'a> {
             let keyword = first_word(line);
             if keyword == b"volume".as_slice() {
                 found = None;
-            } else if makes_file(keyword) && second_word(line) == path {
+            } else if makes_file(keyword) && is_same_path(second_word(line), path, self.names) {
                 found = Some(Maker { number, keyword });
             }
         }

@@ -14,7 +14,7 @@ use std::alloc::{AllocError, Global};
 const MOST: u32 = 100;
 
 // The lines after which nothing is reported where they are faulty.
-const ENDING: [&[u8]; 2] = [b"server", b"limits"];
+const ENDING: [&[u8]; 3] = [b"server", b"limits", b"names"];
 
 /// A faulty line.
 #[derive(Clone, Copy)]
@@ -36,7 +36,7 @@ pub struct Faults {
 
 /// The faulty lines of a text, if it has one: the first, and of those after it each that is faulty
 /// whatever the faulty ones before it should have said. So nothing is reported after a faulty line of the
-/// server or of limits, nor after one of a volume up to the next volume; and what should have been there,
+/// server, of limits or of names, nor after one of a volume up to the next volume; and what should have been there,
 /// and isn't, is reported of the first faulty line alone. At most 100 are looked at. Refused without memory.
 pub fn every_fault(alloc: Global, text: &[u8]) -> Result<Option<Faults>, AllocError>
     ensures first { IfOk result (HasFirst text.now) }

@@ -43,6 +43,8 @@ pub enum Field {
     LinkPath,
     /// The files that any volume may have.
     MostFiles,
+    /// How names are written.
+    Form,
 }
 
 impl Field {
@@ -68,6 +70,7 @@ impl Field {
             Field::Links => "links=N",
             Field::LinkPath => "link-path=N",
             Field::MostFiles => "files=N",
+            Field::Form => "FORM",
         }
     }
 }
@@ -81,6 +84,8 @@ const LIMITS: [Field; 4] = [
     Field::LinkPath,
     Field::MostFiles,
 ];
+
+const NAMES: [Field; 1] = [Field::Form];
 
 const VOLUME: [Field; 6] = [
     Field::VolumePath,
@@ -110,9 +115,10 @@ const HARD: [Field; 2] = [Field::Path, Field::Old];
 const TIMES: [Field; 4] = [Field::Path, Field::Atime, Field::Mtime, Field::Ctime];
 
 // The words that lines begin with.
-const KEYWORDS: [(&[u8], &[Field]); 9] = [
+const KEYWORDS: [(&[u8], &[Field]); 10] = [
     (b"server", &SERVER),
     (b"limits", &LIMITS),
+    (b"names", &NAMES),
     (b"volume", &VOLUME),
     (b"export", &EXPORT),
     (b"dir", &DIR),

@@ -35,15 +35,16 @@ impl KeywordReason {
             }
             KeywordReason::Malformed => "is not a keyword",
             KeywordReason::Unknown => {
-                "is not a keyword; the keywords are server, limits, volume, export, dir, file, link, hard and times"
+                "is not a keyword; the keywords are server, limits, names, volume, export, dir, file, link, hard and times"
             }
         }
     }
 }
 
 // The keywords.
-const KEYWORDS: [&[u8]; 9] = [
-    b"server", b"limits", b"volume", b"export", b"dir", b"file", b"link", b"hard", b"times",
+const KEYWORDS: [&[u8]; 10] = [
+    b"server", b"limits", b"names", b"volume", b"export", b"dir", b"file", b"link", b"hard",
+    b"times",
 ];
 
 /// The first word of a line, which is no keyword.

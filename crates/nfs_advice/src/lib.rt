@@ -16,6 +16,7 @@ pub mod keywords;
 pub mod limit_fields;
 pub mod limits;
 mod line_kind;
+pub mod name_forms;
 pub mod nearest;
 pub mod numbers;
 pub mod options;

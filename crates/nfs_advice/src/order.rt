@@ -19,8 +19,10 @@ pub enum OrderReason {
     BeforeVolume,
     /// The text has no volume's line.
     NoVolume,
-    /// A volume's line stands above.
-    AfterVolume,
+    /// A volume's line stands above one of limits.
+    LimitsAfterVolume,
+    /// A volume's line stands above one of names.
+    NamesAfterVolume,
 }
 
 impl OrderReason {
@@ -40,8 +42,12 @@ impl OrderReason {
             OrderReason::NoVolume => {
                 "the text has no volume; write volume PATH BYTES FILES MODE UID GID"
             }
-            OrderReason::AfterVolume =>
-                "stands after a volume; write limits before the first volume",
+            OrderReason::LimitsAfterVolume => {
+                "stands after a volume; write limits before the first volume"
+            }
+            OrderReason::NamesAfterVolume => {
+                "stands after a volume; write names before the first volume"
+            }
         }
     }
 }
@@ -61,7 +67,11 @@ pub(crate) fn out_of_order<'a>(text: &'a [u8], line: Span<'a>, cause: Cause) -> 
         (None, Cause::NoVolume) => Advice::new(line, AdviceReason::Order(OrderReason::NoVolume)),
         (Some(word), Cause::LimitsLate) => Advice::new(
             word,
-            AdviceReason::Order(OrderReason::AfterVolume),
+            AdviceReason::Order(OrderReason::LimitsAfterVolume),
+        ).with(Remedy::Line(first_line_of(text, b"volume"))),
+        (Some(word), Cause::NamesLate) => Advice::new(
+            word,
+            AdviceReason::Order(OrderReason::NamesAfterVolume),
         ).with(Remedy::Line(first_line_of(text, b"volume"))),
         (word, _) => Advice::new(
             word.unwrap_or(line),

@@ -8,7 +8,6 @@ use nfs_content::pages::Pages;
 use nfs_handles::number::Number;
 use nfs_inodes::new_file::{NewContent, NewFile};
 use nfs_inodes::tree::Tree;
-use nfs_load::loaded::Loaded;
 use nfs_server::server::Server;
 use std::alloc::{AllocError, Global};
 use std::io;
@@ -74,18 +73,18 @@ pub(crate) const TARGET: Target = Target {
 
 /// A server of the description, with a file of 128 KiB in `/pub`.
 pub(crate) fn served(alloc: Global) -> io::Result<Server> {
-    let Loaded { mut tree, table } = loaded(alloc, EXAMPLE)?;
+    let mut loaded = loaded(alloc, EXAMPLE)?;
     let mut bytes = Vec::new(alloc);
     bytes.resize(MAX_DATA_BYTES, 7)?;
-    make(&mut tree, bytes)?;
-    Ok(Server::new(alloc, Loaded { tree, table }, 128)?)
+    make(&mut loaded.tree, bytes)?;
+    Ok(Server::new(alloc, loaded, 128)?)
 }
 
 /// A server of so many directories of so many files of five bytes each.
 pub(crate) fn served_many(alloc: Global, dirs: u32, files: u32) -> io::Result<Server> {
-    let Loaded { mut tree, table } = loaded(alloc, ROOM)?;
-    grow(&mut tree, dirs, files, 0, b"hello")?;
-    Ok(Server::new(alloc, Loaded { tree, table }, 128)?)
+    let mut loaded = loaded(alloc, ROOM)?;
+    grow(&mut loaded.tree, dirs, files, 0, b"hello")?;
+    Ok(Server::new(alloc, loaded, 128)?)
 }
 
 fn make(tree: &mut Tree, bytes: Vec<u8>) -> Result<(), AllocError> {

@@ -1,8 +1,9 @@
 -- What is saved of a server, and in the place of what.
-use Rattle.std.specs.Prelude.{◌≡◌, ◌⊎◌, ℕ, zero, suc, List, [], ◌∷◌, length, Option, Some, None, ⊤, ◌==◌, if◌then◌else◌}
-use Rattle.std.specs.Borrow.{Bor}
-use Rattle.nfs_describe.specs.Places.{Skipped}
-use Rattle.nfs_describe.specs.Texts.{SaysSayable}
+use Rattle.std.specs.Prelude.{◌≡◌, ◌⊎◌, ℕ, List, [], ◌∷◌, Option, Some, None, ⊤, ◌==◌, if◌then◌else◌}
+use Rattle.nfs_commands.specs.declared.saving.Saved.{Saved}
+use Rattle.nfs_commands.specs.declared.saving.Saved.TheVariants.{Written, Unchanged}
+use Rattle.nfs_describe.specs.Texts.{Says}
+use Rattle.nfs_inodes.specs.Changes.{with_key}
 use Rattle.nfs_server.specs.Fits.{Held}
 use Rattle.sha2.specs.Sha256.{sha256}
 
@@ -13,11 +14,11 @@ abbrev pub IsKey : Option (List ℕ) → List ℕ → Type 0
 IsKey None key = ⊤
 IsKey (Some given) key = key ≡ given
 
--- A text describes, under the key that is given or a new one, all of a server's tree that a description has words for, with its exports.
-pub record IsDescription (given : Option (List ℕ)) (server : Held) (skipped : List Skipped) (text : List ℕ) : Type 0 where
+-- A text describes a server's tree with its exports, under the key that is given or a new one.
+pub record IsDescription (given : Option (List ℕ)) (server : Held) (text : List ℕ) : Type 0 where
   pub key : List ℕ
   pub key_is : IsKey given key
-  pub says : SaysSayable server.state.tree server.setup.exports key skipped text
+  pub says : Says (with_key server.state.tree key) server.setup.exports text
 
 -- what stands after the first line, which has the key, from its LF on
 abbrev pub after_key : List ℕ → List ℕ
@@ -26,23 +27,6 @@ after_key (byte ∷ rest) = if byte == 10 then byte ∷ rest else after_key rest
 
 abbrev pub digest_of : List ℕ → List ℕ
 digest_of text = sha256 (after_key text)
-
--- as much is skipped as the description of a server's tree skips
-pub record Skips (given : Option (List ℕ)) (server : Held) (count : ℕ) : Type 0 where
-  pub text : List ℕ
-  pub skipped : List Skipped
-  pub describes : IsDescription given server skipped text
-  pub counted : count ≡ length skipped
-
--- 0 where nothing is skipped
-abbrev pub status_for : ℕ → ℕ
-status_for zero = 0
-status_for (suc n) = 1
-
--- the status of a tree that was saved under a name, if it was to be
-abbrev pub IsStatus : Option (Bor (List ℕ)) → Option (List ℕ) → Held → ℕ → Type 0
-IsStatus None given server status = status ≡ 0
-IsStatus (Some name) given server status = (count : ℕ) × Skips given server count × (status ≡ status_for count)
 
 -- ---- the file
 
@@ -56,18 +40,15 @@ MayReplace old text new = (before : List ℕ) → old ≡ Some before → (new �
 
 -- ---- a server's tree in it
 
--- The description of a server's tree has the name, which skips so much.
-pub record IsSaved (given : Option (List ℕ)) (server : Held) (count : ℕ) (text : List ℕ) (old new : Option (List ℕ)) : Type 0 where
-  pub skipped : List Skipped
-  pub describes : IsDescription given server skipped text
-  pub counted : count ≡ length skipped
+-- The description of a server's tree has the name.
+pub record IsSaved (given : Option (List ℕ)) (server : Held) (text : List ℕ) (old new : Option (List ℕ)) : Type 0 where
+  pub describes : IsDescription given server text
   pub replaces : Replaces old text new
 
 -- The description of a server's tree may have the name.
 pub record WasTried (given : Option (List ℕ)) (server : Held) (old new : Option (List ℕ)) : Type 0 where
   pub text : List ℕ
-  pub skipped : List Skipped
-  pub describes : IsDescription given server skipped text
+  pub describes : IsDescription given server text
   pub replaces : MayReplace old text new
 
 -- nothing was written, or a step was refused
@@ -77,6 +58,10 @@ IsRefused given server old new = (new ≡ old) ⊎ WasTried given server old new
 -- The digest is that of the description of a server's tree, whatever its key is.
 pub record IsDigest (given : Option (List ℕ)) (server : Held) (digest : Option (List ℕ)) : Type 0 where
   pub text : List ℕ
-  pub skipped : List Skipped
-  pub describes : IsDescription given server skipped text
+  pub describes : IsDescription given server text
   pub digest_is : digest ≡ Some (digest_of text)
+
+-- the description has the name, and its digest is kept; or the tree is described as it was, and nothing has changed
+abbrev pub IsDone : Saved → Option (List ℕ) → Held → Option (List ℕ) → Option (List ℕ) → Option (List ℕ) → Option (List ℕ) → Type 0
+IsDone Written given server old_digest digest old new = (text : List ℕ) × IsSaved given server text old new × (digest ≡ Some (digest_of text))
+IsDone Unchanged given server old_digest digest old new = IsDigest given server old_digest × (digest ≡ old_digest) × (new ≡ old)

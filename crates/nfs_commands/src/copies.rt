@@ -1,7 +1,6 @@
 //! Where and when the tree of a server is saved.
-ghost use Rattle.std.specs.Prelude.{◌≡◌, ◌⊎◌, IfOk, IsErr};
-ghost use Rattle.std.specs.Process.{exit_status};
-ghost use Rattle.nfs_commands.specs.Saving.{IsDigest, IsStatus};
+ghost use Rattle.std.specs.Prelude.{◌≡◌, ◌⊎◌, IsErr};
+ghost use Rattle.nfs_commands.specs.Saving.{IsDigest};
 
 use crate::key::{KEY_BYTES, given_key};
 use crate::saved_file::try_place;
@@ -12,7 +11,6 @@ use nfs_source::diagnostic::Diagnostic;
 use nfs_source::fault::Fault;
 use std::alloc::Global;
 use std::io;
-use std::process::ExitCode;
 use std::random::RandomSource;
 use std::rt::Files;
 use std::time::{Clock, Duration, Instant};
@@ -48,23 +46,21 @@ impl<'a> Copies<'a> {
         })
     }
 
-    /// Saves the tree at the end of a service that had begun, also where a fault ended it, which is then
-    /// reported. Warns of what is skipped, and the status is 1 then. The fault of the service, or else that
-    /// of `save`; where there are both, that of `save` is reported first.
+    /// Saves the tree at the end of a service that had begun, also where a fault ended it. The fault of the
+    /// service, or else that of `save`; where there are both, that of `save` is reported first.
     pub fn save_last<R: Files + RandomSource + Eprint>(
         &self,
         rt: &R,
         alloc: Global,
         server: &Server,
         served: Result<(), Fault>,
-    ) -> Result<ExitCode, Diagnostic>
-        ensures served { IsErr served → IsErr result }
-        ensures saved { IfOk result (λ code. IsStatus self.now.name self.now.key server.now (exit_status code)) }
+    ) -> Result<(), Diagnostic>
+        ensures { IsErr served → IsErr result }
     {
         let saved = self.save_now(rt, alloc, server);
         match (served, saved) {
             (Ok(()), saved) => saved,
-            (Err(fault), Ok(_)) => Err(fault.into()),
+            (Err(fault), Ok(())) => Err(fault.into()),
             (Err(fault), Err(unsaved)) => {
                 unsaved.report(rt);
                 Err(fault.into())
@@ -73,22 +69,17 @@ impl<'a> Copies<'a> {
     }
 
     // Saves the tree, if it is to be.
-    fn save_now<R: Files + RandomSource + Eprint>(
+    fn save_now<R: Files + RandomSource>(
         &self,
         rt: &R,
         alloc: Global,
         server: &Server,
-    ) -> Result<ExitCode, Diagnostic>
-        ensures { IfOk result (λ code. IsStatus self.now.name self.now.key server.now (exit_status code)) }
-    {
+    ) -> Result<(), Diagnostic> {
         let Some(name) = self.name else {
-            return Ok(ExitCode::SUCCESS);
+            return Ok(());
         };
         match save(rt, alloc, name, server, self.key) {
-            Ok(saved) => {
-                saved.warn(rt, name);
-                Ok(saved.status())
-            }
+            Ok(()) => Ok(()),
             Err(fault) => Err(Diagnostic::of_saving(alloc, fault)),
         }
     }
@@ -117,8 +108,8 @@ pub struct CopySaver<'a, R> {
 }
 
 impl<R: Files + RandomSource + Clock + Log> CopySaver<'_, R> {
-    /// Saves the tree, and logs how long it took. A fault, and what is skipped, is a warning. A tree that is
-    /// as it was saved last is not saved again.
+    /// Saves the tree, and logs how long it took. A fault is a warning. A tree that is as it was saved last is
+    /// not saved again.
     pub fn save(&mut self, server: &Server)
         ensures { (self.new.saved ≡ self.old.saved) ⊎ IsDigest self.old.key server.now self.new.saved }
     {
@@ -136,16 +127,11 @@ fn log_saved<R: Clock + Log>(
     rt: &R,
     name: &str,
     began: io::Result<Instant>,
-    done: Result<Option<Saved>, Fault>,
+    done: Result<Saved, Fault>,
 ) {
     match done {
-        Ok(Some(saved)) => {
-            for unsaid in &saved.skipped {
-                warn!(rt; "{name}: {unsaid}");
-            }
-            log_time(rt, name, began);
-        }
-        Ok(None) => {}
+        Ok(Saved::Written) => log_time(rt, name, began),
+        Ok(Saved::Unchanged) => {}
         Err(fault) => warn!(rt; "{fault}"),
     }
 }

@@ -18,7 +18,7 @@ use std::rt::Files;
 
 /// Prints the description of the directory that the words name. What is skipped of it is reported on
 /// standard error. `CannotRead` where there is no such directory, or the system has no key, `Sharing` where
-/// a word is faulty, `Undescribed` where a description can't hold it, `Write` and `Closed` where the output
+/// a word is faulty, `Undescribed` where the description is too long, `Write` and `Closed` where the output
 /// fails, `Memory`.
 pub fn describe_directory<R: Files + Print + Eprint + RandomSource + AllocGlobal>(
     rt: &R,
@@ -55,7 +55,8 @@ fn print_shared<R: Print>(
     words: Describe<'_, '_>,
     shared: &SharedDirectory,
 ) -> Result<ExitCode, Fault> {
-    match describe(alloc, &shared.loaded.tree, &shared.loaded.table) {
+    let loaded = &shared.loaded;
+    match describe(alloc, &loaded.tree, &loaded.table, loaded.tree.key()) {
         Ok(text) => {
             print(rt, text.as_slice())?;
             Ok(status_of(words, &shared.survey))

@@ -23,8 +23,7 @@ use std::rt::Files;
 const RUN_BYTES: usize = 65_536;
 
 /// Runs a script over a description, and saves the tree as it then is where the words ask for it. The
-/// status is 1 where a description can't hold all of it. The faults of `Copies::of`, `NamedTree::read`
-/// and `Copies::save_last`; `CannotRead` and `TooLong` where the script can't be read, `Script` with its
+/// faults of `Copies::of`, `NamedTree::read` and `Copies::save_last`; `CannotRead` and `TooLong` where the script can't be read, `Script` with its
 /// first faulty line, `Write` and `Closed` where the output fails, `Memory`.
 pub fn replay_files<R: Files + Input + Print + Eprint + RandomSource + AllocGlobal>(
     rt: &R,
@@ -54,7 +53,8 @@ fn replay_script<R: Files + Print + Eprint + RandomSource>(
     let sessions = run(rt, alloc, loaded, script, words)?;
     let saved = copies.save_last(rt, alloc, sessions.server(), Ok(()));
     forget(sessions);
-    saved
+    saved?;
+    Ok(ExitCode::SUCCESS)
 }
 
 // Runs a script, whose lines are printed up to the first faulty one.

@@ -4,31 +4,31 @@ use Rattle.std.specs.Option.{option_or}
 use Rattle.std.proofs.lemmas.List.{take_more, drop_more}
 use Rattle.std.proofs.lemmas.List.Folds.{find-append}
 use Rattle.nfs_inodes.specs.Tree.{Tree, on_some}
-use Rattle.nfs_describe.specs.Lines.{hard_line}
+use Rattle.nfs_load.specs.declared.name_form.NameForm.{NameForm}
 use Rattle.nfs_describe.specs.Places.{FilePath}
-use Rattle.nfs_describe.specs.Texts.{files_text, first_here, first_name, first_places, named_text, own_text, place_text}
+use Rattle.nfs_describe.specs.Texts.{files_text, first_here, first_name, first_places, hard_text, named_text, own_text, place_text}
 
 abbrev path_of : Option FilePath → Option (List ℕ)
 path_of o = option_map (λ (p : FilePath). p.path) o
 
 -- ---- texts
 
-named : (t : Tree) (p : FilePath) (o : Option FilePath) → named_text t p (path_of o) ≡ on_some o (own_text t p) (λ first. hard_line p.path first.path)
-named t p None = refl
-named t p (Some first) = refl
+named : (form : NameForm) (t : Tree) (p : FilePath) (o : Option FilePath) → named_text form t p (path_of o) ≡ on_some o (own_text form t p) (λ first. hard_text form p.path first.path)
+named form t p None = refl
+named form t p (Some first) = refl
 
 goes_on : {X : Type 0} (text here after rest old new : List X) → text ++ rest ≡ old → new ≡ text ++ here → here ++ after ≡ rest → new ++ after ≡ old
 goes_on text here after rest old new before is step = ap (λ l. l ++ after) is ∙ append_assoc text here after ∙ ap (λ l. text ++ l) step ∙ before
 
 -- the text of one place more
-files_more : (t : Tree) (places : List FilePath) (i : ℕ) (d : FilePath) (kept : Option (List ℕ)) (text old new : List ℕ) → i < length places
-    → text ++ files_text t (take i places) (drop i places) ≡ old
-    → new ≡ text ++ named_text t (get_or places i d) kept → kept ≡ path_of (first_name (get_or places i d).number (take i places))
-    → new ++ files_text t (take (i + 1) places) (drop (i + 1) places) ≡ old
-files_more t places i d kept text old new inside before is name =
-    goes_on text (place_text t (take i places) (get_or places i d)) (files_text t (take (i + 1) places) (drop (i + 1) places)) (files_text t (take i places) (drop i places)) old new before
-    (is ∙ ap (λ o. text ++ named_text t (get_or places i d) o) name ∙ ap (λ l. text ++ l) (named t (get_or places i d) (first_name (get_or places i d).number (take i places))))
-    (ap (λ l. place_text t (take i places) (get_or places i d) ++ files_text t l (drop (i + 1) places)) (take_more places i d inside) ∙ sym (ap (λ l. files_text t (take i places) l) (drop_more places i d inside)))
+files_more : (form : NameForm) (t : Tree) (places : List FilePath) (i : ℕ) (d : FilePath) (kept : Option (List ℕ)) (text old new : List ℕ) → i < length places
+    → text ++ files_text form t (take i places) (drop i places) ≡ old
+    → new ≡ text ++ named_text form t (get_or places i d) kept → kept ≡ path_of (first_name (get_or places i d).number (take i places))
+    → new ++ files_text form t (take (i + 1) places) (drop (i + 1) places) ≡ old
+files_more form t places i d kept text old new inside before is name =
+    goes_on text (place_text form t (take i places) (get_or places i d)) (files_text form t (take (i + 1) places) (drop (i + 1) places)) (files_text form t (take i places) (drop i places)) old new before
+    (is ∙ ap (λ o. text ++ named_text form t (get_or places i d) o) name ∙ ap (λ l. text ++ l) (named form t (get_or places i d) (first_name (get_or places i d).number (take i places))))
+    (ap (λ l. place_text form t (take i places) (get_or places i d) ++ files_text form t l (drop (i + 1) places)) (take_more places i d inside) ∙ sym (ap (λ l. files_text form t (take i places) l) (drop_more places i d inside)))
 
 -- ---- first places
 
@@ -67,12 +67,12 @@ names_more places i n d kept more inside is grows = grows
 
 -- ---- the same, where a place is the one at an index
 
-pub files_at : (t : Tree) (places : List FilePath) (i : ℕ) (p : FilePath) (kept : Option (List ℕ)) (text old new : List ℕ) → i < length places → p ≡ get_or places i p
-    → text ++ files_text t (take i places) (drop i places) ≡ old
-    → new ≡ text ++ named_text t p kept → kept ≡ path_of (first_name p.number (take i places))
-    → new ++ files_text t (take (i + 1) places) (drop (i + 1) places) ≡ old
-files_at t places i p kept text old new inside item before is name = files_more t places i p kept text old new inside before
-    (is ∙ ap (λ (q : FilePath). text ++ named_text t q kept) item) (name ∙ ap (λ (q : FilePath). path_of (first_name q.number (take i places))) item)
+pub files_at : (form : NameForm) (t : Tree) (places : List FilePath) (i : ℕ) (p : FilePath) (kept : Option (List ℕ)) (text old new : List ℕ) → i < length places → p ≡ get_or places i p
+    → text ++ files_text form t (take i places) (drop i places) ≡ old
+    → new ≡ text ++ named_text form t p kept → kept ≡ path_of (first_name p.number (take i places))
+    → new ++ files_text form t (take (i + 1) places) (drop (i + 1) places) ≡ old
+files_at form t places i p kept text old new inside item before is name = files_more form t places i p kept text old new inside before
+    (is ∙ ap (λ (q : FilePath). text ++ named_text form t q kept) item) (name ∙ ap (λ (q : FilePath). path_of (first_name q.number (take i places))) item)
 
 pub names_at : (places : List FilePath) (i n : ℕ) (p : FilePath) (kept more : Option (List ℕ)) → i < length places → p ≡ get_or places i p → kept ≡ path_of (first_name n (take i places))
     → more ≡ option_or kept (cond (nat_eq p.number n) (Some p.path) None)

@@ -1,101 +1,125 @@
--- The texts of volumes, one after the other.
-use Rattle.std.proofs.Common.{◌≡◌, ℕ, zero, suc, ◌+◌, Bool, true, false, ◌&&◌, cond, not, List, [], ◌∷◌, ◌++◌, length, map, refl, sym, ap, ◌∙◌, subst, arith}
-use Rattle.std.specs.List.{filter, flat_map, list_all}
+-- The texts of volumes, one after the other, in the form for their names.
+use Rattle.std.proofs.Common.{inl, inr, ◌≡◌, ℕ, zero, suc, ◌+◌, ◌<◌, Bool, true, false, ◌&&◌, cond, List, [], ◌∷◌, ◌++◌, length, get_or, slice_get, Some, None, option_map, refl, sym, ap, subst, ◌∙◌, arith}
+use Rattle.std.specs.Prelude.{Vec}
+use Rattle.std.specs.List.{list_all}
+use Rattle.std.proofs.lemmas.List.{length-map}
+use Rattle.std.proofs.lemmas.Option.{slice_get-get_or, slice_get-map}
 use Rattle.nfs_exports.specs.declared.export_table.Export.{Export}
 use Rattle.nfs_inodes.specs.Changes.{with_key}
-use Rattle.nfs_inodes.specs.Reading.{path_at}
 use Rattle.nfs_inodes.specs.Tree.{Tree, Volume, on_some}
-use Rattle.nfs_describe.specs.Lines.{is_target}
-use Rattle.nfs_describe.specs.Places.{FilePath, Skipped, are_sayable, has_words, is_sayable, lacks_words, places_below, sayable_below, skipped_at, skipped_below}
-use Rattle.nfs_describe.specs.Texts.{IsSayableText, IsVolumeText, Says, SaysSayable, SaysSayableTo, SaysTo}
+use Rattle.nfs_load.specs.declared.name_form.NameForm.{NameForm}
+use Rattle.nfs_load.specs.declared.name_form.NameForm.TheVariants.{Plain, Percent}
+use Rattle.nfs_describe.specs.Places.{AreWalks, FilePath, HasOther, are_plain, can_hold, form_for, walks_of}
+use Rattle.nfs_describe.specs.Texts.{IsVolumeText, Says, SaysTo, volume_text}
 
-pub says_more : (t : Tree) (table : List (List Export)) (key : List ℕ) (n : ℕ) (before part new : List ℕ) (others more skipped : List Skipped)
-    → SaysSayableTo t table key n others before → IsSayableText t table n more part → new ≡ before ++ part → skipped ≡ others ++ more
-    → SaysSayableTo t table key (n + 1) skipped new
-says_more t table key n before part new others more skipped says volume is are =
-    let next : suc n ≡ n + 1 = omega arith in subst (λ k. SaysSayableTo t table key k skipped new) next (before, part, others, more, says, volume, is, are)
+-- ---- lists
 
--- ---- where nothing is skipped
+same : {X : Type 0} (a b : X) → Some a ≡ Some b → a ≡ b
+same a b e = cc
 
-one_has_none : {X : Type 0} (one two : List X) → one ++ two ≡ [] → one ≡ []
-one_has_none [] two none = refl
-one_has_none (x ∷ one) two none = cc
+none_is : {X : Type 0} (a : X) → None ≡ Some a → ⊥
+none_is a e = cc
 
-other_has_none : {X : Type 0} (one two : List X) → one ++ two ≡ [] → two ≡ []
-other_has_none [] two none = none
-other_has_none (x ∷ one) two none = cc
+true_false : true ≡ false → ⊥
+true_false e = cc
 
--- a place of a directory that isn't skipped, before the others
-kept_at : (b : Bool) (q : FilePath) (f : FilePath → Skipped) (lacking kept places : List FilePath) → map f (cond (not b) (q ∷ lacking) lacking) ≡ []
-    → (map f lacking ≡ [] → kept ≡ places) → cond b (q ∷ kept) kept ≡ q ∷ places
-kept_at true q f lacking kept places none rest = ap (λ l. q ∷ l) (rest none)
-kept_at false q f lacking kept places none rest = cc
+false_true : false ≡ true → ⊥
+false_true e = cc
 
-all_kept : (t : Tree) (volume : ℕ) (places : List FilePath) → map (skipped_at volume) (filter (lacks_words t) places) ≡ [] → filter (has_words t) places ≡ places
-all_kept t volume [] none = refl
-all_kept t volume (q ∷ places) none =
-    kept_at (has_words t q) q (skipped_at volume) (filter (lacks_words t) places) (filter (has_words t) places) places none (λ e. all_kept t volume places e)
+-- a list has something where another one of its length has
+there : {X Y : Type 0} (xs : List X) (ys : List Y) (i : ℕ) (x : X) → length xs ≡ length ys → slice_get xs i ≡ Some x → (y : Y) × (slice_get ys i ≡ Some y)
+there [] ys i x long is = absurd (none_is x is)
+there (a ∷ xs) [] i x long is = absurd (omega (arith, long))
+there (a ∷ xs) (b ∷ ys) zero x long is = (b, refl)
+there (a ∷ xs) (b ∷ ys) (suc i) x long is = there xs ys i x (omega (arith, long)) is
 
-walk_kept : (t : Tree) (volume : ℕ) (places : List FilePath) → flat_map (skipped_below t volume) places ≡ [] → flat_map (sayable_below t) places ≡ flat_map (places_below t) places
-walk_kept t volume [] none = refl
-walk_kept t volume (p ∷ places) none =
-    ap (λ l. l ++ flat_map (sayable_below t) places) (all_kept t volume (places_below t p) (one_has_none (skipped_below t volume p) (flat_map (skipped_below t volume) places) none))
-    ∙ ap (λ l. places_below t p ++ l) (walk_kept t volume places (other_has_none (skipped_below t volume p) (flat_map (skipped_below t volume) places) none))
+both : (a b : Bool) → (a && b) ≡ true → (a ≡ true) × (b ≡ true)
+both true b e = (refl, e)
+both false b e = absurd (false_true e)
 
--- ---- what is walked is sayable
+all_at : {X : Type 0} (p : X → Bool) (xs : List X) (i : ℕ) (x : X) → list_all p xs ≡ true → slice_get xs i ≡ Some x → p x ≡ true
+all_at p [] i x all is = absurd (none_is x is)
+all_at p (y ∷ xs) zero x all is = ap p (sym (same y x is)) ∙ (both (p y) (list_all p xs) all).0
+all_at p (y ∷ xs) (suc i) x all is = all_at p xs i x (both (p y) (list_all p xs) all).1 is
 
-by_test : (b one two : Bool) → (b && one) ≡ true → (one ≡ true → two ≡ true) → (b && two) ≡ true
-by_test true one two e goes = goes e
-by_test false one two e goes = e
+-- something in a list fails a test
+abbrev Fails : {X : Type 0} → (X → Bool) → List X → Type 0
+Fails {X} p xs = (i : ℕ) × (x : X) × (slice_get xs i ≡ Some x) × (p x ≡ false)
 
-all_append : (p : FilePath → Bool) (xs ys : List FilePath) → list_all p xs ≡ true → list_all p ys ≡ true → list_all p (xs ++ ys) ≡ true
-all_append p [] ys one two = two
-all_append p (x ∷ xs) ys one two = by_test (p x) (list_all p xs) (list_all p (xs ++ ys)) one (λ e. all_append p xs ys e two)
+fails_first : {X : Type 0} (p : X → Bool) (x : X) (xs : List X) (b : Bool) → p x ≡ b → (b && list_all p xs) ≡ false → (list_all p xs ≡ false → Fails p xs) → Fails p (x ∷ xs)
+fails_first p x xs false is none rest = (0, x, refl, is)
+fails_first p x xs true is none rest = let r = rest none in (suc r.0, r.1, r.2, r.3)
 
-said_at : (path others : Bool) (p : FilePath) (kept : List FilePath) → is_sayable p.path ≡ path → are_sayable kept ≡ true → are_sayable (cond (path && others) (p ∷ kept) kept) ≡ true
-said_at true true p kept is rest = ap (λ b. b && are_sayable kept) is ∙ rest
-said_at true false p kept is rest = rest
-said_at false others p kept is rest = rest
+fails : {X : Type 0} (p : X → Bool) (xs : List X) → list_all p xs ≡ false → Fails p xs
+fails p [] none = absurd (true_false none)
+fails p (x ∷ xs) none = fails_first p x xs (p x) refl none (fails p xs)
 
-kept_said : (t : Tree) (places : List FilePath) → are_sayable (filter (has_words t) places) ≡ true
-kept_said t [] = refl
-kept_said t (p ∷ places) = said_at (is_sayable p.path) (on_some (path_at t p.number) true is_target) p (filter (has_words t) places) refl (kept_said t places)
+-- ---- the form of names
 
-walk_said : (t : Tree) (places : List FilePath) → are_sayable (flat_map (sayable_below t) places) ≡ true
-walk_said t [] = refl
-walk_said t (p ∷ places) = all_append (λ (q : FilePath). is_sayable q.path) (sayable_below t p) (flat_map (sayable_below t) places) (kept_said t (places_below t p)) (walk_said t places)
+abbrev form_by : Bool → NameForm
+form_by all = cond all Plain Percent
+
+held_by : (t : Tree) (walks : List (List FilePath)) (i : ℕ) (walk : List FilePath) (all : Bool) → list_all (are_plain t) walks ≡ all → slice_get walks i ≡ Some walk
+    → can_hold (form_by all) t walk ≡ true
+held_by t walks i walk true is found = all_at (are_plain t) walks i walk is found
+held_by t walks i walk false is found = refl
+
+has_other : (t : Tree) (walks : List (List FilePath)) → AreWalks t walks → list_all (are_plain t) walks ≡ false → HasOther t
+has_other t walks are none =
+    let o = fails (are_plain t) walks none in
+    let v = there walks t.volumes o.0 o.1 are.each o.2 in
+    record { place = o.0; volume = v.0; at_place = v.1; walk = o.1; walked = are.walked o.0 v.0 o.1 v.1 o.2; other = o.3 }
+
+said_by : (t : Tree) (table : List (List Export)) (walks : List (List FilePath)) (text : List ℕ) (all : Bool) → AreWalks t walks → list_all (are_plain t) walks ≡ all
+    → SaysTo (form_by all) t table (length t.volumes) text → Says t table text
+said_by t table walks text true are is says = inl says
+said_by t table walks text false are is says = inr (has_other t walks are is, says)
 
 -- ---- texts
 
-abbrev root_place : Volume → FilePath
-root_place v = record { path = []; number = v.root }
+-- the text of the volume at n
+abbrev pub text_at : NameForm → Tree → List (List Export) → ℕ → List FilePath → List ℕ
+text_at form t table n walk = on_some (slice_get t.volumes n) [] (λ (v : Volume). volume_text form t table n v walk)
 
-volume_whole : (t : Tree) (table : List (List Export)) (key : List ℕ) (n : ℕ) (part : List ℕ) (more : List Skipped) → more ≡ [] → IsSayableText t table n more part
-    → IsVolumeText (with_key t key) table n part
-volume_whole t table key n part more none v = record {
-  volume = v.volume;
-  at_place = v.at_place;
-  walk = v.walk;
-  walked = v.walked ∙ ap (λ l. root_place v.volume ∷ l) (walk_kept t n v.walk (sym v.skipped_are ∙ none));
-  sayable = ap are_sayable v.walked ∙ walk_said t v.walk;
-  text_is = v.text_is;
-}
+one_more : (t : Tree) (table : List (List Export)) (form : NameForm) (walks : List (List FilePath)) (walk : List FilePath) (n : ℕ) (before new : List ℕ)
+    → AreWalks t walks → form ≡ form_for t walks → slice_get walks n ≡ Some walk → SaysTo form t table n before → new ≡ before ++ text_at form t table n walk → SaysTo form t table (n + 1) new
+one_more t table form walks walk n before new are form_is found says is =
+    let v = there walks t.volumes n walk are.each found in
+    let next : suc n ≡ n + 1 = omega arith in
+    let volume : IsVolumeText form t table n (volume_text form t table n v.0 walk) = record {
+      volume = v.0;
+      at_place = v.1;
+      walk = walk;
+      walked = are.walked n v.0 walk v.1 found;
+      held = ap (λ (f : NameForm). can_hold f t walk) form_is ∙ held_by t walks n walk (list_all (are_plain t) walks) refl found;
+      text_is = refl;
+    } in
+    subst (λ k. SaysTo form t table k new) next
+    (before, volume_text form t table n v.0 walk, says, volume, is ∙ ap (λ o. before ++ on_some o [] (λ (u : Volume). volume_text form t table n u walk)) v.1)
 
-says_whole : (t : Tree) (table : List (List Export)) (key : List ℕ) (n : ℕ) (skipped : List Skipped) (text : List ℕ) → skipped ≡ [] → SaysSayableTo t table key n skipped text
-    → SaysTo (with_key t key) table n text
-says_whole t table key zero skipped text none (is, are) = is
-says_whole t table key (suc n) skipped text none (before, part, others, more, says, volume, is, are) =
-    let both : others ++ more ≡ [] = sym are ∙ none in
-    (before, part, says_whole t table key n others before (one_has_none others more both) says, volume_whole t table key n part more (other_has_none others more both) volume, is)
+all_of : (t : Tree) (table : List (List Export)) (form : NameForm) (walks : List (List FilePath)) (n : ℕ) (text : List ℕ)
+    → AreWalks t walks → form ≡ form_for t walks → n ≡ length walks → SaysTo form t table n text → Says t table text
+all_of t table form walks n text are form_is all says =
+    said_by t table walks text (list_all (are_plain t) walks) are refl
+    (subst (λ (f : NameForm). SaysTo f t table (length t.volumes) text) form_is (subst (λ k. SaysTo form t table k text) (all ∙ are.each) says))
 
-pub all_said : (t : Tree) (table : List (List Export)) (key : List ℕ) (skipped : List Skipped) (text : List ℕ) → SaysSayable t table key skipped text → skipped ≡ []
-    → Says (with_key t key) table text
-all_said t table key skipped text says none = says_whole t table key (length t.volumes) skipped text none says
+-- ---- the same of walks in memory
 
--- under its own key
-pub own_said : (t : Tree) (table : List (List Export)) (key : List ℕ) (text : List ℕ) → key ≡ t.key → Says (with_key t key) table text → Says t table text
-own_said t table key text own says = subst (λ k. Says (with_key t k) table text) own says
+module _ {Z : Type 0} (t : Tree) (table : List (List Export)) (form : NameForm) (walks : List (Vec FilePath Z)) where
+  abbrev items_of : Vec FilePath Z → List FilePath
+  items_of walk = walk.items
 
-pub nothing_there : (skipped : List Skipped) → length skipped ≡ 0 → skipped ≡ []
-nothing_there [] none = refl
-nothing_there (one ∷ skipped) none = cc
+  walk_at : (n : ℕ) (kept : Vec FilePath Z) → n < length walks → kept ≡ get_or walks n kept → slice_get (walks_of walks) n ≡ Some kept.items
+  walk_at n kept inside item = slice_get-map items_of walks n ∙ ap (option_map items_of) (slice_get-get_or walks n kept inside ∙ ap Some (sym item))
+
+  pub says_more : (kept : Vec FilePath Z) (walk : List FilePath) (n : ℕ) (before new : List ℕ) → AreWalks t (walks_of walks) → form ≡ form_for t (walks_of walks)
+      → n < length walks → kept ≡ get_or walks n kept → walk ≡ kept.items → SaysTo form t table n before → new ≡ before ++ text_at form t table n walk → SaysTo form t table (n + 1) new
+  says_more kept walk n before new are form_is inside item whole says is =
+      one_more t table form (walks_of walks) walk n before new are form_is (walk_at n kept inside item ∙ ap Some (sym whole)) says is
+
+  pub all_said : (n : ℕ) (text : List ℕ) → AreWalks t (walks_of walks) → form ≡ form_for t (walks_of walks) → n ≡ length walks → SaysTo form t table n text → Says t table text
+  all_said n text are form_is all says = all_of t table form (walks_of walks) n text are form_is (all ∙ sym (length-map walks items_of)) says
+
+-- the walks of a tree are those of the same tree under another key
+pub keyed : (t : Tree) (key : List ℕ) (walks : List (List FilePath)) → AreWalks t walks → AreWalks (with_key t key) walks
+keyed t key walks are = record { each = are.each; walked = are.walked }

@@ -1,53 +1,53 @@
--- A walk that goes on.
-use Rattle.std.proofs.Common.{◌≡◌, ℕ, ◌+◌, ◌<◌, List, [], ◌∷◌, ◌++◌, length, map, take, get_or, sym, ap, ◌∙◌, append-nil, append_assoc, arith}
-use Rattle.std.specs.List.{filter, flat_map}
-use Rattle.std.proofs.lemmas.List.{map-append, take_more, take-append-le}
-use Rattle.std.proofs.lemmas.List.Concat.{flat_map-append}
-use Rattle.std.proofs.lemmas.List.Elements.{filter-append}
-use Rattle.nfs_inodes.specs.Tree.{Tree}
-use Rattle.nfs_describe.specs.Places.{FilePath, Skipped, has_words, lacks_words, sayable_below, skipped_at, skipped_below}
+-- The walks of volumes, one after the other.
+use Rattle.std.proofs.Common.{inl, inr, ◌≡◌, ◌⊎◌, ℕ, zero, suc, ◌+◌, List, [], ◌∷◌, ◌++◌, length, slice_get, Option, Some, None, option_map, refl, sym, ap, subst, ◌∙◌, arith}
+use Rattle.std.specs.Prelude.{Vec}
+use Rattle.std.proofs.lemmas.List.{length-append, map-append}
+use Rattle.nfs_inodes.specs.Tree.{Tree, Volume}
+use Rattle.nfs_describe.specs.Places.{FilePath, IsWalk, walks_of}
 
--- ---- one place more
+same : {X : Type 0} (a b : X) → Some a ≡ Some b → a ≡ b
+same a b e = cc
 
-first_more : (d : FilePath) (places below : List FilePath) (i : ℕ) → i < length places → take (i + 1) (places ++ below) ≡ take i places ++ get_or places i d ∷ []
-first_more d places below i inside = take-append-le (i + 1) places below (omega (arith, inside)) ∙ take_more places i d inside
+pub none_is : {X : Type 0} (a : X) → None ≡ Some a → ⊥
+none_is a e = cc
 
--- what belongs to the first places, with what belongs to one more
-more_of : {X : Type 0} (f : FilePath → List X) (d : FilePath) (places below : List FilePath) (i : ℕ) → i < length places
-    → flat_map f (take i places) ++ f (get_or places i d) ≡ flat_map f (take (i + 1) (places ++ below))
-more_of f d places below i inside =
-    ap (λ l. flat_map f (take i places) ++ l) (sym (append-nil (f (get_or places i d))))
-    ∙ sym (flat_map-append f (take i places) (get_or places i d ∷ []))
-    ∙ ap (flat_map f) (sym (first_more d places below i inside))
+next_same : {X : Type 0} (y : X) (xs : List X) (i : ℕ) → i ≡ length xs → suc i ≡ length (y ∷ xs)
+next_same y xs i e = omega (arith, e)
 
-pub walk_more : (t : Tree) (start d : FilePath) (places below : List FilePath) (i : ℕ) → i < length places → places ≡ start ∷ flat_map (sayable_below t) (take i places) → below ≡ sayable_below t (get_or places i d)
-    → places ++ below ≡ start ∷ flat_map (sayable_below t) (take (i + 1) (places ++ below))
-walk_more t start d places below i inside before is =
-    ap (λ l. l ++ below) before
-    ∙ ap (λ l. start ∷ flat_map (sayable_below t) (take i places) ++ l) is
-    ∙ ap (λ l. start ∷ l) (more_of (sayable_below t) d places below i inside)
+-- what a list with one more at its end has at an index
+with_last : {X : Type 0} (xs : List X) (last x : X) (i : ℕ) → slice_get (xs ++ last ∷ []) i ≡ Some x → (slice_get xs i ≡ Some x) ⊎ ((i ≡ length xs) × (last ≡ x))
+with_last [] last x zero is = inr (refl, same last x is)
+with_last [] last x (suc i) is = absurd (none_is x is)
+with_last (y ∷ xs) last x zero is = inl is
+with_last (y ∷ xs) last x (suc i) is = elim (with_last xs last x i is) [
+  | inl kept ↦ inl kept
+  | inr new ↦ inr (next_same y xs i new.0, new.1)
+]
 
-pub skipped_more : (t : Tree) (volume : ℕ) (d : FilePath) (places below : List FilePath) (skipped more : List Skipped) (i : ℕ) → i < length places
-    → skipped ≡ flat_map (skipped_below t volume) (take i places) → more ≡ skipped_below t volume (get_or places i d)
-    → skipped ++ more ≡ flat_map (skipped_below t volume) (take (i + 1) (places ++ below))
-skipped_more t volume d places below skipped more i inside before is =
-    ap (λ l. l ++ more) before ∙ ap (λ l. flat_map (skipped_below t volume) (take i places) ++ l) is ∙ more_of (skipped_below t volume) d places below i inside
+-- the walks of the first n volumes
+pub record AreFirst (t : Tree) (n : ℕ) (walks : List (List FilePath)) : Type 0 where
+  pub each : length walks ≡ n
+  pub walked : (index : ℕ) (v : Volume) (walk : List FilePath) → slice_get t.volumes index ≡ Some v → slice_get walks index ≡ Some walk → IsWalk t v.root walk
 
--- ---- one entry more
+abbrev pub root_in : Tree → ℕ → Option ℕ
+root_in t n = option_map (λ (v : Volume). v.root) (slice_get t.volumes n)
 
-pub sayable_goes_on : (t : Tree) (p : FilePath) (rest old new whole : List FilePath) → new ≡ old ++ filter (has_words t) (p ∷ [])
-    → old ++ filter (has_words t) (p ∷ rest) ≡ whole → new ++ filter (has_words t) rest ≡ whole
-sayable_goes_on t p rest old new whole is before = ap (λ l. l ++ filter (has_words t) rest) is ∙ append_assoc old (filter (has_words t) (p ∷ [])) (filter (has_words t) rest)
-    ∙ ap (λ l. old ++ l) (sym (filter-append (has_words t) (p ∷ []) rest)) ∙ before
+-- the walk at an index, where the last one is that of the volume at n
+walked_at : (t : Tree) (n root : ℕ) (walks : List (List FilePath)) (last : List FilePath) → AreFirst t n walks → root_in t n ≡ Some root → IsWalk t root last
+    → (index : ℕ) (v : Volume) (walk : List FilePath) → slice_get t.volumes index ≡ Some v → slice_get (walks ++ last ∷ []) index ≡ Some walk → IsWalk t v.root walk
+walked_at t n root walks last are root_is walked index v walk volume found = elim (with_last walks last walk index found) [
+  | inl kept ↦ are.walked index v walk volume kept
+  | inr new ↦
+      let own : v.root ≡ root = same v.root root (ap (option_map (λ (v : Volume). v.root)) (sym volume) ∙ ap (root_in t) (new.0 ∙ are.each) ∙ root_is) in
+      subst (IsWalk t v.root) new.1 (subst (λ r. IsWalk t r last) (sym own) walked)
+]
 
-abbrev skipped_of : Tree → ℕ → List FilePath → List Skipped
-skipped_of t volume places = map (skipped_at volume) (filter (lacks_words t) places)
+pub first_walks_more : (t : Tree) (n root : ℕ) (walks new : List (List FilePath)) (last : List FilePath) → AreFirst t n walks → root_in t n ≡ Some root → IsWalk t root last → new ≡ walks ++ last ∷ []
+    → AreFirst t (n + 1) new
+first_walks_more t n root walks new last are root_is walked is = record {
+  each = omega (arith, ap length is, length-append walks (last ∷ []), are.each);
+  walked = λ index v walk volume found. walked_at t n root walks last are root_is walked index v walk volume (subst (λ l. slice_get l index ≡ Some walk) is found);
+}
 
-skipped_join : (t : Tree) (volume : ℕ) (p : FilePath) (rest : List FilePath) → skipped_of t volume (p ∷ []) ++ skipped_of t volume rest ≡ skipped_of t volume (p ∷ rest)
-skipped_join t volume p rest = sym (map-append (skipped_at volume) (filter (lacks_words t) (p ∷ [])) (filter (lacks_words t) rest))
-    ∙ ap (map (skipped_at volume)) (sym (filter-append (lacks_words t) (p ∷ []) rest))
-
-pub skipped_goes_on : (t : Tree) (volume : ℕ) (p : FilePath) (rest : List FilePath) (old new whole : List Skipped) → new ≡ old ++ skipped_of t volume (p ∷ [])
-    → old ++ skipped_of t volume (p ∷ rest) ≡ whole → new ++ skipped_of t volume rest ≡ whole
-skipped_goes_on t volume p rest old new whole is before = ap (λ l. l ++ skipped_of t volume rest) is ∙ append_assoc old (skipped_of t volume (p ∷ [])) (skipped_of t volume rest)
-    ∙ ap (λ l. old ++ l) (skipped_join t volume p rest) ∙ before
+pub walks_pushed : {Z : Type 0} (old new : List (Vec FilePath Z)) (walk : Vec FilePath Z) → new ≡ old ++ walk ∷ [] → walks_of new ≡ walks_of old ++ walk.items ∷ []
+walks_pushed {Z} old new walk is = ap walks_of is ∙ map-append (λ (w : Vec FilePath Z). w.items) old (walk ∷ [])

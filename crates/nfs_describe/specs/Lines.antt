@@ -12,6 +12,9 @@ use Rattle.nfs_exports.specs.declared.export_table.Export.{Export}
 use Rattle.nfs_inodes.specs.declared.limits.Limits.{Limits}
 use Rattle.nfs_inodes.specs.Limits.{default_limits, max_path_bytes}
 use Rattle.nfs_load.specs.Listings.{octal}
+use Rattle.nfs_load.specs.Names.{name_text}
+use Rattle.nfs_load.specs.declared.name_form.NameForm.{NameForm}
+use Rattle.nfs_load.specs.declared.name_form.NameForm.TheVariants.{Plain, Percent}
 use Rattle.nfs_load.specs.declared.statement.Given.{Given}
 
 -- ---- fields
@@ -56,6 +59,21 @@ moment_text m =
     else (if nat_lt m.nanos 1000000000 then decimal m.seconds ++ codes "." ++ nine_digits m.nanos
     else decimal m.seconds ++ codes "+" ++ decimal m.nanos)
 
+-- how a path stands in a line
+abbrev pub path_text : NameForm → List ℕ → List ℕ
+path_text Plain path = path
+path_text Percent path = name_text path
+
+-- with escapes, `%` alone says that a link holds nothing
+abbrev pub escaped_target : List ℕ → List ℕ
+escaped_target [] = codes "%"
+escaped_target (byte ∷ target) = name_text (byte ∷ target)
+
+-- what a symbolic link holds
+abbrev pub target_text : NameForm → List ℕ → List ℕ
+target_text Plain target = target
+target_text Percent target = escaped_target target
+
 -- ---- lines
 
 abbrev pub server_line : List ℕ → List ℕ
@@ -76,6 +94,11 @@ line_of_limits (byte ∷ text) = codes "limits" ++ (byte ∷ text) ++ codes "\n"
 -- the limits that are not their defaults, or no line
 abbrev pub limits_line : Limits → List ℕ
 limits_line limits = line_of_limits (limits_text limits)
+
+-- how names are written, where it is not as they are
+abbrev pub names_line : NameForm → List ℕ
+names_line Plain = []
+names_line Percent = codes "names percent\n"
 
 abbrev pub volume_line : List ℕ → ℕ → ℕ → Given → List ℕ
 volume_line path max_bytes max_files given = codes "volume " ++ path ++ codes " " ++ decimal max_bytes ++ codes " " ++ decimal max_files ++ given_text given ++ codes "\n"
@@ -99,7 +122,7 @@ abbrev pub times_line : List ℕ → Moment → Moment → Moment → List ℕ
 times_line path atime mtime ctime =
     codes "times " ++ path ++ codes " " ++ moment_text atime ++ codes " " ++ moment_text mtime ++ codes " " ++ moment_text ctime ++ codes "\n"
 
--- ---- what may stand in a line as a word
+-- ---- what may stand in a line as it is
 
 -- from `!` to `~`
 abbrev pub is_shown : ℕ → Bool

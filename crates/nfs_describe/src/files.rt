@@ -3,7 +3,7 @@ ghost use Rattle.std.specs.Prelude.{◌≡◌, ℕ, ◌≤◌, [], ◌++◌, Som
 ghost use Rattle.std.specs.Option.{option_or};
 ghost use Rattle.nfs_inodes.specs.Limits.{max_file_bytes};
 ghost use Rattle.nfs_inodes.specs.Views.{bytes_seen};
-ghost use Rattle.nfs_describe.specs.Lines.{link_line};
+ghost use Rattle.nfs_describe.specs.Lines.{link_line, path_text, target_text};
 ghost use Rattle.nfs_describe.specs.Texts.{files_text, first_here, first_places, given_of, kept_name, lent, named_text, node_line, own_text};
 
 use crate::file_path::FilePath;
@@ -12,6 +12,7 @@ use nfs_attrs::fattr::Fattr;
 use nfs_attrs::file_type::FileType;
 use nfs_inodes::tree::Tree;
 use nfs_inodes::view::FileView;
+use nfs_load::name_form::NameForm;
 use nfs_load::statement::Given;
 use std::alloc::{AllocError, Global};
 use std::collections::BTreeMap;
@@ -21,16 +22,25 @@ use std::collections::BTreeMap;
 pub(crate) fn put_files<'a>(
     alloc: Global,
     tree: &Tree,
+    form: NameForm,
     places: &'a [FilePath],
     text: &mut Vec<u8>,
 ) -> Result<Vec<&'a FilePath>, AllocError>
-    ensures text { OnOk result (text.new.items ≡ text.old.items ++ files_text tree.now [] places.entry.now) }
+    ensures text { OnOk result (text.new.items ≡ text.old.items ++ files_text form tree.now [] places.entry.now) }
     ensures firsts { IfOk result (λ firsts. lent firsts.items ≡ first_places [] places.entry.now) }
 {
     let mut first_names = BTreeMap::new(alloc);
     let mut firsts = Vec::new(alloc);
     for place in places {
-        put_place(alloc, tree, place, &mut first_names, &mut firsts, text)?;
+        put_place(
+            alloc,
+            tree,
+            form,
+            place,
+            &mut first_names,
+            &mut firsts,
+            text,
+        )?;
     }
     Ok(firsts)
 }
@@ -39,22 +49,23 @@ pub(crate) fn put_files<'a>(
 fn put_place<'a>(
     alloc: Global,
     tree: &Tree,
+    form: NameForm,
     place: &'a FilePath,
     first_names: &mut BTreeMap<u64, &'a [u8]>,
     firsts: &mut Vec<&'a FilePath>,
     text: &mut Vec<u8>,
 ) -> Result<(), AllocError>
     ensures text { OnOk result (text.new.items ≡ text.old.items ++
-        named_text tree.now place.entry.now (kept_name first_names.old.entries place.entry.now.number)) }
+        named_text form tree.now place.entry.now (kept_name first_names.old.entries place.entry.now.number)) }
     ensures names { OnOk result ((n : ℕ) → kept_name first_names.new.entries n ≡
         option_or (kept_name first_names.old.entries n) (cond (nat_eq place.entry.now.number n) (Some place.entry.now.path) None)) }
     ensures firsts { OnOk result (lent firsts.new.items ≡ lent firsts.old.items ++
         first_here place.entry.now (kept_name first_names.old.entries place.entry.now.number)) }
 {
     match first_names.get(&place.number.0).copied() {
-        Some(first) => put_hard(text, place.path.as_slice(), first),
+        Some(first) => put_hard(text, form, place.path.as_slice(), first),
         None => {
-            put_own(alloc, tree, place, text)?;
+            put_own(alloc, tree, form, place, text)?;
             first_names.insert(place.number.0, place.path.as_slice())?;
             firsts.push(place)?;
             Ok(())
@@ -66,10 +77,11 @@ fn put_place<'a>(
 fn put_own(
     alloc: Global,
     tree: &Tree,
+    form: NameForm,
     place: &FilePath,
     text: &mut Vec<u8>,
 ) -> Result<(), AllocError>
-    ensures { OnOk result (text.new.items ≡ text.old.items ++ own_text tree.now place.now) }
+    ensures { OnOk result (text.new.items ≡ text.old.items ++ own_text form tree.now place.now) }
 {
     let path = place.path.as_slice();
     if path.is_empty() {
@@ -80,39 +92,42 @@ fn put_own(
         return Ok(());
     };
     match tree.link_path(place.number) {
-        Some(target) => put_target(path, &file.attributes(), target, text),
-        None => put_node(alloc, path, &file, text),
+        Some(target) => put_target(form, path, &file.attributes(), target, text),
+        None => put_node(alloc, form, path, &file, text),
     }
 }
 
 // The line of a symbolic link that holds this target.
 fn put_target(
+    form: NameForm,
     path: &[u8],
     attributes: &Fattr,
     target: &[u8],
     text: &mut Vec<u8>,
 ) -> Result<(), AllocError>
-    ensures { OnOk result (text.new.items ≡ text.old.items ++ link_line path.now attributes.now.uid attributes.now.gid target.now) }
+    ensures { OnOk result (text.new.items ≡ text.old.items
+        ++ link_line (path_text form path.now) attributes.now.uid attributes.now.gid (target_text form target.now)) }
 {
-    put_link(text, path, attributes.uid, attributes.gid, target)
+    put_link(text, form, path, attributes.uid, attributes.gid, target)
 }
 
 // The line of a directory or a regular file.
 fn put_node(
     alloc: Global,
+    form: NameForm,
     path: &[u8],
     file: &FileView<'_>,
     text: &mut Vec<u8>,
 ) -> Result<(), AllocError>
     requires { length (bytes_seen file.now) ≤ max_file_bytes }
-    ensures { OnOk result (text.new.items ≡ text.old.items ++ node_line path.now file.now) }
+    ensures { OnOk result (text.new.items ≡ text.old.items ++ node_line (path_text form path.now) file.now) }
 {
     let attributes = file.attributes();
     let given = given_of(&attributes);
     if attributes.file_type == FileType::Directory {
-        put_dir(text, path, given)
+        put_dir(text, form, path, given)
     } else {
-        put_file(alloc, text, path, given, file)
+        put_file(alloc, text, form, path, given, file)
     }
 }
 

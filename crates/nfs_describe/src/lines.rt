@@ -3,12 +3,15 @@ ghost use Rattle.std.specs.Prelude.{◌≡◌, ◌≤◌, ◌+◌, ◌++◌, OnO
 ghost use Rattle.arrayvec.specs.ArrayVec.{array_vec_len};
 ghost use Rattle.nfs_inodes.specs.Limits.{max_file_bytes};
 ghost use Rattle.nfs_inodes.specs.Views.{bytes_seen};
-ghost use Rattle.nfs_describe.specs.Lines.{content_text, dir_line, file_line, hard_line, limit_text, limits_line, limits_text, line_of_limits, link_line, server_line, times_line, volume_line};
+ghost use Rattle.nfs_load.specs.Names.{name_text};
+ghost use Rattle.nfs_describe.specs.Lines.{content_text, dir_line, file_line, limit_text, limits_line, limits_text, line_of_limits, link_line, names_line, path_text, server_line, target_text, times_line, volume_line};
+ghost use Rattle.nfs_describe.specs.Texts.{hard_text};
 
 use crate::numbers::{put_given, put_moment};
 use nfs_attrs::moment::Moment;
 use nfs_inodes::limits::Limits;
 use nfs_inodes::view::FileView;
+use nfs_load::name_form::{NameForm, name_byte};
 use nfs_load::statement::Given;
 use nfs_text::line::{Line, put, put_number};
 use std::alloc::{AllocError, Global};
@@ -24,17 +27,30 @@ fn put_server(alloc: Global, text: &mut Vec<u8>, key: [u8; 8]) -> Result<(), All
     Ok(())
 }
 
-/// The line of the server's key, and that of the limits that are not their defaults.
+/// The line of the server's key, that of the limits that are not their defaults, and that of how names
+/// are written, where it is not as they are.
 pub fn put_head(
     alloc: Global,
     text: &mut Vec<u8>,
     key: [u8; 8],
     limits: Limits,
+    names: NameForm,
 ) -> Result<(), AllocError>
-    ensures { OnOk result (text.new.items ≡ text.old.items ++ (server_line key ++ limits_line limits)) }
+    ensures { OnOk result (text.new.items ≡ text.old.items ++ (server_line key ++ limits_line limits ++ names_line names)) }
 {
     put_server(alloc, text, key)?;
-    put_limits(text, limits)
+    put_limits(text, limits)?;
+    put_names(text, names)
+}
+
+// The line of how names are written; none where it is as they are.
+fn put_names(text: &mut Vec<u8>, names: NameForm) -> Result<(), AllocError>
+    ensures { OnOk result (text.new.items ≡ text.old.items ++ names_line names) }
+{
+    match names {
+        NameForm::Plain => Ok(()),
+        NameForm::Percent => text.extend_from_slice(b"names percent\n"),
+    }
 }
 
 // The line of the limits that are not their defaults; none where all are.
@@ -110,34 +126,40 @@ pub fn put_volume_line(
     put_number(&mut line, b" ", max_files);
     put_given(&mut line, given);
     put(&mut line, b"\n");
-    put_words(text, b"volume ", path, line.as_slice())
+    put_words(text, NameForm::Plain, b"volume ", path, line.as_slice())
 }
 
 /// The line of a directory.
-pub(crate) fn put_dir(text: &mut Vec<u8>, path: &[u8], given: Given) -> Result<(), AllocError>
-    ensures { OnOk result (text.new.items ≡ text.old.items ++ dir_line path.now given) }
+pub(crate) fn put_dir(
+    text: &mut Vec<u8>,
+    form: NameForm,
+    path: &[u8],
+    given: Given,
+) -> Result<(), AllocError>
+    ensures { OnOk result (text.new.items ≡ text.old.items ++ dir_line (path_text form path.now) given) }
 {
     let mut line = Line::new();
     put_given(&mut line, given);
     put(&mut line, b"\n");
-    put_words(text, b"dir ", path, line.as_slice())
+    put_words(text, form, b"dir ", path, line.as_slice())
 }
 
 /// The line of a regular file.
 pub(crate) fn put_file(
     alloc: Global,
     text: &mut Vec<u8>,
+    form: NameForm,
     path: &[u8],
     given: Given,
     file: &FileView<'_>,
 ) -> Result<(), AllocError>
     requires { length (bytes_seen file.now) ≤ max_file_bytes }
-    ensures { OnOk result (text.new.items ≡ text.old.items ++ file_line path.now given (bytes_seen file.now)) }
+    ensures { OnOk result (text.new.items ≡ text.old.items ++ file_line (path_text form path.now) given (bytes_seen file.now)) }
 {
     let mut line = Line::new();
     put_given(&mut line, given);
     put(&mut line, b" ");
-    put_words(text, b"file ", path, line.as_slice())?;
+    put_words(text, form, b"file ", path, line.as_slice())?;
     put_content(alloc, text, file)?;
     text.push(b'\n')?;
     Ok(())
@@ -146,29 +168,35 @@ pub(crate) fn put_file(
 /// The line of a symbolic link.
 pub(crate) fn put_link(
     text: &mut Vec<u8>,
+    form: NameForm,
     path: &[u8],
     uid: u32,
     gid: u32,
     target: &[u8],
 ) -> Result<(), AllocError>
-    ensures { OnOk result (text.new.items ≡ text.old.items ++ link_line path.now uid gid target.now) }
+    ensures { OnOk result (text.new.items ≡ text.old.items ++ link_line (path_text form path.now) uid gid (target_text form target.now)) }
 {
     let mut line = Line::new();
     put_number(&mut line, b" ", u64::from(uid));
     put_number(&mut line, b" ", u64::from(gid));
     put(&mut line, b" ");
-    put_words(text, b"link ", path, line.as_slice())?;
-    text.extend_from_slice(target)?;
+    put_words(text, form, b"link ", path, line.as_slice())?;
+    put_target_text(text, form, target)?;
     text.push(b'\n')?;
     Ok(())
 }
 
 /// The line of a hard link of a file, beside its first one.
-pub(crate) fn put_hard(text: &mut Vec<u8>, path: &[u8], first: &[u8]) -> Result<(), AllocError>
-    ensures { OnOk result (text.new.items ≡ text.old.items ++ hard_line path.now first.now) }
+pub(crate) fn put_hard(
+    text: &mut Vec<u8>,
+    form: NameForm,
+    path: &[u8],
+    first: &[u8],
+) -> Result<(), AllocError>
+    ensures { OnOk result (text.new.items ≡ text.old.items ++ hard_text form path.now first.now) }
 {
-    put_words(text, b"hard ", path, b" ")?;
-    text.extend_from_slice(first)?;
+    put_words(text, form, b"hard ", path, b" ")?;
+    put_path_text(text, form, first)?;
     text.push(b'\n')?;
     Ok(())
 }
@@ -176,33 +204,66 @@ pub(crate) fn put_hard(text: &mut Vec<u8>, path: &[u8], first: &[u8]) -> Result<
 /// The line of a file's times.
 pub(crate) fn put_times_line(
     text: &mut Vec<u8>,
+    form: NameForm,
     path: &[u8],
     atime: Moment,
     mtime: Moment,
     ctime: Moment,
 ) -> Result<(), AllocError>
-    ensures { OnOk result (text.new.items ≡ text.old.items ++ times_line path.now atime mtime ctime) }
+    ensures { OnOk result (text.new.items ≡ text.old.items ++ times_line (path_text form path.now) atime mtime ctime) }
 {
     let mut line = Line::new();
     put_moment(&mut line, atime);
     put_moment(&mut line, mtime);
     put_moment(&mut line, ctime);
     put(&mut line, b"\n");
-    put_words(text, b"times ", path, line.as_slice())
+    put_words(text, form, b"times ", path, line.as_slice())
 }
 
 // A keyword, a path, and what stands after it.
 fn put_words(
     text: &mut Vec<u8>,
+    form: NameForm,
     keyword: &[u8],
     path: &[u8],
     after: &[u8],
 ) -> Result<(), AllocError>
-    ensures { OnOk result (text.new.items ≡ text.old.items ++ keyword.now ++ path.now ++ after.now) }
+    ensures { OnOk result (text.new.items ≡ text.old.items ++ keyword.now ++ path_text form path.now ++ after.now) }
 {
     text.extend_from_slice(keyword)?;
-    text.extend_from_slice(path)?;
+    put_path_text(text, form, path)?;
     text.extend_from_slice(after)
+}
+
+// A path, as it stands in a line.
+fn put_path_text(text: &mut Vec<u8>, form: NameForm, path: &[u8]) -> Result<(), AllocError>
+    ensures { OnOk result (text.new.items ≡ text.old.items ++ path_text form path.now) }
+{
+    match form {
+        NameForm::Plain => text.extend_from_slice(path),
+        NameForm::Percent => put_escaped(text, path),
+    }
+}
+
+// What a symbolic link holds, as it stands in a line.
+fn put_target_text(text: &mut Vec<u8>, form: NameForm, target: &[u8]) -> Result<(), AllocError>
+    ensures { OnOk result (text.new.items ≡ text.old.items ++ target_text form target.now) }
+{
+    match form {
+        NameForm::Plain => text.extend_from_slice(target),
+        NameForm::Percent if target.is_empty() => text.extend_from_slice(b"%"),
+        NameForm::Percent => put_escaped(text, target),
+    }
+}
+
+// Bytes with escapes.
+fn put_escaped(text: &mut Vec<u8>, bytes: &[u8]) -> Result<(), AllocError>
+    ensures { OnOk result (text.new.items ≡ text.old.items ++ name_text bytes.now) }
+{
+    for byte in bytes {
+        text.extend_from_slice(name_byte(*byte).as_slice())?;
+    }
+    Ok(())
 }
 
 // The bytes of a regular file, run by run: two digits each, or `-` for none.

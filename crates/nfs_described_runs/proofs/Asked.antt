@@ -1,4 +1,4 @@
--- What is read of an event of bytes fits into lines of a description: ids and times of 32 bits, and contents of bytes.
+-- What is read of an event of bytes fits into lines of a description: ids and times of 32 bits, and names and contents of bytes.
 use Rattle.std.proofs.Common.{◌≡◌, ℕ, suc, zero, ◌<◌, ◌^◌, Bool, true, false, List, [], ◌∷◌, ◌++◌, Option, Some, None, option_map, refl, ap, subst, arith}
 use Rattle.std.specs.Prelude.{Ok, Err, if◌then◌else◌}
 use Rattle.std.specs.Int.{w32}
@@ -9,8 +9,10 @@ use Rattle.nfs_args.specs.declared.create.CreateHow.TheVariants as how
 use Rattle.nfs_args.specs.declared.mount_args.MountArgs.{MountArgs}
 use Rattle.nfs_args.specs.declared.procedure.Procedure.{Procedure}
 use Rattle.nfs_args.specs.declared.procedure.Procedure.TheVariants as proc
+use Rattle.nfs_args.specs.declared.dir_op.DirOp.{DirOp}
+use Rattle.nfs_args.specs.declared.symlink.Symlink.{Symlink}
 use Rattle.nfs_args.specs.declared.write.Write.{Write}
-use Rattle.nfs_args.specs.Encoding.{CreateMode, Unchecked, Guarded, Exclusive, IsArgsOf, IsCreateArm, IsCreateHow, IsWrite}
+use Rattle.nfs_args.specs.Encoding.{CreateMode, Unchecked, Guarded, Exclusive, IsArgsOf, IsCreateArm, IsCreateHow, IsDirOp, IsSymlink, IsWrite}
 use Rattle.nfs_args.specs.Procedures.{procedure_number, procedures}
 use Rattle.nfs_args.specs.Reading.{args_at}
 use Rattle.nfs_args.proofs.Finds.{finds_args}
@@ -76,9 +78,11 @@ IsHowSaid (how.Exclusive verifier) = Unit {0}
 abbrev pub AreSaid : NfsArgs → Type 0
 AreSaid (nfs.Setattr a) = IsSattrSaid a.attributes
 AreSaid (nfs.Write a) = AreBytes a.content
-AreSaid (nfs.Create a) = IsHowSaid a.how
-AreSaid (nfs.Mkdir a) = IsSattrSaid a.attributes
-AreSaid (nfs.Symlink a) = IsSattrSaid a.attributes
+AreSaid (nfs.Create a) = IsHowSaid a.how × AreBytes a.place.name
+AreSaid (nfs.Mkdir a) = IsSattrSaid a.attributes × AreBytes a.place.name
+AreSaid (nfs.Symlink a) = IsSattrSaid a.attributes × AreBytes a.place.name × AreBytes a.path
+AreSaid (nfs.Rename a) = AreBytes a.to.name
+AreSaid (nfs.Link a) = AreBytes a.place.name
 AreSaid other = Unit {0}
 
 id_said : (id : Option ℕ) (text : List ℕ) → IsOptional (IsNumber w32) id text → IsIdSaid id
@@ -108,6 +112,17 @@ write_said a text is h =
     let four = second_bytes is.second.second.back is.second.second.second three in
     opaque_bytes 4294967295 a.content is.second.second.second.back is.second.second.second.second four
 
+name_said : (place : DirOp) (text : List ℕ) → IsDirOp place text → AreBytes text → AreBytes place.name
+name_said place text is h = opaque_bytes 4294967295 place.name is.back is.second (second_bytes text is h)
+
+symlink_said : (a : Symlink) (text : List ℕ) → IsSymlink a text → AreBytes text → IsSattrSaid a.attributes × AreBytes a.place.name × AreBytes a.path
+symlink_said a text is h =
+    let rest = second_bytes text is h in (
+      sattr_said a.attributes is.second.front is.second.first,
+      name_said a.place is.front is.first (first_bytes text is h),
+      opaque_bytes 4294967295 a.path is.second.back is.second.second (second_bytes is.back is.second rest),
+    )
+
 arm_said : (mode : CreateMode) (value : CreateHow) (text : List ℕ) → IsCreateArm mode value text → IsHowSaid value
 arm_said Unchecked value text arm = subst IsHowSaid arm.1 (sattr_said arm.0 text arm.2)
 arm_said Guarded value text arm = subst IsHowSaid arm.1 (sattr_said arm.0 text arm.2)
@@ -125,14 +140,14 @@ args_said proc.Access args text arm h = subst AreSaid arm.1 tt
 args_said proc.Readlink args text arm h = subst AreSaid arm.1 tt
 args_said proc.Read args text arm h = subst AreSaid arm.1 tt
 args_said proc.Write args text arm h = subst AreSaid arm.1 (write_said arm.0 text arm.2 h)
-args_said proc.Create args text arm h = subst AreSaid arm.1 (how_said arm.0.how arm.2.back arm.2.second)
-args_said proc.Mkdir args text arm h = subst AreSaid arm.1 (sattr_said arm.0.attributes arm.2.back arm.2.second)
-args_said proc.Symlink args text arm h = subst AreSaid arm.1 (sattr_said arm.0.attributes arm.2.second.front arm.2.second.first)
+args_said proc.Create args text arm h = subst AreSaid arm.1 (how_said arm.0.how arm.2.back arm.2.second, name_said arm.0.place arm.2.front arm.2.first (first_bytes text arm.2 h))
+args_said proc.Mkdir args text arm h = subst AreSaid arm.1 (sattr_said arm.0.attributes arm.2.back arm.2.second, name_said arm.0.place arm.2.front arm.2.first (first_bytes text arm.2 h))
+args_said proc.Symlink args text arm h = subst AreSaid arm.1 (symlink_said arm.0 text arm.2 h)
 args_said proc.Mknod args text arm h = subst AreSaid arm.1 tt
 args_said proc.Remove args text arm h = subst AreSaid arm.1 tt
 args_said proc.Rmdir args text arm h = subst AreSaid arm.1 tt
-args_said proc.Rename args text arm h = subst AreSaid arm.1 tt
-args_said proc.Link args text arm h = subst AreSaid arm.1 tt
+args_said proc.Rename args text arm h = subst AreSaid arm.1 (name_said arm.0.to arm.2.back arm.2.second (second_bytes text arm.2 h))
+args_said proc.Link args text arm h = subst AreSaid arm.1 (name_said arm.0.place arm.2.back arm.2.second (second_bytes text arm.2 h))
 args_said proc.Readdir args text arm h = subst AreSaid arm.1 tt
 args_said proc.Readdirplus args text arm h = subst AreSaid arm.1 tt
 args_said proc.Fsstat args text arm h = subst AreSaid arm.1 tt

@@ -1,5 +1,5 @@
 -- Granted calls leave a describable tree describable.
-use Rattle.std.proofs.Common.{inl, inr, ◌≡◌, ◌⊎◌, ℕ, suc, zero, ◌-◌, ◌<◌, ◌^◌, Bool, true, false, List, Option, Some, None, option_map, refl, sym, ap, subst, ◌∙◌, arith}
+use Rattle.std.proofs.Common.{◌≡◌, ℕ, suc, zero, ◌-◌, ◌<◌, ◌^◌, Bool, true, false, List, Option, Some, None, option_map, refl, sym, ap, subst, ◌∙◌, arith}
 use Rattle.std.specs.Prelude.{nat_eq, ◌||◌, if◌then◌else◌}
 use Rattle.std.specs.List.{find, list_any}
 use Rattle.nfs_args.specs.declared.args.NfsArgs.{NfsArgs}
@@ -8,14 +8,12 @@ use Rattle.nfs_args.specs.declared.create.Create.{Create}
 use Rattle.nfs_args.specs.declared.create.CreateHow.{CreateHow}
 use Rattle.nfs_args.specs.declared.create.CreateHow.TheVariants.{Unchecked, Guarded, Exclusive}
 use Rattle.nfs_args.specs.declared.setattr.Setattr.{Setattr}
-use Rattle.nfs_args.specs.declared.symlink.Symlink.{Symlink}
 use Rattle.nfs_args.specs.declared.write.Write.{Write}
 use Rattle.nfs_attrs.specs.declared.fattr.Fattr.{Fattr}
 use Rattle.nfs_attrs.specs.declared.moment.Moment.{Moment}
 use Rattle.nfs_attrs.specs.declared.sattr.Sattr.{Sattr}
 use Rattle.nfs_attrs.specs.declared.time_setting.TimeSetting.{TimeSetting}
 use Rattle.nfs_attrs.specs.declared.time_setting.TimeSetting.TheVariants.{Leave, ServerTime, ClientTime}
-use Rattle.nfs_describe.specs.Lines.{is_target}
 use Rattle.nfs_exports.specs.Ids.{Ids, squash_as}
 use Rattle.nfs_exports.specs.Patterns.{covers}
 use Rattle.nfs_exports.specs.Tables.{exports_of}
@@ -24,7 +22,7 @@ use Rattle.nfs_exports.specs.declared.export_table.Export.{Export}
 use Rattle.nfs_exports.specs.declared.options.Options.{Options}
 use Rattle.nfs_exports.specs.declared.options.Squash.{Squash}
 use Rattle.nfs_exports.specs.declared.options.Squash.TheVariants.{No, Root, All}
-use Rattle.nfs_inodes.proofs.Lists.{by_test, find_contains, not_both, same_some}
+use Rattle.nfs_inodes.proofs.Lists.{find_contains, not_both, same_some}
 use Rattle.nfs_inodes.proofs.Maps.{at_with_same}
 use Rattle.nfs_inodes.proofs.law.Settings.{resized_is}
 use Rattle.nfs_inodes.specs.Changes.{after_resize, after_set, after_write_at, resized_to, zeros}
@@ -197,22 +195,18 @@ module _ (exports : List (List Export)) (now : Moment) (time : IsTime now) where
         may (Guarded attributes) same k size = absurd (not_both refl size)
         may (Exclusive verifier) same k size = absurd (not_both refl size)
 
-    created : (a : Create) → IsHowSaid a.how → (tag : ℕ) → tag < 2 ^ 32 → first (create_rules s a) ≡ None → (o : Option Fattr) → found s a.place.name ≡ o → D (on_some o (after_creating s a now tag) (λ f. after_taking s.tree s.ids.uid f a.how now))
-    created a said tag fits none None e = let size = on_some (size_in a.how) 0 (λ (size : ℕ). size) in
+    created : (a : Create) → IsHowSaid a.how → AreBytes a.place.name → (tag : ℕ) → tag < 2 ^ 32 → first (create_rules s a) ≡ None → (o : Option Fattr) → found s a.place.name ≡ o → D (on_some o (after_creating s a now tag) (λ f. after_taking s.tree s.ids.uid f a.how now))
+    created a said name tag fits none None e = let size = on_some (size_in a.how) 0 (λ (size : ℕ). size) in
         changes_stay.files s.tree s.file.fileid tag a.place.name (zeros size) (new_file_of file_mode s.ids now (attributes_in a.how)) (verifier_in a.how) now time
         (subst (MayMake s.tree s.file.fileid a.place.name) (sym (length_zeros size)) (may_make_file s d.law is.seen a none e)) fits
-        (new_said s.ids ids file_mode now (attributes_in a.how) time (how_attributes a.how said)) (zero_bytes size) exports d
-    created a said tag fits none (Some f) e = taken a none f e a.how refl
+        (new_said s.ids ids file_mode now (attributes_in a.how) time (how_attributes a.how said)) name (zero_bytes size) exports d
+    created a said name tag fits none (Some f) e = taken a none f e a.how refl
 
 -- ---- a granted call
 
--- a SYMLINK of a link that holds what no line says
-abbrev pub IsUnsaid : NfsArgs → Type 0
-IsUnsaid args = (a : Symlink) × (args ≡ nfs.Symlink a) × (is_target a.path ≡ false)
-
--- the tree after a granted call is describable, or it has such a link
+-- the tree after a granted call is describable
 abbrev Leaves : Scene → Subject → Subject → ℕ → Doing → Type 0
-Leaves c one two tag doing = IsDescribable (doing.effect one two c.now tag) c.exports ⊎ IsUnsaid c.args
+Leaves c one two tag doing = IsDescribable (doing.effect one two c.now tag) c.exports
 
 pub granted_described : (c : Scene) → IsDescribable c.tree c.exports → IsTime c.now → IsCredSaid c.caller.cred → AreSaid c.args → (doing : Doing) → doing_of c.args ≡ Some doing
     → (one two : Subject) (tag : ℕ) → tag < 2 ^ 32 → IsGranted c one two → Leaves c one two tag doing
@@ -230,17 +224,8 @@ granted_described c described time cred said doing e one two tag fits granted = 
     ids : IsIdsSaid one.ids
     ids = ids_said c.tree c.exports described c.caller one cred is
 
-    or_unsaid : (performed : Doing) → Some performed ≡ Some doing → Leaves c one two tag performed → Leaves c one two tag doing
-    or_unsaid performed e h = subst (Leaves c one two tag) (same_some e) h
-
-    reported_as : (performed : Doing) → Some performed ≡ Some doing → IsDescribable (performed.effect one two c.now tag) c.exports → Leaves c one two tag doing
-    reported_as performed e h = or_unsaid performed e (inl h)
-
-    linked : (a : Symlink) → c.args ≡ nfs.Symlink a → IsSattrSaid a.attributes → first (rules_of one two (nfs.Symlink a)) ≡ None → Leaves c one two tag (symlink a)
-    linked a same said none = by_test (is_target a.path)
-        (λ y. inl (changes_stay.links one.tree one.file.fileid tag a.place.name a.path (record (new_file_of link_mode one.ids c.now a.attributes) { mode = link_mode }) c.now time
-        (may_make_link one d.law is.seen a.place.name a.path none) fits (with_mode link_mode (new_file_of link_mode one.ids c.now a.attributes) (new_said one.ids ids link_mode c.now a.attributes time said)) y c.exports d))
-        (λ n. inr (a, same, n))
+    reported_as : (performed : Doing) → Some performed ≡ Some doing → Leaves c one two tag performed → Leaves c one two tag doing
+    reported_as performed e h = subst (Leaves c one two tag) (same_some e) h
 
     by : (args : NfsArgs) → c.args ≡ args → AreSaid args → doing_of args ≡ Some doing → first (rules_of one two args) ≡ None → Leaves c one two tag doing
     by nfs.Null same said e none = absurd (not_both refl e)
@@ -251,19 +236,22 @@ granted_described c described time cred said doing e one two tag fits granted = 
     by (nfs.Readlink file) same said e none = reported_as (readlink file) e d
     by (nfs.Read a) same said e none = reported_as (read a) e d
     by (nfs.Write a) same said e none = reported_as (write a) e (written c.exports c.now time one d c.tree c.caller is ids a said none (cleared_mode one.ids.uid one.file (has_bytes a.content)))
-    by (nfs.Create a) same said e none = reported_as (create a) e (created c.exports c.now time one d c.tree c.caller is ids a said tag fits none (found one a.place.name) refl)
+    by (nfs.Create a) same said e none = reported_as (create a) e (created c.exports c.now time one d c.tree c.caller is ids a said.0 said.1 tag fits none (found one a.place.name) refl)
     by (nfs.Mkdir a) same said e none = reported_as (mkdir a) e (changes_stay.directories one.tree one.file.fileid tag a.place.name (new_file_of directory_mode one.ids c.now a.attributes) c.now time
-        (may_make_directory one d.law is.seen a.place.name none) fits (new_said one.ids ids directory_mode c.now a.attributes time said) c.exports d)
-    by (nfs.Symlink a) same said e none = or_unsaid (symlink a) e (linked a same said none)
+        (may_make_directory one d.law is.seen a.place.name none) fits (new_said one.ids ids directory_mode c.now a.attributes time said.0) said.1 c.exports d)
+    by (nfs.Symlink a) same said e none = reported_as (symlink a) e (changes_stay.links one.tree one.file.fileid tag a.place.name a.path
+        (record (new_file_of link_mode one.ids c.now a.attributes) { mode = link_mode }) c.now time
+        (may_make_link one d.law is.seen a.place.name a.path none) fits
+        (with_mode link_mode (new_file_of link_mode one.ids c.now a.attributes) (new_said one.ids ids link_mode c.now a.attributes time said.0)) said.1 said.2 c.exports d)
     by (nfs.Mknod a) same said e none = reported_as (mknod a) e d
     by (nfs.Remove a) same said e none = let f = some_from_is_none (found one a.name) (passed_at (remove_rules one a.name) none 6 (test.no_entry one a.name) refl) in
         reported_as (remove a) e (changes_stay.removals one.tree one.file.fileid a.name c.now time (may_remove one d.law is.seen a.name none f.0 f.1).may c.exports d)
     by (nfs.Rmdir a) same said e none = let f = some_from_is_none (found one a.name) (passed_at (rmdir_rules one a.name) none 7 (test.no_entry one a.name) refl) in
         reported_as (rmdir a) e (changes_stay.removals one.tree one.file.fileid a.name c.now time (may_remove_directory one d.law is.seen a.name none f.0 f.1).may c.exports d)
     by (nfs.Rename a) same said e none = reported_as (rename a) e (changes_stay.renames one.tree one.file.fileid a.from.name two.file.fileid a.to.name c.now time
-        (may_rename one.tree d.law one two refl (are.second.tree ∙ sym are.first.tree) is.seen are.second.seen are.volume a none) c.exports d)
+        (may_rename one.tree d.law one two refl (are.second.tree ∙ sym are.first.tree) is.seen are.second.seen are.volume a none) said c.exports d)
     by (nfs.Link a) same said e none = reported_as (link a) e (changes_stay.names one.tree one.file.fileid two.file.fileid a.place.name c.now time
-        (may_link one.tree d.law one two refl (are.second.tree ∙ sym are.first.tree) is.seen are.second.seen are.volume a.place.name none) c.exports d)
+        (may_link one.tree d.law one two refl (are.second.tree ∙ sym are.first.tree) is.seen are.second.seen are.volume a.place.name none) said c.exports d)
     by (nfs.Readdir a) same said e none = reported_as (readdir a) e d
     by (nfs.Readdirplus a) same said e none = reported_as (readdirplus a) e d
     by (nfs.Fsstat file) same said e none = reported_as (fsstat file) e d

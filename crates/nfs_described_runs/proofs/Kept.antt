@@ -1,17 +1,11 @@
 -- Events leave a describable tree describable, and so do runs of them.
 use Rattle.std.proofs.Common.{inl, inr, ℕ, List, [], ◌∷◌, sym, ap, subst, ◌∙◌}
-use Rattle.nfs_args.specs.declared.args.NfsArgs.{NfsArgs}
 use Rattle.nfs_exports.specs.declared.export_table.Export.{Export}
-use Rattle.nfs_inodes.proofs.Lists.{same_some}
 use Rattle.nfs_inodes.specs.Changes.{with_key}
 use Rattle.nfs_inodes.specs.Law.{Law}
 use Rattle.nfs_inodes.specs.Tree.{Tree}
 use Rattle.nfs_lives.specs.Opening.{opened}
-use Rattle.nfs_policy.proofs.Changing.{Changes, IsChange, step_changes}
-use Rattle.nfs_policy.specs.Confining.{Asks}
-use Rattle.nfs_procs.specs.Doing.{Doing}
-use Rattle.nfs_procs.specs.Performing.{IsGranted}
-use Rattle.nfs_procs.specs.Procedures.{doing_of}
+use Rattle.nfs_policy.proofs.Changing.{Changes, step_changes}
 use Rattle.nfs_round_trip.proofs.Keys.{keys_stay}
 use Rattle.nfs_round_trip.proofs.LoadedLines.{loaded_describable}
 use Rattle.nfs_round_trip.proofs.RoundTrip.{load_again}
@@ -20,52 +14,34 @@ use Rattle.nfs_server.specs.Events.{Event, Answer, Choice}
 use Rattle.nfs_server.specs.Fits.{GoesOn, Held, History}
 use Rattle.nfs_server.specs.Steps.{Setup, State, scene_of}
 use Rattle.nfs_described_runs.proofs.Asked.{asks_said}
-use Rattle.nfs_described_runs.proofs.Granted.{IsUnsaid, granted_described}
-use Rattle.nfs_described_runs.specs.Described.{IsEvent, IsKept, LeavesDescribable, MakesUnsaidLink, RunsStayDescribable, ServersLoadAgain, StepsStayDescribable}
+use Rattle.nfs_described_runs.proofs.Granted.{granted_described}
+use Rattle.nfs_described_runs.specs.Described.{IsEvent, IsKept, LeavesDescribable, RunsStayDescribable, ServersLoadAgain, StepsStayDescribable}
 
 -- ---- an event
 
 module _ (setup : Setup) (old : State) (event : Event) (choice : Choice) (answer : Answer) (new : State) where
-  unsaid : (g : IsChange setup old event new) → IsUnsaid g.args → MakesUnsaidLink setup old event new
-  unsaid g u = let f = g.effect in record {
-    caller = g.caller;
-    args = u.0;
-    asks = subst (Asks event g.caller) u.1 g.asks;
-    one = f.one;
-    two = f.two;
-    granted = subst (λ (args : NfsArgs). IsGranted (scene_of setup old event g.caller args) f.one f.two) u.1 f.granted;
-    tag = f.tag;
-    new_is = f.new_is ∙ ap (λ (d : Doing). d.effect f.one f.two event.moment f.tag) (same_some (sym f.doing_is ∙ ap doing_of u.1));
-    unsaid = u.2;
-  }
-
-  described : IsEvent event → Changes setup old event choice answer new → LeavesDescribable setup old event new
-  described is (inl e) d = inl (subst (λ t. IsDescribable t setup.exports) (sym e) d)
+  described : IsEvent event → Changes setup old event choice answer new → LeavesDescribable setup old new
+  described is (inl e) d = subst (λ t. IsDescribable t setup.exports) (sym e) d
   described is (inr g) d =
       let f = g.effect in
       let said = asks_said event g.caller g.args is.bytes g.asks in
-      elim (granted_described (scene_of setup old event g.caller g.args) d is.moment said.0 said.1 f.doing f.doing_is f.one f.two f.tag f.tag_is.fits f.granted) [
-        | inl stays ↦ inl (subst (λ t. IsDescribable t setup.exports) (sym f.new_is) stays)
-        | inr u ↦ inr (unsaid g u)
-      ]
+      subst (λ t. IsDescribable t setup.exports) (sym f.new_is)
+      (granted_described (scene_of setup old event g.caller g.args) d is.moment said.0 said.1 f.doing f.doing_is f.one f.two f.tag f.tag_is.fits f.granted)
 
 pub steps_stay : StepsStayDescribable
 steps_stay setup history old event choice answer new is step = described setup old event choice answer new is (step_changes setup history old event choice answer new step)
 
 -- one event more of a server
 pub handled_stays : (history : History) (old : Held) (event : Event) (choice : Choice) (answer : Answer) (new : Held) → IsEvent event
-    → GoesOn history old event choice answer new → LeavesDescribable old.setup old.state event new.state
+    → GoesOn history old event choice answer new → LeavesDescribable old.setup old.state new.state
 handled_stays history old event choice answer new is step = steps_stay old.setup history.done old.state event choice answer new.state is step.0
 
 -- ---- runs
 
 pub runs_stay : RunsStayDescribable
-runs_stay setup opening d [] state run none = subst (λ (s : State). IsDescribable s.tree setup.exports) (sym run) d
-runs_stay setup opening d (done ∷ before) state run none =
-    elim (steps_stay setup before run.0 done.event done.choice done.answer state none.1.0 run.2 (runs_stay setup opening d before run.0 run.1 none.0)) [
-      | inl is ↦ is
-      | inr made ↦ absurd (none.1.1 made)
-    ]
+runs_stay setup opening d [] state run each = subst (λ (s : State). IsDescribable s.tree setup.exports) (sym run) d
+runs_stay setup opening d (done ∷ before) state run each =
+    steps_stay setup before run.0 done.event done.choice done.answer state each.1 run.2 (runs_stay setup opening d before run.0 run.1 each.0)
 
 -- ---- servers
 
@@ -87,9 +63,9 @@ kept t table d = record {
 }
 
 pub servers_load_again : ServersLoadAgain
-servers_load_again text loaded read key next history s fits opens exports none =
+servers_load_again text loaded read key next history s fits opens exports each =
     let law = subst Law opens fits.opens.lawful in
     let first = opened_described loaded.tree loaded.table key next law (loaded_describable text loaded read) in
     let there = subst (λ t. IsDescribable t loaded.table) (sym opens) first in
     let opening = subst (IsDescribable history.opening.tree) (sym exports) there in
-    kept s.state.tree s.setup.exports (runs_stay s.setup history.opening opening history.done s.state fits.run none)
+    kept s.state.tree s.setup.exports (runs_stay s.setup history.opening opening history.done s.state fits.run each)

@@ -1,8 +1,5 @@
 -- What clients do leaves the tree of a server describable, so that what is written of it loads as that tree again.
-use Rattle.std.specs.Prelude.{◌≡◌, ◌⊎◌, ℕ, ◌≤◌, false, List, length, Result, Ok, Err}
-use Rattle.nfs_args.specs.declared.args.NfsArgs.TheVariants as nfs
-use Rattle.nfs_args.specs.declared.symlink.Symlink.{Symlink}
-use Rattle.nfs_describe.specs.Lines.{is_target}
+use Rattle.std.specs.Prelude.{◌≡◌, ◌⊎◌, ℕ, ◌≤◌, List, length, Result, Ok, Err}
 use Rattle.nfs_describe.specs.Texts.{Says}
 use Rattle.nfs_exports.specs.declared.export_table.Export.{Export}
 use Rattle.nfs_inodes.specs.Changes.{with_key}
@@ -13,32 +10,16 @@ use Rattle.nfs_load.specs.declared.load_error.LoadError.{LoadError}
 use Rattle.nfs_load.specs.declared.load_error.LoadError.TheVariants.{Memory}
 use Rattle.nfs_load.specs.declared.loaded.Loaded.{Loaded}
 use Rattle.nfs_load.specs.Moments.{IsTime}
-use Rattle.nfs_policy.specs.Confining.{Asks, Throughout}
-use Rattle.nfs_procs.specs.Changers.{symlink}
-use Rattle.nfs_procs.specs.Performing.{IsGranted}
+use Rattle.nfs_policy.specs.Confining.{Throughout}
 use Rattle.nfs_round_trip.specs.RoundTrip.{IsDescribable, IsRestored}
-use Rattle.nfs_rules.specs.Subjects.{Caller, Subject}
 use Rattle.nfs_server.specs.Events.{Event, Answer, Choice, Done}
 use Rattle.nfs_server.specs.Fits.{Held, History, Fits}
-use Rattle.nfs_server.specs.Steps.{Setup, State, scene_of, Step, IsRun}
+use Rattle.nfs_server.specs.Steps.{Setup, State, Step, IsRun}
 use Rattle.nfs_xdr.specs.Reading.{AreBytes}
 
--- The event is a SYMLINK that is granted and done, of a link that holds what no line says.
-pub record MakesUnsaidLink (setup : Setup) (old : State) (event : Event) (new : State) : Type 0 where
-  pub caller : Caller
-  pub args : Symlink
-  pub asks : Asks event caller (nfs.Symlink args)
-  pub one : Subject
-  pub two : Subject
-  pub granted : IsGranted (scene_of setup old event caller (nfs.Symlink args)) one two
-  pub tag : ℕ
-  pub new_is : new.tree ≡ (symlink args).effect one two event.moment tag
-  pub unsaid : is_target args.path ≡ false
-
--- an event leaves a describable tree describable, with the same exports, or makes such a link
-abbrev pub LeavesDescribable : Setup → State → Event → State → Type 0
-LeavesDescribable setup old event new = IsDescribable old.tree setup.exports
-    → IsDescribable new.tree setup.exports ⊎ MakesUnsaidLink setup old event new
+-- an event leaves a describable tree describable, with the same exports
+abbrev pub LeavesDescribable : Setup → State → State → Type 0
+LeavesDescribable setup old new = IsDescribable old.tree setup.exports → IsDescribable new.tree setup.exports
 
 -- an event of bytes, at a moment of 32 bits
 pub record IsEvent (event : Event) : Type 0 where
@@ -47,16 +28,15 @@ pub record IsEvent (event : Event) : Type 0 where
 
 abbrev pub StepsStayDescribable : Type 0
 StepsStayDescribable = (setup : Setup) (history : List Done) (old : State) (event : Event) (choice : Choice) (answer : Answer) (new : State)
-    → IsEvent event → Step setup history old event choice answer new → LeavesDescribable setup old event new
+    → IsEvent event → Step setup history old event choice answer new → LeavesDescribable setup old new
 
--- such an event makes no such link
-abbrev pub MakesNone : Setup → State → Event → State → Type 0
-MakesNone setup old event new = IsEvent event × (MakesUnsaidLink setup old event new → ⊥)
+abbrev pub AreEvents : State → Event → State → Type 0
+AreEvents old event new = IsEvent event
 
 abbrev pub RunsStayDescribable : Type 0
 RunsStayDescribable = (setup : Setup) (opening : State) → IsDescribable opening.tree setup.exports
     → (history : List Done) (state : State) (run : IsRun setup opening history state)
-    → Throughout setup opening history state run (MakesNone setup) → IsDescribable state.tree setup.exports
+    → Throughout setup opening history state run AreEvents → IsDescribable state.tree setup.exports
 
 -- a text that says the tree with these exports says, when it is loaded, that tree again; or memory is wanted
 abbrev pub LoadsAgain : Tree → List (List Export) → Type 0
@@ -68,10 +48,10 @@ pub record IsKept (t : Tree) (table : List (List Export)) : Type 0 where
   pub describable : IsDescribable t table
   pub again : (key : List ℕ) → length key ≡ 8 → AreBytes key → LoadsAgain (with_key t key) table
 
--- A server that opened with what a description says, under some key and from some number on: after all events that make no such link.
+-- A server that opened with what a description says, under some key and from some number on: after any events.
 abbrev pub ServersLoadAgain : Type 0
 ServersLoadAgain = (text : List ℕ) (loaded : Loaded) → Describes text (Ok loaded) → (key : List ℕ) (next : ℕ)
     → (history : History) (s : Held) (fits : Fits history s)
     → history.opening.tree ≡ opened loaded.tree key next → s.setup.exports ≡ loaded.table
-    → Throughout s.setup history.opening history.done s.state fits.run (MakesNone s.setup)
+    → Throughout s.setup history.opening history.done s.state fits.run AreEvents
     → IsKept s.state.tree s.setup.exports

@@ -3,7 +3,6 @@ ghost use Rattle.std.specs.Prelude.{◌≡◌};
 ghost use Rattle.nfs_described_runs.specs.Described.{LeavesDescribable};
 ghost use Rattle.nfs_load.specs.Moments.{IsTime};
 ghost use Rattle.nfs_server.specs.Fits.{Fits, History};
-ghost use Rattle.nfs_server.specs.InMemory.{event_of};
 ghost use Rattle.nfs_xdr.specs.Reading.{AreBytes};
 
 use nfs_attrs::moment::Moment;
@@ -12,11 +11,10 @@ use nfs_server::reply_buf::ReplyBuf;
 use nfs_server::server::Server;
 
 /// Takes one whole record, as `Server::handle` does. Whatever history fits, a tree that was
-/// describable before stays so, or the event is a SYMLINK that is granted, of a link that holds what
-/// no line of a description says.
+/// describable before stays so.
 pub fn handle(server: &mut Server, event: Event<'_>, reply: &mut ReplyBuf) -> Handled
     ensures described { (history : History) → Fits history server.old
-        → LeavesDescribable server.old.setup server.old.state (event_of event.entry) server.new.state }
+        → LeavesDescribable server.old.setup server.old.state server.new.state }
 {
     lent(event.bytes);
     now(event.moment);

@@ -1,13 +1,12 @@
 //! Laws over the definitions alone.
 ghost use Rattle.nfs_described_runs.specs.Described.{RunsStayDescribable, ServersLoadAgain, StepsStayDescribable};
 
-/// An event leaves a describable tree describable, with the same exports, or it is a SYMLINK that is
-/// granted, of a link that holds what no line of a description says.
+/// An event leaves a describable tree describable, with the same exports.
 pub fn steps_stay_describable()
     ensures { StepsStayDescribable }
 {}
 
-/// After any list of events that make no such link, from a describable tree, the tree is describable.
+/// After any list of events, from a describable tree, the tree is describable.
 pub fn runs_stay_describable()
     ensures { RunsStayDescribable }
 {}

@@ -3,11 +3,10 @@
 use crate::content::{CHUNK_BYTES, ContentFault, content_of};
 use crate::fault::DiskFault;
 use crate::found::{Found, Kind, Times};
-use crate::survey::{Purpose, Survey};
+use crate::survey::Survey;
 use crate::warning::{SkipReason, Warning};
 use nfs_attrs::moment::Moment;
 use nfs_content::content::Content;
-use nfs_describe::sayable::is_target;
 use nfs_handles::number::Number;
 use nfs_inodes::given_attributes::GivenAttributes;
 use nfs_inodes::new_file::{NewContent, NewFile};
@@ -40,7 +39,7 @@ pub fn build<R: Files + AllocGlobal>(
         alloc,
         tree,
         chunk,
-        purpose: survey.purpose,
+        directory: survey.directory.as_str(),
         made: Vec::new(alloc),
         first_names: BTreeMap::new(alloc),
         warnings: Vec::new(alloc),
@@ -66,7 +65,8 @@ pub fn build<R: Files + AllocGlobal>(
 struct Builder<'a> {
     alloc: Global,
     tree: &'a mut Tree,
-    purpose: Purpose,
+    // The path of the first directory on disk.
+    directory: &'a str,
     // What files are read through.
     chunk: Vec<u8>,
     // The number of each that was found, where it was made.
@@ -84,7 +84,7 @@ impl Builder<'_> {
                 Ok(number) => Some(number),
                 Err(reason) => {
                     self.warnings.push(Warning {
-                        path: found.disk_path.clone()?,
+                        path: found.disk_path(self.alloc, self.directory)?,
                         reason,
                     })?;
                     None
@@ -167,7 +167,8 @@ impl Builder<'_> {
     ) -> Result<Result<Number, SkipReason>, DiskFault> {
         self.tree.law();
         let most = self.tree.limits().file_size;
-        let path = found.disk_path.as_str();
+        let path = found.disk_path(self.alloc, self.directory)?;
+        let path = path.as_str();
         let pages = match content_of(rt, self.alloc, self.chunk.as_mut_slice(), path, most) {
             Ok(pages) => pages,
             Err(ContentFault::Skipped(reason)) => return Ok(Err(reason)),
@@ -195,13 +196,11 @@ impl Builder<'_> {
         name: &[u8],
         found: &Found,
     ) -> Result<Result<Number, SkipReason>, DiskFault> {
-        let Ok(target) = fs::read_link(rt, found.disk_path.as_str()) else {
+        let path = found.disk_path(self.alloc, self.directory)?;
+        let Ok(target) = fs::read_link(rt, path.as_str()) else {
             return Ok(Err(SkipReason::Unreadable));
         };
         let target = target.to_string_lossy().as_bytes();
-        if self.purpose.is_description() && !is_target(target) {
-            return Ok(Err(SkipReason::Target));
-        }
         if !self.tree.may_make_link(dir, name, target) {
             return Ok(Err(SkipReason::Full));
         }

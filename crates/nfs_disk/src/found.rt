@@ -4,6 +4,7 @@ ghost use Rattle.nfs_disk.specs.Surveys as spec;
 
 use nfs_attrs::moment::Moment;
 use nfs_load::statement::Given;
+use std::alloc::{AllocError, Global};
 use std::fs::Metadata;
 use std::os::unix::fs::MetadataExt;
 
@@ -23,8 +24,6 @@ pub enum Kind {
 pub struct Found {
     /// The place of its directory among those that were found; its own, for the first of all.
     pub parent: usize,
-    /// Its path on disk.
-    pub disk_path: String,
     /// Its path from the first directory on, with a slash before each name.
     pub path: String,
     /// What it is.
@@ -39,6 +38,13 @@ pub struct Found {
     pub identity: (u64, u64),
     /// How many names it has.
     pub names: u64,
+}
+
+impl Found {
+    /// Its path on disk, where this is that of the first directory.
+    pub(crate) fn disk_path(&self, alloc: Global, directory: &str) -> Result<String, AllocError> {
+        format!(in alloc; "{directory}{}", self.path)
+    }
 }
 
 /// The times of a file (RFC 1813, section 2.6).

@@ -10,6 +10,7 @@ use crate::needs::limits_for;
 use crate::survey::{Extent, Survey};
 use nfs_describe::lines::{put_head, put_volume_line};
 use nfs_inodes::limits::{MAX_FILES, MAX_VOLUME_BYTES};
+use nfs_load::name_form::NameForm;
 use nfs_load::statement::Given;
 use nfs_text::chunks::cut;
 use std::alloc::{AllocError, Global};
@@ -54,7 +55,7 @@ pub fn head_of(alloc: Global, head: &Head<'_>, survey: &Survey) -> Result<Vec<u8
     let found = survey.found.as_slice();
     let limits = limits_for(alloc, found, room.files)?;
     let mut text = Vec::new(alloc);
-    put_head(alloc, &mut text, head.key, limits)?;
+    put_head(alloc, &mut text, head.key, limits, NameForm::Plain)?;
     let mount = word_of(head.mount.as_bytes());
     put_volume_line(&mut text, mount, room.bytes, room.files, root_of(found))?;
     put_exports(&mut text, head.exports)?;

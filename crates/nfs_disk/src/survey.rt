@@ -9,7 +9,6 @@ use crate::fault::DiskFault;
 use crate::found::{Found, Kind, given_of, is_alone, kind_of, number_of, size_of, times_of};
 use crate::needs::MAX_SIZE;
 use crate::warning::{SkipReason, Warning};
-use nfs_describe::sayable::is_sayable;
 use std::alloc::{AllocError, Global};
 use std::collections::BTreeSet;
 use std::fs::{self, Metadata};
@@ -45,6 +44,8 @@ impl Purpose {
 pub struct Survey {
     /// What it is for.
     pub purpose: Purpose,
+    /// The path of the directory on disk.
+    pub directory: String,
     /// The directory itself, then what stands in it, then what stands in each directory of these,
     /// and so on, each time in the order of names.
     pub found: Vec<Found>,
@@ -72,6 +73,7 @@ impl Survey {
         let alloc = rt.alloc();
         let mut survey = Survey {
             purpose,
+            directory: String::from_str(alloc, directory)?,
             found: Vec::new(alloc),
             warnings: Vec::new(alloc),
         };
@@ -81,7 +83,7 @@ impl Survey {
                 return Ok(survey);
             };
             if found.kind == Kind::Directory {
-                let disk_path = found.disk_path.clone()?;
+                let disk_path = found.disk_path(alloc, directory)?;
                 let path = found.path.clone()?;
                 survey.enter(rt, place, disk_path.as_str(), path.as_str())?;
             }
@@ -138,8 +140,7 @@ impl Survey {
             let error = io::Error::from(io::ErrorKind::NotADirectory);
             return Err(DiskFault::CannotRead(error));
         }
-        let disk_path = String::from_str(alloc, directory)?;
-        let first = found_at(0, disk_path, String::new(alloc), Kind::Directory, &metadata);
+        let first = found_at(0, String::new(alloc), Kind::Directory, &metadata);
         self.found.push(first)?;
         Ok(())
     }
@@ -180,9 +181,9 @@ impl Survey {
         let Ok(metadata) = fs::symlink_metadata(rt, disk_path.as_str()) else {
             return self.leave_out(alloc, disk_path.as_str(), SkipReason::Unreadable);
         };
-        match kind_for(self.purpose, &metadata, path.as_str()) {
+        match kind_for(self.purpose, &metadata) {
             Ok(kind) => {
-                let found = found_at(parent, disk_path, path, kind, &metadata);
+                let found = found_at(parent, path, kind, &metadata);
                 self.found.push(found)?;
                 Ok(())
             }
@@ -224,36 +225,26 @@ fn is_because(reason: SkipReason, found: SkipReason) -> bool
     reason == found
 }
 
-// What kind of file stands at a path, or why it is skipped.
-fn kind_for(purpose: Purpose, metadata: &Metadata, path: &str) -> Result<Kind, SkipReason> {
+// What kind of file this is, or why it is skipped.
+fn kind_for(purpose: Purpose, metadata: &Metadata) -> Result<Kind, SkipReason> {
     match kind_of(metadata) {
-        Some(kind) if purpose.is_description() => kind_to_say(kind, metadata.len(), path),
+        Some(kind) if purpose.is_description() => kind_to_say(kind, metadata.len()),
         Some(kind) => Ok(kind),
         None => Err(SkipReason::OtherKind),
     }
 }
 
 // The same of a file that a description has to hold.
-fn kind_to_say(kind: Kind, size: u64, path: &str) -> Result<Kind, SkipReason> {
-    if !is_sayable(path.as_bytes()) {
-        return Err(SkipReason::Unsayable);
-    }
+fn kind_to_say(kind: Kind, size: u64) -> Result<Kind, SkipReason> {
     if kind == Kind::Regular && size > MAX_SIZE as u64 {
         return Err(SkipReason::TooLarge);
     }
     Ok(kind)
 }
 
-fn found_at(
-    parent: usize,
-    disk_path: String,
-    path: String,
-    kind: Kind,
-    metadata: &Metadata,
-) -> Found {
+fn found_at(parent: usize, path: String, kind: Kind, metadata: &Metadata) -> Found {
     Found {
         parent,
-        disk_path,
         path,
         kind,
         given: given_of(metadata),

@@ -1,6 +1,7 @@
 //! What is skipped of a description, and why.
 
 use crate::needs::MAX_SIZE;
+use nfs_load::name_form::name_byte;
 use std::fmt;
 
 /// Why something on disk is skipped.
@@ -8,18 +9,14 @@ use std::fmt;
 pub enum SkipReason {
     /// It is no directory, no regular file and no symbolic link.
     OtherKind,
-    /// Its name has a space, a `%` or a byte outside `!` to `~`, or its path is too long.
-    Unsayable,
     /// It has more than [`MAX_SIZE`] bytes.
     TooLarge,
     /// It has more bytes than when it was found.
     Grown,
     /// The system doesn't let it be read.
     Unreadable,
-    /// What the link holds is empty, too long, or has a space or a byte outside `!` to `~`.
-    Target,
-    /// Its directory or the file itself has the most links that a tree may allow, or its volume is full, since
-    /// files have grown after they were found.
+    /// Its directory or the file itself has the most links that a tree may allow, what the link holds is longer
+    /// than a tree may allow, or its volume is full, since files have grown after they were found.
     Full,
     /// A name in the directory is no text in UTF-8.
     NotText,
@@ -27,13 +24,11 @@ pub enum SkipReason {
 
 impl SkipReason {
     /// Each reason once.
-    pub const ALL: [SkipReason; 8] = [
+    pub const ALL: [SkipReason; 6] = [
         SkipReason::OtherKind,
-        SkipReason::Unsayable,
         SkipReason::TooLarge,
         SkipReason::Grown,
         SkipReason::Unreadable,
-        SkipReason::Target,
         SkipReason::Full,
         SkipReason::NotText,
     ];
@@ -43,13 +38,9 @@ impl fmt::Display for SkipReason {
     fn fmt<W: fmt::Write>(&self, f: &mut fmt::Formatter<W>) -> fmt::Result {
         match self {
             SkipReason::OtherKind => f.write_str("a device, a socket or a pipe"),
-            SkipReason::Unsayable => {
-                f.write_str("a description can't hold the name, or the path is too long")
-            }
             SkipReason::TooLarge => write!(f, "more than {MAX_SIZE} bytes"),
             SkipReason::Grown => f.write_str("it has grown while the directory was read"),
             SkipReason::Unreadable => f.write_str("it can't be read"),
-            SkipReason::Target => f.write_str("a description can't hold what the link holds"),
             SkipReason::Full => {
                 f.write_str("a limit of the directory, of the volume or of the file is reached")
             }
@@ -77,20 +68,15 @@ impl fmt::Display for Warning {
 
 // A path, with `%` and two hexadecimal digits in place of each byte outside `!` to `~` and of `%`.
 fn write_quoted<W: fmt::Write>(f: &mut fmt::Formatter<W>, path: &str) -> fmt::Result {
-    for letter in path.chars() {
-        if letter.is_ascii_graphic() && letter != '%' {
-            f.write_char(letter)?;
-        } else {
-            write_bytes(f, letter)?;
-        }
+    for byte in path.bytes() {
+        write_byte(f, byte)?;
     }
     Ok(())
 }
 
-fn write_bytes<W: fmt::Write>(f: &mut fmt::Formatter<W>, letter: char) -> fmt::Result {
-    let mut bytes = [0; 4];
-    for byte in letter.encode_utf8(&mut bytes).bytes() {
-        write!(f, "%{byte:02x}")?;
+fn write_byte<W: fmt::Write>(f: &mut fmt::Formatter<W>, byte: u8) -> fmt::Result {
+    for letter in name_byte(byte).as_slice() {
+        f.write_char(char::from(*letter))?;
     }
     Ok(())
 }

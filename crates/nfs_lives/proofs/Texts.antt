@@ -171,6 +171,7 @@ reported_as row other e it = subst IsReported same it
 keyword_reported : (k : Keyword) (fields : List (List ℕ)) (row : PathRow) → AllSaid fields → row_by k fields ≡ Some row → IsReported row
 keyword_reported keyword.Server fields row said e = cc
 keyword_reported keyword.Limits fields row said e = cc
+keyword_reported keyword.Names fields row said e = cc
 keyword_reported keyword.Volume [] row said e = cc
 keyword_reported keyword.Volume (path ∷ rest) row said e = reported_as row (row_with keyword.Volume path) e (volume_reported path said.0)
 keyword_reported keyword.Export fields row said e = cc

@@ -4,7 +4,7 @@ use Rattle.sha2.specs.Sha256.{sha256}
 use Rattle.nfs_text.specs.Words.{words}
 use Rattle.nfs_load.specs.Lines.{is_comment, keyword_named}
 use Rattle.nfs_load.specs.declared.line.Keyword.{Keyword}
-use Rattle.nfs_load.specs.declared.line.Keyword.TheVariants.{Server, Limits, Volume, Export, Dir, File, Link, Hard, Times}
+use Rattle.nfs_load.specs.declared.line.Keyword.TheVariants.{Server, Limits, Names, Volume, Export, Dir, File, Link, Hard, Times}
 
 -- what a line names: a path, and, where the file at it has another name, that path too, both as they are written
 pub record PathRow : Type 0 where
@@ -27,6 +27,7 @@ two_paths keyword (path ∷ old ∷ rest) = Some (record { keyword = keyword; pa
 abbrev pub row_by : Keyword → List (List ℕ) → Option PathRow
 row_by Server fields = None
 row_by Limits fields = None
+row_by Names fields = None
 row_by Volume fields = one_path Volume fields
 row_by Export fields = None
 row_by Dir fields = one_path Dir fields
@@ -61,6 +62,7 @@ rows_of (line ∷ rest) = onto (row_of line) (rows_of rest)
 abbrev pub makes_file : Keyword → Bool
 makes_file Server = false
 makes_file Limits = false
+makes_file Names = false
 makes_file Volume = true
 makes_file Export = false
 makes_file Dir = true
@@ -74,6 +76,7 @@ makes_file Times = false
 abbrev pub word_of : Keyword → List ℕ
 word_of Server = codes "server"
 word_of Limits = codes "limits"
+word_of Names = codes "names"
 word_of Volume = codes "volume"
 word_of Export = codes "export"
 word_of Dir = codes "dir"

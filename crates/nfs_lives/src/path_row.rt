@@ -21,8 +21,8 @@ pub struct PathRow<'a> {
 }
 
 /// What a line that is given without its LF names. `None` where it names nothing: it has no words,
-/// its first byte is `#`, or its first word is `server`, `limits`, `export`, `times` or no keyword. Three
-/// words of the line are looked at, however long it is.
+/// its first byte is `#`, or its first word is `server`, `limits`, `names`, `export`, `times` or no keyword.
+/// Three words of the line are looked at, however long it is.
 pub fn read_row(line: &[u8]) -> Option<PathRow<'_>>
     ensures { option_map row_seen result ≡ row_of line.now }
 {
@@ -41,7 +41,8 @@ fn row_in<'a>(keyword: Keyword, fields: Words<'a>) -> Option<PathRow<'a>>
 {
     let mut left = fields;
     match keyword {
-        Keyword::Server | Keyword::Limits | Keyword::Export | Keyword::Times => return None,
+        Keyword::Server | Keyword::Limits | Keyword::Names | Keyword::Export | Keyword::Times =>
+            return None,
         Keyword::Volume | Keyword::Dir | Keyword::File | Keyword::Link | Keyword::Hard => {}
     }
     let path = left.next()?;
@@ -77,6 +78,7 @@ pub(crate) fn word_of(keyword: Keyword) -> &'static [u8]
     match keyword {
         Keyword::Server => b"server",
         Keyword::Limits => b"limits",
+        Keyword::Names => b"names",
         Keyword::Volume => b"volume",
         Keyword::Export => b"export",
         Keyword::Dir => b"dir",

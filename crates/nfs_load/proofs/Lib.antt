@@ -7,3 +7,6 @@ pub mod Entries
 pub mod Statements
 pub mod Loadings
 pub mod Timed
+pub mod Names
+pub mod Unescaping
+pub mod PathNames

@@ -9,12 +9,14 @@ use Rattle.nfs_inodes.specs.declared.limits.Limits.{Limits}
 use Rattle.nfs_inodes.specs.Tree.{Tree, Volume}
 use Rattle.nfs_text.specs.Lines.{lines}
 use Rattle.nfs_load.specs.declared.cause.Cause.{Cause}
-use Rattle.nfs_load.specs.declared.cause.Cause.TheVariants.{NoServer, ServerTwice, NoVolume, LimitsLate, Full}
+use Rattle.nfs_load.specs.declared.cause.Cause.TheVariants.{NoServer, ServerTwice, NoVolume, LimitsLate, NamesLate, Full}
 use Rattle.nfs_load.specs.declared.line.Keyword.{Keyword}
 use Rattle.nfs_load.specs.declared.line.Keyword.TheVariants as keyword
 use Rattle.nfs_load.specs.declared.load_error.LoadError.{LoadError}
 use Rattle.nfs_load.specs.declared.load_error.LoadError.TheVariants as error
 use Rattle.nfs_load.specs.declared.loaded.Loaded.{Loaded}
+use Rattle.nfs_load.specs.declared.name_form.NameForm.{NameForm}
+use Rattle.nfs_load.specs.declared.name_form.NameForm.TheVariants.{Plain}
 use Rattle.nfs_load.specs.declared.refusal.Refusal.{Refusal}
 use Rattle.nfs_load.specs.declared.refusal.Refusal.TheVariants.{Fault, Memory}
 use Rattle.nfs_load.specs.declared.statement.ExportLine.{ExportLine}
@@ -22,6 +24,7 @@ use Rattle.nfs_load.specs.Effects.{AddsVolume, IsOpen, MakesDir, MakesFile, Make
 use Rattle.nfs_load.specs.Fields.{◌>>=◌, by, key_in}
 use Rattle.nfs_load.specs.LimitFields.{limits_in}
 use Rattle.nfs_load.specs.Lines.{Line, shape}
+use Rattle.nfs_load.specs.Names.{form_in}
 use Rattle.nfs_load.specs.Statements.{Read, VolumeLine, WantsContent, volume_in, export_in, dir_in, file_in, link_in, hard_in, times_in}
 
 -- ---- one line
@@ -50,9 +53,9 @@ InRoot (Err cause) result Done = IsFault cause result
 abbrev pub InVolume : Loaded → Result Unit Refusal → (ℕ → Type 0) → Type 0
 InVolume old result Done = InRoot (last_root old.tree) result Done
 
--- a further volume has no exports yet
+-- a further volume has no exports yet; how names are written stays
 abbrev pub VolumeTaken : Loaded → VolumeLine → Result Unit Refusal → Loaded → Type 0
-VolumeTaken old line (Ok x) new = AddsVolume old.tree line (Ok x) new.tree × (new.table ≡ old.table ++ [] ∷ [])
+VolumeTaken old line (Ok x) new = AddsVolume old.tree line (Ok x) new.tree × (new.table ≡ old.table ++ [] ∷ []) × (new.names ≡ old.names)
 VolumeTaken old line (Err (Fault cause)) new = AddsVolume old.tree line (Err (Fault cause)) new.tree
 VolumeTaken old line (Err Memory) new = IsOpen (free_path old.tree line.path) (λ path. MayAddVolume old.tree path line.max_bytes line.max_files)
 
@@ -65,13 +68,13 @@ ExportDone old line (Ok x) new = (pattern_count old.table < 256) × (new ≡ wit
 ExportDone old line (Err (Fault cause)) new = (256 ≤ pattern_count old.table) × (cause ≡ Full)
 ExportDone old line (Err Memory) new = pattern_count old.table < 256
 
--- a line that leaves the table
+-- a line that leaves the table, and how names are written
 abbrev pub OnTree : {A : Type 0} → Read A → (Tree → ℕ → A → Result Unit Refusal → Tree → Type 0) → Loaded → Result Unit Refusal → Loaded → Type 0
-OnTree read Done old result new = InVolume old result (λ root. Then read result (λ line. Done old.tree root line result new.tree × (new.table ≡ old.table)))
+OnTree read Done old result new = InVolume old result (λ root. Then read result (λ line. Done old.tree root line result new.tree × (new.table ≡ old.table) × (new.names ≡ old.names)))
 
 -- a file, or its content wants memory
 abbrev pub FileDone : Loaded → List (List ℕ) → Result Unit Refusal → Loaded → Type 0
-FileDone old fields result new = OnTree (file_in old.tree.limits.file_size fields) MakesFile old result new ⊎ ((result ≡ Err Memory) × IsOk (last_root old.tree) × WantsContent old.tree.limits.file_size fields)
+FileDone old fields result new = OnTree (file_in old.names old.tree.limits.file_size fields) MakesFile old result new ⊎ ((result ≡ Err Memory) × IsOk (last_root old.tree) × WantsContent old.names old.tree.limits.file_size fields)
 
 -- limits are set before the first volume
 abbrev pub early_limits : Tree → List (List ℕ) → Result Limits Cause
@@ -81,24 +84,34 @@ abbrev pub LimitsSet : Loaded → Result Limits Cause → Result Unit Refusal �
 LimitsSet old (Ok limits) result new = (result ≡ Ok tt) × (new ≡ record old { tree = with_limits old.tree limits })
 LimitsSet old (Err cause) result new = IsFault cause result
 
+-- and so is how names are written
+abbrev pub early_names : Loaded → List (List ℕ) → Read NameForm
+early_names old fields = if nat_eq (length old.tree.volumes) 0 then by (form_in old.names) fields else Err NamesLate
+
+abbrev pub NamesSet : Loaded → Read NameForm → Result Unit Refusal → Loaded → Type 0
+NamesSet old (Ok form) result new = (result ≡ Ok tt) × (new ≡ record old { names = form.0 })
+NamesSet old (Err cause) result new = IsFault cause result
+
 -- A line with this keyword and these fields, after the server line.
 abbrev pub GoesOn : Loaded → Keyword → List (List ℕ) → Result Unit Refusal → Loaded → Type 0
 GoesOn old keyword.Server fields result new = IsFault ServerTwice result
 GoesOn old keyword.Limits fields result new = LimitsSet old (early_limits old.tree fields) result new
+GoesOn old keyword.Names fields result new = NamesSet old (early_names old fields) result new
 GoesOn old keyword.Volume fields result new = Then (volume_in old.tree.limits.files fields) result (λ line. VolumeTaken old line result new)
 GoesOn old keyword.Export fields result new = InVolume old result (λ root. Then (export_in fields) result (λ line. ExportDone old line result new))
-GoesOn old keyword.Dir fields result new = OnTree (dir_in fields) MakesDir old result new
+GoesOn old keyword.Dir fields result new = OnTree (dir_in old.names fields) MakesDir old result new
 GoesOn old keyword.File fields result new = FileDone old fields result new
-GoesOn old keyword.Link fields result new = OnTree (link_in old.tree.limits.link_path fields) MakesLink old result new
-GoesOn old keyword.Hard fields result new = OnTree (hard_in fields) AddsName old result new
-GoesOn old keyword.Times fields result new = OnTree (times_in fields) SetsTimes old result new
+GoesOn old keyword.Link fields result new = OnTree (link_in old.names old.tree.limits.link_path fields) MakesLink old result new
+GoesOn old keyword.Hard fields result new = OnTree (hard_in old.names fields) AddsName old result new
+GoesOn old keyword.Times fields result new = OnTree (times_in old.names fields) SetsTimes old result new
 
 -- the server line makes an empty tree and an empty table
 abbrev pub begun : Keyword → List (List ℕ) → Result Loaded Cause
 begun keyword.Server fields = do
   key ← by key_in fields
-  Ok (record { tree = record { files = []; next = 1; key = key.0; volumes = []; limits = default_limits }; table = [] })
+  Ok (record { tree = record { files = []; next = 1; key = key.0; volumes = []; limits = default_limits }; table = []; names = Plain })
 begun keyword.Limits fields = Err NoServer
+begun keyword.Names fields = Err NoServer
 begun keyword.Volume fields = Err NoServer
 begun keyword.Export fields = Err NoServer
 begun keyword.Dir fields = Err NoServer

@@ -12,6 +12,8 @@ use Rattle.nfs_exports.specs.Patterns.{pattern_of}
 use Rattle.nfs_exports.specs.declared.options.Options.{Options}
 use Rattle.nfs_exports.specs.declared.options.OptionsFault.{OptionsFault}
 use Rattle.nfs_exports.specs.declared.pattern.Pattern.{Pattern}
+use Rattle.nfs_load.specs.Names.{at_most, held_in}
+use Rattle.nfs_load.specs.declared.name_form.NameForm.{NameForm}
 use Rattle.nfs_load.specs.declared.cause.Cause.{Cause}
 use Rattle.nfs_load.specs.declared.refusal.Refusal.{Refusal}
 use Rattle.nfs_load.specs.declared.refusal.Refusal.TheVariants.{Fault, Memory}
@@ -43,9 +45,13 @@ at_least min (Some number) = if nat_le min number then Ok number else Err BadNum
 abbrev pub number_in : ℕ → ℕ → List ℕ → Result ℕ Cause
 number_in min max field = at_least min (decimal_of max field)
 
+abbrev pub target_or_cause : Option (List ℕ) → Result (List ℕ) Cause
+target_or_cause None = Err BadContent
+target_or_cause (Some target) = Ok target
+
 -- what a symbolic link holds: at most so many bytes
-abbrev pub target_in : ℕ → List ℕ → Result (List ℕ) Cause
-target_in most field = if nat_le (length field) most then Ok field else Err BadContent
+abbrev pub target_in : NameForm → ℕ → List ℕ → Result (List ℕ) Cause
+target_in form most field = target_or_cause (at_most most (held_in form field))
 
 abbrev pub found_pattern : Option Pattern → Result Pattern Cause
 found_pattern None = Err BadPattern

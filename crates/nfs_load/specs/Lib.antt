@@ -3,6 +3,7 @@ pub mod Lines
 pub mod Fields
 pub mod LimitFields
 pub mod Moments
+pub mod Names
 pub mod Paths
 pub mod Statements
 pub mod PathEnds

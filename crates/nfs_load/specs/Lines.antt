@@ -6,7 +6,7 @@ use Rattle.nfs_text.specs.Words.{words, words_left}
 use Rattle.nfs_load.specs.declared.cause.Cause.{Cause}
 use Rattle.nfs_load.specs.declared.cause.Cause.TheVariants.{BadByte, UnknownWord, FieldCount}
 use Rattle.nfs_load.specs.declared.line.Keyword.{Keyword}
-use Rattle.nfs_load.specs.declared.line.Keyword.TheVariants.{Server, Limits, Volume, Export, Dir, File, Link, Hard, Times}
+use Rattle.nfs_load.specs.declared.line.Keyword.TheVariants.{Server, Limits, Names, Volume, Export, Dir, File, Link, Hard, Times}
 use Rattle.nfs_load.specs.declared.line.Line as kept
 
 -- the byte `#`
@@ -25,6 +25,7 @@ abbrev pub keyword_named : List ℕ → Option Keyword
 keyword_named word =
     if bytes_eq word (codes "server") then Some Server
     else (if bytes_eq word (codes "limits") then Some Limits
+    else (if bytes_eq word (codes "names") then Some Names
     else (if bytes_eq word (codes "volume") then Some Volume
     else (if bytes_eq word (codes "export") then Some Export
     else (if bytes_eq word (codes "dir") then Some Dir
@@ -32,12 +33,13 @@ keyword_named word =
     else (if bytes_eq word (codes "link") then Some Link
     else (if bytes_eq word (codes "hard") then Some Hard
     else (if bytes_eq word (codes "times") then Some Times
-    else None))))))))
+    else None)))))))))
 
 -- whether a keyword takes so many fields
 abbrev pub takes : Keyword → ℕ → Bool
 takes Server count = nat_eq count 1
 takes Limits count = nat_le 1 count && nat_le count 4
+takes Names count = nat_eq count 1
 takes Volume count = nat_eq count 6
 takes Export count = nat_eq count 1 || nat_eq count 2
 takes Dir count = nat_eq count 4

@@ -1,7 +1,6 @@
 -- The text that lists a tree.
-use Rattle.std.specs.Prelude.{ℕ, zero, suc, ◌+◌, ◌-◌, ◌/◌, ◌%◌, Bool, not, false, ◌&&◌, List, [], ◌∷◌, ◌++◌, map, codes, decimal, nat_eq, nat_le, if◌then◌else◌}
+use Rattle.std.specs.Prelude.{ℕ, zero, suc, ◌+◌, ◌-◌, ◌/◌, ◌%◌, List, [], ◌∷◌, ◌++◌, map, codes, decimal}
 use Rattle.std.specs.List.{flat_map}
-use Rattle.std.specs.Fmt.{digit_glyph}
 use Rattle.nfs_attrs.specs.declared.fattr.Fattr.{Fattr}
 use Rattle.nfs_attrs.specs.declared.file_type.FileType.{FileType}
 use Rattle.nfs_attrs.specs.declared.file_type.FileType.TheVariants.{Directory, SymbolicLink}
@@ -9,6 +8,7 @@ use Rattle.nfs_inodes.specs.Tree.{Tree, Entry, at, entries_in, nlink, on_some}
 use Rattle.nfs_inodes.specs.Reading.{attributes_of}
 use Rattle.nfs_inodes.specs.Views.{kind_seen}
 use Rattle.nfs_inodes.specs.Views.{FileView}
+use Rattle.nfs_load.specs.Names.{name_text}
 
 -- ---- what a line is put together from
 
@@ -20,17 +20,6 @@ type_word other = codes "file"
 -- the low 12 bits in four octal digits
 abbrev pub octal : ℕ → List ℕ
 octal mode = map (λ place. 48 + mode / place % 8) (512 ∷ 64 ∷ 8 ∷ 1 ∷ [])
-
--- from `!` to `~`, but not `%`
-abbrev pub is_plain : ℕ → Bool
-is_plain byte = (nat_le 33 byte && nat_le byte 126) && not (nat_eq byte 37)
-
--- a byte of a name: itself, or `%` and two hexadecimal digits
-abbrev pub name_byte : ℕ → List ℕ
-name_byte byte = if is_plain byte then byte ∷ [] else 37 ∷ digit_glyph false (byte / 16) ∷ digit_glyph false (byte % 16) ∷ []
-
-abbrev pub name_text : List ℕ → List ℕ
-name_text name = flat_map name_byte name
 
 -- ---- lines
 

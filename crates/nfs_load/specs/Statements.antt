@@ -3,6 +3,7 @@ use Rattle.std.specs.Prelude.{◌≡◌, ℕ, List, [], Result, Ok}
 use Rattle.nfs_attrs.specs.declared.moment.Moment.{Moment}
 use Rattle.nfs_inodes.specs.Tree.{on_some}
 use Rattle.nfs_load.specs.declared.cause.Cause.{Cause}
+use Rattle.nfs_load.specs.declared.name_form.NameForm.{NameForm}
 use Rattle.nfs_load.specs.declared.statement.Given.{Given}
 use Rattle.nfs_load.specs.declared.statement.DirLine.{DirLine}
 use Rattle.nfs_load.specs.declared.statement.HardLine.{HardLine}
@@ -59,25 +60,25 @@ pub record FileLine : Type 0 where
   pub given : Given
   pub content : List ℕ
 
-abbrev pub file_in : ℕ → List (List ℕ) → Read FileLine
-file_in most fields = do
-  path ← by path_in fields
+abbrev pub file_in : NameForm → ℕ → List (List ℕ) → Read FileLine
+file_in form most fields = do
+  path ← by (path_in form) fields
   given ← given_in path.1
   content ← by (content_in most) given.1
   Ok (record { path = path.0; given = given.0; content = content.0 }, content.1)
 
 -- PATH MODE UID GID
-abbrev pub dir_in : List (List ℕ) → Read DirLine
-dir_in fields = do
-  path ← by path_in fields
+abbrev pub dir_in : NameForm → List (List ℕ) → Read DirLine
+dir_in form fields = do
+  path ← by (path_in form) fields
   given ← given_in path.1
   Ok (record { path = path.0; given = given.0 }, given.1)
 
 -- those and CONTENT, for which memory is taken
-pub record WantsContent (most : ℕ) (fields : List (List ℕ)) : Type 0 where
+pub record WantsContent (form : NameForm) (most : ℕ) (fields : List (List ℕ)) : Type 0 where
   pub line : DirLine
   pub rest : List (List ℕ)
-  pub front : dir_in fields ≡ Ok (line, rest)
+  pub front : dir_in form fields ≡ Ok (line, rest)
   pub content : OfNext (SaysBytes most) rest
 
 -- PATH UID GID TARGET
@@ -87,19 +88,19 @@ pub record LinkLine : Type 0 where
   pub gid : ℕ
   pub target : List ℕ
 
-abbrev pub link_in : ℕ → List (List ℕ) → Read LinkLine
-link_in most fields = do
-  path ← by path_in fields
+abbrev pub link_in : NameForm → ℕ → List (List ℕ) → Read LinkLine
+link_in form most fields = do
+  path ← by (path_in form) fields
   uid ← by id_in path.1
   gid ← by id_in uid.1
-  target ← by (target_in most) gid.1
+  target ← by (target_in form most) gid.1
   Ok (record { path = path.0; uid = uid.0; gid = gid.0; target = target.0 }, target.1)
 
 -- PATH OLD
-abbrev pub hard_in : List (List ℕ) → Read HardLine
-hard_in fields = do
-  path ← by path_in fields
-  old ← by path_in path.1
+abbrev pub hard_in : NameForm → List (List ℕ) → Read HardLine
+hard_in form fields = do
+  path ← by (path_in form) fields
+  old ← by (path_in form) path.1
   Ok (record { path = path.0; old = old.0 }, old.1)
 
 -- PATH ATIME MTIME CTIME; the root has no names
@@ -109,9 +110,9 @@ pub record TimesLine : Type 0 where
   pub mtime : Moment
   pub ctime : Moment
 
-abbrev pub times_in : List (List ℕ) → Read TimesLine
-times_in fields = do
-  path ← by path_or_root_in fields
+abbrev pub times_in : NameForm → List (List ℕ) → Read TimesLine
+times_in form fields = do
+  path ← by (path_or_root_in form) fields
   atime ← by moment_in path.1
   mtime ← by moment_in atime.1
   ctime ← by moment_in mtime.1
@@ -122,7 +123,7 @@ abbrev pub volume_line_of : volume.VolumeLine → VolumeLine
 volume_line_of line = record { path = line.path.now; max_bytes = line.max_bytes; max_files = line.max_files; given = line.given }
 
 abbrev pub link_line_of : link.LinkLine → LinkLine
-link_line_of line = record { path = line.path; uid = line.uid; gid = line.gid; target = line.target.now }
+link_line_of line = record { path = line.path; uid = line.uid; gid = line.gid; target = line.target.items }
 
 abbrev pub times_line_of : times.TimesLine → TimesLine
 times_line_of line = record { path = on_some line.path [] (λ names. names); atime = line.atime; mtime = line.mtime; ctime = line.ctime }

@@ -22,10 +22,14 @@ pub enum Cause {
     NoVolume,
     /// A `volume` line stands before.
     LimitsLate,
+    /// A `volume` line stands before.
+    NamesLate,
     /// The key is not 16 hexadecimal digits.
     BadKey,
     /// A limit is none, or has been set.
     BadLimit,
+    /// The form of names is not `percent`, or has been said.
+    BadNames,
     /// A volume's path is neither a path of at most 255 bytes nor `/` alone.
     BadVolumePath,
     /// A number is not in the digits or the bounds of its field.
@@ -63,8 +67,10 @@ impl Cause {
             Cause::ServerTwice => "ServerTwice",
             Cause::NoVolume => "NoVolume",
             Cause::LimitsLate => "LimitsLate",
+            Cause::NamesLate => "NamesLate",
             Cause::BadKey => "BadKey",
             Cause::BadLimit => "BadLimit",
+            Cause::BadNames => "BadNames",
             Cause::BadVolumePath => "BadVolumePath",
             Cause::BadNumber => "BadNumber",
             Cause::BadPattern => "BadPattern",

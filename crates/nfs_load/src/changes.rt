@@ -48,10 +48,15 @@ pub fn mkdir(tree: &mut Tree, root: Number, line: &DirLine<'_>) -> Result<(), Re
     ensures { MakesDir tree.old root.0 line.now result tree.new }
 {
     let end = find_free_end(tree, root, &line.path)?;
-    if !tree.may_mkdir(end.dir, end.name) {
+    if !tree.may_mkdir(end.dir, end.name.as_slice()) {
         return Err(Refusal::Fault(Cause::Full));
     }
-    tree.mkdir(end.dir, end.name, &attributes_of(line.given), START)?;
+    tree.mkdir(
+        end.dir,
+        end.name.as_slice(),
+        &attributes_of(line.given),
+        START,
+    )?;
     Ok(())
 }
 
@@ -67,7 +72,7 @@ pub fn make_file(tree: &mut Tree, root: Number, line: FileLine<'_>) -> Result<()
         content,
     } = line;
     let end = find_free_end(tree, root, &path)?;
-    if !tree.may_make(end.dir, end.name, content.len()) {
+    if !tree.may_make(end.dir, end.name.as_slice(), content.len()) {
         return Err(Refusal::Fault(Cause::Full));
     }
     tree.law();
@@ -76,7 +81,7 @@ pub fn make_file(tree: &mut Tree, root: Number, line: FileLine<'_>) -> Result<()
         pages: Pages::of(tree.allocator(), content)?,
         verifier: None,
     };
-    tree.make_file(end.dir, end.name, content, &given, START)?;
+    tree.make_file(end.dir, end.name.as_slice(), content, &given, START)?;
     Ok(())
 }
 
@@ -86,11 +91,17 @@ pub fn make_link(tree: &mut Tree, root: Number, line: &LinkLine<'_>) -> Result<(
     ensures { MakesLink tree.old root.0 (link_line_of line.now) result tree.new }
 {
     let end = find_free_end(tree, root, &line.path)?;
-    if !tree.may_make_link(end.dir, end.name, line.target) {
+    if !tree.may_make_link(end.dir, end.name.as_slice(), line.target.as_slice()) {
         return Err(Refusal::Fault(Cause::Full));
     }
     let given = attributes_of_link(line.uid, line.gid);
-    tree.make_link(end.dir, end.name, line.target, &given, START)?;
+    tree.make_link(
+        end.dir,
+        end.name.as_slice(),
+        line.target.as_slice(),
+        &given,
+        START,
+    )?;
     Ok(())
 }
 
@@ -101,10 +112,10 @@ pub(crate) fn add_name(tree: &mut Tree, root: Number, line: &HardLine<'_>) -> Re
     ensures { AddsName tree.old root.0 line.now result tree.new }
 {
     let (end, file) = find_link_end(tree, root, &line.path, &line.old)?;
-    if !tree.may_link(file, end.dir, end.name) {
+    if !tree.may_link(file, end.dir, end.name.as_slice()) {
         return Err(Refusal::Fault(Cause::Full));
     }
-    tree.link(file, end.dir, end.name, START)?;
+    tree.link(file, end.dir, end.name.as_slice(), START)?;
     Ok(())
 }
 
@@ -136,12 +147,12 @@ fn find_timed_file(tree: &Tree, root: Number, line: &TimesLine<'_>) -> Result<Nu
 }
 
 // The free end of a path, and a file that is no directory.
-fn find_link_end<'a>(
+fn find_link_end(
     tree: &Tree,
     root: Number,
-    path: &Path<'a>,
+    path: &Path<'_>,
     old: &Path<'_>,
-) -> Result<(PathEnd<'a>, Number), Cause>
+) -> Result<(PathEnd, Number), Cause>
     ensures { links_found result ≡ link_end tree.now root.0 path.now old.now }
 {
     let end = find_free_end(tree, root, path)?;

@@ -4,12 +4,14 @@ ghost use Rattle.nfs_inodes.specs.Tree.{on_some};
 ghost use Rattle.nfs_text.specs.Words.{words_left};
 ghost use Rattle.nfs_load.specs.Fields.{by, content_in, key_in, mode_in, number_in, options_at, pattern_in, target_in, SaysBytes, OfNext, Takes, TakesIfRoom};
 ghost use Rattle.nfs_load.specs.Moments.{moment_in};
+ghost use Rattle.nfs_load.specs.Names.{form_in};
 ghost use Rattle.nfs_load.specs.Paths.{path_in, path_or_root_in, volume_path_in};
 
 use crate::cause::Cause;
-use crate::field::{read_content, read_key, read_mode, read_number};
+use crate::field::{read_content, read_key, read_mode, read_number, read_target};
 use crate::limits::MAX_ID;
 use crate::moment::read_moment;
+use crate::name_form::{NameForm, Target};
 use crate::path::{Path, read_path, read_path_or_root, read_volume_path};
 use crate::refusal::Refusal;
 use nfs_attrs::moment::Moment;
@@ -75,17 +77,17 @@ impl<'a> Fields<'a> {
     }
 
     /// A path. `BadPath` where the field is none.
-    pub fn path(&mut self) -> Result<Path<'a>, Cause>
-        ensures { Takes (λ path. path) self.new result (by path_in self.old) }
+    pub fn path(&mut self, names: NameForm) -> Result<Path<'a>, Cause>
+        ensures { Takes (λ path. path) self.new result (by (path_in names) self.old) }
     {
-        read_path(self.next()?)
+        read_path(self.next()?, names)
     }
 
     /// A path, or `None` for the root. `BadPath` where the field is neither.
-    pub fn path_or_root(&mut self) -> Result<Option<Path<'a>>, Cause>
-        ensures { Takes (λ path. on_some path [] (λ names. names)) self.new result (by path_or_root_in self.old) }
+    pub fn path_or_root(&mut self, names: NameForm) -> Result<Option<Path<'a>>, Cause>
+        ensures { Takes (λ path. on_some path [] (λ names. names)) self.new result (by (path_or_root_in names) self.old) }
     {
-        read_path_or_root(self.next()?)
+        read_path_or_root(self.next()?, names)
     }
 
     /// A time. `BadNumber` where the field is none.
@@ -118,16 +120,19 @@ impl<'a> Fields<'a> {
         self.number(1, tree.limits().files)
     }
 
-    /// What a symbolic link holds. `BadContent` where it has more bytes than the tree takes
-    /// of one.
-    pub fn target(&mut self, tree: &Tree) -> Result<&'a [u8], Cause>
-        ensures { Takes (λ text. text.now) self.new result (by (target_in tree.now.limits.link_path) self.old) }
+    /// How names are written. `BadNames` where the field is not `percent`, or where that has been said.
+    pub fn name_form(&mut self, old: NameForm) -> Result<NameForm, Cause>
+        ensures { Takes (λ form. form) self.new result (by (form_in old) self.old) }
     {
-        let target = self.next()?;
-        if target.len() > tree.limits().link_path {
-            return Err(Cause::BadContent);
-        }
-        Ok(target)
+        old.read(self.next()?)
+    }
+
+    /// What a symbolic link holds. `BadContent` where the field is none, or says more bytes than the tree
+    /// takes of one.
+    pub fn target(&mut self, names: NameForm, tree: &Tree) -> Result<Target, Cause>
+        ensures { Takes (λ target. target.items) self.new result (by (target_in names tree.now.limits.link_path) self.old) }
+    {
+        read_target(self.next()?, names, tree)
     }
 
     /// A pattern of addresses. `BadPattern` where the field is none.

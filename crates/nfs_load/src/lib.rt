@@ -15,6 +15,7 @@ pub mod load_error;
 pub mod loaded;
 pub mod loading;
 mod moment;
+pub mod name_form;
 pub mod path;
 pub mod path_end;
 pub mod refusal;

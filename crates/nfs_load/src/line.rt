@@ -14,6 +14,8 @@ pub enum Keyword {
     Server,
     /// Limits of the tree.
     Limits,
+    /// How names are written.
+    Names,
     /// A new volume.
     Volume,
     /// A pattern of addresses to which the last volume is exported.
@@ -102,6 +104,8 @@ pub fn keyword_of(word: &[u8]) -> Option<Keyword>
         Some(Keyword::Server)
     } else if word == b"limits".as_slice() {
         Some(Keyword::Limits)
+    } else if word == b"names".as_slice() {
+        Some(Keyword::Names)
     } else if word == b"volume".as_slice() {
         Some(Keyword::Volume)
     } else if word == b"export".as_slice() {
@@ -126,7 +130,7 @@ fn takes(keyword: Keyword, count: usize) -> bool
     ensures { result ≡ spec.takes keyword count }
 {
     match keyword {
-        Keyword::Server => count == 1,
+        Keyword::Server | Keyword::Names => count == 1,
         Keyword::Limits => count >= 1 && count <= 4,
         Keyword::Volume => count == 6,
         Keyword::Export => count == 1 || count == 2,

@@ -1,11 +1,12 @@
 //! The lines of a listing, each put together before it is written.
-ghost use Rattle.std.specs.Prelude.{◌≡◌, false, ◌+◌, ◌*◌, ◌<◌, ◌≤◌, ◌++◌, length};
-ghost use Rattle.std.specs.Fmt.{digit_glyph};
+ghost use Rattle.std.specs.Prelude.{◌≡◌, ◌+◌, ◌*◌, ◌≤◌, ◌++◌, length};
 ghost use Rattle.arrayvec.specs.ArrayVec.{array_vec_len};
 ghost use Rattle.nfs_inodes.specs.Views.{entry_seen};
-ghost use Rattle.nfs_load.specs.Listings.{entry_line, file_line, name_byte, name_text, octal};
+ghost use Rattle.nfs_load.specs.Listings.{entry_line, file_line, octal};
+ghost use Rattle.nfs_load.specs.Names.{name_text};
 ghost use Rattle.nfs_load.specs.Listings as spec;
 
+use crate::name_form::name_byte;
 use nfs_attrs::fattr::Fattr;
 use nfs_attrs::file_type::FileType;
 use nfs_inodes::directory::EntryView;
@@ -65,31 +66,6 @@ fn put_name(line: &mut Line, name: &[u8])
     ensures len { array_vec_len line.new ≤ array_vec_len line.old + 3 * length name.now }
 {
     for byte in name {
-        put_byte(line, *byte);
-    }
-}
-
-// A byte of a name.
-fn put_byte(line: &mut Line, byte: u8)
-    requires { array_vec_len line.old + 3 ≤ 1024 }
-    ensures items { line.new.items ≡ line.old.items ++ name_byte byte }
-    ensures len { array_vec_len line.new ≤ array_vec_len line.old + 3 }
-{
-    if byte.is_ascii_graphic() && byte != b'%' {
-        put(line, &[byte]);
-    } else {
-        put(line, &[b'%', hex_digit(byte / 16), hex_digit(byte % 16)]);
-    }
-}
-
-// The digit for a value below 16.
-fn hex_digit(value: u8) -> u8
-    requires { value < 16 }
-    ensures { result ≡ digit_glyph false value }
-{
-    if value < 10 {
-        b'0' + value
-    } else {
-        b'a' + (value - 10)
+        put(line, name_byte(*byte).as_slice());
     }
 }

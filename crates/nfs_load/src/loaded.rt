@@ -1,5 +1,6 @@
 //! What a description holds.
 
+use crate::name_form::NameForm;
 use nfs_exports::export_table::ExportTable;
 use nfs_inodes::tree::Tree;
 
@@ -11,4 +12,6 @@ pub struct Loaded {
     pub tree: Tree,
     /// What is exported to whom.
     pub table: ExportTable,
+    /// How the description writes names.
+    pub names: NameForm,
 }

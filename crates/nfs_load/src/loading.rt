@@ -14,6 +14,7 @@ use crate::limit_fields::read_limits;
 use crate::line::{Keyword, Line, read_line};
 use crate::load_error::LoadError;
 use crate::loaded::Loaded;
+use crate::name_form::NameForm;
 use crate::refusal::Refusal;
 use crate::statement::{DirLine, ExportLine, FileLine, HardLine, LinkLine, TimesLine, VolumeLine};
 use nfs_exports::export_table::ExportTable;
@@ -127,6 +128,7 @@ fn begin(alloc: Global, line: Line<'_>) -> Result<Loaded, Cause>
     Ok(Loaded {
         tree: Tree::new(alloc, key),
         table: ExportTable::new(alloc),
+        names: NameForm::Plain,
     })
 }
 
@@ -140,6 +142,7 @@ fn go_on(alloc: Global, loaded: &mut Loaded, line: Line<'_>) -> Result<(), Refus
     match line.keyword {
         Keyword::Server => Err(Refusal::Fault(Cause::ServerTwice)),
         Keyword::Limits => take_limits(loaded, line.fields),
+        Keyword::Names => take_names(loaded, &mut fields),
         Keyword::Volume => take_volume(loaded, &mut fields),
         Keyword::Export => take_export(loaded, &mut fields),
         Keyword::Dir => take_dir(loaded, &mut fields),
@@ -161,6 +164,18 @@ fn take_limits(loaded: &mut Loaded, fields: Words<'_>) -> Result<(), Refusal>
     loaded.tree.law();
     let limits = read_limits(fields, loaded.tree.limits())?;
     loaded.tree.set_limits(limits);
+    Ok(())
+}
+
+fn take_names(loaded: &mut Loaded, fields: &mut Fields<'_>) -> Result<(), Refusal>
+    requires { length loaded.old.table ≡ length loaded.old.tree.volumes }
+    ensures done { GoesOn loaded.old Keyword.Names fields.old result loaded.new }
+    ensures lists { OnOk result (length loaded.new.table ≡ length loaded.new.tree.volumes) }
+{
+    if loaded.tree.volumes() > 0 {
+        return Err(Refusal::Fault(Cause::NamesLate));
+    }
+    loaded.names = fields.name_form(loaded.names)?;
     Ok(())
 }
 
@@ -196,7 +211,7 @@ fn take_dir(loaded: &mut Loaded, fields: &mut Fields<'_>) -> Result<(), Refusal>
     ensures lists { OnOk result (length loaded.new.table ≡ length loaded.new.tree.volumes) }
 {
     let root = last_root(&loaded.tree)?;
-    let line = DirLine::read(fields)?;
+    let line = DirLine::read(fields, loaded.names)?;
     mkdir(&mut loaded.tree, root, &line)
 }
 
@@ -206,7 +221,7 @@ fn take_file(alloc: Global, loaded: &mut Loaded, fields: &mut Fields<'_>) -> Res
     ensures lists { OnOk result (length loaded.new.table ≡ length loaded.new.tree.volumes) }
 {
     let root = last_root(&loaded.tree)?;
-    let line = FileLine::read(alloc, fields, &loaded.tree)?;
+    let line = FileLine::read(alloc, fields, loaded.names, &loaded.tree)?;
     make_file(&mut loaded.tree, root, line)
 }
 
@@ -216,7 +231,7 @@ fn take_link(loaded: &mut Loaded, fields: &mut Fields<'_>) -> Result<(), Refusal
     ensures lists { OnOk result (length loaded.new.table ≡ length loaded.new.tree.volumes) }
 {
     let root = last_root(&loaded.tree)?;
-    let line = LinkLine::read(fields, &loaded.tree)?;
+    let line = LinkLine::read(fields, loaded.names, &loaded.tree)?;
     make_link(&mut loaded.tree, root, &line)
 }
 
@@ -226,7 +241,7 @@ fn take_hard(loaded: &mut Loaded, fields: &mut Fields<'_>) -> Result<(), Refusal
     ensures lists { OnOk result (length loaded.new.table ≡ length loaded.new.tree.volumes) }
 {
     let root = last_root(&loaded.tree)?;
-    let line = HardLine::read(fields)?;
+    let line = HardLine::read(fields, loaded.names)?;
     add_name(&mut loaded.tree, root, &line)
 }
 
@@ -236,7 +251,7 @@ fn take_times(loaded: &mut Loaded, fields: &mut Fields<'_>) -> Result<(), Refusa
     ensures lists { OnOk result (length loaded.new.table ≡ length loaded.new.tree.volumes) }
 {
     let root = last_root(&loaded.tree)?;
-    let line = TimesLine::read(fields)?;
+    let line = TimesLine::read(fields, loaded.names)?;
     set_times(&mut loaded.tree, root, &line)
 }
 

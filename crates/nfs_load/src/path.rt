@@ -1,15 +1,16 @@
 //! Paths: names after slashes.
-ghost use Rattle.std.specs.Prelude.{◌≡◌, ◌≢◌, [], option_map};
-ghost use Rattle.std.specs.List.{list_all};
+ghost use Rattle.std.specs.Prelude.{◌≡◌, ◌≢◌, [], Some, is_some, option_map};
 ghost use Rattle.std.specs.Result.{result_map_both};
-ghost use Rattle.nfs_text.specs.Chunks.{chunks, chunks_left};
+ghost use Rattle.nfs_text.specs.Chunks.{chunks};
+ghost use Rattle.nfs_load.specs.Names.{names_in};
 ghost use Rattle.nfs_load.specs.Paths as spec;
 ghost use Rattle.nfs_inodes.specs.Tree.{on_some};
-ghost use Rattle.nfs_load.specs.Paths.{path_in, path_or_root_in, volume_path_in};
+ghost use Rattle.nfs_load.specs.Paths.{path_in, path_names, path_or_root_in, volume_path_in};
 
 use crate::cause::Cause;
 use crate::limits::MAX_PATH_BYTES;
-use nfs_inodes::limits::{MAX_NAME_BYTES, MAX_VOLUME_PATH_BYTES};
+use crate::name_form::{Name, NameForm};
+use nfs_inodes::limits::MAX_VOLUME_PATH_BYTES;
 use nfs_text::chunks::Chunks;
 use std::marker::Model;
 
@@ -17,25 +18,30 @@ use std::marker::Model;
 #[derive(Drop)]
 pub struct Path<'a> {
     after_slash: &'a [u8],
+    form: NameForm,
 }
 
 impl<'a> Model for Path<'a> {
-    ghost use Rattle.std.specs.Prelude.{◌≢◌, ℕ, List, []};
+    ghost use Rattle.std.specs.Prelude.{◌≡◌, ℕ, List, true, is_some};
     ghost use Rattle.nfs_text.specs.Chunks.{chunks};
+    ghost use Rattle.nfs_load.specs.Names.{names_in, the_names};
 
     ghost Value = { List (List ℕ) };
 
-    ghost view = { λ path. chunks 47 path.after_slash.now };
+    ghost view = { λ path. the_names path.form (chunks 47 path.after_slash.now) };
 
-    ghost invariant = { λ path. chunks 47 path.after_slash.now ≢ [] };
+    ghost invariant = { λ path. is_some (names_in path.form (chunks 47 path.after_slash.now)) ≡ true };
 }
 
 impl<'a> Path<'a> {
     /// The names in turn.
-    pub fn names(&self) -> Chunks<'a>
-        ensures { chunks_left result ≡ self.now }
+    pub fn names(&self) -> PathNames<'a>
+        ensures { result ≡ self.now }
     {
-        Chunks::new(self.after_slash, b'/')
+        PathNames {
+            components: Chunks::new(self.after_slash, b'/'),
+            form: self.form,
+        }
     }
 
     /// There is at least one.
@@ -46,84 +52,101 @@ impl<'a> Path<'a> {
     }
 }
 
-/// A path. `BadPath` where the field has more than 1,024 bytes, doesn't begin with `/`, or what
-/// stands after it is not names separated by `/`: 1 to 255 bytes each, none `%`, not `.` or `..`.
-pub(crate) fn read_path(field: &[u8]) -> Result<Path<'_>, Cause>
-    ensures { result ≡ path_in field.now }
+/// The names of a path that are to come. Contracts see them.
+#[derive(Drop)]
+pub struct PathNames<'a> {
+    components: Chunks<'a>,
+    form: NameForm,
+}
+
+impl<'a> Model for PathNames<'a> {
+    ghost use Rattle.std.specs.Prelude.{◌≡◌, ℕ, List, true, is_some};
+    ghost use Rattle.nfs_text.specs.Chunks.{chunks_left};
+    ghost use Rattle.nfs_load.specs.Names.{names_in, the_names};
+
+    ghost Value = { List (List ℕ) };
+
+    ghost view = { λ names. the_names names.form (chunks_left names.components) };
+
+    ghost invariant = { λ names. is_some (names_in names.form (chunks_left names.components)) ≡ true };
+}
+
+impl<'a> PathNames<'a> {
+    /// The next name. `None` after the last.
+    pub fn next(&mut self) -> Option<Name>
+        ensures { spec.TakesFirst (λ name. name.items) self.old result self.new }
+    {
+        self.form.name(self.components.next()?)
+    }
+}
+
+/// A path. `BadPath` where the field has more than 1,024 bytes and names stand in it as they are, where
+/// it doesn't begin with `/`, or where what stands after it is not names separated by `/`.
+pub(crate) fn read_path(field: &[u8], form: NameForm) -> Result<Path<'_>, Cause>
+    ensures { result ≡ path_in form field.now }
 {
-    match after_slash(field) {
-        Some(after_slash) => Ok(Path { after_slash }),
+    match after_slash(field, form) {
+        Some(after_slash) => Ok(Path { after_slash, form }),
         None => Err(Cause::BadPath),
     }
 }
 
 /// A path, or `None` where the field is `/` alone, which is the root. `BadPath` where it is neither.
-pub(crate) fn read_path_or_root(field: &[u8]) -> Result<Option<Path<'_>>, Cause>
-    ensures { result_map_both (λ path. on_some path [] (λ names. names)) (λ cause. cause) result ≡ path_or_root_in field.now }
+pub(crate) fn read_path_or_root(field: &[u8], form: NameForm) -> Result<Option<Path<'_>>, Cause>
+    ensures { result_map_both (λ path. on_some path [] (λ names. names)) (λ cause. cause) result ≡ path_or_root_in form field.now }
 {
     if field == b"/".as_slice() {
         return Ok(None);
     }
-    let path = read_path(field)?;
+    let path = read_path(field, form)?;
     Ok(Some(path))
 }
 
-/// A volume's path. `BadVolumePath` where the field is neither `/` alone nor a path of at most 255
-/// bytes.
+/// A volume's path, which stands as it is. `BadVolumePath` where the field is neither `/` alone nor a path
+/// of at most 255 bytes.
 pub(crate) fn read_volume_path(field: &[u8]) -> Result<&[u8], Cause>
     ensures { result_map_both (λ text. text.now) (λ cause. cause) result ≡ volume_path_in field.now }
 {
     if field == b"/".as_slice() {
         return Ok(field);
     }
-    if field.len() > MAX_VOLUME_PATH_BYTES || after_slash(field).is_none() {
+    if field.len() > MAX_VOLUME_PATH_BYTES || after_slash(field, NameForm::Plain).is_none() {
         return Err(Cause::BadVolumePath);
     }
     Ok(field)
 }
 
-// What stands after a path's first slash.
-fn after_slash(field: &[u8]) -> Option<&[u8]>
-    ensures { option_map (λ text. text.now) result ≡ spec.after_slash field.now }
+// What stands after a path's first slash, where the field is a path: its names.
+fn after_slash(field: &[u8], form: NameForm) -> Option<&[u8]>
+    ensures { option_map (λ rest. names_in form (chunks 47 rest.now)) result ≡ option_map (λ names. Some names) (path_names form field.now) }
 {
-    if field.len() > MAX_PATH_BYTES {
+    if !is_short(field, form) {
         return None;
     }
     match field.split_first() {
-        Some((first, rest)) if *first == b'/' && are_names(rest) => Some(rest),
+        Some((first, rest)) if *first == b'/' && are_names(rest, form) => Some(rest),
         _ => None,
     }
 }
 
-// Whether what stands between slashes is a name each time.
-fn are_names(text: &[u8]) -> bool
-    ensures { result ≡ list_all spec.is_name (chunks 47 text.now) }
+fn is_short(field: &[u8], form: NameForm) -> bool
+    ensures { result ≡ spec.is_short form field.now }
 {
-    let mut names = Chunks::new(text, b'/');
-    while let Some(name) = names.next() {
-        if !is_name(name) {
+    match form {
+        NameForm::Plain => field.len() <= MAX_PATH_BYTES,
+        NameForm::Percent => true,
+    }
+}
+
+// Whether what stands between slashes is a name each time.
+fn are_names(text: &[u8], form: NameForm) -> bool
+    ensures { result ≡ is_some (names_in form (chunks 47 text.now)) }
+{
+    let mut components = Chunks::new(text, b'/');
+    while let Some(component) = components.next() {
+        if form.name(component).is_none() {
             return false;
         }
     }
     true
-}
-
-fn is_name(name: &[u8]) -> bool
-    ensures { result ≡ spec.is_name name.now }
-{
-    if name.is_empty() || name.len() > MAX_NAME_BYTES {
-        return false;
-    }
-    name != b".".as_slice() && name != b"..".as_slice() && !has_percent(name)
-}
-
-fn has_percent(name: &[u8]) -> bool
-    ensures { result ≡ spec.has_percent name.now }
-{
-    for byte in name {
-        if *byte == b'%' {
-            return true;
-        }
-    }
-    false
 }

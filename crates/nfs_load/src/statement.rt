@@ -5,6 +5,7 @@ ghost use Rattle.nfs_load.specs.Statements.{WantsContent, dir_in, export_in, fil
 
 use crate::cause::Cause;
 use crate::fields::Fields;
+use crate::name_form::{NameForm, Target};
 use crate::path::Path;
 use crate::refusal::Refusal;
 use nfs_attrs::moment::Moment;
@@ -77,7 +78,7 @@ pub struct LinkLine<'a> {
     /// The number of the file's group.
     pub gid: u32,
     /// What it holds.
-    pub target: &'a [u8],
+    pub target: Target,
 }
 
 /// `hard PATH OLD`: a hard link of a file.
@@ -150,12 +151,13 @@ impl<'a> FileLine<'a> {
     pub fn read(
         alloc: Global,
         fields: &mut Fields<'a>,
+        names: NameForm,
         tree: &Tree,
     ) -> Result<FileLine<'a>, Refusal>
-        ensures { TakesIfRoom file_line_of (WantsContent tree.now.limits.file_size fields.old) fields.new result
-            (file_in tree.now.limits.file_size fields.old) }
+        ensures { TakesIfRoom file_line_of (WantsContent names tree.now.limits.file_size fields.old) fields.new result
+            (file_in names tree.now.limits.file_size fields.old) }
     {
-        let path = fields.path()?;
+        let path = fields.path(names)?;
         let given = Given::read(fields)?;
         let content = fields.content(alloc, tree)?;
         Ok(FileLine {
@@ -168,10 +170,10 @@ impl<'a> FileLine<'a> {
 
 impl<'a> DirLine<'a> {
     /// The fields of such a line. The first cause from left to right: `BadPath` or `BadNumber`.
-    pub fn read(fields: &mut Fields<'a>) -> Result<DirLine<'a>, Cause>
-        ensures { Takes (λ line. line) fields.new result (dir_in fields.old) }
+    pub fn read(fields: &mut Fields<'a>, names: NameForm) -> Result<DirLine<'a>, Cause>
+        ensures { Takes (λ line. line) fields.new result (dir_in names fields.old) }
     {
-        let path = fields.path()?;
+        let path = fields.path(names)?;
         let given = Given::read(fields)?;
         Ok(DirLine { path, given })
     }
@@ -179,14 +181,18 @@ impl<'a> DirLine<'a> {
 
 impl<'a> LinkLine<'a> {
     /// The fields of such a line. The first cause from left to right: `BadPath`, `BadNumber`, or
-    /// `BadContent` where the link's path has more bytes than the tree takes of one.
-    pub fn read(fields: &mut Fields<'a>, tree: &Tree) -> Result<LinkLine<'a>, Cause>
-        ensures { Takes link_line_of fields.new result (link_in tree.now.limits.link_path fields.old) }
+    /// `BadContent` where what the link holds is none, or has more bytes than the tree takes of one.
+    pub fn read(
+        fields: &mut Fields<'a>,
+        names: NameForm,
+        tree: &Tree,
+    ) -> Result<LinkLine<'a>, Cause>
+        ensures { Takes link_line_of fields.new result (link_in names tree.now.limits.link_path fields.old) }
     {
-        let path = fields.path()?;
+        let path = fields.path(names)?;
         let uid = fields.id()?;
         let gid = fields.id()?;
-        let target = fields.target(tree)?;
+        let target = fields.target(names, tree)?;
         Ok(LinkLine {
             path,
             uid,
@@ -198,21 +204,21 @@ impl<'a> LinkLine<'a> {
 
 impl<'a> HardLine<'a> {
     /// The fields of such a line. `BadPath` where one of them is no path.
-    pub fn read(fields: &mut Fields<'a>) -> Result<HardLine<'a>, Cause>
-        ensures { Takes (λ line. line) fields.new result (hard_in fields.old) }
+    pub fn read(fields: &mut Fields<'a>, names: NameForm) -> Result<HardLine<'a>, Cause>
+        ensures { Takes (λ line. line) fields.new result (hard_in names fields.old) }
     {
-        let path = fields.path()?;
-        let old = fields.path()?;
+        let path = fields.path(names)?;
+        let old = fields.path(names)?;
         Ok(HardLine { path, old })
     }
 }
 
 impl<'a> TimesLine<'a> {
     /// The fields of such a line. The first cause from left to right: `BadPath` or `BadNumber`.
-    pub fn read(fields: &mut Fields<'a>) -> Result<TimesLine<'a>, Cause>
-        ensures { Takes times_line_of fields.new result (times_in fields.old) }
+    pub fn read(fields: &mut Fields<'a>, names: NameForm) -> Result<TimesLine<'a>, Cause>
+        ensures { Takes times_line_of fields.new result (times_in names fields.old) }
     {
-        let path = fields.path_or_root()?;
+        let path = fields.path_or_root(names)?;
         let atime = fields.moment()?;
         let mtime = fields.moment()?;
         let ctime = fields.moment()?;

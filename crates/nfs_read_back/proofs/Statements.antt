@@ -1,26 +1,24 @@
 -- What the lines that are written say.
-use Rattle.std.proofs.Common.{◌≡◌, ℕ, ◌<◌, ◌≤◌, ◌^◌, true, ◌&&◌, List, [], ◌∷◌, ◌++◌, length, Ok, refl, ap, ◌∙◌, append_assoc, arith}
-use Rattle.std.specs.Prelude.{Result, Err, codes, decimal, nat_le, nat_lt, if◌then◌else◌}
-use Rattle.std.specs.List.{list_all}
+use Rattle.std.proofs.Common.{◌≡◌, ℕ, ◌<◌, ◌^◌, true, List, [], ◌∷◌, ◌++◌, Ok, refl, ap, ◌∙◌, append_assoc, arith}
+use Rattle.std.specs.Prelude.{Result, codes, decimal}
 use Rattle.hex.specs.Hex.{encode_lower}
 use Rattle.nfs_attrs.specs.declared.moment.Moment.{Moment}
-use Rattle.nfs_inodes.specs.Limits.{max_path_bytes}
 use Rattle.nfs_load.specs.Fields.{◌>>=◌, after, by, content_in, mode_in, number_in, target_in}
 use Rattle.nfs_load.specs.Listings.{octal}
 use Rattle.nfs_load.specs.Moments.{moment_in}
 use Rattle.nfs_load.specs.Paths.{path_in, path_or_root_in, volume_path_in}
 use Rattle.nfs_load.specs.Statements.{Read, id_in, given_in, volume_in, dir_in, file_in, link_in, hard_in, times_in}
 use Rattle.nfs_load.specs.declared.cause.Cause.{Cause}
-use Rattle.nfs_load.specs.declared.cause.Cause.TheVariants.{BadContent}
-use Rattle.nfs_load.specs.declared.line.Keyword.TheVariants.{Server, Volume, Dir, File, Link, Hard, Times}
+use Rattle.nfs_load.specs.declared.line.Keyword.TheVariants.{Server, Names, Volume, Dir, File, Link, Hard, Times}
+use Rattle.nfs_load.specs.declared.name_form.NameForm.{NameForm}
+use Rattle.nfs_load.specs.declared.name_form.NameForm.TheVariants.{Percent}
 use Rattle.nfs_load.specs.declared.statement.Given.{Given}
-use Rattle.nfs_describe.specs.Lines.{content_text, dir_line, file_line, hard_line, is_shown, is_target, link_line, moment_text, server_line, times_line, volume_line}
+use Rattle.nfs_describe.specs.Lines.{content_text, dir_line, file_line, hard_line, link_line, moment_text, names_line, server_line, times_line, volume_line}
 use Rattle.nfs_read_back.specs.ReadBack.{IsGiven, is_said}
 use Rattle.nfs_read_back.specs.ReadBack as law
-use Rattle.nfs_read_back.proofs.Digits.{and_true, content_read, content_said, decimal_said, key_read, key_said, mode_read, mode_said, number_read, upto}
+use Rattle.nfs_read_back.proofs.Digits.{content_read, content_said, decimal_said, key_read, key_said, mode_read, mode_said, number_read}
 use Rattle.nfs_read_back.proofs.Lines.{read_as}
 use Rattle.nfs_read_back.proofs.Moments.{moment_read, moment_said}
-use Rattle.nfs_read_back.proofs.Words.{both}
 
 -- ---- fields
 
@@ -43,38 +41,39 @@ given_fields given rest is = given_read (octal given.mode) (decimal given.uid) (
 
 -- ---- statements
 
-dir_read : (path : List ℕ) (names : List (List ℕ)) (given : Given) (fields rest : List (List ℕ)) → path_in path ≡ Ok names → given_in fields ≡ Ok (given, rest)
-    → dir_in (path ∷ fields) ≡ Ok (record { path = names; given = given }, rest)
-dir_read path names given fields rest is gives =
+dir_read : (form : NameForm) (path : List ℕ) (names : List (List ℕ)) (given : Given) (fields rest : List (List ℕ)) → path_in form path ≡ Ok names → given_in fields ≡ Ok (given, rest)
+    → dir_in form (path ∷ fields) ≡ Ok (record { path = names; given = given }, rest)
+dir_read form path names given fields rest is gives =
     ap (λ (r : Result (List (List ℕ)) Cause). after fields r >>= (λ (path : List (List ℕ) × List (List ℕ)). given_in path.1 >>= (λ (given : Given × List (List ℕ)). Ok (record { path = path.0; given = given.0 }, given.1)))) is
     ∙ ap (λ (r : Read Given). r >>= (λ (given : Given × List (List ℕ)). Ok (record { path = names; given = given.0 }, given.1))) gives
 
-file_read : (most : ℕ) (path c bytes : List ℕ) (names : List (List ℕ)) (given : Given) (fields : List (List ℕ)) → path_in path ≡ Ok names → given_in fields ≡ Ok (given, c ∷ []) → content_in most c ≡ Ok bytes
-    → file_in most (path ∷ fields) ≡ Ok (record { path = names; given = given; content = bytes }, [])
-file_read most path c bytes names given fields is gives content =
+file_read : (form : NameForm) (most : ℕ) (path c bytes : List ℕ) (names : List (List ℕ)) (given : Given) (fields : List (List ℕ)) → path_in form path ≡ Ok names → given_in fields ≡ Ok (given, c ∷ [])
+    → content_in most c ≡ Ok bytes → file_in form most (path ∷ fields) ≡ Ok (record { path = names; given = given; content = bytes }, [])
+file_read form most path c bytes names given fields is gives content =
     ap (λ (r : Result (List (List ℕ)) Cause). after fields r >>= (λ (path : List (List ℕ) × List (List ℕ)). given_in path.1 >>= (λ (given : Given × List (List ℕ)). by (content_in most) given.1 >>= (λ (content : List ℕ × List (List ℕ)).
     Ok (record { path = path.0; given = given.0; content = content.0 }, content.1))))) is
     ∙ ap (λ (r : Read Given). r >>= (λ (given : Given × List (List ℕ)). by (content_in most) given.1 >>= (λ (content : List ℕ × List (List ℕ)). Ok (record { path = names; given = given.0; content = content.0 }, content.1)))) gives
     ∙ ap (λ (r : Result (List ℕ) Cause). after [] r >>= (λ (content : List ℕ × List (List ℕ)). Ok (record { path = names; given = given; content = content.0 }, content.1))) content
 
-link_read : (most : ℕ) (path u g target : List ℕ) (names : List (List ℕ)) (uid gid : ℕ) → path_in path ≡ Ok names → id_in u ≡ Ok uid → id_in g ≡ Ok gid → target_in most target ≡ Ok target
-    → link_in most (path ∷ u ∷ g ∷ target ∷ []) ≡ Ok (record { path = names; uid = uid; gid = gid; target = target }, [])
-link_read most path u g target names uid gid is owner group holds =
-    ap (λ (r : Result (List (List ℕ)) Cause). after (u ∷ g ∷ target ∷ []) r >>= (λ (path : List (List ℕ) × List (List ℕ)). by id_in path.1 >>= (λ (uid : ℕ × List (List ℕ)). by id_in uid.1 >>= (λ (gid : ℕ × List (List ℕ)).
-    by (target_in most) gid.1 >>= (λ (target : List ℕ × List (List ℕ)). Ok (record { path = path.0; uid = uid.0; gid = gid.0; target = target.0 }, target.1)))))) is
-    ∙ ap (λ (r : Result ℕ Cause). after (g ∷ target ∷ []) r >>= (λ (uid : ℕ × List (List ℕ)). by id_in uid.1 >>= (λ (gid : ℕ × List (List ℕ)).
-    by (target_in most) gid.1 >>= (λ (target : List ℕ × List (List ℕ)). Ok (record { path = names; uid = uid.0; gid = gid.0; target = target.0 }, target.1))))) owner
-    ∙ ap (λ (r : Result ℕ Cause). after (target ∷ []) r >>= (λ (gid : ℕ × List (List ℕ)). by (target_in most) gid.1 >>= (λ (target : List ℕ × List (List ℕ)). Ok (record { path = names; uid = uid; gid = gid.0; target = target.0 }, target.1)))) group
+link_read : (form : NameForm) (most : ℕ) (path u g field target : List ℕ) (names : List (List ℕ)) (uid gid : ℕ) → path_in form path ≡ Ok names → id_in u ≡ Ok uid → id_in g ≡ Ok gid
+    → target_in form most field ≡ Ok target → link_in form most (path ∷ u ∷ g ∷ field ∷ []) ≡ Ok (record { path = names; uid = uid; gid = gid; target = target }, [])
+link_read form most path u g field target names uid gid is owner group holds =
+    ap (λ (r : Result (List (List ℕ)) Cause). after (u ∷ g ∷ field ∷ []) r >>= (λ (path : List (List ℕ) × List (List ℕ)). by id_in path.1 >>= (λ (uid : ℕ × List (List ℕ)). by id_in uid.1 >>= (λ (gid : ℕ × List (List ℕ)).
+    by (target_in form most) gid.1 >>= (λ (target : List ℕ × List (List ℕ)). Ok (record { path = path.0; uid = uid.0; gid = gid.0; target = target.0 }, target.1)))))) is
+    ∙ ap (λ (r : Result ℕ Cause). after (g ∷ field ∷ []) r >>= (λ (uid : ℕ × List (List ℕ)). by id_in uid.1 >>= (λ (gid : ℕ × List (List ℕ)).
+    by (target_in form most) gid.1 >>= (λ (target : List ℕ × List (List ℕ)). Ok (record { path = names; uid = uid.0; gid = gid.0; target = target.0 }, target.1))))) owner
+    ∙ ap (λ (r : Result ℕ Cause). after (field ∷ []) r >>= (λ (gid : ℕ × List (List ℕ)). by (target_in form most) gid.1 >>= (λ (target : List ℕ × List (List ℕ)). Ok (record { path = names; uid = uid; gid = gid.0; target = target.0 }, target.1)))) group
     ∙ ap (λ (r : Result (List ℕ) Cause). after [] r >>= (λ (target : List ℕ × List (List ℕ)). Ok (record { path = names; uid = uid; gid = gid; target = target.0 }, target.1))) holds
 
-hard_read : (path old : List ℕ) (names olds : List (List ℕ)) → path_in path ≡ Ok names → path_in old ≡ Ok olds → hard_in (path ∷ old ∷ []) ≡ Ok (record { path = names; old = olds }, [])
-hard_read path old names olds is was =
-    ap (λ (r : Result (List (List ℕ)) Cause). after (old ∷ []) r >>= (λ (path : List (List ℕ) × List (List ℕ)). by path_in path.1 >>= (λ (old : List (List ℕ) × List (List ℕ)). Ok (record { path = path.0; old = old.0 }, old.1)))) is
+hard_read : (form : NameForm) (path old : List ℕ) (names olds : List (List ℕ)) → path_in form path ≡ Ok names → path_in form old ≡ Ok olds
+    → hard_in form (path ∷ old ∷ []) ≡ Ok (record { path = names; old = olds }, [])
+hard_read form path old names olds is was =
+    ap (λ (r : Result (List (List ℕ)) Cause). after (old ∷ []) r >>= (λ (path : List (List ℕ) × List (List ℕ)). by (path_in form) path.1 >>= (λ (old : List (List ℕ) × List (List ℕ)). Ok (record { path = path.0; old = old.0 }, old.1)))) is
     ∙ ap (λ (r : Result (List (List ℕ)) Cause). after [] r >>= (λ (old : List (List ℕ) × List (List ℕ)). Ok (record { path = names; old = old.0 }, old.1))) was
 
-times_read : (path a m c : List ℕ) (names : List (List ℕ)) (atime mtime ctime : Moment) → path_or_root_in path ≡ Ok names → moment_in a ≡ Ok atime → moment_in m ≡ Ok mtime → moment_in c ≡ Ok ctime
-    → times_in (path ∷ a ∷ m ∷ c ∷ []) ≡ Ok (record { path = names; atime = atime; mtime = mtime; ctime = ctime }, [])
-times_read path a m c names atime mtime ctime is one two three =
+times_read : (form : NameForm) (path a m c : List ℕ) (names : List (List ℕ)) (atime mtime ctime : Moment) → path_or_root_in form path ≡ Ok names → moment_in a ≡ Ok atime → moment_in m ≡ Ok mtime
+    → moment_in c ≡ Ok ctime → times_in form (path ∷ a ∷ m ∷ c ∷ []) ≡ Ok (record { path = names; atime = atime; mtime = mtime; ctime = ctime }, [])
+times_read form path a m c names atime mtime ctime is one two three =
     ap (λ (r : Result (List (List ℕ)) Cause). after (a ∷ m ∷ c ∷ []) r >>= (λ (path : List (List ℕ) × List (List ℕ)). by moment_in path.1 >>= (λ (atime : Moment × List (List ℕ)). by moment_in atime.1 >>= (λ (mtime : Moment × List (List ℕ)).
     by moment_in mtime.1 >>= (λ (ctime : Moment × List (List ℕ)). Ok (record { path = path.0; atime = atime.0; mtime = mtime.0; ctime = ctime.0 }, ctime.1)))))) is
     ∙ ap (λ (r : Result Moment Cause). after (m ∷ c ∷ []) r >>= (λ (atime : Moment × List (List ℕ)). by moment_in atime.1 >>= (λ (mtime : Moment × List (List ℕ)).
@@ -142,6 +141,13 @@ servers key all long = (
   ap (λ (r : Result (List ℕ) Cause). after [] r) (key_read key all long),
 )
 
+pub forms : law.NamesAreReadBack
+forms = (
+  codes "percent" ∷ [],
+  read_as (names_line Percent) (codes "names") (codes "percent" ∷ []) Names refl (refl, refl) refl refl refl,
+  refl,
+)
+
 pub volumes : law.VolumesAreReadBack
 volumes limit path bytes files given said is most some many few fits = (
   path ∷ decimal bytes ∷ decimal files ∷ octal given.mode ∷ decimal given.uid ∷ decimal given.gid ∷ [],
@@ -153,53 +159,45 @@ volumes limit path bytes files given said is most some many few fits = (
 )
 
 pub dirs : law.DirsAreReadBack
-dirs path names given said is fits = (
+dirs form path names given said is fits = (
   path ∷ octal given.mode ∷ decimal given.uid ∷ decimal given.gid ∷ [],
   read_as (dir_line path given) (codes "dir") (path ∷ octal given.mode ∷ decimal given.uid ∷ decimal given.gid ∷ []) Dir
       (dir_words (codes "dir ") (codes " ") path (octal given.mode) (decimal given.uid) (decimal given.gid) (10 ∷ []) space)
       (refl, (said, (mode_said given.mode, (id_said given.uid fits.1, id_said given.gid fits.2)))) refl refl refl,
-  dir_read path names given (octal given.mode ∷ decimal given.uid ∷ decimal given.gid ∷ []) [] is (given_fields given [] fits),
+  dir_read form path names given (octal given.mode ∷ decimal given.uid ∷ decimal given.gid ∷ []) [] is (given_fields given [] fits),
 )
 
 pub files : law.FilesAreReadBack
-files most path names given bytes said is fits all few = (
+files form most path names given bytes said is fits all few = (
   path ∷ octal given.mode ∷ decimal given.uid ∷ decimal given.gid ∷ content_text bytes ∷ [],
   read_as (file_line path given bytes) (codes "file") (path ∷ octal given.mode ∷ decimal given.uid ∷ decimal given.gid ∷ content_text bytes ∷ []) File
       (file_words (codes "file ") (codes " ") path (octal given.mode) (decimal given.uid) (decimal given.gid) (content_text bytes) (10 ∷ []) space)
       (refl, (said, (mode_said given.mode, (id_said given.uid fits.1, (id_said given.gid fits.2, content_said bytes all))))) refl refl refl,
-  file_read most path (content_text bytes) bytes names given (octal given.mode ∷ decimal given.uid ∷ decimal given.gid ∷ content_text bytes ∷ []) is
+  file_read form most path (content_text bytes) bytes names given (octal given.mode ∷ decimal given.uid ∷ decimal given.gid ∷ content_text bytes ∷ []) is
       (given_fields given (content_text bytes ∷ []) fits) (content_read most bytes all few),
 )
 
-target_said : (target : List ℕ) → is_target target ≡ true → is_said target ≡ true
-target_said target is =
-    let p = both (nat_lt 0 (length target) && nat_le (length target) max_path_bytes) (list_all is_shown target) is in
-    and_true (nat_lt 0 (length target)) (list_all is_shown target) (both (nat_lt 0 (length target)) (nat_le (length target) max_path_bytes) p.0).0 p.1
-
-target_read : (most : ℕ) (target : List ℕ) → length target ≤ most → target_in most target ≡ Ok target
-target_read most target few = ap (λ b. if b then Ok target else Err BadContent) (upto (length target) most few)
-
 pub links : law.LinksAreReadBack
-links most path names uid gid target said is owner group holds few = (
-  path ∷ decimal uid ∷ decimal gid ∷ target ∷ [],
-  read_as (link_line path uid gid target) (codes "link") (path ∷ decimal uid ∷ decimal gid ∷ target ∷ []) Link
-      (link_words (codes "link ") (codes " ") path (decimal uid) (decimal gid) target (10 ∷ []) space)
-      (refl, (said, (id_said uid owner, (id_said gid group, target_said target holds)))) refl refl refl,
-  link_read most path (decimal uid) (decimal gid) target names uid gid is (id_read uid owner) (id_read gid group) (target_read most target few),
+links form most path names uid gid field target said is owner group shown holds = (
+  path ∷ decimal uid ∷ decimal gid ∷ field ∷ [],
+  read_as (link_line path uid gid field) (codes "link") (path ∷ decimal uid ∷ decimal gid ∷ field ∷ []) Link
+      (link_words (codes "link ") (codes " ") path (decimal uid) (decimal gid) field (10 ∷ []) space)
+      (refl, (said, (id_said uid owner, (id_said gid group, shown)))) refl refl refl,
+  link_read form most path (decimal uid) (decimal gid) field target names uid gid is (id_read uid owner) (id_read gid group) holds,
 )
 
 pub hards : law.HardsAreReadBack
-hards path old names olds said is old_said was = (
+hards form path old names olds said is old_said was = (
   path ∷ old ∷ [],
   read_as (hard_line path old) (codes "hard") (path ∷ old ∷ []) Hard (hard_words (codes "hard ") (codes " ") path old (10 ∷ []) space) (refl, (said, old_said)) refl refl refl,
-  hard_read path old names olds is was,
+  hard_read form path old names olds is was,
 )
 
 pub times : law.TimesAreReadBack
-times path names atime mtime ctime said is accessed modified changed = (
+times form path names atime mtime ctime said is accessed modified changed = (
   path ∷ moment_text atime ∷ moment_text mtime ∷ moment_text ctime ∷ [],
   read_as (times_line path atime mtime ctime) (codes "times") (path ∷ moment_text atime ∷ moment_text mtime ∷ moment_text ctime ∷ []) Times
       (link_words (codes "times ") (codes " ") path (moment_text atime) (moment_text mtime) (moment_text ctime) (10 ∷ []) space)
       (refl, (said, (moment_said atime accessed, (moment_said mtime modified, moment_said ctime changed)))) refl refl refl,
-  times_read path (moment_text atime) (moment_text mtime) (moment_text ctime) names atime mtime ctime is (moment_read atime accessed) (moment_read mtime modified) (moment_read ctime changed),
+  times_read form path (moment_text atime) (moment_text mtime) (moment_text ctime) names atime mtime ctime is (moment_read atime accessed) (moment_read mtime modified) (moment_read ctime changed),
 )

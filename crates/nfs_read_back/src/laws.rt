@@ -1,6 +1,6 @@
 //! Laws over the definitions alone.
 ghost use Rattle.nfs_read_back.specs.ReadBack.{DirsAreReadBack, FilesAreReadBack, HardsAreReadBack, LinksAreReadBack, TimesAreReadBack};
-ghost use Rattle.nfs_read_back.specs.ReadBack.{ExportsAreReadBack, LimitsAreReadBack, ServersAreReadBack, VolumesAreReadBack};
+ghost use Rattle.nfs_read_back.specs.ReadBack.{ExportsAreReadBack, LimitsAreReadBack, NamesAreReadBack, ServersAreReadBack, VolumesAreReadBack};
 
 /// The line that is written for a directory, a file, a link, a hard link or for times asks for exactly
 /// that, wherever it stands in a text: the same path, mode, owner, group, content and times.
@@ -12,11 +12,12 @@ pub fn files_are_read_back()
     ensures times { TimesAreReadBack }
 {}
 
-/// The line that is written for a server says its key, the one for a tree its limits, and the one for a
-/// volume its path, its bytes and files, and what is given of its root.
+/// The line that is written for a server says its key, the ones for a tree its limits and how names are
+/// written, and the one for a volume its path, its bytes and files, and what is given of its root.
 pub fn volumes_are_read_back()
     ensures servers { ServersAreReadBack }
     ensures limits { LimitsAreReadBack }
+    ensures names { NamesAreReadBack }
     ensures volumes { VolumesAreReadBack }
 {}
 

@@ -12,9 +12,11 @@ use Rattle.nfs_load.specs.declared.cause.Cause.TheVariants.{BadByte, FieldCount}
 use Rattle.nfs_load.specs.declared.line.Keyword.{Keyword}
 use Rattle.nfs_load.specs.declared.line.Keyword.TheVariants as keyword
 use Rattle.nfs_load.specs.declared.loaded.Loaded.{Loaded}
+use Rattle.nfs_load.specs.declared.name_form.NameForm.{NameForm}
+use Rattle.nfs_load.specs.declared.name_form.NameForm.TheVariants.{Plain}
 use Rattle.nfs_load.specs.declared.statement.DirLine.{DirLine}
 use Rattle.nfs_load.specs.declared.statement.HardLine.{HardLine}
-use Rattle.nfs_load.specs.Descriptions.{Asked, Begins, ExportDone, GoesOn, InRoot, LimitsSet, LineDone, Then, Through, VolumeTaken, begun, early_limits, last_root}
+use Rattle.nfs_load.specs.Descriptions.{Asked, Begins, ExportDone, GoesOn, InRoot, LimitsSet, LineDone, NamesSet, Then, Through, VolumeTaken, begun, early_limits, early_names, last_root}
 use Rattle.nfs_load.specs.Effects.{AddsName, MakesDir, MakesFile, MakesLink, SetsTimes, TimesSet, attributes, link_attributes, start, timed_file, times_given}
 use Rattle.nfs_load.specs.Fields.{by, key_in, ◌>>=◌}
 use Rattle.nfs_load.specs.Lines.{counted, is_comment, is_text, keyword_named, shape_of, takes}
@@ -112,6 +114,10 @@ module _ (old new : Loaded) where
   limits_set (Ok limits) done = (ap (λ (l : Loaded). l.tree.next) done.1, λ filled. subst (λ (l : Loaded). AreFilled l.tree) (sym done.1) (filled_alike old.tree (with_limits old.tree limits) refl (λ n. refl) filled))
   limits_set (Err cause) done = cc
 
+  names_set : (read : Read NameForm) → NamesSet old read (Ok tt) new → GoesTo old.tree.next
+  names_set (Ok form) done = same_tree (ap (λ (l : Loaded). l.tree) done.1)
+  names_set (Err cause) done = cc
+
   -- the number that follows a row
   abbrev next_after : Option PathRow → ℕ → ℕ
   next_after None n = n
@@ -121,6 +127,7 @@ module _ (old new : Loaded) where
       → GoesTo (next_after (row_by keyword fields) old.tree.next)
   goes_on keyword.Server fields few done = cc
   goes_on keyword.Limits fields few done = limits_set (early_limits old.tree fields) done
+  goes_on keyword.Names fields few done = names_set (early_names old fields) done
   goes_on keyword.Volume [] few done = cc
   goes_on keyword.Volume (path ∷ rest) few done = volume_taken (volume_in old.tree.limits.files (path ∷ rest)) done
   goes_on keyword.Export fields few done =
@@ -128,24 +135,24 @@ module _ (old new : Loaded) where
       (λ n line it. same_tree (ap (λ (l : Loaded). l.tree) it.1)) done
   goes_on keyword.Dir [] few done = cc
   goes_on keyword.Dir (path ∷ rest) few done =
-      in_volume (λ n line. MakesDir old.tree n line (Ok tt) new.tree × (new.table ≡ old.table)) (GoesTo (old.tree.next + 1)) (last_root old.tree) (dir_in (path ∷ rest))
+      in_volume (λ n line. MakesDir old.tree n line (Ok tt) new.tree × (new.table ≡ old.table) × (new.names ≡ old.names)) (GoesTo (old.tree.next + 1)) (last_root old.tree) (dir_in old.names (path ∷ rest))
       (λ n line it. (dir_steps old.tree new.tree n line it.0, dir_fills old.tree new.tree n line it.0)) done
   goes_on keyword.File [] few done = cc
   goes_on keyword.File (path ∷ rest) few (inl done) =
-      in_volume (λ n line. MakesFile old.tree n line (Ok tt) new.tree × (new.table ≡ old.table)) (GoesTo (old.tree.next + 1)) (last_root old.tree) (file_in old.tree.limits.file_size (path ∷ rest))
+      in_volume (λ n line. MakesFile old.tree n line (Ok tt) new.tree × (new.table ≡ old.table) × (new.names ≡ old.names)) (GoesTo (old.tree.next + 1)) (last_root old.tree) (file_in old.names old.tree.limits.file_size (path ∷ rest))
       (λ n line it. (file_steps old.tree new.tree n line it.0, file_fills old.tree new.tree n line it.0)) done
   goes_on keyword.File (path ∷ rest) few (inr (refused, found, wants)) = cc
   goes_on keyword.Link [] few done = cc
   goes_on keyword.Link (path ∷ rest) few done =
-      in_volume (λ n line. MakesLink old.tree n line (Ok tt) new.tree × (new.table ≡ old.table)) (GoesTo (old.tree.next + 1)) (last_root old.tree) (link_in old.tree.limits.link_path (path ∷ rest))
+      in_volume (λ n line. MakesLink old.tree n line (Ok tt) new.tree × (new.table ≡ old.table) × (new.names ≡ old.names)) (GoesTo (old.tree.next + 1)) (last_root old.tree) (link_in old.names old.tree.limits.link_path (path ∷ rest))
       (λ n line it. (link_steps old.tree new.tree n line it.0, link_fills old.tree new.tree n line it.0)) done
   goes_on keyword.Hard [] few done = cc
   goes_on keyword.Hard (path ∷ []) few done = cc
   goes_on keyword.Hard (path ∷ target ∷ rest) few done =
-      in_volume (λ n line. AddsName old.tree n line (Ok tt) new.tree × (new.table ≡ old.table)) (GoesTo old.tree.next) (last_root old.tree) (hard_in (path ∷ target ∷ rest))
+      in_volume (λ n line. AddsName old.tree n line (Ok tt) new.tree × (new.table ≡ old.table) × (new.names ≡ old.names)) (GoesTo old.tree.next) (last_root old.tree) (hard_in old.names (path ∷ target ∷ rest))
       (λ n line it. (hard_steps old.tree new.tree n line it.0, hard_fills old.tree new.tree n line it.0)) done
   goes_on keyword.Times fields few done =
-      in_volume (λ n line. SetsTimes old.tree n line (Ok tt) new.tree × (new.table ≡ old.table)) (GoesTo old.tree.next) (last_root old.tree) (times_in fields)
+      in_volume (λ n line. SetsTimes old.tree n line (Ok tt) new.tree × (new.table ≡ old.table) × (new.names ≡ old.names)) (GoesTo old.tree.next) (last_root old.tree) (times_in old.names fields)
       (λ n line it. (times_step old.tree new.tree n line it.0, times_fill old.tree new.tree n line it.0)) done
 
 -- what a line in order does: where nothing was described, nothing is, or a tree is begun
@@ -160,10 +167,11 @@ begins : (k : Keyword) (fields : List (List ℕ)) (new : Option Loaded) → Begi
 begins keyword.Server fields new done = (refl, inr (of (by key_in fields) done))
   where
     of : (read : Result (List ℕ × List (List ℕ)) Cause)
-        → Begins (read >>= λ key. Ok (record { tree = record { files = []; next = 1; key = key.0; volumes = []; limits = default_limits }; table = [] })) (Ok tt) new → Begun new
-    of (Ok key) done = (record { tree = record { files = []; next = 1; key = key.0; volumes = []; limits = default_limits }; table = [] }, done.1, refl, record { some = omega arith; none = refl; given = λ n low less. absurd (omega (arith, low, less)); above = λ n le. refl })
+        → Begins (read >>= λ key. Ok (record { tree = record { files = []; next = 1; key = key.0; volumes = []; limits = default_limits }; table = []; names = Plain })) (Ok tt) new → Begun new
+    of (Ok key) done = (record { tree = record { files = []; next = 1; key = key.0; volumes = []; limits = default_limits }; table = []; names = Plain }, done.1, refl, record { some = omega arith; none = refl; given = λ n low less. absurd (omega (arith, low, less)); above = λ n le. refl })
     of (Err cause) done = cc
 begins keyword.Limits fields new done = cc
+begins keyword.Names fields new done = cc
 begins keyword.Volume fields new done = cc
 begins keyword.Export fields new done = cc
 begins keyword.Dir fields new done = cc

@@ -30,7 +30,7 @@ use Rattle.nfs_exports.specs.declared.setting.Setting.TheVariants.{ReadOnly, Roo
 use Rattle.nfs_exports.specs.declared.settings.Settings.{Settings}
 use Rattle.nfs_inodes.proofs.Lists.{by_test, not_both, same_some}
 use Rattle.nfs_load.specs.Fields.{◌>>=◌, at_least, after, by, content_in, found_pattern, key_in, mode_in, keyed, number_in, options_at, options_or_cause}
-use Rattle.nfs_load.specs.Fields.{pattern_in, target_in, within}
+use Rattle.nfs_load.specs.Fields.{pattern_in, within}
 use Rattle.nfs_load.specs.Moments.{IsTime, after_plus, after_point, fraction_in, moment_in, moment_of, seconds_in, units_in}
 use Rattle.nfs_load.specs.Statements.{given_in, id_in}
 use Rattle.nfs_load.specs.declared.cause.Cause.{Cause}
@@ -130,12 +130,6 @@ content_bound most field content e = if_ok (bytes_eq field (codes "-")) (Ok []) 
     from (Ok bytes) is e = if_ok (nat_le (length bytes) most) (Ok bytes) (Err BadContent) content
         (λ one. subst IsBytes (same_ok (Ok bytes) bytes content refl one) (decode_of-ok field bytes is).3)
         (λ two. absurd (err_is (Err BadContent) BadContent content refl two)) e
-
-pub target_bound : (most : ℕ) (field target : List ℕ) → target_in most field ≡ Ok target → (field ≡ target) × (nat_le (length target) most ≡ true)
-target_bound most field target e = by_test (nat_le (length field) most)
-    (λ y. let same : field ≡ target = same_ok (target_in most field) field target (ap (λ b. if b then Ok field else Err BadContent) y) e in
-    (same, subst (λ l. nat_le (length l) most ≡ true) same y))
-    (λ o. absurd (err_is (target_in most field) BadContent target (ap (λ b. if b then Ok field else Err BadContent) o) e))
 
 -- ---- times
 

@@ -1,30 +1,28 @@
 -- The next step of a walk, in a tree that is made again up to it.
-use Rattle.std.proofs.Common.{inl, inr, ◌≡◌, ◌≢◌, ℕ, ◌<◌, ◌≤◌, Bool, true, false, cond, List, [], ◌∷◌, ◌++◌, length, Option, Some, None, option_map, Ok}
-use Rattle.std.proofs.Common.{refl, sym, ap, subst, ◌∙◌, arith}
+use Rattle.std.proofs.Common.{inl, inr, ◌≡◌, ◌≢◌, ℕ, Bool, true, false, cond, List, [], ◌∷◌, ◌++◌, Option, Some, None, option_map, Ok}
+use Rattle.std.proofs.Common.{refl, sym, ap, subst, ◌∙◌}
 use Rattle.std.specs.List.{find, list_all}
-use Rattle.std.specs.Prelude.{Contains, Err, Result, bytes_eq, if◌then◌else◌, is_some, nat_le, nat_lt}
-use Rattle.std.proofs.lemmas.Bool.Decides.{nat_tests}
-use Rattle.std.proofs.lemmas.List.{length-append}
+use Rattle.std.specs.Prelude.{Contains, Err, Result, bytes_eq, if◌then◌else◌, is_some}
 use Rattle.nfs_inodes.specs.Law.{IsName, Law, LivesAsDirectory}
 use Rattle.nfs_inodes.specs.Reading.{entries_at, has_name, number_named, number_under}
 use Rattle.nfs_inodes.specs.Tree.{Tree, File, Kind, Regular, Directory, Link, Entry, Volume, at, entries_in, is_directory, on_some}
 use Rattle.nfs_inodes.proofs.Lists.{same_some, not_both, head_or_tail, not_in_empty}
 use Rattle.nfs_load.specs.PathEnds.{PathEnd, end_at, file_at, free_end, unless_taken}
-use Rattle.nfs_load.specs.Listings.{is_plain}
 use Rattle.nfs_load.specs.Paths.{path_in}
+use Rattle.nfs_load.specs.declared.name_form.NameForm.{NameForm}
 use Rattle.nfs_load.specs.declared.cause.Cause.{Cause}
 use Rattle.nfs_load.specs.declared.cause.Cause.TheVariants.{NameTaken}
-use Rattle.nfs_describe.specs.Lines.{is_shown}
-use Rattle.nfs_describe.specs.Places.{FilePath, is_sayable}
+use Rattle.nfs_describe.specs.Lines.{path_text}
+use Rattle.nfs_describe.specs.Places.{FilePath}
 use Rattle.nfs_read_back.specs.ReadBack.{is_said}
 use Rattle.nfs_round_trip.proofs.Directories.{shown, shown_append, shown_here}
 use Rattle.nfs_round_trip.proofs.Made.{Has}
 use Rattle.nfs_round_trip.proofs.Parts.{AllHave, IsPart, directory_made, shown_have}
-use Rattle.nfs_round_trip.proofs.Paths.{AreNames, names_push, path_read, slashed, slashed_push}
+use Rattle.nfs_round_trip.proofs.Paths.{AreNames, IsByteName, PathHeld, names_push, path_read, path_said, slashed, slashed_push}
 use Rattle.nfs_round_trip.proofs.Reaches.{HasNone, end_is, found_copied, found_last, leads, leads_more, leads_push, none_found, on_some_is, reached}
 use Rattle.nfs_round_trip.proofs.Reaches.{under_directory}
 use Rattle.nfs_round_trip.proofs.Walks.{Step, place_of, root_place}
-use Rattle.nfs_round_trip.proofs.Truths.{and_true, both, some, within}
+use Rattle.nfs_round_trip.proofs.Truths.{both}
 
 -- ---- places and their names
 
@@ -46,7 +44,7 @@ named_more all s root p named = record {
   lead = leads_more (shown all) (shown (all ++ s ∷ [])) (grown all s) root p.number named.names named.lead;
 }
 
-pub named_new : (all : List Step) (s : Step) (root : ℕ) → IsNamed all root s.0 → IsName s.1.name → HasNone s.1.name (shown all s.0.number)
+pub named_new : (all : List Step) (s : Step) (root : ℕ) → IsNamed all root s.0 → IsByteName s.1.name → HasNone s.1.name (shown all s.0.number)
     → IsNamed (all ++ s ∷ []) root (place_of s)
 unfolding named_more
 named_new all s root named is none =
@@ -62,28 +60,19 @@ named_new all s root named is none =
 pub named_root : (t : Tree) (all : List Step) (root : ℕ) → IsNamed all root (root_place t root)
 named_root t all root = record { names = []; are = tt; path = refl; lead = refl }
 
--- a path that can be said is a word
-shown_byte : (x : ℕ) → is_plain x ≡ true → is_shown x ≡ true
-shown_byte x e = grind (arith, nat_tests)
-
-all_shown : (xs : List ℕ) → list_all is_plain xs ≡ true → list_all is_shown xs ≡ true
-all_shown [] e = refl
-all_shown (x ∷ xs) e = let p = both (is_plain x) (list_all is_plain xs) e in and_true (is_shown x) (list_all is_shown xs) (shown_byte x p.0) (all_shown xs p.1)
-
-pub path_said : (path : List ℕ) → 0 < length path → is_sayable path ≡ true → is_said path ≡ true
-path_said path long e = let p = both (nat_le (length path) 1024) (list_all is_plain path) e in
-    and_true (nat_lt 0 (length path)) (list_all is_shown path) (some (length path) long) (all_shown path p.1)
-
-pub path_in_names : (path : List ℕ) (names : List (List ℕ)) (name : List ℕ) → path ≡ slashed (names ++ name ∷ []) → AreNames (names ++ name ∷ [])
-    → is_sayable path ≡ true
-    → path_in path ≡ Ok (names ++ name ∷ [])
-path_in_names path [] name is are e =
-    let p = both (nat_le (length path) 1024) (list_all is_plain path) e in
-    ap path_in is ∙ path_read name [] are (subst (λ l. length l ≤ 1024) is (within (length path) 1024 p.0)) (subst (λ l. list_all is_plain l ≡ true) is p.1)
-path_in_names path (first ∷ names) name is are e =
-    let p = both (nat_le (length path) 1024) (list_all is_plain path) e in
-    ap path_in is ∙ path_read first (names ++ name ∷ []) are (subst (λ l. length l ≤ 1024) is (within (length path) 1024 p.0))
-    (subst (λ l. list_all is_plain l ≡ true) is p.1)
+pub path_in_names : (form : NameForm) (path : List ℕ) (names : List (List ℕ)) (name : List ℕ) → path ≡ slashed (names ++ name ∷ []) → AreNames (names ++ name ∷ [])
+    → PathHeld form path
+    → (path_in form (path_text form path) ≡ Ok (names ++ name ∷ [])) × (is_said (path_text form path) ≡ true)
+path_in_names form path [] name is are held =
+    let at_slash : PathHeld form (slashed (name ∷ [])) = subst (PathHeld form) is held in (
+      ap (λ l. path_in form (path_text form l)) is ∙ path_read form name [] are at_slash,
+      ap (λ l. is_said (path_text form l)) is ∙ path_said form name [] are at_slash,
+    )
+path_in_names form path (first ∷ names) name is are held =
+    let at_slash : PathHeld form (slashed (first ∷ (names ++ name ∷ []))) = subst (PathHeld form) is held in (
+      ap (λ l. path_in form (path_text form l)) is ∙ path_read form first (names ++ name ∷ []) are at_slash,
+      ap (λ l. is_said (path_text form l)) is ∙ path_said form first (names ++ name ∷ []) are at_slash,
+    )
 
 pub one_passes : (test : FilePath → Bool) (places : List FilePath) (p : FilePath) → list_all test places ≡ true → Contains places p → test p ≡ true
 one_passes test [] p all c = absurd (not_in_empty [] p refl c)
@@ -107,16 +96,15 @@ leads_split list n m (name ∷ init) last e =
     let rest = leads_split list s.0 m init last s.2 in
     (rest.0, ap (λ o. on_some o None (λ i. leads list i init)) s.1 ∙ rest.1, rest.2)
 
-pub named_path : (all : List Step) (root : ℕ) (p : FilePath) (named : IsNamed all root p) → named.names ≢ [] → is_sayable p.path ≡ true
-    → (path_in p.path ≡ Ok named.names) × (is_said p.path ≡ true)
-named_path all root p named more said =
+pub named_path : (form : NameForm) (all : List Step) (root : ℕ) (p : FilePath) (named : IsNamed all root p) → named.names ≢ [] → PathHeld form p.path
+    → (path_in form (path_text form p.path) ≡ Ok named.names) × (is_said (path_text form p.path) ≡ true)
+named_path form all root p named more held =
     let l = last_of named.names more in
     let is : p.path ≡ slashed (l.0 ++ l.1 ∷ []) = named.path ∙ ap slashed l.2 in
-    let long : length p.path ≡ length (slashed l.0 ++ 47 ∷ l.1) = ap length (is ∙ slashed_push l.0 l.1) in
-    let sum = length-append (slashed l.0) (47 ∷ l.1) in
-    (path_in_names p.path l.0 l.1 is (subst AreNames l.2 named.are) said ∙ ap Ok (sym l.2), path_said p.path (omega (arith, long, sum)) said)
+    let read = path_in_names form p.path l.0 l.1 is (subst AreNames l.2 named.are) held in
+    (read.0 ∙ ap Ok (sym l.2), read.1)
 
-names_split : (init : List (List ℕ)) (last : List ℕ) → AreNames (init ++ last ∷ []) → AreNames init × IsName last
+names_split : (init : List (List ℕ)) (last : List ℕ) → AreNames (init ++ last ∷ []) → AreNames init × IsByteName last
 names_split [] last are = (tt, are.0)
 names_split (name ∷ init) last are = let rest = names_split init last are.1 in ((are.0, rest.0), rest.1)
 
@@ -175,7 +163,7 @@ module _ (t : Tree) (law : Law t) (number : ℕ → ℕ) (timed : ℕ → Bool) 
   reached_is n m (name ∷ names) has are e =
       let s = on_some_is (number_named name (shown all n)) (λ i. leads (shown all) i names) m e in
       let dir = directory_of n has (some_entry (shown all n) name s.0 s.1) in
-      let under : number_under u (number n) name ≡ Some (number s.0) = under_made n dir.0 name has dir.1 are.0 ∙ ap (option_map number) s.1 in
+      let under : number_under u (number n) name ≡ Some (number s.0) = under_made n dir.0 name has dir.1 are.0.0 ∙ ap (option_map number) s.1 in
       let rest = reached_is s.0 m names (have_found (shown all n) name s.0 (shown_have ns all n part.known) s.1) are.1 s.2 in
       (ap (λ o. on_some o None (λ i. reached u i names)) under ∙ rest.0, rest.1)
 
@@ -214,4 +202,4 @@ module _ (t : Tree) (law : Law t) (number : ℕ → ℕ) (timed : ℕ → Bool) 
       let made = directory_made t law number timed all ns vs u part split.0 dir.0 r.1 dir.1 in
       ap (file_at u (number root)) l.2
       ∙ ap (λ o. on_some o None (λ (end : PathEnd). number_under u end.dir end.name)) (end_is u (number root) (number split.0) l.0 l.1 made.0 r.0 made.1.lives)
-      ∙ under_made split.0 dir.0 l.1 r.1 dir.1 parts.1 ∙ ap (option_map number) split.2
+      ∙ under_made split.0 dir.0 l.1 r.1 dir.1 parts.1.0 ∙ ap (option_map number) split.2

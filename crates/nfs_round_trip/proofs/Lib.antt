@@ -24,3 +24,4 @@ pub mod Truths
 pub mod Volumes
 pub mod Walks
 pub mod Whole
+pub mod WordBytes

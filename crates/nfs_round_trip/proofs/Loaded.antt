@@ -1,8 +1,9 @@
 -- What a description loads can be described.
-use Rattle.std.proofs.Common.{◌≡◌, ℕ, ◌<◌, ◌^◌, true, false, cond, List, [], ◌∷◌, ◌++◌, length, Option, Some, None, Ok, refl, sym, ap, subst, ◌∙◌}
+use Rattle.std.proofs.Common.{inl, inr, ◌≡◌, ℕ, ◌<◌, ◌^◌, true, false, cond, List, [], ◌∷◌, ◌++◌, length, Option, Some, None, Ok, refl, sym, ap, subst, ◌∙◌}
 use Rattle.std.proofs.Common.{◌==◌, arith}
 use Rattle.std.specs.List.{filter, list_all, onto_first}
-use Rattle.std.specs.Prelude.{Err, Result, if◌then◌else◌, nat_lt}
+use Rattle.std.proofs.lemmas.List.Elements.{Contains-append_cases}
+use Rattle.std.specs.Prelude.{Contains, Err, Result, if◌then◌else◌, nat_lt}
 use Rattle.std.proofs.lemmas.Bool.Decides.{nat_tests}
 use Rattle.hex.specs.Hex.{IsBytes}
 use Rattle.nfs_attrs.specs.declared.moment.Moment.{Moment}
@@ -14,8 +15,8 @@ use Rattle.nfs_inodes.specs.Changes.{after_add_volume, after_link, after_mkdir, 
 use Rattle.nfs_inodes.specs.Changes.{after_set, or_else, touched, with_entry, with_file, with_given, with_named_file, with_new_file}
 use Rattle.nfs_inodes.specs.Conditions.{MayAddVolume, MayLink, MayMake, MayMakeDirectory, MayMakeLink}
 use Rattle.nfs_inodes.specs.Law.{Law, Lives}
-use Rattle.nfs_inodes.specs.Tree.{Tree, File, Kind, Regular, Directory, Link, at, bytes_in, on_some}
-use Rattle.nfs_inodes.proofs.Lists.{by_test, same_some}
+use Rattle.nfs_inodes.specs.Tree.{Tree, File, Kind, Entry, Regular, Directory, Link, at, on_some}
+use Rattle.nfs_inodes.proofs.Lists.{by_test, head_or_tail, not_in_empty, same_some}
 use Rattle.nfs_inodes.proofs.Maps.{at_next, push_back, with_back}
 use Rattle.nfs_inodes.proofs.law.NewFiles.{law_after_add_volume, law_after_mkdir, law_after_make_file, law_after_make_link}
 use Rattle.nfs_inodes.proofs.law.Operations.{law_after_link}
@@ -27,10 +28,10 @@ use Rattle.nfs_load.specs.declared.cause.Cause.{Cause}
 use Rattle.nfs_load.specs.declared.cause.Cause.TheVariants.{BadByte, FieldCount}
 use Rattle.nfs_load.specs.declared.line.Keyword.{Keyword}
 use Rattle.nfs_load.specs.declared.statement.Given.{Given}
-use Rattle.nfs_describe.specs.Lines.{is_shown, is_target}
+use Rattle.nfs_describe.specs.Lines.{is_shown}
 use Rattle.nfs_read_back.specs.ReadBack.{is_said}
 use Rattle.nfs_round_trip.specs.Changes.{IsGivenSaid, IsNewSaid}
-use Rattle.nfs_round_trip.specs.Copies.{CanBeSaid}
+use Rattle.nfs_round_trip.specs.Copies.{CanBeSaid, HoldsBytes}
 use Rattle.nfs_round_trip.proofs.Runs as runs
 use Rattle.nfs_round_trip.proofs.Runs.{same_ok}
 use Rattle.nfs_round_trip.proofs.Truths.{and_true, both}
@@ -107,26 +108,27 @@ said_with u d h g lives said all n f is = with_back d n h g f u.files lives is (
 pub start_time : IsTime start
 start_time = (omega arith, omega arith)
 
-pub entered_said : (f : File) (name : List ℕ) (n : ℕ) (now : Moment) → IsTime now → CanBeSaid f → CanBeSaid (entered f name n now)
-entered_said f name n now time said = record {
+pub entered_said : (f : File) (name : List ℕ) (n : ℕ) (now : Moment) → IsTime now → IsBytes name → CanBeSaid f → CanBeSaid (entered f name n now)
+entered_said f name n now time bytes said = record {
   uid = said.uid;
   gid = said.gid;
   atime = said.atime;
   mtime = time;
   ctime = time;
-  bytes = subst IsBytes (sym (same f.kind)) said.bytes;
-  target = λ path is. said.target path (back f.kind path is);
+  holds = more f.kind said.holds;
 }
   where
-    same : (k : Kind) → bytes_in (kind_with_entry k name n) ≡ bytes_in k
-    same (Regular bytes) = refl
-    same (Directory parent next_cookie entries) = refl
-    same (Link path) = refl
-
-    back : (k : Kind) (path : List ℕ) → kind_with_entry k name n ≡ Link path → k ≡ Link path
-    back (Regular bytes) path is = is
-    back (Directory parent next_cookie entries) path is = cc
-    back (Link other) path is = is
+    more : (k : Kind) → HoldsBytes k → HoldsBytes (kind_with_entry k name n)
+    more (Regular content) holds = holds
+    more (Directory parent next_cookie entries) holds = λ e c.
+        elim (Contains-append_cases entries (record { cookie = next_cookie; name = name; number = n } ∷ []) e c) [
+          | inl was ↦ holds e was
+          | inr new ↦ elim (head_or_tail (record { cookie = next_cookie; name = name; number = n }) e [] new) [
+            | inl is ↦ subst (λ (x : Entry). IsBytes x.name) is bytes
+            | inr none ↦ absurd (not_in_empty [] e refl none)
+          ]
+        ]
+    more (Link path) holds = holds
 
 pub touched_said : (f : File) (now : Moment) → IsTime now → CanBeSaid f → CanBeSaid (record f { ctime = now })
 touched_said f now time said = record {
@@ -135,8 +137,7 @@ touched_said f now time said = record {
   atime = said.atime;
   mtime = said.mtime;
   ctime = time;
-  bytes = said.bytes;
-  target = said.target;
+  holds = said.holds;
 }
 
 or_said : {X : Type 0} (Is : X → Type 0) (o : Option X) (was : X) → ((x : X) → o ≡ Some x → Is x) → Is was → Is (or_else o was)
@@ -150,16 +151,15 @@ given_said f given now is time said = record {
   atime = or_said IsTime given.atime f.atime is.atime said.atime;
   mtime = or_said IsTime given.mtime f.mtime is.mtime said.mtime;
   ctime = time;
-  bytes = said.bytes;
-  target = said.target;
+  holds = said.holds;
 }
 
-said_entry : (u : Tree) (d : ℕ) (name : List ℕ) (n : ℕ) → FilesSaid u → FilesSaid (with_entry u d name n start)
-said_entry u d name n all = of (at d u.files) refl
+said_entry : (u : Tree) (d : ℕ) (name : List ℕ) (n : ℕ) → IsBytes name → FilesSaid u → FilesSaid (with_entry u d name n start)
+said_entry u d name n bytes all = of (at d u.files) refl
   where
     of : (o : Option File) → at d u.files ≡ o → FilesSaid (on_some o u (λ f. with_file u d (entered f name n start)))
     of None e = all
-    of (Some h) e = said_with u d h (entered h name n start) e (entered_said h name n start start_time (all d h e)) all
+    of (Some h) e = said_with u d h (entered h name n start) e (entered_said h name n start start_time bytes (all d h e)) all
 
 said_touched : (u : Tree) (n : ℕ) → FilesSaid u → FilesSaid (touched u n start)
 said_touched u n all = of (at n u.files) refl
@@ -172,69 +172,64 @@ said_push : (u : Tree) (f : File) → Law u → CanBeSaid f → FilesSaid u → 
 said_push u f law said all n g is = push_back u.next n f g u.files (at_next 0 u.next u.files law.rising) is (λ s e. subst CanBeSaid e said)
     (λ o was. all n g was)
 
-said_named : (u : Tree) (d : ℕ) (name : List ℕ) (f : File) → Law u → CanBeSaid f → FilesSaid u → FilesSaid (with_named_file u d name f start)
-said_named u d name f law said all = said_entry (with_new_file u f) d name u.next (said_push u f law said all)
+said_named : (u : Tree) (d : ℕ) (name : List ℕ) (f : File) → Law u → IsBytes name → CanBeSaid f → FilesSaid u → FilesSaid (with_named_file u d name f start)
+said_named u d name f law bytes said all = said_entry (with_new_file u f) d name u.next bytes (said_push u f law said all)
 
-pub new_said : (volume : ℕ) (k : Kind) (given : NewFile) (verifier : Option (List ℕ)) (tag : ℕ) (now : Moment) → IsNewSaid given → IsTime now → IsBytes (bytes_in k)
-    → ((path : List ℕ) → k ≡ Link path → is_target path ≡ true)
+pub new_said : (volume : ℕ) (k : Kind) (given : NewFile) (verifier : Option (List ℕ)) (tag : ℕ) (now : Moment) → IsNewSaid given → IsTime now → HoldsBytes k
     → CanBeSaid (new_file volume k given verifier tag now)
-new_said volume k given verifier tag now is time bytes target = record {
+new_said volume k given verifier tag now is time holds = record {
   uid = is.uid;
   gid = is.gid;
   atime = is.atime;
   mtime = is.mtime;
   ctime = time;
-  bytes = bytes;
-  target = target;
+  holds = holds;
 }
 
 attributes_said : (given : Given) → (given.uid < 2 ^ 32) × (given.gid < 2 ^ 32) → IsNewSaid (attributes given)
 attributes_said given ids = record { uid = ids.0; gid = ids.1; atime = start_time; mtime = start_time }
 
-pub no_bytes : IsBytes []
-no_bytes i = omega arith
+pub no_entries : (e : Entry) → Contains [] e → IsBytes e.name
+no_entries e c = absurd (not_in_empty [] e refl c)
 
 -- what makes a tree keeps its law and that its files can be said
 abbrev pub IsKept : Tree → Type 0
 IsKept u = Law u × FilesSaid u
 
 pub kept_dir : (u : Tree) (d tag : ℕ) (name : List ℕ) (given : Given) → MayMakeDirectory u d name → tag < 2 ^ 32 → (given.uid < 2 ^ 32) × (given.gid < 2 ^ 32)
-    → IsKept u
+    → IsBytes name → IsKept u
     → IsKept (after_mkdir u d name (attributes given) tag start)
-kept_dir u d tag name given may fits ids kept = (
+kept_dir u d tag name given may fits ids bytes kept = (
   law_after_mkdir u d tag name (attributes given) start may fits kept.0,
-  said_named u d name _ kept.0 (new_said _ (Directory d 3 []) (attributes given) None tag start (attributes_said given ids) start_time no_bytes (λ path is. cc)) kept.1,
+  said_named u d name _ kept.0 bytes (new_said _ (Directory d 3 []) (attributes given) None tag start (attributes_said given ids) start_time no_entries) kept.1,
 )
 
-pub kept_file : (u : Tree) (d tag : ℕ) (name bytes : List ℕ) (given : Given) → MayMake u d name (length bytes) → tag < 2 ^ 32 → (given.uid < 2 ^ 32)
-    × (given.gid < 2 ^ 32) → IsBytes bytes → IsKept u
-    → IsKept (after_make_file u d name bytes (attributes given) None tag start)
-kept_file u d tag name bytes given may fits ids all kept = (
-  law_after_make_file u d tag name bytes (attributes given) None start may fits kept.0,
-  said_named u d name _ kept.0 (new_said _ (Regular bytes) (attributes given) None tag start (attributes_said given ids) start_time all (λ path is. cc)) kept.1,
+pub kept_file : (u : Tree) (d tag : ℕ) (name content : List ℕ) (given : Given) → MayMake u d name (length content) → tag < 2 ^ 32 → (given.uid < 2 ^ 32)
+    × (given.gid < 2 ^ 32) → IsBytes name → IsBytes content → IsKept u
+    → IsKept (after_make_file u d name content (attributes given) None tag start)
+kept_file u d tag name content given may fits ids bytes all kept = (
+  law_after_make_file u d tag name content (attributes given) None start may fits kept.0,
+  said_named u d name _ kept.0 bytes (new_said _ (Regular content) (attributes given) None tag start (attributes_said given ids) start_time all) kept.1,
 )
-
-pub link_said : (target : List ℕ) → is_target target ≡ true → (path : List ℕ) → Link target ≡ Link path → is_target path ≡ true
-link_said target e path is = let same : target ≡ path = cc in subst (λ p. is_target p ≡ true) same e
 
 pub kept_link : (u : Tree) (d tag : ℕ) (name target : List ℕ) (uid gid : ℕ) → MayMakeLink u d name target → tag < 2 ^ 32 → uid < 2 ^ 32 → gid < 2 ^ 32
-    → is_target target ≡ true → IsKept u
+    → IsBytes name → IsBytes target → IsKept u
     → IsKept (after_make_link u d name target (link_attributes uid gid) tag start)
-kept_link u d tag name target uid gid may fits owner group holds kept = (
+kept_link u d tag name target uid gid may fits owner group bytes holds kept = (
   law_after_make_link u d tag name target (link_attributes uid gid) start may fits kept.0,
-  said_named u d name _ kept.0 (new_said _ (Link target) (link_attributes uid gid) None tag start
-      (attributes_said (record { mode = 511; uid = uid; gid = gid }) (owner, group)) start_time no_bytes (link_said target holds)) kept.1,
+  said_named u d name _ kept.0 bytes (new_said _ (Link target) (link_attributes uid gid) None tag start
+      (attributes_said (record { mode = 511; uid = uid; gid = gid }) (owner, group)) start_time holds) kept.1,
 )
 
-pub kept_name : (u : Tree) (n d : ℕ) (name : List ℕ) → MayLink u n d name → IsKept u → IsKept (after_link u n d name start)
-kept_name u n d name may kept = (law_after_link u n d name start may kept.0, said_entry (touched u n start) d name n (said_touched u n kept.1))
+pub kept_name : (u : Tree) (n d : ℕ) (name : List ℕ) → MayLink u n d name → IsBytes name → IsKept u → IsKept (after_link u n d name start)
+kept_name u n d name may bytes kept = (law_after_link u n d name start may kept.0, said_entry (touched u n start) d name n bytes (said_touched u n kept.1))
 
 pub kept_volume : (u : Tree) (path : List ℕ) (max_bytes max_files tag : ℕ) (given : Given) → MayAddVolume u path max_bytes max_files → tag < 2 ^ 32
     → (given.uid < 2 ^ 32) × (given.gid < 2 ^ 32) → IsKept u
     → IsKept (after_add_volume u path max_bytes max_files (attributes given) tag start)
 kept_volume u path max_bytes max_files tag given may fits ids kept = (
   law_after_add_volume u max_bytes max_files tag path (attributes given) start may fits kept.0,
-  said_push u _ kept.0 (new_said _ (Directory u.next 3 []) (attributes given) None tag start (attributes_said given ids) start_time no_bytes (λ path is. cc)) kept.1,
+  said_push u _ kept.0 (new_said _ (Directory u.next 3 []) (attributes given) None tag start (attributes_said given ids) start_time no_entries) kept.1,
 )
 
 pub kept_times : (u : Tree) (n : ℕ) (given : GivenAttributes) (now : Moment) (f : File) → Lives u n f → IsGivenSaid given → IsTime now → IsKept u

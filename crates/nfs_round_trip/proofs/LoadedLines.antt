@@ -1,15 +1,15 @@
 -- Each line keeps what can be described.
-use Rattle.std.proofs.Common.{inl, inr, ◌≡◌, ◌≢◌, ◌⊎◌, ℕ, suc, zero, ◌+◌, ◌-◌, ◌<◌, ◌≤◌, ◌^◌, ◌&&◌, true, List, [], ◌∷◌, ◌++◌, length, nat_eq}
+use Rattle.std.proofs.Common.{inl, inr, ◌≡◌, ◌≢◌, ◌⊎◌, ℕ, suc, zero, ◌+◌, ◌-◌, ◌<◌, ◌≤◌, ◌^◌, Bool, true, false, List, [], ◌∷◌, ◌++◌, length, nat_eq}
 use Rattle.std.proofs.Common.{Option, Some, None, Ok, refl, sym, ap, subst, ◌∙◌, arith}
 use Rattle.std.specs.List.{list_all}
-use Rattle.std.specs.Prelude.{All, Contains, Err, Result, if◌then◌else◌, is_some, nat_le, nat_lt}
-use Rattle.nfs_inodes.specs.Reading.{volume_named}
+use Rattle.std.specs.Prelude.{All, Contains, Err, Result, if◌then◌else◌, is_some, nat_lt}
+use Rattle.nfs_inodes.specs.Reading.{attributes_at, number_under, volume_named}
 use Rattle.std.specs.List.Sorted.{IsStrictlySortedBy}
 use Rattle.std.specs.Ordering.{nat_cmp}
-use Rattle.std.proofs.lemmas.Bool.{eq-eqb, le-leb, leb-true}
+use Rattle.std.proofs.lemmas.Bool.{eq-eqb}
 use Rattle.std.proofs.lemmas.List.{length-append}
 use Rattle.nfs_text.specs.Lines.{lines}
-use Rattle.std.proofs.lemmas.List.Elements.{All-nil, All-push}
+use Rattle.std.proofs.lemmas.List.Elements.{All-head, All-nil, All-push, All-tail}
 use Rattle.hex.specs.Hex.{IsBytes}
 use Rattle.nfs_attrs.specs.declared.moment.Moment.{Moment}
 use Rattle.nfs_exports.specs.Tables.{added, exports_of, pattern_count}
@@ -21,38 +21,43 @@ use Rattle.nfs_inodes.specs.declared.limits.Limits.{Limits}
 use Rattle.nfs_inodes.specs.Law.{IsWithin, Law}
 use Rattle.nfs_inodes.proofs.law.Opened.{law_limited}
 use Rattle.nfs_inodes.proofs.law.Settings.{set_is}
-use Rattle.nfs_inodes.specs.Limits.{default_limits, max_path_bytes}
+use Rattle.nfs_inodes.specs.Limits.{default_limits}
 use Rattle.nfs_inodes.specs.Tree.{Tree, File, Volume, at, on_some}
 use Rattle.nfs_inodes.proofs.Lists.{by_test, head_or_tail, in_head, in_tail, not_both as not_one, not_in_empty, same_some, true_and_false}
-use Rattle.nfs_load.specs.Descriptions.{Asked, Begins, GoesOn, InRoot, IsFault, LimitsSet, early_limits, Then, Through, begun, finished, last_root}
-use Rattle.nfs_load.specs.Effects.{TimesSet, free_path, start, timed_file, times_given}
+use Rattle.nfs_load.specs.Descriptions.{Asked, Begins, GoesOn, InRoot, IsFault, LimitsSet, NamesSet, early_limits, early_names, Then, Through, begun, finished, last_root}
+use Rattle.nfs_load.specs.Effects.{TimesSet, free_path, link_end, named_file, start, timed_file, times_given}
 use Rattle.nfs_load.specs.Fields.{◌>>=◌, by, content_in, key_in, number_in, options_at, pattern_in, target_in}
 use Rattle.nfs_load.specs.Lines.{Line, shape}
 use Rattle.nfs_load.specs.Moments.{IsTime, moment_in}
-use Rattle.nfs_load.specs.PathEnds.{file_or_root_at}
-use Rattle.nfs_load.specs.Paths.{is_volume_path, path_in, path_or_root_in, volume_path_in}
+use Rattle.nfs_load.specs.PathEnds.{PathEnd, end_after, end_at, file_at, file_or_root_at, free_end, is_directory, unless_taken}
+use Rattle.nfs_load.specs.Paths.{is_volume_path, path_in, path_names, path_or_cause, path_or_root_in, volume_path_in}
 use Rattle.nfs_load.specs.Statements.{FileLine, LinkLine, Read, TimesLine, VolumeLine, dir_in, export_in, file_in, given_in, hard_in, id_in, link_in, times_in, volume_in}
 use Rattle.nfs_load.specs.declared.cause.Cause.{Cause}
-use Rattle.nfs_load.specs.declared.cause.Cause.TheVariants.{BadVolumePath, NoVolume, ServerTwice, VolumeTwice}
+use Rattle.nfs_load.specs.declared.cause.Cause.TheVariants.{BadVolumePath, NameTaken, NoVolume, ServerTwice, VolumeTwice}
 use Rattle.nfs_load.specs.declared.line.Keyword.{Keyword}
 use Rattle.nfs_load.specs.declared.line.Keyword.TheVariants as keyword
 use Rattle.nfs_load.specs.declared.loaded.Loaded.{Loaded}
+use Rattle.nfs_load.specs.declared.name_form.NameForm.{NameForm}
+use Rattle.nfs_load.specs.declared.name_form.NameForm.TheVariants.{Plain}
 use Rattle.nfs_load.specs.declared.refusal.Refusal.TheVariants.{Fault, Memory}
 use Rattle.nfs_load.specs.declared.statement.DirLine.{DirLine}
 use Rattle.nfs_load.specs.declared.statement.ExportLine.{ExportLine}
 use Rattle.nfs_load.specs.declared.statement.Given.{Given}
+use Rattle.nfs_load.specs.declared.statement.HardLine.{HardLine}
 use Rattle.nfs_load.proofs.Descriptions.{length_added}
 use Rattle.nfs_load.proofs.Timed.{living_lives}
-use Rattle.nfs_describe.specs.Lines.{is_shown, is_target}
+use Rattle.nfs_describe.specs.Lines.{is_shown}
 use Rattle.nfs_read_back.specs.ReadBack.{IsExport, is_said}
 use Rattle.nfs_round_trip.specs.Changes.{IsGivenSaid}
 use Rattle.nfs_round_trip.specs.RoundTrip as law
 use Rattle.nfs_round_trip.specs.RoundTrip.{IsDescribable, IsVolumeSaid}
-use Rattle.nfs_round_trip.proofs.Bounds.{bind_is, by_is, content_bound, given_bound, key_bound, moment_bound, number_bound, options_bound, pattern_bound, target_bound}
+use Rattle.nfs_round_trip.proofs.Bounds.{bind_is, by_is, content_bound, given_bound, key_bound, moment_bound, number_bound, options_bound, pattern_bound}
 use Rattle.nfs_round_trip.proofs.LimitBounds.{early, limits_kept}
 use Rattle.nfs_round_trip.proofs.Loaded.{AllSaid, IsKept, fields_said, kept_dir, kept_file, kept_link, kept_name, kept_times, kept_volume}
+use Rattle.nfs_round_trip.proofs.Reaches.{on_some_is}
 use Rattle.nfs_round_trip.proofs.Runs.{not_both, same_ok}
-use Rattle.nfs_round_trip.proofs.Truths.{and_true, both}
+use Rattle.nfs_round_trip.proofs.Truths.{both}
+use Rattle.nfs_round_trip.proofs.WordBytes.{path_names_bytes, shown_bytes, target_bytes}
 
 abbrev Left : Type 0 → Type 0
 Left A = A × List (List ℕ)
@@ -68,18 +73,53 @@ rest_said fields rest field is said = subst AllSaid is said
 
 -- ---- what lines say
 
-dir_bound : (fields : List (List ℕ)) (line : DirLine) (rest : List (List ℕ)) → dir_in fields ≡ Ok (line, rest) → Ids line.given
-dir_bound fields line rest e =
-    let path = bind_is (by path_in fields) (λ (path : Left (List (List ℕ))). given_in path.1 >>=
+-- the names of a path are bytes, where its field is a word
+path_bytes : (form : NameForm) (field : List ℕ) (names : List (List ℕ)) → is_said field ≡ true → path_in form field ≡ Ok names → All IsBytes names
+path_bytes form field names said e = from (path_names form field) refl e
+  where
+    from : (o : Option (List (List ℕ))) → path_names form field ≡ o → path_or_cause o ≡ Ok names → All IsBytes names
+    from None is e = cc
+    from (Some found) is e = subst (All IsBytes) (same_ok (path_or_cause (Some found)) found names refl e) (path_names_bytes form field found (shown_bytes field (both (nat_lt 0 (length field)) (list_all is_shown field) said).1) is)
+
+-- the name at the end of a path is one of them
+after_bytes : (t : Tree) (dir : ℕ) (name : List ℕ) (names : List (List ℕ)) (end : PathEnd) → IsBytes name → All IsBytes names → end_after t dir name names ≡ Some end → IsBytes end.name
+after_bytes t dir name [] end is all e = of (is_directory (attributes_at t dir)) e
+  where
+    of : (b : Bool) → (if b then Some (record { dir = dir; name = name }) else None) ≡ Some end → IsBytes end.name
+    of true e = subst (λ (x : PathEnd). IsBytes x.name) (same_some e) is
+    of false e = cc
+after_bytes t dir name (next ∷ names) end is all e =
+    let s = on_some_is (number_under t dir name) (λ n. end_after t n next names) end e in
+    after_bytes t s.0 next names end (All-head IsBytes next names all) (All-tail IsBytes next names all) s.2
+
+end_bytes : (t : Tree) (root : ℕ) (path : List (List ℕ)) (end : PathEnd) → All IsBytes path → free_end t root path ≡ Ok end → IsBytes end.name
+end_bytes t root path end all e = of (end_at t root path) refl e
+  where
+    along : (names : List (List ℕ)) → All IsBytes names → end_at t root names ≡ Some end → IsBytes end.name
+    along [] each is = cc
+    along (name ∷ names) each is = after_bytes t root name names end (All-head IsBytes name names each) (All-tail IsBytes name names each) is
+
+    of : (o : Option PathEnd) → end_at t root path ≡ o → unless_taken t o ≡ Ok end → IsBytes end.name
+    of None is e = cc
+    of (Some found) is e = by_test (is_some (number_under t found.dir found.name))
+        (λ y. absurd (not_both (unless_taken t (Some found)) end NameTaken e (ap (λ b. if b then Err NameTaken else Ok found) y)))
+        (λ o. along path all (is ∙ ap Some (same_ok (unless_taken t (Some found)) found end (ap (λ b. if b then Err NameTaken else Ok found) o) e)))
+
+dir_bound : (form : NameForm) (fields : List (List ℕ)) (line : DirLine) (rest : List (List ℕ)) → AllSaid fields → dir_in form fields ≡ Ok (line, rest)
+    → Ids line.given × All IsBytes line.path
+dir_bound form fields line rest said e =
+    let path = bind_is (by (path_in form) fields) (λ (path : Left (List (List ℕ))). given_in path.1 >>=
     (λ (given : Left Given). Ok (record { path = path.0; given = given.0 }, given.1))) (line, rest) e in
     let given = bind_is (given_in path.0.1) (λ (given : Left Given). Ok (record { path = path.0.0; given = given.0 }, given.1)) (line, rest) path.2 in
     let made : DirLine = record { path = path.0.0; given = given.0.0 } in
-    subst (λ (l : DirLine). Ids l.given) (line_is made line given.0.1 rest (Ok (made, given.0.1)) refl given.2)
-    (given_bound path.0.1 given.0.0 given.0.1 given.1)
+    let p = by_is (path_in form) fields path.0.0 path.0.1 path.1 in
+    subst (λ (l : DirLine). Ids l.given × All IsBytes l.path) (line_is made line given.0.1 rest (Ok (made, given.0.1)) refl given.2)
+    (given_bound path.0.1 given.0.0 given.0.1 given.1, path_bytes form p.0 path.0.0 (rest_said fields path.0.1 p.0 p.1 said).0 p.2)
 
-file_bound : (most : ℕ) (fields : List (List ℕ)) (line : FileLine) (rest : List (List ℕ)) → file_in most fields ≡ Ok (line, rest) → Ids line.given × IsBytes line.content
-file_bound most fields line rest e =
-    let path = bind_is (by path_in fields) (λ (path : Left (List (List ℕ))). given_in path.1 >>=
+file_bound : (form : NameForm) (most : ℕ) (fields : List (List ℕ)) (line : FileLine) (rest : List (List ℕ)) → AllSaid fields → file_in form most fields ≡ Ok (line, rest)
+    → Ids line.given × All IsBytes line.path × IsBytes line.content
+file_bound form most fields line rest said e =
+    let path = bind_is (by (path_in form) fields) (λ (path : Left (List (List ℕ))). given_in path.1 >>=
     (λ (given : Left Given). by (content_in most) given.1 >>= (λ (content : Left (List ℕ)).
     Ok (record { path = path.0; given = given.0; content = content.0 }, content.1)))) (line, rest) e in
     let given = bind_is (given_in path.0.1) (λ (given : Left Given). by (content_in most) given.1 >>= (λ (content : Left (List ℕ)).
@@ -87,9 +127,20 @@ file_bound most fields line rest e =
     let content = bind_is (by (content_in most) given.0.1) (λ (content : Left (List ℕ)). Ok
     (record { path = path.0.0; given = given.0.0; content = content.0 }, content.1)) (line, rest) given.2 in
     let made : FileLine = record { path = path.0.0; given = given.0.0; content = content.0.0 } in
+    let p = by_is (path_in form) fields path.0.0 path.0.1 path.1 in
     let c = by_is (content_in most) given.0.1 content.0.0 content.0.1 content.1 in
-    subst (λ (l : FileLine). Ids l.given × IsBytes l.content) (line_is made line content.0.1 rest (Ok (made, content.0.1)) refl content.2)
-    (given_bound path.0.1 given.0.0 given.0.1 given.1, content_bound most c.0 content.0.0 c.2)
+    subst (λ (l : FileLine). Ids l.given × All IsBytes l.path × IsBytes l.content) (line_is made line content.0.1 rest (Ok (made, content.0.1)) refl content.2)
+    (given_bound path.0.1 given.0.0 given.0.1 given.1, path_bytes form p.0 path.0.0 (rest_said fields path.0.1 p.0 p.1 said).0 p.2, content_bound most c.0 content.0.0 c.2)
+
+hard_bound : (form : NameForm) (fields : List (List ℕ)) (line : HardLine) (rest : List (List ℕ)) → AllSaid fields → hard_in form fields ≡ Ok (line, rest) → All IsBytes line.path
+hard_bound form fields line rest said e =
+    let path = bind_is (by (path_in form) fields) (λ (path : Left (List (List ℕ))). by (path_in form) path.1 >>=
+    (λ (old : Left (List (List ℕ))). Ok (record { path = path.0; old = old.0 }, old.1))) (line, rest) e in
+    let old = bind_is (by (path_in form) path.0.1) (λ (old : Left (List (List ℕ))). Ok (record { path = path.0.0; old = old.0 }, old.1)) (line, rest) path.2 in
+    let made : HardLine = record { path = path.0.0; old = old.0.0 } in
+    let p = by_is (path_in form) fields path.0.0 path.0.1 path.1 in
+    subst (λ (l : HardLine). All IsBytes l.path) (line_is made line old.0.1 rest (Ok (made, old.0.1)) refl old.2)
+    (path_bytes form p.0 path.0.0 (rest_said fields path.0.1 p.0 p.1 said).0 p.2)
 
 -- what a line of times says
 record AreTimes (l : TimesLine) : Type 0 where
@@ -97,9 +148,9 @@ record AreTimes (l : TimesLine) : Type 0 where
   mtime : IsTime l.mtime
   ctime : IsTime l.ctime
 
-times_bound : (fields : List (List ℕ)) (line : TimesLine) (rest : List (List ℕ)) → times_in fields ≡ Ok (line, rest) → AreTimes line
-times_bound fields line rest e =
-    let path = bind_is (by path_or_root_in fields) (λ (path : Left (List (List ℕ))). by moment_in path.1 >>=
+times_bound : (form : NameForm) (fields : List (List ℕ)) (line : TimesLine) (rest : List (List ℕ)) → times_in form fields ≡ Ok (line, rest) → AreTimes line
+times_bound form fields line rest e =
+    let path = bind_is (by (path_or_root_in form) fields) (λ (path : Left (List (List ℕ))). by moment_in path.1 >>=
     (λ (atime : Left Moment). by moment_in atime.1 >>= (λ (mtime : Left Moment). by moment_in mtime.1 >>= (λ (ctime : Left Moment).
     Ok (record { path = path.0; atime = atime.0; mtime = mtime.0; ctime = ctime.0 }, ctime.1))))) (line, rest) e in
     let atime = bind_is (by moment_in path.0.1) (λ (atime : Left Moment). by moment_in atime.1 >>= (λ (mtime : Left Moment). by moment_in mtime.1 >>=
@@ -126,39 +177,35 @@ times_said line are = record {
   mtime = λ m e. subst IsTime (same_some e) are.mtime;
 }
 
-word_target : (target : List ℕ) → is_said target ≡ true → nat_le (length target) max_path_bytes ≡ true → is_target target ≡ true
-word_target target said short = let p = both (nat_lt 0 (length target)) (list_all is_shown target) said in
-    and_true (nat_lt 0 (length target) && nat_le (length target) max_path_bytes) (list_all is_shown target)
-    (and_true (nat_lt 0 (length target)) (nat_le (length target) max_path_bytes) p.0 short) p.1
-
-raised : (n most cap : ℕ) → nat_le n most ≡ true → most ≤ cap → nat_le n cap ≡ true
-raised n most cap is le = le-leb n cap (let few = leb-true n most is in omega (arith, few, le))
-
-link_bound : (most : ℕ) → most ≤ max_path_bytes → (fields : List (List ℕ)) (line : LinkLine) (rest : List (List ℕ)) → AllSaid fields → link_in most fields ≡ Ok (line, rest)
-    → (line.uid < 2 ^ 32) × (line.gid < 2 ^ 32) × (is_target line.target ≡ true)
-link_bound most cap fields line rest said e =
-    let path = bind_is (by path_in fields) (λ (path : Left (List (List ℕ))). by id_in path.1 >>=
-    (λ (uid : Left ℕ). by id_in uid.1 >>= (λ (gid : Left ℕ). by (target_in most) gid.1 >>= (λ (target : Left (List ℕ)).
+link_bound : (form : NameForm) (most : ℕ) (fields : List (List ℕ)) (line : LinkLine) (rest : List (List ℕ)) → AllSaid fields → link_in form most fields ≡ Ok (line, rest)
+    → (line.uid < 2 ^ 32) × (line.gid < 2 ^ 32) × All IsBytes line.path × IsBytes line.target
+link_bound form most fields line rest said e =
+    let path = bind_is (by (path_in form) fields) (λ (path : Left (List (List ℕ))). by id_in path.1 >>=
+    (λ (uid : Left ℕ). by id_in uid.1 >>= (λ (gid : Left ℕ). by (target_in form most) gid.1 >>= (λ (target : Left (List ℕ)).
     Ok (record { path = path.0; uid = uid.0; gid = gid.0; target = target.0 }, target.1))))) (line, rest) e in
-    let uid = bind_is (by id_in path.0.1) (λ (uid : Left ℕ). by id_in uid.1 >>= (λ (gid : Left ℕ). by (target_in most) gid.1 >>= (λ (target : Left (List ℕ)).
+    let uid = bind_is (by id_in path.0.1) (λ (uid : Left ℕ). by id_in uid.1 >>= (λ (gid : Left ℕ). by (target_in form most) gid.1 >>= (λ (target : Left (List ℕ)).
     Ok (record { path = path.0.0; uid = uid.0; gid = gid.0; target = target.0 }, target.1)))) (line, rest) path.2 in
-    let gid = bind_is (by id_in uid.0.1) (λ (gid : Left ℕ). by (target_in most) gid.1 >>= (λ (target : Left (List ℕ)).
+    let gid = bind_is (by id_in uid.0.1) (λ (gid : Left ℕ). by (target_in form most) gid.1 >>= (λ (target : Left (List ℕ)).
     Ok (record { path = path.0.0; uid = uid.0.0; gid = gid.0; target = target.0 }, target.1))) (line, rest) uid.2 in
-    let target = bind_is (by (target_in most) gid.0.1) (λ (target : Left (List ℕ)). Ok
+    let target = bind_is (by (target_in form most) gid.0.1) (λ (target : Left (List ℕ)). Ok
     (record { path = path.0.0; uid = uid.0.0; gid = gid.0.0; target = target.0 }, target.1)) (line, rest) gid.2 in
     let made : LinkLine = record { path = path.0.0; uid = uid.0.0; gid = gid.0.0; target = target.0.0 } in
-    let p = by_is path_in fields path.0.0 path.0.1 path.1 in
+    let p = by_is (path_in form) fields path.0.0 path.0.1 path.1 in
     let u = by_is id_in path.0.1 uid.0.0 uid.0.1 uid.1 in
     let g = by_is id_in uid.0.1 gid.0.0 gid.0.1 gid.1 in
-    let x = by_is (target_in most) gid.0.1 target.0.0 target.0.1 target.1 in
+    let x = by_is (target_in form most) gid.0.1 target.0.0 target.0.1 target.1 in
+    let after_path = rest_said fields path.0.1 p.0 p.1 said in
     let word = (rest_said gid.0.1 target.0.1 x.0 x.1 (rest_said uid.0.1 gid.0.1 g.0 g.1
-    (rest_said path.0.1 uid.0.1 u.0 u.1 (rest_said fields path.0.1 p.0 p.1 said).1).1).1).0 in
-    let held = target_bound most x.0 target.0.0 x.2 in
+    (rest_said path.0.1 uid.0.1 u.0 u.1 after_path.1).1).1).0 in
     let high_u = number_bound 0 4294967295 u.0 uid.0.0 u.2 in
     let high_g = number_bound 0 4294967295 g.0 gid.0.0 g.2 in
-    subst (λ (l : LinkLine). (l.uid < 2 ^ 32) × (l.gid < 2 ^ 32) × (is_target l.target ≡ true))
-    (line_is made line target.0.1 rest (Ok (made, target.0.1)) refl target.2)
-    (omega (arith, high_u), omega (arith, high_g), word_target target.0.0 (subst (λ t. is_said t ≡ true) held.0 word) (raised (length target.0.0) most max_path_bytes held.1 cap))
+    subst (λ (l : LinkLine). (l.uid < 2 ^ 32) × (l.gid < 2 ^ 32) × All IsBytes l.path × IsBytes l.target)
+    (line_is made line target.0.1 rest (Ok (made, target.0.1)) refl target.2) (
+      omega (arith, high_u),
+      omega (arith, high_g),
+      path_bytes form p.0 path.0.0 after_path.0 p.2,
+      target_bytes form most x.0 target.0.0 (shown_bytes x.0 (both (nat_lt 0 (length x.0)) (list_all is_shown x.0) word).1) x.2,
+    )
 
 volume_path_is : (field path : List ℕ) → volume_path_in field ≡ Ok path → (field ≡ path) × (volume_path_in path ≡ Ok path)
 volume_path_is field path e = by_test (is_volume_path field)
@@ -301,6 +348,13 @@ times_of : (u new : Tree) (found : Result ℕ Cause) (line : TimesLine) → Time
 times_of u new (Ok n) line it = (n, refl, it.1)
 times_of u new (Err cause) line it = absurd (no_fault cause it.0)
 
+-- where a hard link goes is a free end
+link_free : (t : Tree) (root : ℕ) (path old : List (List ℕ)) (it : PathEnd × ℕ) → link_end t root path old ≡ Ok it → free_end t root path ≡ Ok it.0
+link_free t root path old it e =
+    let end = bind_is (free_end t root path) (λ (end : PathEnd). named_file t (file_at t root old) >>= (λ (n : ℕ). Ok (end, n))) it e in
+    let n = bind_is (named_file t (file_at t root old)) (λ (n : ℕ). Ok (end.0, n)) it end.2 in
+    end.1 ∙ ap (λ (pair : PathEnd × ℕ). Ok pair.0) (same_ok {E = Cause} (Ok (end.0, n.0)) (end.0, n.0) it refl n.2)
+
 goes_held : (old new : Loaded) (k : Keyword) (fields : List (List ℕ)) → AllSaid fields → GoesOn old k fields (Ok tt) new → IsHeld old → IsHeld new
 goes_held old new keyword.Server fields said it held = absurd (no_fault ServerTwice it)
 goes_held old new keyword.Limits fields said it held = limits_held old new (early_limits old.tree fields) refl it held
@@ -316,6 +370,17 @@ goes_held old new keyword.Limits fields said it held = limits_held old new (earl
           few = held.few;
           exports = held.exports;
         })
+goes_held old new keyword.Names fields said it held = names_held (early_names old fields) it
+  where
+    names_held : (read : Read NameForm) → NamesSet old read (Ok tt) new → IsHeld new
+    names_held (Err cause) it = absurd (no_fault cause it)
+    names_held (Ok form) it = subst IsHeld (sym it.1) (record {
+      tree = held.tree;
+      volumes = held.volumes;
+      lists = held.lists;
+      few = held.few;
+      exports = held.exports;
+    })
 goes_held old new keyword.Volume fields said it held =
     let line = then_of (volume_in old.tree.limits.files fields) _ it in
     let made = line.3.0 in
@@ -364,45 +429,48 @@ goes_held old new keyword.Export fields said it held =
     }
 goes_held old new keyword.Dir fields said it held =
     let root = root_of (last_root old.tree) _ it in
-    let line = then_of (dir_in fields) _ root.1 in
+    let line = then_of (dir_in old.names fields) _ root.1 in
     let made = line.3.0 in
+    let bound = dir_bound old.names fields line.0 line.1 said line.2 in
     held_on old new held
     (subst IsKept (sym made.3.new_is) (kept_dir old.tree made.0.dir made.3.tag made.0.name line.0.given made.2 made.3.tag_is.fits
-    (dir_bound fields line.0 line.1 line.2) held.tree))
+    bound.0 (end_bytes old.tree root.0 line.0.path made.0 bound.1 made.1) held.tree))
     (ap (λ (u : Tree). u.volumes) made.3.new_is ∙ entry_volumes _ made.0.dir made.0.name old.tree.next start) line.3.1
 goes_held old new keyword.File fields said it held = elim it [
   | inl on ↦
       let root = root_of (last_root old.tree) _ on in
-      let line = then_of (file_in old.tree.limits.file_size fields) _ root.1 in
+      let line = then_of (file_in old.names old.tree.limits.file_size fields) _ root.1 in
       let made = line.3.0 in
-      let bound = file_bound old.tree.limits.file_size fields line.0 line.1 line.2 in
+      let bound = file_bound old.names old.tree.limits.file_size fields line.0 line.1 said line.2 in
       held_on old new held
       (subst IsKept (sym made.3.new_is)
-      (kept_file old.tree made.0.dir made.3.tag made.0.name line.0.content line.0.given made.2 made.3.tag_is.fits bound.0 bound.1 held.tree))
+      (kept_file old.tree made.0.dir made.3.tag made.0.name line.0.content line.0.given made.2 made.3.tag_is.fits bound.0 (end_bytes old.tree root.0 line.0.path made.0 bound.1 made.1) bound.2 held.tree))
       (ap (λ (u : Tree). u.volumes) made.3.new_is ∙ entry_volumes _ made.0.dir made.0.name old.tree.next start) line.3.1
   | inr memory ↦ absurd (not_both (Ok tt) tt Memory refl memory.0)
 ]
 goes_held old new keyword.Link fields said it held =
     let root = root_of (last_root old.tree) _ it in
-    let line = then_of (link_in old.tree.limits.link_path fields) _ root.1 in
+    let line = then_of (link_in old.names old.tree.limits.link_path fields) _ root.1 in
     let made = line.3.0 in
-    let bound = link_bound old.tree.limits.link_path held.tree.0.limits.link_path fields line.0 line.1 said line.2 in
+    let bound = link_bound old.names old.tree.limits.link_path fields line.0 line.1 said line.2 in
     held_on old new held
     (subst IsKept (sym made.3.new_is)
-    (kept_link old.tree made.0.dir made.3.tag made.0.name line.0.target line.0.uid line.0.gid made.2 made.3.tag_is.fits bound.0 bound.1 bound.2 held.tree))
+    (kept_link old.tree made.0.dir made.3.tag made.0.name line.0.target line.0.uid line.0.gid made.2 made.3.tag_is.fits bound.0 bound.1
+    (end_bytes old.tree root.0 line.0.path made.0 bound.2 made.1) bound.3 held.tree))
     (ap (λ (u : Tree). u.volumes) made.3.new_is ∙ entry_volumes _ made.0.dir made.0.name old.tree.next start) line.3.1
 goes_held old new keyword.Hard fields said it held =
     let root = root_of (last_root old.tree) _ it in
-    let line = then_of (hard_in fields) _ root.1 in
+    let line = then_of (hard_in old.names fields) _ root.1 in
     let made = line.3.0 in
     held_on old new held
-    (subst IsKept (sym made.3) (kept_name old.tree made.0.1 made.0.0.dir made.0.0.name made.2 held.tree))
+    (subst IsKept (sym made.3) (kept_name old.tree made.0.1 made.0.0.dir made.0.0.name made.2
+    (end_bytes old.tree root.0 line.0.path made.0.0 (hard_bound old.names fields line.0 line.1 said line.2) (link_free old.tree root.0 line.0.path line.0.old made.0 made.1)) held.tree))
     (ap (λ (u : Tree). u.volumes) made.3 ∙ entry_volumes (touched old.tree made.0.1 start) made.0.0.dir made.0.0.name made.0.1 start
     ∙ touched_volumes old.tree made.0.1 start) line.3.1
 goes_held old new keyword.Times fields said it held =
     let root = root_of (last_root old.tree) _ it in
-    let line = then_of (times_in fields) _ root.1 in
-    let are = times_bound fields line.0 line.1 line.2 in
+    let line = then_of (times_in old.names fields) _ root.1 in
+    let are = times_bound old.names fields line.0 line.1 line.2 in
     let set = times_of old.tree new.tree (timed_file old.tree root.0 line.0) line.0 line.3.0 in
     let f = living_lives old.tree (file_or_root_at old.tree root.0 line.0.path) set.0 set.1 in
     held_on old new held
@@ -447,8 +515,8 @@ HeldOr (Some loaded) = IsHeld loaded
 begun_held : (k : Keyword) (fields : List (List ℕ)) (loaded : Loaded) → begun k fields ≡ Ok loaded → IsHeld loaded
 begun_held keyword.Server fields loaded e =
     let key = bind_is (by key_in fields) (λ (key : Left (List ℕ)). Ok
-    (record { tree = record { files = []; next = 1; key = key.0; volumes = []; limits = default_limits }; table = [] })) loaded e in
-    let made : Loaded = record { tree = record { files = []; next = 1; key = key.0.0; volumes = []; limits = default_limits }; table = [] } in
+    (record { tree = record { files = []; next = 1; key = key.0; volumes = []; limits = default_limits }; table = []; names = Plain })) loaded e in
+    let made : Loaded = record { tree = record { files = []; next = 1; key = key.0.0; volumes = []; limits = default_limits }; table = []; names = Plain } in
     let k = by_is key_in fields key.0.0 key.0.1 key.1 in
     let bound = key_bound k.0 key.0.0 k.2 in
     subst IsHeld (same_ok {E = Cause} (Ok made) made loaded refl key.2) (record {
@@ -462,6 +530,7 @@ begun_held keyword.Server fields loaded e =
     none_lives : (f : File) → None ≡ Some f → ⊥
     none_lives f e = cc
 begun_held keyword.Limits fields loaded e = cc
+begun_held keyword.Names fields loaded e = cc
 begun_held keyword.Volume fields loaded e = cc
 begun_held keyword.Export fields loaded e = cc
 begun_held keyword.Dir fields loaded e = cc

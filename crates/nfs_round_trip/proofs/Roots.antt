@@ -22,6 +22,7 @@ use Rattle.nfs_load.specs.declared.cause.Cause.{Cause}
 use Rattle.nfs_load.specs.declared.cause.Cause.TheVariants.{VolumeTwice}
 use Rattle.nfs_load.specs.declared.line.Keyword.TheVariants as keyword
 use Rattle.nfs_load.specs.declared.loaded.Loaded.{Loaded}
+use Rattle.nfs_load.specs.declared.name_form.NameForm.{NameForm}
 use Rattle.nfs_load.specs.declared.refusal.Refusal.{Refusal}
 use Rattle.nfs_load.specs.declared.refusal.Refusal.TheVariants.{Fault, Memory}
 use Rattle.nfs_load.specs.declared.statement.ExportLine.{ExportLine}
@@ -112,8 +113,8 @@ none_where path (v ∷ vs) all =
 
 taken : (old : Loaded) (line : VolumeLine) (result : Result Unit Refusal) (new : Loaded) (Made : Tree → Type 0)
     → ((r : Result Unit Refusal) → AddsVolume old.tree line r new.tree → Done r (Made new.tree)) → VolumeTaken old line result new
-    → Done result (Made new.tree × (new.table ≡ old.table ++ [] ∷ []))
-taken old line (Ok x) new Made does it = elim (does (Ok x) it.0) [ inl memory ↦ inl memory | inr made ↦ inr (made.0, (made.1, it.1)) ]
+    → Done result (Made new.tree × (new.table ≡ old.table ++ [] ∷ []) × (new.names ≡ old.names))
+taken old line (Ok x) new Made does it = elim (does (Ok x) it.0) [ inl memory ↦ inl memory | inr made ↦ inr (made.0, (made.1, it.1, it.2)) ]
 taken old line (Err (Fault cause)) new Made does it = elim (does (Err (Fault cause)) it) [
   | inl memory ↦ inl memory
   | inr made ↦ absurd (not_both (Err (Fault cause)) tt (Fault cause) made.0 refl)
@@ -145,19 +146,19 @@ module _ (Last : Option Loaded → Type 0) (t : Tree) (law : Law t) (number : �
       unless_found o = if is_some o then Err VolumeTwice else Ok w.path
 
   pub root_goes : (All : Option Loaded → Type 0) → ((loaded : Loaded) → IsPart t number timed all (ns ++ w.root ∷ []) (vs ++ copied_volume number w ∷ []) loaded.tree
-      → loaded.table ≡ old.table ++ [] ∷ [] → All (Some loaded))
+      → loaded.table ≡ old.table ++ [] ∷ [] → loaded.names ≡ old.names → All (Some loaded))
       → Goes Last (Some old) (root_text w (attributes_at t w.root)) All
   root_goes All goes =
       let given : Given = record { mode = f.mode; uid = f.uid; gid = f.gid } in
       let line : VolumeLine = record { path = w.path; max_bytes = w.max_bytes; max_files = w.max_files; given = given } in
       let Rooted : Loaded → Type 0 = λ loaded. IsPart t number timed all (ns ++ w.root ∷ []) (vs ++ copied_volume number w ∷ []) loaded.tree
-      × (loaded.table ≡ old.table ++ [] ∷ []) in
+      × (loaded.table ≡ old.table ++ [] ∷ []) × (loaded.names ≡ old.names) in
       let few : w.max_files < 2 ^ 64 = let cap = law.limits.files in omega (arith, files, cap) in
       let r = read_back.volumes old.tree.limits.files w.path w.max_bytes w.max_files given said path bytes some
       (subst (λ (l : Limits). w.max_files ≤ l.files) (sym part.limits) files) few ((law.sound w.root f lives.0).mode, words.uid, words.gid) in
       subst (λ l. Goes Last (Some old) l All)
       (sym (ap (λ o. root_text w (option_map (λ (g : File). attributes_of w.root g (nlink t.files w.root g)) o)) lives.0))
-      (goes_on Last old (volume_line w.path w.max_bytes w.max_files given) keyword.Volume r.0 Rooted All r.1 (λ loaded it. goes loaded it.0 it.1)
+      (goes_on Last old (volume_line w.path w.max_bytes w.max_files given) keyword.Volume r.0 Rooted All r.1 (λ loaded it. goes loaded it.0 it.1 it.2)
       (λ result loaded done.
       taken old line result loaded (λ u. IsPart t number timed all (ns ++ w.root ∷ []) (vs ++ copied_volume number w ∷ []) u)
       (λ result adds. done_map result
@@ -186,35 +187,36 @@ export_done old line (Err (Fault cause)) new few it = absurd (let many = it.0 in
 export_done old line (Err Memory) new few it = inl refl
 
 module _ (Last : Option Loaded → Type 0) (tree : Tree) (root : ℕ) (front : List (List Export)) (last_is : last_root tree ≡ Ok root)
-    (index : length tree.volumes ≡ suc (length front)) where
+    (index : length tree.volumes ≡ suc (length front)) (form : NameForm) where
   -- they are the last of the last volume, and the tree stays
-  pub exports_go : (es so_far : List Export) (old : Loaded) → old.tree ≡ tree → old.table ≡ front ++ so_far ∷ []
+  pub exports_go : (es so_far : List Export) (old : Loaded) → old.tree ≡ tree → old.table ≡ front ++ so_far ∷ [] → old.names ≡ form
       → pattern_count front + (length so_far + length es) ≤ 256
       → ((e : Export) → Contains es e → IsExport e) → (All : Option Loaded → Type 0)
-      → ((loaded : Loaded) → loaded.tree ≡ tree → loaded.table ≡ front ++ (so_far ++ es) ∷ [] → All (Some loaded))
+      → ((loaded : Loaded) → loaded.tree ≡ tree → loaded.table ≡ front ++ (so_far ++ es) ∷ [] → loaded.names ≡ form → All (Some loaded))
       → Goes Last (Some old) (flat_map export_line es) All
-  exports_go [] so_far old tree_is table_is few each All goes =
-      goes_none Last (Some old) All (goes old tree_is (table_is ∙ ap (λ l. front ++ l ∷ []) (sym (append-nil so_far))))
-  exports_go (e ∷ es) so_far old tree_is table_is few each All goes =
+  exports_go [] so_far old tree_is table_is form_is few each All goes =
+      goes_none Last (Some old) All (goes old tree_is (table_is ∙ ap (λ l. front ++ l ∷ []) (sym (append-nil so_far))) form_is)
+  exports_go (e ∷ es) so_far old tree_is table_is form_is few each All goes =
       let Between : Option Loaded → Type 0 = λ new. (loaded : Loaded) × (new ≡ Some loaded) × (loaded.tree ≡ tree)
-      × (loaded.table ≡ front ++ (so_far ++ e ∷ []) ∷ []) in
+      × (loaded.table ≡ front ++ (so_far ++ e ∷ []) ∷ []) × (loaded.names ≡ form) in
       let line : ExportLine = record { pattern = e.pattern; options = e.options } in
       let r = read_back_exports.exports e (each e (in_head e es)) in
       let count : pattern_count old.table ≡ pattern_count front + length so_far = ap pattern_count table_is ∙ count_last front so_far in
       let place : length old.tree.volumes - 1 ≡ length front = let l = ap (λ (u : Tree). length u.volumes) tree_is in omega (arith, l, index) in
       let long = length-append so_far (e ∷ []) in
       goes_both Last (Some old) (export_line e) (flat_map export_line es) Between All
-      (goes_on Last old (export_line e) keyword.Export r.0 (λ loaded. (loaded.tree ≡ tree) × (loaded.table ≡ front ++ (so_far ++ e ∷ []) ∷ [])) Between r.1
-      (λ loaded it. (loaded, refl, it.0, it.1))
+      (goes_on Last old (export_line e) keyword.Export r.0 (λ loaded. (loaded.tree ≡ tree) × (loaded.table ≡ front ++ (so_far ++ e ∷ []) ∷ []) × (loaded.names ≡ form)) Between r.1
+      (λ loaded it. (loaded, refl, it.0, it.1, it.2))
       (λ result loaded done. done_map result
       (λ (is : loaded ≡ with_export old line). (
         ap (λ (l : Loaded). l.tree) is ∙ tree_is,
         ap (λ (l : Loaded). l.table) is ∙ ap (λ i. added old.table i e) place ∙ ap (λ l. added l (length front) e) table_is ∙ added_last front so_far e,
+        ap (λ (l : Loaded). l.names) is ∙ form_is,
       ))
       (export_done old line result loaded (omega (arith, count, few))
       (then_is (export_in r.0) line [] result (λ (it : ExportLine). ExportDone old it result loaded) r.2
       (root_is (last_root old.tree) root result (λ (m : ℕ). Then (export_in r.0) result (λ (it : ExportLine). ExportDone old it result loaded))
       (ap last_root tree_is ∙ last_is) done)))))
       (λ new it. subst (λ o. Goes Last o (flat_map export_line es) All) (sym it.1)
-      (exports_go es (so_far ++ e ∷ []) it.0 it.2 it.3 (omega (arith, few, long)) (λ x c. each x (in_tail e x es c)) All
-      (λ loaded same table. goes loaded same (table ∙ ap (λ l. front ++ l ∷ []) (append_assoc so_far (e ∷ []) es)))))
+      (exports_go es (so_far ++ e ∷ []) it.0 it.2 it.3 it.4 (omega (arith, few, long)) (λ x c. each x (in_tail e x es c)) All
+      (λ loaded same table names. goes loaded same (table ∙ ap (λ l. front ++ l ∷ []) (append_assoc so_far (e ∷ []) es)) names)))

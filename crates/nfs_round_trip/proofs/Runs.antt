@@ -55,6 +55,10 @@ module _ (Last : Option Loaded → Type 0) where
   goes_both old one two Between Then first second after next =
       subst (λ text. Runs Last old (lines text)) (sym (append_assoc one two after)) (first (two ++ after) (λ new holds. second new holds after next))
 
+  pub goes_weaker : (old : Option Loaded) (text : List ℕ) (Between Then : Option Loaded → Type 0) → Goes old text Between
+      → ((new : Option Loaded) → Between new → Then new) → Goes old text Then
+  goes_weaker old text Between Then first weaker after next = first after (λ new holds. next new (weaker new holds))
+
   goes_line : (old : Option Loaded) (line : List ℕ) (keyword : Keyword) (fields : List (List ℕ)) (Then : Option Loaded → Type 0) → IsReadAs line keyword fields
       → ((result : Result Unit Refusal) (new : Option Loaded) → Asked old (Ok (Some (record { keyword = keyword; fields = fields }))) result new
       → Done result (Then new))

@@ -11,6 +11,7 @@ use Rattle.nfs_inodes.specs.Changes.{with_file, with_given, with_named_file, wit
 use Rattle.nfs_inodes.specs.Law.{AreRising, Law}
 use Rattle.nfs_inodes.specs.Reading.{entry_at}
 use Rattle.nfs_inodes.specs.Tree.{Tree, File, Kind, Regular, Directory, Link, Entry, Volume, at, bytes_in, names_of, on_some}
+use Rattle.nfs_inodes.proofs.law.EntryLess.{left_was}
 use Rattle.nfs_inodes.proofs.Maps.{at_next, push_back, rising_push, rising_with, rising_without, with_back, without_back}
 use Rattle.nfs_inodes.proofs.law.NewFiles.{law_after_mkdir, law_after_make_file, law_after_make_link}
 use Rattle.nfs_inodes.proofs.law.Operations.{law_after_link, law_after_write_at}
@@ -20,9 +21,9 @@ use Rattle.nfs_inodes.proofs.law.Unlinks.{law_after_unlink}
 use Rattle.nfs_load.specs.Moments.{IsTime}
 use Rattle.nfs_round_trip.specs.Changes as law
 use Rattle.nfs_round_trip.specs.Changes.{IsGivenSaid, IsNewSaid, Stays}
-use Rattle.nfs_round_trip.specs.Copies.{CanBeSaid}
+use Rattle.nfs_round_trip.specs.Copies.{CanBeSaid, HoldsBytes}
 use Rattle.nfs_round_trip.specs.RoundTrip.{IsDescribable, IsVolumeSaid}
-use Rattle.nfs_round_trip.proofs.Loaded.{FilesSaid, entered_said, given_said, link_said, new_said, no_bytes, touched_said}
+use Rattle.nfs_round_trip.proofs.Loaded.{FilesSaid, entered_said, given_said, new_said, no_entries, touched_said}
 
 -- ---- bytes
 
@@ -70,6 +71,9 @@ sized_is_bytes : (old : List ℕ) (size : ℕ) → IsBytes old → IsBytes (size
 sized_is_bytes old size one = all_bytes (sized old size)
     (append_bytes (take size old) (zeros (size - length old)) (take_bytes size old (each_byte old one)) (zero_bytes (size - length old)))
 
+no_bytes : IsBytes []
+no_bytes i = omega arith
+
 -- ---- one file
 
 left_said : (f : File) (name : List ℕ) (now : Moment) → IsTime now → CanBeSaid f → CanBeSaid (left f name now)
@@ -79,19 +83,13 @@ left_said f name now time said = record {
   atime = said.atime;
   mtime = time;
   ctime = time;
-  bytes = subst IsBytes (sym (same f.kind)) said.bytes;
-  target = λ path is. said.target path (back f.kind path is);
+  holds = fewer f.kind said.holds;
 }
   where
-    same : (k : Kind) → bytes_in (kind_without_entry k name) ≡ bytes_in k
-    same (Regular bytes) = refl
-    same (Directory parent next_cookie entries) = refl
-    same (Link path) = refl
-
-    back : (k : Kind) (path : List ℕ) → kind_without_entry k name ≡ Link path → k ≡ Link path
-    back (Regular bytes) path is = is
-    back (Directory parent next_cookie entries) path is = cc
-    back (Link other) path is = is
+    fewer : (k : Kind) → HoldsBytes k → HoldsBytes (kind_without_entry k name)
+    fewer (Regular bytes) holds = holds
+    fewer (Directory parent next_cookie entries) holds = λ e c. holds e (left_was name entries e c)
+    fewer (Link path) holds = holds
 
 moved_said : (f : File) (d : ℕ) (now : Moment) → IsTime now → CanBeSaid f → CanBeSaid (moved_to f d now)
 moved_said f d now time said = record {
@@ -100,29 +98,23 @@ moved_said f d now time said = record {
   atime = said.atime;
   mtime = said.mtime;
   ctime = time;
-  bytes = subst IsBytes (sym (same f.kind)) said.bytes;
-  target = λ path is. said.target path (back f.kind path is);
+  holds = same f.kind said.holds;
 }
   where
-    same : (k : Kind) → bytes_in (kind_with_parent k d) ≡ bytes_in k
-    same (Regular bytes) = refl
-    same (Directory parent next_cookie entries) = refl
-    same (Link path) = refl
+    same : (k : Kind) → HoldsBytes k → HoldsBytes (kind_with_parent k d)
+    same (Regular bytes) holds = holds
+    same (Directory parent next_cookie entries) holds = holds
+    same (Link path) holds = holds
 
-    back : (k : Kind) (path : List ℕ) → kind_with_parent k d ≡ Link path → k ≡ Link path
-    back (Regular bytes) path is = is
-    back (Directory parent next_cookie entries) path is = cc
-    back (Link other) path is = is
+old_bytes : (k : Kind) → HoldsBytes k → IsBytes (bytes_in k)
+old_bytes (Regular bytes) holds = holds
+old_bytes (Directory parent next_cookie entries) holds = no_bytes
+old_bytes (Link path) holds = no_bytes
 
-bytes_said : (k : Kind) (bytes : List ℕ) → IsBytes bytes → IsBytes (bytes_in (kind_with_bytes k bytes))
-bytes_said (Regular old) bytes is = is
-bytes_said (Directory parent next_cookie entries) bytes is = no_bytes
-bytes_said (Link path) bytes is = no_bytes
-
-bytes_back : (k : Kind) (bytes path : List ℕ) → kind_with_bytes k bytes ≡ Link path → k ≡ Link path
-bytes_back (Regular old) bytes path is = cc
-bytes_back (Directory parent next_cookie entries) bytes path is = cc
-bytes_back (Link other) bytes path is = is
+bytes_said : (k : Kind) (bytes : List ℕ) → IsBytes bytes → HoldsBytes k → HoldsBytes (kind_with_bytes k bytes)
+bytes_said (Regular old) bytes is holds = is
+bytes_said (Directory parent next_cookie entries) bytes is holds = holds
+bytes_said (Link path) bytes is holds = holds
 
 written_said : (f : File) (offset : ℕ) (bytes : List ℕ) (now : Moment) → IsTime now → IsBytes bytes → CanBeSaid f → CanBeSaid (file_with_bytes f offset bytes now)
 written_said f offset bytes now time is said = record {
@@ -131,8 +123,7 @@ written_said f offset bytes now time is said = record {
   atime = said.atime;
   mtime = time;
   ctime = time;
-  bytes = bytes_said f.kind (put_bytes (bytes_in f.kind) offset bytes) (put_is_bytes (bytes_in f.kind) offset bytes said.bytes is);
-  target = λ path e. said.target path (bytes_back f.kind (put_bytes (bytes_in f.kind) offset bytes) path e);
+  holds = bytes_said f.kind (put_bytes (bytes_in f.kind) offset bytes) (put_is_bytes (bytes_in f.kind) offset bytes (old_bytes f.kind said.holds) is) said.holds;
 }
 
 resized_said : (f : File) (size : ℕ) (now : Moment) → IsTime now → CanBeSaid f → CanBeSaid (resized_to f size now)
@@ -142,8 +133,7 @@ resized_said f size now time said = record {
   atime = said.atime;
   mtime = time;
   ctime = time;
-  bytes = bytes_said f.kind (sized (bytes_in f.kind) size) (sized_is_bytes (bytes_in f.kind) size said.bytes);
-  target = λ path e. said.target path (bytes_back f.kind (sized (bytes_in f.kind) size) path e);
+  holds = bytes_said f.kind (sized (bytes_in f.kind) size) (sized_is_bytes (bytes_in f.kind) size (old_bytes f.kind said.holds)) said.holds;
 }
 
 -- ---- the tree
@@ -174,8 +164,8 @@ module _ (vs : List Volume) where
   }
 
 module _ (vs : List Volume) (now : Moment) (time : IsTime now) where
-  named : (u : Tree) (d : ℕ) (name : List ℕ) (f : File) → CanBeSaid f → IsHolding vs u → IsHolding vs (with_named_file u d name f now)
-  named u d name f said holds = changed vs (with_new_file u f) d (λ h. entered h name u.next now) (λ h it. entered_said h name u.next now time it) (record {
+  named : (u : Tree) (d : ℕ) (name : List ℕ) (f : File) → IsBytes name → CanBeSaid f → IsHolding vs u → IsHolding vs (with_named_file u d name f now)
+  named u d name f bytes said holds = changed vs (with_new_file u f) d (λ h. entered h name u.next now) (λ h it. entered_said h name u.next now time bytes it) (record {
     files = λ n g is. push_back u.next n f g u.files (at_next 0 u.next u.files holds.rising) is (λ s e. subst CanBeSaid e said) (λ o was. holds.files n g was);
     rising = rising_push 0 u.next u.files f holds.rising;
     volumes = holds.volumes;
@@ -188,8 +178,8 @@ module _ (vs : List Volume) (now : Moment) (time : IsTime now) where
       of true = gone vs u n holds
       of false = changed vs u n (λ h. record h { ctime = now }) (λ h said. touched_said h now time said) holds
 
-  linked : (u : Tree) (n d : ℕ) (name : List ℕ) → IsHolding vs u → IsHolding vs (after_link u n d name now)
-  linked u n d name holds = changed vs (touched u n now) d (λ h. entered h name n now) (λ h said. entered_said h name n now time said)
+  linked : (u : Tree) (n d : ℕ) (name : List ℕ) → IsBytes name → IsHolding vs u → IsHolding vs (after_link u n d name now)
+  linked u n d name bytes holds = changed vs (touched u n now) d (λ h. entered h name n now) (λ h said. entered_said h name n now time bytes said)
       (changed vs u n (λ h. record h { ctime = now }) (λ h said. touched_said h now time said) holds)
 
   unlinked : (u : Tree) (d : ℕ) (name : List ℕ) → IsHolding vs u → IsHolding vs (after_unlink u d name now)
@@ -199,24 +189,24 @@ module _ (vs : List Volume) (now : Moment) (time : IsTime now) where
       of None = holds
       of (Some e) = let_go (without_entry u d name now) e.number (changed vs u d (λ h. left h name now) (λ h said. left_said h name now time said) holds)
 
-  carries : (u : Tree) (from : ℕ) (name : List ℕ) (n to : ℕ) (new_name : List ℕ) → IsHolding vs u
+  carries : (u : Tree) (from : ℕ) (name : List ℕ) (n to : ℕ) (new_name : List ℕ) → IsBytes new_name → IsHolding vs u
       → IsHolding vs (carried u from name n to new_name now)
-  carries u from name n to new_name holds =
+  carries u from name n to new_name bytes holds =
       let one = changed vs u from (λ h. left h name now) (λ h said. left_said h name now time said) holds in
       let two = changed vs (without_entry u from name now) n (λ h. moved_to h to now) (λ h said. moved_said h to now time said) one in
-      changed vs (moved (without_entry u from name now) n to now) to (λ h. entered h new_name n now) (λ h said. entered_said h new_name n now time said) two
+      changed vs (moved (without_entry u from name now) n to now) to (λ h. entered h new_name n now) (λ h said. entered_said h new_name n now time bytes said) two
 
-  renamed : (u : Tree) (from : ℕ) (name : List ℕ) (to : ℕ) (new_name : List ℕ) → IsHolding vs u
+  renamed : (u : Tree) (from : ℕ) (name : List ℕ) (to : ℕ) (new_name : List ℕ) → IsBytes new_name → IsHolding vs u
       → IsHolding vs (after_rename u from name to new_name now)
-  renamed u from name to new_name holds = of (entry_at u from name)
+  renamed u from name to new_name bytes holds = of (entry_at u from name)
     where
       same : (b : Bool) (e : Entry) → IsHolding vs (if b then u else carried (after_unlink u to new_name now) from name e.number to new_name now)
       same true e = holds
-      same false e = carries (after_unlink u to new_name now) from name e.number to new_name (unlinked u to new_name holds)
+      same false e = carries (after_unlink u to new_name now) from name e.number to new_name bytes (unlinked u to new_name holds)
 
       over : (e : Entry) (o : Option Entry) → IsHolding vs (on_some o (carried u from name e.number to new_name now)
           (λ old. if nat_eq e.number old.number then u else carried (after_unlink u to new_name now) from name e.number to new_name now))
-      over e None = carries u from name e.number to new_name holds
+      over e None = carries u from name e.number to new_name bytes holds
       over e (Some old) = same (nat_eq e.number old.number) e
 
       of : (o : Option Entry) → IsHolding vs (on_some o u (λ e. on_some (entry_at u to new_name) (carried u from name e.number to new_name now)
@@ -248,15 +238,15 @@ after_write t n offset (byte ∷ bytes) now time all holds =
 
 pub changes_stay : law.ChangesStayDescribable
 changes_stay = record {
-  files = λ t d tag name bytes given verifier now time may fits is all table it. stays t _ table it
+  files = λ t d tag name bytes given verifier now time may fits is name_bytes all table it. stays t _ table it
       (law_after_make_file t d tag name bytes given verifier now may fits it.law)
-      (named t.volumes now time t d name _ (new_said _ (Regular bytes) given verifier tag now is time all (λ path e. cc)) (holding_of t table it));
-  directories = λ t d tag name given now time may fits is table it. stays t _ table it (law_after_mkdir t d tag name given now may fits it.law)
-      (named t.volumes now time t d name _ (new_said _ (Directory d 3 []) given None tag now is time no_bytes (λ path e. cc)) (holding_of t table it));
-  links = λ t d tag name path given now time may fits is holds table it. stays t _ table it (law_after_make_link t d tag name path given now may fits it.law)
-      (named t.volumes now time t d name _ (new_said _ (Link path) given None tag now is time no_bytes (link_said path holds)) (holding_of t table it));
-  names = λ t n d name now time may table it. stays t _ table it (law_after_link t n d name now may it.law)
-      (linked t.volumes now time t n d name (holding_of t table it));
+      (named t.volumes now time t d name _ name_bytes (new_said _ (Regular bytes) given verifier tag now is time all) (holding_of t table it));
+  directories = λ t d tag name given now time may fits is name_bytes table it. stays t _ table it (law_after_mkdir t d tag name given now may fits it.law)
+      (named t.volumes now time t d name _ name_bytes (new_said _ (Directory d 3 []) given None tag now is time no_entries) (holding_of t table it));
+  links = λ t d tag name path given now time may fits is name_bytes holds table it. stays t _ table it (law_after_make_link t d tag name path given now may fits it.law)
+      (named t.volumes now time t d name _ name_bytes (new_said _ (Link path) given None tag now is time holds) (holding_of t table it));
+  names = λ t n d name now time may name_bytes table it. stays t _ table it (law_after_link t n d name now may it.law)
+      (linked t.volumes now time t n d name name_bytes (holding_of t table it));
   bytes = λ t n offset bytes now time may all table it. stays t _ table it (law_after_write_at t n offset bytes now may it.law)
       (after_write t n offset bytes now time all (holding_of t table it));
   sizes = λ t n size now time may table it. stays t _ table it (law_after_resize t n size now may it.law)
@@ -265,6 +255,6 @@ changes_stay = record {
       (changed t.volumes t n (λ h. with_given h given now) (λ h said. given_said h given now is time said) (holding_of t table it));
   removals = λ t d name now time may table it. stays t _ table it (law_after_unlink t d name now may it.law)
       (unlinked t.volumes now time t d name (holding_of t table it));
-  renames = λ t from name to new_name now time may table it. stays t _ table it (law_after_rename t from name to new_name now may it.law)
-      (renamed t.volumes now time t from name to new_name (holding_of t table it));
+  renames = λ t from name to new_name now time may name_bytes table it. stays t _ table it (law_after_rename t from name to new_name now may it.law)
+      (renamed t.volumes now time t from name to new_name name_bytes (holding_of t table it));
 }

@@ -1,5 +1,5 @@
 -- The lines that give times give each file of a volume its own.
-use Rattle.std.proofs.Common.{inl, inr, ◌≡◌, ◌≢◌, ℕ, Bool, true, false, cond, ◌&&◌, List, [], ◌∷◌, ◌++◌, length, nat_eq, Option, Some, None, option_map, Ok, refl, sym, ap}
+use Rattle.std.proofs.Common.{inl, inr, ◌≡◌, ◌≢◌, ℕ, ◌≤◌, ◌/◌, ◌%◌, Bool, true, false, cond, ◌&&◌, List, [], ◌∷◌, ◌++◌, length, nat_eq, Option, Some, None, option_map, Ok, refl, sym, ap}
 use Rattle.std.proofs.Common.{subst, ◌∙◌, arith}
 use Rattle.std.specs.List.{flat_map}
 use Rattle.std.specs.Prelude.{◌||◌, Contains, Err, codes, if◌then◌else◌, is_some}
@@ -22,8 +22,12 @@ use Rattle.nfs_load.specs.Statements.{TimesLine, times_in}
 use Rattle.nfs_load.specs.declared.cause.Cause.TheVariants.{NoTarget}
 use Rattle.nfs_load.specs.declared.line.Keyword.TheVariants as keyword
 use Rattle.nfs_load.specs.declared.loaded.Loaded.{Loaded}
-use Rattle.nfs_describe.specs.Lines.{times_line}
-use Rattle.nfs_describe.specs.Places.{FilePath, is_sayable}
+use Rattle.nfs_load.specs.Names.{is_plain, name_text}
+use Rattle.nfs_load.specs.declared.name_form.NameForm.{NameForm}
+use Rattle.nfs_load.specs.declared.name_form.NameForm.TheVariants.{Plain, Percent}
+use Rattle.nfs_describe.specs.Lines.{path_text, times_line}
+use Rattle.nfs_describe.specs.Places.{FilePath}
+use Rattle.std.specs.Fmt.{digit_glyph}
 use Rattle.nfs_describe.specs.Texts.{file_times, first_name, first_places, is_start, path_or_root, place_times}
 use Rattle.nfs_read_back.specs.ReadBack.{is_said}
 use Rattle.nfs_read_back.proofs.Statements as read_back
@@ -33,7 +37,7 @@ use Rattle.nfs_round_trip.proofs.Files.{on_tree}
 use Rattle.nfs_round_trip.proofs.Going.{IsNamed, file_found, named_path}
 use Rattle.nfs_round_trip.proofs.Made.{Has, made_each, made_with, partly, same_made}
 use Rattle.nfs_round_trip.proofs.Parts.{IsPart, file_made, so_far}
-use Rattle.nfs_round_trip.proofs.Paths.{AreNames, other_bytes, slashed}
+use Rattle.nfs_round_trip.proofs.Paths.{AreNames, PathHeld, other_bytes, slashed}
 use Rattle.nfs_round_trip.proofs.Reaches.{leads}
 use Rattle.nfs_round_trip.proofs.Runs.{Goes, goes_both, goes_none, goes_on}
 use Rattle.nfs_round_trip.proofs.Truths.{both}
@@ -147,30 +151,52 @@ as_timed es false f has =
 
 -- ---- one place
 
+nothing : (form : NameForm) → path_text form [] ≡ []
+nothing Plain = refl
+nothing Percent = refl
+
+-- the text of a path is a slash, and something after it
+text_shape : (form : NameForm) (name : List ℕ) (names : List (List ℕ)) → 1 ≤ length name
+    → (rest : List ℕ) × (1 ≤ length rest) × (path_text form (slashed (name ∷ names)) ≡ 47 ∷ rest)
+text_shape Plain name names some = (name ++ slashed names, (let l = length-append name (slashed names) in omega (arith, l, some)), refl)
+text_shape Percent name names some = (name_text (name ++ slashed names), long (name ++ slashed names) (let l = length-append name (slashed names) in omega (arith, l, some)), refl)
+  where
+    byte_long : (b : Bool) (one : ℕ) (two : List ℕ) (rest : List ℕ) → 1 ≤ length ((if b then one ∷ [] else 37 ∷ two) ++ rest)
+    byte_long true one two rest = omega arith
+    byte_long false one two rest = omega arith
+
+    long : (xs : List ℕ) → 1 ≤ length xs → 1 ≤ length (name_text xs)
+    long [] less = less
+    long (x ∷ xs) less = byte_long (is_plain x) x (digit_glyph false (x / 16) ∷ digit_glyph false (x % 16) ∷ []) (name_text xs)
+
 no_names : (names : List (List ℕ)) (name : List ℕ) (rest : List (List ℕ)) → names ≡ name ∷ rest → names ≢ []
 no_names names name rest e none = cc
 
-module _ (Last : Option Loaded → Type 0) (t : Tree) (law : Law t) (words : (n : ℕ) (f : File) → Lives t n f → CanBeSaid f) (number : ℕ → ℕ)
+module _ (Last : Option Loaded → Type 0) (form : NameForm) (t : Tree) (law : Law t) (words : (n : ℕ) (f : File) → Lives t n f → CanBeSaid f) (number : ℕ → ℕ)
     (all : List Step) (ns : List ℕ) (vs : List Volume) (table : List (List Export)) (index : ℕ) (w : Volume) (has_root : Has w.root ns)
     (last_is : (u : Tree) → u.volumes ≡ vs → last_root u ≡ Ok (number w.root)) where
   -- the path of a line of times is read as the names of its place
-  path_back : (p : FilePath) (named : IsNamed all w.root p) → is_sayable p.path ≡ true
-      → (path_or_root_in (path_or_root p.path) ≡ Ok named.names) × (is_said (path_or_root p.path) ≡ true)
-  path_back p named said = of named.names refl
+  abbrev written : FilePath → List ℕ
+  written p = path_or_root (path_text form p.path)
+
+  path_back : (p : FilePath) (named : IsNamed all w.root p) → PathHeld form p.path → (path_or_root_in form (written p) ≡ Ok named.names) × (is_said (written p) ≡ true)
+  path_back p named held = of named.names refl
     where
-      of : (names : List (List ℕ)) → named.names ≡ names → (path_or_root_in (path_or_root p.path) ≡ Ok named.names) × (is_said (path_or_root p.path) ≡ true)
+      of : (names : List (List ℕ)) → named.names ≡ names → (path_or_root_in form (written p) ≡ Ok named.names) × (is_said (written p) ≡ true)
       of [] e =
-          let is : p.path ≡ [] = named.path ∙ ap slashed e in
-          (ap (λ path. path_or_root_in (path_or_root path)) is ∙ ap Ok (sym e), ap (λ path. is_said (path_or_root path)) is)
+          let is : path_text form p.path ≡ [] = ap (path_text form) (named.path ∙ ap slashed e) ∙ nothing form in
+          (ap (λ path. path_or_root_in form (path_or_root path)) is ∙ ap Ok (sym e), ap (λ path. is_said (path_or_root path)) is)
       of (name ∷ names) e =
-          let is : p.path ≡ 47 ∷ (name ++ slashed names) = named.path ∙ ap slashed e in
-          let same : path_or_root p.path ≡ p.path = ap path_or_root is ∙ sym is in
-          let read = named_path all w.root p named (no_names named.names name names e) said in
-          let some = (subst (λ l. AreNames l) e named.are).0.some in
-          let other : p.path ≢ codes "/" = λ s.
-          let long : length (47 ∷ (name ++ slashed names)) ≡ length (codes "/") = ap length (sym is ∙ s) in
-          let sum = length-append name (slashed names) in omega (arith, long, sum, some) in
-          (ap path_or_root_in same ∙ ap (λ b. if b then Ok [] else paths.path_in p.path) (other_bytes p.path (codes "/") other) ∙ read.0, ap is_said same ∙ read.1)
+          let read = named_path form all w.root p named (no_names named.names name names e) held in
+          let shape = text_shape form name names (subst AreNames e named.are).0.0.some in
+          let is : path_text form p.path ≡ 47 ∷ shape.0 = ap (path_text form) (named.path ∙ ap slashed e) ∙ shape.2 in
+          let same : written p ≡ path_text form p.path = ap path_or_root is ∙ sym is in
+          let other : path_text form p.path ≢ codes "/" = λ s.
+          let long : length (47 ∷ shape.0) ≡ length (codes "/") = ap length (sym is ∙ s) in let some = shape.1 in omega (arith, long, some) in (
+            ap (path_or_root_in form) same ∙ ap (λ b. if b then Ok [] else paths.path_in form (path_text form p.path)) (other_bytes (path_text form p.path) (codes "/") other)
+                ∙ read.0,
+            ap is_said same ∙ read.1,
+          )
 
   module _ (timed : ℕ → Bool) (p : FilePath) (stood : IsStood t all ns index w p) where
     abbrev f : File
@@ -244,48 +270,49 @@ module _ (Last : Option Loaded → Type 0) (t : Tree) (law : Law t) (words : (n 
 
     -- with the times of this file too
     abbrev IsTimed : Loaded → Type 0
-    IsTimed loaded = IsPart t number (timed_with timed p) all ns vs loaded.tree × (loaded.table ≡ table)
+    IsTimed loaded = IsPart t number (timed_with timed p) all ns vs loaded.tree × (loaded.table ≡ table) × (loaded.names ≡ form)
 
-    module _ (old : Loaded) (part : IsPart t number timed all ns vs old.tree) (table_is : old.table ≡ table) (said : is_sayable p.path ≡ true)
+    module _ (old : Loaded) (part : IsPart t number timed all ns vs old.tree) (table_is : old.table ≡ table) (form_is : old.names ≡ form)
+        (held : PathHeld form p.path)
         (All : Option Loaded → Type 0) (goes : (loaded : Loaded) → IsTimed loaded → All (Some loaded)) where
-      line_goes : Goes Last (Some old) (times_line (path_or_root p.path) f.atime f.mtime f.ctime) All
+      line_goes : Goes Last (Some old) (times_line (written p) f.atime f.mtime f.ctime) All
       line_goes =
           let can = words p.number f stood.lives in
-          let path = path_back p stood.named said in
-          let r = read_back.times (path_or_root p.path) stood.named.names f.atime f.mtime f.ctime path.1 path.0 can.atime can.mtime can.ctime in
-          goes_on Last old (times_line (path_or_root p.path) f.atime f.mtime f.ctime) keyword.Times r.0 IsTimed All r.1 goes (λ result loaded on.
-          let it = on_tree old w number (last_is old.tree part.volumes) (times_in r.0) line r.2 SetsTimes result loaded on in
+          let path = path_back p stood.named held in
+          let r = read_back.times form (written p) stood.named.names f.atime f.mtime f.ctime path.1 path.0 can.atime can.mtime can.ctime in
+          goes_on Last old (times_line (written p) f.atime f.mtime f.ctime) keyword.Times r.0 IsTimed All r.1 goes (λ result loaded on.
+          let it = on_tree old w number (last_is old.tree part.volumes) (times_in old.names r.0) line (ap (λ m. times_in m r.0) form_is ∙ r.2) SetsTimes result loaded on in
           let set : TimesSet old.tree (Ok (number p.number)) line result loaded.tree =
           subst (λ found. TimesSet old.tree found line result loaded.tree) (place_found old.tree part) it.0 in
           inr (
             set.0,
-            (subst (IsPart t number (timed_with timed p) all ns vs) (sym set.1) (part_with_times old.tree part), it.1 ∙ table_is),
+            (subst (IsPart t number (timed_with timed p) all ns vs) (sym set.1) (part_with_times old.tree part), it.1 ∙ table_is, it.2 ∙ form_is),
           ))
 
-      times_are : place_times t p
-          ≡ (if is_start f.atime && (is_start f.mtime && is_start f.ctime) then [] else times_line (path_or_root p.path) f.atime f.mtime f.ctime)
-      times_are = ap (λ o. on_some (option_map (λ (g : File). attributes_of p.number g (nlink t.files p.number g)) o) [] (file_times p.path)) stood.lives
+      times_are : place_times form t p
+          ≡ (if is_start f.atime && (is_start f.mtime && is_start f.ctime) then [] else times_line (written p) f.atime f.mtime f.ctime)
+      times_are = ap (λ o. on_some (option_map (λ (g : File). attributes_of p.number g (nlink t.files p.number g)) o) [] (file_times (path_text form p.path))) stood.lives
 
-      place_goes : Goes Last (Some old) (place_times t p) All
+      place_goes : Goes Last (Some old) (place_times form t p) All
       place_goes = by_test (is_start f.atime && (is_start f.mtime && is_start f.ctime))
           (λ y. subst (λ l. Goes Last (Some old) l All)
-          (sym (times_are ∙ ap (λ b. if b then [] else times_line (path_or_root p.path) f.atime f.mtime f.ctime) y))
-          (goes_none Last (Some old) All (goes old (part_with_start old.tree part (has_start f y), table_is))))
+          (sym (times_are ∙ ap (λ b. if b then [] else times_line (written p) f.atime f.mtime f.ctime) y))
+          (goes_none Last (Some old) All (goes old (part_with_start old.tree part (has_start f y), table_is, form_is))))
           (λ n. subst (λ l. Goes Last (Some old) l All)
-          (sym (times_are ∙ ap (λ b. if b then [] else times_line (path_or_root p.path) f.atime f.mtime f.ctime) n)) line_goes)
+          (sym (times_are ∙ ap (λ b. if b then [] else times_line (written p) f.atime f.mtime f.ctime) n)) line_goes)
 
   -- ---- some places, one after another
 
-  pub times_go : (places : List FilePath) (timed : ℕ → Bool) (old : Loaded) → ((p : FilePath) → Contains places p → IsStood t all ns index w p × (is_sayable p.path ≡ true))
-      → IsPart t number timed all ns vs old.tree → old.table ≡ table → (All : Option Loaded → Type 0)
-      → ((loaded : Loaded) → IsPart t number (timed_all timed places) all ns vs loaded.tree → loaded.table ≡ table → All (Some loaded))
-      → Goes Last (Some old) (flat_map (place_times t) places) All
-  times_go [] timed old each part table_is All goes = goes_none Last (Some old) All (goes old part table_is)
-  times_go (p ∷ places) timed old each part table_is All goes =
+  pub times_go : (places : List FilePath) (timed : ℕ → Bool) (old : Loaded) → ((p : FilePath) → Contains places p → IsStood t all ns index w p × PathHeld form p.path)
+      → IsPart t number timed all ns vs old.tree → old.table ≡ table → old.names ≡ form → (All : Option Loaded → Type 0)
+      → ((loaded : Loaded) → IsPart t number (timed_all timed places) all ns vs loaded.tree → loaded.table ≡ table → loaded.names ≡ form → All (Some loaded))
+      → Goes Last (Some old) (flat_map (place_times form t) places) All
+  times_go [] timed old each part table_is form_is All goes = goes_none Last (Some old) All (goes old part table_is form_is)
+  times_go (p ∷ places) timed old each part table_is form_is All goes =
       let here = each p (in_head p places) in
       let Between : Option Loaded → Type 0 = λ new. (loaded : Loaded) × (new ≡ Some loaded) × IsPart t number (timed_with timed p) all ns vs loaded.tree
-      × (loaded.table ≡ table) in
-      goes_both Last (Some old) (place_times t p) (flat_map (place_times t) places) Between All
-      (place_goes timed p here.0 old part table_is here.1 Between (λ loaded it. (loaded, refl, it.0, it.1)))
-      (λ new it. subst (λ o. Goes Last o (flat_map (place_times t) places) All) (sym it.1)
-      (times_go places (timed_with timed p) it.0 (λ q c. each q (in_tail p q places c)) it.2 it.3 All goes))
+      × (loaded.table ≡ table) × (loaded.names ≡ form) in
+      goes_both Last (Some old) (place_times form t p) (flat_map (place_times form t) places) Between All
+      (place_goes timed p here.0 old part table_is form_is here.1 Between (λ loaded it. (loaded, refl, it.0, it.1, it.2)))
+      (λ new it. subst (λ o. Goes Last o (flat_map (place_times form t) places) All) (sym it.1)
+      (times_go places (timed_with timed p) it.0 (λ q c. each q (in_tail p q places c)) it.2 it.3 it.4 All goes))

@@ -12,15 +12,17 @@ use Rattle.nfs_inodes.specs.Tree.{Tree, File, Kind, Regular, Directory, Link, En
 use Rattle.nfs_inodes.proofs.Lists.{by_test, find_contains, in_head, not_in_empty, head_or_tail}
 use Rattle.nfs_inodes.proofs.Maps.{itself, same_number}
 use Rattle.nfs_load.specs.declared.loaded.Loaded.{Loaded}
-use Rattle.nfs_describe.specs.Lines.{hard_line}
-use Rattle.nfs_describe.specs.Places.{IsWalk, FilePath, are_sayable, is_sayable}
-use Rattle.nfs_describe.specs.Texts.{files_text, first_name, own_line, own_text, place_text}
+use Rattle.nfs_load.specs.declared.name_form.NameForm.{NameForm}
+use Rattle.nfs_load.specs.declared.name_form.NameForm.TheVariants.{Plain, Percent}
+use Rattle.nfs_describe.specs.Places.{IsWalk, FilePath, can_hold, is_plain_place}
+use Rattle.nfs_describe.specs.Texts.{files_text, first_name, hard_text, own_line, own_text, place_text}
 use Rattle.nfs_round_trip.specs.Copies.{CanBeSaid, copied_volume}
 use Rattle.nfs_round_trip.proofs.Directories.{entries_of, one_of_sum, shown, shown_append, shown_once, stands_here}
-use Rattle.nfs_round_trip.proofs.Files.{IsNext, fresh, hard_goes, is_name, own_goes}
+use Rattle.nfs_round_trip.proofs.Files.{IsNext, byte_name, fresh, hard_goes, own_goes}
 use Rattle.nfs_round_trip.proofs.Going.{IsNamed, named_more, named_new, one_passes}
 use Rattle.nfs_round_trip.proofs.Made.{Has, has_last, has_push, push_has}
 use Rattle.nfs_round_trip.proofs.Parts.{IsPart, listed_yes}
+use Rattle.nfs_round_trip.proofs.Paths.{PlaceHeld, path_held}
 use Rattle.nfs_round_trip.proofs.Runs.{Goes, goes_both, goes_none}
 use Rattle.nfs_round_trip.proofs.Walks.{Step, contains_middle, parent_stands, passes, place_of, places_of_steps, root_place, stands, step_is_from, steps}
 
@@ -39,11 +41,16 @@ Numbered number last before (p ∷ after) k = OnFirst (first_name p.number befor
 
 -- ---- a volume that is to be made
 
-pub record IsToMake (t : Tree) (number : ℕ → ℕ) (timed : ℕ → Bool) (earlier : List Step) (vs : List Volume) (index : ℕ) (w : Volume) (walk : List FilePath)
+-- each place of a walk whose names can be written
+pub all_held : (form : NameForm) (t : Tree) (walk : List FilePath) (p : FilePath) → can_hold form t walk ≡ true → Contains walk p → PlaceHeld form t p
+all_held Plain t walk p held c = one_passes (is_plain_place t) walk p held c
+all_held Percent t walk p held c = tt
+
+pub record IsToMake (form : NameForm) (t : Tree) (number : ℕ → ℕ) (timed : ℕ → Bool) (earlier : List Step) (vs : List Volume) (index : ℕ) (w : Volume) (walk : List FilePath)
     : Type 0 where
   pub at_w : slice_get t.volumes index ≡ Some w
   pub walked : IsWalk t w.root walk
-  pub sayable : are_sayable walk ≡ true
+  pub held : can_hold form t walk ≡ true
   pub others : (m : ℕ) (f : File) → LivesAsDirectory t m f → f.volume ≡ index → shown earlier m ≡ []
   pub early : (m : ℕ) (f : File) → Lives t m f → f.volume ≡ index → timed m ≡ false
   pub at_vs : slice_get vs index ≡ Some (copied_volume number w)
@@ -59,21 +66,22 @@ pub record IsStood (t : Tree) (all : List Step) (ns : List ℕ) (index : ℕ) (w
   pub volume : file.volume ≡ index
 
 -- what was made of it at some places, with the next number
-pub record IsGoing (t : Tree) (number : ℕ → ℕ) (timed : ℕ → Bool) (vs : List Volume) (table : List (List Export)) (index : ℕ) (w : Volume) (all : List Step)
+pub record IsGoing (form : NameForm) (t : Tree) (number : ℕ → ℕ) (timed : ℕ → Bool) (vs : List Volume) (table : List (List Export)) (index : ℕ) (w : Volume) (all : List Step)
     (before : List FilePath) (k : ℕ) (loaded : Loaded) : Type 0 where
   pub ns : List ℕ
   pub part : IsPart t number timed all ns vs loaded.tree
   pub count : suc (length ns) ≡ k
   pub table_is : loaded.table ≡ table
+  pub form_is : loaded.names ≡ form
   pub stood : (p : FilePath) → Contains before p → IsStood t all ns index w p
   pub below : (m : ℕ) → Has m ns → (f : File) × Lives t m f × (f.volume < suc index)
   pub have : (m : ℕ) (f : File) → Lives t m f → f.volume < index → Has m ns
 
-module _ (Last : Option Loaded → Type 0) (t : Tree) (law : Law t) (words : (n : ℕ) (f : File) → Lives t n f → CanBeSaid f) (number : ℕ → ℕ)
+module _ (Last : Option Loaded → Type 0) (form : NameForm) (t : Tree) (law : Law t) (words : (n : ℕ) (f : File) → Lives t n f → CanBeSaid f) (number : ℕ → ℕ)
     (timed : ℕ → Bool) (earlier : List Step) (vs : List Volume)
-    (table : List (List Export)) (index : ℕ) (w : Volume) (walk : List FilePath) (to_make : IsToMake t number timed earlier vs index w walk) (last : ℕ) where
+    (table : List (List Export)) (index : ℕ) (w : Volume) (walk : List FilePath) (to_make : IsToMake form t number timed earlier vs index w walk) (last : ℕ) where
   abbrev Going : List Step → List FilePath → ℕ → Loaded → Type 0
-  Going all before k loaded = IsGoing t number timed vs table index w all before k loaded
+  Going all before k loaded = IsGoing form t number timed vs table index w all before k loaded
 
   has_entries : (k : Kind) (e : Entry) → Contains (entries_in k) e → is_directory k ≡ true
   has_entries (Regular bytes) e c = absurd (not_in_empty [] e refl c)
@@ -113,7 +121,7 @@ module _ (Last : Option Loaded → Type 0) (t : Tree) (law : Law t) (words : (n 
         sym (shown_once t walk s.0.number once) ∙ ap (λ l. shown l s.0.number) are ∙ shown_append done (s ∷ todo) s.0.number
         ∙ ap (λ l. shown done s.0.number ++ l) (listed_yes s (shown todo s.0.number) s.0.number refl) ∙ ap (λ l. l ++ s.1 ∷ shown todo s.0.number) (sym so_far)
 
-    next : IsNext t number timed all going.ns vs w s parent.file target.0
+    next : IsNext form t number timed all going.ns vs w s parent.file target.0
     next = record {
       at_w = ap (slice_get t.volumes) parent.volume ∙ to_make.at_w;
       at_vs = ap (slice_get vs) parent.volume ∙ to_make.at_vs;
@@ -128,13 +136,14 @@ module _ (Last : Option Loaded → Type 0) (t : Tree) (law : Law t) (words : (n 
       untimed = to_make.early s.0.number parent.file parent.lives parent.volume;
       early = to_make.early s.1.number target.0 target.1 (target.2 ∙ parent.volume);
       words = words s.1.number target.0 target.1;
+      dir_words = words s.0.number parent.file parent.lives;
       room =
           let room = to_make.room in
           let l = length-append earlier (steps t walk) in
           let m : length (steps t walk) ≡ length done + length (s ∷ todo) = ap length are ∙ length-append done (s ∷ todo) in
           let n : length all ≡ length earlier + length done = ap length all_is ∙ length-append earlier done in omega (arith, room, l, m, n);
       named = parent.named;
-      said = one_passes (λ (p : FilePath). is_sayable p.path) walk (place_of s) to_make.sayable
+      held = all_held form t walk (place_of s) to_make.held
           (subst (λ l. Contains l (place_of s)) (sym (walk_cut done todo s are))
           (contains_middle (place_of s) (root_place t w.root ∷ map place_of done) (map place_of todo)));
     }
@@ -144,8 +153,8 @@ module _ (Last : Option Loaded → Type 0) (t : Tree) (law : Law t) (words : (n 
     new_place ns has = record {
       has = has;
       named = named_new all s w.root parent.named
-          (is_name Last t law number timed all going.ns vs old going.part w s parent.file target.0 next)
-          (fresh Last t law number timed all going.ns vs old going.part w s parent.file target.0 next);
+          (byte_name Last form t law number timed all going.ns vs old going.part going.form_is w s parent.file target.0 next)
+          (fresh Last form t law number timed all going.ns vs old going.part going.form_is w s parent.file target.0 next);
       file = target.0;
       lives = target.1;
       volume = target.2 ∙ parent.volume;
@@ -186,8 +195,8 @@ module _ (Last : Option Loaded → Type 0) (t : Tree) (law : Law t) (words : (n 
         omega (arith, once, cut, more, itself_one, there, one)))
         (λ n. n)
 
-    own_is : own_text t (place_of s) ≡ own_line (place_of s).path (attributes_of s.1.number target.0 (nlink t.files s.1.number target.0)) target.0.kind
-    own_is = ap (λ o. on_some o [] (λ (f : File). own_line (place_of s).path (attributes_of s.1.number f (nlink t.files s.1.number f)) f.kind)) target.1
+    own_is : own_text form t (place_of s) ≡ own_line form (place_of s).path (attributes_of s.1.number target.0 (nlink t.files s.1.number target.0)) target.0.kind
+    own_is = ap (λ o. on_some o [] (λ (f : File). own_line form (place_of s).path (attributes_of s.1.number f (nlink t.files s.1.number f)) f.kind)) target.1
 
     -- the next place's line
     step_goes : (o : Option FilePath) → first_name s.1.number before ≡ o
@@ -196,15 +205,16 @@ module _ (Last : Option Loaded → Type 0) (t : Tree) (law : Law t) (words : (n 
         → (All : Option Loaded → Type 0)
         → ((m : ℕ) (loaded : Loaded) → Numbered number last (before ++ place_of s ∷ []) (map place_of todo) m
         → Going (all ++ s ∷ []) (before ++ place_of s ∷ []) m loaded → All (Some loaded))
-        → Goes Last (Some old) (on_some o (own_text t (place_of s)) (λ first. hard_line (place_of s).path first.path)) All
+        → Goes Last (Some old) (on_some o (own_text form t (place_of s)) (λ first. hard_text form (place_of s).path first.path)) All
     step_goes None found numbers All goes =
         subst (λ l. Goes Last (Some old) l All) (sym own_is)
-        (own_goes Last t law number timed all going.ns vs old going.part w s parent.file target.0 next (numbers.0 ∙ sym going.count) All
+        (own_goes Last form t law number timed all going.ns vs old going.part going.form_is w s parent.file target.0 next (numbers.0 ∙ sym going.count) All
         (λ loaded more. goes (suc k) loaded numbers.1 (record {
           ns = going.ns ++ s.1.number ∷ [];
           part = more.0;
           count = ap suc (length-append going.ns (s.1.number ∷ []) ∙ let c = going.count in omega (arith, c));
           table_is = more.1 ∙ going.table_is;
+          form_is = more.2;
           stood = all_stood (going.ns ++ s.1.number ∷ []) (λ n has. has_push n s.1.number going.ns has) (has_last s.1.number going.ns);
           below = λ m has. elim (push_has m s.1.number going.ns has) [
             | inl was ↦ going.below m was
@@ -218,15 +228,16 @@ module _ (Last : Option Loaded → Type 0) (t : Tree) (law : Law t) (words : (n 
         let stood = going.stood first there in
         let same : first.number ≡ s.1.number = same_number first.number s.1.number (passes (λ (p : FilePath). nat_eq p.number s.1.number) before first found) in
         let has : Has s.1.number going.ns = subst (λ n. Has n going.ns) same stood.has in
-        let said : is_sayable first.path ≡ true = one_passes (λ (p : FilePath). is_sayable p.path) walk first to_make.sayable
+        let held = path_held form t first (all_held form t walk first to_make.held
         (subst (λ l. Contains l first) (sym (walk_cut done todo s are ∙ ap (λ l. l ++ place_of s ∷ map place_of todo) (sym before_is)))
-        (Contains-append_left before (place_of s ∷ map place_of todo) first there)) in
-        hard_goes Last t law number timed all going.ns vs old going.part w s parent.file target.0 next first stood.named same said has (no_directory first found) All
+        (Contains-append_left before (place_of s ∷ map place_of todo) first there))) in
+        hard_goes Last form t law number timed all going.ns vs old going.part going.form_is w s parent.file target.0 next first stood.named same held has (no_directory first found) All
         (λ loaded more. goes k loaded numbers (record {
           ns = going.ns;
           part = more.0;
           count = going.count;
           table_is = more.1 ∙ going.table_is;
+          form_is = more.2;
           stood = all_stood going.ns (λ n it. it) has;
           below = going.below;
           have = going.have;
@@ -237,7 +248,7 @@ module _ (Last : Option Loaded → Type 0) (t : Tree) (law : Law t) (words : (n 
       → before ≡ root_place t w.root ∷ map place_of done → steps t walk ≡ done ++ todo → all ≡ earlier ++ done
       → Numbered number last before (map place_of todo) k
       → Going all before k old → (All : Option Loaded → Type 0) → ((loaded : Loaded) → Going (earlier ++ steps t walk) walk last loaded → All (Some loaded))
-      → Goes Last (Some old) (files_text t before (map place_of todo)) All
+      → Goes Last (Some old) (files_text form t before (map place_of todo)) All
   files_go [] done before all k old before_is are all_is numbers going All goes =
       let all_done : done ≡ steps t walk = sym (are ∙ append-nil done) in
       let walked : before ≡ walk = before_is ∙ ap (λ l. root_place t w.root ∷ map place_of l) all_done ∙ sym walk_is in
@@ -247,10 +258,10 @@ module _ (Last : Option Loaded → Type 0) (t : Tree) (law : Law t) (words : (n 
   files_go (s ∷ todo) done before all k old before_is are all_is numbers going All goes =
       let Between : Option Loaded → Type 0 = λ new. (m : ℕ) × (loaded : Loaded) × (new ≡ Some loaded)
       × Numbered number last (before ++ place_of s ∷ []) (map place_of todo) m × Going (all ++ s ∷ []) (before ++ place_of s ∷ []) m loaded in
-      goes_both Last (Some old) (place_text t before (place_of s)) (files_text t (before ++ place_of s ∷ []) (map place_of todo)) Between All
+      goes_both Last (Some old) (place_text form t before (place_of s)) (files_text form t (before ++ place_of s ∷ []) (map place_of todo)) Between All
       (step_goes todo done s before all k old before_is are all_is going (first_name s.1.number before) refl numbers Between
       (λ m loaded numbered more. (m, loaded, refl, numbered, more)))
-      (λ new it. subst (λ o. Goes Last o (files_text t (before ++ place_of s ∷ []) (map place_of todo)) All) (sym it.2)
+      (λ new it. subst (λ o. Goes Last o (files_text form t (before ++ place_of s ∷ []) (map place_of todo)) All) (sym it.2)
       (files_go todo (done ++ s ∷ []) (before ++ place_of s ∷ []) (all ++ s ∷ []) it.0 it.1
       (ap (λ l. l ++ place_of s ∷ []) before_is ∙ ap (λ l. root_place t w.root ∷ l) (sym (map-append place_of done (s ∷ []))))
       (are ∙ sym (append_assoc done (s ∷ []) todo))

@@ -14,19 +14,21 @@ use Rattle.nfs_inodes.proofs.Lists.{by_number, in_head, in_tail, head_or_tail, n
 use Rattle.nfs_inodes.proofs.Maps.{itself, apart_number, sum_some}
 use Rattle.nfs_load.specs.Descriptions.{last_root, root_or_cause}
 use Rattle.nfs_load.specs.declared.loaded.Loaded.{Loaded}
-use Rattle.nfs_describe.specs.Lines.{export_line, hard_line}
-use Rattle.nfs_describe.specs.Places.{IsWalk, FilePath, are_sayable, is_sayable}
-use Rattle.nfs_describe.specs.Texts.{files_text, first_name, first_places, own_line, own_text, place_text, root_text, times_text, volume_text}
+use Rattle.nfs_load.specs.declared.name_form.NameForm.{NameForm}
+use Rattle.nfs_describe.specs.Lines.{export_line}
+use Rattle.nfs_describe.specs.Places.{IsWalk, FilePath, can_hold}
+use Rattle.nfs_describe.specs.Texts.{files_text, first_name, first_places, hard_text, own_line, own_text, place_text, root_text, times_text, volume_text}
 use Rattle.nfs_round_trip.specs.Copies.{copied_volume}
 use Rattle.nfs_round_trip.specs.RoundTrip.{IsDescribable, IsVolumeSaid}
 use Rattle.nfs_round_trip.proofs.Directories.{all_stand, shown, shown_append, shown_none, shown_once, some_of_sum, stands_elsewhere, stands_here}
-use Rattle.nfs_round_trip.proofs.Going.{named_root, one_passes}
+use Rattle.nfs_round_trip.proofs.Going.{named_root}
 use Rattle.nfs_round_trip.proofs.Made.{Has, has_last, has_push, push_has}
 use Rattle.nfs_round_trip.proofs.Parts.{IsPart}
+use Rattle.nfs_round_trip.proofs.Paths.{path_held}
 use Rattle.nfs_round_trip.proofs.Roots.{exports_go, root_goes}
 use Rattle.nfs_round_trip.proofs.Runs.{Goes, goes_both}
 use Rattle.nfs_round_trip.proofs.Times.{first_in, first_there, gets_timed, stays_as_timed, timed_all, times_go}
-use Rattle.nfs_round_trip.proofs.Volumes.{IsGoing, IsStood, Numbered, files_go}
+use Rattle.nfs_round_trip.proofs.Volumes.{IsGoing, IsStood, Numbered, all_held, files_go}
 use Rattle.nfs_round_trip.proofs.Walks.{Step, place_of, places_of_steps, root_place, steps}
 
 -- ---- lists, up to a place
@@ -92,46 +94,47 @@ length_map f (x ∷ xs) = ap suc (length_map f xs)
 one_byte : (byte : ℕ) (rest text : List ℕ) → text ≡ byte ∷ rest → 1 ≤ length text
 one_byte byte rest text is = let l = ap length is in omega (arith, l)
 
-file_long : (path name : List ℕ) (t : Tree) (n : ℕ) (f : File) (k : Kind) → 1 ≤ length (own_line (path ++ 47 ∷ name) (attributes_of n f (nlink t.files n f)) k)
-file_long path name t n f k = long (path ++ 47 ∷ name) (some path name) k
+file_long : (form : NameForm) (path name : List ℕ) (t : Tree) (n : ℕ) (f : File) (k : Kind) → 1 ≤ length (own_line form (path ++ 47 ∷ name) (attributes_of n f (nlink t.files n f)) k)
+file_long form path name t n f k = long (path ++ 47 ∷ name) (some path name) k
   where
     some : (path name : List ℕ) → path ++ 47 ∷ name ≢ []
     some [] name e = cc
     some (x ∷ path) name e = cc
 
-    long : (path : List ℕ) → path ≢ [] → (k : Kind) → 1 ≤ length (own_line path (attributes_of n f (nlink t.files n f)) k)
+    long : (path : List ℕ) → path ≢ [] → (k : Kind) → 1 ≤ length (own_line form path (attributes_of n f (nlink t.files n f)) k)
     long [] o k = absurd (o refl)
     long (x ∷ path) o (Regular bytes) = omega arith
     long (x ∷ path) o (Directory parent next_cookie entries) = omega arith
     long (x ∷ path) o (Link target) = omega arith
 
-module _ (t : Tree) where
+module _ (form : NameForm) (t : Tree) where
   place_long : (s : Step) (g : File) → Lives t s.1.number g → (o : Option FilePath)
-      → 1 ≤ length (on_some o (own_text t (place_of s)) (λ first. hard_line (place_of s).path first.path))
+      → 1 ≤ length (on_some o (own_text form t (place_of s)) (λ first. hard_text form (place_of s).path first.path))
   place_long s g lives (Some first) = omega arith
   place_long s g lives None = subst (λ o. 1 ≤ length
-      (on_some o [] (λ (f : File). own_line (place_of s).path (attributes_of s.1.number f (nlink t.files s.1.number f)) f.kind))) (sym lives)
-      (file_long s.0.path s.1.name t s.1.number g g.kind)
+      (on_some o [] (λ (f : File). own_line form (place_of s).path (attributes_of s.1.number f (nlink t.files s.1.number f)) f.kind))) (sym lives)
+      (file_long form s.0.path s.1.name t s.1.number g g.kind)
 
   pub files_long : (before : List FilePath) (todo : List Step) → ((s : Step) → Contains todo s → (g : File) × Lives t s.1.number g)
-      → length todo ≤ length (files_text t before (map place_of todo))
+      → length todo ≤ length (files_text form t before (map place_of todo))
   files_long before [] each = omega arith
   files_long before (s ∷ todo) each =
       let g = each s (in_head s todo) in
       let here = place_long s g.0 g.1 (first_name s.1.number before) in
       let rest = files_long (before ++ place_of s ∷ []) todo (λ r c. each r (in_tail s r todo c)) in
-      let all = length-append (place_text t before (place_of s)) (files_text t (before ++ place_of s ∷ []) (map place_of todo)) in
+      let all = length-append (place_text form t before (place_of s)) (files_text form t (before ++ place_of s ∷ []) (map place_of todo)) in
       omega (arith, here, rest, all)
 
 -- ---- one volume more
 
 -- the first volumes are made
-pub record IsThrough (t : Tree) (number : ℕ → ℕ) (table : List (List Export)) (n : ℕ) (all : List Step) (k : ℕ) (loaded : Loaded) : Type 0 where
+pub record IsThrough (form : NameForm) (t : Tree) (number : ℕ → ℕ) (table : List (List Export)) (n : ℕ) (all : List Step) (k : ℕ) (loaded : Loaded) : Type 0 where
   pub ns : List ℕ
   pub timed : ℕ → Bool
   pub part : IsPart t number timed all ns (map (copied_volume number) (take n t.volumes)) loaded.tree
   pub count : suc (length ns) ≡ k
   pub table_is : loaded.table ≡ take n table
+  pub form_is : loaded.names ≡ form
   pub below : (m : ℕ) → Has m ns → (f : File) × Lives t m f × (f.volume < n)
   pub have : (m : ℕ) (f : File) → Lives t m f → f.volume < n → Has m ns
   pub full : (d : ℕ) (f : File) → LivesAsDirectory t d f → f.volume < n → shown all d ≡ entries_at t d
@@ -146,13 +149,13 @@ last_root_is u vs v is =
     ∙ ap (λ i. root_or_cause (option_map (λ (x : Volume). x.root) (slice_get (vs ++ v ∷ []) i))) long
     ∙ ap (λ o. root_or_cause (option_map (λ (x : Volume). x.root) o)) (get_last vs (length vs) v refl)
 
-pub root_is_none : (t : Tree) (root : ℕ) (o : Option File) → on_some o [] (λ (f : File). own_line [] (attributes_of root f (nlink t.files root f)) f.kind) ≡ []
-root_is_none t root None = refl
-root_is_none t root (Some f) = refl
+pub root_is_none : (form : NameForm) (t : Tree) (root : ℕ) (o : Option File) → on_some o [] (λ (f : File). own_line form [] (attributes_of root f (nlink t.files root f)) f.kind) ≡ []
+root_is_none form t root None = refl
+root_is_none form t root (Some f) = refl
 
-module _ (Last : Option Loaded → Type 0) (t : Tree) (table : List (List Export)) (d : IsDescribable t table) (number : ℕ → ℕ)
+module _ (Last : Option Loaded → Type 0) (form : NameForm) (t : Tree) (table : List (List Export)) (d : IsDescribable t table) (number : ℕ → ℕ)
     (n : ℕ) (all : List Step) (w : Volume) (walk : List FilePath) (k last : ℕ) (at_w : slice_get t.volumes n ≡ Some w) (walked : IsWalk t w.root walk)
-    (sayable : are_sayable walk ≡ true)
+    (held : can_hold form t walk ≡ true)
     (numbers : Numbered number last [] walk k) (room : length (all ++ steps t walk) ≤ 1073741824) where
   abbrev vs : List Volume
   vs = map (copied_volume number) (take n t.volumes)
@@ -191,13 +194,13 @@ module _ (Last : Option Loaded → Type 0) (t : Tree) (table : List (List Export
       let one = sum_some (λ (f : File). one_for n f) w.root r.0 t.files r.1.0 in
       let here : one_for n r.0 ≡ 1 = ap one_when (subst (λ i. nat_eq r.0.volume i ≡ true) r.3 (itself r.0.volume)) in omega (arith, most, one, here)
 
-  files_are : files_text t [] walk ≡ files_text t (root_place t w.root ∷ []) (map place_of (steps t walk))
-  files_are = ap (files_text t []) walk_is
-      ∙ ap (λ l. l ++ files_text t (root_place t w.root ∷ []) (map place_of (steps t walk))) (root_is_none t w.root (at w.root t.files))
+  files_are : files_text form t [] walk ≡ files_text form t (root_place t w.root ∷ []) (map place_of (steps t walk))
+  files_are = ap (files_text form t []) walk_is
+      ∙ ap (λ l. l ++ files_text form t (root_place t w.root ∷ []) (map place_of (steps t walk))) (root_is_none form t w.root (at w.root t.files))
 
   -- what is known of it when its files are made
   module _ (timed : ℕ → Bool) (made : Loaded)
-      (going : IsGoing t number timed (vs ++ copied_volume number w ∷ []) (take (suc n) table) n w (all ++ steps t walk) walk last made) where
+      (going : IsGoing form t number timed (vs ++ copied_volume number w ∷ []) (take (suc n) table) n w (all ++ steps t walk) walk last made) where
     place_there : (m : ℕ) (f : File) → Lives t m f → f.volume ≡ n → (p : FilePath) × Contains walk p × (p.number ≡ m)
     place_there m f lives here =
         let place = some_of_sum (λ (p : FilePath). one_when (nat_eq p.number m)) walk (all_stand t d.law n w at_w walk walked m f lives here) in (
@@ -219,17 +222,19 @@ module _ (Last : Option Loaded → Type 0) (t : Tree) (table : List (List Export
     through_next : (loaded : Loaded)
         → IsPart t number (timed_all timed (first_places [] walk)) (all ++ steps t walk) going.ns (vs ++ copied_volume number w ∷ []) loaded.tree
         → loaded.table ≡ take (suc n) table
+        → loaded.names ≡ form
         → ((m : ℕ) (f : File) → LivesAsDirectory t m f → f.volume < n → shown all m ≡ entries_at t m)
         → ((m : ℕ) (f : File) → LivesAsDirectory t m f → n ≤ f.volume → shown all m ≡ [])
         → ((m : ℕ) (f : File) → Lives t m f → f.volume < n → timed m ≡ true)
         → ((m : ℕ) (f : File) → Lives t m f → n ≤ f.volume → timed m ≡ false)
-        → IsThrough t number table (suc n) (all ++ steps t walk) last loaded
-    through_next loaded part table_is full others given early = record {
+        → IsThrough form t number table (suc n) (all ++ steps t walk) last loaded
+    through_next loaded part table_is form_is full others given early = record {
       ns = going.ns;
       timed = timed_all timed (first_places [] walk);
       part = subst (λ l. IsPart t number (timed_all timed (first_places [] walk)) (all ++ steps t walk) going.ns l loaded.tree) vs_next part;
       count = going.count;
       table_is = table_is;
+      form_is = form_is;
       below = going.below;
       have = λ m f lives less. by_number f.volume n
           (λ here. let place = place_there m f lives here in subst (λ i. Has i going.ns) place.2 (going.stood place.0 place.1).has)
@@ -250,14 +255,14 @@ module _ (Last : Option Loaded → Type 0) (t : Tree) (table : List (List Export
       early = λ m f lives more. as_before m f lives (λ e. omega (arith, e, more)) ∙ early m f lives (omega (arith, more));
     }
 
-  module _ (old : Loaded) (through : IsThrough t number table n all k old) (All : Option Loaded → Type 0)
-      (goes : (loaded : Loaded) → IsThrough t number table (suc n) (all ++ steps t walk) last loaded → All (Some loaded)) where
+  module _ (old : Loaded) (through : IsThrough form t number table n all k old) (All : Option Loaded → Type 0)
+      (goes : (loaded : Loaded) → IsThrough form t number table (suc n) (all ++ steps t walk) last loaded → All (Some loaded)) where
     abbrev ns : List ℕ
     ns = through.ns ++ w.root ∷ []
 
     abbrev Rooted : List (List Export) → Option Loaded → Type 0
     Rooted exports new = (loaded : Loaded) × (new ≡ Some loaded) × IsPart t number through.timed all ns (vs ++ copied_volume number w ∷ []) loaded.tree
-        × (loaded.table ≡ exports)
+        × (loaded.table ≡ exports) × (loaded.names ≡ form)
 
     room_so_far : length all + length vs ≤ 1099511627776
     room_so_far = let l = length-append all (steps t walk) in let m = vs_long in let i = inside in let f = few_volumes in omega (arith, room, l, m, i, f)
@@ -283,29 +288,29 @@ module _ (Last : Option Loaded → Type 0) (t : Tree) (table : List (List Export
         (let m = vs_long in let i = inside in let f = few_volumes in omega (arith, m, i, f))
         (all_get (λ (v : Volume). length v.path ≤ 255) t.volumes n w d.law.volumes.paths at_w) room_so_far
         (Rooted (take n table ++ [] ∷ []))
-        (λ loaded part table_is. (loaded, refl, part, table_is ∙ ap (λ l. l ++ [] ∷ []) through.table_is))
+        (λ loaded part table_is names_are. (loaded, refl, part, table_is ∙ ap (λ l. l ++ [] ∷ []) through.table_is, names_are ∙ through.form_is))
 
     second_goes : (new : Option Loaded) → Rooted (take n table ++ [] ∷ []) new
         → Goes Last new (flat_map export_line (exports_of table n)) (Rooted (take (suc n) table))
     second_goes new it = subst (λ o. Goes Last o (flat_map export_line (exports_of table n)) (Rooted (take (suc n) table))) (sym it.1)
         (exports_go Last it.0.tree (number w.root) (take n table)
         (last_root_is it.0.tree vs (copied_volume number w) it.2.volumes)
-        (ap length it.2.volumes ∙ length-append vs (copied_volume number w ∷ []) ∙ (let l = vs_long in let m = front_long in omega (arith, l, m)))
-        (exports_of table n) [] it.0 refl it.3 (let f = few_to table n in let c = d.few in omega (arith, f, c)) (λ e c. d.exports n e c)
+        (ap length it.2.volumes ∙ length-append vs (copied_volume number w ∷ []) ∙ (let l = vs_long in let m = front_long in omega (arith, l, m))) form
+        (exports_of table n) [] it.0 refl it.3 it.4 (let f = few_to table n in let c = d.few in omega (arith, f, c)) (λ e c. d.exports n e c)
         (Rooted (take (suc n) table))
-        (λ loaded same table_is. (loaded, refl, subst (IsPart t number through.timed all ns (vs ++ copied_volume number w ∷ [])) (sym same) it.2, table_is ∙ sym table_next)))
+        (λ loaded same table_is names_are. (loaded, refl, subst (IsPart t number through.timed all ns (vs ++ copied_volume number w ∷ [])) (sym same) it.2, table_is ∙ sym table_next, names_are)))
 
     abbrev AllMade : Option Loaded → Type 0
     AllMade new = (loaded : Loaded) × (new ≡ Some loaded)
-        × IsGoing t number through.timed (vs ++ copied_volume number w ∷ []) (take (suc n) table) n w (all ++ steps t walk) walk last loaded
+        × IsGoing form t number through.timed (vs ++ copied_volume number w ∷ []) (take (suc n) table) n w (all ++ steps t walk) walk last loaded
 
-    third_goes : (new : Option Loaded) → Rooted (take (suc n) table) new → Goes Last new (files_text t [] walk) AllMade
-    third_goes new it = subst (λ o. Goes Last o (files_text t [] walk) AllMade) (sym it.1) (subst (λ l. Goes Last (Some it.0) l AllMade) (sym files_are)
-        (files_go Last t d.law d.files number through.timed all (vs ++ copied_volume number w ∷ []) (take (suc n) table) n w walk
+    third_goes : (new : Option Loaded) → Rooted (take (suc n) table) new → Goes Last new (files_text form t [] walk) AllMade
+    third_goes new it = subst (λ o. Goes Last o (files_text form t [] walk) AllMade) (sym it.1) (subst (λ l. Goes Last (Some it.0) l AllMade) (sym files_are)
+        (files_go Last form t d.law d.files number through.timed all (vs ++ copied_volume number w ∷ []) (take (suc n) table) n w walk
         (record {
           at_w = at_w;
           walked = walked;
-          sayable = sayable;
+          held = held;
           others = λ m f lives e. through.others m f lives (omega (arith, e));
           early = λ m f lives e. through.early m f lives (omega (arith, e));
           at_vs = get_last vs n (copied_volume number w) vs_long;
@@ -319,6 +324,7 @@ module _ (Last : Option Loaded → Type 0) (t : Tree) (table : List (List Export
           part = it.2;
           count = ap suc (length-append through.ns (w.root ∷ []) ∙ (let c = through.count in omega (arith, c)));
           table_is = it.3;
+          form_is = it.4;
           stood = λ p c. elim (head_or_tail (root_place t w.root) p [] c) [
             | inl e ↦ subst (IsStood t all ns n w) e (record {
               has = has_last w.root through.ns;
@@ -337,25 +343,25 @@ module _ (Last : Option Loaded → Type 0) (t : Tree) (table : List (List Export
         })
         AllMade (λ loaded going. (loaded, refl, going))))
 
-    fourth_goes : (new : Option Loaded) → AllMade new → Goes Last new (times_text t walk) All
+    fourth_goes : (new : Option Loaded) → AllMade new → Goes Last new (times_text form t walk) All
     fourth_goes new it =
         let going = it.2 in
         let at_root : Contains walk (root_place t w.root) =
         subst (λ l. Contains l (root_place t w.root)) (sym walk_is) (in_head (root_place t w.root) (map place_of (steps t walk))) in
-        subst (λ o. Goes Last o (times_text t walk) All) (sym it.1)
-        (times_go Last t d.law d.files number (all ++ steps t walk) going.ns (vs ++ copied_volume number w ∷ []) (take (suc n) table) n w
+        subst (λ o. Goes Last o (times_text form t walk) All) (sym it.1)
+        (times_go Last form t d.law d.files number (all ++ steps t walk) going.ns (vs ++ copied_volume number w ∷ []) (take (suc n) table) n w
         (going.stood (root_place t w.root) at_root).has (λ u is. last_root_is u vs (copied_volume number w) is)
         (first_places [] walk) through.timed it.0
-        (λ p c. let there = first_in walk [] p c in (going.stood p there, one_passes (λ (q : FilePath). is_sayable q.path) walk p sayable there))
-        going.part going.table_is All
-        (λ loaded part table_is. goes loaded
-        (through_next through.timed it.0 going loaded part table_is through.full through.others through.given through.early)))
+        (λ p c. let there = first_in walk [] p c in (going.stood p there, path_held form t p (all_held form t walk p held there)))
+        going.part going.table_is going.form_is All
+        (λ loaded part table_is form_is. goes loaded
+        (through_next through.timed it.0 going loaded part table_is form_is through.full through.others through.given through.early)))
 
     -- the text of a volume
-    pub volume_goes : Goes Last (Some old) (volume_text t table n w walk) All
-    volume_goes = goes_both Last (Some old) (root_text w (attributes_at t w.root) ++ flat_map export_line (exports_of table n) ++ files_text t [] walk)
-        (times_text t walk) AllMade All
-        (goes_both Last (Some old) (root_text w (attributes_at t w.root) ++ flat_map export_line (exports_of table n)) (files_text t [] walk)
+    pub volume_goes : Goes Last (Some old) (volume_text form t table n w walk) All
+    volume_goes = goes_both Last (Some old) (root_text w (attributes_at t w.root) ++ flat_map export_line (exports_of table n) ++ files_text form t [] walk)
+        (times_text form t walk) AllMade All
+        (goes_both Last (Some old) (root_text w (attributes_at t w.root) ++ flat_map export_line (exports_of table n)) (files_text form t [] walk)
         (Rooted (take (suc n) table)) AllMade
         (goes_both Last (Some old) (root_text w (attributes_at t w.root)) (flat_map export_line (exports_of table n)) (Rooted (take n table ++ [] ∷ []))
         (Rooted (take (suc n) table)) first_goes second_goes)

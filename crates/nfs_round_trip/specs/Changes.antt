@@ -1,5 +1,5 @@
 -- What clients do leaves a tree describable.
-use Rattle.std.specs.Prelude.{◌≡◌, ℕ, ◌<◌, ◌^◌, true, List, length, Option, Some}
+use Rattle.std.specs.Prelude.{◌≡◌, ℕ, ◌<◌, ◌^◌, List, length, Option, Some}
 use Rattle.hex.specs.Hex.{IsBytes}
 use Rattle.nfs_attrs.specs.declared.moment.Moment.{Moment}
 use Rattle.nfs_inodes.specs.declared.given_attributes.GivenAttributes.{GivenAttributes}
@@ -10,7 +10,6 @@ use Rattle.nfs_inodes.specs.Conditions.{MayLink, MayMake, MayMakeDirectory, MayM
 use Rattle.nfs_inodes.specs.Law.{Lives}
 use Rattle.nfs_inodes.specs.Tree.{Tree, File}
 use Rattle.nfs_exports.specs.declared.export_table.Export.{Export}
-use Rattle.nfs_describe.specs.Lines.{is_target}
 use Rattle.nfs_load.specs.Moments.{IsTime}
 use Rattle.nfs_round_trip.specs.RoundTrip.{IsDescribable}
 
@@ -31,19 +30,19 @@ pub record IsGivenSaid (given : GivenAttributes) : Type 0 where
   pub atime : (m : Moment) → given.atime ≡ Some m → IsTime m
   pub mtime : (m : Moment) → given.mtime ≡ Some m → IsTime m
 
--- Each operation, where it may be done. Of a link what it holds has to be a word; the writer of descriptions refuses others.
+-- Each operation, where it may be done: with names and contents of bytes.
 pub record ChangesStayDescribable : Type 0 where
   pub files : (t : Tree) (d tag : ℕ) (name bytes : List ℕ) (given : NewFile) (verifier : Option (List ℕ)) (now : Moment)
-      → IsTime now → MayMake t d name (length bytes) → tag < 2 ^ 32 → IsNewSaid given → IsBytes bytes → Stays t (after_make_file t d name bytes given verifier tag now)
+      → IsTime now → MayMake t d name (length bytes) → tag < 2 ^ 32 → IsNewSaid given → IsBytes name → IsBytes bytes → Stays t (after_make_file t d name bytes given verifier tag now)
   pub directories : (t : Tree) (d tag : ℕ) (name : List ℕ) (given : NewFile) (now : Moment)
-      → IsTime now → MayMakeDirectory t d name → tag < 2 ^ 32 → IsNewSaid given → Stays t (after_mkdir t d name given tag now)
+      → IsTime now → MayMakeDirectory t d name → tag < 2 ^ 32 → IsNewSaid given → IsBytes name → Stays t (after_mkdir t d name given tag now)
   pub links : (t : Tree) (d tag : ℕ) (name path : List ℕ) (given : NewFile) (now : Moment)
-      → IsTime now → MayMakeLink t d name path → tag < 2 ^ 32 → IsNewSaid given → is_target path ≡ true → Stays t (after_make_link t d name path given tag now)
-  pub names : (t : Tree) (n d : ℕ) (name : List ℕ) (now : Moment) → IsTime now → MayLink t n d name → Stays t (after_link t n d name now)
+      → IsTime now → MayMakeLink t d name path → tag < 2 ^ 32 → IsNewSaid given → IsBytes name → IsBytes path → Stays t (after_make_link t d name path given tag now)
+  pub names : (t : Tree) (n d : ℕ) (name : List ℕ) (now : Moment) → IsTime now → MayLink t n d name → IsBytes name → Stays t (after_link t n d name now)
   pub bytes : (t : Tree) (n offset : ℕ) (bytes : List ℕ) (now : Moment) → IsTime now → MayWrite t n offset (length bytes) → IsBytes bytes
       → Stays t (after_write_at t n offset bytes now)
   pub sizes : (t : Tree) (n size : ℕ) (now : Moment) → IsTime now → MayResize t n size → Stays t (after_resize t n size now)
   pub attributes : (t : Tree) (n : ℕ) (given : GivenAttributes) (now : Moment) (f : File) → IsTime now → Lives t n f → IsGivenSaid given → Stays t (after_set t n given now)
   pub removals : (t : Tree) (d : ℕ) (name : List ℕ) (now : Moment) → IsTime now → MayUnlink t d name → Stays t (after_unlink t d name now)
   pub renames : (t : Tree) (from : ℕ) (name : List ℕ) (to : ℕ) (new_name : List ℕ) (now : Moment)
-      → IsTime now → MayRename t from name to new_name → Stays t (after_rename t from name to new_name now)
+      → IsTime now → MayRename t from name to new_name → IsBytes new_name → Stays t (after_rename t from name to new_name now)

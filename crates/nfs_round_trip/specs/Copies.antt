@@ -1,12 +1,11 @@
 -- A tree as it is made again from its description.
-use Rattle.std.specs.Prelude.{◌≡◌, ℕ, suc, ◌+◌, ◌<◌, ◌^◌, true, List, [], ◌∷◌, ◌++◌, length, None, nat_eq, if◌then◌else◌}
+use Rattle.std.specs.Prelude.{ℕ, suc, ◌+◌, ◌<◌, ◌^◌, List, [], ◌∷◌, ◌++◌, length, Contains, None, nat_eq, if◌then◌else◌}
 use Rattle.std.specs.List.{flat_map}
 use Rattle.hex.specs.Hex.{IsBytes}
-use Rattle.nfs_describe.specs.Lines.{is_target}
 use Rattle.nfs_describe.specs.Places.{FilePath}
 use Rattle.nfs_describe.specs.Texts.{first_name}
 use Rattle.nfs_load.specs.Moments.{IsTime}
-use Rattle.nfs_inodes.specs.Tree.{File, Kind, Entry, Volume, Regular, Directory, Link, bytes_in, on_some}
+use Rattle.nfs_inodes.specs.Tree.{File, Kind, Entry, Volume, Regular, Directory, Link, on_some}
 
 -- ---- new numbers
 
@@ -62,12 +61,17 @@ copied number tag f = record {
 abbrev pub copied_volume : (ℕ → ℕ) → Volume → Volume
 copied_volume number v = record v { root = number v.root }
 
--- what lines can say of a file: bytes, an owner, a group and times of 32 bits, and what a link holds
+-- a content, the names in a directory and what a link holds are bytes
+abbrev pub HoldsBytes : Kind → Type 0
+HoldsBytes (Regular bytes) = IsBytes bytes
+HoldsBytes (Directory parent next_cookie entries) = (e : Entry) → Contains entries e → IsBytes e.name
+HoldsBytes (Link path) = IsBytes path
+
+-- what lines can say of a file: bytes, and an owner, a group and times of 32 bits
 pub record CanBeSaid (f : File) : Type 0 where
   pub uid : f.uid < 2 ^ 32
   pub gid : f.gid < 2 ^ 32
   pub atime : IsTime f.atime
   pub mtime : IsTime f.mtime
   pub ctime : IsTime f.ctime
-  pub bytes : IsBytes (bytes_in f.kind)
-  pub target : (path : List ℕ) → f.kind ≡ Link path → is_target path ≡ true
+  pub holds : HoldsBytes f.kind

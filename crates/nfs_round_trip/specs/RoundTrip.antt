@@ -1,5 +1,5 @@
 -- A description that is written of a tree loads, and is that tree again.
-use Rattle.std.specs.Prelude.{◌≡◌, ◌⊎◌, ℕ, ◌+◌, ◌≤◌, ◌<◌, true, List, length, map, All, Contains, Some, Result, Ok, Err, slice_get, slice_index}
+use Rattle.std.specs.Prelude.{◌≡◌, ◌⊎◌, ℕ, ◌+◌, ◌≤◌, ◌<◌, true, List, length, map, All, Contains, Result, Ok, Err, slice_index}
 use Rattle.nfs_exports.specs.Tables.{exports_of, pattern_count}
 use Rattle.nfs_exports.specs.declared.export_table.Export.{Export}
 use Rattle.nfs_inodes.specs.Changes.{with_key}
@@ -10,7 +10,7 @@ use Rattle.nfs_load.specs.Paths.{volume_path_in}
 use Rattle.nfs_load.specs.declared.load_error.LoadError.{LoadError}
 use Rattle.nfs_load.specs.declared.load_error.LoadError.TheVariants.{Memory}
 use Rattle.nfs_load.specs.declared.loaded.Loaded.{Loaded}
-use Rattle.nfs_describe.specs.Places.{IsWalk, FilePath}
+use Rattle.nfs_describe.specs.Places.{AreWalks, FilePath, IsWalk}
 use Rattle.nfs_describe.specs.Texts.{Says}
 use Rattle.nfs_read_back.specs.ReadBack.{IsExport, is_said}
 use Rattle.nfs_round_trip.specs.Copies.{CanBeSaid, copied, copied_volume, new_number}
@@ -25,11 +25,6 @@ pub record IsCopy (t : Tree) (number : ℕ → ℕ) (u : Tree) : Type 0 where
   pub key : u.key ≡ t.key
   pub limits : u.limits ≡ t.limits
   pub next : u.next ≡ 1 + length u.files
-
--- the walks of all volumes
-pub record AreWalks (t : Tree) (walks : List (List FilePath)) : Type 0 where
-  pub each : length walks ≡ length t.volumes
-  pub walked : (index : ℕ) (v : Volume) (walk : List FilePath) → slice_get t.volumes index ≡ Some v → slice_get walks index ≡ Some walk → IsWalk t v.root walk
 
 -- A tree is another again, with the numbers of the order in which the walks of all volumes come to its files.
 pub record IsRestored (t u : Tree) : Type 0 where

@@ -20,7 +20,7 @@ pub fn loaded_are_describable()
     ensures { LoadedAreDescribable }
 {}
 
-/// Each change of a tree keeps it such a tree, but for a link that holds what no line says.
+/// Each change of a tree keeps it such a tree.
 pub fn changes_stay_describable()
     ensures { ChangesStayDescribable }
 {}

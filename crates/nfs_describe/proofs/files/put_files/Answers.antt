@@ -7,7 +7,7 @@ pub loop-place-preserved : goal.loop-place-preserved
 loop-place-preserved c =
     let item : c.place-item.result ≡ get_or c.args.places.now c.loop-place.place-index c.place-item.result = search rules in
     record {
-      written = files_at c.args.tree.now c.args.places.now c.loop-place.place-index c.place-item.result (kept_name c.loop-place.first_names.entries c.place-item.result.number) _ _ _
+      written = files_at c.args.form c.args.tree.now c.args.places.now c.loop-place.place-index c.place-item.result (kept_name c.loop-place.first_names.entries c.place-item.result.number) _ _ _
           c.loop-place-test.true item c.loop-place.invariant.written c.in_ok-put_place.ensures.text (c.loop-place.invariant.names c.place-item.result.number);
       firsts = firsts_at c.args.places.now c.loop-place.place-index c.place-item.result (kept_name c.loop-place.first_names.entries c.place-item.result.number) (lent c.loop-place.firsts.items) _ _
           c.loop-place-test.true item c.loop-place.invariant.firsts c.in_ok-put_place.ensures.firsts (c.loop-place.invariant.names c.place-item.result.number);

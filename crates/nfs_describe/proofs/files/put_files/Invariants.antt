@@ -5,7 +5,7 @@ use Rattle.nfs_describe.proofs.files.put_files.Given as goal
 
 abbrev pub invariant-loop-place : goal.invariant-loop-place
 invariant-loop-place l = record {
-  written : l.text.items ++ files_text l.tree (take l.place-index l.places) (drop l.place-index l.places) ≡ l.fn.text.items ++ files_text l.tree [] l.places;
+  written : l.text.items ++ files_text l.form l.tree (take l.place-index l.places) (drop l.place-index l.places) ≡ l.fn.text.items ++ files_text l.form l.tree [] l.places;
   firsts : lent l.firsts.items ++ first_places (take l.place-index l.places) (drop l.place-index l.places) ≡ first_places [] l.places;
   names : (n : ℕ) → kept_name l.first_names.entries n ≡ option_map (λ (p : FilePath). p.path) (first_name n (take l.place-index l.places));
 }

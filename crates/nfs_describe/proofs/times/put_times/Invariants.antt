@@ -4,4 +4,5 @@ use Rattle.nfs_describe.specs.Texts.{lent, place_times}
 use Rattle.nfs_describe.proofs.times.put_times.Given as goal
 
 abbrev pub invariant-loop-place : goal.invariant-loop-place
-invariant-loop-place l = l.text.items ++ flat_map (place_times l.tree) (lent (drop l.place-index l.places)) ≡ l.fn.text.items ++ flat_map (place_times l.tree) (lent l.places)
+invariant-loop-place l =
+    l.text.items ++ flat_map (place_times l.form l.tree) (lent (drop l.place-index l.places)) ≡ l.fn.text.items ++ flat_map (place_times l.form l.tree) (lent l.places)

@@ -1,6 +1,6 @@
 use Rattle.std.proofs.Common.{◌≡◌, ◌≤◌, ◌+◌, ◌*◌, ◌++◌, drop}
 use Rattle.arrayvec.specs.ArrayVec.{array_vec_len}
-use Rattle.nfs_load.specs.Listings.{name_text}
+use Rattle.nfs_load.specs.Names.{name_text}
 use Rattle.nfs_load.proofs.listing_line.put_name.Given as goal
 
 abbrev pub invariant-loop-byte : goal.invariant-loop-byte

@@ -26,7 +26,7 @@ pub returns-clause-done : goal.returns-clause-done
 returns-clause-done c =
     let root : last_root c.args.loaded.now.tree ≡ Ok c.in_ok-last_root.field-0.0 = search rules in
     let few : pattern_count c.args.loaded.now.table < 256 = search rules in
-    line_done _ _ _ _ _ (Ok tt) _ root c.in_ok-line.ensures (few, ap (λ table. record { tree = c.args.loaded.now.tree; table = table }) (c.in_ok-add.ensures.ok ∙ ap (λ n. added c.args.loaded.now.table (n - 1) (record { pattern = c.in_ok-line.line.pattern; options = c.in_ok-line.line.options })) (c.volume_count-volume.ensures ∙ c.requires)))
+    line_done _ _ _ _ _ (Ok tt) _ root c.in_ok-line.ensures (few, ap (λ table. record { tree = c.args.loaded.now.tree; table = table; names = c.args.loaded.now.names }) (c.in_ok-add.ensures.ok ∙ ap (λ n. added c.args.loaded.now.table (n - 1) (record { pattern = c.in_ok-line.line.pattern; options = c.in_ok-line.line.options })) (c.volume_count-volume.ensures ∙ c.requires)))
 
 pub returns-clause-lists : goal.returns-clause-lists
 returns-clause-lists c = ap length c.in_ok-add.ensures.ok ∙ length_added _ _ _ ∙ c.requires

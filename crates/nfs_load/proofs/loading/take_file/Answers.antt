@@ -12,9 +12,9 @@ returns-in_err-root-clause-done c =
 pub returns-in_err-line-clause-done : goal.returns-in_err-line-clause-done
 returns-in_err-line-clause-done c =
     let root : last_root c.args.loaded.now.tree ≡ Ok c.in_ok-root.root.0 = search rules in
-    fields_refused file_line_of (WantsContent c.args.loaded.now.tree.limits.file_size c.args.fields.now) _ _ _ c.read.new.fields _ c.from_residual-in_err-line.result _ root c.in_err-line.ensures c.from_residual-in_err-line.ensures
+    fields_refused file_line_of (WantsContent c.args.loaded.now.names c.args.loaded.now.tree.limits.file_size c.args.fields.now) _ _ _ c.read.new.fields _ c.from_residual-in_err-line.result _ root c.in_err-line.ensures c.from_residual-in_err-line.ensures
 
 pub returns-clause-done : goal.returns-clause-done
 returns-clause-done c =
     let root : last_root c.args.loaded.now.tree ≡ Ok c.in_ok-root.root.0 = search rules in
-    inl (line_done _ _ _ _ _ c.make_file.result _ root c.in_ok-line.ensures (c.make_file.ensures, refl))
+    inl (line_done _ _ _ _ _ c.make_file.result _ root c.in_ok-line.ensures (c.make_file.ensures, refl, refl))

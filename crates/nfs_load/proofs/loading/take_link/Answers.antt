@@ -16,4 +16,4 @@ returns-in_err-line-clause-done c =
 pub returns-clause-done : goal.returns-clause-done
 returns-clause-done c =
     let root : last_root c.args.loaded.now.tree ≡ Ok c.in_ok-root.root.0 = search rules in
-    line_done _ _ _ _ _ c.make_link.result _ root c.in_ok-line.ensures (c.make_link.ensures, refl)
+    line_done _ _ _ _ _ c.make_link.result _ root c.in_ok-line.ensures (c.make_link.ensures, refl, refl)
