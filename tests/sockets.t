@@ -112,6 +112,14 @@ printf 'listening 127.0.0.%s:'"$port"'\n' 1 2 >"$work/wanted"
 sed -n 1,2p "$work/served" | same "$work/wanted" - && [ "$(answer 127.0.0.2)" = 800000180000002a0000000100000000000000000000000000000000 ] &&
     [ "$(answer 127.0.0.1)" = 800000180000002a0000000100000000000000000000000000000000 ] && server_ends 0
 ok $? "--listen twice: both addresses are served, at one port"
+# Two clients of the first address and one of the second wait to be accepted, and two may be served.
+serving examples/e.tree --listen 127.0.0.1 --listen 127.0.0.2 --clients 2
+process=$(server_process)
+kill -STOP "$process"
+bash -c 'exec 3<>"/dev/tcp/127.0.0.1/$0" 4<>"/dev/tcp/127.0.0.1/$0" 5<>"/dev/tcp/127.0.0.2/$0" && kill -CONT "$1" &&
+    printf "\200\0\0\050\0\0\0\052\0\0\0\0\0\0\0\002\0\001\206\243\0\0\0\003" >&5 && head -c 20 /dev/zero >&5 && head -c 28 <&5' "$port" "$process" |
+    od -An -v -tx1 | tr -d ' \n' | grep -qx 800000180000002a0000000100000000000000000000000000000000
+ok $? "listeners take turns, so that a busy address doesn't keep others from being served"
 run serve examples/e.tree --listen 127.0.0.1 --listen 127.0.0.1 --port 0
 ended 3 && [ ! -s "$work/out" ] && grep -q ': Address already in use ' "$work/err"
 ok $? "--listen of one address twice: nothing is served"

@@ -79,9 +79,11 @@ fn arg_of<'a>(alloc: Global, row: &ArgRow) -> Result<Arg<'a>, AllocError> {
                 .help(row.help),
         ),
         Takes::Texts => Ok(option(alloc, row).action(ArgAction::Append)),
-        Takes::TextsOr(default) => Ok(option(alloc, row)
-            .action(ArgAction::Append)
-            .default_value(default)),
+        Takes::TextsOr(default) => Ok(
+            option(alloc, row)
+                .action(ArgAction::Append)
+                .default_value(default),
+        ),
         Takes::TextBeside(other) => option(alloc, row).requires_arg(other),
         Takes::BetweenBeside(from, to, other) => between(alloc, row, from, to).requires_arg(other),
         other => Ok(valued(alloc, row, other)),
