@@ -49,7 +49,7 @@ free_end t root path = unless_taken t (end_at t root path)
 
 -- ends as they are in memory
 abbrev pub end_of : kept.PathEnd → PathEnd
-end_of end = record { dir = end.dir.0; name = end.name.items }
+end_of end = record { dir = end.dir.0; name = end.name }
 
 abbrev pub ends_of : Result kept.PathEnd Cause → Result PathEnd Cause
 ends_of (Ok end) = Ok (end_of end)

@@ -123,7 +123,7 @@ abbrev pub volume_line_of : volume.VolumeLine → VolumeLine
 volume_line_of line = record { path = line.path.now; max_bytes = line.max_bytes; max_files = line.max_files; given = line.given }
 
 abbrev pub link_line_of : link.LinkLine → LinkLine
-link_line_of line = record { path = line.path; uid = line.uid; gid = line.gid; target = line.target.items }
+link_line_of line = record { path = line.path; uid = line.uid; gid = line.gid; target = line.target }
 
 abbrev pub times_line_of : times.TimesLine → TimesLine
 times_line_of line = record { path = on_some line.path [] (λ names. names); atime = line.atime; mtime = line.mtime; ctime = line.ctime }

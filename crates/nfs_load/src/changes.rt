@@ -6,6 +6,7 @@ ghost use Rattle.nfs_load.specs.Effects.{AddsName, AddsVolume, MakesDir, MakesFi
 ghost use Rattle.nfs_load.specs.Effects.{attributes, link_attributes, link_end, links_found, timed_file};
 
 use crate::cause::Cause;
+use crate::name_form::{Name, TargetBytes};
 use crate::path::Path;
 use crate::path_end::{PathEnd, find_file, find_file_or_root, find_free_end, is_directory};
 use crate::refusal::Refusal;
@@ -48,15 +49,12 @@ pub fn mkdir(tree: &mut Tree, root: Number, line: &DirLine<'_>) -> Result<(), Re
     ensures { MakesDir tree.old root.0 line.now result tree.new }
 {
     let end = find_free_end(tree, root, &line.path)?;
-    if !tree.may_mkdir(end.dir, end.name.as_slice()) {
+    let mut room = Name::new();
+    let name = end.name.bytes(&mut room);
+    if !tree.may_mkdir(end.dir, name) {
         return Err(Refusal::Fault(Cause::Full));
     }
-    tree.mkdir(
-        end.dir,
-        end.name.as_slice(),
-        &attributes_of(line.given),
-        START,
-    )?;
+    tree.mkdir(end.dir, name, &attributes_of(line.given), START)?;
     Ok(())
 }
 
@@ -72,7 +70,9 @@ pub fn make_file(tree: &mut Tree, root: Number, line: FileLine<'_>) -> Result<()
         content,
     } = line;
     let end = find_free_end(tree, root, &path)?;
-    if !tree.may_make(end.dir, end.name.as_slice(), content.len()) {
+    let mut room = Name::new();
+    let name = end.name.bytes(&mut room);
+    if !tree.may_make(end.dir, name, content.len()) {
         return Err(Refusal::Fault(Cause::Full));
     }
     tree.law();
@@ -81,7 +81,7 @@ pub fn make_file(tree: &mut Tree, root: Number, line: FileLine<'_>) -> Result<()
         pages: Pages::of(tree.allocator(), content)?,
         verifier: None,
     };
-    tree.make_file(end.dir, end.name.as_slice(), content, &given, START)?;
+    tree.make_file(end.dir, name, content, &given, START)?;
     Ok(())
 }
 
@@ -91,17 +91,15 @@ pub fn make_link(tree: &mut Tree, root: Number, line: &LinkLine<'_>) -> Result<(
     ensures { MakesLink tree.old root.0 (link_line_of line.now) result tree.new }
 {
     let end = find_free_end(tree, root, &line.path)?;
-    if !tree.may_make_link(end.dir, end.name.as_slice(), line.target.as_slice()) {
+    let mut room = Name::new();
+    let name = end.name.bytes(&mut room);
+    let mut target_room = TargetBytes::new();
+    let target = line.target.bytes(&mut target_room);
+    if !tree.may_make_link(end.dir, name, target) {
         return Err(Refusal::Fault(Cause::Full));
     }
     let given = attributes_of_link(line.uid, line.gid);
-    tree.make_link(
-        end.dir,
-        end.name.as_slice(),
-        line.target.as_slice(),
-        &given,
-        START,
-    )?;
+    tree.make_link(end.dir, name, target, &given, START)?;
     Ok(())
 }
 
@@ -112,10 +110,12 @@ pub(crate) fn add_name(tree: &mut Tree, root: Number, line: &HardLine<'_>) -> Re
     ensures { AddsName tree.old root.0 line.now result tree.new }
 {
     let (end, file) = find_link_end(tree, root, &line.path, &line.old)?;
-    if !tree.may_link(file, end.dir, end.name.as_slice()) {
+    let mut room = Name::new();
+    let name = end.name.bytes(&mut room);
+    if !tree.may_link(file, end.dir, name) {
         return Err(Refusal::Fault(Cause::Full));
     }
-    tree.link(file, end.dir, end.name.as_slice(), START)?;
+    tree.link(file, end.dir, name, START)?;
     Ok(())
 }
 
@@ -147,12 +147,12 @@ fn find_timed_file(tree: &Tree, root: Number, line: &TimesLine<'_>) -> Result<Nu
 }
 
 // The free end of a path, and a file that is no directory.
-fn find_link_end(
+fn find_link_end<'a>(
     tree: &Tree,
     root: Number,
-    path: &Path<'_>,
+    path: &Path<'a>,
     old: &Path<'_>,
-) -> Result<(PathEnd, Number), Cause>
+) -> Result<(PathEnd<'a>, Number), Cause>
     ensures { links_found result ≡ link_end tree.now root.0 path.now old.now }
 {
     let end = find_free_end(tree, root, path)?;

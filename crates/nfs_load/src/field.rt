@@ -1,14 +1,14 @@
 //! Fields that are a key or numbers.
 ghost use Rattle.std.specs.Prelude.{◌/◌, ◌≡◌, ◌≤◌, ◌*◌, ◌↔◌, IfOk, IsTrue, Err, false, bytes_eq, codes, length, nat_lt};
-ghost use Rattle.std.specs.Result.{result_map_both};
 ghost use Rattle.hex.specs.Hex.{is_hex_digit};
 ghost use Rattle.nfs_load.specs.Fields.{content_in, key_in, mode_in, number_in, target_in};
 ghost use Rattle.nfs_load.specs.Fields.{GivesIfRoom, SaysBytes, ArePairs};
 
 use crate::cause::Cause;
 use crate::limits::MAX_MODE_DIGITS;
-use crate::name_form::{NameForm, Target};
+use crate::name_form::NameForm;
 use crate::refusal::Refusal;
+use crate::target::Target;
 use nfs_inodes::tree::Tree;
 use nfs_text::number::decimal;
 use std::alloc::Global;
@@ -55,13 +55,17 @@ pub(crate) fn read_number(field: &[u8], min: u64, max: u64) -> Result<u64, Cause
 
 /// What a symbolic link holds. `BadContent` where the field is none, or says more bytes than the tree takes
 /// of one.
-pub(crate) fn read_target(field: &[u8], names: NameForm, tree: &Tree) -> Result<Target, Cause>
-    ensures { result_map_both (λ target. target.items) (λ cause. cause) result ≡ target_in names tree.now.limits.link_path field.now }
+pub(crate) fn read_target<'a>(
+    field: &'a [u8],
+    names: NameForm,
+    tree: &Tree,
+) -> Result<Target<'a>, Cause>
+    ensures { result ≡ target_in names tree.now.limits.link_path field.entry.now }
 {
     tree.law();
-    match names.target(field) {
-        Some(target) if target.len() <= tree.limits().link_path => Ok(target),
-        _ => Err(Cause::BadContent),
+    match Target::read(field, names, tree.limits().link_path) {
+        Some(target) => Ok(target),
+        None => Err(Cause::BadContent),
     }
 }
 

@@ -11,9 +11,10 @@ use crate::cause::Cause;
 use crate::field::{read_content, read_key, read_mode, read_number, read_target};
 use crate::limits::MAX_ID;
 use crate::moment::read_moment;
-use crate::name_form::{NameForm, Target};
+use crate::name_form::NameForm;
 use crate::path::{Path, read_path, read_path_or_root, read_volume_path};
 use crate::refusal::Refusal;
+use crate::target::Target;
 use nfs_attrs::moment::Moment;
 use nfs_exports::options::{Options, parse_options};
 use nfs_exports::pattern::{Pattern, parse_pattern};
@@ -129,8 +130,8 @@ impl<'a> Fields<'a> {
 
     /// What a symbolic link holds. `BadContent` where the field is none, or says more bytes than the tree
     /// takes of one.
-    pub fn target(&mut self, names: NameForm, tree: &Tree) -> Result<Target, Cause>
-        ensures { Takes (λ target. target.items) self.new result (by (target_in names tree.now.limits.link_path) self.old) }
+    pub fn target(&mut self, names: NameForm, tree: &Tree) -> Result<Target<'a>, Cause>
+        ensures { Takes (λ target. target) self.new result (by (target_in names tree.now.limits.link_path) self.old) }
     {
         read_target(self.next()?, names, tree)
     }

@@ -20,3 +20,4 @@ pub mod path;
 pub mod path_end;
 pub mod refusal;
 pub mod statement;
+pub mod target;

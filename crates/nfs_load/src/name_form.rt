@@ -1,5 +1,5 @@
 //! How names are written in a description.
-ghost use Rattle.std.specs.Prelude.{◌≡◌, ◌<◌, false, option_map};
+ghost use Rattle.std.specs.Prelude.{◌≡◌, ◌<◌, false, is_some, length, option_map};
 ghost use Rattle.std.specs.Fmt.{digit_glyph};
 ghost use Rattle.std.specs.List.{list_all};
 ghost use Rattle.nfs_inodes.specs.Limits.{max_path_bytes};
@@ -22,8 +22,8 @@ pub enum NameForm {
 /// A name.
 pub type Name = ArrayVec<u8, MAX_NAME_BYTES>;
 
-/// What a symbolic link holds.
-pub type Target = ArrayVec<u8, MAX_PATH_BYTES>;
+/// The bytes that a symbolic link holds.
+pub type TargetBytes = ArrayVec<u8, MAX_PATH_BYTES>;
 
 impl NameForm {
     /// The form that this word says. `BadNames` where it is not `percent`, or has been said before.
@@ -49,15 +49,36 @@ impl NameForm {
         }
     }
 
+    /// Whether a component of a path stands for a name.
+    pub(crate) fn has_name(self, text: &[u8]) -> bool
+        ensures { result ≡ is_some (name_in self text.now) }
+    {
+        match self {
+            NameForm::Plain => !has_percent(text) && is_name(text),
+            NameForm::Percent => self.name(text).is_some(),
+        }
+    }
+
     /// What a field says that a symbolic link holds; with escapes, `%` alone says nothing. `None` where
     /// a `%` is before anything else than two digits, or where that has more bytes than any tree takes.
-    pub(crate) fn target(self, field: &[u8]) -> Option<Target>
+    pub(crate) fn target(self, field: &[u8]) -> Option<TargetBytes>
         ensures { option_map (λ target. target.items) result ≡ at_most max_path_bytes (held_in self field.now) }
     {
         match self {
-            NameForm::Plain => Target::try_from(field).ok(),
-            NameForm::Percent if field == b"%".as_slice() => Some(Target::new()),
+            NameForm::Plain => TargetBytes::try_from(field).ok(),
+            NameForm::Percent if field == b"%".as_slice() => Some(TargetBytes::new()),
             NameForm::Percent => unescape(field),
+        }
+    }
+
+    /// How many bytes a field says that a symbolic link holds. `None` as for `target`.
+    pub(crate) fn held_length(self, field: &[u8]) -> Option<usize>
+        ensures { result ≡ option_map length (at_most max_path_bytes (held_in self field.now)) }
+    {
+        match self {
+            NameForm::Plain if field.len() > MAX_PATH_BYTES => None,
+            NameForm::Plain => Some(field.len()),
+            NameForm::Percent => Some(self.target(field)?.len()),
         }
     }
 

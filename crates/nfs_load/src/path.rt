@@ -73,10 +73,53 @@ impl<'a> Model for PathNames<'a> {
 
 impl<'a> PathNames<'a> {
     /// The next name. `None` after the last.
-    pub fn next(&mut self) -> Option<Name>
-        ensures { spec.TakesFirst (λ name. name.items) self.old result self.new }
+    pub fn next(&mut self) -> Option<PathName<'a>>
+        ensures { spec.TakesFirst (λ name. name) self.old result self.new }
     {
-        self.form.name(self.components.next()?)
+        let text = self.components.next()?;
+        Some(PathName {
+            text,
+            form: self.form,
+        })
+    }
+}
+
+/// A name of a path, as the path has it. Contracts see the name.
+#[derive(Drop)]
+pub struct PathName<'a> {
+    text: &'a [u8],
+    form: NameForm,
+}
+
+impl<'a> Model for PathName<'a> {
+    ghost use Rattle.std.specs.Prelude.{◌≡◌, ℕ, List, [], true, is_some};
+    ghost use Rattle.nfs_inodes.specs.Tree.{on_some};
+    ghost use Rattle.nfs_load.specs.Names.{name_in};
+
+    ghost Value = { List ℕ };
+
+    ghost view = { λ name. on_some (name_in name.form name.text.now) [] (λ it. it) };
+
+    ghost invariant = { λ name. is_some (name_in name.form name.text.now) ≡ true };
+}
+
+impl<'a> PathName<'a> {
+    /// Its bytes: those of the path, or where they are not as the path has them, those that are decoded
+    /// into the room.
+    pub fn bytes<'b>(&self, room: &'b mut Name) -> &'b [u8]
+    where
+        'a: 'b,
+        ensures { result.now ≡ self.now }
+    {
+        match self.form {
+            NameForm::Plain => self.text,
+            NameForm::Percent => {
+                if let Some(name) = self.form.name(self.text) {
+                    *room = name;
+                }
+                room.as_slice()
+            }
+        }
     }
 }
 
@@ -144,7 +187,7 @@ fn are_names(text: &[u8], form: NameForm) -> bool
 {
     let mut components = Chunks::new(text, b'/');
     while let Some(component) = components.next() {
-        if form.name(component).is_none() {
+        if !form.has_name(component) {
             return false;
         }
     }

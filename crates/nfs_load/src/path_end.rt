@@ -7,30 +7,31 @@ ghost use Rattle.nfs_load.specs.PathEnds.{file_at, file_or_root_at, free_end, en
 
 use crate::cause::Cause;
 use crate::name_form::Name;
-use crate::path::Path;
+use crate::path::{Path, PathName};
 use nfs_attrs::file_type::FileType;
 use nfs_handles::number::Number;
 use nfs_inodes::tree::Tree;
 
 /// A directory, and a name in it.
 #[derive(Drop)]
-pub struct PathEnd {
+pub struct PathEnd<'a> {
     /// The directory.
     pub dir: Number,
     /// The name, which may be taken or not.
-    pub name: Name,
+    pub name: PathName<'a>,
 }
 
 /// The directory in which a path ends, and the name that it ends with, from a root on. `None`
 /// where a name on the way is missing, or what has to be a directory is none.
-pub(crate) fn find_path_end(tree: &Tree, root: Number, path: &Path<'_>) -> Option<PathEnd>
+pub(crate) fn find_path_end<'a>(tree: &Tree, root: Number, path: &Path<'a>) -> Option<PathEnd<'a>>
     ensures { option_map end_of result ≡ end_at tree.now root.0 path.now }
 {
     let mut names = path.names();
     let mut name = names.next()?;
     let mut dir = root;
+    let mut room = Name::new();
     while let Some(next) = names.next() {
-        dir = tree.lookup(dir, name.as_slice())?;
+        dir = tree.lookup(dir, name.bytes(&mut room))?;
         name = next;
     }
     if !is_directory(tree, dir) {
@@ -41,13 +42,18 @@ pub(crate) fn find_path_end(tree: &Tree, root: Number, path: &Path<'_>) -> Optio
 
 /// An end whose name is not taken. The first of these: `NoParent` where there is no such end,
 /// `NameTaken`.
-pub(crate) fn find_free_end(tree: &Tree, root: Number, path: &Path<'_>) -> Result<PathEnd, Cause>
+pub(crate) fn find_free_end<'a>(
+    tree: &Tree,
+    root: Number,
+    path: &Path<'a>,
+) -> Result<PathEnd<'a>, Cause>
     ensures { ends_of result ≡ free_end tree.now root.0 path.now }
 {
     let Some(end) = find_path_end(tree, root, path) else {
         return Err(Cause::NoParent);
     };
-    if tree.lookup(end.dir, end.name.as_slice()).is_some() {
+    let mut room = Name::new();
+    if tree.lookup(end.dir, end.name.bytes(&mut room)).is_some() {
         return Err(Cause::NameTaken);
     }
     Ok(end)
@@ -58,7 +64,8 @@ pub(crate) fn find_file(tree: &Tree, root: Number, path: &Path<'_>) -> Option<Nu
     ensures { option_map (λ n. n.0) result ≡ file_at tree.now root.0 path.now }
 {
     let end = find_path_end(tree, root, path)?;
-    tree.lookup(end.dir, end.name.as_slice())
+    let mut room = Name::new();
+    tree.lookup(end.dir, end.name.bytes(&mut room))
 }
 
 /// The file that a path names; without one, the root.

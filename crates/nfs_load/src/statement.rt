@@ -5,9 +5,10 @@ ghost use Rattle.nfs_load.specs.Statements.{WantsContent, dir_in, export_in, fil
 
 use crate::cause::Cause;
 use crate::fields::Fields;
-use crate::name_form::{NameForm, Target};
+use crate::name_form::NameForm;
 use crate::path::Path;
 use crate::refusal::Refusal;
+use crate::target::Target;
 use nfs_attrs::moment::Moment;
 use nfs_exports::options::Options;
 use nfs_exports::pattern::Pattern;
@@ -78,7 +79,7 @@ pub struct LinkLine<'a> {
     /// The number of the file's group.
     pub gid: u32,
     /// What it holds.
-    pub target: Target,
+    pub target: Target<'a>,
 }
 
 /// `hard PATH OLD`: a hard link of a file.
