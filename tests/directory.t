@@ -23,7 +23,7 @@ run check "$work/described"
 same "$work/totals" "$work/out"
 ok $? "check of a directory prints what check of its description prints"
 
-# What lines can't hold as it is.
+# Names and links that lines can't hold as they are.
 mkdir "$work/odd" && cd "$work/odd" && echo one >"my notes.txt" && echo three >Köln && echo 100 >100% && ln -s "to nowhere" link &&
     mkdir many && (cd many && seq 1100 | xargs mkdir) && truncate -s 1G hole && printf end >>hole && head -c 40000000 /dev/zero | tr '\0' x >large &&
     chmod 4711 100% && touch -d '2001-02-03 04:05:06.789 UTC' 100% && touch -d '2002-03-04 05:06:07 UTC' many

@@ -19,7 +19,7 @@ done
 tests/describe/new-keys "$work/disk.tree" "$work/keyed1" "$work/keyed2"
 ok $? "--save without --key gives a new key each time, and else the same"
 
-# Names and links that lines can't hold as they are make the description say names with %xx, and nothing is skipped.
+# Names and links that lines can't hold as they are have %xx, and nothing is skipped.
 cat >"$work/odd.tree" <<END
 server 0102030405060708
 volume /v 100000 100 0777 0 0
