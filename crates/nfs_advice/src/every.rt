@@ -36,8 +36,9 @@ pub struct Faults {
 
 /// The faulty lines of a text, if it has one: the first, and of those after it each that is faulty
 /// whatever the faulty ones before it should have said. So nothing is reported after a faulty line of the
-/// server, of limits or of names, nor after one of a volume up to the next volume; and what should have been there,
-/// and isn't, is reported of the first faulty line alone. At most 100 are looked at. Refused without memory.
+/// server, of limits or of names, nor after one of a volume up to the next volume; and what should have
+/// been there, and isn't, is reported of the first faulty line alone. At most 100 are looked at. Refused
+/// without memory.
 pub fn every_fault(alloc: Global, text: &[u8]) -> Result<Option<Faults>, AllocError>
     ensures first { IfOk result (HasFirst text.now) }
 {

@@ -23,8 +23,9 @@ use std::rt::Files;
 const RUN_BYTES: usize = 65_536;
 
 /// Runs a script over a description, and saves the tree as it then is where the words ask for it. The
-/// faults of `Copies::of`, `NamedTree::read` and `Copies::save_last`; `CannotRead` and `TooLong` where the script can't be read, `Script` with its
-/// first faulty line, `Write` and `Closed` where the output fails, `Memory`.
+/// faults of `Copies::of`, `NamedTree::read` and `Copies::save_last`; `CannotRead` and `TooLong` where the
+/// script can't be read, `Script` with its first faulty line, `Write` and `Closed` where the output fails,
+/// `Memory`.
 pub fn replay_files<R: Files + Input + Print + Eprint + RandomSource + AllocGlobal>(
     rt: &R,
     alloc: Global,

@@ -19,7 +19,7 @@ use std::rt::Files;
 /// What a directory on disk is read for.
 #[derive(Clone, Copy, Debug, PartialEq, Eq)]
 pub enum Purpose {
-    /// A description without times: what it can't hold is skipped.
+    /// A description without times: files that are too large for one are skipped.
     Describing,
     /// The same, with times.
     DescribingTimes,
@@ -28,7 +28,7 @@ pub enum Purpose {
 }
 
 impl Purpose {
-    /// Whether what a description can't hold is skipped.
+    /// Whether files that are too large for a description are skipped.
     pub(crate) fn is_description(self) -> bool {
         self != Purpose::Serving
     }

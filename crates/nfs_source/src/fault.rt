@@ -57,7 +57,7 @@ pub enum Fault {
         /// What the system says.
         error: io::Error,
     },
-    /// The tree has what a description can't hold.
+    /// A tree has no description, as where it would be too long.
     #[error("nfs3d: {0}")]
     Undescribed(DescribeFault),
     /// The network fails.
