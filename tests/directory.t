@@ -191,4 +191,93 @@ turned=$(root_handle)
 [ -n "$turned" ] && [ "$turned" != "$more" ]
 ok $? "where a file has become a directory, it has others"
 
+# Several directories, each with its own options.
+one=$work/volumes/one
+two=$work/volumes/two
+mkdir -p "$one/sub" "$two" && (cd "$one" && seq 1005 | xargs mkdir) && echo first >"$one/sub/file" && ln "$one/sub/file" "$one/again" &&
+    truncate -s 17825792 "$two/large" && ln -s nowhere "$two/link" && echo second >"$two/file"
+key=6e66733364000001
+run describe "$one" --mount /one --export '*=ro' --export 10.1.0.0/16=rw --files 2000000 --key "$key"
+ended 0 && sed -n 2p "$work/out" >"$work/limits" && mv "$work/out" "$work/one.tree"
+run describe "$two" --mount /two --export '10.2.0.0/16=rw,no_root_squash' --bytes 3000000000 --chown 7:8 --key "$key"
+ended 0 && sed -n 2p "$work/out" >>"$work/limits" && mv "$work/out" "$work/two.tree"
+printf '%s\n' "limits links=1008 files=2000000" "limits file-size=17825792" | same - "$work/limits"
+ok $? "two directories with limits of their own"
+{
+    echo "server $key"
+    echo "limits file-size=17825792 links=1008 files=2000000"
+    tail -n +3 "$work/one.tree"
+    tail -n +3 "$work/two.tree"
+} >"$work/wanted"
+run describe "$one" --mount /one --export '*=ro' --export 10.1.0.0/16=rw --files 2000000 "$two" --mount /two --export '10.2.0.0/16=rw,no_root_squash' \
+    --bytes 3000000000 --chown 7:8 --key "$key"
+ended 0 && quiet && same "$work/wanted" "$work/out"
+ok $? "describe of both is their descriptions under one server line, with the larger limits"
+run describe --key "$key" "$one" --export='*=ro' --mount=/one --export=10.1.0.0/16=rw --files=2000000 "$two" --export='10.2.0.0/16=rw,no_root_squash' \
+    --chown=7:8 --strict --bytes=3000000000 --mount=/two
+ended 0 && quiet && same "$work/wanted" "$work/out"
+ok $? "the same with the options in another order, and with ="
+run check "$work/wanted"
+says "ok volumes=2 files=$(find "$one" "$two" -printf '%i\n' | sort -u | grep -c .) bytes=$(find "$one" "$two" -type f -printf '%i %s\n' | sort -u | awk '{ all += $2 } END { printf "%d", all }')"
+ok $? "it has as many files and bytes as both have"
+run describe "$two" "$one" --key "$key"
+[ "$(grep '^volume ' "$work/out" | cut -d ' ' -f 2 | tr '\n' ' ')" = "/two /one " ] && ended 0
+ok $? "without --mount each has its own name, in the order of the words"
+
+run describe --mount /one "$one" "$two"
+fails "with several directories, put --mount, --export, --bytes, --files and --chown after the directory that they are for" 2 "an option before the first of two directories is refused"
+run serve "$one" --export '*' --mount /one --port 0 --mount /other "$two" --export '*'
+fails "the argument '--mount <PATH>' cannot be used multiple times" 2 "--mount twice for one of two directories is refused"
+run describe "$one" --files 100 "$two" --bytes 5 --bytes 6
+fails "the argument '--bytes <N>' cannot be used multiple times" 2 "so is --bytes"
+run serve "$one" --export '*' "$two" --port 0
+fails "no client may reach $two: add --export PATTERN=OPTIONS after it, such as --export 10.1.0.0/16=rw" 2 "where one of two directories has no --export, it is named"
+run serve "$one" --export '*' examples/e.tree --port 0
+fails "several directories are served together, a description alone: examples/e.tree is no directory" 2 "a description beside a directory is refused"
+run serve "$one" --export '*' - --export '*' --port 0
+fails "several directories are served together, a description alone: - is no directory" 2 "so is standard input"
+run describe "$one" "$two" --files 3
+fails "$two has 4 files and $((17825792 + 7)) bytes, and its volume takes 3 and 1000000000: give --files and --bytes after it at least as much as it has, or share a part of it" 2 "the one of two directories that has more than its volume takes is named"
+run describe "$two" --mount /same "$one" --mount /same --key "$key"
+grep -qx "error: an option doesn't fit into a description: line 4: VolumeTwice" "$work/err" && grep -qx '  column 8: "/same" is the path of another volume; see line 3' "$work/err" && ended 2
+ok $? "two directories with one path are refused"
+run describe "$one" "$work/none"
+echo "nfs3d: cannot read $work/none: No such file or directory (os error 2)" >"$work/wanted"
+brings /dev/null "$work/wanted" 3
+ok $? "one that isn't there is named"
+mkfifo "$one/pipe" "$two/pipe"
+run describe "$one" "$two" --strict
+ended 1 && printf 'nfs3d: skipped: %s/pipe: a device, a socket or a pipe\n' "$one" "$two" >"$work/wanted" && echo "nfs3d: skipped in all: 2: a device, a socket or a pipe" >>"$work/wanted" &&
+    same "$work/wanted" "$work/err"
+ok $? "what is skipped of both is reported, and counted together"
+rm "$one/pipe" "$two/pipe"
+
+# root_handles: what MNT of /one and of /two bring from a server of both, on a line each.
+root_handles() {
+    : >"$work/served"
+    timeout --foreground 60 "$program" serve "$one" --export '127.0.0.1=rw' "$two" --export '127.0.0.1=rw' --port 0 --connections 2 >"$work/served" 2>"$work/served.err" &
+    server=$!
+    wait_until 30 is_listening
+    for path in one two; do
+        # shellcheck disable=SC2016
+        bash -c 'exec 3<>/dev/tcp/127.0.0.1/$1
+            printf "\200\0\0\060\0\0\0\1\0\0\0\0\0\0\0\2\0\1\206\245\0\0\0\3\0\0\0\1\0\0\0\0\0\0\0\0\0\0\0\0\0\0\0\0\0\0\0\4/%s" "$2" >&3
+            head -c 68 <&3 | od -An -v -tx1 | tr -d " \n"; echo' - "$port" "$path"
+    done
+    server_ends 0
+}
+both=$(root_handles)
+echo "$both" | cut -c 1-72 >"$work/got"
+for path in one two; do printf '80000040%08x%08x%040d%08x\n' 1 1 0 24; done >"$work/wanted"
+same "$work/wanted" "$work/got" && [ "$(echo "$both" | sort -u | grep -c .)" = 2 ]
+ok $? "MNT of each of two directories that are served"
+[ "$(root_handles)" = "$both" ]
+ok $? "they are served again with the same handles"
+rm -r "$one" "$two" && mkdir "$one" "$two" && echo moved >"$one/file"
+before=$(root_handles)
+mv "$one/file" "$two/file"
+moved=$(root_handles)
+[ -n "$moved" ] && [ "$(echo "$before" | head -n 1)" != "$(echo "$moved" | head -n 1)" ]
+ok $? "where a file has moved from one to the other, both have others"
+
 plan

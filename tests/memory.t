@@ -114,6 +114,7 @@ ln -s one "$work/small/link"
 # A file that is read for the first time gets another atime.
 run describe "$work/small" --mount /small
 refused_each describe "$work/small" --mount /small --export '*=ro' --times --key 0102030405060708
+refused_each describe "$work/small" --mount /small --export '*=ro' "$work/small/inner" --chown 1:2 --key 0102030405060708
 { cat examples/e.tree; echo 'times / 1 2.5 3+4000000000'; } >"$work/timed.tree"
 refused_each replay "$work/timed.tree" examples/read.script --save "$work/left.tree" --key 0102030405060708
 refused_each replay examples/e.tree examples/read.script --decode --names

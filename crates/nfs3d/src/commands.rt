@@ -6,7 +6,7 @@ use log::Log;
 use nfs_command_line::invocation::Invocation;
 use nfs_command_line::words::{Reported, Words};
 use nfs_commands::check::check_file;
-use nfs_commands::describing::describe_directory;
+use nfs_commands::describing::describe_directories;
 use nfs_commands::exports::print_exports;
 use nfs_commands::extracting::extract_tree;
 use nfs_commands::replay::replay_files;
@@ -70,7 +70,7 @@ where
         Some(Invocation::Exports(words)) => print_exports(rt, alloc, words.tree()),
         Some(Invocation::Replay(words)) => replay_files(rt, alloc, words),
         Some(Invocation::Serve(words)) => serve_tree(rt, alloc, words),
-        Some(Invocation::Describe(words)) => describe_directory(rt, alloc, words),
+        Some(Invocation::Describe(words)) => describe_directories(rt, alloc, words),
         Some(Invocation::Extract(words)) => extract_tree(rt, alloc, words),
         Some(Invocation::SelfCall(words)) => call_self(rt, alloc, words.tree()),
         None => Ok(ExitCode::SUCCESS),

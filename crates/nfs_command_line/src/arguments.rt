@@ -18,6 +18,22 @@ pub(crate) const TREE: ArgRow = ArgRow {
     takes: Takes::Word,
 };
 
+/// The description, or directories, each with the options after it.
+pub(crate) const TREES: ArgRow = ArgRow {
+    id: "tree",
+    value: "TREE",
+    help: "The description: a text of volumes, files and exports (docs/DESCRIPTION.md), - for standard input; or a directory on disk, or several, each with the options --mount, --export, --bytes, --files and --chown after it",
+    takes: Takes::Words,
+};
+
+/// Directories, each with the options after it.
+pub(crate) const DIRECTORIES: ArgRow = ArgRow {
+    id: "directory",
+    value: "DIRECTORY",
+    help: "The directory; symbolic links are not followed. Several become volumes of one description, each with the options --mount, --export, --bytes, --files and --chown after it",
+    takes: Takes::Words,
+};
+
 /// The path of a directory's volume.
 pub(crate) const MOUNT: ArgRow = ArgRow {
     id: "mount",
@@ -56,6 +72,30 @@ pub(crate) const CHOWN: ArgRow = ArgRow {
     value: "UID:GID",
     help: "Gives every file this owner and group, for example 1000:1000",
     takes: Takes::Text,
+};
+
+/// The path of the volume of each directory.
+pub(crate) const MOUNT_EACH: ArgRow = ArgRow {
+    takes: Takes::Texts,
+    ..MOUNT
+};
+
+/// How many bytes each volume may hold.
+pub(crate) const BYTES_EACH: ArgRow = ArgRow {
+    takes: Takes::Numbers,
+    ..BYTES
+};
+
+/// How many files each volume may hold.
+pub(crate) const FILES_EACH: ArgRow = ArgRow {
+    takes: Takes::Numbers,
+    ..FILES
+};
+
+/// Who owns the files of each directory.
+pub(crate) const CHOWN_EACH: ArgRow = ArgRow {
+    takes: Takes::Texts,
+    ..CHOWN
 };
 
 /// Whether something of it may be skipped.

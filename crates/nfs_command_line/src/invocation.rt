@@ -2,9 +2,11 @@
 ghost use Rattle.std.specs.Prelude.{◌≡◌, codes, option_map};
 ghost use Rattle.nfs_command_line.specs.Given.{IsFlag, IsNumberOr, text_given, text_of};
 ghost use Rattle.nfs_command_line.specs.Invocations.{invocation_of};
+ghost use Rattle.nfs_command_line.specs.Named.{AreNamed, IsAlone};
 
 use crate::serve::Serve;
-use crate::sharing::{Sharing, TreeWords};
+use crate::sharing::TreeWords;
+use crate::trees::Trees;
 use crate::usage::UsageFault;
 use crate::values::{cache, text};
 use clap::ArgMatches;
@@ -23,7 +25,7 @@ pub enum Invocation<'a, 'w> {
     Replay(Replay<'a, 'w>),
     /// Clients are served.
     Serve(Serve<'a, 'w>),
-    /// A directory on disk is described.
+    /// Directories on disk are described.
     Describe(Describe<'a, 'w>),
     /// A tree is written as a directory on disk.
     Extract(Extract<'a, 'w>),
@@ -57,7 +59,7 @@ impl<'a, 'w> Invocation<'a, 'w> {
             Invocation::Exports(words) => UsageFault::of_sharing(words.tree().sharing()),
             Invocation::Replay(words) => UsageFault::of_replay(*words),
             Invocation::Serve(words) => UsageFault::of_serving(*words),
-            Invocation::Describe(words) => UsageFault::of_keyed(words.sharing(), words.key()),
+            Invocation::Describe(words) => UsageFault::of_all(words.directories(), words.key()),
             Invocation::Extract(words) => UsageFault::of_sharing(words.tree().sharing()),
             Invocation::SelfCall(_) => None,
         }
@@ -73,7 +75,7 @@ pub struct Check<'a, 'w> {
 impl<'a, 'w> Check<'a, 'w> {
     /// What is checked.
     pub fn tree(&self) -> TreeWords<'a, 'w>
-        ensures { result.words ≡ self.now.words }
+        ensures { IsAlone self.now.words result }
     {
         TreeWords::new(self.words)
     }
@@ -102,7 +104,7 @@ pub struct Why<'a, 'w> {
 impl<'a, 'w> Why<'a, 'w> {
     /// What is asked about.
     pub fn tree(&self) -> TreeWords<'a, 'w>
-        ensures { result.words ≡ self.now.words }
+        ensures { IsAlone self.now.words result }
     {
         TreeWords::new(self.words)
     }
@@ -159,7 +161,7 @@ pub struct Exports<'a, 'w> {
 impl<'a, 'w> Exports<'a, 'w> {
     /// What has the volumes.
     pub fn tree(&self) -> TreeWords<'a, 'w>
-        ensures { result.words ≡ self.now.words }
+        ensures { IsAlone self.now.words result }
     {
         TreeWords::new(self.words)
     }
@@ -174,7 +176,7 @@ pub struct Replay<'a, 'w> {
 impl<'a, 'w> Replay<'a, 'w> {
     /// What the script begins with.
     pub fn tree(&self) -> TreeWords<'a, 'w>
-        ensures { result.words ≡ self.now.words }
+        ensures { IsAlone self.now.words result }
     {
         TreeWords::new(self.words)
     }
@@ -229,18 +231,11 @@ pub struct Describe<'a, 'w> {
 }
 
 impl<'a, 'w> Describe<'a, 'w> {
-    /// The directory.
-    pub fn directory(&self) -> &'a str
-        ensures { result.now ≡ text_of self.now.words.now (codes "directory") }
+    /// The directories.
+    pub fn directories(&self) -> Trees<'a, 'w>
+        ensures { AreNamed self.now.words (codes "directory") result }
     {
-        text(self.words, "directory")
-    }
-
-    /// How it is shared.
-    pub fn sharing(&self) -> Sharing<'a, 'w>
-        ensures { result.words ≡ self.now.words }
-    {
-        Sharing::new(self.words)
+        Trees::new(self.words, "directory")
     }
 
     /// The server's key, in 16 hexadecimal digits; without it a new one.
@@ -274,7 +269,7 @@ pub struct Extract<'a, 'w> {
 impl<'a, 'w> Extract<'a, 'w> {
     /// What is written.
     pub fn tree(&self) -> TreeWords<'a, 'w>
-        ensures { result.words ≡ self.now.words }
+        ensures { IsAlone self.now.words result }
     {
         TreeWords::new(self.words)
     }

@@ -8,6 +8,8 @@ mod rows;
 mod runs;
 pub mod serve;
 pub mod sharing;
+mod span;
+pub mod trees;
 mod usage;
 mod values;
 pub mod words;

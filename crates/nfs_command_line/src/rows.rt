@@ -32,6 +32,8 @@ pub(crate) struct ArgRow {
 pub(crate) enum Takes {
     /// A word that has to be there.
     Word,
+    /// A word that has to be there, and may be repeated.
+    Words,
     /// A word that may be missing.
     OptionalWord,
     /// Nothing: the option itself.
@@ -50,6 +52,8 @@ pub(crate) enum Takes {
     OneOf(&'static [&'static str; 2]),
     /// A number of 64 bits.
     Number,
+    /// A number of 64 bits, and the option may be repeated.
+    Numbers,
     /// A number between two.
     Between(i64, i64),
     /// A number between two; without it this one.
@@ -71,6 +75,12 @@ pub(crate) fn command_of<'a>(alloc: Global, row: &CommandRow) -> Result<Command<
 fn arg_of<'a>(alloc: Global, row: &ArgRow) -> Result<Arg<'a>, AllocError> {
     match row.takes {
         Takes::Word => Ok(word(alloc, row).required(true)),
+        Takes::Words => Ok(
+            word(alloc, row)
+                .required(true)
+                .num_args(1..)
+                .action(ArgAction::Append),
+        ),
         Takes::OptionalWord => Ok(word(alloc, row)),
         Takes::Flag => Ok(
             Arg::new(alloc, row.id)
@@ -98,6 +108,9 @@ fn valued<'a>(alloc: Global, row: &ArgRow, takes: Takes) -> Arg<'a> {
             .value_parser(values.as_slice())
             .default_value(values[0]),
         Takes::Number => option(alloc, row).value_parser(value_parser!(u64)),
+        Takes::Numbers => option(alloc, row)
+            .action(ArgAction::Append)
+            .value_parser(value_parser!(u64)),
         Takes::Between(from, to) => between(alloc, row, from, to),
         Takes::BetweenOr(from, to, default) => between(alloc, row, from, to).default_value(default),
         _ => option(alloc, row),

@@ -1,8 +1,8 @@
 //! The commands that serve a tree, or make a description.
 
 use crate::arguments::{
-    BYTES, CACHE, CHOWN, DESCRIPTION, EXPORT, FILES, KEY, MOUNT, NAMES, SAVE, SAVED_KEY, STRICT,
-    TREE,
+    BYTES, BYTES_EACH, CACHE, CHOWN, CHOWN_EACH, DESCRIPTION, DIRECTORIES, EXPORT, FILES,
+    FILES_EACH, KEY, MOUNT, MOUNT_EACH, NAMES, SAVE, SAVED_KEY, STRICT, TREE, TREES,
 };
 use crate::rows::{ArgRow, CommandRow, Takes};
 
@@ -48,22 +48,17 @@ pub(crate) const SELF_CALL: CommandRow = CommandRow {
 /// `describe`.
 pub(crate) const DESCRIBE: CommandRow = CommandRow {
     name: "describe",
-    about: "Prints the description of a directory on disk, with its modes and owners",
+    about: "Prints the description of directories on disk, with their modes and owners",
     args: &DESCRIBE_ARGS,
 };
 
 const DESCRIBE_ARGS: [ArgRow; 9] = [
-    ArgRow {
-        id: "directory",
-        value: "DIRECTORY",
-        help: "The directory; symbolic links are not followed",
-        takes: Takes::Word,
-    },
-    MOUNT,
+    DIRECTORIES,
+    MOUNT_EACH,
     EXPORT,
-    BYTES,
-    FILES,
-    CHOWN,
+    BYTES_EACH,
+    FILES_EACH,
+    CHOWN_EACH,
     ArgRow {
         id: "times",
         value: "",
@@ -99,17 +94,17 @@ const EXTRACT_ARGS: [ArgRow; 7] = [
 /// `serve`.
 pub(crate) const SERVE: CommandRow = CommandRow {
     name: "serve",
-    about: "Serves a description, or a directory, over TCP to many clients at once",
+    about: "Serves a description, or directories, over TCP to many clients at once",
     args: &SERVE_ARGS,
 };
 
 const SERVE_ARGS: [ArgRow; 23] = [
-    TREE,
-    MOUNT,
+    TREES,
+    MOUNT_EACH,
     EXPORT,
-    BYTES,
-    FILES,
-    CHOWN,
+    BYTES_EACH,
+    FILES_EACH,
+    CHOWN_EACH,
     STRICT,
     ArgRow {
         id: "listen",

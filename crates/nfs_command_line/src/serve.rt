@@ -1,9 +1,10 @@
 //! The words of `serve`.
 ghost use Rattle.std.specs.Prelude.{◌≡◌, ◌≢◌, Some, codes, map, option_map};
 ghost use Rattle.nfs_command_line.specs.Given.{IsFlag, IsNumber, IsNumberOr, text_given, texts_given};
+ghost use Rattle.nfs_command_line.specs.Named.{AreNamed};
 ghost use Rattle.nfs_command_line.specs.declared.serve.AuditFailed.TheVariants.{Count, Refuse};
 
-use crate::sharing::TreeWords;
+use crate::trees::Trees;
 use crate::values::{cache, texts};
 use clap::ArgMatches;
 use std::str::FromStr;
@@ -30,11 +31,11 @@ impl<'a, 'w> Serve<'a, 'w> {
         Serve { words }
     }
 
-    /// What is served.
-    pub fn tree(&self) -> TreeWords<'a, 'w>
-        ensures { result.words ≡ self.now.words }
+    /// What is served: a description, or directories.
+    pub fn trees(&self) -> Trees<'a, 'w>
+        ensures { AreNamed self.now.words (codes "tree") result }
     {
-        TreeWords::new(self.words)
+        Trees::new(self.words, "tree")
     }
 
     /// The addresses to listen on.

@@ -3,6 +3,7 @@
 use crate::invocation::Replay;
 use crate::serve::Serve;
 use crate::sharing::{Owner, Sharing};
+use crate::trees::Trees;
 use thiserror::Error;
 
 /// What is wrong with words, and what to do.
@@ -14,6 +15,17 @@ pub(crate) enum UsageFault {
     /// An owner isn't two numbers.
     #[error("invalid value for '--chown <UID:GID>': it must be two numbers, such as 1000:1000")]
     Owner,
+    /// An option is given twice that may be given once for each directory.
+    #[error("the argument '--{id} <{value}>' cannot be used multiple times")]
+    Repeated {
+        /// Its name.
+        id: &'static str,
+        /// What its value is called.
+        value: &'static str,
+    },
+    /// An option stands before the first of several directories.
+    #[error("with several directories, put --mount, --export, --bytes, --files and --chown after the directory that they are for")]
+    Early,
     /// A service is never saved, since it doesn't end.
     #[error("--save FILE writes when the service ends: add --connections N, or --save-every SECONDS")]
     NeverSaved,
@@ -33,6 +45,12 @@ impl UsageFault {
 
     /// Of how a directory is shared.
     pub(crate) fn of_sharing(sharing: Sharing<'_, '_>) -> Option<UsageFault> {
+        if let Some(row) = sharing.repeated() {
+            return Some(UsageFault::Repeated {
+                id: row.id,
+                value: row.value,
+            });
+        }
         match sharing.chown() {
             Some(owner) if Owner::of_text(owner).is_none() => Some(UsageFault::Owner),
             _ => None,
@@ -42,6 +60,17 @@ impl UsageFault {
     /// Of how it is shared, and of a key, if any.
     pub(crate) fn of_keyed(sharing: Sharing<'_, '_>, key: Option<&str>) -> Option<UsageFault> {
         match UsageFault::of_sharing(sharing) {
+            Some(fault) => Some(fault),
+            None => UsageFault::of_key(key),
+        }
+    }
+
+    /// Of how each of some directories is shared, and of a key, if any.
+    pub(crate) fn of_all(mut trees: Trees<'_, '_>, key: Option<&str>) -> Option<UsageFault> {
+        if trees.has_early_option() {
+            return Some(UsageFault::Early);
+        }
+        match trees.find_map(|tree| UsageFault::of_sharing(tree.sharing())) {
             Some(fault) => Some(fault),
             None => UsageFault::of_key(key),
         }
@@ -61,7 +90,7 @@ impl UsageFault {
         if words.save().is_some() && !is_saved {
             return Some(UsageFault::NeverSaved);
         }
-        UsageFault::of_keyed(words.tree().sharing(), words.key())
+        UsageFault::of_all(words.trees(), words.key())
     }
 }
 

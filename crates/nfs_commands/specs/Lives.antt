@@ -1,5 +1,7 @@
--- The key of a life of a server of a directory.
+-- The key of a life of a server of directories.
 use Rattle.std.specs.Prelude.{ℕ, List, [], ◌∷◌, ◌++◌, Option, Some, None, codes, decimal, drop, string_bytes}
+use Rattle.std.specs.List.{flat_map}
+use Rattle.nfs_commands.specs.declared.shared.SharedDirectory.{SharedDirectory}
 use Rattle.nfs_disk.specs.declared.found.Found.{Found}
 use Rattle.nfs_disk.specs.declared.found.Kind.{Kind}
 use Rattle.nfs_disk.specs.declared.found.Kind.TheVariants.{Directory, Regular, Link}
@@ -34,10 +36,26 @@ numbered_lines (one ∷ others) (number ∷ numbers) = numbered_line one number 
 abbrev pub Takes : PathDigest → List (List ℕ) → PathDigest → Type 0
 Takes old lines new = (before : List (List ℕ)) → HasTaken old before → HasTaken new (before ++ lines)
 
--- The first lines of the description, and each path below the first directory, which has the number of the volume's root.
-abbrev pub life_lines : List ℕ → List Found → List (Option Number) → List (List ℕ)
-life_lines head found numbers = lines head ++ numbered_lines (drop 1 found) (drop 1 numbers)
+-- each path below a directory, which has the number of the volume's root
+abbrev pub paths_lines : SharedDirectory → List (List ℕ)
+paths_lines directory = numbered_lines (drop 1 directory.survey.found.items) (drop 1 directory.numbers.items)
+
+-- as the line of a volume begins
+abbrev pub mount_line : List ℕ → List ℕ
+mount_line mount = codes "volume " ++ mount
+
+-- The paths of each but the first stand after the path of its volume.
+abbrev pub further_lines : SharedDirectory → List (List ℕ)
+further_lines directory = mount_line (string_bytes directory.mount) ∷ paths_lines directory
+
+abbrev pub directory_lines : List SharedDirectory → List (List ℕ)
+directory_lines [] = []
+directory_lines (first ∷ others) = paths_lines first ++ flat_map further_lines others
+
+-- the first lines of the description, and those of the directories
+abbrev pub life_lines : List ℕ → List SharedDirectory → List (List ℕ)
+life_lines head directories = lines head ++ directory_lines directories
 
 -- by the server's key; so it is another one where a path got another number
-abbrev pub key_of : List ℕ → List ℕ → List Found → List (Option Number) → List ℕ
-key_of key head found numbers = life_key key (rows_of (life_lines head found numbers))
+abbrev pub key_of : List ℕ → List ℕ → List SharedDirectory → List ℕ
+key_of key head directories = life_key key (rows_of (life_lines head directories))

@@ -1,12 +1,12 @@
-//! `nfs3d describe`: a directory on disk, as a description.
+//! `nfs3d describe`: directories on disk, as a description.
 
 use crate::key::key_of;
-use crate::shared::SharedDirectory;
+use crate::shared::SharedDirectories;
 use crate::skipped::report_skipped;
 use nfs_command_line::invocation::Describe;
 use nfs_describe::description::describe;
 use nfs_describe::fault::DescribeFault;
-use nfs_disk::survey::{Purpose, Survey};
+use nfs_disk::survey::Purpose;
 use nfs_source::diagnostic::Diagnostic;
 use nfs_source::fault::Fault;
 use nfs_source::output::print;
@@ -16,25 +16,20 @@ use std::process::ExitCode;
 use std::random::RandomSource;
 use std::rt::Files;
 
-/// Prints the description of the directory that the words name. What is skipped of it is reported on
+/// Prints the description of the directories that the words name. What is skipped of them is reported on
 /// standard error. `CannotRead` where there is no such directory, or the system has no key, `Sharing` where
 /// a word is faulty, `Undescribed` where the description is too long, `Write` and `Closed` where the output
 /// fails, `Memory`.
-pub fn describe_directory<R: Files + Print + Eprint + RandomSource + AllocGlobal>(
+pub fn describe_directories<R: Files + Print + Eprint + RandomSource + AllocGlobal>(
     rt: &R,
     alloc: Global,
     words: Describe<'_, '_>,
 ) -> Result<ExitCode, Diagnostic> {
     let key = key_of(rt, alloc, words.key())?;
-    let shared = SharedDirectory::read(
-        rt,
-        alloc,
-        words.directory(),
-        words.sharing(),
-        Some(key),
-        purpose_of(words),
-    )?;
-    report_skipped(rt, &shared.survey);
+    let trees: Vec<_> = words.directories().collect(alloc)?;
+    let purpose = purpose_of(words);
+    let shared = SharedDirectories::read(rt, alloc, trees.as_slice(), Some(key), purpose)?;
+    report_skipped(rt, shared.directories.as_slice());
     let printed = print_shared(rt, alloc, words, &shared);
     forget(shared);
     Ok(printed?)
@@ -53,13 +48,13 @@ fn print_shared<R: Print>(
     rt: &R,
     alloc: Global,
     words: Describe<'_, '_>,
-    shared: &SharedDirectory,
+    shared: &SharedDirectories,
 ) -> Result<ExitCode, Fault> {
     let loaded = &shared.loaded;
     match describe(alloc, &loaded.tree, &loaded.table, loaded.tree.key()) {
         Ok(text) => {
             print(rt, text.as_slice())?;
-            Ok(status_of(words, &shared.survey))
+            Ok(status_of(words, shared))
         }
         Err(DescribeFault::Memory) => Err(Fault::Memory(AllocError)),
         Err(fault) => Err(Fault::Undescribed(fault)),
@@ -67,8 +62,8 @@ fn print_shared<R: Print>(
 }
 
 // 1 where something was skipped and nothing may be.
-fn status_of(words: Describe<'_, '_>, survey: &Survey) -> ExitCode {
-    if words.is_strict() && !survey.warnings.is_empty() {
+fn status_of(words: Describe<'_, '_>, shared: &SharedDirectories) -> ExitCode {
+    if words.is_strict() && shared.is_partial() {
         ExitCode::from(1)
     } else {
         ExitCode::SUCCESS

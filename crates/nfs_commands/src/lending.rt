@@ -43,7 +43,7 @@ fn server_for<R: Files + Input + Eprint + Clock + AllocGlobal>(
     words: Serve<'_, '_>,
     ip: IpAddr,
 ) -> Result<Server, Diagnostic> {
-    let life = begin_life(rt, alloc, words.tree(), words.is_strict())?;
+    let life = begin_life(rt, alloc, words.trees(), words.is_strict())?;
     warn_of_open_volumes(rt, ip, &life.loaded);
     Ok(begin(rt, alloc, life, words.cache())?)
 }

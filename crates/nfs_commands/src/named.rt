@@ -1,9 +1,10 @@
-//! The tree that a word names.
+//! The tree that words name.
 
 use crate::life::life_key;
-use crate::shared::SharedDirectory;
+use crate::shared::{SharedDirectories, name_among};
 use crate::skipped::report_skipped;
 use nfs_command_line::sharing::{Sharing, TreeWords};
+use nfs_command_line::trees::Trees;
 use nfs_disk::survey::Purpose;
 use nfs_load::loaded::Loaded;
 use nfs_source::description::{Description, Life, load_life};
@@ -26,7 +27,7 @@ pub struct NamedTree<'a> {
 
 impl<'a> NamedTree<'a> {
     /// The tree that the words name. What is skipped of a directory is reported on standard error. The
-    /// faults of `Description::read` and of `SharedDirectory::read`; `Sharing` where words for a directory
+    /// faults of `Description::read` and of `SharedDirectories::read`; `Sharing` where words for a directory
     /// stand beside a description.
     pub fn read<R: Files + Input + Eprint + AllocGlobal>(
         rt: &R,
@@ -40,14 +41,14 @@ impl<'a> NamedTree<'a> {
                 is_partial: false,
             });
         }
-        let shared = share(rt, alloc, words)?;
+        let shared = share(rt, alloc, &[words])?;
         Ok(NamedTree::of_shared(words.name(), shared))
     }
 
     // The tree of a directory of this name.
-    fn of_shared(name: &'a str, shared: SharedDirectory) -> NamedTree<'a> {
-        let is_partial = !shared.survey.warnings.is_empty();
-        let SharedDirectory { head, loaded, .. } = shared;
+    fn of_shared(name: &'a str, shared: SharedDirectories) -> NamedTree<'a> {
+        let is_partial = shared.is_partial();
+        let SharedDirectories { head, loaded, .. } = shared;
         let source = Source { name, text: head };
         NamedTree {
             description: Description { source, loaded },
@@ -67,54 +68,97 @@ impl<'a> NamedTree<'a> {
     }
 }
 
-/// The life of a server of the tree that the words name. Its key is that of the tree's key and of its
-/// paths; of a directory, of its paths with the number that each got. A directory has to be exported to
-/// somebody, and where that is strict nothing of it may be skipped. The faults of `NamedTree::read`, and
-/// `Sharing`.
+/// The life of a server of the tree that the words name: that of a description, or of directories, each a volume of
+/// it. Its key is that of the tree's key and of its paths; of directories, of their paths with the number that each
+/// got. Each directory has to be exported to somebody, and where that is strict nothing of them may be skipped. The
+/// faults of `NamedTree::read`, and `Sharing`.
 pub fn begin_life<R: Files + Input + Eprint + AllocGlobal>(
     rt: &R,
     alloc: Global,
-    words: TreeWords<'_, '_>,
+    words: Trees<'_, '_>,
     is_strict: bool,
 ) -> Result<Life, Diagnostic> {
-    if !is_directory(rt, words.name()) {
-        refuse_sharing(words.sharing())?;
-        return load_life(rt, alloc, words.name());
+    let trees: Vec<_> = words.collect(alloc)?;
+    match description_in(rt, trees.as_slice()) {
+        Some(alone) => {
+            refuse_sharing(alone.sharing())?;
+            load_life(rt, alloc, alone.name())
+        }
+        None => {
+            refuse_unshared(rt, alloc, trees.as_slice())?;
+            begin_shared_life(rt, alloc, trees.as_slice(), is_strict)
+        }
     }
-    if words.sharing().exports().is_empty() {
-        return Err(Fault::Sharing(SharingFault::NoExport).into());
-    }
-    begin_shared_life(rt, alloc, words, is_strict)
 }
 
-// The same of a directory.
+// The one that names a description, where it is alone.
+fn description_in<'a, 'w, R: Files>(
+    rt: &R,
+    trees: &[TreeWords<'a, 'w>],
+) -> Option<TreeWords<'a, 'w>> {
+    match trees.first() {
+        Some(first) if trees.len() == 1 && !is_directory(rt, first.name()) => Some(*first),
+        _ => None,
+    }
+}
+
+// Refuses what is no directory, and a directory that nobody may reach. It is named where it is one of several.
+fn refuse_unshared<R: Files>(
+    rt: &R,
+    alloc: Global,
+    trees: &[TreeWords<'_, '_>],
+) -> Result<(), Fault> {
+    for tree in trees {
+        if !is_directory(rt, tree.name()) {
+            let name = tree.name().to_string(alloc)?;
+            return Err(Fault::Sharing(SharingFault::NotAlone(name)));
+        }
+        if tree.sharing().exports().is_empty() {
+            return Err(no_export(alloc, name_among(trees, *tree)));
+        }
+    }
+    Ok(())
+}
+
+fn no_export(alloc: Global, name: Option<&str>) -> Fault {
+    match name.map(|name| name.to_string(alloc)) {
+        Some(Ok(name)) => Fault::Sharing(SharingFault::NoExportOf(name)),
+        Some(Err(error)) => Fault::Memory(error),
+        None => Fault::Sharing(SharingFault::NoExport),
+    }
+}
+
+// The life of a server of directories.
 fn begin_shared_life<R: Files + Eprint + AllocGlobal>(
     rt: &R,
     alloc: Global,
-    words: TreeWords<'_, '_>,
+    trees: &[TreeWords<'_, '_>],
     is_strict: bool,
 ) -> Result<Life, Diagnostic> {
-    let shared = share(rt, alloc, words)?;
+    let shared = share(rt, alloc, trees)?;
     match shared_key(alloc, &shared, is_strict) {
         Ok(key) => {
-            let SharedDirectory { loaded, .. } = shared;
+            let SharedDirectories { loaded, .. } = shared;
             Ok(Life { loaded, key })
         }
         Err(fault) => Err(fault.into()),
     }
 }
 
-// The key of a life of a directory, of which nothing may be skipped where that is strict.
-fn shared_key(alloc: Global, shared: &SharedDirectory, is_strict: bool) -> Result<[u8; 8], Fault> {
-    if is_strict && !shared.survey.warnings.is_empty() {
+// The key of a life of directories, of which nothing may be skipped where that is strict.
+fn shared_key(
+    alloc: Global,
+    shared: &SharedDirectories,
+    is_strict: bool,
+) -> Result<[u8; 8], Fault> {
+    if is_strict && shared.is_partial() {
         return Err(Fault::Sharing(SharingFault::Skipped));
     }
     Ok(life_key(
         alloc,
         shared.loaded.tree.key(),
         shared.head.as_slice(),
-        shared.survey.found.as_slice(),
-        shared.numbers.as_slice(),
+        shared.directories.as_slice(),
     )?)
 }
 
@@ -141,14 +185,13 @@ pub fn refuse_sharing(sharing: Sharing<'_, '_>) -> Result<(), Fault> {
     }
 }
 
-// The directory, and what is skipped of it is reported.
+// The directories, and what is skipped of them is reported.
 fn share<R: Files + Eprint + AllocGlobal>(
     rt: &R,
     alloc: Global,
-    words: TreeWords<'_, '_>,
-) -> Result<SharedDirectory, Diagnostic> {
-    let purpose = Purpose::Serving;
-    let shared = SharedDirectory::read(rt, alloc, words.name(), words.sharing(), None, purpose)?;
-    report_skipped(rt, &shared.survey);
+    trees: &[TreeWords<'_, '_>],
+) -> Result<SharedDirectories, Diagnostic> {
+    let shared = SharedDirectories::read(rt, alloc, trees, None, Purpose::Serving)?;
+    report_skipped(rt, shared.directories.as_slice());
     Ok(shared)
 }

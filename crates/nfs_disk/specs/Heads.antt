@@ -1,15 +1,16 @@
 -- The first lines of the description of what was found.
-use Rattle.std.specs.Prelude.{◌≡◌, ℕ, ◌*◌, Bool, ◌&&◌, List, [], ◌∷◌, ◌++◌, length, Option, Some, None, codes, nat_lt, if◌then◌else◌}
+use Rattle.std.specs.Prelude.{ℕ, ◌*◌, Bool, ◌&&◌, List, [], ◌∷◌, ◌++◌, length, Option, Some, None, codes, nat_lt, if◌then◌else◌}
 use Rattle.std.specs.List.{flat_map, list_all}
 use Rattle.nfs_describe.specs.Lines.{is_shown, limits_line, server_line, volume_line}
-use Rattle.nfs_inodes.specs.Limits.{max_files, max_volume_bytes}
+use Rattle.nfs_inodes.specs.Limits.{default_limits, max_files, max_volume_bytes}
 use Rattle.nfs_inodes.specs.declared.limits.Limits.{Limits}
 use Rattle.nfs_load.specs.declared.statement.Given.{Given}
 use Rattle.nfs_text.specs.Chunks.{cut}
-use Rattle.nfs_disk.specs.Needs.{Take, within}
+use Rattle.nfs_disk.specs.Needs.{larger, limits_for, within}
 use Rattle.nfs_disk.specs.Surveys.{extent_of}
 use Rattle.nfs_disk.specs.declared.found.Found.{Found}
 use Rattle.nfs_disk.specs.declared.head.Head.{Head}
+use Rattle.nfs_disk.specs.declared.head.Volume.{Volume}
 use Rattle.nfs_disk.specs.declared.survey.Extent.{Extent}
 
 -- one word of a line
@@ -45,14 +46,25 @@ abbrev pub root_given : List Found → Given
 root_given [] = record { mode = 493; uid = 0; gid = 0 }
 root_given (root ∷ others) = root.given
 
--- the key, the limits that are not the defaults, the volume, and to whom it is exported
-abbrev pub head_text : Head → List Found → Limits → List ℕ
-head_text head found limits = (server_line head.key ++ limits_line limits)
-    ++ volume_line (word_text head.mount.now) (room_for head (extent_of found)).bytes (room_for head (extent_of found)).files (root_given found)
-    ++ flat_map (λ word. export_line word.now) head.exports.now
+-- how much a volume takes
+abbrev pub room_of : Volume → Extent
+room_of volume = room_for volume.head (extent_of volume.survey.now.found.items)
 
--- with the limits of a tree that takes what was found
-pub record IsHead (head : Head) (found : List Found) (text : List ℕ) : Type 0 where
-  pub limits : Limits
-  pub take : Take found (room_for head (extent_of found)).files limits
-  pub text_is : text ≡ head_text head found limits
+-- the limits that a volume needs
+abbrev pub limits_in : Volume → Limits
+limits_in volume = limits_for volume.survey.now.found.items (room_of volume).files
+
+-- the largest of each limit that one of the volumes needs
+abbrev pub limits_of : List Volume → Limits
+limits_of [] = default_limits
+limits_of (volume ∷ others) = larger (limits_in volume) (limits_of others)
+
+-- a volume, and to whom it is exported
+abbrev pub volume_text : Volume → List ℕ
+volume_text volume =
+    volume_line (word_text volume.head.mount.now) (room_of volume).bytes (room_of volume).files (root_given volume.survey.now.found.items)
+    ++ flat_map (λ word. export_line word.now) volume.head.exports.now
+
+-- the key, the limits that are not the defaults, and the volumes
+abbrev pub head_text : List ℕ → List Volume → List ℕ
+head_text key volumes = (server_line key ++ limits_line (limits_of volumes)) ++ flat_map volume_text volumes

@@ -1,5 +1,5 @@
 -- The limits of a tree that takes what was found.
-use Rattle.std.specs.Prelude.{◌≡◌, ℕ, ◌+◌, ◌==◌, ◌&&◌, not, Bool, List, [], ◌∷◌, min, max, count_by, nat_lt, if◌then◌else◌}
+use Rattle.std.specs.Prelude.{ℕ, ◌+◌, ◌==◌, ◌&&◌, not, Bool, List, [], ◌∷◌, min, max, count_by, nat_lt, if◌then◌else◌}
 use Rattle.nfs_inodes.specs.Limits.{default_limits, max_file_bytes, max_files, max_links, max_path_bytes}
 use Rattle.nfs_inodes.specs.declared.limits.Limits.{Limits}
 use Rattle.nfs_disk.specs.Surveys.{is_of, number_of, size_of}
@@ -48,9 +48,20 @@ most_names least found = most_equal (linked least [] found)
 abbrev pub links_for : List Found → ℕ
 links_for found = max (most_subdirectories found + 2) (most_names default_limits.links found)
 
--- Each limit is its default where that is enough, else the least that what was found needs, up to its bound.
-pub record Take (found : List Found) (files : ℕ) (l : Limits) : Type 0 where
-  pub file_size : l.file_size ≡ within default_limits.file_size (largest Regular found) max_file_bytes
-  pub links : l.links ≡ within default_limits.links (links_for found) max_links
-  pub link_path : l.link_path ≡ within default_limits.link_path (largest Link found) max_path_bytes
-  pub files_are : l.files ≡ within default_limits.files files max_files
+-- Each limit is its default where that is enough for a volume of so many files, else the least that what was found needs, up to its bound.
+abbrev pub limits_for : List Found → ℕ → Limits
+limits_for found files = record {
+  file_size = within default_limits.file_size (largest Regular found) max_file_bytes;
+  links = within default_limits.links (links_for found) max_links;
+  link_path = within default_limits.link_path (largest Link found) max_path_bytes;
+  files = within default_limits.files files max_files;
+}
+
+-- the larger of each limit
+abbrev pub larger : Limits → Limits → Limits
+larger one other = record {
+  file_size = max one.file_size other.file_size;
+  links = max one.links other.links;
+  link_path = max one.link_path other.link_path;
+  files = max one.files other.files;
+}

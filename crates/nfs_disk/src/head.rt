@@ -1,15 +1,15 @@
-//! The first lines of a description: its key, the limits that are not the defaults, its volume, and to
-//! whom that is exported.
+//! The first lines of a description: its key, the limits that are not the defaults, its volumes, and to
+//! whom each is exported.
 ghost use Rattle.std.specs.Prelude.{◌≡◌, ◌++◌, ◌-◌, ◌<◌, ◌^◌, IfOk, OnOk};
 ghost use Rattle.std.specs.List.{flat_map};
 ghost use Rattle.nfs_disk.specs.Heads as spec;
-ghost use Rattle.nfs_disk.specs.Heads.{IsHead, export_line, root_given, word_text};
+ghost use Rattle.nfs_disk.specs.Heads.{export_line, head_text, root_given, volume_text, word_text};
 
 use crate::found::Found;
-use crate::needs::limits_for;
+use crate::needs::{larger, limits_for};
 use crate::survey::{Extent, Survey};
 use nfs_describe::lines::{put_head, put_volume_line};
-use nfs_inodes::limits::{MAX_FILES, MAX_VOLUME_BYTES};
+use nfs_inodes::limits::{Limits, MAX_FILES, MAX_VOLUME_BYTES};
 use nfs_load::name_form::NameForm;
 use nfs_load::statement::Given;
 use nfs_text::chunks::cut;
@@ -23,8 +23,6 @@ const LEAST_FILES: u64 = 100_000;
 /// What is said of a volume beside its files, in words that are not looked at.
 #[derive(Clone, Copy)]
 pub struct Head<'a> {
-    /// The server's key.
-    pub key: [u8; 8],
     /// The path of the volume.
     pub mount: &'a str,
     /// The most bytes, if not twice those that were found.
@@ -46,20 +44,67 @@ pub fn room_for(head: &Head<'_>, found: Extent) -> Extent
     }
 }
 
-/// The first lines of the description of what was found. A word with a byte outside `!` to `~`
-/// stands as `%`, which no field of theirs takes.
-pub fn head_of(alloc: Global, head: &Head<'_>, survey: &Survey) -> Result<Vec<u8>, AllocError>
-    ensures { IfOk result (λ text. IsHead head.now survey.now.found.items text.items) }
+/// A directory on disk as a volume.
+#[derive(Clone, Copy)]
+pub struct Volume<'a> {
+    /// What is said of it.
+    pub head: Head<'a>,
+    /// What was found in it.
+    pub survey: &'a Survey,
+}
+
+/// The first lines of a description of some volumes, under the server's key: each limit is the largest that one of
+/// them needs, and each volume is followed by its exports. A word with a byte outside `!` to `~` stands as `%`, which
+/// no field of theirs takes.
+pub fn head_of(alloc: Global, key: [u8; 8], volumes: &[Volume<'_>]) -> Result<Vec<u8>, AllocError>
+    ensures { IfOk result (λ text. text.items ≡ head_text key volumes.now) }
 {
-    let room = room_for(head, survey.extent(alloc)?);
-    let found = survey.found.as_slice();
-    let limits = limits_for(alloc, found, room.files)?;
+    let limits = limits_of(alloc, volumes)?;
     let mut text = Vec::new(alloc);
-    put_head(alloc, &mut text, head.key, limits, NameForm::Plain)?;
-    let mount = word_of(head.mount.as_bytes());
-    put_volume_line(&mut text, mount, room.bytes, room.files, root_of(found))?;
-    put_exports(&mut text, head.exports)?;
+    put_head(alloc, &mut text, key, limits, NameForm::Plain)?;
+    put_volumes(alloc, &mut text, volumes)?;
     Ok(text)
+}
+
+// The largest of each limit that one of some volumes needs.
+fn limits_of(alloc: Global, volumes: &[Volume<'_>]) -> Result<Limits, AllocError>
+    ensures { IfOk result (λ limits. limits ≡ spec.limits_of volumes.now) }
+{
+    let mut limits = Limits::standard();
+    for volume in volumes {
+        limits = larger(limits, limits_in(alloc, volume)?);
+    }
+    Ok(limits)
+}
+
+// The limits that a volume needs.
+fn limits_in(alloc: Global, volume: &Volume<'_>) -> Result<Limits, AllocError>
+    ensures { IfOk result (λ limits. limits ≡ spec.limits_in volume.now) }
+{
+    let room = room_for(&volume.head, volume.survey.extent(alloc)?);
+    limits_for(alloc, volume.survey.found.as_slice(), room.files)
+}
+
+// The lines of some volumes.
+fn put_volumes(alloc: Global, text: &mut Vec<u8>, volumes: &[Volume<'_>]) -> Result<(), AllocError>
+    ensures { OnOk result (text.new.items ≡ text.old.items ++ flat_map volume_text volumes.now) }
+{
+    for volume in volumes {
+        put_volume(alloc, text, volume)?;
+    }
+    Ok(())
+}
+
+// The line of a volume, and those of its exports.
+fn put_volume(alloc: Global, text: &mut Vec<u8>, volume: &Volume<'_>) -> Result<(), AllocError>
+    ensures { OnOk result (text.new.items ≡ text.old.items ++ volume_text volume.now) }
+{
+    let Volume { head, survey } = volume;
+    let room = room_for(head, survey.extent(alloc)?);
+    let mount = word_of(head.mount.as_bytes());
+    let root = root_of(survey.found.as_slice());
+    put_volume_line(text, mount, room.bytes, room.files, root)?;
+    put_exports(text, head.exports)
 }
 
 // The number that is given, or twice the one that was found.

@@ -1,7 +1,7 @@
 //! The limits of a tree that takes what was found.
 ghost use Rattle.std.specs.Prelude.{◌≡◌, ◌-◌, ◌^◌, ℕ, List, [], min, IfOk};
 ghost use Rattle.nfs_disk.specs.Needs as spec;
-ghost use Rattle.nfs_disk.specs.Needs.{Take, most_equal, parents};
+ghost use Rattle.nfs_disk.specs.Needs.{most_equal, parents};
 ghost use Rattle.nfs_inodes.specs.Limits.{AreLimits};
 
 use crate::found::{Found, Kind, number_of, size_of};
@@ -17,7 +17,7 @@ pub const MAX_SIZE: usize = MAX_DESCRIPTION_BYTES / 2;
 /// many files: each is its default unless it has to be higher.
 pub fn limits_for(alloc: Global, found: &[Found], files: u64) -> Result<Limits, AllocError>
     ensures limits { IfOk result (λ limits. AreLimits limits) }
-    ensures take { IfOk result (Take found.now files) }
+    ensures needs { IfOk result (λ limits. limits ≡ spec.limits_for found.now files) }
 {
     let default = Limits::standard();
     let subdirectories = most_subdirectories(alloc, found)?;
@@ -31,6 +31,18 @@ pub fn limits_for(alloc: Global, found: &[Found], files: u64) -> Result<Limits, 
         link_path: within(default.link_path as u64, link_path, MAX_PATH_BYTES as u64) as usize,
         files: within(default.files, files, MAX_FILES),
     })
+}
+
+/// The larger of each limit.
+pub(crate) fn larger(one: Limits, other: Limits) -> Limits
+    ensures { result ≡ spec.larger one other }
+{
+    Limits {
+        file_size: one.file_size.max(other.file_size),
+        links: one.links.max(other.links),
+        link_path: one.link_path.max(other.link_path),
+        files: one.files.max(other.files),
+    }
 }
 
 // A number, or its bound where it is beyond.
