@@ -44,12 +44,12 @@ awk '$1 == "hard" { twice[$3] } { line[NR] = $0 } END { for (i = 1; i <= NR; i++
     "$work/disk.tree" | sed 's/^\(file [^ ]* \)0*/\1/' | sort | same "$work/wanted" -
 ok $? "the description has the bytes that od prints"
 
-# Devices and large files are skipped. Names and links that lines can't hold as they are stand with %xx.
+# Devices are skipped. Names and links that lines can't hold as they are stand with %xx.
 mkdir "$work/odd" && mkfifo "$work/odd/pi pe" && : >"$work/odd/with space" && : >"$work/odd/per%cent" && ln -s "to nowhere" "$work/odd/link" &&
-    truncate -s 536870913 "$work/odd/large" && echo fine >"$work/odd/fine"
+    echo fine >"$work/odd/fine"
 run describe "$work/odd" --mount /odd --key 0102030405060708
-ended 0 && [ "$(grep -c '^nfs3d: skipped: ' "$work/err")" -eq 2 ]
-ok $? "describe skips what is no file and what is too large, with a warning"
+ended 0 && [ "$(grep -c '^nfs3d: skipped: ' "$work/err")" -eq 1 ]
+ok $? "describe skips what is no file, with a warning"
 id="$(id -u) $(id -g)"
 sed 's/ [0-9]* [0-9]* 0[0-7]* [0-9]* [0-9]*$//' "$work/out" | head -n 3 >"$work/got"
 sed '1,3d; s/ 0[0-7][0-7][0-7] / /' "$work/out" >>"$work/got"
@@ -64,12 +64,10 @@ file /with%20space $id -
 END
 same "$work/wanted" "$work/got"
 ok $? "names and links are written with %xx where one of them needs it"
-grep -qx "nfs3d: skipped: $work/odd/large: more than 536870912 bytes" "$work/err"
-ok $? "the warning of a file that is too large"
 grep -qx "nfs3d: skipped: $work/odd/pi%20pe: a device, a socket or a pipe" "$work/err"
 ok $? "names in warnings have %xx for bytes outside ! to ~"
 grep '^nfs3d: skipped in all: ' "$work/err" | sort >"$work/counts"
-printf '%s\n' "nfs3d: skipped in all: 1: a device, a socket or a pipe" "nfs3d: skipped in all: 1: more than 536870912 bytes" | same "$work/counts" -
+echo "nfs3d: skipped in all: 1: a device, a socket or a pipe" | same "$work/counts" -
 ok $? "what was skipped is counted for each reason"
 run describe "$work/odd" --mount /odd --strict
 ended 1 && [ -s "$work/out" ]
@@ -80,6 +78,12 @@ ok $? "describe --chown gives all files one owner and group"
 run describe "$work/odd" --mount /odd --chown 5
 ended 2 && grep -q "^error: invalid value for '--chown <UID:GID>'" "$work/err"
 ok $? "describe --chown with one number"
+
+# 36 files of 16 MiB make a text of more than 1 GiB, which is never in memory as a whole.
+mkdir "$work/big" && (cd "$work/big" && for n in $(seq 36); do truncate -s 16777216 "$n"; done)
+"$program" describe "$work/big" --mount /big | run check -
+says "ok volumes=1 files=37 bytes=603979776"
+ok $? "a directory whose description has more than 1 GiB is described, and its description is loaded"
 
 # Limits above the defaults, where the directory needs them.
 mkdir "$work/wide" && (cd "$work/wide" && seq 1005 | xargs mkdir) && truncate -s 17825792 "$work/wide/large"

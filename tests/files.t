@@ -47,9 +47,12 @@ refuses "cannot read $work/none: No such file or directory (os error 2)" "check 
 run replay examples/e.tree "$work/none"
 refuses "cannot read $work/none: No such file or directory (os error 2)" "replay of a script that isn't there"
 run check /dev/zero
-refuses "/dev/zero is longer than 1 GiB" "check of a description without an end"
+refuses "/dev/zero: line 1 has more than 65536 bytes, and is no line of a description" "check of a description without an end"
+{ printf 'server 0102030405060708\nvolume /v 10 10 0755 0 0\nfile /f 0644 0 0 '; yes 00 | tr -d '\n'; } 2>/dev/null | run check -
+refuses "-: line 3 has more than 33619968 bytes, and is no line of a description" "check of a file's line without an end"
 { echo "dir /d 0755 0 0"; cat /dev/zero; } 2>/dev/null | run check -
-refuses "- is longer than 1 GiB" "check of a description without an end that has a faulty line"
+says "line 1: NoServer"
+ok $? "check of a description without an end that has a faulty line"
 run replay examples/e.tree /dev/zero
 refuses "/dev/zero is longer than 1 GiB" "replay of a script without an end"
 

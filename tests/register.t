@@ -9,13 +9,14 @@ compiles exchange clients/exchange.c
 
 # asked_of ANSWER..: starts the portmapper, which gives these answers.
 asked_of() {
+    rm -f "$work/calls"
     "$work/portmap" "$@" >"$work/calls" 2>"$work/portmap.err" &
     portmapper=$!
     wait_until 10 begun
 }
-begun() { grep -qx ready "$work/calls" || ! kill -0 "$portmapper" 2>/dev/null; }
+begun() { grep -qsx ready "$work/calls" || ! kill -0 "$portmapper" 2>/dev/null; }
 
-if ! asked_of || ! grep -qx ready "$work/calls"; then
+if ! asked_of || ! grep -qsx ready "$work/calls"; then
     skip "what a portmapper is told" "port 111 can't be had here: $(cat "$work/portmap.err")"
     plan
     exit

@@ -1,3 +1,4 @@
+pub mod Digests
 pub mod Lives
-pub mod Texts
+pub mod Saved
 pub mod Totalling

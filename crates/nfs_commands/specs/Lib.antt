@@ -1,4 +1,5 @@
 pub mod Lives
+pub mod Digests
 pub mod Saving
 pub mod Sharing
 pub mod Totals

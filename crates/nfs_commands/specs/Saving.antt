@@ -1,11 +1,11 @@
 -- What is saved of a server, and in the place of what.
-use Rattle.std.specs.Prelude.{◌≡◌, ◌⊎◌, ℕ, List, [], ◌∷◌, Option, Some, None, ⊤, ◌==◌, if◌then◌else◌}
+use Rattle.std.specs.Prelude.{◌≡◌, ◌⊎◌, ℕ, List, Option, Some, None, ⊤}
+use Rattle.nfs_commands.specs.Digests.{digest_of}
 use Rattle.nfs_commands.specs.declared.saving.Saved.{Saved}
 use Rattle.nfs_commands.specs.declared.saving.Saved.TheVariants.{Written, Unchanged}
 use Rattle.nfs_describe.specs.Texts.{Says}
 use Rattle.nfs_inodes.specs.Changes.{with_key}
 use Rattle.nfs_server.specs.Fits.{Held}
-use Rattle.sha2.specs.Sha256.{sha256}
 
 -- ---- the text
 
@@ -19,14 +19,6 @@ pub record IsDescription (given : Option (List ℕ)) (server : Held) (text : Lis
   pub key : List ℕ
   pub key_is : IsKey given key
   pub says : Says (with_key server.state.tree key) server.setup.exports text
-
--- what stands after the first line, which has the key, from its LF on
-abbrev pub after_key : List ℕ → List ℕ
-after_key [] = []
-after_key (byte ∷ rest) = if byte == 10 then byte ∷ rest else after_key rest
-
-abbrev pub digest_of : List ℕ → List ℕ
-digest_of text = sha256 (after_key text)
 
 -- ---- the file
 

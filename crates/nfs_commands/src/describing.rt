@@ -7,19 +7,23 @@ use nfs_command_line::invocation::Describe;
 use nfs_describe::description::describe;
 use nfs_describe::fault::DescribeFault;
 use nfs_disk::survey::Purpose;
+use nfs_load::loaded::Loaded;
 use nfs_source::diagnostic::Diagnostic;
 use nfs_source::fault::Fault;
-use nfs_source::output::print;
+use nfs_source::output::fault_of;
 use std::alloc::{AllocError, Global};
+use std::io::{self, BufWriter, Write};
 use std::mem::forget;
 use std::process::ExitCode;
 use std::random::RandomSource;
 use std::rt::Files;
 
+// How much is written at once.
+const BUFFER_BYTES: usize = 65_536;
+
 /// Prints the description of the directories that the words name. What is skipped of them is reported on
 /// standard error. `CannotRead` where there is no such directory, or the system has no key, `Sharing` where
-/// a word is faulty, `Undescribed` where the description is too long, `Write` and `Closed` where the output
-/// fails, `Memory`.
+/// a word is faulty, `Write` and `Closed` where the output fails, `Memory`.
 pub fn describe_directories<R: Files + Print + Eprint + RandomSource + AllocGlobal>(
     rt: &R,
     alloc: Global,
@@ -37,7 +41,7 @@ pub fn describe_directories<R: Files + Print + Eprint + RandomSource + AllocGlob
 
 fn purpose_of(words: Describe<'_, '_>) -> Purpose {
     if words.has_times() {
-        Purpose::DescribingTimes
+        Purpose::Serving
     } else {
         Purpose::Describing
     }
@@ -50,14 +54,32 @@ fn print_shared<R: Print>(
     words: Describe<'_, '_>,
     shared: &SharedDirectories,
 ) -> Result<ExitCode, Fault> {
-    let loaded = &shared.loaded;
-    match describe(alloc, &loaded.tree, &loaded.table, loaded.tree.key()) {
-        Ok(text) => {
-            print(rt, text.as_slice())?;
-            Ok(status_of(words, shared))
-        }
+    match write_description(alloc, io::writer(rt), &shared.loaded) {
+        Ok(()) => Ok(status_of(words, shared)),
+        Err(DescribeFault::Write(error)) => Err(fault_of(error)),
         Err(DescribeFault::Memory) => Err(Fault::Memory(AllocError)),
-        Err(fault) => Err(Fault::Undescribed(fault)),
+    }
+}
+
+// Writes the description of what was loaded.
+fn write_description<W: Write + Drop>(
+    alloc: Global,
+    writer: W,
+    loaded: &Loaded,
+) -> Result<(), DescribeFault> {
+    let Ok(mut out) = BufWriter::with_capacity(alloc, BUFFER_BYTES, writer) else {
+        return Err(DescribeFault::Memory);
+    };
+    describe(
+        alloc,
+        &mut out,
+        &loaded.tree,
+        &loaded.table,
+        loaded.tree.key(),
+    )?;
+    match out.flush() {
+        Ok(()) => Ok(()),
+        Err(error) => Err(DescribeFault::Write(error)),
     }
 }
 

@@ -6,6 +6,7 @@ mod beginning;
 pub mod check;
 pub mod copies;
 pub mod describing;
+pub mod digested;
 pub mod exports;
 mod exposure;
 pub mod extracting;

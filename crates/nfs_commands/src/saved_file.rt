@@ -1,31 +1,35 @@
 //! Files that are replaced as a whole.
-ghost use Rattle.std.specs.Prelude.{◌≡◌, ℕ, List, Option, Some, None, OnOk, OnErr};
-ghost use Rattle.std.specs.Io.KnownBytes.{Appends};
+ghost use Rattle.std.specs.Prelude.{◌≡◌, ℕ, List, [], Option, None, ⊤, IfOk, OnOk, OnErr};
 ghost use Rattle.nfs_commands.specs.Saving.{MayReplace, Replaces};
 
+use nfs_describe::fault::DescribeFault;
+use nfs_describe::output::Output;
 use nfs_source::fault::Fault;
 use std::alloc::{AllocError, Global};
 use std::fs::{self, OpenFile};
-use std::io::{self, ErrorKind, Write};
+use std::io::{self, BufWriter, ErrorKind, Write};
 use std::rt::Files;
+
+// How much is written at once.
+const BUFFER_BYTES: usize = 65_536;
 
 /// A file that is replaced as a whole: another one is written beside it, which then takes its name.
 pub trait SavedFile {
+    /// The file beside it.
+    type Part: Output + Drop;
+
     /// The text that has the name, where it is known.
     ghost named: { Self → Option (List ℕ) };
 
-    /// The text that stands beside it.
-    ghost beside: { Self → Option (List ℕ) };
-
-    /// Writes a text beside the one that has the name, and on disk.
-    fn write(&mut self, text: &[u8]) -> io::Result<()>
+    /// Makes an empty file beside the one that has the name.
+    fn begin(&mut self) -> io::Result<Self::Part>
         ensures kept { named self.new ≡ named self.old }
-        ensures written { OnOk result ((before : List ℕ) → named self.old ≡ Some before → beside self.new ≡ Some text.now) };
+        ensures empty { IfOk result (λ part. Self.Part.has part []) };
 
-    /// Gives the text beside it the name, on disk too.
-    fn rename(&mut self) -> io::Result<()>
-        ensures renamed { OnOk result ((text : List ℕ) → beside self.old ≡ Some text → Replaces (named self.old) text (named self.new)) }
-        ensures refused { OnErr result ((text : List ℕ) → beside self.old ≡ Some text → MayReplace (named self.old) text (named self.new)) };
+    /// Gives what was written beside it the name, once it is on disk.
+    fn replace(&mut self, part: Self::Part) -> io::Result<()>
+        ensures replaced { OnOk result ((text : List ℕ) → Self.Part.has part text → Replaces (named self.old) text (named self.new)) }
+        ensures refused { OnErr result ((text : List ℕ) → Self.Part.has part text → MayReplace (named self.old) text (named self.new)) };
 
     /// Takes away what stands beside it.
     fn remove(&mut self)
@@ -33,31 +37,6 @@ pub trait SavedFile {
 
     /// That it can't be written, and what the system says.
     fn fault(&self, error: io::Error) -> Fault;
-}
-
-/// The text has the name then. Where a step is refused nothing is left beside it, and the text before
-/// has the name; only where its directory can't be synced it may be the new one.
-pub fn replace<F: SavedFile>(file: &mut F, text: &[u8]) -> Result<(), Fault>
-    ensures replaced { OnOk result (Replaces (F.named file.old) text.now (F.named file.new)) }
-    ensures refused { OnErr result (MayReplace (F.named file.old) text.now (F.named file.new)) }
-{
-    match write_and_rename(file, text) {
-        Ok(()) => Ok(()),
-        Err(error) => {
-            file.remove();
-            Err(file.fault(error))
-        }
-    }
-}
-
-fn write_and_rename<F: SavedFile>(file: &mut F, text: &[u8]) -> io::Result<()>
-    ensures replaced { OnOk result (Replaces (F.named file.old) text.now (F.named file.new)) }
-    ensures refused { OnErr result (MayReplace (F.named file.old) text.now (F.named file.new)) }
-{
-    if let Err(error) = file.write(text) {
-        return Err(error);
-    }
-    file.rename()
 }
 
 /// A file of the system.
@@ -83,16 +62,22 @@ impl<'a, R> DiskFile<'a, R> {
 }
 
 impl<R: Files> SavedFile for DiskFile<'_, R> {
+    type Part = DiskPart<R::File>;
+
     ghost named = { λ _. None };
 
-    ghost beside = { λ _. None };
-
-    fn write(&mut self, text: &[u8]) -> io::Result<()> {
-        write_synced(&mut fs::create(self.rt, self.part.as_str())?, text)
+    fn begin(&mut self) -> io::Result<DiskPart<R::File>> {
+        let file = fs::create(self.rt, self.part.as_str())?;
+        Ok(DiskPart {
+            out: BufWriter::with_capacity(self.alloc, BUFFER_BYTES, file)?,
+        })
     }
 
     // The directory is opened before, so that the file isn't replaced where that is refused.
-    fn rename(&mut self) -> io::Result<()> {
+    fn replace(&mut self, part: DiskPart<R::File>) -> io::Result<()> {
+        let DiskPart { mut out } = part;
+        out.flush()?;
+        out.get_ref().sync_all()?;
         let directory = fs::open(self.rt, directory_of(self.name))?;
         fs::rename(self.rt, self.part.as_str(), self.name)?;
         directory.sync_all()
@@ -107,12 +92,18 @@ impl<R: Files> SavedFile for DiskFile<'_, R> {
     }
 }
 
-// Writes all of a text, and on disk.
-fn write_synced<W: Write + OpenFile>(file: &mut W, text: &[u8]) -> io::Result<()>
-    ensures { OnOk result (Appends (W.contents file.old) (W.contents file.new) text.now) }
-{
-    file.write_all(text)?;
-    file.sync_all()
+/// A file of the system that is written, 64 KiB at once.
+#[derive(Drop)]
+pub struct DiskPart<W: Write + Drop> {
+    out: BufWriter<W>,
+}
+
+impl<W: Write + Drop> Output for DiskPart<W> {
+    ghost has = { λ _ _. ⊤ };
+
+    fn put(&mut self, part: &[u8]) -> Result<(), DescribeFault> {
+        self.out.put(part)
+    }
 }
 
 /// Makes the file beside the one of this name, and takes it away again. `CannotWrite` where the system

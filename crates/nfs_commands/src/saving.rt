@@ -1,17 +1,20 @@
 //! The tree that a server has, kept as a description.
-ghost use Rattle.std.specs.Prelude.{◌≡◌, ◌⊎◌, ℕ, List, IfOk, OnOk, OnErr};
-ghost use Rattle.nfs_commands.specs.Saving as spec;
-ghost use Rattle.nfs_commands.specs.Saving.{IsDescription, IsDigest, IsDone, IsRefused, IsSaved};
+ghost use Rattle.std.specs.Prelude.{◌≡◌, ℕ, List, [], IfOk, OnOk, OnErr};
+ghost use Rattle.nfs_commands.specs.Saving.{IsDigest, IsDone, IsRefused, IsSaved, MayReplace, Replaces};
+ghost use Rattle.nfs_describe.specs.Outputs.{Takes};
+ghost use Rattle.nfs_describe.specs.Texts.{Says};
+ghost use Rattle.nfs_inodes.specs.Changes.{with_key};
 
+use crate::digested::Digested;
 use crate::key::{KEY_BYTES, given_or_new};
-use crate::saved_file::{DiskFile, SavedFile, replace};
-use memchr::memchr;
+use crate::saved_file::{DiskFile, SavedFile};
 use nfs_describe::description::describe;
 use nfs_describe::fault::DescribeFault;
+use nfs_describe::output::Output;
 use nfs_server::server::Server;
 use nfs_source::fault::Fault;
-use sha2::{Digest, Sha256};
 use std::alloc::{AllocError, Global};
+use std::io;
 use std::random::RandomSource;
 use std::rt::Files;
 
@@ -27,8 +30,7 @@ pub enum Saved {
 /// Writes the description of a server's tree and exports under a key, or under a new one: to a file
 /// beside the one of this name, which it then replaces.
 ///
-/// `CannotWrite` where the system refuses a step, `Undescribed` where the description is too long,
-/// `CannotRead` where the system has no new key, `Memory`. The file of that name is then as it was, with
+/// `CannotWrite` where the system refuses a step, `CannotRead` where the system has no new key, `Memory`. The file of that name is then as it was, with
 /// nothing beside it; only where its directory can't be synced it is the new one.
 pub fn save<R: Files + RandomSource>(
     rt: &R,
@@ -52,8 +54,10 @@ pub fn save_to<R: RandomSource, F: SavedFile>(
     ensures saved { OnOk result ((text : List ℕ) × IsSaved key server.now text (F.named file.old) (F.named file.new)) }
     ensures refused { OnErr result (IsRefused key server.now (F.named file.old) (F.named file.new)) }
 {
-    let text = describe_server(rt, alloc, server, key)?;
-    replace(file, text.as_slice())
+    let key = given_or_new(rt, alloc, key)?;
+    let mut part = begin(file)?;
+    describe_server(alloc, file, &mut part, server, key)?;
+    replace(file, part)
 }
 
 /// The same as `save`, unless the tree is described as it was when this digest was taken, whatever the key is;
@@ -87,39 +91,67 @@ pub fn save_changed_to<R: RandomSource, F: SavedFile>(
     ensures refused { OnErr result ((saved.new ≡ saved.old)
         × IsRefused key server.now (F.named file.old) (F.named file.new)) }
 {
-    let text = describe_server(rt, alloc, server, key)?;
-    let digest = Sha256::digest(after_key(text.as_slice()));
+    let key = given_or_new(rt, alloc, key)?;
+    let mut out = Digested::new(begin(file)?);
+    describe_server(alloc, file, &mut out, server, key)?;
+    let (part, digest) = out.finish();
     if *saved == Some(digest) {
+        file.remove();
         return Ok(Saved::Unchanged);
     }
-    replace(file, text.as_slice())?;
+    replace(file, part)?;
     *saved = Some(digest);
     Ok(Saved::Written)
 }
 
-// What stands after the first line of a description, which has the key, from its LF on.
-fn after_key(text: &[u8]) -> &[u8]
-    ensures { result.now ≡ spec.after_key text.now }
+// A file beside the one that is replaced.
+fn begin<F: SavedFile>(file: &mut F) -> Result<F::Part, Fault>
+    ensures kept { F.named file.new ≡ F.named file.old }
+    ensures empty { IfOk result (λ part. F.Part.has part []) }
 {
-    match memchr(b'\n', text) {
-        Some(end) => &text[end..],
-        None => &[],
+    match file.begin() {
+        Ok(part) => Ok(part),
+        Err(error) => Err(give_up(file, error)),
     }
 }
 
-// The description of a server's tree and exports under a key, or under a new one.
-fn describe_server<R: RandomSource>(
-    rt: &R,
+// Writes the description of a server's tree and exports under a key beside the file.
+fn describe_server<F: SavedFile, O: Output>(
     alloc: Global,
+    file: &mut F,
+    out: &mut O,
     server: &Server,
-    key: Option<[u8; KEY_BYTES]>,
-) -> Result<Vec<u8>, Fault>
-    ensures { IfOk result (λ text. IsDescription key server.now text.items) }
+    key: [u8; KEY_BYTES],
+) -> Result<(), Fault>
+    ensures kept { F.named file.new ≡ F.named file.old }
+    ensures written { OnOk result ((text : List ℕ) × Says (with_key server.now.state.tree key) server.now.setup.exports text × Takes O.has out.old text out.new) }
 {
-    let key = given_or_new(rt, alloc, key)?;
-    match describe(alloc, server.tree(), server.exports(), key) {
-        Ok(text) => Ok(text),
-        Err(DescribeFault::Memory) => Err(Fault::Memory(AllocError)),
-        Err(fault) => Err(Fault::Undescribed(fault)),
+    match describe(alloc, out, server.tree(), server.exports(), key) {
+        Ok(()) => Ok(()),
+        Err(DescribeFault::Write(error)) => Err(give_up(file, error)),
+        Err(DescribeFault::Memory) => {
+            file.remove();
+            Err(Fault::Memory(AllocError))
+        }
     }
+}
+
+// The text beside the file has its name then. Where that is refused nothing is left beside it, and the text
+// before has the name; only where its directory can't be synced it may be the new one.
+fn replace<F: SavedFile>(file: &mut F, part: F::Part) -> Result<(), Fault>
+    ensures replaced { OnOk result ((text : List ℕ) → F.Part.has part text → Replaces (F.named file.old) text (F.named file.new)) }
+    ensures refused { OnErr result ((text : List ℕ) → F.Part.has part text → MayReplace (F.named file.old) text (F.named file.new)) }
+{
+    match file.replace(part) {
+        Ok(()) => Ok(()),
+        Err(error) => Err(give_up(file, error)),
+    }
+}
+
+// Takes away what stands beside the file. That it can't be written.
+fn give_up<F: SavedFile>(file: &mut F, error: io::Error) -> Fault
+    ensures { F.named file.new ≡ F.named file.old }
+{
+    file.remove();
+    file.fault(error)
 }

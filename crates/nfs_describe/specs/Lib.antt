@@ -1,4 +1,4 @@
+pub mod Outputs
 pub mod Places
 pub mod Lines
 pub mod Texts
-pub mod Faults

@@ -19,6 +19,10 @@ use Rattle.nfs_describe.specs.Lines.{server_line, limits_line, names_line, volum
 use Rattle.nfs_describe.specs.Lines.{path_text, target_text}
 use Rattle.nfs_describe.specs.Places.{FilePath, HasOther, IsWalk, can_hold}
 
+-- more bytes than any machine has room for: 2 ^ 62
+abbrev pub most_text_bytes : ℕ
+most_text_bytes = 4611686018427387904
+
 abbrev pub given_of : Fattr → Given
 given_of a = record { mode = a.mode; uid = a.uid; gid = a.gid }
 

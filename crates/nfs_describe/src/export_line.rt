@@ -1,20 +1,32 @@
 //! The line of an export.
-ghost use Rattle.std.specs.Prelude.{◌≡◌, ◌+◌, ◌≤◌, ◌++◌, length};
+ghost use Rattle.std.specs.Prelude.{◌≡◌, ◌+◌, ◌≤◌, [], ◌++◌, OnOk, length};
 ghost use Rattle.arrayvec.specs.ArrayVec.{array_vec_len};
 ghost use Rattle.nfs_describe.specs.Lines.{anonymous_text, export_line, options_text, pattern_text};
 ghost use Rattle.nfs_describe.specs.Lines as spec;
+ghost use Rattle.nfs_describe.specs.Outputs.{Takes};
 
+use crate::fault::DescribeFault;
+use crate::output::Output;
 use nfs_exports::addr::put_addr;
 use nfs_exports::export_table::Export;
 use nfs_exports::options::{NOBODY, Options, Squash};
 use nfs_exports::pattern::Pattern;
 use nfs_text::line::{Line, put, put_number};
 
-/// Makes the line of an export.
-pub(crate) fn put_export(line: &mut Line, export: &Export)
+/// The line of an export.
+pub(crate) fn put_export<O: Output>(out: &mut O, export: &Export) -> Result<(), DescribeFault>
+    ensures { OnOk result (Takes O.has out.old (export_line export.now) out.new) }
+{
+    let mut line = Line::new();
+    fill(&mut line, export);
+    out.put(line.as_slice())
+}
+
+// The same in an empty line.
+fn fill(line: &mut Line, export: &Export)
+    requires { line.old.items ≡ [] }
     ensures { line.new.items ≡ export_line export.now }
 {
-    line.clear();
     put(line, b"export ");
     put_pattern(line, export.pattern);
     put(line, b" ");

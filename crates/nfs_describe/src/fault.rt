@@ -1,14 +1,15 @@
 //! Why a tree isn't described.
 
 use std::alloc::AllocError;
+use std::io;
 use thiserror::Error;
 
 /// Why a tree isn't described.
 #[derive(Debug, Drop, Error)]
 pub enum DescribeFault {
-    /// The text would be longer than a description may be.
-    #[error("the description is longer than 1 GiB")]
-    TooLong,
+    /// The description can't be written.
+    #[error("{0}")]
+    Write(io::Error),
     /// There is no memory.
     #[error("out of memory")]
     Memory,

@@ -9,5 +9,6 @@ mod files;
 mod form;
 pub mod lines;
 mod numbers;
+pub mod output;
 mod times;
 mod walk;

@@ -1,6 +1,6 @@
 -- What clients do leaves the tree of a server describable, so that what is written of it loads as that tree again.
 use Rattle.std.specs.Prelude.{◌≡◌, ◌⊎◌, ℕ, ◌≤◌, List, length, Result, Ok, Err}
-use Rattle.nfs_describe.specs.Texts.{Says}
+use Rattle.nfs_describe.specs.Texts.{Says, most_text_bytes}
 use Rattle.nfs_exports.specs.declared.export_table.Export.{Export}
 use Rattle.nfs_inodes.specs.Changes.{with_key}
 use Rattle.nfs_inodes.specs.Tree.{Tree}
@@ -40,7 +40,7 @@ RunsStayDescribable = (setup : Setup) (opening : State) → IsDescribable openin
 
 -- a text that says the tree with these exports says, when it is loaded, that tree again; or memory is wanted
 abbrev pub LoadsAgain : Tree → List (List Export) → Type 0
-LoadsAgain t table = (text : List ℕ) → Says t table text → length text ≤ 1073741824 → (result : Result Loaded LoadError) → Describes text result
+LoadsAgain t table = (text : List ℕ) → Says t table text → length text ≤ most_text_bytes → (result : Result Loaded LoadError) → Describes text result
     → (result ≡ Err Memory) ⊎ ((loaded : Loaded) × (result ≡ Ok loaded) × IsRestored t loaded.tree × (loaded.table ≡ table))
 
 -- A tree is describable with these exports, and loads again under each key of 8 bytes.

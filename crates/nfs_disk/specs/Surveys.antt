@@ -6,7 +6,7 @@ use Rattle.nfs_disk.specs.declared.found.Kind.{Kind}
 use Rattle.nfs_disk.specs.declared.found.Kind.TheVariants.{Directory, Regular, Link}
 use Rattle.nfs_disk.specs.declared.survey.Extent.{Extent}
 use Rattle.nfs_disk.specs.declared.warning.SkipReason.{SkipReason}
-use Rattle.nfs_disk.specs.declared.warning.SkipReason.TheVariants.{OtherKind, TooLarge, Grown, Unreadable, Full, NotText}
+use Rattle.nfs_disk.specs.declared.warning.SkipReason.TheVariants.{OtherKind, Grown, Unreadable, Full, NotText}
 
 abbrev pub is_of : Kind → Kind → Bool
 is_of Directory Directory = true
@@ -16,7 +16,6 @@ is_of kind other = false
 
 abbrev pub is_because : SkipReason → SkipReason → Bool
 is_because OtherKind OtherKind = true
-is_because TooLarge TooLarge = true
 is_because Grown Grown = true
 is_because Unreadable Unreadable = true
 is_because Full Full = true

@@ -8,6 +8,7 @@ ghost use Rattle.nfs_disk.specs.Heads.{export_line, head_text, root_given, volum
 use crate::found::Found;
 use crate::needs::{larger, limits_for};
 use crate::survey::{Extent, Survey};
+use nfs_describe::fault::DescribeFault;
 use nfs_describe::lines::{put_head, put_volume_line};
 use nfs_inodes::limits::{Limits, MAX_FILES, MAX_VOLUME_BYTES};
 use nfs_load::name_form::NameForm;
@@ -61,7 +62,7 @@ pub fn head_of(alloc: Global, key: [u8; 8], volumes: &[Volume<'_>]) -> Result<Ve
 {
     let limits = limits_of(alloc, volumes)?;
     let mut text = Vec::new(alloc);
-    put_head(alloc, &mut text, key, limits, NameForm::Plain)?;
+    put_head(alloc, &mut text, key, limits, NameForm::Plain).map_err(no_memory)?;
     put_volumes(alloc, &mut text, volumes)?;
     Ok(text)
 }
@@ -103,8 +104,13 @@ fn put_volume(alloc: Global, text: &mut Vec<u8>, volume: &Volume<'_>) -> Result<
     let room = room_for(head, survey.extent(alloc)?);
     let mount = word_of(head.mount.as_bytes());
     let root = root_of(survey.found.as_slice());
-    put_volume_line(text, mount, room.bytes, room.files, root)?;
+    put_volume_line(text, mount, room.bytes, room.files, root).map_err(no_memory)?;
     put_exports(text, head.exports)
+}
+
+// Bytes that are kept in memory can't be written only where there is none.
+fn no_memory(_fault: DescribeFault) -> AllocError {
+    AllocError
 }
 
 // The number that is given, or twice the one that was found.

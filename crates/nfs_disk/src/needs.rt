@@ -6,12 +6,8 @@ ghost use Rattle.nfs_inodes.specs.Limits.{AreLimits};
 
 use crate::found::{Found, Kind, number_of, size_of};
 use crate::tally::Tally;
-use nfs_describe::description::MAX_DESCRIPTION_BYTES;
 use nfs_inodes::limits::{Limits, MAX_FILE_BYTES, MAX_FILES, MAX_LINKS, MAX_PATH_BYTES};
 use std::alloc::{AllocError, Global};
-
-/// The most bytes of a file that a description can hold, with two digits for each.
-pub const MAX_SIZE: usize = MAX_DESCRIPTION_BYTES / 2;
 
 /// The limits of a tree that takes what was found, as far as a tree may have them, in a volume of so
 /// many files: each is its default unless it has to be higher.

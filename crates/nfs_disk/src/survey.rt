@@ -7,7 +7,6 @@ ghost use Rattle.nfs_disk.specs.declared.warning.Warning.{Warning};
 
 use crate::fault::DiskFault;
 use crate::found::{Found, Kind, given_of, is_alone, kind_of, number_of, size_of, times_of};
-use crate::needs::MAX_SIZE;
 use crate::warning::{SkipReason, Warning};
 use std::alloc::{AllocError, Global};
 use std::collections::BTreeSet;
@@ -19,23 +18,16 @@ use std::rt::Files;
 /// What a directory on disk is read for.
 #[derive(Clone, Copy, Debug, PartialEq, Eq)]
 pub enum Purpose {
-    /// A description without times: files that are too large for one are skipped.
+    /// A description without times.
     Describing,
-    /// The same, with times.
-    DescribingTimes,
-    /// A volume that is served as it is.
+    /// A volume as it is, with its times.
     Serving,
 }
 
 impl Purpose {
-    /// Whether files that are too large for a description are skipped.
-    pub(crate) fn is_description(self) -> bool {
-        self != Purpose::Serving
-    }
-
     /// Whether files get the times that they have on disk.
     pub(crate) fn has_times(self) -> bool {
-        self != Purpose::Describing
+        self == Purpose::Serving
     }
 }
 
@@ -181,7 +173,7 @@ impl Survey {
         let Ok(metadata) = fs::symlink_metadata(rt, disk_path.as_str()) else {
             return self.leave_out(alloc, disk_path.as_str(), SkipReason::Unreadable);
         };
-        match kind_for(self.purpose, &metadata) {
+        match kind_for(&metadata) {
             Ok(kind) => {
                 let found = found_at(parent, path, kind, &metadata);
                 self.found.push(found)?;
@@ -226,20 +218,11 @@ fn is_because(reason: SkipReason, found: SkipReason) -> bool
 }
 
 // What kind of file this is, or why it is skipped.
-fn kind_for(purpose: Purpose, metadata: &Metadata) -> Result<Kind, SkipReason> {
+fn kind_for(metadata: &Metadata) -> Result<Kind, SkipReason> {
     match kind_of(metadata) {
-        Some(kind) if purpose.is_description() => kind_to_say(kind, metadata.len()),
         Some(kind) => Ok(kind),
         None => Err(SkipReason::OtherKind),
     }
-}
-
-// The same of a file that a description has to hold.
-fn kind_to_say(kind: Kind, size: u64) -> Result<Kind, SkipReason> {
-    if kind == Kind::Regular && size > MAX_SIZE as u64 {
-        return Err(SkipReason::TooLarge);
-    }
-    Ok(kind)
 }
 
 fn found_at(parent: usize, path: String, kind: Kind, metadata: &Metadata) -> Found {

@@ -1,6 +1,5 @@
 //! What is skipped of a description, and why.
 
-use crate::needs::MAX_SIZE;
 use nfs_load::name_form::name_byte;
 use std::fmt;
 
@@ -9,8 +8,6 @@ use std::fmt;
 pub enum SkipReason {
     /// It is no directory, no regular file and no symbolic link.
     OtherKind,
-    /// It has more than [`MAX_SIZE`] bytes.
-    TooLarge,
     /// It has more bytes than when it was found.
     Grown,
     /// The system doesn't let it be read.
@@ -24,9 +21,8 @@ pub enum SkipReason {
 
 impl SkipReason {
     /// Each reason once.
-    pub const ALL: [SkipReason; 6] = [
+    pub const ALL: [SkipReason; 5] = [
         SkipReason::OtherKind,
-        SkipReason::TooLarge,
         SkipReason::Grown,
         SkipReason::Unreadable,
         SkipReason::Full,
@@ -38,7 +34,6 @@ impl fmt::Display for SkipReason {
     fn fmt<W: fmt::Write>(&self, f: &mut fmt::Formatter<W>) -> fmt::Result {
         match self {
             SkipReason::OtherKind => f.write_str("a device, a socket or a pipe"),
-            SkipReason::TooLarge => write!(f, "more than {MAX_SIZE} bytes"),
             SkipReason::Grown => f.write_str("it has grown while the directory was read"),
             SkipReason::Unreadable => f.write_str("it can't be read"),
             SkipReason::Full => {

@@ -102,7 +102,7 @@ pub record IsNext (form : NameForm) (t : Tree) (number : ℕ → ℕ) (timed : �
   pub early : timed s.1.number ≡ false
   pub words : CanBeSaid g
   pub dir_words : CanBeSaid f
-  pub room : length all + length vs ≤ 1099511627776
+  pub room : length all + length vs ≤ 4611686018427387968
   pub named : IsNamed all w.root s.0
   pub held : PlaceHeld form t (place_of s)
 

@@ -83,7 +83,7 @@ module _ (t : Tree) (law : Law t) (number : ℕ → ℕ) (timed : ℕ → Bool) 
       let rest = subdirectories_copied (cookie + 1) es have.1 in omega (arith, one, two, here, rest)
 
   module _ (s : Step) (f : File) (at_dir : LivesAsDirectory t s.0.number f) (has : Has s.0.number ns) (rest : List Entry)
-      (here : entries_at t s.0.number ≡ shown done s.0.number ++ s.1 ∷ rest) (room : length done + length vs ≤ 1099511627776) where
+      (here : entries_at t s.0.number ≡ shown done s.0.number ++ s.1 ∷ rest) (room : length done + length vs ≤ 4611686018427387968) where
     abbrev dir : File
     dir = (directory_made t law number timed done ns vs u part s.0.number f has at_dir).0
 

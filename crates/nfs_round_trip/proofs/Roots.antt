@@ -127,7 +127,7 @@ module _ (Last : Option Loaded → Type 0) (t : Tree) (law : Law t) (number : �
     (index : length vs ≡ f.volume) (new : number w.root ≡ suc (length ns)) (fresh : Has w.root ns → ⊥) (early : timed w.root ≡ false)
     (words : CanBeSaid f) (said : is_said w.path ≡ true) (path : volume_path_in w.path ≡ Ok w.path) (bytes : w.max_bytes ≤ 1099511627776)
     (some : 1 ≤ w.max_files) (files : w.max_files ≤ t.limits.files)
-    (other : All (λ v. v.path ≢ w.path) vs) (few : length vs < 64) (short : length w.path ≤ 255) (room : length all + length vs ≤ 1099511627776) where
+    (other : All (λ v. v.path ≢ w.path) vs) (few : length vs < 64) (short : length w.path ≤ 255) (room : length all + length vs ≤ 4611686018427387968) where
   may_add : MayAddVolume old.tree w.path w.max_bytes w.max_files
   may_add = record {
     few = let l = ap length part.volumes in omega (arith, l, few);

@@ -27,7 +27,7 @@ use Rattle.nfs_load.specs.declared.name_form.NameForm.{NameForm}
 use Rattle.nfs_load.specs.declared.name_form.NameForm.TheVariants.{Plain, Percent}
 use Rattle.nfs_describe.specs.Lines.{export_line, limits_line, names_line, server_line}
 use Rattle.nfs_describe.specs.Places.{IsWalk, FilePath}
-use Rattle.nfs_describe.specs.Texts.{IsVolumeText, SaysTo, files_text, first_name, root_text, times_text}
+use Rattle.nfs_describe.specs.Texts.{IsVolumeText, SaysTo, files_text, first_name, root_text, times_text, most_text_bytes}
 use Rattle.nfs_read_back.proofs.Limits as limits_back
 use Rattle.nfs_read_back.proofs.Statements as read_back
 use Rattle.nfs_round_trip.specs.Copies.{copied, copied_volume, counted_from, first_seen}
@@ -225,7 +225,7 @@ module _ (form : NameForm) (t : Tree) (table : List (List Export)) (d : IsDescri
         (goes_weaker Last (Some (empty_tree t.limits Plain)) (names_line form) (λ new. new ≡ Some (empty_tree t.limits form)) All (names_go form)
         (λ new there. subst All (sym there) (goes (empty_tree t.limits form) none_through))))
 
-    goes_to : (n : ℕ) (text : List ℕ) (says : SaysTo form t table n text) (later : List ℕ) → order ≡ order_to n text says ++ later → length text ≤ 1073741824
+    goes_to : (n : ℕ) (text : List ℕ) (says : SaysTo form t table n text) (later : List ℕ) → order ≡ order_to n text says ++ later → length text ≤ most_text_bytes
         → (All : Option Loaded → Type 0) → ((loaded : Loaded) → IsThrough form t number table n (steps_to n text says) (suc (length (order_to n text says))) loaded
         → All (Some loaded))
         → Goes Last None text All
@@ -293,7 +293,7 @@ ends_in_order form t table number all k old loaded some is through =
     ap finished is ∙ ap (λ b. if b then Err NoVolume else Ok loaded) (apart_number (length loaded.tree.volumes) 0 not_none)
 
 loads : (form : NameForm) (t : Tree) (table : List (List Export)) (text : List ℕ) → IsDescribable t table → SaysTo form t table (length t.volumes) text
-    → length text ≤ 1073741824 → (result : Result Loaded LoadError) → Describes text result
+    → length text ≤ most_text_bytes → (result : Result Loaded LoadError) → Describes text result
     → (result ≡ Err Memory) ⊎ ((loaded : Loaded) × (result ≡ Ok loaded) × IsRestored t loaded.tree × (loaded.table ≡ table))
 loads form t table text d says short result describes_it =
     let n = length t.volumes in

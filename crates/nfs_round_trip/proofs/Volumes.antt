@@ -55,7 +55,7 @@ pub record IsToMake (form : NameForm) (t : Tree) (number : ℕ → ℕ) (timed :
   pub early : (m : ℕ) (f : File) → Lives t m f → f.volume ≡ index → timed m ≡ false
   pub at_vs : slice_get vs index ≡ Some (copied_volume number w)
   pub last : length vs ≡ suc index
-  pub room : length (earlier ++ steps t walk) + length vs ≤ 1099511627776
+  pub room : length (earlier ++ steps t walk) + length vs ≤ 4611686018427387968
 
 -- a place whose file is made
 pub record IsStood (t : Tree) (all : List Step) (ns : List ℕ) (index : ℕ) (w : Volume) (p : FilePath) : Type 0 where

@@ -17,7 +17,7 @@ use Rattle.nfs_load.specs.declared.loaded.Loaded.{Loaded}
 use Rattle.nfs_load.specs.declared.name_form.NameForm.{NameForm}
 use Rattle.nfs_describe.specs.Lines.{export_line}
 use Rattle.nfs_describe.specs.Places.{IsWalk, FilePath, can_hold}
-use Rattle.nfs_describe.specs.Texts.{files_text, first_name, first_places, hard_text, own_line, own_text, place_text, root_text, times_text, volume_text}
+use Rattle.nfs_describe.specs.Texts.{files_text, first_name, first_places, hard_text, own_line, own_text, place_text, root_text, times_text, volume_text, most_text_bytes}
 use Rattle.nfs_round_trip.specs.Copies.{copied_volume}
 use Rattle.nfs_round_trip.specs.RoundTrip.{IsDescribable, IsVolumeSaid}
 use Rattle.nfs_round_trip.proofs.Directories.{all_stand, shown, shown_append, shown_none, shown_once, some_of_sum, stands_elsewhere, stands_here}
@@ -156,7 +156,7 @@ root_is_none form t root (Some f) = refl
 module _ (Last : Option Loaded → Type 0) (form : NameForm) (t : Tree) (table : List (List Export)) (d : IsDescribable t table) (number : ℕ → ℕ)
     (n : ℕ) (all : List Step) (w : Volume) (walk : List FilePath) (k last : ℕ) (at_w : slice_get t.volumes n ≡ Some w) (walked : IsWalk t w.root walk)
     (held : can_hold form t walk ≡ true)
-    (numbers : Numbered number last [] walk k) (room : length (all ++ steps t walk) ≤ 1073741824) where
+    (numbers : Numbered number last [] walk k) (room : length (all ++ steps t walk) ≤ most_text_bytes) where
   abbrev vs : List Volume
   vs = map (copied_volume number) (take n t.volumes)
 
@@ -264,7 +264,7 @@ module _ (Last : Option Loaded → Type 0) (form : NameForm) (t : Tree) (table :
     Rooted exports new = (loaded : Loaded) × (new ≡ Some loaded) × IsPart t number through.timed all ns (vs ++ copied_volume number w ∷ []) loaded.tree
         × (loaded.table ≡ exports) × (loaded.names ≡ form)
 
-    room_so_far : length all + length vs ≤ 1099511627776
+    room_so_far : length all + length vs ≤ 4611686018427387968
     room_so_far = let l = length-append all (steps t walk) in let m = vs_long in let i = inside in let f = few_volumes in omega (arith, room, l, m, i, f)
 
     fresh : Has w.root through.ns → ⊥

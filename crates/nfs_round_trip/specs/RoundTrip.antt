@@ -11,7 +11,7 @@ use Rattle.nfs_load.specs.declared.load_error.LoadError.{LoadError}
 use Rattle.nfs_load.specs.declared.load_error.LoadError.TheVariants.{Memory}
 use Rattle.nfs_load.specs.declared.loaded.Loaded.{Loaded}
 use Rattle.nfs_describe.specs.Places.{AreWalks, FilePath, IsWalk}
-use Rattle.nfs_describe.specs.Texts.{Says}
+use Rattle.nfs_describe.specs.Texts.{Says, most_text_bytes}
 use Rattle.nfs_read_back.specs.ReadBack.{IsExport, is_said}
 use Rattle.nfs_round_trip.specs.Copies.{CanBeSaid, copied, copied_volume, new_number}
 
@@ -54,7 +54,7 @@ KeysStayDescribable = (t : Tree) (table : List (List Export)) (key : List ℕ) �
 
 -- A text that describes a tree with its exports says, when it is loaded, that tree with these exports; or memory is wanted.
 abbrev pub DescriptionsLoadAgain : Type 0
-DescriptionsLoadAgain = (t : Tree) (table : List (List Export)) (text : List ℕ) → IsDescribable t table → Says t table text → length text ≤ 1073741824
+DescriptionsLoadAgain = (t : Tree) (table : List (List Export)) (text : List ℕ) → IsDescribable t table → Says t table text → length text ≤ most_text_bytes
     → (result : Result Loaded LoadError) → Describes text result
     → (result ≡ Err Memory) ⊎ ((loaded : Loaded) × (result ≡ Ok loaded) × IsRestored t loaded.tree × (loaded.table ≡ table))
 
@@ -72,5 +72,5 @@ DescriptionsAreOne = (t : Tree) (table : List (List Export)) (one two : List ℕ
 
 -- What is loaded from it has the same description.
 abbrev pub DescriptionsAreKept : Type 0
-DescriptionsAreKept = (t : Tree) (table : List (List Export)) (text : List ℕ) → IsDescribable t table → Says t table text → length text ≤ 1073741824
+DescriptionsAreKept = (t : Tree) (table : List (List Export)) (text : List ℕ) → IsDescribable t table → Says t table text → length text ≤ most_text_bytes
     → (loaded : Loaded) → Describes text (Ok loaded) → Says loaded.tree loaded.table text

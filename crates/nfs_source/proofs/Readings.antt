@@ -1,6 +1,7 @@
 -- What is read of a description, line by line and chunk by chunk.
 use Rattle.std.proofs.Common.{◌≡◌, ℕ, ◌+◌, ◌-◌, ◌^◌, ◌<◌, ◌≤◌, true, false, ◌==◌, min, List, [], ◌∷◌, ◌++◌, length, Option, Some, None, Ok, Err, refl, sym, ap, subst, ◌∙◌, append_assoc, append-nil, arith}
 use Rattle.std.specs.Option.{is_some}
+use Rattle.std.specs.Prelude.{IfOk, Result}
 use Rattle.std.proofs.lemmas.Bool.{eq-eqb, eqb-true, false≢true}
 use Rattle.std.proofs.lemmas.List.{length-append}
 use Rattle.nfs_load.specs.declared.load_error.LoadError.{LoadError}
@@ -14,7 +15,8 @@ use Rattle.nfs_text.specs.Lines.{lines}
 use Rattle.nfs_source.specs.declared.description.Reader.{Reader}
 use Rattle.nfs_source.specs.declared.description.Reading.{Reading}
 use Rattle.nfs_source.specs.Readings.{AreLoaded, AreRead, CutsInto, HasRead, HasText, Keeps, StopWith, is_open, outcome_of, taken_or}
-use Rattle.nfs_source.specs.Sources.{Takes}
+use Rattle.nfs_describe.specs.Outputs.{Takes}
+use Rattle.nfs_describe.specs.Texts.{most_text_bytes}
 use Rattle.nfs_source.proofs.Cuts.{cuts_all, cuts_line, cuts_more, one_line, open_more}
 
 -- ---- one line more
@@ -73,16 +75,16 @@ stop_more all more error stop = record {
   reported = stop.reported;
 }
 
-few_lines : (text : List ℕ) → length text ≤ 1073741824 → length (lines text) < 2 ^ 64 - 1
+few_lines : (text : List ℕ) → length text ≤ most_text_bytes → length (lines text) < 2 ^ 64 - 1
 few_lines text few = omega (arith, lines_few text, few)
 
-small : (text : List ℕ) (number : ℕ) (before after : List (List ℕ)) (line : List ℕ) → length text ≤ 1073741824
+small : (text : List ℕ) (number : ℕ) (before after : List (List ℕ)) (line : List ℕ) → length text ≤ most_text_bytes
     → lines text ≡ before ++ line ∷ after → number ≡ length before + 1 → min number (2 ^ 64 - 1) ≡ number
 small text number before after line few all is =
     omega (arith, ap length all, length-append before (line ∷ after), few_lines text few, is)
 
 pub all_described : {D : Type 0} (has : D → List (List ℕ) → Type 0) (fault : Option LoadError) (loading : SoFar) (digest : D) (text : List ℕ)
-    → length text ≤ 1073741824 → AreRead has fault loading digest (lines text) → Describes text (outcome_of fault loading)
+    → length text ≤ most_text_bytes → AreRead has fault loading digest (lines text) → Describes text (outcome_of fault loading)
 all_described has None loading digest text few read =
     ends text loading.count loading.described read.in_order (omega (arith, read.counted, few_lines text few))
 all_described has (Some error) loading digest text few stop =
@@ -188,3 +190,11 @@ ends_last has it new text in_order some reads was =
     let last : lines was.rest ≡ it.line.items ∷ [] =
     one_line was.rest kept.1 (λ none. some (kept.0 ∙ none)) ∙ ap (λ l. l ∷ []) (sym kept.0) in
     subst (HasRead has new) (sym (cuts_all text was.done was.rest was.cut ∙ ap (λ t. was.done ++ t) last)) (reads was.done was.read)
+
+-- what is in order has not ended before its end
+pub ended_in_order : {D : Type 0} (old new : Reading D) → is_some old.fault ≡ true → new ≡ old → new.fault ≡ None → ⊥
+ended_in_order {D = D} old new ended same in_order = false≢true (sym (ap is_some (sym (ap (λ (it : Reading D). it.fault) same) ∙ in_order)) ∙ ended)
+
+pub both_ok : {T E : Type 0} (r : Result T E) (P Q : T → Type 0) → IfOk r P → IfOk r Q → IfOk r (λ x. P x × Q x)
+both_ok (Ok x) P Q one two = (one, two)
+both_ok (Err e) P Q one two = tt

@@ -5,7 +5,7 @@ use Rattle.std.specs.Io.KnownBytes as std
 use Rattle.std.specs.Io.KnownBytes.{ReadConsumes}
 use Rattle.std.proofs.lemmas.List.{length-append, length-take-le}
 use Rattle.nfs_xdr.specs.Known.{Shrinks, IsAtEnd}
-use Rattle.nfs_source.specs.Sources.{Takes}
+use Rattle.nfs_describe.specs.Texts.{most_text_bytes}
 
 pub shrinks_none : (a : Option (List ℕ)) → Shrinks a [] a
 shrinks_none a before e = (before, e, refl)
@@ -19,12 +19,6 @@ shrinks_then a b c xs ys first second before e =
 pub shrinks_end : (a b c : Option (List ℕ)) (xs : List ℕ) → Shrinks a xs b → Shrinks b [] c → Shrinks a xs c
 shrinks_end a b c xs first second = subst (λ t. Shrinks a t c) (append-nil xs) (shrinks_then a b c xs [] first second)
 
-pub takes_none : {S : Type 0} (has : S → List ℕ → Type 0) (s : S) → Takes has s [] s
-takes_none has s before was = subst (has s) (sym (append-nil before)) was
-
-pub takes_then : {S : Type 0} (has : S → List ℕ → Type 0) (a b c : S) (xs ys : List ℕ) → Takes has a xs b → Takes has b ys c → Takes has a (xs ++ ys) c
-takes_then has a b c xs ys first second before was = subst (has c) (append_assoc before xs ys) (second (before ++ xs) (first before was))
-
 at_its_end : (left : Option (List ℕ)) → std.IsAtEnd left → IsAtEnd left
 at_its_end None is bytes e = cc
 at_its_end (Some xs) is bytes e = cc
@@ -36,7 +30,7 @@ read_end (Ok n) old new span consumes = λ none some. at_its_end new (consumes.1
 read_end (Err error) old new span consumes = tt
 
 -- how many bytes were read
-pub counted : (text span : List ℕ) (len n sum : ℕ) → len ≡ length text → len ≤ 1073741824 → n ≤ length span → length span < 2 ^ 63
+pub counted : (text span : List ℕ) (len n sum : ℕ) → len ≡ length text → len ≤ most_text_bytes → n ≤ length span → length span < 2 ^ 63
     → sum ≡ min (len + n) (2 ^ 64 - 1) → sum ≡ length (text ++ take n span)
 counted text span len n sum is few within fits sums =
     omega (arith, length-append text (take n span), length-take-le n span within, is, few, within, fits, sums)

@@ -1,5 +1,5 @@
 -- A description that is loaded while it is read: its text is cut into lines, and these are loaded and digested in turn.
-use Rattle.std.specs.Prelude.{◌≡◌, ℕ, ◌-◌, ◌^◌, not, Bool, true, List, ◌∷◌, ◌++◌, length, min, Option, Some, None, Result, Ok, Err, ⊤, ◌==◌}
+use Rattle.std.specs.Prelude.{◌≡◌, ◌⊎◌, ℕ, ◌-◌, ◌≤◌, ◌^◌, not, Bool, true, List, ◌∷◌, ◌++◌, length, min, Option, Some, None, Result, Ok, Err, ⊤, ◌==◌}
 use Rattle.std.specs.List.{list_all}
 use Rattle.nfs_load.specs.declared.load_error.LoadError.{LoadError}
 use Rattle.nfs_load.specs.declared.loaded.Loaded.{Loaded}
@@ -8,7 +8,11 @@ use Rattle.nfs_load.specs.Descriptions.{Describes, StopsAt, Through, finished}
 use Rattle.nfs_load.specs.Errors.{reported_at}
 use Rattle.nfs_load.specs.Loadings.{SoFar, at_end}
 use Rattle.nfs_text.specs.Lines.{lines}
+use Rattle.nfs_describe.specs.Texts.{most_text_bytes}
 use Rattle.nfs_lives.specs.Paths.{life_key, rows_of}
+use Rattle.nfs_source.specs.Sources.{IsRead, IsRest}
+use Rattle.nfs_source.specs.Status.{Reports}
+use Rattle.nfs_source.specs.declared.fault.Fault.{Fault}
 use Rattle.nfs_source.specs.declared.description.Life.{Life}
 use Rattle.nfs_source.specs.declared.description.Reader.{Reader}
 use Rattle.nfs_source.specs.declared.description.Reading.{Reading}
@@ -79,3 +83,10 @@ pub record HasText {D : Type 0} (has : D → List (List ℕ) → Type 0) (it : R
 -- A life has what a text describes, and the key of the paths that its lines name.
 abbrev pub Begins : List ℕ → Life → Type 0
 Begins text life = Describes text (Ok life.loaded) × (life.key ≡ life_key life.loaded.tree.key (rows_of (lines text)))
+
+-- ---- the fault that it has
+
+-- The fault of a text: of all that was left; or of whatever begins with what was read, since a line of that is faulty.
+abbrev pub IsFaultOf : Option (List ℕ) → List ℕ → Option (List ℕ) → Fault → Type 0
+IsFaultOf old text new fault = (IsRest old text new × Reports text fault)
+    ⊎ (IsRead old text new × ((more : List ℕ) → length (text ++ more) ≤ most_text_bytes → Reports (text ++ more) fault))

@@ -6,7 +6,7 @@ use Rattle.nfs_load.specs.declared.load_error.LoadError.TheVariants as error
 use Rattle.nfs_source.specs.declared.fault.Fault.{Fault}
 use Rattle.nfs_source.specs.declared.sharing_fault.SharingFault.{SharingFault}
 use Rattle.nfs_source.specs.declared.sharing_fault.SharingFault.TheVariants.{Skipped}
-use Rattle.nfs_source.specs.declared.fault.Fault.TheVariants.{Description, Script, Sharing, NoText, CannotRead, TooLong, CannotWrite, Undescribed, Network, Unregistered, NoTime, Write, Closed, Memory}
+use Rattle.nfs_source.specs.declared.fault.Fault.TheVariants.{Description, Script, Sharing, NoText, CannotRead, TooLong, LongLine, CannotWrite, Network, Unregistered, NoTime, Write, Closed, Memory}
 
 -- 1 where something is skipped that may not be
 abbrev pub status_of_sharing : SharingFault → ℕ
@@ -21,8 +21,8 @@ status_of (Sharing fault) = status_of_sharing fault
 status_of NoText = 2
 status_of (CannotRead name error) = 3
 status_of (TooLong name) = 3
+status_of (LongLine name line most) = 3
 status_of (CannotWrite name error) = 3
-status_of (Undescribed fault) = 1
 status_of (Network address error) = 3
 status_of (Unregistered fault) = 3
 status_of NoTime = 3

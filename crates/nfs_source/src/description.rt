@@ -1,28 +1,36 @@
 //! Descriptions that are loaded while they are read.
 ghost use Rattle.std.specs.Prelude.{◌≡◌, ◌⊎◌, ℕ, ◌≤◌, List, [], ◌∷◌, ◌++◌, length, true, None, Ok, ⊤, IfOk, IfErr, OnOk, MatchOption};
+ghost use Rattle.std.specs.Option.{is_some};
+ghost use Rattle.nfs_describe.specs.Outputs.{Takes};
+ghost use Rattle.nfs_describe.specs.Texts.{most_text_bytes};
 ghost use Rattle.nfs_load.specs.Descriptions.{Describes};
 ghost use Rattle.nfs_load.specs.Loadings.{LineTaken};
 ghost use Rattle.nfs_lives.specs.Rows.{HasTaken};
 ghost use Rattle.nfs_text.specs.Lines.{lines};
-ghost use Rattle.nfs_source.specs.Readings.{Begins, HasRead, HasText, IsCut, is_open, outcome_of, taken_or};
-ghost use Rattle.nfs_source.specs.Sources.{IsRest, Takes};
+ghost use Rattle.nfs_source.specs.Readings.{Begins, HasRead, HasText, IsCut, IsFaultOf, is_open, outcome_of, taken_or};
+ghost use Rattle.nfs_source.specs.Sources.{IsRest};
 ghost use Rattle.nfs_source.specs.Status.{IsOfReading, Reports, status_of};
 
 use crate::diagnostic::Diagnostic;
-use crate::source::{Sink, Source, open_text, read_all};
+use crate::source::{Sink, SinkFault, Source, open_text, read_all};
 use memchr::memchr;
 use nfs_advice::skipped::{content_of, put_mark};
+use nfs_inodes::limits::{Limits, MAX_FILE_BYTES};
 use nfs_lives::path_digest::PathDigest;
 use nfs_load::load_error::LoadError;
 use nfs_load::loaded::Loaded;
 use nfs_load::loading::Loading;
 use nfs_text::line::Line;
+use nfs_text::words::Words;
 use std::alloc::{AllocError, Global};
 use std::io::Read;
 use std::rt::Files;
 
 // Of a line with more bytes the content is skipped of the text once it is loaded.
 const LONG_LINE_BYTES: usize = 4_096;
+
+// How many bytes a line may have beside the digits of a file's content.
+const MOST_WORD_BYTES: usize = 65_536;
 
 /// A description: what it says, and its text, in which long contents are skipped.
 #[derive(Drop)]
@@ -34,8 +42,9 @@ pub struct Description<'a> {
 }
 
 impl<'a> Description<'a> {
-    /// The description of this name. `CannotRead` where the system reads no more of it, `TooLong` above
-    /// 1 GiB, `Description` with its first faulty line, but only once all of it was read, `Memory`.
+    /// The description of this name. `Description` with its first faulty line, after which nothing is read.
+    /// `LongLine` where a line has more than 65,536 bytes and two for each byte of the largest file, or begins
+    /// with no word and has more than 65,536; `CannotRead` where the system reads no more of it; `Memory`.
     pub fn read<R: Files + Input>(
         rt: &R,
         alloc: Global,
@@ -106,7 +115,7 @@ fn read_from<'a, I: Read, D: LineDigest>(
     ensures described { IfOk result (λ it. (text : List ℕ) × IsRest (I.remaining file.old) text (I.remaining file.new)
         × Describes text (Ok it.0.loaded) × D.has it.1 (lines text)) }
     ensures fault { IfErr result (λ it. (status_of it.fault ≡ 3) ⊎ ((text : List ℕ)
-        × IsRest (I.remaining file.old) text (I.remaining file.new) × Reports text it.fault)) }
+        × IsFaultOf (I.remaining file.old) text (I.remaining file.new) it.fault)) }
 {
     let mut reader = Reader::new(alloc, digest);
     read_all(alloc, file, name, &mut reader)?;
@@ -150,6 +159,8 @@ struct Reading<D> {
     text: Vec<u8>,
     fault: Option<LoadError>,
     digest: D,
+    // The most bytes of a file, as far as it is known.
+    largest_file: usize,
 }
 
 impl<D: LineDigest> Reading<D> {
@@ -159,21 +170,39 @@ impl<D: LineDigest> Reading<D> {
         ensures { OnOk result ((done : List (List ℕ)) → HasRead D.has self.old done → HasRead D.has self.new (done ++ line.now ∷ [])) }
     {
         self.digest.take(line);
+        self.largest_file = largest_after(line, self.largest_file);
         self.fault = load_line(&mut self.loading, &mut self.text, line)?;
+        Ok(())
+    }
+
+    // Refuses a line that has not ended, once no line of a description is so long.
+    fn check_length(&self, line: &[u8]) -> Result<(), SinkFault> {
+        let mut most = MOST_WORD_BYTES;
+        if line.len() > most && begins_as_line(line) {
+            most += 2 * self.largest_file.min(MAX_FILE_BYTES);
+        }
+        if line.len() > most {
+            return Err(SinkFault::LongLine {
+                line: count_lines(self.text.as_slice()).saturating_add(1),
+                most,
+            });
+        }
         Ok(())
     }
 
     // What all lines describe, and what was made of them. The first fault otherwise.
     fn described<'a>(self, alloc: Global, name: &'a str) -> Result<(Description<'a>, D), Diagnostic>
-        ensures described { IfOk result (λ it. (text : List ℕ) → length text ≤ 1073741824 → HasRead D.has self (lines text)
+        ensures in_order { IfOk result (λ _. self.fault ≡ None) }
+        ensures described { IfOk result (λ it. (text : List ℕ) → length text ≤ most_text_bytes → HasRead D.has self (lines text)
             → Describes text (Ok it.0.loaded) × D.has it.1 (lines text)) }
-        ensures fault { IfErr result (λ it. (text : List ℕ) → length text ≤ 1073741824 → HasRead D.has self (lines text) → Reports text it.fault) }
+        ensures fault { IfErr result (λ it. (text : List ℕ) → length text ≤ most_text_bytes → HasRead D.has self (lines text) → Reports text it.fault) }
     {
         let Reading {
             loading,
             text,
             fault,
             digest,
+            ..
         } = self;
         let source = Source { name, text };
         match outcome(loading, fault) {
@@ -202,6 +231,7 @@ impl<D: LineDigest> Reader<D> {
                 text: Vec::new(alloc),
                 fault: None,
                 digest,
+                largest_file: Limits::standard().file_size,
             },
             line: Vec::new(alloc),
         }
@@ -222,9 +252,20 @@ impl<D: LineDigest> Reader<D> {
         Ok(())
     }
 
+    // Takes a part of a line that has not ended.
+    fn put_open(&mut self, part: &[u8]) -> Result<(), SinkFault>
+        requires in_order { self.old.reading.fault ≡ None }
+        requires part { is_open part.now ≡ true }
+        ensures { OnOk result (Takes (HasText D.has) self.old part.now self.new) }
+    {
+        self.line.extend_from_slice(part)?;
+        self.reading.check_length(self.line.as_slice())
+    }
+
     // All lines; the last may lack its LF.
     fn end(self) -> Result<Reading<D>, AllocError>
-        ensures { IfOk result (λ reading. (text : List ℕ) → HasText D.has self text → HasRead D.has reading (lines text)) }
+        ensures read { IfOk result (λ reading. (text : List ℕ) → HasText D.has self text → HasRead D.has reading (lines text)) }
+        ensures same { is_some self.reading.fault ≡ true → IfOk result (λ reading. reading ≡ self.reading) }
     {
         let Reader { reading, line } = self;
         let mut all = reading;
@@ -242,7 +283,9 @@ impl<D: LineDigest> Reader<D> {
 impl<D: LineDigest> Sink for Reader<D> {
     ghost has = { λ it text. HasText D.has it text };
 
-    fn take(&mut self, span: &[u8]) -> Result<(), AllocError> {
+    ghost ended = { λ it. is_some it.reading.fault ≡ true };
+
+    fn take(&mut self, span: &[u8]) -> Result<(), SinkFault> {
         let mut rest = span;
         while self.reading.fault.is_none() {
             match cut_line(rest) {
@@ -250,11 +293,45 @@ impl<D: LineDigest> Sink for Reader<D> {
                     self.end_line(part)?;
                     rest = after;
                 }
-                None => return self.line.extend_from_slice(rest),
+                None => return self.put_open(rest),
             }
         }
         Ok(())
     }
+
+    fn has_ended(&self) -> bool {
+        self.reading.fault.is_some()
+    }
+}
+
+// The most bytes of a file after a line, which are not known exactly once limits are given.
+fn largest_after(line: &[u8], largest: usize) -> usize {
+    if Words::new(line).next() == Some(b"limits") {
+        MAX_FILE_BYTES
+    } else {
+        largest
+    }
+}
+
+// How many lines of a text have ended.
+fn count_lines(text: &[u8]) -> u64 {
+    let mut count = 0u64;
+    for byte in text {
+        if *byte == b'\n' {
+            count = count.saturating_add(1);
+        }
+    }
+    count
+}
+
+// Whether a line begins with a word of a description, or is a comment, as far as its first byte says.
+fn begins_as_line(line: &[u8]) -> bool {
+    for byte in line {
+        if *byte != b' ' {
+            return *byte == b'#' || byte.is_ascii_lowercase();
+        }
+    }
+    false
 }
 
 // What stands before the first LF, and what stands after it.

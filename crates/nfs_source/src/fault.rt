@@ -4,7 +4,6 @@ ghost use Rattle.nfs_source.specs.Status.{status_of};
 
 use crate::sharing_fault::SharingFault;
 use nfs_ask::script_fault::{LineCause, ScriptFault};
-use nfs_describe::fault::DescribeFault;
 use nfs_load::cause::Cause;
 use nfs_load::load_error::LoadError;
 use nfs_portmap::fault::PortmapFault;
@@ -46,9 +45,19 @@ pub enum Fault {
         /// What the system says.
         error: io::Error,
     },
-    /// A file is longer than any that is read.
+    /// A text that is kept whole has more than 1 GiB.
     #[error("nfs3d: {0} is longer than 1 GiB")]
     TooLong(String),
+    /// A line is longer than any of a description.
+    #[error("nfs3d: {name}: line {line} has more than {most} bytes, and is no line of a description")]
+    LongLine {
+        /// The name of its file.
+        name: String,
+        /// Its number, from 1.
+        line: u64,
+        /// How many bytes it may have.
+        most: usize,
+    },
     /// A file can't be written.
     #[error("nfs3d: cannot write {name}: {error}")]
     CannotWrite {
@@ -57,9 +66,6 @@ pub enum Fault {
         /// What the system says.
         error: io::Error,
     },
-    /// A tree has no description, as where it would be too long.
-    #[error("nfs3d: {0}")]
-    Undescribed(DescribeFault),
     /// The network fails.
     #[error("nfs3d: network fault: {address}: {error}")]
     Network {
@@ -94,11 +100,11 @@ impl Fault {
         match self {
             Fault::Description { .. }
             | Fault::Script { .. }
-            | Fault::Undescribed(_)
             | Fault::Sharing(SharingFault::Skipped) => 1,
             Fault::Sharing(_) | Fault::NoText => 2,
             Fault::CannotRead { .. }
             | Fault::TooLong(_)
+            | Fault::LongLine { .. }
             | Fault::CannotWrite { .. }
             | Fault::Network { .. }
             | Fault::Unregistered(_)

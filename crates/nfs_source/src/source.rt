@@ -1,7 +1,8 @@
 //! The texts that words of the command name.
-ghost use Rattle.std.specs.Prelude.{◌≡◌, ℕ, ◌<◌, ◌≤◌, List, Ok, IfOk, IfErr, OnOk, length, take};
+ghost use Rattle.std.specs.Prelude.{◌≡◌, ◌⊎◌, ℕ, ◌<◌, ◌≤◌, List, true, Ok, IfOk, IfErr, OnOk, length, take};
 ghost use Rattle.nfs_load.specs.Descriptions.{Describes};
-ghost use Rattle.nfs_source.specs.Sources.{IsRest, Takes, left_of};
+ghost use Rattle.nfs_describe.specs.Outputs.{Takes};
+ghost use Rattle.nfs_source.specs.Sources.{IsRead, IsRest, left_of};
 ghost use Rattle.nfs_source.specs.Status.{Reports, status_of};
 ghost use Rattle.nfs_xdr.specs.Known.{Shrinks, IsAtEnd};
 
@@ -14,8 +15,11 @@ use std::fs;
 use std::io::{self, ErrorKind, Read};
 use std::rt::Files;
 
-// The most bytes that a text may have: 1 GiB.
-const MOST_BYTES: usize = 1 << 30;
+// The most bytes of a text that is kept whole: 1 GiB.
+const MOST_KEPT_BYTES: usize = 1 << 30;
+
+// More bytes than any machine has room for.
+const MOST_BYTES: usize = 1 << 62;
 
 // How much is read at once.
 const CHUNK_BYTES: usize = 1 << 16;
@@ -42,6 +46,7 @@ impl<'a> Source<'a> {
     // What a reader of this name has left.
     fn read_from<I: Read>(alloc: Global, file: &mut I, name: &'a str) -> Result<Source<'a>, Fault>
         ensures text { IfOk result (λ source. IsRest (I.remaining file.old) source.text.items (I.remaining file.new)) }
+        ensures short { IfOk result (λ source. length source.text.items ≤ 1073741824) }
         ensures name { IfOk result (λ source. source.name.now ≡ name.now) }
     {
         let mut text = Vec::new(alloc);
@@ -66,16 +71,55 @@ pub(crate) trait Sink {
     /// That these bytes may be what was taken.
     ghost has: { Self → List ℕ → Type 0 };
 
-    /// Takes the next chunk. Refused without memory.
-    fn take(&mut self, span: &[u8]) -> Result<(), AllocError>
+    /// That nothing more is looked at.
+    ghost ended: { Self → Type 0 };
+
+    /// Takes the next chunk.
+    fn take(&mut self, span: &[u8]) -> Result<(), SinkFault>
         ensures { OnOk result (Takes has self.old span.now self.new) };
+
+    /// Whether nothing more is looked at.
+    fn has_ended(&self) -> bool
+        ensures { result ≡ true → ended self.now };
+}
+
+/// Why a chunk isn't taken.
+#[derive(Clone, Copy)]
+pub(crate) enum SinkFault {
+    /// A text that is kept whole would have more than 1 GiB.
+    TooLong,
+    /// A line is too long.
+    LongLine {
+        /// Its number, from 1.
+        line: u64,
+        /// How many bytes it may have.
+        most: usize,
+    },
+    /// There is no memory.
+    Memory,
+}
+
+impl From<AllocError> for SinkFault {
+    fn from(_error: AllocError) -> SinkFault {
+        SinkFault::Memory
+    }
 }
 
 impl Sink for Vec<u8> {
-    ghost has = { λ taken text. taken.items ≡ text };
+    ghost has = { λ taken text. (taken.items ≡ text) × (length text ≤ 1073741824) };
 
-    fn take(&mut self, span: &[u8]) -> Result<(), AllocError> {
-        self.extend_from_slice(span)
+    ghost ended = { λ _. ⊥ };
+
+    fn take(&mut self, span: &[u8]) -> Result<(), SinkFault> {
+        self.extend_from_slice(span)?;
+        if self.len() > MOST_KEPT_BYTES {
+            return Err(SinkFault::TooLong);
+        }
+        Ok(())
+    }
+
+    fn has_ended(&self) -> bool {
+        false
     }
 }
 
@@ -115,16 +159,16 @@ pub(crate) fn open_text<R: Files + Input>(
     }
 }
 
-/// Hands on all bytes that a reader of this name gives, up to its end. `CannotRead` where the system
-/// reads no more of it, `TooLong` above 1 GiB, which an endless one reaches, `Memory`.
+/// Hands on all bytes that a reader of this name gives, up to its end, or until nothing more is looked at.
+/// `CannotRead` where the system reads no more of it; the faults of the sink; `Memory`.
 pub(crate) fn read_all<I: Read, S: Sink>(
     alloc: Global,
     file: &mut I,
     name: &str,
     sink: &mut S,
 ) -> Result<(), Fault>
-    ensures taken { OnOk result ((text : List ℕ)
-        × IsRest (I.remaining file.old) text (I.remaining file.new) × Takes S.has sink.old text sink.new) }
+    ensures taken { OnOk result ((text : List ℕ) × IsRead (I.remaining file.old) text (I.remaining file.new)
+        × Takes S.has sink.old text sink.new × (IsAtEnd (I.remaining file.new) ⊎ S.ended sink.new)) }
     ensures machine { IfErr result (λ fault. status_of fault ≡ 3) }
 {
     let mut span = Vec::new(alloc);
@@ -141,8 +185,8 @@ fn hand_on<I: Read, S: Sink>(
     sink: &mut S,
 ) -> Result<(), Fault>
     requires { 0 < length span.old }
-    ensures taken { OnOk result ((text : List ℕ)
-        × IsRest (I.remaining file.old) text (I.remaining file.new) × Takes S.has sink.old text sink.new) }
+    ensures taken { OnOk result ((text : List ℕ) × IsRead (I.remaining file.old) text (I.remaining file.new)
+        × Takes S.has sink.old text sink.new × (IsAtEnd (I.remaining file.new) ⊎ S.ended sink.new)) }
     ensures machine { IfErr result (λ fault. status_of fault ≡ 3) }
 {
     let mut len = 0usize;
@@ -150,18 +194,22 @@ fn hand_on<I: Read, S: Sink>(
         if len > MOST_BYTES {
             break;
         }
+        if sink.has_ended() {
+            return Ok(());
+        }
         match read_some(file, span) {
             Ok(0) => return Ok(()),
             Ok(n) => {
                 len = len.saturating_add(n);
-                if let Err(error) = sink.take(&span[..n]) {
-                    return Err(Fault::Memory(error));
+                if let Err(fault) = sink.take(&span[..n]) {
+                    return Err(sink_fault(alloc, name, fault));
                 }
             }
             Err(error) => return Err(cannot_read(alloc, name, error)),
         }
     }
-    Err(too_long(alloc, name))
+    let error = io::Error::new(ErrorKind::InvalidInput, "it has no end");
+    Err(cannot_read(alloc, name, error))
 }
 
 // How many bytes were read into a span, none only at the end. Where the system is interrupted, which
@@ -190,12 +238,17 @@ fn cannot_read(alloc: Global, name: &str, error: io::Error) -> Fault
     }
 }
 
-// That a file is longer than any that is read.
-fn too_long(alloc: Global, name: &str) -> Fault
+// Why the chunks of a file of this name aren't taken.
+fn sink_fault(alloc: Global, name: &str, fault: SinkFault) -> Fault
     ensures { status_of result ≡ 3 }
 {
-    match name.to_string(alloc) {
-        Ok(name) => Fault::TooLong(name),
-        Err(error) => Fault::Memory(error),
+    let name = match name.to_string(alloc) {
+        Ok(name) => name,
+        Err(error) => return Fault::Memory(error),
+    };
+    match fault {
+        SinkFault::TooLong => Fault::TooLong(name),
+        SinkFault::LongLine { line, most } => Fault::LongLine { name, line, most },
+        SinkFault::Memory => Fault::Memory(AllocError),
     }
 }

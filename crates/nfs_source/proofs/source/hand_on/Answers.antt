@@ -1,5 +1,6 @@
 use Rattle.std.proofs.Common.{◌++◌, take, arith}
-use Rattle.nfs_source.proofs.Sources.{counted, shrinks_then, takes_then}
+use Rattle.nfs_describe.proofs.Outputs.{takes_then}
+use Rattle.nfs_source.proofs.Sources.{counted, shrinks_then}
 use Rattle.nfs_source.proofs.source.hand_on.Goals as goal
 
 pub loop-preserved : goal.loop-preserved

@@ -1,6 +1,6 @@
 use Rattle.std.proofs.Common.{◌≡◌, ℕ, List, length}
+use Rattle.nfs_describe.specs.Outputs.{Takes}
 use Rattle.nfs_xdr.specs.Known.{Shrinks}
-use Rattle.nfs_source.specs.Sources.{Takes}
 use Rattle.nfs_source.proofs.source.hand_on.Given as goal
 
 abbrev pub invariant-loop : goal.invariant-loop

@@ -1,8 +1,8 @@
 use Rattle.std.proofs.Common.{ℕ, List, [], ◌∷◌, ◌++◌, sym, subst, ap, ◌∙◌, append_assoc}
 use Rattle.nfs_source.specs.Readings.{HasText}
-use Rattle.nfs_source.specs.Sources.{Takes}
+use Rattle.nfs_describe.specs.Outputs.{Takes}
 use Rattle.nfs_source.proofs.Readings.{ignores}
-use Rattle.nfs_source.proofs.Sources.{takes_then}
+use Rattle.nfs_describe.proofs.Outputs.{takes_as, takes_last, takes_then}
 use Rattle.nfs_source.proofs.description.ReaderSink.take.Goals as goal
 
 pub loop-rest-preserved : goal.loop-rest-preserved
@@ -22,3 +22,10 @@ returns g c =
     let it = c.loop-rest.self in
     subst (λ (text : List ℕ). Takes (HasText has) c.args.self.now text it) (sym was.1)
     (takes_then (HasText has) c.args.self.now it it was.0 c.loop-rest.rest.now was.2 (ignores has it c.loop-rest.rest.now c.loop-rest-test.ensures))
+
+pub returns-in-None : goal.returns-in-None
+returns-in-None g c =
+    let was = c.loop-rest.invariant in
+    let has = HasText g.D.LineDigest.has in
+    takes_as has c.args.self.now c.put_open.new.self c.put_open.result (was.0 ++ c.loop-rest.rest.now) c.args.span.now (sym was.1)
+    (takes_last has c.args.self.now c.loop-rest.self c.put_open.new.self c.put_open.result was.0 c.loop-rest.rest.now was.2 c.put_open.ensures)

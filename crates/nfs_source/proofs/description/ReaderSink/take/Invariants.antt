@@ -1,6 +1,6 @@
 use Rattle.std.proofs.Common.{◌≡◌, ℕ, List, ◌++◌, length}
 use Rattle.nfs_source.specs.Readings.{HasText}
-use Rattle.nfs_source.specs.Sources.{Takes}
+use Rattle.nfs_describe.specs.Outputs.{Takes}
 use Rattle.nfs_source.proofs.description.ReaderSink.take.Given as goal
 
 abbrev pub invariant-loop-rest : goal.invariant-loop-rest
