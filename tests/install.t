@@ -20,8 +20,9 @@ bash -c '. "$0"; COMP_WORDS=(nfs3d serve x.tree --li); COMP_CWORD=3; _nfs3d; [ "
 ok $? "the completion is installed, and completes an option"
 
 # The unit for systemd, and what logrotate reads.
-grep -qxF "ExecStart=$work/prefix/bin/nfs3d serve /etc/nfs3d.tree --times --audit /var/log/nfs3d/audit.log \$NFS3D_OPTIONS" "$work/prefix/lib/systemd/system/nfs3d.service"
-ok $? "the unit is installed, and starts the installed program"
+grep -qxF "ExecStart=$work/prefix/bin/nfs3d serve /etc/nfs3d.tree --times --audit /var/log/nfs3d/audit.log --control /run/nfs3d/control \$NFS3D_OPTIONS" "$work/prefix/lib/systemd/system/nfs3d.service" &&
+    grep -qxF "ExecStop=-$work/prefix/bin/nfs3d control /run/nfs3d/control stop" "$work/prefix/lib/systemd/system/nfs3d.service"
+ok $? "the unit is installed, and starts and stops the installed program"
 if [ "$(systemd-analyze --version 2>/dev/null | sed -n '1s/^systemd \([0-9]*\).*/\1/p')" -ge 250 ] 2>/dev/null; then
     systemd-analyze security --offline=true dist/nfs3d.service 2>/dev/null | awk '/Overall exposure level/ { found = 1; low = $(NF - 2) <= 2.0 } END { exit !(found && low) }'
     ok $? "systemd-analyze rates the unit's exposure at most 2.0"

@@ -200,7 +200,7 @@ refused() {
     run "$@"
     ended 2 && [ ! -s "$work/out" ] && grep -qe "$text" "$work/err"
 }
-refused '^error: --save FILE writes when the service ends: add --connections N, or --save-every SECONDS$' serve examples/e.tree --port 0 --save "$work/saved"
+refused '^error: --save FILE writes when the service ends: add --connections N, --save-every SECONDS, or --control PATH$' serve examples/e.tree --port 0 --save "$work/saved"
 ok $? "--save of a service that doesn't end is refused"
 refused '--save <FILE>' serve examples/e.tree --port 0 --connections 0 --save-every 1
 ok $? "--save-every without --save is refused"

@@ -11,6 +11,7 @@ use nfs_commands::exports::print_exports;
 use nfs_commands::extracting::extract_tree;
 use nfs_commands::replay::replay_files;
 use nfs_commands::why::print_why;
+use nfs_control::asking::control;
 use nfs_source::diagnostic::Diagnostic;
 use nfs_source::fault::Fault;
 use std::alloc::{AllocError, Global};
@@ -70,6 +71,7 @@ where
         Some(Invocation::Exports(words)) => print_exports(rt, alloc, words.tree()),
         Some(Invocation::Replay(words)) => replay_files(rt, alloc, words),
         Some(Invocation::Serve(words)) => serve_tree(rt, alloc, words),
+        Some(Invocation::Control(words)) => control(rt, alloc, words),
         Some(Invocation::Describe(words)) => describe_directories(rt, alloc, words),
         Some(Invocation::Extract(words)) => extract_tree(rt, alloc, words),
         Some(Invocation::SelfCall(words)) => call_self(rt, alloc, words.tree()),

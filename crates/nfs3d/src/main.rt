@@ -4,7 +4,6 @@
 mod commands;
 mod line_files;
 mod registration;
-mod saver;
 mod self_calling;
 mod serve;
 

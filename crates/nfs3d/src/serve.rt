@@ -1,18 +1,20 @@
 //! Serving over TCP.
 use crate::line_files::{audit_file, output, wording_of};
 use crate::registration::Registration;
-use crate::saver::ServedSaver;
 use log::sink::Console;
 use log::{Level, Log, Logged};
 use mio::net::TcpListener;
 use nfs_command_line::serve::Serve;
 use nfs_commands::copies::Copies;
 use nfs_commands::lending::{ServerUse, lend_life};
+use nfs_control::attending::Attending;
+use nfs_control::socket::ControlSocket;
 use nfs_lines::line_out::LineOut;
 use nfs_lines::lines::Lines;
 use nfs_lines::rule_names::first_unknown;
+use nfs_loop::attendant::Attendant;
 use nfs_loop::limits::Limits;
-use nfs_loop::saver::Saver;
+use nfs_loop::network::Network;
 use nfs_loop::service::Service;
 use nfs_server::moments::Moments;
 use nfs_server::server::Server;
@@ -21,8 +23,11 @@ use nfs_source::fault::Fault;
 use nfs_tcp::clock::SystemClock;
 use nfs_tcp::network::TcpNetwork;
 use nfs_tcp::service_fault::ServiceFault;
+use nfs_xdr::link::Link;
 use std::alloc::{AllocError, Global};
 use std::fs::File;
+use std::io;
+use std::mem::replace;
 use std::net::{IpAddr, Ipv4Addr, Net, SocketAddr};
 use std::process::ExitCode;
 use std::random::RandomSource;
@@ -75,12 +80,12 @@ where
 }
 
 // Serves, and then saves the tree where the words ask for it.
-fn serve_and_save<R: Files<File = File> + Print + Eprint + Net + Clock + RandomSource>(
-    rt: &R,
+fn serve_and_save<'a, R: Files<File = File> + Print + Eprint + Net + Clock + RandomSource>(
+    rt: &'a R,
     alloc: Global,
     server: &mut Server,
     addresses: &[IpAddr],
-    words: Serve<'_, '_>,
+    words: Serve<'a, '_>,
     copies: &Copies<'_>,
 ) -> Result<ExitCode, Diagnostic> {
     let served = Served::listen(rt, alloc, addresses, words)?;
@@ -98,11 +103,10 @@ fn serve_and_save<R: Files<File = File> + Print + Eprint + Net + Clock + RandomS
     }
 }
 
-// Serves with these lines, which are let go then, and then saves. The portmapper knows of the service as long as it
-// lasts; where it can't be told, nothing is served or saved.
-fn run_with<R, A, C>(
-    served: Served,
-    rt: &R,
+// Serves with these lines, which are let go then, and then saves.
+fn run_with<'a, R, A, C>(
+    served: Served<'a>,
+    rt: &'a R,
     server: &mut Server,
     lines: Lines<'_, A, C>,
     copies: &Copies<'_>,
@@ -113,13 +117,43 @@ where
     C: LineOut + Drop,
 {
     let mut lines = lines;
-    let alloc = served.alloc;
-    let registration = served.register(rt)?;
-    let done = served.run(rt, server, &mut lines, copies);
+    let logged = Logged::new(rt, served.level, Console(rt));
+    serve_logged(served, rt, &logged, server, &mut lines, copies)
+}
+
+// Serves, logging so, and then saves. The portmapper knows of the service as long as it lasts; where it can't be told,
+// nothing is served or saved. Who has the service stopped is answered to the end when the tree is saved.
+fn serve_logged<'a, 'b, R, L, A, C>(
+    mut served: Served<'a>,
+    rt: &'a R,
+    logged: &'b L,
+    server: &mut Server,
+    lines: &mut Lines<'_, A, C>,
+    copies: &'b Copies<'_>,
+) -> Result<ExitCode, Diagnostic>
+where
+    R: Files + Eprint + Net + RandomSource,
+    L: Files + Net + Clock + RandomSource + Log,
+    A: LineOut,
+    C: LineOut,
+{
+    let mut net = served.network(logged)?;
+    let control = served.control(rt, &net)?;
+    let mut attending = Attending::new(copies.saver(logged, served.alloc), control);
+    let registration = match served.register(rt) {
+        Ok(registration) => registration,
+        Err(fault) => {
+            attending.end();
+            return Err(fault.into());
+        }
+    };
+    let done = served.run(logged, server, &mut net, lines, &mut attending);
     if let Some(registration) = registration {
         registration.remove(rt);
     }
-    copies.save_last(rt, alloc, server, done)?;
+    let saved = copies.save_last(rt, served.alloc, server, done);
+    attending.end();
+    saved?;
     Ok(ExitCode::SUCCESS)
 }
 
@@ -171,25 +205,31 @@ fn address_of<R: Eprint>(rt: &R, listen: &str) -> Option<IpAddr> {
 
 // Where it is listened, and how much is taken on.
 #[derive(Drop)]
-struct Served {
+struct Served<'a> {
     alloc: Global,
     // The one that faults of the network name.
     address: SocketAddr,
-    limits: Limits,
+    // Those that are listened at.
+    locals: Vec<SocketAddr>,
+    // Until the network has them.
     listeners: Vec<TcpListener>,
+    limits: Limits,
     level: Level,
     is_registered: bool,
+    control: Option<&'a str>,
 }
 
-impl Served {
+impl<'a> Served<'a> {
     // Listens at these addresses.
     fn listen<R: Net>(
         rt: &R,
         alloc: Global,
         addresses: &[IpAddr],
-        words: Serve<'_, '_>,
-    ) -> Result<Served, Diagnostic> {
+        words: Serve<'a, '_>,
+    ) -> Result<Served<'a>, Diagnostic> {
         let listeners = listen_at_all(rt, alloc, addresses, words.port())?;
+        let address = SocketAddr::new(most_open(addresses), words.port());
+        let locals = locals_of(alloc, listeners.as_slice(), address)?;
         let limits = Limits {
             connections: words.connections(),
             clients: words.clients(),
@@ -203,12 +243,46 @@ impl Served {
         };
         Ok(Served {
             alloc,
-            address: SocketAddr::new(most_open(addresses), words.port()),
-            limits,
+            address,
+            locals,
             listeners,
+            limits,
             level,
             is_registered: words.is_registered(),
+            control: words.control(),
         })
+    }
+
+    // The network of the listeners.
+    fn network<'r, R: Net + Clock + Log>(&mut self, rt: &'r R) -> Result<TcpNetwork<'r, R>, Fault> {
+        let listeners = replace(&mut self.listeners, Vec::new(self.alloc));
+        match TcpNetwork::new(rt, self.alloc, listeners) {
+            Ok(net) => Ok(net),
+            Err(fault) => Err(fault_of(self.address, fault)),
+        }
+    }
+
+    // The socket by which the service is controlled, where the words ask for one.
+    fn control<'r, R, L>(
+        &self,
+        rt: &'r R,
+        net: &TcpNetwork<'_, L>,
+    ) -> Result<Option<ControlSocket<'r, R>>, Fault>
+    where
+        'a: 'r,
+        R: Files + Net,
+        L: Net + Clock + Log,
+    {
+        let Some(path) = self.control else {
+            return Ok(None);
+        };
+        match bind(rt, self.alloc, path, net) {
+            Ok(socket) => Ok(Some(socket)),
+            Err(error) => match path.to_string(self.alloc) {
+                Ok(name) => Err(Fault::CannotWrite { name, error }),
+                Err(error) => Err(Fault::Memory(error)),
+            },
+        }
     }
 
     // Tells the portmapper, where the words ask for it.
@@ -216,66 +290,68 @@ impl Served {
         if !self.is_registered {
             return Ok(None);
         }
-        let Some(listener) = self.listeners.first() else {
+        let Some(local) = self.locals.first() else {
             return Ok(None);
         };
-        let port = port_of(listener, self.address)?;
-        match Registration::at(rt, self.alloc, port) {
+        match Registration::at(rt, self.alloc, local.port()) {
             Ok(registration) => Ok(Some(registration)),
             Err(fault) => Err(Fault::Unregistered(fault)),
         }
     }
 
-    // Says where it is listened, and serves the clients of the listeners.
-    fn run<R, A, C>(
-        self,
+    // Says where it is listened, and serves the clients of the network.
+    fn run<R, N, L, A, C, T>(
+        &self,
         rt: &R,
         server: &mut Server,
+        net: &mut N,
         lines: &mut Lines<'_, A, C>,
-        copies: &Copies<'_>,
+        attendant: &mut T,
     ) -> Result<(), Fault>
     where
-        R: Files + Eprint + Net + Clock + RandomSource,
+        R: Clock + Log,
+        N: Network<Stream = L>,
+        L: Link + Drop,
         A: LineOut,
         C: LineOut,
+        T: Attendant,
     {
-        let address = self.address;
-        let logged = Logged::new(rt, self.level, Console(rt));
-        for listener in &self.listeners {
-            announce(&logged, self.alloc, listener, address, lines)?;
+        for local in &self.locals {
+            announce(rt, self.alloc, *local, lines)?;
         }
-        let mut saver = ServedSaver {
-            copies: copies.saver(&logged, self.alloc),
-        };
-        let done = self.serve(&logged, server, lines, &mut saver);
-        match done {
+        let mut service = Service::new(self.alloc, self.limits)?;
+        match service.serve(rt, server, net, lines, attendant) {
             Ok(()) if lines.lost_some() => Err(Fault::Write),
             Ok(()) => Ok(()),
-            Err(fault) => Err(fault_of(address, fault)),
+            Err(error) => Err(fault_of(self.address, error.into())),
         }
     }
+}
 
-    // Serves the clients of the listeners.
-    fn serve<R, A, C, S>(
-        self,
-        rt: &R,
-        server: &mut Server,
-        lines: &mut Lines<'_, A, C>,
-        saver: &mut S,
-    ) -> Result<(), ServiceFault>
-    where
-        R: Net + Clock + Log,
-        A: LineOut,
-        C: LineOut,
-        S: Saver,
-    {
-        let mut net = TcpNetwork::new(rt, self.alloc, self.listeners)?;
-        let mut service = Service::new(self.alloc, self.limits)?;
-        match service.serve(rt, server, &mut net, lines, saver) {
-            Ok(()) => Ok(()),
-            Err(error) => Err(error.into()),
+// The socket at a path by which a service of this network is controlled.
+fn bind<'r, R: Files + Net, L: Net + Clock + Log>(
+    rt: &'r R,
+    alloc: Global,
+    path: &'r str,
+    net: &TcpNetwork<'_, L>,
+) -> io::Result<ControlSocket<'r, R>> {
+    ControlSocket::bind(rt, alloc, path, net.registry()?)
+}
+
+// The addresses of listeners, of which faults name one.
+fn locals_of(
+    alloc: Global,
+    listeners: &[TcpListener],
+    address: SocketAddr,
+) -> Result<Vec<SocketAddr>, Fault> {
+    let mut locals = Vec::new(alloc);
+    for listener in listeners {
+        match listener.local_addr() {
+            Ok(local) => locals.push(local).map_err(AllocError::from)?,
+            Err(error) => return Err(Fault::Network { address, error }),
         }
     }
+    Ok(locals)
 }
 
 // Listens at addresses with this port, or where it is 0 with the one that the system chooses for the first.
@@ -322,14 +398,9 @@ fn port_of(listener: &TcpListener, address: SocketAddr) -> Result<u16, Fault> {
 fn announce<R: Clock + Log, A: LineOut, C: LineOut>(
     rt: &R,
     alloc: Global,
-    listener: &TcpListener,
-    address: SocketAddr,
+    local: SocketAddr,
     lines: &mut Lines<'_, A, C>,
-) -> Result<(), Fault> {
-    let local = match listener.local_addr() {
-        Ok(local) => local,
-        Err(error) => return Err(Fault::Network { address, error }),
-    };
+) -> Result<(), AllocError> {
     let line = format!(in alloc; "listening {local}\n")?;
     let mut clock = SystemClock::new(rt);
     lines.report(clock.now(), line.as_bytes());

@@ -25,6 +25,8 @@ pub enum Invocation<'a, 'w> {
     Replay(Replay<'a, 'w>),
     /// Clients are served.
     Serve(Serve<'a, 'w>),
+    /// A running service is asked, or stopped.
+    Control(Control<'a, 'w>),
     /// Directories on disk are described.
     Describe(Describe<'a, 'w>),
     /// A tree is written as a directory on disk.
@@ -44,6 +46,7 @@ impl<'a, 'w> Invocation<'a, 'w> {
             "exports" => Some(Invocation::Exports(Exports { words })),
             "replay" => Some(Invocation::Replay(Replay { words })),
             "serve" => Some(Invocation::Serve(Serve::new(words))),
+            "control" => Some(Invocation::Control(Control { words })),
             "describe" => Some(Invocation::Describe(Describe { words })),
             "extract" => Some(Invocation::Extract(Extract { words })),
             "self" => Some(Invocation::SelfCall(SelfCall { words })),
@@ -61,7 +64,7 @@ impl<'a, 'w> Invocation<'a, 'w> {
             Invocation::Serve(words) => UsageFault::of_serving(*words),
             Invocation::Describe(words) => UsageFault::of_all(words.directories(), words.key()),
             Invocation::Extract(words) => UsageFault::of_sharing(words.tree().sharing()),
-            Invocation::SelfCall(_) => None,
+            Invocation::Control(_) | Invocation::SelfCall(_) => None,
         }
     }
 }
@@ -221,6 +224,35 @@ impl<'a, 'w> Replay<'a, 'w> {
         ensures { IsFlag self.now.words.now (codes "names") result }
     {
         self.words.get_flag("names")
+    }
+}
+
+/// The words of `control`.
+#[derive(Clone, Copy)]
+pub struct Control<'a, 'w> {
+    words: &'a ArgMatches<'w>,
+}
+
+impl<'a, 'w> Control<'a, 'w> {
+    /// The socket of the service.
+    pub fn path(&self) -> &'a str
+        ensures { result.now ≡ text_of self.now.words.now (codes "path") }
+    {
+        text(self.words, "path")
+    }
+
+    /// What the service is to do.
+    pub fn word(&self) -> &'a str
+        ensures { result.now ≡ text_of self.now.words.now (codes "word") }
+    {
+        text(self.words, "word")
+    }
+
+    /// Where it saves its tree.
+    pub fn file(&self) -> Option<&'a str>
+        ensures { option_map (λ text. text.now) result ≡ text_given self.now.words.now (codes "file") }
+    {
+        self.words.get_str("file")
     }
 }
 

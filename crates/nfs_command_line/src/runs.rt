@@ -98,7 +98,7 @@ pub(crate) const SERVE: CommandRow = CommandRow {
     args: &SERVE_ARGS,
 };
 
-const SERVE_ARGS: [ArgRow; 23] = [
+const SERVE_ARGS: [ArgRow; 24] = [
     TREES,
     MOUNT_EACH,
     EXPORT,
@@ -182,4 +182,38 @@ const SERVE_ARGS: [ArgRow; 23] = [
         takes: Takes::BetweenBeside(1, 1_000_000, "save"),
     },
     SAVED_KEY,
+    ArgRow {
+        id: "control",
+        value: "PATH",
+        help: "A Unix socket to make, by which nfs3d control asks and stops the service",
+        takes: Takes::Text,
+    },
+];
+
+/// `control`.
+pub(crate) const CONTROL: CommandRow = CommandRow {
+    name: "control",
+    about: "Asks a running service, or stops it",
+    args: &CONTROL_ARGS,
+};
+
+const CONTROL_ARGS: [ArgRow; 3] = [
+    ArgRow {
+        id: "path",
+        value: "PATH",
+        help: "The socket of the service: the PATH of its --control",
+        takes: Takes::Word,
+    },
+    ArgRow {
+        id: "word",
+        value: "WORD",
+        help: "What to do: status prints how long it runs, its clients and its volumes; save writes its tree; stop ends it",
+        takes: Takes::Word,
+    },
+    ArgRow {
+        id: "file",
+        value: "FILE",
+        help: "Where save writes the tree; without it the file of the service's --save",
+        takes: Takes::OptionalWord,
+    },
 ];

@@ -147,6 +147,13 @@ impl<'a, 'w> Serve<'a, 'w> {
         self.words.get_str("key")
     }
 
+    /// The socket by which it is asked and stopped.
+    pub fn control(&self) -> Option<&'a str>
+        ensures { option_map (λ text. text.now) result ≡ text_given self.now.words.now (codes "control") }
+    {
+        self.words.get_str("control")
+    }
+
     /// Whether clients that come and go are reported.
     pub fn is_verbose(&self) -> bool
         ensures { IsFlag self.now.words.now (codes "verbose") result }

@@ -27,7 +27,7 @@ pub(crate) enum UsageFault {
     #[error("with several directories, put --mount, --export, --bytes, --files and --chown after the directory that they are for")]
     Early,
     /// A service is never saved, since it doesn't end.
-    #[error("--save FILE writes when the service ends: add --connections N, or --save-every SECONDS")]
+    #[error("--save FILE writes when the service ends: add --connections N, --save-every SECONDS, or --control PATH")]
     NeverSaved,
     /// Two texts are standard input.
     #[error("TREE and SCRIPT can't both be standard input: name a file for one of them")]
@@ -86,7 +86,9 @@ impl UsageFault {
 
     /// Of what is served, and of where and when it is saved.
     pub(crate) fn of_serving(words: Serve<'_, '_>) -> Option<UsageFault> {
-        let is_saved = words.connections().is_some() || words.save_every().is_some();
+        let is_saved = words.connections().is_some()
+            || words.save_every().is_some()
+            || words.control().is_some();
         if words.save().is_some() && !is_saved {
             return Some(UsageFault::NeverSaved);
         }

@@ -122,6 +122,22 @@ impl<R: Files + RandomSource + Clock + Log> CopySaver<'_, R> {
     }
 }
 
+impl<'a, R: Files + RandomSource> CopySaver<'a, R> {
+    /// The file where the tree is saved, if it is to be.
+    pub fn name(&self) -> Option<&'a str>
+        ensures { result ≡ self.now.name }
+    {
+        self.name
+    }
+
+    /// Saves the tree to the file of this name, whether it has changed or not. The faults of `try_place` and of
+    /// `save`.
+    pub fn save_as(&self, server: &Server, name: &str) -> Result<(), Fault> {
+        try_place(self.rt, self.alloc, name)?;
+        save(self.rt, self.alloc, name, server, self.key)
+    }
+}
+
 // Logs what is saved, and how long it took, or why it isn't.
 fn log_saved<R: Clock + Log>(
     rt: &R,

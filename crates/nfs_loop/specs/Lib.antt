@@ -1,3 +1,4 @@
+pub mod Ending
 pub mod Peers
 pub mod Reports
 pub mod Reporting

@@ -3,13 +3,14 @@ ghost use Rattle.std.specs.Prelude.{◌≡◌, ◌⊎◌, ◌+◌, ◌/◌, ◌<
 ghost use Rattle.nfs_lines.specs.Written.{PassedOn, written};
 ghost use Rattle.nfs_loop.specs.Refusing.{hold_for};
 ghost use Rattle.nfs_loop.specs.Reports.{Accounts};
+ghost use Rattle.nfs_loop.specs.Ending.{is_over_after, until_after};
 ghost use Rattle.nfs_loop.specs.Stages.{looked_after};
 
+use crate::attendant::{Attendant, Standing};
 use crate::limits::Limits;
 use crate::lines_reported::LinesReported;
 use crate::network::Network;
 use crate::refused_peers::RefusedPeers;
-use crate::saver::Saver;
 use crate::watches::Watches;
 use log::Log;
 use nfs_exports::addr::Addr;
@@ -24,6 +25,9 @@ const RETRY_MILLIS: u64 = 100;
 
 /// How long lines and clients wait for another try where the system reports nothing, in milliseconds.
 pub(crate) const LINES_MILLIS: u64 = 10;
+
+// For how many seconds a service goes on that was told to end.
+const LAST_SECONDS: u64 = 10;
 
 /// Whether connections wait to be accepted.
 #[derive(Clone, Copy, PartialEq, Eq)]
@@ -57,6 +61,10 @@ pub(crate) struct Housekeeping {
     lines_reported: LinesReported,
     // When the tree was last saved.
     saved: u64,
+    // Until when the service goes on, once it was told to end.
+    until: Option<u64>,
+    // Whether it goes on no more.
+    is_over: bool,
 }
 
 impl Housekeeping {
@@ -75,11 +83,17 @@ impl Housekeeping {
             is_touched: false,
             lines_reported: LinesReported::nothing(),
             saved: 0,
+            until: None,
+            is_over: false,
         }
     }
 
-    /// Whether all connections that there may be have ended.
+    /// Whether all connections that there may be have ended, or the service was told to end and goes on no
+    /// more.
     pub(crate) fn is_done(&self) -> bool {
+        if self.is_over {
+            return true;
+        }
         match self.limits.connections {
             Some(connections) => self.ended >= connections,
             None => false,
@@ -106,7 +120,7 @@ impl Housekeeping {
     fn looks_at_the_clock(&self, clients: usize) -> bool {
         let may_be_silent = self.limits.idle.is_some() && clients > 0;
         let may_be_saved = self.limits.save_every.is_some() && self.is_touched;
-        may_be_silent || may_be_saved
+        may_be_silent || may_be_saved || self.until.is_some()
     }
 
     /// Has a connection accepted that could not be accepted before.
@@ -150,14 +164,16 @@ impl Housekeeping {
         self.watches.begin(key, millis / 1_000, hold);
     }
 
-    /// Passes on lines that wait, says what can't be written, and has the tree saved where it is time.
-    pub(crate) fn attend<R: Log, N: Network, A: LineOut, C: LineOut, S: Saver>(
+    /// Passes on lines that wait, says what can't be written, has the tree saved where it is time, and has whoever
+    /// controls the service answered.
+    pub(crate) fn attend<R: Log, N: Network, A: LineOut, C: LineOut, T: Attendant>(
         &mut self,
         rt: &R,
         server: &Server,
         net: &mut N,
         lines: &mut Lines<'_, A, C>,
-        saver: &mut S,
+        attendant: &mut T,
+        clients: usize,
     )
         ensures reported { Accounts (N.reported net.old) [] (N.reported net.new) }
         ensures watches { self.new.watches ≡ self.old.watches }
@@ -168,15 +184,43 @@ impl Housekeeping {
         lines.pass_on();
         let seconds = net.millis() / 1_000;
         self.lines_reported.report(rt, lines, seconds);
-        self.save(server, net, saver, seconds);
+        self.save(server, net, attendant, seconds);
+        let standing = Standing {
+            clients,
+            joined: self.ended.saturating_add(clients as u64),
+            seconds,
+        };
+        let is_told = attendant.attend(server, standing);
+        self.look_at_end(net, is_told, standing);
+    }
+
+    // Accepts no more connections once the service is told to end. It is over when all have ended, or after 10
+    // seconds.
+    fn look_at_end<N: Network>(&mut self, net: &mut N, is_told: bool, standing: Standing)
+        ensures until { self.new.until ≡ until_after is_told standing.seconds self.old.until }
+        ensures over { self.new.is_over ≡ is_over_after standing self.new.until self.old.is_over }
+        ensures reported { N.reported net.new ≡ N.reported net.old }
+        ensures watches { self.new.watches ≡ self.old.watches }
+        ensures looked { self.new.looked ≡ self.old.looked }
+        ensures limits { self.new.limits ≡ self.old.limits }
+    {
+        if is_told && self.until.is_none() {
+            net.close_listener();
+            self.until = Some(standing.seconds.saturating_add(LAST_SECONDS));
+        }
+        if let Some(until) = self.until
+            && (standing.clients == 0 || standing.seconds >= until)
+        {
+            self.is_over = true;
+        }
     }
 
     // Has the tree saved where it is time, so many seconds after the service began.
-    fn save<N: Network, S: Saver>(
+    fn save<N: Network, T: Attendant>(
         &mut self,
         server: &Server,
         net: &mut N,
-        saver: &mut S,
+        attendant: &mut T,
         seconds: u64,
     )
         ensures reported { Accounts (N.reported net.old) [] (N.reported net.new) }
@@ -188,7 +232,7 @@ impl Housekeeping {
             && self.is_touched
             && seconds.saturating_sub(self.saved) >= every
         {
-            saver.save(server);
+            attendant.save(server);
             self.is_touched = false;
             self.saved = net.millis() / 1_000;
         }

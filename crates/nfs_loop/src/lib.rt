@@ -2,6 +2,7 @@
 #![tactic(auto)]
 
 pub mod addresses;
+pub mod attendant;
 mod ends;
 mod housekeeping;
 mod joins;
@@ -12,7 +13,6 @@ pub mod network;
 mod refused_peers;
 pub mod report;
 mod rounds;
-pub mod saver;
 pub mod service;
 mod silence;
 mod watches;

@@ -9,11 +9,11 @@ ghost use Rattle.nfs_loop.specs.Watching.{AreWatched};
 ghost use Rattle.nfs_server.specs.Fits.{History, Fits};
 ghost use Rattle.nfs_serving.specs.Service.{Change};
 
+use crate::attendant::Attendant;
 use crate::housekeeping::{Housekeeping, LINES_MILLIS};
 use crate::limits::Limits;
 use crate::member::Member;
 use crate::network::Network;
-use crate::saver::Saver;
 use log::Log;
 use nfs_lines::line_out::LineOut;
 use nfs_lines::lines::Lines;
@@ -59,19 +59,21 @@ impl<L: Link + Drop> Service<L> {
         })
     }
 
-    /// Serves clients until as many connections have ended as there may be. Each connection's end is
-    /// written as a line, and so is each denied call. Lines that can't be written end no service.
+    /// Serves clients until as many connections have ended as there may be, or until it is told to end: then it
+    /// accepts no more connections, and goes on until all have ended, for 10 seconds at most, so that replies that
+    /// are pending go out. Each connection's end is written as a line, and so is each denied call. Lines that can't
+    /// be written end no service.
     ///
     /// Whatever the network answers, all that changes is one history and one log, also where the network
     /// fails, which is the only fault. In each round the network is asked what is ready, and then each client
     /// that waits has one turn, in the order of the queue: the one at place i waits for i turns of others.
-    pub fn serve<R: Log, N: Network<Stream = L>, A: LineOut, C: LineOut, S: Saver>(
+    pub fn serve<R: Log, N: Network<Stream = L>, A: LineOut, C: LineOut, T: Attendant>(
         &mut self,
         rt: &R,
         server: &mut Server,
         net: &mut N,
         lines: &mut Lines<'_, A, C>,
-        saver: &mut S,
+        attendant: &mut T,
     ) -> io::Result<()>
         requires watched { AreWatched self.old.clients.0 self.old.housekeeping.watches }
         ensures lived { ((key : ℕ) → get self.old.clients.0 key ≡ None) → (history : History) → Fits history server.old
@@ -85,17 +87,17 @@ impl<L: Link + Drop> Service<L> {
         ensures watched { AreWatched self.new.clients.0 self.new.housekeeping.watches }
     {
         service_is_one_history::<L>();
-        self.run(rt, server, net, lines, saver)
+        self.run(rt, server, net, lines, attendant)
     }
 
     // The same, as changes.
-    fn run<R: Log, N: Network<Stream = L>, A: LineOut, C: LineOut, S: Saver>(
+    fn run<R: Log, N: Network<Stream = L>, A: LineOut, C: LineOut, T: Attendant>(
         &mut self,
         rt: &R,
         server: &mut Server,
         net: &mut N,
         lines: &mut Lines<'_, A, C>,
-        saver: &mut S,
+        attendant: &mut T,
     ) -> io::Result<()>
         requires watched { AreWatched self.old.clients.0 self.old.housekeeping.watches }
         ensures goes { Goes L.outgoing L.incoming
@@ -117,19 +119,19 @@ impl<L: Link + Drop> Service<L> {
             if let Err(error) = net.wait(timeout) {
                 return Err(error);
             }
-            self.round(rt, server, net, lines, saver);
+            self.round(rt, server, net, lines, attendant);
         }
         self.finish(net, lines)
     }
 
     // One round: what is done after each wait.
-    fn round<R: Log, N: Network<Stream = L>, A: LineOut, C: LineOut, S: Saver>(
+    fn round<R: Log, N: Network<Stream = L>, A: LineOut, C: LineOut, T: Attendant>(
         &mut self,
         rt: &R,
         server: &mut Server,
         net: &mut N,
         lines: &mut Lines<'_, A, C>,
-        saver: &mut S,
+        attendant: &mut T,
     )
         requires watched { AreWatched self.old.clients.0 self.old.housekeeping.watches }
         ensures round { (changes : List Change) × IsRound L.outgoing L.incoming L.reports changes (N.reported net.old) (N.reported net.new)
@@ -146,7 +148,9 @@ impl<L: Link + Drop> Service<L> {
         self.release(net, lines);
         self.turns(rt, server, net, lines);
         self.end_silent(rt, net, lines);
-        self.housekeeping.attend(rt, server, net, lines, saver);
+        let clients = self.clients.len();
+        self.housekeeping
+            .attend(rt, server, net, lines, attendant, clients);
     }
 
     // Passes on the lines that are left, as long as somebody may read them.

@@ -7,6 +7,9 @@ use mio::Token;
 /// The listeners' token. No client has it.
 pub(crate) const LISTENER: Token = Token(0);
 
+/// The token of whatever else is to wake the service, which then finds no connection.
+pub const WAKING: Token = LISTENER;
+
 /// The token of a client, by its key.
 pub(crate) fn token_of(key: usize) -> Token
     requires { key + 1 < 2 ^ 64 }

@@ -2,7 +2,7 @@
 #![tactic(auto)]
 
 pub mod clock;
-mod keys;
+pub mod keys;
 pub mod line_file;
 pub mod network;
 pub mod self_call;

@@ -7,7 +7,7 @@ use crate::service_fault::ServiceFault;
 use crate::socket::Socket;
 use log::Log;
 use mio::net::{TcpListener, TcpStream};
-use mio::{Events, Interest, Poll};
+use mio::{Events, Interest, Poll, Registry};
 use nfs_attrs::moment::Moment;
 use nfs_loop::network::{Accepted, EVENTS, Network, Ready};
 use nfs_server::moments::Moments;
@@ -52,6 +52,11 @@ impl<'a, R: Net + Clock + Log> TcpNetwork<'a, R> {
             ready: VecDeque::with_capacity(alloc, EVENTS as usize)?,
             listeners,
         })
+    }
+
+    /// Where whatever else is registered has to wake the service.
+    pub fn registry(&self) -> io::Result<Registry> {
+        self.poll.registry().try_clone()
     }
 
     // The next connection of a listener.
