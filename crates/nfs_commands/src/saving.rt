@@ -30,8 +30,9 @@ pub enum Saved {
 /// Writes the description of a server's tree and exports under a key, or under a new one: to a file
 /// beside the one of this name, which it then replaces.
 ///
-/// `CannotWrite` where the system refuses a step, `CannotRead` where the system has no new key, `Memory`. The file of that name is then as it was, with
-/// nothing beside it; only where its directory can't be synced it is the new one.
+/// `CannotWrite` where the system refuses a step, `CannotRead` where the system has no new key, `Memory`. The
+/// file of that name is then as it was, with nothing beside it; only where its directory can't be synced it is
+/// the new one.
 pub fn save<R: Files + RandomSource>(
     rt: &R,
     alloc: Global,

@@ -7,7 +7,8 @@ pub trait Attendant {
     /// Makes a copy of the tree of a server.
     fn save(&mut self, server: &Server);
 
-    /// Answers who controls the service. Whether the service is to end.
+    /// Answers who controls the service, in a round in which something was reported that is no client's. Whether the
+    /// service is to end.
     fn attend(&mut self, server: &Server, standing: Standing) -> bool;
 }
 

@@ -58,6 +58,8 @@ pub(crate) struct Housekeeping {
     pub(crate) refused_peers: RefusedPeers,
     /// Whether the tree may have changed since it was saved.
     pub(crate) is_touched: bool,
+    /// Whether something was reported in this round that is no client's, and may be for the attendant.
+    pub(crate) is_woken: bool,
     lines_reported: LinesReported,
     // When the tree was last saved.
     saved: u64,
@@ -81,6 +83,7 @@ impl Housekeeping {
             looked: 0,
             refused_peers: RefusedPeers::new(alloc),
             is_touched: false,
+            is_woken: false,
             lines_reported: LinesReported::nothing(),
             saved: 0,
             until: None,
@@ -190,7 +193,8 @@ impl Housekeeping {
             joined: self.ended.saturating_add(clients as u64),
             seconds,
         };
-        let is_told = attendant.attend(server, standing);
+        let is_told = self.is_woken && attendant.attend(server, standing);
+        self.is_woken = false;
         self.look_at_end(net, is_told, standing);
     }
 

@@ -40,7 +40,10 @@ impl<L: Link + Drop> Service<L> {
         while left > 0 {
             left -= 1;
             match net.ready() {
-                Some(Ready::Listener) => self.housekeeping.waiting = Waiting::Some,
+                Some(Ready::Listener) => {
+                    self.housekeeping.waiting = Waiting::Some;
+                    self.housekeeping.is_woken = true;
+                }
                 Some(Ready::Client { key, is_closing }) => self.note_client(key, is_closing),
                 None => return,
             }

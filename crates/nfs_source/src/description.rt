@@ -1,5 +1,5 @@
 //! Descriptions that are loaded while they are read.
-ghost use Rattle.std.specs.Prelude.{◌≡◌, ◌⊎◌, ℕ, ◌≤◌, List, [], ◌∷◌, ◌++◌, length, true, None, Ok, ⊤, IfOk, IfErr, OnOk, MatchOption};
+ghost use Rattle.std.specs.Prelude.{◌≡◌, ◌⊎◌, ℕ, ◌<◌, ◌≤◌, IsErr, List, [], ◌∷◌, ◌++◌, length, true, None, Ok, ⊤, IfOk, IfErr, OnOk, MatchOption};
 ghost use Rattle.std.specs.Option.{is_some};
 ghost use Rattle.nfs_describe.specs.Outputs.{Takes};
 ghost use Rattle.nfs_describe.specs.Texts.{most_text_bytes};
@@ -176,7 +176,9 @@ impl<D: LineDigest> Reading<D> {
     }
 
     // Refuses a line that has not ended, once no line of a description is so long.
-    fn check_length(&self, line: &[u8]) -> Result<(), SinkFault> {
+    fn check_length(&self, line: &[u8]) -> Result<(), SinkFault>
+        ensures { IsErr result → 65536 < length line.now }
+    {
         let mut most = MOST_WORD_BYTES;
         if line.len() > most && begins_as_line(line) {
             most += 2 * self.largest_file.min(MAX_FILE_BYTES);
