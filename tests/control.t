@@ -141,6 +141,30 @@ run control "$socket" stop
 ok $? "nfs3d control returns once the tree is saved"
 brings "$work/stopping" /dev/null 0 && server_ends 0 && grep -q '^file /left ' "$work/saved" && run check "$work/saved" && says "ok volumes=2 files=4 bytes=5"
 ok $? "stop saves the tree where --save says so"
+
+# A client that stays: the first NULL of it is sent a second after the stop, beside a connection that comes too late.
+controlled
+# shellcheck disable=SC2016
+bash -c 'exec 3<>"/dev/tcp/127.0.0.1/$0" && { "$1" control "$2" stop >"$3/told" & } && sleep 1 &&
+    printf "\200\0\0\050\0\0\0\052\0\0\0\0\0\0\0\002\0\001\206\243\0\0\0\003" >&3 && head -c 20 /dev/zero >&3 && head -c 28 <&3 >"$3/reply" &&
+    { (exec 4<>"/dev/tcp/127.0.0.1/$0") 2>/dev/null || : >"$3/late"; } && kill -0 $! && exec 3>&- && wait $!' "$port" "$program" "$socket" "$work"
+same "$work/stopping" "$work/told" && [ "$(od -An -v -tx1 "$work/reply" | tr -d ' \n')" = 800000180000002a0000000100000000000000000000000000000000 ] && server_ends 0
+ok $? "a service that is stopped answers its clients until they have left"
+[ -e "$work/late" ]
+ok $? "and takes no more of them"
+controlled
+bash -c 'exec 3<>"/dev/tcp/127.0.0.1/$0" && timeout 30 "$1" control "$2" stop >"$3/told"' "$port" "$program" "$socket" "$work"
+same "$work/stopping" "$work/told" && server_ends 0
+ok $? "a client that doesn't leave doesn't hold up the end"
+
+mkdir "$work/gone"
+controlled --save "$work/gone/saved"
+rm -r "$work/gone"
+printf 'stopping\nerror: the service ended with a fault; see its messages\n' >"$work/wanted"
+run control "$socket" stop
+brings /dev/null "$work/wanted" 1 && server_ends 3 && grep -q "^nfs3d: cannot write $work/gone/saved: " "$work/served.err"
+ok $? "stop, where the tree can't be saved"
+
 run serve "$work/tree" --save "$work/saved" --port 0
 ended 2 && grep -q 'or --control PATH$' "$work/err"
 ok $? "--save of a service that doesn't end is refused, and --control is one way out"

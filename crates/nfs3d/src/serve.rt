@@ -143,7 +143,7 @@ where
     let registration = match served.register(rt) {
         Ok(registration) => registration,
         Err(fault) => {
-            attending.end();
+            attending.end(true);
             return Err(fault.into());
         }
     };
@@ -152,7 +152,7 @@ where
         registration.remove(rt);
     }
     let saved = copies.save_last(rt, served.alloc, server, done);
-    attending.end();
+    attending.end(saved.is_err());
     saved?;
     Ok(ExitCode::SUCCESS)
 }

@@ -12,9 +12,9 @@ use std::os::unix::net::UnixStream;
 use std::process::ExitCode;
 
 /// Sends the words to the service whose socket has this path, and prints what it answers, once it has closed the
-/// connection. The status is 1 where it refuses them, which is printed on standard error, and 2 where they are no
-/// line. `CannotRead` where the service can't be reached or doesn't answer, `Write` and `Closed` where the output
-/// fails, `Memory`.
+/// connection. The status is 1 where it refuses them or ended with a fault, which is printed on standard error,
+/// and 2 where they are no line. `CannotRead` where the service can't be reached or doesn't answer, `Write` and
+/// `Closed` where the output fails, `Memory`.
 pub fn control<R: Net + Print + Eprint>(
     rt: &R,
     alloc: Global,
@@ -65,10 +65,20 @@ fn ask<R: Net>(rt: &R, alloc: Global, path: &str, line: &[u8]) -> io::Result<Vec
     Ok(answer)
 }
 
+// Whether a line of an answer is a fault.
+fn is_refused(answer: &str) -> bool {
+    for line in answer.lines() {
+        if line.starts_with("error: ") {
+            return true;
+        }
+    }
+    false
+}
+
 // Prints an answer.
 fn show<R: Print + Eprint>(rt: &R, answer: &[u8]) -> Result<ExitCode, Diagnostic> {
     match str::from_utf8(answer) {
-        Ok(text) if text.starts_with("error: ") => {
+        Ok(text) if is_refused(text) => {
             let _ = eprint!(rt; "{text}");
             Ok(ExitCode::from(1))
         }

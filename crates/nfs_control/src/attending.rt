@@ -27,11 +27,11 @@ impl<'a, 'b, L, R: Files + Net> Attending<'a, 'b, L, R> {
     }
 
     /// Takes the socket away, and closes its connections: whoever asked for the end of the service sees that it has
-    /// ended.
-    pub fn end(self) {
+    /// ended, and whether with a fault.
+    pub fn end(self, has_fault: bool) {
         let Attending { control, .. } = self;
         if let Some(socket) = control {
-            socket.remove();
+            socket.remove(has_fault);
         }
     }
 }

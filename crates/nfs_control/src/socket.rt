@@ -93,8 +93,14 @@ impl<'a, R: Files + Net> ControlSocket<'a, R> {
         stops
     }
 
-    /// Takes the socket away, and closes its connections.
-    pub fn remove(self) {
+    /// Takes the socket away, and closes its connections. Where the service ended with a fault, whoever asked for its
+    /// end is told so.
+    pub fn remove(mut self, has_fault: bool) {
+        if has_fault {
+            for visit in &mut self.visits {
+                visit.add(b"error: the service ended with a fault; see its messages\n");
+            }
+        }
         let _ = fs::remove_file(self.rt, self.path);
     }
 

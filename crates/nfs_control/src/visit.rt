@@ -140,6 +140,13 @@ impl<S: Read + Write + Drop> Visit<S> {
         };
     }
 
+    /// Adds a line to an answer that is held, as far as it is taken without waiting.
+    pub(crate) fn add(&mut self, line: &[u8]) {
+        if self.stage == Stage::Holding && self.answer.extend_from_slice(line).is_ok() {
+            self.tell();
+        }
+    }
+
     /// Closes it.
     pub(crate) fn close(&mut self)
         ensures { self.new.line ≡ self.old.line }
