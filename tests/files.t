@@ -50,6 +50,15 @@ run check /dev/zero
 refuses "/dev/zero: line 1 has more than 65536 bytes, and is no line of a description" "check of a description without an end"
 { printf 'server 0102030405060708\nvolume /v 10 10 0755 0 0\nfile /f 0644 0 0 '; yes 00 | tr -d '\n'; } 2>/dev/null | run check -
 refuses "-: line 3 has more than 33619968 bytes, and is no line of a description" "check of a file's line without an end"
+# longest BYTES: writes a comment of so many bytes, a line of 140,000 spaces, and a description.
+longest() { { printf '#' && head -c "$(($1 - 1))" /dev/zero | tr '\0' x && printf '\n%140000s\n' '' && cat examples/e.tree; } >"$work/long"; }
+longest 33619968
+run check "$work/long"
+says "ok volumes=2 files=8 bytes=12"
+ok $? "check of a comment of as many bytes as a line may have, and of a long line without words"
+longest 33619969
+run check "$work/long"
+refuses "$work/long: line 1 has more than 33619968 bytes, and is no line of a description" "check of a comment with a byte more"
 { echo "dir /d 0755 0 0"; cat /dev/zero; } 2>/dev/null | run check -
 says "line 1: NoServer"
 ok $? "check of a description without an end that has a faulty line"

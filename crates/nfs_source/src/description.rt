@@ -175,15 +175,15 @@ impl<D: LineDigest> Reading<D> {
         Ok(())
     }
 
-    // Refuses a line that has not ended, once no line of a description is so long.
-    fn check_length(&self, line: &[u8]) -> Result<(), SinkFault>
-        ensures { IsErr result → 65536 < length line.now }
+    // Refuses a line of so many bytes that begins like this, where no line of a description is so long.
+    fn check_length(&self, begin: &[u8], len: usize) -> Result<(), SinkFault>
+        ensures { IsErr result → 65536 < len }
     {
         let mut most = MOST_WORD_BYTES;
-        if line.len() > most && begins_as_line(line) {
+        if len > most && begins_as_line(begin) {
             most += 2 * self.largest_file.min(MAX_FILE_BYTES);
         }
-        if line.len() > most {
+        if len > most {
             return Err(SinkFault::LongLine {
                 line: count_lines(self.text.as_slice()).saturating_add(1),
                 most,
@@ -239,6 +239,16 @@ impl<D: LineDigest> Reader<D> {
         }
     }
 
+    // Refuses the line that ends with this part, where no line of a description is so long.
+    fn check_end(&self, part: &[u8]) -> Result<(), SinkFault> {
+        let len = self.line.len().saturating_add(part.len());
+        if self.line.is_empty() {
+            self.reading.check_length(part, len)
+        } else {
+            self.reading.check_length(self.line.as_slice(), len)
+        }
+    }
+
     // Takes the last part of the line; mostly it is the whole line.
     fn end_line(&mut self, part: &[u8]) -> Result<(), AllocError>
         requires in_order { self.old.reading.fault ≡ None }
@@ -261,7 +271,8 @@ impl<D: LineDigest> Reader<D> {
         ensures { OnOk result (Takes (HasText D.has) self.old part.now self.new) }
     {
         self.line.extend_from_slice(part)?;
-        self.reading.check_length(self.line.as_slice())
+        self.reading
+            .check_length(self.line.as_slice(), self.line.len())
     }
 
     // All lines; the last may lack its LF.
@@ -292,6 +303,7 @@ impl<D: LineDigest> Sink for Reader<D> {
         while self.reading.fault.is_none() {
             match cut_line(rest) {
                 Some((part, after)) => {
+                    self.check_end(part)?;
                     self.end_line(part)?;
                     rest = after;
                 }
@@ -326,14 +338,15 @@ fn count_lines(text: &[u8]) -> u64 {
     count
 }
 
-// Whether a line begins with a word of a description, or is a comment, as far as its first byte says.
+// Whether a line may begin with a word of a description, be a comment or have no word, as far as its first byte that is
+// no space says.
 fn begins_as_line(line: &[u8]) -> bool {
     for byte in line {
         if *byte != b' ' {
             return *byte == b'#' || byte.is_ascii_lowercase();
         }
     }
-    false
+    true
 }
 
 // What stands before the first LF, and what stands after it.
