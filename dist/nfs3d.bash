@@ -9,19 +9,19 @@ _nfs3d() {
     --audit | --save | --control) COMPREPLY=($(compgen -f -- "$word")) && return ;;
     --listen) COMPREPLY=($(compgen -W "127.0.0.1 0.0.0.0 ::" -- "$word")) && return ;;
     --audit-failed) COMPREPLY=($(compgen -W "refuse count" -- "$word")) && return ;;
-    --port | --connections | --clients | --idle | --cache | --mount | --export | --bytes | --files | --key | --save-every | --audit-skip) COMPREPLY=() && return ;;
+    --port | --connections | --clients | --idle | --cache | --mount | --export | --bytes | --files | --key | --save-every | --metrics | --audit-skip) COMPREPLY=() && return ;;
     esac
     if [ "${COMP_WORDS[1]}" = why ] && [ "$COMP_CWORD" -eq 5 ]; then
         COMPREPLY=($(compgen -W "stat access read write create remove mkdir rmdir rename link symlink readlink mknod lookup list readdirplus chmod chown chgrp truncate touch utime commit df fsinfo pathconf mount" -- "$word"))
         return
     fi
     if [ "${COMP_WORDS[1]}" = control ] && [ "$COMP_CWORD" -eq 3 ]; then
-        COMPREPLY=($(compgen -W "status save stop" -- "$word"))
+        COMPREPLY=($(compgen -W "status clients mounts denied metrics reload save stop" -- "$word"))
         return
     fi
     case ${COMP_WORDS[1]}:$word in
     check:-*) COMPREPLY=($(compgen -W "--mount --export --bytes --files --chown --strict --all --help" -- "$word")) ;;
-    serve:-*) COMPREPLY=($(compgen -W "--mount --export --bytes --files --chown --strict --listen --port --register --connections --clients --idle --cache --audit --audit-failed --audit-skip --times --names --save --save-every --key --control --verbose --help" -- "$word")) ;;
+    serve:-*) COMPREPLY=($(compgen -W "--mount --export --bytes --files --chown --strict --listen --port --register --connections --clients --idle --cache --audit --audit-failed --audit-skip --times --names --save --save-every --key --control --watch --metrics --verbose --help" -- "$word")) ;;
     describe:-*) COMPREPLY=($(compgen -W "--mount --export --bytes --files --chown --times --strict --key --help" -- "$word")) ;;
     replay:-*) COMPREPLY=($(compgen -W "--mount --export --bytes --files --chown --cache --save --key --decode --names --help" -- "$word")) ;;
     why:-*) COMPREPLY=($(compgen -W "--mount --export --bytes --files --chown --quiet --help" -- "$word")) ;;

@@ -5,10 +5,14 @@ use log::sink::Console;
 use log::{Level, Log, Logged};
 use mio::net::TcpListener;
 use nfs_command_line::serve::Serve;
+use nfs_command_line::words::VERSION;
 use nfs_commands::copies::Copies;
 use nfs_commands::lending::{ServerUse, lend_life};
+use nfs_commands::named::description_name;
 use nfs_control::attending::Attending;
-use nfs_control::socket::ControlSocket;
+use nfs_control::metrics_socket::MetricsSocket;
+use nfs_control::socket::{About, ControlSocket};
+use nfs_control::watch::Watch;
 use nfs_lines::line_out::LineOut;
 use nfs_lines::lines::Lines;
 use nfs_lines::rule_names::first_unknown;
@@ -48,6 +52,9 @@ where
     let Some(addresses) = addresses_of(rt, alloc, words)? else {
         return Ok(ExitCode::from(2));
     };
+    if !has_metrics_address(rt, words) {
+        return Ok(ExitCode::from(2));
+    }
     let copies = Copies::of(rt, alloc, words.save(), words.key())?;
     let service = ServiceAt {
         rt,
@@ -71,7 +78,7 @@ struct ServiceAt<'a, 'w, R> {
 
 impl<R> ServerUse for ServiceAt<'_, '_, R>
 where
-    R: Files<File = File> + Print + Eprint + Net + Clock + RandomSource,
+    R: Files<File = File> + Input + Print + Eprint + Net + Clock + RandomSource,
 {
     fn run(&self, server: &mut Server) -> Result<ExitCode, Diagnostic> {
         let (addresses, words) = (self.addresses, self.words);
@@ -80,7 +87,7 @@ where
 }
 
 // Serves, and then saves the tree where the words ask for it.
-fn serve_and_save<'a, R: Files<File = File> + Print + Eprint + Net + Clock + RandomSource>(
+fn serve_and_save<'a, R: Files<File = File> + Input + Print + Eprint + Net + Clock + RandomSource>(
     rt: &'a R,
     alloc: Global,
     server: &mut Server,
@@ -88,7 +95,12 @@ fn serve_and_save<'a, R: Files<File = File> + Print + Eprint + Net + Clock + Ran
     words: Serve<'a, '_>,
     copies: &Copies<'_>,
 ) -> Result<ExitCode, Diagnostic> {
-    let served = Served::listen(rt, alloc, addresses, words)?;
+    let mut served = Served::listen(rt, alloc, addresses, words)?;
+    served.description = description_name(rt, alloc, words.trees())?;
+    if words.is_watched() && !served.has_file() {
+        let _ = eprintln!(rt; "error: --watch takes one description, in a file");
+        return Ok(ExitCode::from(2));
+    }
     let out = output(rt, alloc)?;
     match words.audit() {
         Some(name) => {
@@ -112,7 +124,7 @@ fn run_with<'a, R, A, C>(
     copies: &Copies<'_>,
 ) -> Result<ExitCode, Diagnostic>
 where
-    R: Files + Eprint + Net + Clock + RandomSource,
+    R: Files + Input + Eprint + Net + Clock + RandomSource,
     A: LineOut + Drop,
     C: LineOut + Drop,
 {
@@ -132,14 +144,20 @@ fn serve_logged<'a, 'b, R, L, A, C>(
     copies: &'b Copies<'_>,
 ) -> Result<ExitCode, Diagnostic>
 where
-    R: Files + Eprint + Net + RandomSource,
+    R: Files + Input + Eprint + Net + RandomSource,
     L: Files + Net + Clock + RandomSource + Log,
     A: LineOut,
     C: LineOut,
 {
     let mut net = served.network(logged)?;
+    let metrics = served.metrics(rt, &net)?;
     let control = served.control(rt, &net)?;
-    let mut attending = Attending::new(copies.saver(logged, served.alloc), control);
+    if control.is_some() {
+        lines.denied.keep_denials();
+    }
+    let saver = copies.saver(logged, served.alloc);
+    let watch = served.watch(rt);
+    let mut attending = Attending::new(saver, control, metrics, watch, logged);
     let registration = match served.register(rt) {
         Ok(registration) => registration,
         Err(fault) => {
@@ -177,6 +195,19 @@ fn addresses_of<R: Eprint>(
         addresses.push(address)?;
     }
     Ok(Some(addresses))
+}
+
+// Whether metrics are asked for at an address, if they are; it is reported where they aren't.
+fn has_metrics_address<R: Eprint>(rt: &R, words: Serve<'_, '_>) -> bool {
+    match words.metrics() {
+        Some(text) if text.parse::<SocketAddr>().is_err() => {
+            let _ = eprintln!(rt;
+                "error: invalid value '{text}' for '--metrics <ADDRESS:PORT>': it is not an address and a port, such as 127.0.0.1:9049"
+            );
+            false
+        }
+        _ => true,
+    }
 }
 
 // The first address that other machines can reach; where there is none, the first.
@@ -217,6 +248,12 @@ struct Served<'a> {
     level: Level,
     is_registered: bool,
     control: Option<&'a str>,
+    // Where the metrics are, until the service has their listener.
+    metrics: Option<TcpListener>,
+    metrics_local: Option<SocketAddr>,
+    is_watched: bool,
+    // The name of the description that is served, if it is one.
+    description: Option<&'a str>,
 }
 
 impl<'a> Served<'a> {
@@ -235,7 +272,9 @@ impl<'a> Served<'a> {
             clients: words.clients(),
             idle: words.idle(),
             save_every: words.save_every(),
+            is_watched: words.is_watched(),
         };
+        let metrics = listen_for_metrics(rt, alloc, words)?;
         let level = if words.is_verbose() {
             Level::Info
         } else {
@@ -250,6 +289,12 @@ impl<'a> Served<'a> {
             level,
             is_registered: words.is_registered(),
             control: words.control(),
+            metrics_local: metrics
+                .as_ref()
+                .and_then(|listener| listener.local_addr().ok()),
+            metrics,
+            is_watched: words.is_watched(),
+            description: None,
         })
     }
 
@@ -276,12 +321,53 @@ impl<'a> Served<'a> {
         let Some(path) = self.control else {
             return Ok(None);
         };
-        match bind(rt, self.alloc, path, net) {
+        let about = About {
+            description: self.description,
+            first_lines: first_lines(self.alloc, self.locals.as_slice())?,
+        };
+        match bind(rt, self.alloc, path, about, net) {
             Ok(socket) => Ok(Some(socket)),
             Err(error) => match path.to_string(self.alloc) {
                 Ok(name) => Err(Fault::CannotWrite { name, error }),
                 Err(error) => Err(Fault::Memory(error)),
             },
+        }
+    }
+
+    // The socket at which the service gives its metrics, where the words ask for one.
+    fn metrics<'r, R: Files + Net, L: Net + Clock + Log>(
+        &mut self,
+        rt: &'r R,
+        net: &TcpNetwork<'_, L>,
+    ) -> Result<Option<MetricsSocket<'r, R>>, Fault> {
+        let Some(listener) = self.metrics.take() else {
+            return Ok(None);
+        };
+        match metrics_at(rt, self.alloc, listener, net) {
+            Ok(socket) => Ok(Some(socket)),
+            Err(error) => Err(Fault::Network {
+                address: self.address,
+                error,
+            }),
+        }
+    }
+
+    // Whether a description is served that is in a file.
+    fn has_file(&self) -> bool {
+        match self.description {
+            Some(name) => name != "-",
+            None => false,
+        }
+    }
+
+    // What watches the description, where the words ask for that.
+    fn watch<'r, R: Files + Input>(&self, rt: &'r R) -> Option<Watch<'r, R>>
+    where
+        'a: 'r,
+    {
+        match self.description {
+            Some(name) if self.is_watched => Some(Watch::new(rt, self.alloc, name)),
+            _ => None,
         }
     }
 
@@ -317,7 +403,10 @@ impl<'a> Served<'a> {
         T: Attendant,
     {
         for local in &self.locals {
-            announce(rt, self.alloc, *local, lines)?;
+            announce(rt, self.alloc, "listening", *local, lines)?;
+        }
+        if let Some(local) = self.metrics_local {
+            announce(rt, self.alloc, "metrics", local, lines)?;
         }
         let mut service = Service::new(self.alloc, self.limits)?;
         match service.serve(rt, server, net, lines, attendant) {
@@ -333,9 +422,29 @@ fn bind<'r, R: Files + Net, L: Net + Clock + Log>(
     rt: &'r R,
     alloc: Global,
     path: &'r str,
+    about: About<'r>,
     net: &TcpNetwork<'_, L>,
 ) -> io::Result<ControlSocket<'r, R>> {
-    ControlSocket::bind(rt, alloc, path, net.registry()?)
+    ControlSocket::bind(rt, alloc, path, about, net.registry()?)
+}
+
+// The socket at which a service of this network gives its metrics.
+fn metrics_at<'r, R: Files, L: Net + Clock + Log>(
+    rt: &'r R,
+    alloc: Global,
+    listener: TcpListener,
+    net: &TcpNetwork<'_, L>,
+) -> io::Result<MetricsSocket<'r, R>> {
+    MetricsSocket::new(rt, alloc, listener, net.registry()?)
+}
+
+// The first lines of the status of a service: its version, and the addresses that it listens on.
+fn first_lines(alloc: Global, locals: &[SocketAddr]) -> Result<String, AllocError> {
+    let mut lines = format!(in alloc; "version {VERSION}\n")?;
+    for local in locals {
+        lines.push_str(format!(in alloc; "address {local}\n")?.as_str())?;
+    }
+    Ok(lines)
 }
 
 // The addresses of listeners, of which faults name one.
@@ -374,6 +483,21 @@ fn listen_at_all<R: Net>(
     Ok(listeners)
 }
 
+// Listens where metrics are asked for, if they are.
+fn listen_for_metrics<R: Net>(
+    rt: &R,
+    alloc: Global,
+    words: Serve<'_, '_>,
+) -> Result<Option<TcpListener>, Diagnostic> {
+    match words
+        .metrics()
+        .and_then(|text| text.parse::<SocketAddr>().ok())
+    {
+        Some(address) => Ok(Some(listen_at(rt, alloc, address)?)),
+        None => Ok(None),
+    }
+}
+
 // Listens at an address.
 fn listen_at<R: Net>(
     rt: &R,
@@ -398,10 +522,11 @@ fn port_of(listener: &TcpListener, address: SocketAddr) -> Result<u16, Fault> {
 fn announce<R: Clock + Log, A: LineOut, C: LineOut>(
     rt: &R,
     alloc: Global,
+    word: &str,
     local: SocketAddr,
     lines: &mut Lines<'_, A, C>,
 ) -> Result<(), AllocError> {
-    let line = format!(in alloc; "listening {local}\n")?;
+    let line = format!(in alloc; "{word} {local}\n")?;
     let mut clock = SystemClock::new(rt);
     lines.report(clock.now(), line.as_bytes());
     Ok(())

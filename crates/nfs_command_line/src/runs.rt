@@ -98,7 +98,7 @@ pub(crate) const SERVE: CommandRow = CommandRow {
     args: &SERVE_ARGS,
 };
 
-const SERVE_ARGS: [ArgRow; 24] = [
+const SERVE_ARGS: [ArgRow; 26] = [
     TREES,
     MOUNT_EACH,
     EXPORT,
@@ -188,6 +188,18 @@ const SERVE_ARGS: [ArgRow; 24] = [
         help: "A Unix socket to make, by which nfs3d control asks and stops the service",
         takes: Takes::Text,
     },
+    ArgRow {
+        id: "watch",
+        value: "",
+        help: "Reads the exports of the description again when its file changes",
+        takes: Takes::Flag,
+    },
+    ArgRow {
+        id: "metrics",
+        value: "ADDRESS:PORT",
+        help: "An address at which the service gives its metrics by HTTP, at the path /metrics, to whoever reaches it",
+        takes: Takes::Text,
+    },
 ];
 
 /// `control`.
@@ -207,13 +219,13 @@ const CONTROL_ARGS: [ArgRow; 3] = [
     ArgRow {
         id: "word",
         value: "WORD",
-        help: "What to do: status prints how long it runs, its clients and its volumes; save writes its tree; stop ends it",
+        help: "What to do: status, clients, mounts, denied and metrics print how it stands, who its clients are, what they mount, which calls it denied, and its metrics for Prometheus; reload reads the exports of its description again; save writes its tree; stop ends it",
         takes: Takes::Word,
     },
     ArgRow {
         id: "file",
         value: "FILE",
-        help: "Where save writes the tree; without it the file of the service's --save",
+        help: "Where save writes the tree, without it the file of the service's --save; or how many calls denied shows, up to 1024, without it 20",
         takes: Takes::OptionalWord,
     },
 ];

@@ -154,6 +154,20 @@ impl<'a, 'w> Serve<'a, 'w> {
         self.words.get_str("control")
     }
 
+    /// Whether the exports are read again when the description changes.
+    pub fn is_watched(&self) -> bool
+        ensures { IsFlag self.now.words.now (codes "watch") result }
+    {
+        self.words.get_flag("watch")
+    }
+
+    /// The address at which it gives its metrics.
+    pub fn metrics(&self) -> Option<&'a str>
+        ensures { option_map (λ text. text.now) result ≡ text_given self.now.words.now (codes "metrics") }
+    {
+        self.words.get_str("metrics")
+    }
+
     /// Whether clients that come and go are reported.
     pub fn is_verbose(&self) -> bool
         ensures { IsFlag self.now.words.now (codes "verbose") result }

@@ -11,8 +11,8 @@ use clap::{ArgMatches, Command, Error};
 use std::alloc::{AllocError, Global};
 use std::process::ExitCode;
 
-// What `--version` prints after the program's name.
-const VERSION: &str = "1.0.0";
+/// The version of the program.
+pub const VERSION: &str = "1.0.0";
 
 // The commands, in the order of the help.
 const COMMANDS: [CommandRow; 9] = [

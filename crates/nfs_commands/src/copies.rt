@@ -1,5 +1,5 @@
 //! Where and when the tree of a server is saved.
-ghost use Rattle.std.specs.Prelude.{◌≡◌, ◌⊎◌, IsErr};
+ghost use Rattle.std.specs.Prelude.{◌≡◌, ◌⊎◌, IsErr, None};
 ghost use Rattle.nfs_commands.specs.Saving.{IsDigest};
 
 use crate::key::{KEY_BYTES, given_key};
@@ -130,9 +130,12 @@ impl<'a, R: Files + RandomSource> CopySaver<'a, R> {
         self.name
     }
 
-    /// Saves the tree to the file of this name, whether it has changed or not. The faults of `try_place` and of
-    /// `save`.
-    pub fn save_as(&self, server: &Server, name: &str) -> Result<(), Fault> {
+    /// Saves the tree to the file of this name, whether it has changed or not. Since that may be the file where it is
+    /// saved, the next saving writes it in any case. The faults of `try_place` and of `save`.
+    pub fn save_as(&mut self, server: &Server, name: &str) -> Result<(), Fault>
+        ensures { self.new ≡ record self.old { saved = None } }
+    {
+        self.saved = None;
         try_place(self.rt, self.alloc, name)?;
         save(self.rt, self.alloc, name, server, self.key)
     }

@@ -12,7 +12,7 @@ use nfs_source::diagnostic::Diagnostic;
 use nfs_source::fault::Fault;
 use nfs_source::sharing_fault::SharingFault;
 use nfs_source::source::Source;
-use std::alloc::Global;
+use std::alloc::{AllocError, Global};
 use std::fs;
 use std::rt::Files;
 
@@ -89,6 +89,16 @@ pub fn begin_life<R: Files + Input + Eprint + AllocGlobal>(
             begin_shared_life(rt, alloc, trees.as_slice(), is_strict)
         }
     }
+}
+
+/// The name of the description that the words name; `None` where they name directories.
+pub fn description_name<'a, R: Files>(
+    rt: &R,
+    alloc: Global,
+    words: Trees<'a, '_>,
+) -> Result<Option<&'a str>, AllocError> {
+    let trees: Vec<_> = words.collect(alloc)?;
+    Ok(description_in(rt, trees.as_slice()).map(|tree| tree.name()))
 }
 
 // The one that names a description, where it is alone.

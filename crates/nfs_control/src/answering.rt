@@ -1,26 +1,38 @@
 //! Answers to what a service is asked.
+ghost use Rattle.nfs_loop.specs.Attending.{MayReload};
 
+use crate::clients::clients_text;
+use crate::denied::denied_text;
+use crate::figures::Figures;
+use crate::metrics::metrics_of;
+use crate::mounts::mounts_text;
+use crate::reloading::reload;
+use crate::resident::resident_bytes;
+use crate::socket::About;
 use crate::status::status_text;
 use crate::visit::MOST_ANSWER_BYTES;
 use crate::words::{Word, WordFault};
 use nfs_commands::copies::CopySaver;
-use nfs_loop::attendant::Standing;
+use nfs_loop::view::ServiceView;
 use nfs_server::server::Server;
 use nfs_source::fault::Fault;
+use nfs_xdr::link::Link;
 use std::alloc::{AllocError, Global};
 use std::random::RandomSource;
 use std::rt::Files;
 
 /// What answers.
-#[derive(Clone, Copy)]
-pub(crate) struct Answering<'a, 'b, R> {
+#[derive(Drop)]
+pub(crate) struct Answering<'r, 'v, 'w, 'c, 'b, 'x, 'y, L: Drop, R, Q> {
+    /// What reads files.
+    pub(crate) rt: &'r R,
     pub(crate) alloc: Global,
-    /// What is served.
-    pub(crate) server: &'a Server,
-    /// How the service stands.
-    pub(crate) standing: Standing,
+    /// How the service is seen.
+    pub(crate) view: &'v ServiceView<'w, L>,
     /// What saves the tree.
-    pub(crate) copies: &'a CopySaver<'b, R>,
+    pub(crate) copies: &'c mut CopySaver<'b, Q>,
+    /// What is known of the service.
+    pub(crate) about: &'x About<'y>,
 }
 
 /// Lines that are answered.
@@ -32,19 +44,35 @@ pub(crate) struct Answer {
     pub(crate) stops: bool,
 }
 
-impl<R: Files + RandomSource> Answering<'_, '_, R> {
-    /// The answer to a line, once what it asks for is done. `AllocError` where there is no memory for it.
-    pub(crate) fn answer(&self, line: &[u8]) -> Result<Answer, AllocError> {
+impl<L: Link + Drop, R: Files + Input, Q: Files + RandomSource> Answering<
+    '_,
+    '_,
+    '_,
+    '_,
+    '_,
+    '_,
+    '_,
+    L,
+    R,
+    Q,
+> {
+    /// The answer to a line, once what it asks for is done. Of the server nothing changes but its exports.
+    /// `AllocError` where there is no memory for it.
+    pub(crate) fn answer(&mut self, server: &mut Server, line: &[u8]) -> Result<Answer, AllocError>
+        ensures { MayReload server.old server.new }
+    {
         let Ok(line) = str::from_utf8(line) else {
             return self.fault(WordFault::NoText);
         };
         match Word::read(line) {
-            Ok(Word::Status) => going_on(self.status()?),
-            Ok(Word::Save(name)) => going_on(self.save(name)?.into_bytes()),
             Ok(Word::Stop) => Ok(Answer {
                 text: "stopping\n".to_string(self.alloc)?.into_bytes(),
                 stops: true,
             }),
+            Ok(word) => {
+                let text = self.text_of(server, word)?;
+                going_on(self.bounded(text)?)
+            }
             Err(WordFault::NoSuchWord) => {
                 let fault = WordFault::NoSuchWord;
                 going_on(format!(in self.alloc;
@@ -60,9 +88,28 @@ impl<R: Files + RandomSource> Answering<'_, '_, R> {
         going_on(format!(in self.alloc; "error: {fault}\n")?.into_bytes())
     }
 
-    // How the service stands, unless that is too long.
-    fn status(&self) -> Result<Vec<u8>, AllocError> {
-        let text = status_text(self.alloc, self.server, self.standing)?;
+    // What is answered to a word after which the service goes on.
+    fn text_of(&mut self, server: &mut Server, word: Word<'_>) -> Result<Vec<u8>, AllocError>
+        ensures { MayReload server.old server.new }
+    {
+        let alloc = self.alloc;
+        match word {
+            Word::Status => self.status(server),
+            Word::Clients => clients_text(alloc, self.view),
+            Word::Mounts => mounts_text(alloc, server),
+            Word::Denied(most) => { denied_text(alloc, server.tree(), self.view.denials, most) }
+            Word::Metrics => metrics_of(self.rt, alloc, server, self.view),
+            Word::Reload => {
+                let answer = reload(self.rt, alloc, self.about.description, server)?;
+                Ok(answer.into_bytes())
+            }
+            Word::Save(name) => Ok(self.save(server, name)?.into_bytes()),
+            Word::Stop => Ok(Vec::new(alloc)),
+        }
+    }
+
+    // An answer, unless it is too long.
+    fn bounded(&self, text: Vec<u8>) -> Result<Vec<u8>, AllocError> {
         if text.len() <= MOST_ANSWER_BYTES {
             return Ok(text);
         }
@@ -70,12 +117,19 @@ impl<R: Files + RandomSource> Answering<'_, '_, R> {
         Ok(format!(in self.alloc; "error: the answer has more than {most} bytes\n")?.into_bytes())
     }
 
+    // How the service stands.
+    fn status(&self, server: &Server) -> Result<Vec<u8>, AllocError> {
+        let figures = Figures::of(server, self.view, resident_bytes(self.rt));
+        let first = self.about.first_lines.as_bytes();
+        status_text(self.alloc, first, &figures, server.tree())
+    }
+
     // Saves the tree: to this file, or where the service saves it.
-    fn save(&self, name: Option<&str>) -> Result<String, AllocError> {
+    fn save(&mut self, server: &Server, name: Option<&str>) -> Result<String, AllocError> {
         let Some(name) = name.or(self.copies.name()) else {
             return "error: name a file, since the service has no --save\n".to_string(self.alloc);
         };
-        match self.copies.save_as(self.server, name) {
+        match self.copies.save_as(server, name) {
             Ok(()) => format!(in self.alloc; "saved {name}\n"),
             Err(fault) => reason(self.alloc, &fault),
         }

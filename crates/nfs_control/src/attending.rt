@@ -1,32 +1,50 @@
-//! What a service does between two rounds: copies of its tree, and answers to who controls it.
+//! What a service does between two rounds: copies of its tree, and answers to who controls it or gets its metrics.
+ghost use Rattle.nfs_loop.specs.Attending.{MayReload};
 
+use crate::metrics_socket::MetricsSocket;
 use crate::socket::ControlSocket;
+use crate::watch::Watch;
 use log::Log;
 use nfs_commands::copies::CopySaver;
-use nfs_loop::attendant::{Attendant, Standing};
+use nfs_loop::attendant::Attendant;
+use nfs_loop::view::ServiceView;
 use nfs_server::server::Server;
+use nfs_xdr::link::Link;
 use std::net::Net;
 use std::random::RandomSource;
 use std::rt::Files;
 use std::time::Clock;
 
-/// What saves the tree of a service, and the socket by which it is controlled, if there is one.
+/// What saves the tree of a service; the sockets by which it is controlled and gives its metrics, and what watches its
+/// description, if there are any.
 #[derive(Drop)]
-pub struct Attending<'a, 'b, L, R> {
-    copies: CopySaver<'a, L>,
+pub struct Attending<'a, 'b, Q, R> {
+    copies: CopySaver<'a, Q>,
     control: Option<ControlSocket<'b, R>>,
+    metrics: Option<MetricsSocket<'b, R>>,
+    watch: Option<Watch<'b, R>>,
+    log: &'a Q,
 }
 
-impl<'a, 'b, L, R: Files + Net> Attending<'a, 'b, L, R> {
-    /// With what saves the tree, and the socket.
+impl<'a, 'b, Q, R: Files + Net> Attending<'a, 'b, Q, R> {
+    /// With what saves the tree, the sockets, and what watches the description. It logs what that does.
     pub fn new(
-        copies: CopySaver<'a, L>,
+        copies: CopySaver<'a, Q>,
         control: Option<ControlSocket<'b, R>>,
-    ) -> Attending<'a, 'b, L, R> {
-        Attending { copies, control }
+        metrics: Option<MetricsSocket<'b, R>>,
+        watch: Option<Watch<'b, R>>,
+        log: &'a Q,
+    ) -> Attending<'a, 'b, Q, R> {
+        Attending {
+            copies,
+            control,
+            metrics,
+            watch,
+            log,
+        }
     }
 
-    /// Takes the socket away, and closes its connections: whoever asked for the end of the service sees that it has
+    /// Takes the control socket away, and closes its connections: whoever asked for the end of the service sees that it has
     /// ended, and whether with a fault.
     pub fn end(self, has_fault: bool) {
         let Attending { control, .. } = self;
@@ -36,14 +54,30 @@ impl<'a, 'b, L, R: Files + Net> Attending<'a, 'b, L, R> {
     }
 }
 
-impl<L: Files + RandomSource + Clock + Log, R: Files + Net> Attendant for Attending<'_, '_, L, R> {
+impl<Q: Log, R: Files + Input + Net> Attending<'_, '_, Q, R> {
+    // Puts the exports of the description in force, where it is watched and has changed.
+    fn look_at_description(&mut self, server: &mut Server)
+        ensures { MayReload server.old server.new }
+    {
+        if let Some(watch) = &mut self.watch {
+            watch.attend(self.log, server);
+        }
+    }
+}
+
+impl<Q: Files + RandomSource + Clock + Log, R: Files + Input + Net> Attendant
+    for Attending<'_, '_, Q, R> {
     fn save(&mut self, server: &Server) {
         self.copies.save(server);
     }
 
-    fn attend(&mut self, server: &Server, standing: Standing) -> bool {
+    fn attend<L: Link + Drop>(&mut self, server: &mut Server, view: &ServiceView<'_, L>) -> bool {
+        self.look_at_description(server);
+        if let Some(socket) = &mut self.metrics {
+            socket.attend(server, view);
+        }
         match &mut self.control {
-            Some(socket) => socket.attend(server, standing, &self.copies),
+            Some(socket) => socket.attend(server, view, &mut self.copies),
             None => false,
         }
     }

@@ -1,14 +1,16 @@
 //! The socket by which a service is asked and stopped.
+ghost use Rattle.nfs_loop.specs.Attending.{MayReload};
 
 use crate::answering::Answering;
-use crate::visit::{Heard, Visit};
+use crate::visit::{Form, Heard, Visit};
+use crate::visits::Visits;
 use crate::words::WordFault;
+use mio::Registry;
 use mio::net::{UnixListener, UnixStream};
-use mio::{Interest, Registry};
 use nfs_commands::copies::CopySaver;
-use nfs_loop::attendant::Standing;
+use nfs_loop::view::ServiceView;
 use nfs_server::server::Server;
-use nfs_tcp::keys::WAKING;
+use nfs_xdr::link::Link;
 use std::alloc::Global;
 use std::fs::{self, Permissions};
 use std::io::{self, ErrorKind};
@@ -17,17 +19,20 @@ use std::os::unix::fs::{FileTypeExt, PermissionsExt};
 use std::random::RandomSource;
 use std::rt::Files;
 
-// How many connections there may be at once.
-const MOST_VISITS: usize = 8;
-
-// How many connections are accepted in a round.
-const MOST_ACCEPTED: usize = 64;
-
 // As many connections may wait as the system allows, at most.
 const MOST_WAITING: usize = 65_536;
 
 // The mode of the socket: only its owner may connect.
 const MODE: u32 = 0o600;
+
+/// What is known of a service before it begins.
+#[derive(Drop)]
+pub struct About<'a> {
+    /// The name of the description that it serves; `None` where it serves directories.
+    pub description: Option<&'a str>,
+    /// The first lines of its status.
+    pub first_lines: String,
+}
 
 /// A Unix socket at which a service is asked and stopped. Nothing here waits.
 #[derive(Drop)]
@@ -35,9 +40,9 @@ pub struct ControlSocket<'a, R> {
     rt: &'a R,
     alloc: Global,
     path: &'a str,
-    registry: Registry,
+    about: About<'a>,
     listener: UnixListener,
-    visits: Vec<Visit<UnixStream>>,
+    visits: Visits<UnixStream>,
 }
 
 impl<'a, R: Files + Net> ControlSocket<'a, R> {
@@ -50,11 +55,12 @@ impl<'a, R: Files + Net> ControlSocket<'a, R> {
         rt: &'a R,
         alloc: Global,
         path: &'a str,
+        about: About<'a>,
         registry: Registry,
     ) -> io::Result<ControlSocket<'a, R>> {
-        let visits = Vec::with_capacity(alloc, MOST_VISITS)?;
+        let visits = Visits::new(alloc, registry, Form::Line)?;
         let mut listener = listen(rt, path)?;
-        if let Err(error) = protect(rt, path, &mut listener, &registry) {
+        if let Err(error) = protect(rt, path, &mut listener, &visits) {
             let _ = fs::remove_file(rt, path);
             return Err(error);
         }
@@ -62,87 +68,67 @@ impl<'a, R: Files + Net> ControlSocket<'a, R> {
             rt,
             alloc,
             path,
-            registry,
+            about,
             listener,
             visits,
         })
-    }
-
-    /// Accepts, reads, answers and writes as far as it goes without waiting, and closes what has ended. A save is
-    /// done before its answer. Whether the service was asked to end; who asked that is kept open until the socket is
-    /// removed.
-    pub fn attend<L: Files + RandomSource>(
-        &mut self,
-        server: &Server,
-        standing: Standing,
-        copies: &CopySaver<'_, L>,
-    ) -> bool {
-        self.accept();
-        let answering = Answering {
-            alloc: self.alloc,
-            server,
-            standing,
-            copies,
-        };
-        let mut stops = false;
-        for visit in &mut self.visits {
-            stops |= attend_visit(visit, &answering);
-        }
-        self.visits
-            .retain(|visit: &Visit<UnixStream>| -> bool { !visit.is_over() });
-        stops
     }
 
     /// Takes the socket away, and closes its connections. Where the service ended with a fault, whoever asked for its
     /// end is told so.
     pub fn remove(mut self, has_fault: bool) {
         if has_fault {
-            for visit in &mut self.visits {
+            for visit in self.visits.as_mut_slice() {
                 visit.add(b"error: the service ended with a fault; see its messages\n");
             }
         }
         let _ = fs::remove_file(self.rt, self.path);
     }
+}
 
-    // Accepts those who wait. Where there are more than in a round, the next round is woken.
-    fn accept(&mut self) {
-        for _ in 0..MOST_ACCEPTED {
-            let Ok((stream, _)) = self.listener.accept() else {
-                return;
-            };
-            self.admit(stream);
+impl<R: Files + Input + Net> ControlSocket<'_, R> {
+    /// Accepts, reads, answers and writes as far as it goes without waiting, and closes what has ended. A save is
+    /// done before its answer. Of the server nothing changes but its exports. Whether the service was asked to end; who
+    /// asked that is kept open until the socket is removed.
+    pub fn attend<L: Link + Drop, Q: Files + RandomSource>(
+        &mut self,
+        server: &mut Server,
+        view: &ServiceView<'_, L>,
+        copies: &mut CopySaver<'_, Q>,
+    ) -> bool
+        ensures { MayReload server.old server.new }
+    {
+        self.visits.accept(&mut self.listener);
+        let mut answering = Answering {
+            rt: self.rt,
+            alloc: self.alloc,
+            view,
+            copies,
+            about: &self.about,
+        };
+        let mut stops = false;
+        for visit in self.visits.as_mut_slice() {
+            stops |= attend_visit(visit, &mut answering, server);
         }
-        let _ = self
-            .registry
-            .reregister(&mut self.listener, WAKING, Interest::READABLE);
-    }
-
-    // Takes on a connection; closes it where there are too many, or the system or the memory refuses it.
-    fn admit(&mut self, mut stream: UnixStream) {
-        let interest = Interest::READABLE | Interest::WRITABLE;
-        if self.visits.len() >= MOST_VISITS
-            || self
-                .registry
-                .register(&mut stream, WAKING, interest)
-                .is_err()
-        {
-            return;
-        }
-        let _ = self.visits.push(Visit::new(self.alloc, stream));
+        self.visits.sweep();
+        stops
     }
 }
 
 // Reads, answers and writes as far as it goes. Whether the service is to end.
-fn attend_visit<R: Files + RandomSource>(
+fn attend_visit<L: Link + Drop, R: Files + Input, Q: Files + RandomSource>(
     visit: &mut Visit<UnixStream>,
-    answering: &Answering<'_, '_, R>,
-) -> bool {
+    answering: &mut Answering<'_, '_, '_, '_, '_, '_, '_, L, R, Q>,
+    server: &mut Server,
+) -> bool
+    ensures { MayReload server.old server.new }
+{
     let answer = match visit.hear() {
         Heard::Part => {
             visit.tell();
             return false;
         }
-        Heard::Line => answering.answer(visit.line()),
+        Heard::All => answering.answer(server, visit.line()),
         Heard::TooLong => answering.fault(WordFault::TooLong),
     };
     let Ok(answer) = answer else {
@@ -177,7 +163,7 @@ fn protect<R: Files>(
     rt: &R,
     path: &str,
     listener: &mut UnixListener,
-    registry: &Registry,
+    visits: &Visits<UnixStream>,
 ) -> io::Result<()> {
     fs::set_permissions(rt, path, Permissions::from_mode(MODE))?;
     for _ in 0..MOST_WAITING {
@@ -185,5 +171,5 @@ fn protect<R: Files>(
             break;
         }
     }
-    registry.register(listener, WAKING, Interest::READABLE)
+    visits.listen(listener)
 }

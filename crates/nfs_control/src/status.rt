@@ -1,39 +1,76 @@
 //! How a service stands, and what its volumes have.
-ghost use Rattle.std.specs.Prelude.{◌≡◌, IfOk, length};
+ghost use Rattle.std.specs.Prelude.{◌≡◌, ◌++◌, codes, decimal, IfOk, length};
 ghost use Rattle.nfs_control.specs.Status as spec;
-ghost use Rattle.nfs_control.specs.Status.{line_at, lines_of_first, standing_lines, volume_line};
+ghost use Rattle.nfs_control.specs.Status.{activity_lines, line_at, lines_of_first, resident_line, service_lines, volume_line};
 ghost use Rattle.nfs_inodes.specs.Views.{volume_seen};
 ghost use Rattle.nfs_words.specs.Texts.{Puts};
 
+use crate::figures::Figures;
 use nfs_inodes::tree::Tree;
 use nfs_inodes::volumes::{Totals, VolumeView};
-use nfs_loop::attendant::Standing;
-use nfs_server::server::Server;
 use nfs_words::text::Text;
 use std::alloc::{AllocError, Global};
 
-/// The answer to `status`: the lines `uptime SECONDS`, `clients N` and `connections N`, and for each volume
+/// The answer to `status`: these first lines; the lines `uptime SECONDS`, `clients N`, `connections N`, `calls N`,
+/// `calls-per-second N`, `denied N`, `mounts N`, `cached-replies N of=MOST`, `received BYTES`, `sent BYTES`,
+/// `pending BYTES`, `dropped-lines N` and, where the system says it, `memory BYTES`; and for each volume
 /// `volume PATH bytes=USED of=MOST files=USED of=MOST`.
-pub fn status_text(
+pub(crate) fn status_text(
     alloc: Global,
-    server: &Server,
-    standing: Standing,
+    first: &[u8],
+    figures: &Figures,
+    tree: &Tree,
 ) -> Result<Vec<u8>, AllocError>
-    ensures { IfOk result (λ text. text.items ≡ spec.status_text server.now.state.tree standing) }
+    ensures { IfOk result (λ text. text.items ≡ spec.status_text first.now figures.now tree.now) }
 {
     let mut out = Text::new(alloc);
-    put_standing(&mut out, standing);
-    put_volumes(&mut out, server.tree());
+    out.put(first);
+    put_service(&mut out, figures);
+    put_activity(&mut out, figures);
+    put_resident(&mut out, figures.resident);
+    put_volumes(&mut out, tree);
     out.into_bytes()
 }
 
-// The lines of the service itself.
-fn put_standing(out: &mut Text, standing: Standing)
-    ensures { Puts (standing_lines standing) out.old out.new }
+// How long the service runs, who it serves, and what it has answered.
+fn put_service(out: &mut Text, figures: &Figures)
+    ensures { Puts (service_lines figures.now) out.old out.new }
 {
-    out.put_field(b"uptime ", standing.seconds);
-    out.put_field(b"\nclients ", standing.clients as u64);
-    out.put_field(b"\nconnections ", standing.joined);
+    put_line(out, b"uptime ", figures.standing.seconds);
+    put_line(out, b"clients ", figures.standing.clients as u64);
+    put_line(out, b"connections ", figures.standing.joined);
+    put_line(out, b"calls ", figures.calls);
+    put_line(out, b"calls-per-second ", figures.calls_per_second);
+    put_line(out, b"denied ", figures.denied);
+}
+
+// What it keeps, and what went through it.
+fn put_activity(out: &mut Text, figures: &Figures)
+    ensures { Puts (activity_lines figures.now) out.old out.new }
+{
+    put_line(out, b"mounts ", figures.mounts as u64);
+    out.put_field(b"cached-replies ", figures.cached as u64);
+    put_line(out, b" of=", figures.places as u64);
+    put_line(out, b"received ", figures.traffic.received);
+    put_line(out, b"sent ", figures.traffic.sent);
+    put_line(out, b"pending ", figures.pending);
+    put_line(out, b"dropped-lines ", figures.dropped);
+}
+
+fn put_resident(out: &mut Text, resident: Option<u64>)
+    ensures { Puts (resident_line resident) out.old out.new }
+{
+    match resident {
+        Some(bytes) => put_line(out, b"memory ", bytes),
+        None => out.put(b""),
+    }
+}
+
+// A line with a name and a number.
+fn put_line(out: &mut Text, name: &[u8], number: u64)
+    ensures { Puts (name.now ++ decimal number ++ codes "\n") out.old out.new }
+{
+    out.put_field(name, number);
     out.put(b"\n");
 }
 

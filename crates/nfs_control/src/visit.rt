@@ -2,6 +2,7 @@
 ghost use Rattle.std.specs.Prelude.{◌≡◌};
 ghost use Rattle.nfs_control.specs.Visits.{IsShort};
 
+use crate::http::read_request;
 use std::alloc::Global;
 use std::io::{ErrorKind, Read, Write};
 
@@ -9,20 +10,29 @@ use std::io::{ErrorKind, Read, Write};
 pub(crate) const MOST_LINE_BYTES: usize = 4_096;
 
 /// The most bytes of an answer.
-pub(crate) const MOST_ANSWER_BYTES: usize = 65_536;
+pub(crate) const MOST_ANSWER_BYTES: usize = 16 << 20;
 
 // How much is read at once.
 const PIECE_BYTES: usize = 512;
 
-/// What came of a line.
+/// What came of a line, or of the head of a request.
 #[derive(Clone, Copy, Debug, PartialEq, Eq)]
 pub(crate) enum Heard {
     /// Not yet all of it.
     Part,
     /// All of it.
-    Line,
-    /// More than a line may have.
+    All,
+    /// More than it may have.
     TooLong,
+}
+
+/// What is read of a connection.
+#[derive(Clone, Copy, Debug, PartialEq, Eq)]
+pub(crate) enum Form {
+    /// A line.
+    Line,
+    /// The head of a request of HTTP.
+    Head,
 }
 
 // How far a connection is.
@@ -42,6 +52,7 @@ enum Stage {
 #[derive(Drop)]
 pub(crate) struct Visit<S: Drop> {
     stream: S,
+    form: Form,
     line: Vec<u8>,
     answer: Vec<u8>,
     sent: usize,
@@ -50,11 +61,12 @@ pub(crate) struct Visit<S: Drop> {
 
 impl<S: Read + Write + Drop> Visit<S> {
     /// A connection of which nothing was read.
-    pub(crate) fn new(alloc: Global, stream: S) -> Visit<S>
+    pub(crate) fn new(alloc: Global, stream: S, form: Form) -> Visit<S>
         ensures { IsShort result.line }
     {
         Visit {
             stream,
+            form,
             line: Vec::new(alloc),
             answer: Vec::new(alloc),
             sent: 0,
@@ -106,15 +118,40 @@ impl<S: Read + Write + Drop> Visit<S> {
         None
     }
 
-    // Takes a piece of the line. What follows the line is left out. Without memory it is over.
+    // Takes a piece of a line or of a head.
     fn take(&mut self, piece: &[u8]) -> Heard
         ensures { IsShort self.old.line → IsShort self.new.line }
     {
-        let end = piece.iter().position(|byte| *byte == b'\n');
-        let part = match end {
-            Some(end) => &piece[..end],
-            None => piece,
-        };
+        match self.form {
+            Form::Line => self.take_of_line(piece),
+            Form::Head => self.take_of_head(piece),
+        }
+    }
+
+    // Takes a piece of the line. What follows the line is left out.
+    fn take_of_line(&mut self, piece: &[u8]) -> Heard
+        ensures { IsShort self.old.line → IsShort self.new.line }
+    {
+        match piece.iter().position(|byte| *byte == b'\n') {
+            Some(end) => self.keep(&piece[..end], true),
+            None => self.keep(piece, false),
+        }
+    }
+
+    // Takes a piece of the head.
+    fn take_of_head(&mut self, piece: &[u8]) -> Heard
+        ensures { IsShort self.old.line → IsShort self.new.line }
+    {
+        match self.keep(piece, false) {
+            Heard::Part if read_request(self.line.as_slice()).is_some() => Heard::All,
+            heard => heard,
+        }
+    }
+
+    // Keeps a part, which may be the last. Without memory the connection is over.
+    fn keep(&mut self, part: &[u8], is_last: bool) -> Heard
+        ensures { IsShort self.old.line → IsShort self.new.line }
+    {
         if part.len() > MOST_LINE_BYTES.saturating_sub(self.line.len()) {
             return Heard::TooLong;
         }
@@ -122,11 +159,7 @@ impl<S: Read + Write + Drop> Visit<S> {
             self.close();
             return Heard::Part;
         }
-        if end.is_some() {
-            Heard::Line
-        } else {
-            Heard::Part
-        }
+        if is_last { Heard::All } else { Heard::Part }
     }
 
     /// Has this answer written. Where it is held, it is not closed then.

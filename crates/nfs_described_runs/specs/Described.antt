@@ -17,9 +17,10 @@ use Rattle.nfs_server.specs.Fits.{Held, History, Fits}
 use Rattle.nfs_server.specs.Steps.{Setup, State, Step, IsRun}
 use Rattle.nfs_xdr.specs.Reading.{AreBytes}
 
--- an event leaves a describable tree describable, with the same exports
+-- by exports with which the tree is describable an event leaves it describable, with these exports and with any others with which it was
 abbrev pub LeavesDescribable : Setup → State → State → Type 0
-LeavesDescribable setup old new = IsDescribable old.tree setup.exports → IsDescribable new.tree setup.exports
+LeavesDescribable setup old new = IsDescribable old.tree setup.exports
+    → (table : List (List Export)) → IsDescribable old.tree table → IsDescribable new.tree table
 
 -- an event of bytes, at a moment of 32 bits
 pub record IsEvent (event : Event) : Type 0 where
@@ -30,13 +31,15 @@ abbrev pub StepsStayDescribable : Type 0
 StepsStayDescribable = (setup : Setup) (history : List Done) (old : State) (event : Event) (choice : Choice) (answer : Answer) (new : State)
     → IsEvent event → Step setup history old event choice answer new → LeavesDescribable setup old new
 
-abbrev pub AreEvents : State → Event → State → Type 0
-AreEvents old event new = IsEvent event
+abbrev pub AreEvents : Setup → State → Event → State → Type 0
+AreEvents setup old event new = IsEvent event
 
+-- Whatever exports were in force, if the opening tree is describable with each of them.
 abbrev pub RunsStayDescribable : Type 0
-RunsStayDescribable = (setup : Setup) (opening : State) → IsDescribable opening.tree setup.exports
-    → (history : List Done) (state : State) (run : IsRun setup opening history state)
-    → Throughout setup opening history state run AreEvents → IsDescribable state.tree setup.exports
+RunsStayDescribable = (setups : ℕ → Setup) (opening : State) → ((n : ℕ) → IsDescribable opening.tree (setups n).exports)
+    → (history : List Done) (state : State) (run : IsRun setups opening history state)
+    → Throughout setups opening history state run AreEvents
+    → (table : List (List Export)) → IsDescribable opening.tree table → IsDescribable state.tree table
 
 -- a text that says the tree with these exports says, when it is loaded, that tree again; or memory is wanted
 abbrev pub LoadsAgain : Tree → List (List Export) → Type 0
@@ -48,10 +51,18 @@ pub record IsKept (t : Tree) (table : List (List Export)) : Type 0 where
   pub describable : IsDescribable t table
   pub again : (key : List ℕ) → length key ≡ 8 → AreBytes key → LoadsAgain (with_key t key) table
 
--- A server that opened with what a description says, under some key and from some number on: after any events.
+-- these are the exports of a description with as many volumes as the tree
+pub record AreRead (t : Tree) (table : List (List Export)) : Type 0 where
+  pub text : List ℕ
+  pub loaded : Loaded
+  pub describes : Describes text (Ok loaded)
+  pub volumes : length loaded.tree.volumes ≡ length t.volumes
+  pub table_is : table ≡ loaded.table
+
+-- A server that opened with what a description says, under some key and from some number on: after any events, with whatever exports of such descriptions in force.
 abbrev pub ServersLoadAgain : Type 0
 ServersLoadAgain = (text : List ℕ) (loaded : Loaded) → Describes text (Ok loaded) → (key : List ℕ) (next : ℕ)
     → (history : History) (s : Held) (fits : Fits history s)
-    → history.opening.tree ≡ opened loaded.tree key next → s.setup.exports ≡ loaded.table
-    → Throughout s.setup history.opening history.done s.state fits.run AreEvents
+    → history.opening.tree ≡ opened loaded.tree key next → ((n : ℕ) → AreRead loaded.tree (history.setups n).exports)
+    → Throughout history.setups history.opening history.done s.state fits.run AreEvents
     → IsKept s.state.tree s.setup.exports

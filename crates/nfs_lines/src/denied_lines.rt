@@ -5,6 +5,7 @@ ghost use Rattle.nfs_lines.specs.Wordings.{is_plain};
 ghost use Rattle.nfs_server.specs.AuditLines.{line_text};
 ghost use Rattle.nfs_xdr.specs.Known.{Grows, GrowsByPart, StaysFailed};
 
+use crate::denials::Denials;
 use crate::line_out::LineOut;
 use crate::line_queue::{LineQueue, MOST_PENDING};
 use crate::names::names_of;
@@ -29,6 +30,7 @@ pub struct DeniedLines<'a, A> {
     was_refused: bool,
     // How many lines of denied calls were counted in place of being written.
     counted: u64,
+    denials: Denials,
 }
 
 impl<'a, A: LineOut> DeniedLines<'a, A> {
@@ -44,7 +46,21 @@ impl<'a, A: LineOut> DeniedLines<'a, A> {
             queue: LineQueue::new(alloc, device),
             was_refused: false,
             counted: 0,
+            denials: Denials::new(alloc),
         }
+    }
+
+    /// The calls that were denied.
+    pub fn denials(&self) -> &Denials {
+        &self.denials
+    }
+
+    /// Has the last calls that are denied be kept from now on.
+    pub fn keep_denials(&mut self)
+        ensures queue { self.new.queue ≡ self.old.queue }
+        ensures plain { self.new.is_plain ≡ self.old.is_plain }
+    {
+        self.denials.keep();
     }
 
     /// How many were counted in place of being written.
@@ -229,6 +245,9 @@ impl<A: LineOut> AuditOut for DeniedLines<'_, A> {
     ) -> Result<(), DeviceFault> {
         let put = self.put(denied, event, server);
         self.was_refused = put.is_err();
+        if put.is_ok() {
+            self.denials.take(denied, event, server.tree());
+        }
         put
     }
 }

@@ -66,6 +66,11 @@ impl<'a, A: LineOut, C: LineOut> Lines<'a, A, C> {
         self.pending() > 0 || self.dropped > 0 || self.denied.are_lost()
     }
 
+    /// How many lines were dropped, or counted in place of being written.
+    pub fn dropped(&self) -> u64 {
+        self.dropped.saturating_add(self.denied.counted())
+    }
+
     /// How many bytes wait for their devices. Those that can't be written any more don't.
     pub fn pending(&self) -> usize {
         self.denied

@@ -12,13 +12,13 @@ use nfs_words::text::Text;
 use nfs_xdr::input::Input;
 use std::alloc::{AllocError, Global};
 
-// The largest handle, and the longest path of MOUNT (RFC 1813, sections 2.4 and 5.1.4).
-const MAX_HANDLE_BYTES: u32 = 64;
+/// The largest handle, and the longest path of MOUNT (RFC 1813, sections 2.4 and 5.1.4).
+pub(crate) const MAX_HANDLE_BYTES: u32 = 64;
 
-const MAX_PATH_BYTES: u32 = 1_024;
+pub(crate) const MAX_PATH_BYTES: u32 = 1_024;
 
-// The most bytes of a name that is looked at.
-const MAX_NAME_BYTES: u32 = 1_024;
+/// The most bytes of a name that is looked at.
+pub(crate) const MAX_NAME_BYTES: u32 = 1_024;
 
 // The name of a directory's parent in it.
 const PARENT: &[u8] = b"..";
@@ -68,7 +68,8 @@ fn number_after(line: &[u8], key: &[u8]) -> Option<u32> {
     None
 }
 
-fn procedure_name(program: u32, procedure: u32) -> Option<&'static [u8]> {
+/// The name of a procedure, if there is one of this program and number.
+pub fn procedure_name(program: u32, procedure: u32) -> Option<&'static [u8]> {
     match program {
         NFS_PROGRAM => Some(Procedure::of(procedure)?.name()),
         MOUNT_PROGRAM => Some(MountProcedure::of(procedure)?.name()),
@@ -76,9 +77,9 @@ fn procedure_name(program: u32, procedure: u32) -> Option<&'static [u8]> {
     }
 }
 
-// Whether the arguments of a procedure of NFS begin with a directory and a name in it (RFC 1813, section
-// 2.6, diropargs3).
-fn names_entry(procedure: u32) -> bool {
+/// Whether the arguments of a procedure of NFS begin with a directory and a name in it (RFC 1813, section
+/// 2.6, diropargs3).
+pub(crate) fn names_entry(procedure: u32) -> bool {
     matches!(
         Procedure::of(procedure),
         Some(

@@ -1,7 +1,7 @@
 //! How a life of a server opens.
 ghost use Rattle.std.specs.Prelude.{◌≡◌, ◌≤◌, [], IfOk, None};
 ghost use Rattle.nfs_inodes.specs.Law.{Law};
-ghost use Rattle.nfs_server.specs.Fits.{Fits};
+ghost use Rattle.nfs_server.specs.Fits.{Fits, opening_with};
 ghost use Rattle.nfs_lives.specs.Opening.{opened};
 
 use nfs_inodes::tree::Tree;
@@ -36,7 +36,7 @@ pub fn open_server(
     ensures tree { IfOk result (λ server. server.state.tree ≡ opened loaded.tree key next) }
     ensures mounts { IfOk result (λ server. server.state.mounts ≡ []) }
     ensures kept { IfOk result (λ server. server.kept ≡ []) }
-    ensures fits { IfOk result (λ server. Fits (record { opening = server.state; done = [] }) server) }
+    ensures fits { IfOk result (λ server. Fits (opening_with server.setup server.state) server) }
     ensures line { IfOk result (λ server. server.line ≡ None) }
 {
     let mut loaded = loaded;

@@ -1,13 +1,16 @@
 -- The digits of a content are twice as many as its bytes.
-use Rattle.std.proofs.Common.{ℕ, ◌≡◌, ◌<◌, ◌≤◌, ◌/◌, false, List, [], length, Result, Ok, Err, cond, ap, ◌∙◌, refl, arith}
+use Rattle.std.proofs.Common.{ℕ, ◌≡◌, ◌<◌, ◌≤◌, ◌/◌, false, List, [], length, Result, Ok, Err, IsErr, IsErrAnd, cond, sym, subst, ap, ◌∙◌, refl, arith}
 use Rattle.std.specs.Prelude.{bytes_eq, codes}
-use Rattle.std.proofs.lemmas.Bool.{lt-leb, le-leb}
+use Rattle.std.proofs.lemmas.Bool.{false≢true, lt-leb, le-leb}
 use Rattle.std.proofs.lemmas.List.Sums.{AllPass-from_list_all, list_all-from_AllPass}
 use Rattle.hex.specs.Hex.{decode_of, is_hex_digit}
 use Rattle.hex.specs.declared.error.FromHexError.{FromHexError}
 use Rattle.hex.proofs.HexLemmas.{decode_of-digits, decode_of-ok}
+use Rattle.nfs_load.specs.declared.cause.Cause.{Cause}
 use Rattle.nfs_load.specs.declared.cause.Cause.TheVariants.{BadContent}
-use Rattle.nfs_load.specs.Fields.{ArePairs, SaysBytes, content_in, within}
+use Rattle.nfs_load.specs.declared.refusal.Refusal.{Refusal}
+use Rattle.nfs_load.specs.declared.refusal.Refusal.TheVariants.{Memory}
+use Rattle.nfs_load.specs.Fields.{ArePairs, GivesIfRoom, SaysBytes, content_in, within}
 
 too_large : (most : ℕ) (field : List ℕ) (decoded : Result (List ℕ) FromHexError) → decode_of field ≡ decoded → most < length field / 2 → within most decoded ≡ Err BadContent
 too_large most field (Ok content) e many =
@@ -37,3 +40,8 @@ others_say_none most field digits other = ap (λ b. cond b (Ok []) (within most 
     by : (decoded : Result (List ℕ) FromHexError) → decode_of field ≡ decoded → within most decoded ≡ Err BadContent
     by (Ok content) e = let ok = decode_of-ok field content e in absurd (other (ok.0, list_all-from_AllPass is_hex_digit field ok.1))
     by (Err fault) e = refl
+
+-- what is wanted, where there is no memory
+pub without_room : {X A : Type 0} (view : X → A) (Wants : Type 0) (result : Result X Refusal) (read : Result A Cause) → IsErr result × IsErrAnd result (λ r. r ≡ Memory) → Wants → GivesIfRoom view Wants result read
+without_room view Wants (Ok x) read h wants = absurd (false≢true h.0)
+without_room view Wants (Err r) read h wants = subst (λ it. GivesIfRoom view Wants (Err it) read) (sym h.1) wants

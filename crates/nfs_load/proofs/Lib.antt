@@ -4,6 +4,7 @@ pub mod Descriptions
 pub mod Contents
 pub mod Writes
 pub mod Entries
+pub mod FileLines
 pub mod Statements
 pub mod Loadings
 pub mod Timed

@@ -1,5 +1,5 @@
 -- Fields that are a key or numbers: the value, or the cause.
-use Rattle.std.specs.Prelude.{◌≡◌, ◌%◌, ℕ, Bool, true, false, ◌&&◌, List, [], ◌∷◌, length, Option, Some, None, Result, Ok, Err}
+use Rattle.std.specs.Prelude.{◌≡◌, ◌≢◌, ◌%◌, ℕ, Bool, true, false, ◌&&◌, List, [], ◌∷◌, length, Option, Some, None, Result, Ok, Err}
 use Rattle.std.specs.Prelude.{if◌then◌else◌, nat_lt, nat_le, bytes_eq, codes}
 use Rattle.std.specs.List.{list_all}
 use Rattle.std.specs.Str.Parse.{digits_value}
@@ -115,6 +115,10 @@ TakesIfRoom view Wants rest (Err Memory) read = Wants
 -- a content that takes memory: a field that says bytes
 abbrev pub SaysBytes : ℕ → List ℕ → Type 0
 SaysBytes most field = (bytes_eq field (codes "-") ≡ false) × (content : List ℕ) × (content_in most field ≡ Ok content)
+
+-- a field of digits, of either case, that says these bytes
+abbrev pub Encodes : List ℕ → List ℕ → Type 0
+Encodes digits content = (digits ≢ []) × (decode_of digits ≡ Ok content)
 
 -- two hexadecimal digits for each byte
 abbrev pub ArePairs : List ℕ → Type 0

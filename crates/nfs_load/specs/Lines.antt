@@ -65,6 +65,15 @@ shape_of line (word ∷ fields) = if is_text line then counted (keyword_named wo
 abbrev pub shape : List ℕ → Result (Option Line) Cause
 shape line = if is_comment line then Ok None else shape_of line (words line)
 
+-- the words of a file's line before its content: the keyword, and four fields
+abbrev pub are_before_content : List (List ℕ) → Bool
+are_before_content [] = false
+are_before_content (word ∷ fields) = bytes_eq word (codes "file") && nat_eq (length fields) 4
+
+-- a text of these words
+abbrev pub begins_file : List ℕ → Bool
+begins_file begin = is_text begin && are_before_content (words begin)
+
 -- a line that was read, without where it lies in memory
 abbrev pub line_of : kept.Line → Line
 line_of line = record { keyword = line.keyword; fields = words_left line.fields }

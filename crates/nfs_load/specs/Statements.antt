@@ -129,4 +129,4 @@ abbrev pub times_line_of : times.TimesLine → TimesLine
 times_line_of line = record { path = on_some line.path [] (λ names. names); atime = line.atime; mtime = line.mtime; ctime = line.ctime }
 
 abbrev pub file_line_of : file.FileLine → FileLine
-file_line_of line = record { path = line.path; given = line.given; content = line.content.items }
+file_line_of line = record { path = line.path; given = line.given; content = line.content }

@@ -12,7 +12,7 @@ use crate::path_end::{PathEnd, find_file, find_file_or_root, find_free_end, is_d
 use crate::refusal::Refusal;
 use crate::statement::{DirLine, FileLine, Given, HardLine, LinkLine, TimesLine, VolumeLine};
 use nfs_attrs::moment::Moment;
-use nfs_content::pages::Pages;
+use nfs_content::content::Content;
 use nfs_handles::number::Number;
 use nfs_inodes::given_attributes::GivenAttributes;
 use nfs_inodes::new_file::{NewContent, NewFile};
@@ -75,10 +75,9 @@ pub fn make_file(tree: &mut Tree, root: Number, line: FileLine<'_>) -> Result<()
     if !tree.may_make(end.dir, name, content.len()) {
         return Err(Refusal::Fault(Cause::Full));
     }
-    tree.law();
     let given = attributes_of(given);
     let content = NewContent {
-        pages: Pages::of(tree.allocator(), content)?,
+        pages: content,
         verifier: None,
     };
     tree.make_file(end.dir, name, content, &given, START)?;

@@ -9,6 +9,7 @@ use crate::limits::MAX_MODE_DIGITS;
 use crate::name_form::NameForm;
 use crate::refusal::Refusal;
 use crate::target::Target;
+use nfs_content::pages::Pages;
 use nfs_inodes::tree::Tree;
 use nfs_text::number::decimal;
 use std::alloc::Global;
@@ -71,18 +72,19 @@ pub(crate) fn read_target<'a>(
 
 /// A file's bytes, two hexadecimal digits each, or `-` for none. `BadContent` where the field is
 /// neither, or says more bytes than the tree takes of a file; `Memory` where there is none.
-pub(crate) fn read_content(alloc: Global, field: &[u8], tree: &Tree) -> Result<Vec<u8>, Refusal>
-    ensures { GivesIfRoom (λ content. content.items) (SaysBytes tree.now.limits.file_size field.now) result
+pub(crate) fn read_content(alloc: Global, field: &[u8], tree: &Tree) -> Result<Pages, Refusal>
+    ensures { GivesIfRoom (λ content. content) (SaysBytes tree.now.limits.file_size field.now) result
         (content_in tree.now.limits.file_size field.now) }
 {
     if field == b"-".as_slice() {
-        return Ok(Vec::new(alloc));
+        return Ok(Pages::zeros(alloc, 0));
     }
     if has_too_many_digits(field, tree) {
         return Err(Refusal::Fault(Cause::BadContent));
     }
+    tree.law();
     match hex::decode(alloc, field) {
-        Ok(content) => Ok(content),
+        Ok(content) => Ok(Pages::of(alloc, content)?),
         Err(hex::FromHexError::OutOfMemory) => Err(without_memory(field, tree)),
         Err(_) => Err(Refusal::Fault(Cause::BadContent)),
     }

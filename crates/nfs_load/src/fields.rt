@@ -16,6 +16,7 @@ use crate::path::{Path, read_path, read_path_or_root, read_volume_path};
 use crate::refusal::Refusal;
 use crate::target::Target;
 use nfs_attrs::moment::Moment;
+use nfs_content::pages::Pages;
 use nfs_exports::options::{Options, parse_options};
 use nfs_exports::pattern::{Pattern, parse_pattern};
 use nfs_inodes::tree::Tree;
@@ -161,8 +162,8 @@ impl<'a> Fields<'a> {
 
     /// A file's bytes, two hexadecimal digits each, or `-` for none. `BadContent` where the field
     /// is neither, or says more bytes than the tree takes of a file.
-    pub fn content(&mut self, alloc: Global, tree: &Tree) -> Result<Vec<u8>, Refusal>
-        ensures { TakesIfRoom (λ content. content.items) (OfNext (SaysBytes tree.now.limits.file_size) self.old) self.new result
+    pub fn content(&mut self, alloc: Global, tree: &Tree) -> Result<Pages, Refusal>
+        ensures { TakesIfRoom (λ content. content) (OfNext (SaysBytes tree.now.limits.file_size) self.old) self.new result
             (by (content_in tree.now.limits.file_size) self.old) }
     {
         read_content(alloc, self.next()?, tree)

@@ -1,10 +1,11 @@
 //! The lines of a description: which are looked at, and what each asks for.
-ghost use Rattle.std.specs.Prelude.{◌≡◌, ◌<◌, ◌^◌, length};
-ghost use Rattle.nfs_text.specs.Words.{words_left};
+ghost use Rattle.std.specs.Prelude.{◌≡◌, ◌<◌, ◌^◌, ◌∷◌, codes, length, true};
+ghost use Rattle.nfs_text.specs.Words.{words, words_left};
 ghost use Rattle.nfs_load.specs.Lines as spec;
-ghost use Rattle.nfs_load.specs.Lines.{asked, keyword_named, shape};
+ghost use Rattle.nfs_load.specs.Lines.{are_before_content, asked, keyword_named, shape};
 
 use crate::cause::Cause;
+use crate::fields::Fields;
 use nfs_text::words::Words;
 
 /// The word that a line begins with.
@@ -65,6 +66,35 @@ pub(crate) fn read_line(line: &[u8]) -> Result<Option<Line<'_>>, Cause>
         return Err(Cause::FieldCount);
     }
     Ok(Some(Line { keyword, fields }))
+}
+
+/// Whether a line that begins with these bytes is that of a file, and they are all of it before its content:
+/// text, in which `file` stands, and four words more.
+pub fn begins_file(begin: &[u8]) -> bool
+    ensures { result ≡ spec.begins_file begin.now }
+{
+    is_text(begin) && has_file_words(begin)
+}
+
+/// The fields of the line of a file that begins with these bytes, before its content.
+pub(crate) fn file_fields(begin: &[u8]) -> Fields<'_>
+    requires { spec.begins_file begin.now ≡ true }
+    ensures { words begin.entry.now ≡ codes "file" ∷ result }
+{
+    let mut words = Words::new(begin);
+    words.next();
+    Fields::new(words)
+}
+
+// Whether the words of a line are those that stand before a file's content.
+fn has_file_words(line: &[u8]) -> bool
+    ensures { result ≡ are_before_content (words line.now) }
+{
+    let mut fields = Words::new(line);
+    match fields.next() {
+        Some(word) => word == b"file".as_slice() && count_words(fields) == 4,
+        None => false,
+    }
 }
 
 // Whether a line is one of the writer's own.

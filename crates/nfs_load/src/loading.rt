@@ -1,22 +1,25 @@
 //! Descriptions that are loaded line by line.
-ghost use Rattle.std.specs.Prelude.{◌≡◌, Ok, IfOk, IfSome, OnOk, length, option_map};
+ghost use Rattle.std.specs.Prelude.{◌≡◌, ℕ, List, [], ◌∷◌, ◌++◌, Ok, IfOk, IfSome, OnOk, length, option_map, true};
 ghost use Rattle.std.specs.Result.{result_map_both};
 ghost use Rattle.nfs_inodes.specs.Law.{Law};
 ghost use Rattle.nfs_text.specs.Words.{words_left};
 ghost use Rattle.nfs_load.specs.Descriptions as spec;
 ghost use Rattle.nfs_load.specs.Descriptions.{GoesOn, LineDone, begun, finished};
+ghost use Rattle.nfs_load.specs.Fields.{Encodes};
+ghost use Rattle.nfs_load.specs.Lines.{begins_file};
 ghost use Rattle.nfs_load.specs.Loadings.{LineTaken, at_end, nothing};
 
 use crate::cause::Cause;
 use crate::changes::{add_name, add_volume, make_file, make_link, mkdir, set_times};
 use crate::fields::Fields;
 use crate::limit_fields::read_limits;
-use crate::line::{Keyword, Line, read_line};
+use crate::line::{Keyword, Line, file_fields, read_line};
 use crate::load_error::LoadError;
 use crate::loaded::Loaded;
 use crate::name_form::NameForm;
 use crate::refusal::Refusal;
 use crate::statement::{DirLine, ExportLine, FileLine, HardLine, LinkLine, TimesLine, VolumeLine};
+use nfs_content::pages::Pages;
 use nfs_exports::export_table::ExportTable;
 use nfs_exports::limits::MAX_PATTERNS;
 use nfs_handles::number::Number;
@@ -72,6 +75,23 @@ impl Loading {
         }
     }
 
+    /// Takes the next line, that of a file: what stands before its content, and the bytes that its content says,
+    /// as `take` does.
+    pub fn take_file(&mut self, begin: &[u8], content: Pages) -> Result<(), LoadError>
+        requires { begins_file begin.now ≡ true }
+        ensures { (digits : List ℕ) → Encodes digits content
+            → LineTaken self.old (begin.now ++ 32 ∷ digits) result self.new }
+    {
+        self.count = self.count.saturating_add(1);
+        match take_file_line(&mut self.described, begin, content) {
+            Ok(()) => Ok(()),
+            Err(refusal) => {
+                self.described = None;
+                Err(refusal.at(self.count))
+            }
+        }
+    }
+
     /// What all lines describe. `NoServer`, then `NoVolume`, for the line after the last.
     pub fn finish(self) -> Result<Loaded, LoadError>
         ensures described { result ≡ at_end self.count (finished self.described) }
@@ -114,6 +134,24 @@ fn take_line(alloc: Global, described: &mut Option<Loaded>, line: &[u8]) -> Resu
             *described = Some(begin(alloc, line)?);
             Ok(())
         }
+    }
+}
+
+// One line more, that of a file whose content was decoded before.
+fn take_file_line(
+    described: &mut Option<Loaded>,
+    begin: &[u8],
+    content: Pages,
+) -> Result<(), Refusal>
+    requires begins { begins_file begin.now ≡ true }
+    requires lists { IfSome described.old (λ l. length l.table ≡ length l.tree.volumes) }
+    ensures done { (digits : List ℕ) → Encodes digits content
+        → LineDone described.old (begin.now ++ 32 ∷ digits) result described.new }
+    ensures lists { OnOk result (IfSome described.new (λ l. length l.table ≡ length l.tree.volumes)) }
+{
+    match described {
+        Some(loaded) => take_file_with(loaded, &mut file_fields(begin), content),
+        None => Err(Refusal::Fault(Cause::NoServer)),
     }
 }
 
@@ -222,6 +260,23 @@ fn take_file(alloc: Global, loaded: &mut Loaded, fields: &mut Fields<'_>) -> Res
 {
     let root = last_root(&loaded.tree)?;
     let line = FileLine::read(alloc, fields, loaded.names, &loaded.tree)?;
+    make_file(&mut loaded.tree, root, line)
+}
+
+// The same, where the content was decoded before.
+fn take_file_with(
+    loaded: &mut Loaded,
+    fields: &mut Fields<'_>,
+    content: Pages,
+) -> Result<(), Refusal>
+    requires lists { length loaded.old.table ≡ length loaded.old.tree.volumes }
+    requires four { length fields.old ≡ 4 }
+    ensures done { (digits : List ℕ) → Encodes digits content
+        → GoesOn loaded.old Keyword.File (fields.old ++ digits ∷ []) result loaded.new }
+    ensures lists { OnOk result (length loaded.new.table ≡ length loaded.new.tree.volumes) }
+{
+    let root = last_root(&loaded.tree)?;
+    let line = FileLine::with_content(fields, loaded.names, &loaded.tree, content)?;
     make_file(&mut loaded.tree, root, line)
 }
 

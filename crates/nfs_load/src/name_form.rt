@@ -2,7 +2,7 @@
 ghost use Rattle.std.specs.Prelude.{◌≡◌, ◌<◌, false, is_some, length, option_map};
 ghost use Rattle.std.specs.Fmt.{digit_glyph};
 ghost use Rattle.std.specs.List.{list_all};
-ghost use Rattle.nfs_inodes.specs.Limits.{max_path_bytes};
+ghost use Rattle.nfs_inodes.specs.Limits.{max_name_bytes, max_path_bytes};
 ghost use Rattle.nfs_load.specs.Names as spec;
 ghost use Rattle.nfs_load.specs.Names.{at_most, held_in, is_name_byte, name_in, unescaped};
 
@@ -85,7 +85,7 @@ impl NameForm {
     /// The bytes that a component of a path stands for. `None` where a `%` is no part of it, or where
     /// they are more than those of any name.
     pub fn component(self, text: &[u8]) -> Option<Name>
-        ensures { option_map (λ name. name.items) result ≡ at_most 255 (spec.component_in self text.now) }
+        ensures { option_map (λ name. name.items) result ≡ at_most max_name_bytes (spec.component_in self text.now) }
     {
         match self {
             NameForm::Plain if has_percent(text) => None,

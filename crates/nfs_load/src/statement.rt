@@ -1,6 +1,6 @@
 //! What a line says.
-ghost use Rattle.std.specs.Prelude.{◌≡◌};
-ghost use Rattle.nfs_load.specs.Fields.{Takes, TakesIfRoom};
+ghost use Rattle.std.specs.Prelude.{◌≡◌, ℕ, List, [], ◌∷◌, ◌++◌, length};
+ghost use Rattle.nfs_load.specs.Fields.{Encodes, Takes, TakesIfRoom};
 ghost use Rattle.nfs_load.specs.Statements.{WantsContent, dir_in, export_in, file_in, file_line_of, given_in, hard_in, link_line_of, link_in, times_in, times_line_of, volume_in, volume_line_of};
 
 use crate::cause::Cause;
@@ -10,6 +10,8 @@ use crate::path::Path;
 use crate::refusal::Refusal;
 use crate::target::Target;
 use nfs_attrs::moment::Moment;
+use nfs_content::content::Content;
+use nfs_content::pages::Pages;
 use nfs_exports::options::Options;
 use nfs_exports::pattern::Pattern;
 use nfs_inodes::limits::MAX_VOLUME_BYTES;
@@ -57,7 +59,7 @@ pub struct FileLine<'a> {
     /// Its attributes.
     pub given: Given,
     /// Its bytes.
-    pub content: Vec<u8>,
+    pub content: Pages,
 }
 
 /// `dir PATH MODE UID GID`: a new directory.
@@ -161,6 +163,29 @@ impl<'a> FileLine<'a> {
         let path = fields.path(names)?;
         let given = Given::read(fields)?;
         let content = fields.content(alloc, tree)?;
+        Ok(FileLine {
+            path,
+            given,
+            content,
+        })
+    }
+
+    /// The same, of a line with these four fields and this content. The first cause from left to right: `BadPath`,
+    /// `BadNumber`, or `BadContent` where the tree takes no content of so many bytes.
+    pub fn with_content(
+        fields: &mut Fields<'a>,
+        names: NameForm,
+        tree: &Tree,
+        content: Pages,
+    ) -> Result<FileLine<'a>, Cause>
+        requires { length fields.old ≡ 4 }
+        ensures { (digits : List ℕ) → Encodes digits content
+            → Takes file_line_of [] result (file_in names tree.now.limits.file_size (fields.old ++ digits ∷ [])) }
+    {
+        let DirLine { path, given } = DirLine::read(fields, names)?;
+        if content.len() > tree.limits().file_size {
+            return Err(Cause::BadContent);
+        }
         Ok(FileLine {
             path,
             given,

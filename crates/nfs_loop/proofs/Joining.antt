@@ -43,7 +43,7 @@ module _ {L : Type 0} (outgoing incoming : L → Option (List ℕ)) where
       },
     );
     shared_stays = refl;
-    such = (refl, accounts_then reported reported_now reported_then (joins key now j.member.client.connection.addr ∷ []) [] (λ before e. (came key peer ∷ [], report before e, ([], [], record { peer = peer; addr_is = j.addr_is; reported = refl }, tt))) more);
+    such = (refl, accounts_then reported reported_now reported_then (joins key now j.member.client.connection.addr ∷ []) [] (tt, λ before e. (came key peer ∷ [], report before e, ([], [], record { peer = peer; addr_is = j.addr_is; reported = refl }, tt))) more);
   }
 
   -- one leaves that had no turn

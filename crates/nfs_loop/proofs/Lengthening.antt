@@ -73,4 +73,4 @@ module _ {M : Type 0} (members : Slab M) (watches : List Watch) where
       }
 
   pub notes_account : (old now : List ℕ) (reported reported_now : Option (List Report)) → Notes members watches old now reported reported_now → Accounts reported [] reported_now
-  notes_account old now reported reported_now n before e = let m = n.all_noted before e in (m.0, m.1, tt)
+  notes_account old now reported reported_now n = (tt, λ before e. let m = n.all_noted before e in (m.0, m.1, tt))

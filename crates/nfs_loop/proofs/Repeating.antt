@@ -6,14 +6,17 @@ use Rattle.nfs_lines.specs.Queued.{Queued, is_full, put_plainly}
 use Rattle.nfs_loop.specs.declared.member.Member.{Member}
 use Rattle.nfs_loop.specs.declared.watches.Watch.{Watch}
 use Rattle.nfs_loop.specs.Watching.{AllBegin, AllStay, ReleasesBy, SomeMayBeHeld}
-use Rattle.nfs_loop.specs.Reports.{Report, since, Accounts}
-use Rattle.nfs_loop.specs.Stages.{Stage, state, seat_of, seats, turned, AllOthersStay, AsksAll, Goes, HeardInTurns, Notes, Schedule, SilentLeave, WaitAgain, WithoutTurns, MayBeFull, IsRound, most_asked, AreRounds, Rounds, changes_of}
-use Rattle.nfs_loop.proofs.Reporting.{accounts_then, accounts_same, first_then}
+use Rattle.nfs_exports.specs.declared.export_table.Export.{Export}
+use Rattle.nfs_loop.specs.Attending.{MayReload}
+use Rattle.nfs_loop.specs.Reports.{Report, since, Accounts, ComeBy}
+use Rattle.nfs_loop.specs.Stages.{Stage, state, seat_of, seats, turned, AllOthersStay, AsksAll, Goes, HeardInTurns, Notes, Schedule, SilentLeave, WaitAgain, WithoutTurns, MayBeFull, IsRound, most_asked, AreRounds, Rounds, changes_of, reload_of}
+use Rattle.nfs_loop.proofs.Reporting.{accounts_then, come_same, come_then, first_then}
 use Rattle.nfs_loop.proofs.Changing.{both_change, changes_then, turned_then}
 use Rattle.nfs_loop.proofs.Lengthening.{notes_account}
 use Rattle.nfs_loop.proofs.Releasing.{releases_account}
 use Rattle.nfs_loop.proofs.Rounding.{again_where_some_left}
 use Rattle.nfs_serving.proofs.Failed.{failed_logs_stay}
+use Rattle.nfs_server.specs.Fits.{Held}
 use Rattle.nfs_serving.specs.Service.{Change, AreChanges}
 use Rattle.nfs_xdr.specs.declared.link.Came.{Came}
 
@@ -86,26 +89,42 @@ module _ {L : Type 0} (outgoing incoming : L → Option (List ℕ)) (reports : L
     such = (goes.such.0, accounts_then a c d goes.changes [] (subst (λ l. Accounts a l c) (append-nil goes.changes) (accounts_then a b c [] goes.changes f goes.such.1)) g);
   }
 
-  pub round_of : (a between before after c d : Option (List Report)) (from to : Schedule) (ready_queue first : List ℕ) (old gathered turned_at new : Stage L) (held left : List Watch)
+  -- other exports are put in force, or none are
+  reload_after : (ended new : Stage L) (shared : Bool) → MayReload ended.server new.server → new ≡ record ended { server = new.server } → (exports : Option (List (List Export))) × AreChanges outgoing incoming shared (reload_of exports) (state ended) (state new)
+  reload_after ended new shared (inl same) is = (None, ap state is ∙ ap (λ (s : Held). state (record ended { server = s })) same)
+  reload_after ended new shared (inr (exports, to)) is = (Some exports, (state ended, refl, ap state is ∙ ap (λ (s : Held). state (record ended { server = s })) to))
+
+  no_turn : (exports : Option (List (List Export))) (changes : List Change) → turned (reload_of exports ++ changes) ≡ turned changes
+  no_turn None changes = refl
+  no_turn (Some exports) changes = refl
+
+  no_report : (exports : Option (List (List Export))) (changes : List Change) (a b : Option (List Report)) → ComeBy a changes b → ComeBy a (reload_of exports ++ changes) b
+  no_report None changes a b f = f
+  no_report (Some exports) changes a b f = f
+
+  pub round_of : (a between before after c d : Option (List Report)) (from to : Schedule) (ready_queue first : List ℕ) (old gathered turned_at ended new : Stage L) (held left : List Watch)
       → Notes old.members from.watches from.queue ready_queue a between → AsksAll most_asked a between → AllStay old.members from.watches gathered.members held → AllBegin old.members between before gathered.members held → ReleasesBy gathered.members from.full before after held left ready_queue first
       → MayBeFull from.full old.written → gathered.written ≡ old.written
       → Goes outgoing incoming (λ changes. WithoutTurns between changes before) old gathered
       → Goes outgoing incoming (λ changes. (turned changes ≡ first) × Accounts after changes c) gathered turned_at → AllOthersStay first (seats gathered.members) (seats turned_at.members)
       → HeardInTurns incoming reports after c first to.queue left to.watches (seats turned_at.members)
-      → Goes outgoing incoming (λ changes. WithoutTurns c changes d) turned_at new
+      → Goes outgoing incoming (λ changes. WithoutTurns c changes d) turned_at ended
+      → MayReload ended.server new.server → new ≡ record ended { server = new.server }
       → WaitAgain incoming reports to.watches (seats turned_at.members) first to.queue → ((key : ℕ) → (get new.members key ≡ get turned_at.members key) ⊎ (get new.members key ≡ None))
       → SomeMayBeHeld first left to.watches → SilentLeave to.watches to.queue from.idle from.looked c d to.looked turned_at.members new.members → to.idle ≡ from.idle
       → (changes : List Change) × IsRound outgoing incoming reports changes a d from to old new
   unfolding after_turns before_turns with_reports
-  round_of a between before after c d from to ready_queue first old gathered turned_at new held left notes asked stay begin releases full_is nothing_written f g others heard h again some_left some_held silent idle_stays =
+  round_of a between before after c d from to ready_queue first old gathered turned_at ended new held left notes asked stay begin releases full_is nothing_written f g others heard h may_reload new_is again some_left some_held silent idle_stays =
       let joining = with_reports a between before after old gathered (notes_account old.members from.watches from.queue ready_queue a between notes) (releases_account gathered.members from.full before after held left ready_queue first releases) f in
       let serving = before_turns a after c first old gathered turned_at joining g in
-      let whole = after_turns a c d first old turned_at new serving h in (
-        whole.changes,
+      let whole = after_turns a c d first old turned_at ended serving h in
+      let reload = reload_after ended new old.written.shared may_reload new_is in
+      let changes = changes_then outgoing incoming old.written.shared whole.changes (reload_of reload.0) (state old) (state ended) (state new) whole.are_changes reload.1 in (
+        reload_of reload.0 ++ whole.changes,
         record {
-          are_changes = whole.are_changes;
-          shared_stays = whole.shared_stays;
-          accounts = whole.such.1;
+          are_changes = changes;
+          shared_stays = ap (λ (s : Stage L). s.written.shared) new_is ∙ whole.shared_stays;
+          accounts = no_report reload.0 whole.changes a d whole.such.1.1;
           between = between;
           ready_queue = ready_queue;
           notes = notes;
@@ -124,7 +143,7 @@ module _ {L : Type 0} (outgoing incoming : L → Option (List ℕ)) (reports : L
           first = first;
           releases = releases;
           full_is = full_is;
-          turned_are = whole.such.0;
+          turned_are = no_turn reload.0 whole.changes ∙ whole.such.0;
           wait_again = again_where_some_left incoming reports to.watches (seats turned_at.members) (seats new.members) first to.queue (λ key. seat_or_none (get turned_at.members key) (get new.members key) (some_left key)) again;
           some_held = some_held;
           served = turned_at;
@@ -139,24 +158,27 @@ module _ {L : Type 0} (outgoing incoming : L → Option (List ℕ)) (reports : L
           serving_accounts = serving.such.1;
           serving_is = refl;
           ending = h.changes;
-          ending_leads = subst (λ s. AreChanges outgoing incoming s h.changes (state turned_at) (state new)) serving.shared_stays h.are_changes;
+          ended = ended;
+          ending_leads = subst (λ s. AreChanges outgoing incoming s h.changes (state turned_at) (state ended)) serving.shared_stays h.are_changes;
           ending_accounts = h.such;
+          exports = reload.0;
+          reload_leads = reload.1;
           changes_are = refl;
           silent = silent;
           idle_stays = idle_stays;
-          log_stays = failed_logs_stay outgoing incoming old.written.shared whole.changes (state old) (state new) whole.are_changes;
+          log_stays = failed_logs_stay outgoing incoming old.written.shared (reload_of reload.0 ++ whole.changes) (state old) (state new) changes;
         },
       )
 
   -- the changes of rounds together
   rounds_go : (rounds : List (List Change)) (reported reported_now : Option (List Report)) (from to : Schedule) (old new : Stage L) → AreRounds outgoing incoming reports rounds reported from old reported_now to new
-      → AreChanges outgoing incoming old.written.shared (changes_of rounds) (state old) (state new) × (new.written.shared ≡ old.written.shared) × Accounts reported (changes_of rounds) reported_now
-  rounds_go [] reported reported_now from to old new p = (ap (λ (s : Stage L). state s) p.0, ap (λ (s : Stage L). s.written.shared) p.0, accounts_same reported reported_now p.1)
+      → AreChanges outgoing incoming old.written.shared (changes_of rounds) (state old) (state new) × (new.written.shared ≡ old.written.shared) × ComeBy reported (changes_of rounds) reported_now
+  rounds_go [] reported reported_now from to old new p = (ap (λ (s : Stage L). state s) p.0, ap (λ (s : Stage L). s.written.shared) p.0, come_same reported reported_now p.1)
   rounds_go (changes ∷ earlier) reported reported_now from to old new p =
       let e = rounds_go earlier reported p.0 from p.1 old p.2 p.3 in (
         changes_then outgoing incoming old.written.shared (changes_of earlier) changes (state old) (state p.2) (state new) e.0 (subst (λ s. AreChanges outgoing incoming s changes (state p.2) (state new)) e.1 p.4.are_changes),
         p.4.shared_stays ∙ e.1,
-        accounts_then reported p.0 reported_now (changes_of earlier) changes e.2 p.4.accounts,
+        come_then reported p.0 reported_now (changes_of earlier) changes e.2 p.4.accounts,
       )
 
   pub another_round : (reported before reported_now reported_then : Option (List Report)) (from mid to : Schedule) (old between new : Stage L) → (rounds : List (List Change)) × AreRounds outgoing incoming reports rounds reported from old before mid between → reported_now ≡ before
@@ -166,7 +188,7 @@ module _ {L : Type 0} (outgoing incoming : L → Option (List ℕ)) (reports : L
 
   -- rounds, and after them changes without turns
   pub run_over : (reported reported_now after : Option (List Report)) (from to : Schedule) (old last new : Stage L) (full : Bool) → (rounds : List (List Change)) × AreRounds outgoing incoming reports rounds reported from old reported_now (record to { full = full }) last → Goes outgoing incoming (λ changes. WithoutTurns reported_now changes after) last new
-      → Goes outgoing incoming (λ changes. Rounds outgoing incoming reports reported from to old changes × Accounts reported changes after) old new
+      → Goes outgoing incoming (λ changes. Rounds outgoing incoming reports reported from to old changes × ComeBy reported changes after) old new
   run_over reported reported_now after from to old last new full (rounds, are) g =
       let e = rounds_go rounds reported reported_now from (record to { full = full }) old last are in
       record {
@@ -174,7 +196,7 @@ module _ {L : Type 0} (outgoing incoming : L → Option (List ℕ)) (reports : L
         are_changes = changes_then outgoing incoming old.written.shared (changes_of rounds) g.changes (state old) (state last) (state new) e.0 (subst (λ s. AreChanges outgoing incoming s g.changes (state last) (state new)) e.1 g.are_changes);
         shared_stays = g.shared_stays ∙ e.1;
         such = (
-          record { rounds = rounds; reported_now = reported_now; last = last; full = full; are_rounds = are; after = g.changes; no_turns = g.such.0; changes_are = refl },
-          accounts_then reported reported_now after (changes_of rounds) g.changes e.2 g.such.1,
+          record { rounds = rounds; reported_now = reported_now; last = last; full = full; are_rounds = are; after = g.changes; no_turns = g.such.0; no_reload = g.such.1.0; changes_are = refl },
+          come_then reported reported_now after (changes_of rounds) g.changes e.2 g.such.1.1,
         );
       }

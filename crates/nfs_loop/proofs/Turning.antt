@@ -12,7 +12,7 @@ use Rattle.nfs_loop.specs.declared.watches.Watch.{Watch}
 use Rattle.nfs_loop.specs.Reports.{Report, at, IsReported, Accounts}
 use Rattle.nfs_loop.specs.Watching.{hold_at}
 use Rattle.nfs_loop.specs.Stages.{stage, state, seat_of, seats, turned, OthersStay, Sleeps, IsAgain, TurnsFirst, Goes}
-use Rattle.nfs_loop.proofs.Reporting.{accounts_then}
+use Rattle.nfs_loop.proofs.Reporting.{accounts_none, accounts_then}
 use Rattle.nfs_server.specs.Feeding.{device}
 use Rattle.nfs_server.specs.Fits.{Held}
 use Rattle.nfs_serving.specs.Service.{Seat, ServiceState, Change, turns, leaves, LeavesBy, end_text}
@@ -27,16 +27,29 @@ queue_after : {L : Type 0} (incoming : L → Option (List ℕ)) (reports : L →
 queue_after incoming reports hold key rest queue true seat e sleeps = (key ∷ [], e, inl refl)
 queue_after incoming reports hold key rest queue false seat e sleeps = ([], e ∙ sym (append-nil rest), inr (refl, sleeps refl))
 
+-- nobody has a turn where nobody waits
+pub nobody_turns : {L : Type 0} (outgoing incoming : L → Option (List ℕ)) (reports : L → ℕ → Came → L → Type 0) (reported : Option (List Report)) (watches : List Watch) (server : Held) (old new : Waiting (Member L)) (joined : ℕ) (w : Written)
+    → old.1.0 ≡ [] → new ≡ old
+    → Goes outgoing incoming (λ changes. TurnsFirst incoming reports watches (seats old.0) (seats new.0) old.1.0 changes new.1.0 × Accounts reported changes reported) (stage server old.0 joined w) (stage server new.0 joined w)
+nobody_turns {L} outgoing incoming reports reported watches server old new joined w empty same =
+    subst (λ (q : Waiting (Member L)). Goes outgoing incoming (λ changes. TurnsFirst incoming reports watches (seats old.0) (seats q.0) old.1.0 changes q.1.0 × Accounts reported changes reported) (stage server old.0 joined w) (stage server q.0 joined w)) (sym same)
+    (record {
+      changes = [];
+      are_changes = refl;
+      shared_stays = refl;
+      such = (subst (λ (queue : List ℕ). TurnsFirst incoming reports watches (seats old.0) (seats old.0) queue [] queue) (sym empty) (refl, refl), accounts_none reported);
+    })
+
 -- a member as it comes back from its turn
 abbrev pub with_client : {L : Type 0} → Member L → Standing L → Member L
-with_client m now = record { client = now; number = m.number; peer = m.peer; addr = m.addr }
+with_client m now = record { client = now; number = m.number; peer = m.peer; addr = m.addr; since = m.since }
 
 module _ {L : Type 0} (outgoing incoming : L → Option (List ℕ)) (reports : L → ℕ → Came → L → Type 0) (moment : Moment) (old mid : Waiting (Member L)) (key : ℕ) (member : Member L) (c : IsCalled old mid key member)
     (server served : Held) (joined : ℕ) (w v : Written) (stays : StaysFailed w.broken w.log v.broken v.log) (shared : v.shared ≡ w.shared) (lines : v.lines ≡ w.lines) (complete : v.complete ≡ w.complete)
     (reported first reported_now : Option (List Report)) (before : Accounts reported [] first) (report : IsReported first (at moment) reported_now)
     (now : Standing L) (turn : Turns outgoing incoming moment member.client now server served (device w.log v.log)) where
   turn_reported : Accounts reported (turns key moment turn.0 ∷ []) reported_now
-  turn_reported = accounts_then reported first reported_now [] (turns key moment turn.0 ∷ []) before (λ news e. (at moment ∷ [], report news e, ([], [], refl, tt)))
+  turn_reported = accounts_then reported first reported_now [] (turns key moment turn.0 ∷ []) before (tt, λ news e. (at moment ∷ [], report news e, ([], [], refl, tt)))
 
   first_turns : (watches : List Watch) (seat : ℕ → Option (Seat L)) (changes : List Change) (queue : List ℕ) → turned changes ≡ key ∷ [] → OthersStay key (seats old.0) seat → (again : List ℕ) × (queue ≡ mid.1.0 ++ again) × IsAgain incoming reports (hold_at watches key) key again (seat key)
       → TurnsFirst incoming reports watches (seats old.0) seat old.1.0 changes queue

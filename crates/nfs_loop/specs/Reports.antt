@@ -4,7 +4,7 @@ use Rattle.std.specs.declared.net.ip_addr.IpAddr.{IpAddr}
 use Rattle.nfs_attrs.specs.declared.moment.Moment.{Moment}
 use Rattle.nfs_exports.specs.declared.addr.Addr.{Addr}
 use Rattle.nfs_loop.specs.Peers.{IsAddrOf}
-use Rattle.nfs_serving.specs.Service.{Change, joins, turns, leaves, passes}
+use Rattle.nfs_serving.specs.Service.{Change, joins, turns, leaves, passes, reloads}
 
 -- something is ready for the client of a key; connections may wait; nothing more is ready; a connection came from a peer, and its client has this key; it was asked for the moment, or how many milliseconds the service has run
 pub data Report : Type 0 where
@@ -48,7 +48,18 @@ AreBy news (joins key number addr ∷ earlier) = (after before : List Report) ×
 AreBy news (turns key moment bytes ∷ earlier) = (after before : List Report) × (news ≡ after ++ at moment ∷ before) × AreBy before earlier
 AreBy news (leaves key number calls end ∷ earlier) = AreBy news earlier
 AreBy news (passes ∷ earlier) = AreBy news earlier
+AreBy news (reloads exports ∷ earlier) = AreBy news earlier
 
 -- where it is known what was reported, these are the changes by what was reported in between
+abbrev pub ComeBy : Option (List Report) → List Change → Option (List Report) → Type 0
+ComeBy old changes new = (before : List Report) → old ≡ Some before → (news : List Report) × (new ≡ Some (news ++ before)) × AreBy news changes
+
+-- none of these changes puts other exports in force
+abbrev pub KeepExports : List Change → Type 0
+KeepExports [] = Unit {0}
+KeepExports (reloads exports ∷ earlier) = ⊥
+KeepExports (other ∷ earlier) = KeepExports earlier
+
+-- and the exports in force stay
 abbrev pub Accounts : Option (List Report) → List Change → Option (List Report) → Type 0
-Accounts old changes new = (before : List Report) → old ≡ Some before → (news : List Report) × (new ≡ Some (news ++ before)) × AreBy news changes
+Accounts old changes new = KeepExports changes × ComeBy old changes new

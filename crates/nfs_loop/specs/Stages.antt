@@ -5,9 +5,10 @@ use Rattle.std.specs.declared.net.ip_addr.IpAddr.{IpAddr}
 use Rattle.slab.specs.Slab.{Slab, get, Updates, SameValues}
 use Rattle.nfs_exports.specs.declared.addr.Addr.{Addr}
 use Rattle.nfs_attrs.specs.declared.moment.Moment.{Moment}
+use Rattle.nfs_exports.specs.declared.export_table.Export.{Export}
 use Rattle.nfs_lines.specs.Written.{Written}
 use Rattle.nfs_loop.specs.Peers.{IsAddrOf}
-use Rattle.nfs_loop.specs.Reports.{Report, ready, listener_ready, nothing_ready, came, at, since, IsReported, IsReportedFirst, IsTimeIn, Accounts}
+use Rattle.nfs_loop.specs.Reports.{Report, ready, listener_ready, nothing_ready, came, at, since, IsReported, IsReportedFirst, IsTimeIn, Accounts, ComeBy, KeepExports}
 use Rattle.nfs_loop.specs.declared.member.Member.{Member}
 use Rattle.nfs_loop.specs.declared.watches.Hold.{Hold}
 use Rattle.nfs_loop.specs.declared.watches.Hold.TheVariants.{Lines}
@@ -17,7 +18,7 @@ use Rattle.nfs_loop.specs.Refusing.{hold_for}
 use Rattle.nfs_loop.specs.Watching.{watch_at, heard_at, hold_at, AllBegin, AllStay, ReleasesBy, SomeMayBeHeld}
 use Rattle.nfs_queue.specs.Queues.{is_waiting, with_ready}
 use Rattle.nfs_server.specs.Fits.{Held, History}
-use Rattle.nfs_serving.specs.Service.{Seat, ServiceState, IsNew, Change, joins, turns, leaves, passes, AreChanges, IsOneHistory}
+use Rattle.nfs_serving.specs.Service.{Seat, ServiceState, IsNew, Change, joins, turns, leaves, passes, reloads, AreChanges, IsOneHistory}
 use Rattle.nfs_serving.specs.Outgoing.{IsDrained, IsExhausted, IsQuiet}
 use Rattle.nfs_serving.specs.Turns.{IsHeld}
 use Rattle.nfs_xdr.specs.Known.{StaysFailed}
@@ -49,6 +50,7 @@ turned (joins key number addr ∷ earlier) = turned earlier
 turned (turns key moment bytes ∷ earlier) = turned earlier ++ key ∷ []
 turned (leaves key number calls end ∷ earlier) = turned earlier
 turned (passes ∷ earlier) = turned earlier
+turned (reloads exports ∷ earlier) = turned earlier
 
 -- Whoever has its turn and stays sleeps only where it is owed an event or room for lines: replies are pending that the link did not take; all that was received was taken, and the link reported that nothing more was there; or its next record is held, and so is the client, until the log is not full any more.
 abbrev pub Sleeps : {L : Type 0} → (L → Option (List ℕ)) → (L → ℕ → Came → L → Type 0) → Option Hold → Option (Seat L) → Type 0
@@ -109,7 +111,7 @@ first_of (key ∷ rest) = key ∷ []
 
 -- ---- how a service goes on
 
--- changes by what was reported in between, in which nobody has a turn
+-- changes by what was reported in between, in which nobody has a turn, and the exports in force stay
 abbrev pub WithoutTurns : Option (List Report) → List Change → Option (List Report) → Type 0
 WithoutTurns reported changes reported_now = (turned changes ≡ []) × Accounts reported changes reported_now
 
@@ -237,11 +239,16 @@ schedule queue watches idle looked full = record { queue = queue; watches = watc
 abbrev pub MayBeFull : Bool → Written → Type 0
 MayBeFull full written = full ≡ true → (written.broken ≡ false) × ((log : List ℕ) → written.log ≡ Some log → 4194304 ≤ length log)
 
--- A round: the network is asked what is ready. Those of which something was reported wait after those that waited, unless they get no turn for now; others may have joined since; and after them wait those whose hold is over, by what the clock reported once these had come and before the moment of any turn, and as the log was full or not. Nothing was written up to there. Then each who waits has one turn, in that order, and at the end it waits again, sleeps or is gone. All others stay, and only those that had a turn are held who were not before. When each was heard of stays, but for two: for one that joins, and for one of which something was heard in its turn, it is a time that the clock reported then. At the end of the round, once all turns are over, those that are silent leave, and nobody else does there, by the time that the clock reported then. The changes up to there lead to those who are looked at, and nobody has a turn in the others.
+-- the change by which these exports are put in force, if any are
+abbrev pub reload_of : Option (List (List Export)) → List Change
+reload_of None = []
+reload_of (Some exports) = reloads exports ∷ []
+
+-- A round: the network is asked what is ready. Those of which something was reported wait after those that waited, unless they get no turn for now; others may have joined since; and after them wait those whose hold is over, by what the clock reported once these had come and before the moment of any turn, and as the log was full or not. Nothing was written up to there. Then each who waits has one turn, in that order, and at the end it waits again, sleeps or is gone. All others stay, and only those that had a turn are held who were not before. When each was heard of stays, but for two: for one that joins, and for one of which something was heard in its turn, it is a time that the clock reported then. At the end of the round, once all turns are over, those that are silent leave, and nobody else does there, by the time that the clock reported then. The changes up to there lead to those who are looked at, and nobody has a turn in the others. At the very end other exports may be put in force, and only there.
 pub record IsRound {L : Type 0} (outgoing incoming : L → Option (List ℕ)) (reports : L → ℕ → Came → L → Type 0) (changes : List Change) (reported reported_now : Option (List Report)) (from to : Schedule) (old new : Stage L) : Type 0 where
   pub are_changes : AreChanges outgoing incoming old.written.shared changes (state old) (state new)
   pub shared_stays : new.written.shared ≡ old.written.shared
-  pub accounts : Accounts reported changes reported_now
+  pub accounts : ComeBy reported changes reported_now
   pub between : Option (List Report)
   pub ready_queue : List ℕ
   pub notes : Notes old.members from.watches from.queue ready_queue reported between
@@ -275,9 +282,12 @@ pub record IsRound {L : Type 0} (outgoing incoming : L → Option (List ℕ)) (r
   pub serving_accounts : Accounts reported serving looks_at
   pub serving_is : serving ≡ turning ++ joining
   pub ending : List Change
-  pub ending_leads : AreChanges outgoing incoming old.written.shared ending (state served) (state new)
+  pub ended : Stage L
+  pub ending_leads : AreChanges outgoing incoming old.written.shared ending (state served) (state ended)
   pub ending_accounts : WithoutTurns looks_at ending reported_now
-  pub changes_are : changes ≡ ending ++ serving
+  pub exports : Option (List (List Export))
+  pub reload_leads : AreChanges outgoing incoming old.written.shared (reload_of exports) (state ended) (state new)
+  pub changes_are : changes ≡ reload_of exports ++ (ending ++ serving)
   pub silent : SilentLeave to.watches to.queue from.idle from.looked looks_at reported_now to.looked served.members new.members
   pub idle_stays : to.idle ≡ from.idle
   pub log_stays : StaysFailed old.written.broken old.written.log new.written.broken new.written.log
@@ -293,7 +303,7 @@ abbrev pub changes_of : List (List Change) → List Change
 changes_of [] = []
 changes_of (changes ∷ earlier) = changes ++ changes_of earlier
 
--- Rounds, and after them changes in which nobody has a turn. Whether the log was full at the end of the last round is said apart, since lines may have been passed on since.
+-- Rounds, and after them changes in which nobody has a turn, and the exports in force stay. Whether the log was full at the end of the last round is said apart, since lines may have been passed on since.
 pub record Rounds {L : Type 0} (outgoing incoming : L → Option (List ℕ)) (reports : L → ℕ → Came → L → Type 0) (reported : Option (List Report)) (from to : Schedule) (old : Stage L) (changes : List Change) : Type 0 where
   pub rounds : List (List Change)
   pub reported_now : Option (List Report)
@@ -302,11 +312,12 @@ pub record Rounds {L : Type 0} (outgoing incoming : L → Option (List ℕ)) (re
   pub are_rounds : AreRounds outgoing incoming reports rounds reported from old reported_now (record to { full = full }) last
   pub after : List Change
   pub no_turns : turned after ≡ []
+  pub no_reload : KeepExports after
   pub changes_are : changes ≡ after ++ changes_of rounds
 
 -- What changed, by what was reported, is one history and one log, and each client is served as if it were alone. Each round gives one turn to each who waits, and at its end those that are silent leave.
 pub record Lived {L : Type 0} (outgoing incoming : L → Option (List ℕ)) (reports : L → ℕ → Came → L → Type 0) (history : History) (reported reported_now : Option (List Report)) (from to : Schedule) (old new : Stage L) : Type 0 where
   pub changes : List Change
   pub one_history : IsOneHistory outgoing incoming old.written.shared history changes (state old) (state new)
-  pub accounts : Accounts reported changes reported_now
+  pub accounts : ComeBy reported changes reported_now
   pub rounds : Rounds outgoing incoming reports reported from to old changes

@@ -1,15 +1,20 @@
 //! What attends a service between two rounds.
+ghost use Rattle.nfs_loop.specs.Attending.{MayReload};
 
+use crate::view::ServiceView;
 use nfs_server::server::Server;
+use nfs_xdr::link::Link;
 
 /// What attends a service between two rounds. What goes wrong there ends no service.
 pub trait Attendant {
     /// Makes a copy of the tree of a server.
     fn save(&mut self, server: &Server);
 
-    /// Answers who controls the service, in a round in which something was reported that is no client's. Whether the
-    /// service is to end.
-    fn attend(&mut self, server: &Server, standing: Standing) -> bool;
+    /// Answers who controls the service, in a round in which something was reported that is no client's, and once a
+    /// second where the limits of the service say so. Whether the service is to end. It may put other exports in
+    /// force, and changes nothing else of the server.
+    fn attend<L: Link + Drop>(&mut self, server: &mut Server, view: &ServiceView<'_, L>) -> bool
+        ensures { MayReload server.old server.new };
 }
 
 /// How a service stands.
@@ -17,6 +22,9 @@ pub trait Attendant {
 pub struct Standing {
     /// How many clients it has.
     pub clients: usize,
+    /// How many of them have something on its way, or were heard of in this second or the one before; all of them, as
+    /// long as the service is not told to end.
+    pub busy: usize,
     /// How many connections there were so far.
     pub joined: u64,
     /// For how many seconds it has run.

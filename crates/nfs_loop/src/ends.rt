@@ -16,6 +16,7 @@ use nfs_exports::addr::Addr;
 use nfs_lines::line_out::LineOut;
 use nfs_lines::lines::Lines;
 use nfs_server::serve_fault::ServeFault;
+use nfs_serving::traffic::Traffic;
 use nfs_serving::turn::End;
 use nfs_xdr::link::Link;
 
@@ -42,19 +43,20 @@ impl Housekeeping {
         self.refuse_where_denied(net, member.addr, end);
         let end = end_of(net, &member, end);
         say(rt, &member, end);
-        self.count_end();
+        self.count_end(member.client.traffic());
         let line = end_line(member.number, member.client.calls(), end);
         lines.report(moment, line.as_slice());
     }
 
     // Counts a connection that has ended, and has one that waits accepted.
-    fn count_end(&mut self)
+    fn count_end(&mut self, traffic: Traffic)
         ensures watches { self.new.watches ≡ self.old.watches }
         ensures looked { self.new.looked ≡ self.old.looked }
         ensures limits { self.new.limits ≡ self.old.limits }
         ensures refused { self.new.refused_peers ≡ self.old.refused_peers }
     {
         self.ended = self.ended.saturating_add(1);
+        self.ended_traffic = self.ended_traffic.with(traffic);
         self.retry();
     }
 

@@ -1,22 +1,30 @@
 //! What a service keeps beside its clients.
 ghost use Rattle.std.specs.Prelude.{◌≡◌, ◌⊎◌, ◌+◌, ◌/◌, ◌<◌, ℕ, [], false, Some, IfNone, IfSome, slice_set};
 ghost use Rattle.nfs_lines.specs.Written.{PassedOn, written};
+ghost use Rattle.nfs_loop.specs.Attending.{MayReload};
 ghost use Rattle.nfs_loop.specs.Refusing.{hold_for};
 ghost use Rattle.nfs_loop.specs.Reports.{Accounts};
 ghost use Rattle.nfs_loop.specs.Ending.{is_over_after, until_after};
 ghost use Rattle.nfs_loop.specs.Stages.{looked_after};
 
 use crate::attendant::{Attendant, Standing};
+use crate::call_rate::CallRate;
 use crate::limits::Limits;
 use crate::lines_reported::LinesReported;
+use crate::member::Member;
 use crate::network::Network;
 use crate::refused_peers::RefusedPeers;
+use crate::turn_times::TurnTimes;
+use crate::view::ServiceView;
 use crate::watches::Watches;
 use log::Log;
 use nfs_exports::addr::Addr;
 use nfs_lines::line_out::LineOut;
 use nfs_lines::lines::Lines;
+use nfs_queue::clients::Clients;
 use nfs_server::server::Server;
+use nfs_serving::traffic::Traffic;
+use nfs_xdr::link::Link;
 use std::alloc::Global;
 use std::time::Duration;
 
@@ -28,6 +36,9 @@ pub(crate) const LINES_MILLIS: u64 = 10;
 
 // For how many seconds a service goes on that was told to end.
 const LAST_SECONDS: u64 = 10;
+
+// For how many seconds nothing may be heard of a client that is no longer busy.
+const QUIET_SECONDS: u64 = 2;
 
 /// Whether connections wait to be accepted.
 #[derive(Clone, Copy, PartialEq, Eq)]
@@ -61,6 +72,14 @@ pub(crate) struct Housekeeping {
     /// Whether something was reported in this round that is no client's, and may be for the attendant.
     pub(crate) is_woken: bool,
     lines_reported: LinesReported,
+    /// How many bytes came and went on connections that have ended.
+    pub(crate) ended_traffic: Traffic,
+    // How many calls came in the last minute.
+    call_rate: CallRate,
+    /// How long turns took.
+    pub(crate) turn_times: TurnTimes,
+    // When the attendant was last asked.
+    asked: u64,
     // When the tree was last saved.
     saved: u64,
     // Until when the service goes on, once it was told to end.
@@ -85,6 +104,10 @@ impl Housekeeping {
             is_touched: false,
             is_woken: false,
             lines_reported: LinesReported::nothing(),
+            ended_traffic: Traffic::none(),
+            call_rate: CallRate::new(),
+            turn_times: TurnTimes::none(),
+            asked: 0,
             saved: 0,
             until: None,
             is_over: false,
@@ -123,7 +146,7 @@ impl Housekeeping {
     fn looks_at_the_clock(&self, clients: usize) -> bool {
         let may_be_silent = self.limits.idle.is_some() && clients > 0;
         let may_be_saved = self.limits.save_every.is_some() && self.is_touched;
-        may_be_silent || may_be_saved || self.until.is_some()
+        may_be_silent || may_be_saved || self.until.is_some() || self.limits.is_watched
     }
 
     /// Has a connection accepted that could not be accepted before.
@@ -169,15 +192,16 @@ impl Housekeeping {
 
     /// Passes on lines that wait, says what can't be written, has the tree saved where it is time, and has whoever
     /// controls the service answered.
-    pub(crate) fn attend<R: Log, N: Network, A: LineOut, C: LineOut, T: Attendant>(
+    pub(crate) fn attend<L: Link + Drop, R: Log, N: Network, A: LineOut, C: LineOut, T: Attendant>(
         &mut self,
         rt: &R,
-        server: &Server,
+        server: &mut Server,
         net: &mut N,
         lines: &mut Lines<'_, A, C>,
         attendant: &mut T,
-        clients: usize,
+        clients: &Clients<Member<L>>,
     )
+        ensures reloads { MayReload server.old server.new }
         ensures reported { Accounts (N.reported net.old) [] (N.reported net.new) }
         ensures watches { self.new.watches ≡ self.old.watches }
         ensures looked { self.new.looked ≡ self.old.looked }
@@ -187,18 +211,85 @@ impl Housekeeping {
         lines.pass_on();
         let seconds = net.millis() / 1_000;
         self.lines_reported.report(rt, lines, seconds);
+        self.note_calls(server, seconds);
         self.save(server, net, attendant, seconds);
         let standing = Standing {
-            clients,
-            joined: self.ended.saturating_add(clients as u64),
+            clients: clients.len(),
+            busy: self.count_busy(clients, seconds),
+            joined: self.ended.saturating_add(clients.len() as u64),
             seconds,
         };
-        let is_told = self.is_woken && attendant.attend(server, standing);
+        let is_told = self.is_to_ask(seconds)
+            && self.ask(server, lines, attendant, clients, standing);
         self.is_woken = false;
+        self.asked = seconds;
         self.look_at_end(net, is_told, standing);
     }
 
-    // Accepts no more connections once the service is told to end. It is over when all have ended, or after 10
+    // Notes how many calls had come when this second began.
+    fn note_calls(&mut self, server: &Server, seconds: u64)
+        ensures watches { self.new.watches ≡ self.old.watches }
+        ensures looked { self.new.looked ≡ self.old.looked }
+        ensures limits { self.new.limits ≡ self.old.limits }
+    {
+        if self.call_rate.is_behind(seconds) {
+            self.call_rate.note(seconds, server.counts().total());
+        }
+    }
+
+    // Whether the attendant is asked in this round.
+    fn is_to_ask(&self, seconds: u64) -> bool {
+        self.is_woken || (self.limits.is_watched && seconds != self.asked)
+    }
+
+    // Has whoever controls the service answered. Whether the service is to end.
+    fn ask<L: Link + Drop, A: LineOut, C: LineOut, T: Attendant>(
+        &self,
+        server: &mut Server,
+        lines: &Lines<'_, A, C>,
+        attendant: &mut T,
+        clients: &Clients<Member<L>>,
+        standing: Standing,
+    ) -> bool
+        ensures { MayReload server.old server.new }
+    {
+        let view = ServiceView {
+            standing,
+            calls_in_minute: self.call_rate.in_minute(server.counts().total()),
+            minute: self.call_rate.minute(),
+            ended_traffic: self.ended_traffic,
+            turn_times: self.turn_times,
+            denials: lines.denied.denials(),
+            dropped: lines.dropped(),
+            clients,
+            watches: &self.watches,
+        };
+        attendant.attend(server, &view)
+    }
+
+    // How many clients are busy, once the service is told to end.
+    fn count_busy<L: Link + Drop>(&self, clients: &Clients<Member<L>>, seconds: u64) -> usize {
+        if self.until.is_none() {
+            return clients.len();
+        }
+        let mut busy = 0usize;
+        for key in 0..clients.keys() {
+            if let Some(member) = clients.get(key)
+                && self.is_busy(member, key, seconds)
+            {
+                busy = busy.saturating_add(1);
+            }
+        }
+        busy
+    }
+
+    // Whether the client of a key has something on its way, or was heard of lately.
+    fn is_busy<L: Link + Drop>(&self, member: &Member<L>, key: usize, seconds: u64) -> bool {
+        !member.client.is_at_rest()
+            || seconds.saturating_sub(self.watches.heard(key)) < QUIET_SECONDS
+    }
+
+    // Accepts no more connections once the service is told to end. It is over when no client is busy, or after 10
     // seconds.
     fn look_at_end<N: Network>(&mut self, net: &mut N, is_told: bool, standing: Standing)
         ensures until { self.new.until ≡ until_after is_told standing.seconds self.old.until }
@@ -213,7 +304,7 @@ impl Housekeeping {
             self.until = Some(standing.seconds.saturating_add(LAST_SECONDS));
         }
         if let Some(until) = self.until
-            && (standing.clients == 0 || standing.seconds >= until)
+            && (standing.busy == 0 || standing.seconds >= until)
         {
             self.is_over = true;
         }

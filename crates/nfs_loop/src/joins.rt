@@ -156,6 +156,7 @@ impl<L: Link + Drop> Service<L> {
             number,
             peer,
             addr,
+            since: millis / 1_000,
         };
         match self.clients.add(member) {
             Ok(()) => {

@@ -3,6 +3,7 @@
 
 pub mod addresses;
 pub mod attendant;
+mod call_rate;
 mod ends;
 mod housekeeping;
 mod joins;
@@ -15,4 +16,6 @@ pub mod report;
 mod rounds;
 pub mod service;
 mod silence;
+pub mod turn_times;
+pub mod view;
 mod watches;

@@ -13,4 +13,6 @@ pub struct Limits {
     /// After how many seconds a copy of the tree is made again, where something may have changed; never
     /// where there is no number.
     pub save_every: Option<u64>,
+    /// Whether its attendant is asked once a second, also where nothing was reported.
+    pub is_watched: bool,
 }

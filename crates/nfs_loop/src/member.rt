@@ -15,4 +15,6 @@ pub struct Member<L> {
     pub peer: SocketAddr,
     /// The peer's address, as exports see it.
     pub addr: Addr,
+    /// When it joined, in seconds since the service began.
+    pub since: u64,
 }

@@ -77,4 +77,7 @@ pub trait Network {
     /// How many milliseconds the service has run.
     fn millis(&mut self) -> u64
         ensures { IsReported (reported self.old) (since result) (reported self.new) };
+
+    /// How many microseconds have passed since the milliseconds were last asked for. They are only measured.
+    fn micros_since(&self) -> u64;
 }

@@ -177,6 +177,7 @@ impl<L: Link + Drop> Service<L> {
         let turn = member
             .client
             .turn(server, &mut self.room, moment, &mut lines.denied);
+        self.housekeeping.turn_times.add(net.micros_since());
         let is_heard = is_heard(turn);
         self.housekeeping.is_touched |= is_heard;
         self.housekeeping

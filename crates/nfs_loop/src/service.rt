@@ -4,7 +4,7 @@ ghost use Rattle.slab.specs.Slab.{get};
 ghost use Rattle.nfs_lines.specs.Queued.{is_full};
 ghost use Rattle.nfs_lines.specs.Written.{PassedOn, written};
 ghost use Rattle.nfs_loop.specs.Stages.{Goes, IsRound, Lived, Rounds, schedule, stage};
-ghost use Rattle.nfs_loop.specs.Reports.{Accounts};
+ghost use Rattle.nfs_loop.specs.Reports.{ComeBy};
 ghost use Rattle.nfs_loop.specs.Watching.{AreWatched};
 ghost use Rattle.nfs_server.specs.Fits.{History, Fits};
 ghost use Rattle.nfs_serving.specs.Service.{Change};
@@ -60,7 +60,7 @@ impl<L: Link + Drop> Service<L> {
     }
 
     /// Serves clients until as many connections have ended as there may be, or until it is told to end: then it
-    /// accepts no more connections, and goes on until all have ended, for 10 seconds at most, so that replies that
+    /// accepts no more connections, and goes on until no client is busy, for 10 seconds at most, so that replies that
     /// are pending go out. Each connection's end is written as a line, and so is each denied call. Lines that can't
     /// be written end no service.
     ///
@@ -107,7 +107,7 @@ impl<L: Link + Drop> Service<L> {
             (schedule self.new.clients.1.0 self.new.housekeeping.watches self.new.housekeeping.limits.idle self.new.housekeeping.looked
             (is_full lines.new.denied.queue))
             (stage server.old self.old.clients.0 self.old.joined (written A.taken C.taken lines.old)) changes
-            × Accounts (N.reported net.old) changes (N.reported net.new))
+            × ComeBy (N.reported net.old) changes (N.reported net.new))
             (stage server.old self.old.clients.0 self.old.joined (written A.taken C.taken lines.old))
             (stage server.new self.new.clients.0 self.new.joined (written A.taken C.taken lines.new)) }
         ensures watched { AreWatched self.new.clients.0 self.new.housekeeping.watches }
@@ -148,9 +148,8 @@ impl<L: Link + Drop> Service<L> {
         self.release(net, lines);
         self.turns(rt, server, net, lines);
         self.end_silent(rt, net, lines);
-        let clients = self.clients.len();
         self.housekeeping
-            .attend(rt, server, net, lines, attendant, clients);
+            .attend(rt, server, net, lines, attendant, &self.clients);
     }
 
     // Passes on the lines that are left, as long as somebody may read them.

@@ -155,6 +155,13 @@ impl Watches {
         }
     }
 
+    /// When something was heard of the client of a key last, in seconds since the service began.
+    pub fn heard(&self, key: usize) -> u64
+        ensures { result ≡ heard_at self.now key }
+    {
+        self.at(key).heard
+    }
+
     /// Whether the client of a key was not heard of since then.
     pub fn is_silent(&self, key: usize, since: u64) -> bool
         ensures { result ≡ nat_lt (watch_at self.now key).heard since }

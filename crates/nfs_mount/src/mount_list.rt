@@ -56,6 +56,13 @@ impl MountList {
         let _ = self.mounts.len();
     }
 
+    /// The pairs, in the order in which clients asked for them.
+    pub fn as_slice(&self) -> &[Mount]
+        ensures { result.now ≡ self.now }
+    {
+        self.mounts.as_slice()
+    }
+
     /// MNT (RFC 1813, appendix I, section 5.2.1) of the volume of exactly this path, by a client at
     /// this address. `Denied` by the first of the rules `PathLong`, `MountPath` and `Export` that
     /// fails; then the list is as before, and the answer has the rule's status. `Granted` where none

@@ -1,5 +1,5 @@
 -- With the same choices there is one answer to an event, and one state after it.
-use Rattle.std.proofs.Common.{◌≡◌, ℕ, Bool, true, false, List, [], ◌∷◌, Option, Some, None, refl, sym, ap, subst, ◌∙◌}
+use Rattle.std.proofs.Common.{◌≡◌, ℕ, Bool, true, false, List, [], ◌∷◌, length, Option, Some, None, refl, sym, ap, subst, ◌∙◌}
 use Rattle.std.specs.Prelude.{Result, Ok, Err, not, ◌&&◌}
 use Rattle.nfs_args.specs.Answers.{nfs_text}
 use Rattle.nfs_args.specs.MountAnswers.{mount_text}
@@ -115,24 +115,25 @@ same_done : (d e : Done) → e.event ≡ d.event → e.choice ≡ d.choice → e
 same_done d e event choice answer = λ i. record { event = event i; choice = choice i; answer = answer i }
 
 pub answers_follow : AnswersFollow
-answers_follow setup opening [] [] state state' run run' alike = (refl, run' ∙ sym run)
-answers_follow setup opening [] (e ∷ earlier) state state' run run' alike = absurd alike
-answers_follow setup opening (d ∷ before) [] state state' run run' alike = absurd alike
-answers_follow setup opening (d ∷ before) (e ∷ earlier) state state' run run' alike =
-    let was = answers_follow setup opening before earlier run.0 run'.0 run.1 run'.1 alike.0 in
+answers_follow setups opening [] [] state state' run run' alike = (refl, run' ∙ sym run)
+answers_follow setups opening [] (e ∷ earlier) state state' run run' alike = absurd alike
+answers_follow setups opening (d ∷ before) [] state state' run run' alike = absurd alike
+answers_follow setups opening (d ∷ before) (e ∷ earlier) state state' run run' alike =
+    let was = answers_follow setups opening before earlier run.0 run'.0 run.1 run'.1 alike.0 in
+    let setup = setups (length before) in
     let step : Step setup before run.0 d.event d.choice e.answer state' =
     subst (λ c. Step setup before run.0 d.event c e.answer state') alike.2
     (subst (λ v. Step setup before run.0 v e.choice e.answer state') alike.1
     (subst (λ old. Step setup before old e.event e.choice e.answer state') was.1
-    (subst (λ history. Step setup history run'.0 e.event e.choice e.answer state') was.0 run'.2))) in
+    (subst (λ history. Step (setups (length history)) history run'.0 e.event e.choice e.answer state') was.0 run'.2))) in
     let same = retransmitted setup run.0 d.event d.choice d.answer e.answer state state' (first_reply setup.places d.choice.again before d.event) run.2 step in
     ((λ i. same_done d e alike.1 alike.2 same.0 i ∷ was.0 i), same.1)
 
 pub bytes_are_hidden : BytesAreHidden
-bytes_are_hidden f setup opening history state run never other agree others state' run' alike =
-    let r = reading_is_confined f setup opening history state run never other agree in
-    let same = answers_follow setup (record opening { tree = other }) history others r.0 state' r.1 run' alike in
-    let there = agree_at_end f setup opening other history state r.0 run r.1 r.2 in (
+bytes_are_hidden f setups opening history state run never other agree others state' run' alike =
+    let r = reading_is_confined f setups opening history state run never other agree in
+    let same = answers_follow setups (record opening { tree = other }) history others r.0 state' r.1 run' alike in
+    let there = agree_at_end f setups opening other history state r.0 run r.1 r.2 in (
       same.0,
       subst (λ (s : State). AgreeOutside f state.tree s.tree) (sym same.1) there.0,
       subst (λ (s : State). s.mounts ≡ state.mounts) (sym same.1) there.1,

@@ -1,5 +1,5 @@
 -- Events are confined, and so are runs of them.
-use Rattle.std.proofs.Common.{inl, inr, ◌≡◌, ℕ, List, [], ◌∷◌, Option, Some, None, is_some, option_map, refl, sym, ap, subst, ◌∙◌}
+use Rattle.std.proofs.Common.{inl, inr, ◌≡◌, ℕ, List, [], ◌∷◌, length, Option, Some, None, is_some, option_map, refl, sym, ap, subst, ◌∙◌}
 use Rattle.std.specs.Prelude.{if◌then◌else◌}
 use Rattle.nfs_handles.proofs.Handles.{handles_name_one}
 use Rattle.nfs_handles.proofs.Runs.{runs_keep, numbers_are_for_good}
@@ -50,9 +50,10 @@ change_is_confined setup history old event choice answer new law step = confined
 -- ---- runs
 
 pub runs_are_confined : RunsAreConfined
-runs_are_confined setup opening law [] state run = (subst Law (sym (ap (λ (s : State). s.tree) run)) law, tt)
-runs_are_confined setup opening law (d ∷ before) state run =
-    let earlier = runs_are_confined setup opening law before run.0 run.1 in
+runs_are_confined setups opening law [] state run = (subst Law (sym (ap (λ (s : State). s.tree) run)) law, tt)
+runs_are_confined setups opening law (d ∷ before) state run =
+    let earlier = runs_are_confined setups opening law before run.0 run.1 in
+    let setup = setups (length before) in
     let changes = step_changes setup before run.0 d.event d.choice d.answer state run.2 in (
       lawful setup run.0 d.event d.choice d.answer state earlier.0 changes,
       (earlier.1, confined setup run.0 d.event d.choice d.answer state earlier.0 changes),
@@ -88,25 +89,26 @@ names_on t u h g = record {
 abbrev LeadsTo : State → State → Type 0
 LeadsTo state between = Law between.tree × Goes between.tree state.tree
 
-module _ (setup : Setup) (opening : State) where
-  through : (P Q : State → Type 0) → ((s : State) → P s → Q s) → (history : List Done) (state : State) (run : IsRun setup opening history state) → Through setup opening history state run P → Through setup opening history state run Q
+module _ (setups : ℕ → Setup) (opening : State) where
+  through : (P Q : State → Type 0) → ((s : State) → P s → Q s) → (history : List Done) (state : State) (run : IsRun setups opening history state) → Through setups opening history state run P → Through setups opening history state run Q
   through P Q h [] state run p = h state p
   through P Q h (d ∷ before) state run p = (through P Q h before run.0 run.1 p.0, h state p.1)
 
   module _ (law : Law opening.tree) where
-    leads : (history : List Done) (state : State) (run : IsRun setup opening history state) → Through setup opening history state run (LeadsTo state)
-    leads [] state run = ((runs_are_confined setup opening law [] state run).0, goes_itself state.tree)
+    leads : (history : List Done) (state : State) (run : IsRun setups opening history state) → Through setups opening history state run (LeadsTo state)
+    leads [] state run = ((runs_are_confined setups opening law [] state run).0, goes_itself state.tree)
     leads (d ∷ before) state run =
-        let last = (runs_are_confined setup opening law before run.0 run.1).0 in
+        let last = (runs_are_confined setups opening law before run.0 run.1).0 in
+        let setup = setups (length before) in
         let step = goes setup run.0 d.event d.choice d.answer state last (step_changes setup before run.0 d.event d.choice d.answer state run.2) in (
           through (LeadsTo run.0) (LeadsTo state) (λ s p. (p.0, goes_on s.tree run.0.tree state.tree p.1 step)) before run.0 run.1 (leads before run.0 run.1),
-          ((runs_are_confined setup opening law (d ∷ before) state run).0, goes_itself state.tree),
+          ((runs_are_confined setups opening law (d ∷ before) state run).0, goes_itself state.tree),
         )
 
 pub handles_name_for_good : HandlesNameForGood
-handles_name_for_good setup opening law history state run = (
-  λ m n handle e g. handles_name_one.once (numbered_files state.tree) m n handle (runs_are_confined setup opening law history state run).0.numbers e g,
-  through setup opening (LeadsTo state) (λ s. NamesOn s.tree state.tree) (λ s p. names_on s.tree state.tree p.0.numbers p.1) history state run (leads setup opening law history state run),
+handles_name_for_good setups opening law history state run = (
+  λ m n handle e g. handles_name_one.once (numbered_files state.tree) m n handle (runs_are_confined setups opening law history state run).0.numbers e g,
+  through setups opening (LeadsTo state) (λ s. NamesOn s.tree state.tree) (λ s p. names_on s.tree state.tree p.0.numbers p.1) history state run (leads setups opening law history state run),
 )
 
 -- ---- servers
@@ -114,7 +116,7 @@ handles_name_for_good setup opening law history state run = (
 -- one event more
 module _ (history : History) (old : Held) (event : Event) (choice : Choice) (answer : Answer) (new : Held) (fits : Fits history old) (step : GoesOn history old event choice answer new) where
   law_before : Law old.state.tree
-  law_before = (runs_are_confined old.setup history.opening fits.opens.lawful history.done old.state fits.run).0
+  law_before = (runs_are_confined history.setups history.opening fits.opens.lawful history.done old.state fits.run).0
 
   pub step_leaves : Leaves old.setup old.state event new.state
   step_leaves = change_is_confined old.setup history.done old.state event choice answer new.state law_before step.0
@@ -124,6 +126,6 @@ module _ (history : History) (old : Held) (event : Event) (choice : Choice) (ans
 
 pub servers_are_confined : ServersAreConfined
 servers_are_confined history s fits =
-    let run = runs_are_confined s.setup history.opening fits.opens.lawful history.done s.state fits.run in
-    let handles = handles_name_for_good s.setup history.opening fits.opens.lawful history.done s.state fits.run in
+    let run = runs_are_confined history.setups history.opening fits.opens.lawful history.done s.state fits.run in
+    let handles = handles_name_for_good history.setups history.opening fits.opens.lawful history.done s.state fits.run in
     record { lawful = run.0; confined = run.1; one = handles.0; good = handles.1 }

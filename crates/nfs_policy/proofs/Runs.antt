@@ -1,5 +1,5 @@
 -- Confinement, from one call to runs.
-use Rattle.std.proofs.Common.{◌≡◌, ℕ, Bool, true, false, List, [], ◌∷◌, Option, Some, None, refl, sym, ap, subst, ◌∙◌}
+use Rattle.std.proofs.Common.{◌≡◌, ℕ, Bool, true, false, List, [], ◌∷◌, length, Option, Some, None, refl, sym, ap, subst, ◌∙◌}
 use Rattle.std.specs.Prelude.{nat_eq, slice_get, Result, Ok, Err, not, ◌&&◌}
 use Rattle.nfs_args.specs.Answers.{nfs_text}
 use Rattle.nfs_args.specs.declared.args.NfsArgs.{NfsArgs}
@@ -155,16 +155,17 @@ same_mounts : (f : ℕ) (setup : Setup) (old : State) (state : State) (P : State
 same_mounts f setup old state P e h = subst P (λ i. record { tree = state.tree; mounts = sym e i }) h
 
 -- trees that agree all the way agree at the end
-pub agree_at_end : (f : ℕ) (setup : Setup) (opening : State) (other : Tree) (history : List Done) (state state' : State) (run : IsRun setup opening history state) (run' : IsRun setup (record opening { tree = other }) history state')
-    → AgreeThrough f setup opening (record opening { tree = other }) history state state' run run' → AgreeOutside f state.tree state'.tree × (state'.mounts ≡ state.mounts)
-agree_at_end f setup opening other [] state state' run run' h = h
-agree_at_end f setup opening other (d ∷ history) state state' run run' h = (h.1, h.2)
+pub agree_at_end : (f : ℕ) (setups : ℕ → Setup) (opening : State) (other : Tree) (history : List Done) (state state' : State) (run : IsRun setups opening history state) (run' : IsRun setups (record opening { tree = other }) history state')
+    → AgreeThrough f setups opening (record opening { tree = other }) history state state' run run' → AgreeOutside f state.tree state'.tree × (state'.mounts ≡ state.mounts)
+agree_at_end f setups opening other [] state state' run run' h = h
+agree_at_end f setups opening other (d ∷ history) state state' run run' h = (h.1, h.2)
 
 pub reading_is_confined : ReadingIsConfined
-reading_is_confined f setup opening [] state run never other agree = (record opening { tree = other }, refl, (ap (λ (s : State). blank (nat_eq f) s.tree) run ∙ agree, ap (λ (s : State). s.mounts) (sym run)))
-reading_is_confined f setup opening (e ∷ before) state run never other agree =
-    let r = reading_is_confined f setup opening before run.0 run.1 never.0 other agree in
-    let now = agree_at_end f setup opening other before run.0 r.0 run.1 r.1 r.2 in
+reading_is_confined f setups opening [] state run never other agree = (record opening { tree = other }, refl, (ap (λ (s : State). blank (nat_eq f) s.tree) run ∙ agree, ap (λ (s : State). s.mounts) (sym run)))
+reading_is_confined f setups opening (e ∷ before) state run never other agree =
+    let r = reading_is_confined f setups opening before run.0 run.1 never.0 other agree in
+    let now = agree_at_end f setups opening other before run.0 r.0 run.1 r.1 r.2 in
+    let setup = setups (length before) in
     let s = retransmitted f setup run.0 r.0.tree now.0 e.event e.choice e.answer state (first_reply setup.places e.choice.again before e.event) never.1 run.2 in
     let step : Step setup before r.0 e.event e.choice e.answer s.0 = same_mounts f setup run.0 r.0 (λ old. Step setup before old e.event e.choice e.answer s.0) now.1 s.1 in
     (s.0, (r.0, r.1, step), (r.2, s.2, s.3))

@@ -25,12 +25,12 @@ abbrev pub HandlesNameOne : Tree → Type 0
 HandlesNameOne t = (m n : ℕ) (handle : List ℕ) → handle_at (numbered_files t) m ≡ Some handle → handle_at (numbered_files t) n ≡ Some handle → m ≡ n
 
 -- this is so of each state that a run comes through, its opening and its last among them
-abbrev pub Through : (setup : Setup) (opening : State) (history : List Done) (state : State) → IsRun setup opening history state → (State → Type 0) → Type 0
-Through setup opening [] state run Holds = Holds state
-Through setup opening (d ∷ before) state run Holds = Through setup opening before run.0 run.1 Holds × Holds state
+abbrev pub Through : (setups : ℕ → Setup) (opening : State) (history : List Done) (state : State) → IsRun setups opening history state → (State → Type 0) → Type 0
+Through setups opening [] state run Holds = Holds state
+Through setups opening (d ∷ before) state run Holds = Through setups opening before run.0 run.1 Holds × Holds state
 
 -- from each state of a run from a lawful tree to the last
 abbrev pub HandlesNameForGood : Type 0
-HandlesNameForGood = (setup : Setup) (opening : State) → Law opening.tree
-    → (history : List Done) (state : State) (run : IsRun setup opening history state)
-    → HandlesNameOne state.tree × Through setup opening history state run (λ between. NamesOn between.tree state.tree)
+HandlesNameForGood = (setups : ℕ → Setup) (opening : State) → Law opening.tree
+    → (history : List Done) (state : State) (run : IsRun setups opening history state)
+    → HandlesNameOne state.tree × Through setups opening history state run (λ between. NamesOn between.tree state.tree)

@@ -1,5 +1,5 @@
 //! Members by keys, and a queue of those that wait for a turn.
-ghost use Rattle.std.specs.Prelude.{length, ◌≡◌, ◌≢◌, ◌⊎◌, ◌↔◌, ◌<◌, ◌≤◌, ℕ, [], ◌∷◌, ◌++◌, None, Some, true, false, IsTrue, IsNone, IfNone, IfOk, OnOk, OnErr, OnSome, IfSome, IsSome, ◌+◌, ◌^◌};
+ghost use Rattle.std.specs.Prelude.{length, ◌≡◌, ◌≢◌, ◌⊎◌, ◌↔◌, ◌<◌, ◌≤◌, ℕ, [], ◌∷◌, ◌++◌, None, Some, true, false, IsTrue, IsNone, IfNone, IfOk, OnOk, OnErr, OnSome, IfSome, IsSome, option_map, ◌+◌, ◌^◌};
 ghost use Rattle.slab.specs.Slab.{get, slab_len, Updates, SameValues, HasRoomFor};
 ghost use Rattle.nfs_queue.specs.Queues.{AreApart, is_waiting, with_ready, with_key, IsCalled};
 
@@ -74,6 +74,13 @@ impl<M: Drop> Clients<M> {
         ensures above { (key : ℕ) → IsSome (get self.now.0 key) → key < result }
     {
         self.flags.len()
+    }
+
+    /// The member of a key, if one has it and is not at its turn.
+    pub fn get(&self, key: usize) -> Option<&M>
+        ensures { option_map (λ member. member.now) result ≡ get self.now.0 key }
+    {
+        self.members.get(key)
     }
 
     /// The key that the next member has.

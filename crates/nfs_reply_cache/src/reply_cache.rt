@@ -55,6 +55,20 @@ impl ReplyCache {
         })
     }
 
+    /// How many replies are cached.
+    pub fn len(&self) -> usize
+        ensures { result ≡ length self.now.places }
+    {
+        self.kept.len()
+    }
+
+    /// How many may be cached.
+    pub fn most(&self) -> usize
+        ensures { result ≡ self.now.most }
+    {
+        self.most
+    }
+
     /// Whether a reply is kept for a record from an address; its place then moves to the front. It
     /// takes no memory.
     pub fn find(&mut self, addr: Addr, bytes: &[u8]) -> bool

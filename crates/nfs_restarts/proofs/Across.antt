@@ -28,20 +28,20 @@ abbrev tagged : File → TaggedFile File
 tagged f = record { tag = f.tag; value = f }
 
 -- what is so of each state of a run is so of its opening
-at_opening : (setup : Setup) (opening : State) (Holds : State → Type 0) (history : List Done) (state : State) (run : IsRun setup opening history state)
-    → Through setup opening history state run Holds → Holds opening
-at_opening setup opening Holds [] state run h = subst Holds run h
-at_opening setup opening Holds (d ∷ before) state run h = at_opening setup opening Holds before run.0 run.1 h.0
+at_opening : (setups : ℕ → Setup) (opening : State) (Holds : State → Type 0) (history : List Done) (state : State) (run : IsRun setups opening history state)
+    → Through setups opening history state run Holds → Holds opening
+at_opening setups opening Holds [] state run h = subst Holds run h
+at_opening setups opening Holds (d ∷ before) state run h = at_opening setups opening Holds before run.0 run.1 h.0
 
 -- ---- one life
 
 module _ (life : Life) where
   lawful : Law life.state.tree
-  lawful = (runs_are_confined life.setup life.opening life.opens_lawful life.history life.state life.run).0
+  lawful = (runs_are_confined life.setups life.opening life.opens_lawful life.history life.state life.run).0
 
   names_on : NamesOn life.opening.tree life.state.tree
-  names_on = at_opening life.setup life.opening (λ s. NamesOn s.tree life.state.tree) life.history life.state life.run
-      (handles_name_for_good life.setup life.opening life.opens_lawful life.history life.state life.run).1
+  names_on = at_opening life.setups life.opening (λ s. NamesOn s.tree life.state.tree) life.history life.state life.run
+      (handles_name_for_good life.setups life.opening life.opens_lawful life.history life.state life.run).1
 
   key_is : life.state.tree.key ≡ key_of life
   key_is = names_on.key ∙ ap (λ (t : Tree). t.key) life.opens

@@ -23,10 +23,11 @@ pub record Life : Type 0 where
   pub opening : State
   pub opens : opening.tree ≡ opened loaded.tree (life_key loaded.tree.key (rows_of lines)) next
   pub opens_lawful : Law opening.tree
-  pub setup : Setup
+  -- what was in force after each number of events
+  pub setups : ℕ → Setup
   pub history : List Done
   pub state : State
-  pub run : IsRun setup opening history state
+  pub run : IsRun setups opening history state
 
 -- the key of its handles
 abbrev pub key_of : Life → List ℕ

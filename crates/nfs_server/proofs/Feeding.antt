@@ -78,7 +78,7 @@ serves_on history origin limit bytes more done later rest left mid new f g = rec
   within = all_append (λ (content : List ℕ). length content ≤ limit) f.records g.records f.within g.within;
   events_are = ap (map (λ (d : Done). d.event)) (reverse-append later done) ∙ map-append (λ (d : Done). d.event) (reverse done) (reverse later) ∙ ap (λ t. t ++ map (λ (d : Done). d.event) (reverse later)) f.events_are
       ∙ ap (λ t. map (event_at origin) f.records ++ t) g.events_are ∙ sym (map-append (event_at origin) f.records g.records);
-  fits = subst (λ d. Fits (record { opening = history.opening; done = d }) new) (sym (append_assoc later done history.done)) g.fits;
+  fits = subst (λ d. Fits (record history { done = d }) new) (sym (append_assoc later done history.done)) g.fits;
 }
 
 pub feeds_on : (First Then Both : List Done → Type 0) (origin : Origin) (xs ys : List ℕ) (n : ℕ) (result : Result ℕ SessionFault) (old mid new : Held) (from between to : Progress) (a b c v w x : Option (List ℕ))

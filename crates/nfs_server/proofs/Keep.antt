@@ -1,5 +1,5 @@
 -- What the server does is a step after each history that fits, and the cached replies go on with the history.
-use Rattle.std.proofs.Common.{◌≡◌, ℕ, suc, ◌+◌, ◌-◌, ◌<◌, ◌≤◌, Bool, true, false, cond, ◌||◌, List, ◌∷◌, Option, Some, None, is_some, take, refl, sym, ap, subst, ◌∙◌, arith}
+use Rattle.std.proofs.Common.{◌≡◌, ℕ, suc, ◌+◌, ◌-◌, ◌<◌, ◌≤◌, Bool, true, false, cond, ◌||◌, List, ◌∷◌, length, Option, Some, None, is_some, take, refl, sym, ap, subst, ◌∙◌, arith}
 use Rattle.std.specs.Prelude.{nat_lt, if◌then◌else◌}
 use Rattle.std.proofs.lemmas.Bool.{ltb-true}
 use Rattle.nfs_reply_cache.specs.Places.{Key, Place, same, place_for, cached_reply, without}
@@ -9,7 +9,7 @@ use Rattle.nfs_server.specs.Events.{Event, Answer, Choice, Done}
 use Rattle.nfs_server.specs.Fits.{AreHeld, AreTrue, Held, History, Fits, GoesOn}
 use Rattle.nfs_server.specs.OneEvent.{AnswersRecord, AnswersCached, Keeps}
 use Rattle.nfs_server.specs.Retransmissions.{Earlier, earlier, first_reply, is_changing, is_refused, key_of, one_later, reply_again, standing}
-use Rattle.nfs_server.specs.Steps.{Called, IsRun, Retransmitted, Step}
+use Rattle.nfs_server.specs.Steps.{Called, Retransmitted, Step}
 
 -- ---- the history
 
@@ -132,7 +132,8 @@ module _ (history : History) (old : Held) (event : Event) (choice : Choice) (ans
     step,
     record {
       opens = fits.opens;
-      run = subst (λ s. IsRun s history.opening (done ∷ history.done) new.state) (sym setup) (old.state, fits.run, step);
+      run = (old.state, fits.run, subst (λ s. Step s history.done old.state event choice answer new.state) (sym (fits.in_force (length history.done) (omega arith))) step);
+      in_force = λ n later. fits.in_force n (omega (arith, later)) ∙ sym setup;
       held = subst (λ s. AreHeld s.places (done ∷ history.done) new.kept) (sym setup) (subst (AreHeld old.setup.places (done ∷ history.done)) (sym k) held);
       true_to = subst (AreTrue (done ∷ history.done)) (sym k) true_to;
     },

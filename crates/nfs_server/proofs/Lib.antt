@@ -1,6 +1,7 @@
 pub mod Keep
 pub mod Going
 pub mod Forward
+pub mod Reloads
 pub mod Cases
 pub mod Joined
 pub mod Room

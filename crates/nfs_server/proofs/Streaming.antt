@@ -139,7 +139,7 @@ serves_on history addr limit bytes more done later rest left mid new f g =
     record {
       cut = subst (λ rs. AreRecords (bytes ++ more) rs left) (sym both) (records_append (bytes ++ more) (bytes_of done) (bytes_of later) (rest ++ more) left (records_grow bytes (bytes_of done) rest more f.cut) g.cut);
       within = all_append (λ (d : Done). (d.event.addr ≡ addr) × (length d.event.bytes ≤ limit)) later done g.within f.within;
-      fits = subst (λ ds. Fits (record { opening = history.opening; done = ds }) new) (sym (append_assoc later done history.done)) g.fits;
+      fits = subst (λ ds. Fits (record history { done = ds }) new) (sym (append_assoc later done history.done)) g.fits;
     }
 
 counts_on : (n : ℕ) (result : Result ℕ SessionFault) (text rest left : List ℕ) (x y z : ℕ) → (length text ≡ x → length rest ≡ y) → IfOk result (λ n. length rest ≡ y → length left ≡ z) → IfOk (added n result) (λ n. length text ≡ x → length left ≡ z)

@@ -89,7 +89,7 @@ module _ (history : History) (texts : ℕ → List ℕ) (f : Feed) (earlier : Li
   together_on = record {
     fed = (f, brought.done) ∷ t.fed;
     feeds_are = ap (λ l. f ∷ l) t.feeds_are;
-    fits = subst (λ d. Fits (record { opening = history.opening; done = d }) new.server) (sym (append_assoc brought.done (all_events t.fed) history.done)) brought.serves.fits;
+    fits = subst (λ d. Fits (record history { done = d }) new.server) (sym (append_assoc brought.done (all_events t.fed) history.done)) brought.serves.fits;
     served = λ conn u. subst (λ here. Served conn here) refl (served_by conn (nat_eq conn f.conn) refl u);
   }
 

@@ -1,5 +1,6 @@
 -- Which histories fit a server. The server stores none: a history is the caller's.
-use Rattle.std.specs.Prelude.{◌≡◌, ℕ, ◌+◌, ◌<◌, List, [], ◌∷◌, Option, Some, take}
+use Rattle.std.specs.Prelude.{◌≡◌, ℕ, ◌+◌, ◌<◌, ◌≤◌, List, [], ◌∷◌, length, Option, Some, take, if◌then◌else◌, nat_lt}
+use Rattle.nfs_exports.specs.declared.export_table.Export.{Export}
 use Rattle.nfs_inodes.specs.Law.{Law}
 use Rattle.nfs_reply_cache.specs.Places.{Key, Place, cached_reply}
 use Rattle.nfs_server.specs.Events.{Event, Answer, Choice, Done}
@@ -15,14 +16,31 @@ pub record Held : Type 0 where
   pub kept : List Place
   pub line : Option AuditLine
 
--- an opening state, and the events since with their choices and answers, the newest first
+-- an opening state, the setup in force after each number of events, and the events since with their choices and answers, the newest first
 pub record History : Type 0 where
   pub opening : State
+  pub setups : ℕ → Setup
   pub done : List Done
 
 -- the history with one more event
 abbrev pub after : History → Event → Choice → Answer → History
-after history event choice answer = record { opening = history.opening; done = record { event = event; choice = choice; answer = answer } ∷ history.done }
+after history event choice answer = record history { done = record { event = event; choice = choice; answer = answer } ∷ history.done }
+
+-- the history of a server that has seen no event
+abbrev pub opening_with : Setup → State → History
+opening_with setup opening = record { opening = opening; setups = λ n. setup; done = [] }
+
+-- the setup with these exports
+abbrev pub exporting : List (List Export) → Setup → Setup
+exporting exports setup = record setup { exports = exports }
+
+-- a server with these exports, which holds all else as it did
+abbrev pub with_exports : List (List Export) → Held → Held
+with_exports exports s = record s { setup = exporting exports s.setup }
+
+-- the history with these exports in force for all events to come
+abbrev pub reloaded : History → List (List Export) → History
+reloaded history exports = record history { setups = λ n. if nat_lt n (length history.done) then history.setups n else exporting exports (history.setups n) }
 
 -- what a server begins with: a lawful tree, and a mount list of no client
 pub record IsOpening (opening : State) : Type 0 where
@@ -39,11 +57,12 @@ abbrev pub AreTrue : List Done → List Place → Type 0
 AreTrue history kept = (key : Key) (reply : List ℕ) → cached_reply key kept ≡ Some reply
     → (since : ℕ) × (earlier key history ≡ Some (record { since = since; reply = reply }))
 
--- The history is a run from such an opening that ends in what the server holds, and the cached replies are those
--- of its calls. One call moves a cached reply back by at most one place.
+-- The history is a run from such an opening that ends in what the server holds, whose setup is in force from there on,
+-- and the cached replies are those of its calls. One call moves a cached reply back by at most one place.
 pub record Fits (history : History) (s : Held) : Type 0 where
   pub opens : IsOpening history.opening
-  pub run : IsRun s.setup history.opening history.done s.state
+  pub run : IsRun history.setups history.opening history.done s.state
+  pub in_force : (n : ℕ) → length history.done ≤ n → history.setups n ≡ s.setup
   pub held : AreHeld s.setup.places history.done s.kept
   pub true_to : AreTrue history.done s.kept
 

@@ -10,6 +10,7 @@ pub mod Retransmissions
 pub mod Denying
 pub mod Steps
 pub mod Fits
+pub mod Counting
 pub mod OneEvent
 pub mod Runs
 pub mod Forward

@@ -10,7 +10,7 @@ events_of = map event_of
 
 -- the history with these events, the newest first
 abbrev pub longer : History → List Done → History
-longer history done = record { opening = history.opening; done = done ++ history.done }
+longer history done = record history { done = done ++ history.done }
 
 -- A sink took these answers, the newest of them first, and is in this state now. To the newest it said last, to each before it true.
 abbrev pub Took : {S : Type 0} → (S → Answer → Bool → S → Type 0) → Bool → S → List Done → S → Type 0

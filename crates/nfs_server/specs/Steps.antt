@@ -1,5 +1,5 @@
 -- What one event may do, and runs of events.
-use Rattle.std.specs.Prelude.{◌≡◌, ℕ, Bool, true, false, List, [], ◌∷◌, ◌++◌, Option, Some, None, option_map, Result, Ok, Err, not, ◌&&◌}
+use Rattle.std.specs.Prelude.{◌≡◌, ℕ, Bool, true, false, List, [], ◌∷◌, ◌++◌, length, Option, Some, None, option_map, Result, Ok, Err, not, ◌&&◌}
 use Rattle.nfs_args.specs.Answers.{nfs_text}
 use Rattle.nfs_args.specs.MountAnswers.{mount_text}
 use Rattle.nfs_args.specs.declared.args.NfsArgs.{NfsArgs}
@@ -35,7 +35,7 @@ use Rattle.nfs_server.specs.RpcRules.{rpc_failure_of, rpc_reply}
 use Rattle.nfs_server.specs.declared.audit_line.DenialReason.TheVariants as reason
 use Rattle.nfs_server.specs.declared.rpc_rules.RpcRule.{RpcRule}
 
--- what stays for a server's whole life: how many replies it keeps for retransmissions, and what is exported to whom, in a list for each volume
+-- what no event changes: how many replies a server keeps for retransmissions, and the exports in force, a list for each volume: what is exported to whom
 pub record Setup : Type 0 where
   pub places : ℕ
   pub exports : List (List Export)
@@ -149,7 +149,8 @@ Retransmitted None setup old event choice answer new = Called (head_at event.byt
 abbrev pub Step : Setup → List Done → State → Event → Choice → Answer → State → Type 0
 Step setup history old event choice answer new = Retransmitted (first_reply setup.places choice.again history event) setup old event choice answer new
 
--- the history, the newest event first, is a run from the opening state to this one
-abbrev pub IsRun : Setup → State → List Done → State → Type 0
-IsRun setup opening [] state = state ≡ opening
-IsRun setup opening (d ∷ before) state = (between : State) × IsRun setup opening before between × Step setup before between d.event d.choice d.answer state
+-- The history, the newest event first, is a run from the opening state to this one. Each event is judged by the exports in force when it came: the setups say which after so many events.
+abbrev pub IsRun : (ℕ → Setup) → State → List Done → State → Type 0
+IsRun setups opening [] state = state ≡ opening
+IsRun setups opening (d ∷ before) state = (between : State) × IsRun setups opening before between
+    × Step (setups (length before)) before between d.event d.choice d.answer state

@@ -4,6 +4,7 @@
 pub mod arguments;
 pub mod audit_line;
 pub mod audit_out;
+pub mod call_counts;
 pub mod connection;
 pub mod event;
 pub mod laws;

@@ -13,7 +13,7 @@ ghost use Rattle.nfs_server.specs.AuditLines.{line_of};
 ghost use Rattle.nfs_server.specs.declared.audit_line.DenialReason.TheVariants.{Rpc};
 ghost use Rattle.nfs_server.specs.RpcRules.{fails_rpc, caller_rules, rpc_reply, rpc_rules};
 ghost use Rattle.nfs_server.specs.InMemory.{event_of, answer_of, answered, is_silent, reported};
-ghost use Rattle.nfs_server.specs.Fits.{Held, History, Fits, GoesOn};
+ghost use Rattle.nfs_server.specs.Fits.{Held, History, Fits, GoesOn, opening_with, reloaded, with_exports};
 ghost use Rattle.nfs_server.specs.OneEvent.{AnswersRecord, AnswersBy, AnswersChange, PerformsAnew, scene_for};
 ghost use Rattle.nfs_server.specs.Retransmissions as retransmissions;
 ghost use Rattle.nfs_server.specs.ReplyRoom.{Adds, HasReplyRoom, after};
@@ -23,6 +23,7 @@ ghost use Rattle.nfs_server.specs.Runs.{events_of, RunsThrough};
 
 use crate::arguments::read_args;
 use crate::audit_line::{AuditLine, DenialReason};
+use crate::call_counts::CallCounts;
 use crate::event::{Event, Handled, Outcome, Sink};
 use crate::mount::{answer_mount, read_mount_args};
 use crate::nfs_call::{answer_call, may_change};
@@ -35,6 +36,7 @@ use nfs_args::procedure::{MountProcedure, Procedure};
 use nfs_exports::export_table::ExportTable;
 use nfs_inodes::tree::Tree;
 use nfs_load::loaded::Loaded;
+use nfs_mount::mount::Mount;
 use nfs_mount::mount_list::MountList;
 use nfs_mount::rules::mount_failure;
 use nfs_procs::call_context::CallContext;
@@ -56,6 +58,7 @@ pub struct Server {
     mounts: MountList,
     kept: ReplyCache,
     line: Option<AuditLine>,
+    counts: CallCounts,
 }
 
 impl Model for Server {
@@ -78,7 +81,7 @@ impl Server {
         ensures tree { IfOk result (λ server. server.state.tree ≡ loaded.tree) }
         ensures mounts { IfOk result (λ server. server.state.mounts ≡ []) }
         ensures kept { IfOk result (λ server. server.kept ≡ []) }
-        ensures fits { IfOk result (λ server. Fits (record { opening = server.state; done = [] }) server) }
+        ensures fits { IfOk result (λ server. Fits (opening_with server.setup server.state) server) }
         ensures line { IfOk result (λ server. server.line ≡ None) }
     {
         loaded.tree.law();
@@ -88,6 +91,7 @@ impl Server {
             mounts: MountList::new(alloc),
             kept: ReplyCache::new(alloc, cache)?,
             line: None,
+            counts: CallCounts::new(),
         })
     }
 
@@ -103,6 +107,42 @@ impl Server {
         ensures { result.now ≡ self.now.setup.exports }
     {
         &self.table
+    }
+
+    /// Puts these exports in force: each event from now on is judged by them, as by those of a server
+    /// that began with them. The tree, the mounts and the cached replies stay. The table should have a
+    /// list for each volume, in the order of the tree's; a volume without one is exported to nobody.
+    pub fn set_exports(&mut self, table: ExportTable)
+        ensures exports { self.new ≡ with_exports table self.old }
+        ensures fits { (history : History) → Fits history self.old → Fits (reloaded history table) self.new }
+    {
+        self.table = table;
+    }
+
+    /// How many calls came of each procedure.
+    pub fn counts(&self) -> &CallCounts {
+        &self.counts
+    }
+
+    /// Which clients mount which volumes, in the order in which they asked for them.
+    pub fn mounts(&self) -> &[Mount]
+        ensures { result.now ≡ self.now.state.mounts }
+    {
+        self.mounts.as_slice()
+    }
+
+    /// How many replies are cached for retransmissions.
+    pub fn cached(&self) -> usize
+        ensures { result ≡ length self.now.kept }
+    {
+        self.kept.len()
+    }
+
+    /// How many replies may be cached for retransmissions.
+    pub fn places(&self) -> usize
+        ensures { result ≡ self.now.setup.places }
+    {
+        self.kept.most()
     }
 
     /// The line of the last call, where it was denied. Case by case, so that nothing is copied where
@@ -235,13 +275,30 @@ impl Server {
     {
         match admit(head) {
             Err(rule) => self.deny(&head.copied(), event, rule, out),
-            Ok(Admitted::Null) => succeed(out, head.xid),
+            Ok(Admitted::Null) => {
+                self.count(Admitted::Null);
+                succeed(out, head.xid);
+            }
             Ok(Admitted::Nfs(procedure)) => {
+                self.count(Admitted::Nfs(procedure));
                 self.answer_nfs(procedure, &head.copied(), event, out);
             }
             Ok(Admitted::Mount(procedure)) => {
+                self.count(Admitted::Mount(procedure));
                 self.answer_mount(procedure, &head.copied(), event, out);
             }
+        }
+    }
+
+    // Counts a call, on which nothing else depends.
+    #[inline(always)]
+    fn count(&mut self, admitted: Admitted)
+        ensures { self.new ≡ self.old }
+    {
+        match admitted {
+            Admitted::Null => self.counts.count_null(),
+            Admitted::Nfs(procedure) => self.counts.count_nfs(procedure),
+            Admitted::Mount(procedure) => self.counts.count_mount(procedure),
         }
     }
 

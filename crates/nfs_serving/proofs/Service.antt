@@ -5,6 +5,7 @@ use Rattle.std.proofs.lemmas.Bool.{eqb-true, eqb-false, true≢false}
 use Rattle.std.proofs.lemmas.List.{map-append, reverse-append, take-append-drop}
 use Rattle.nfs_attrs.specs.declared.moment.Moment.{Moment}
 use Rattle.nfs_exports.specs.declared.addr.Addr.{Addr}
+use Rattle.nfs_exports.specs.declared.export_table.Export.{Export}
 use Rattle.nfs_rpc.specs.Progress.{Progress, Unfinished}
 use Rattle.nfs_rpc.specs.Records.{AreRecords, ReachesTooLong, header, unended}
 use Rattle.nfs_rpc.proofs.Streams.{records_grow}
@@ -12,15 +13,16 @@ use Rattle.nfs_server.proofs.Feeding.{records_append, replies_append}
 use Rattle.nfs_server.specs.Connections.{Joined}
 use Rattle.nfs_server.specs.Events.{Event, Done}
 use Rattle.nfs_server.specs.Feeding.{Device, device, Brings, Ends, event_at, lines_of, line_bytes, replies_of, framed}
-use Rattle.nfs_server.specs.Fits.{Held, History, Fits}
+use Rattle.nfs_server.specs.Fits.{Held, History, Fits, reloaded}
 use Rattle.nfs_server.specs.Runs.{longer}
 use Rattle.nfs_server.specs.declared.serve_fault.ServeFault.{ServeFault}
 use Rattle.nfs_server.specs.declared.serve_fault.ServeFault.TheVariants as reported
 use Rattle.nfs_server.specs.declared.session_fault.SessionFault.{SessionFault}
 use Rattle.nfs_server.specs.declared.session_fault.SessionFault.TheVariants.{ConnectionTaken, UnknownConnection, Ended, TooLong, Memory, AuditFault, WriteFault}
 use Rattle.nfs_server.specs.declared.taking.Origin.{Origin}
+use Rattle.nfs_server.proofs.Reloads.{reloaded_fits}
 use Rattle.nfs_server.proofs.Together.{fed_on}
-use Rattle.nfs_serving.specs.Service.{Seat, ServiceState, IsNew, Change, joins, turns, leaves, passes, Joins, HasTurn, Leaves, PassesOn, own_bytes, own_events, addr_at, IsClientServed, IsPartServed, all_events, log_of, lines_written, IsLog, AreFrom, end_lines, IsSeatServed, HasLeft, IsOneHistory, ServiceIsOneHistory}
+use Rattle.nfs_serving.specs.Service.{Seat, ServiceState, IsNew, Change, joins, turns, leaves, passes, reloads, Joins, HasTurn, Leaves, PassesOn, Reloads, own_bytes, own_events, addr_at, IsClientServed, IsPartServed, history_after, log_of, lines_written, IsLog, AreFrom, end_lines, IsSeatServed, HasLeft, IsOneHistory, ServiceIsOneHistory}
 use Rattle.nfs_serving.specs.Turns.{Standing, IsEndBy, IsEndedBy, Rests, StandsAfter, Takes, TurnsBy, origin_of, written}
 use Rattle.nfs_serving.proofs.Turning.{grows_none, passes_keep, shrinks_none, shrinks_then}
 use Rattle.nfs_serving.specs.declared.turn.End.{End}
@@ -276,7 +278,7 @@ module _ {L : Type 0} (outgoing incoming : L → Option (List ℕ)) where
         outcomes = record { change = joins key number addr; done = []; log = []; line = [] } ∷ before.outcomes;
         outcomes_are = ap (λ l. joins key number addr ∷ l) before.outcomes_are;
         are_outcomes = ((refl, refl, refl), before.are_outcomes);
-        fits = subst (λ s. Fits (longer history (all_events before.outcomes)) s) (sym j.server_stays) before.fits;
+        fits = subst (λ s. Fits (history_after history before.outcomes) s) (sym j.server_stays) before.fits;
         log_is = none_more old.log between.log new.log (log_of before.outcomes) j.log_stays before.log_is;
         lines_are = none_more old.lines between.lines new.lines (lines_written before.outcomes) j.lines_stay before.lines_are;
         whole = whole_still j.complete_stays;
@@ -306,7 +308,7 @@ module _ {L : Type 0} (outgoing incoming : L → Option (List ℕ)) where
         outcomes = record { change = leaves key number calls end; done = []; log = if shared then l.line else []; line = l.line } ∷ before.outcomes;
         outcomes_are = ap (λ cs. leaves key number calls end ∷ cs) before.outcomes_are;
         are_outcomes = (was, before.are_outcomes);
-        fits = subst (λ s. Fits (longer history (all_events before.outcomes)) s) (sym l.server_stays) before.fits;
+        fits = subst (λ s. Fits (history_after history before.outcomes) s) (sym l.server_stays) before.fits;
         log_is = Grows-then old.log between.log new.log (log_of before.outcomes) (if shared then l.line else []) before.log_is l.log_grows;
         lines_are = Grows-then old.lines between.lines new.lines (lines_written before.outcomes) l.line before.lines_are l.lines_grow;
         whole = λ is.
@@ -322,11 +324,25 @@ module _ {L : Type 0} (outgoing incoming : L → Option (List ℕ)) where
       outcomes = record { change = passes; done = []; log = []; line = [] } ∷ before.outcomes;
       outcomes_are = ap (λ cs. passes ∷ cs) before.outcomes_are;
       are_outcomes = ((refl, refl, refl), before.are_outcomes);
-      fits = subst (λ s. Fits (longer history (all_events before.outcomes)) s) (sym p.server_stays) before.fits;
+      fits = subst (λ s. Fits (history_after history before.outcomes) s) (sym p.server_stays) before.fits;
       log_is = Grows-then old.log between.log new.log (log_of before.outcomes) [] before.log_is p.log_is;
       lines_are = Grows-then old.lines between.lines new.lines (lines_written before.outcomes) [] before.lines_are p.lines_stay;
       whole = whole_still p.complete_stays;
       seats_served = λ k. still k (ap (λ (seats : ℕ → Option (Seat L)). seats k) p.seats_stay);
+    }
+
+    -- ---- other exports are put in force
+    reloads_on : (exports : List (List Export)) → Reloads exports between new → IsOneHistory outgoing incoming shared history (reloads exports ∷ earlier) old new
+    reloads_on exports r = record {
+      outcomes = record { change = reloads exports; done = []; log = []; line = [] } ∷ before.outcomes;
+      outcomes_are = ap (λ cs. reloads exports ∷ cs) before.outcomes_are;
+      are_outcomes = ((refl, refl, refl), before.are_outcomes);
+      fits = subst (Fits (reloaded (history_after history before.outcomes) exports)) (sym (ap (λ (s : ServiceState L). s.server) r))
+          (reloaded_fits (history_after history before.outcomes) exports between.server before.fits);
+      log_is = none_more old.log between.log new.log (log_of before.outcomes) (ap (λ (s : ServiceState L). s.log) r) before.log_is;
+      lines_are = none_more old.lines between.lines new.lines (lines_written before.outcomes) (ap (λ (s : ServiceState L). s.lines) r) before.lines_are;
+      whole = whole_still (ap (λ (s : ServiceState L). s.complete) r);
+      seats_served = λ k. still k (ap (λ (s : ServiceState L). s.seat k) r);
     }
 
     -- ---- one has a turn
@@ -349,7 +365,7 @@ module _ {L : Type 0} (outgoing incoming : L → Option (List ℕ)) where
       abbrev TurnOn : Type 0
       TurnOn = IsOneHistory outgoing incoming shared history (turns key moment came ∷ earlier) old new
 
-      turn_on : (done : List Done) (log : List ℕ) → AreFrom (addr_at key earlier) moment done → IsLog done log → Fits (longer history (done ++ all_events before.outcomes)) new.server → Grows between.log log new.log
+      turn_on : (done : List Done) (log : List ℕ) → AreFrom (addr_at key earlier) moment done → IsLog done log → Fits (longer (history_after history before.outcomes) done) new.server → Grows between.log log new.log
           → IsSeatServed outgoing incoming (own_bytes key earlier ++ came) (done ++ own_events key before.outcomes) (addr_at key earlier) h.now → TurnOn
       turn_on done log from is fits grows served = record {
         outcomes = record { change = turns key moment came; done = done; log = log; line = [] } ∷ before.outcomes;
@@ -364,7 +380,7 @@ module _ {L : Type 0} (outgoing incoming : L → Option (List ℕ)) where
 
       rested : Rests outgoing incoming came h.was h.now → new.server ≡ between.server → new.log ≡ between.log → TurnOn
       rested rests server log = turn_on [] [] tt (inl refl)
-          (subst (λ s. Fits (longer history (all_events before.outcomes)) s) (sym server) before.fits)
+          (subst (λ s. Fits (history_after history before.outcomes) s) (sym server) before.fits)
           (subst (λ o. Grows between.log [] o) (sym log) (grows_none between.log))
           (record {
             first = own.first;
@@ -378,8 +394,8 @@ module _ {L : Type 0} (outgoing incoming : L → Option (List ℕ)) where
         was_served : IsClientServed outgoing (own_bytes key earlier) (own_events key before.outcomes) own.first h.was
         was_served = own.served takes.alive
 
-        brought : Brings (longer history (all_events before.outcomes)) (origin_of h.was moment) (was_served.serves.rest ++ takes.taken) takes.result new.server h.now.connection.progress (device between.log new.log) (device (written outgoing h.was) (written outgoing h.now))
-        brought = takes.feeds (longer history (all_events before.outcomes)) before.fits was_served.serves.rest was_served.serves.unfinished
+        brought : Brings (history_after history before.outcomes) (origin_of h.was moment) (was_served.serves.rest ++ takes.taken) takes.result new.server h.now.connection.progress (device between.log new.log) (device (written outgoing h.was) (written outgoing h.now))
+        brought = takes.feeds (history_after history before.outcomes) before.fits was_served.serves.rest was_served.serves.unfinished
 
         took : TurnOn
         took =
@@ -387,14 +403,14 @@ module _ {L : Type 0} (outgoing incoming : L → Option (List ℕ)) where
             turn_on brought.done log.0
             (are_from (addr_at key earlier) (origin_of h.was moment) brought.done brought.serves.records own.addr_is brought.serves.events_are)
             log.1
-            (subst (λ ds. Fits (record { opening = history.opening; done = ds }) new.server) (sym (append_assoc brought.done (all_events before.outcomes) history.done)) brought.serves.fits)
+            brought.serves.fits
             log.2
             (record {
               first = own.first;
               begins = own.begins;
               addr_is = own.addr_is ∙ ap Some (sym takes.addr_stays);
-              part = part_takes (longer history (all_events before.outcomes)) moment (own_bytes key earlier) came (own_events key before.outcomes) own.first h.was h.now between.server new.server (device between.log new.log) own.part.comes was_served takes brought;
-              served = λ alive. served_takes (longer history (all_events before.outcomes)) moment (own_bytes key earlier) came (own_events key before.outcomes) own.first h.was h.now between.server new.server (device between.log new.log) was_served takes brought alive;
+              part = part_takes (history_after history before.outcomes) moment (own_bytes key earlier) came (own_events key before.outcomes) own.first h.was h.now between.server new.server (device between.log new.log) own.part.comes was_served takes brought;
+              served = λ alive. served_takes (history_after history before.outcomes) moment (own_bytes key earlier) came (own_events key before.outcomes) own.first h.was h.now between.server new.server (device between.log new.log) was_served takes brought alive;
             })
 
       turned : TurnsBy outgoing incoming moment came h.was h.now between.server new.server (device between.log new.log) → TurnOn
@@ -423,3 +439,5 @@ module _ {L : Type 0} (outgoing incoming : L → Option (List ℕ)) where
       leaves_on shared history earlier old are.0 new (service_is_one_history shared earlier old are.0 none are.1 history fits) key number calls end are.2
   service_is_one_history shared (passes ∷ earlier) old new none are history fits =
       passes_on shared history earlier old are.0 new (service_is_one_history shared earlier old are.0 none are.1 history fits) are.2
+  service_is_one_history shared (reloads exports ∷ earlier) old new none are history fits =
+      reloads_on shared history earlier old are.0 new (service_is_one_history shared earlier old are.0 none are.1 history fits) exports are.2

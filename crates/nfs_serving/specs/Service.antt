@@ -3,12 +3,13 @@ use Rattle.std.specs.Prelude.{◌≡◌, ◌≢◌, ◌⊎◌, ℕ, ◌+◌, ◌
 use Rattle.std.specs.List.{AllByRecursion}
 use Rattle.nfs_attrs.specs.declared.moment.Moment.{Moment}
 use Rattle.nfs_exports.specs.declared.addr.Addr.{Addr}
+use Rattle.nfs_exports.specs.declared.export_table.Export.{Export}
 use Rattle.nfs_rpc.specs.Progress.{Unfinished}
 use Rattle.nfs_rpc.specs.Records.{AreRecords, ReachesTooLong}
 use Rattle.nfs_server.specs.Events.{Done}
 use Rattle.nfs_server.specs.FaultWords.{word_of_stream}
 use Rattle.nfs_server.specs.Feeding.{device, lines_of, line_bytes, replies_of}
-use Rattle.nfs_server.specs.Fits.{Held, History, Fits}
+use Rattle.nfs_server.specs.Fits.{Held, History, Fits, reloaded, with_exports}
 use Rattle.nfs_server.specs.Runs.{longer}
 use Rattle.nfs_server.specs.Together.{IsServed}
 use Rattle.nfs_server.specs.declared.serve_fault.ServeFault.TheVariants.{ReadFault, TooLong}
@@ -42,12 +43,13 @@ pub record IsNew {L : Type 0} (c : Standing L) : Type 0 where
 
 -- ---- what changes it
 
--- a client joins under a key, with the number of its connection and its address; that of a key has a turn, at a moment, in which bytes come; it leaves, after so many calls, by an end; or lines that were written are passed on to their devices
+-- a client joins under a key, with the number of its connection and its address; that of a key has a turn, at a moment, in which bytes come; it leaves, after so many calls, by an end; lines that were written are passed on to their devices; or these exports are put in force, a list for each volume
 pub data Change : Type 0 where
   joins : ℕ → ℕ → Addr → Change
   turns : ℕ → Moment → List ℕ → Change
   leaves : ℕ → ℕ → ℕ → End → Change
   passes : Change
+  reloads : List (List Export) → Change
 
 abbrev pub OthersSit : {L : Type 0} → ℕ → ServiceState L → ServiceState L → Type 0
 OthersSit key old new = (other : ℕ) → other ≢ key → new.seat other ≡ old.seat other
@@ -113,6 +115,10 @@ pub record Leaves {L : Type 0} (shared : Bool) (key number calls : ℕ) (end : E
   pub joined_stays : new.joined ≡ old.joined
   pub server_stays : new.server ≡ old.server
 
+-- all events to come are judged by these exports, and nothing else changes
+abbrev pub Reloads : {L : Type 0} → List (List Export) → ServiceState L → ServiceState L → Type 0
+Reloads exports old new = new ≡ record old { server = with_exports exports old.server }
+
 -- nothing new is written
 pub record PassesOn {L : Type 0} (old new : ServiceState L) : Type 0 where
   pub server_stays : new.server ≡ old.server
@@ -128,6 +134,7 @@ IsChange outgoing incoming shared (joins key number addr) old new = Joins key nu
 IsChange outgoing incoming shared (turns key moment came) old new = HasTurn outgoing incoming key moment came old new
 IsChange outgoing incoming shared (leaves key number calls end) old new = Leaves shared key number calls end old new
 IsChange outgoing incoming shared passes old new = PassesOn old new
+IsChange outgoing incoming shared (reloads exports) old new = Reloads exports old new
 
 -- one change after another, the newest first
 abbrev pub AreChanges : {L : Type 0} → (L → Option (List ℕ)) → (L → Option (List ℕ)) → Bool → List Change → ServiceState L → ServiceState L → Type 0
@@ -143,6 +150,7 @@ own_bytes key (joins k number addr ∷ earlier) = if nat_eq key k then [] else o
 own_bytes key (turns k moment came ∷ earlier) = own_bytes key earlier ++ (if nat_eq key k then came else [])
 own_bytes key (leaves k number calls end ∷ earlier) = own_bytes key earlier
 own_bytes key (passes ∷ earlier) = own_bytes key earlier
+own_bytes key (reloads exports ∷ earlier) = own_bytes key earlier
 
 -- the address from which it joined
 abbrev pub addr_at : ℕ → List Change → Option Addr
@@ -151,6 +159,7 @@ addr_at key (joins k number addr ∷ earlier) = if nat_eq key k then Some addr e
 addr_at key (turns k moment came ∷ earlier) = addr_at key earlier
 addr_at key (leaves k number calls end ∷ earlier) = addr_at key earlier
 addr_at key (passes ∷ earlier) = addr_at key earlier
+addr_at key (reloads exports ∷ earlier) = addr_at key earlier
 
 -- a change, its events, the newest first, what it wrote to the log, and what as the line of a connection
 pub record Outcome : Type 0 where
@@ -159,15 +168,22 @@ pub record Outcome : Type 0 where
   pub log : List ℕ
   pub line : List ℕ
 
-abbrev pub all_events : List Outcome → List Done
-all_events [] = []
-all_events (o ∷ earlier) = o.done ++ all_events earlier
+-- the history with one change more: a reload puts its exports in force, and the events of another make it longer
+abbrev pub history_with : Change → List Done → History → History
+history_with (reloads exports) done history = reloaded history exports
+history_with other done history = longer history done
+
+-- the history with these outcomes, one after another
+abbrev pub history_after : History → List Outcome → History
+history_after history [] = history
+history_after history (o ∷ earlier) = history_with o.change o.done (history_after history earlier)
 
 abbrev pub own_done : ℕ → Change → List Done → List Done → List Done
 own_done key (joins k number addr) done earlier = if nat_eq key k then [] else earlier
 own_done key (turns k moment came) done earlier = (if nat_eq key k then done else []) ++ earlier
 own_done key (leaves k number calls end) done earlier = earlier
 own_done key passes done earlier = earlier
+own_done key (reloads exports) done earlier = earlier
 
 -- the events of the client of a key since it joined
 abbrev pub own_events : ℕ → List Outcome → List Done
@@ -202,6 +218,7 @@ abbrev pub lines_after : Change → List ℕ → List ℕ
 lines_after (joins key number addr) before = before
 lines_after (turns key moment came) before = before
 lines_after passes before = before
+lines_after (reloads exports) before = before
 lines_after (leaves key number calls end) before = before ++ end_text number calls end
 
 -- the lines of the connections that ended, in their order
@@ -251,6 +268,7 @@ abbrev pub IsOutcome : {L : Type 0} → (L → Option (List ℕ)) → (L → Opt
 IsOutcome outgoing incoming shared (joins key number addr) done log line earlier = (done ≡ []) × (log ≡ []) × (line ≡ [])
 IsOutcome outgoing incoming shared (turns key moment came) done log line earlier = AreFrom (addr_at key (changes_of earlier)) moment done × IsLog done log × (line ≡ [])
 IsOutcome outgoing incoming shared passes done log line earlier = (done ≡ []) × (log ≡ []) × (line ≡ [])
+IsOutcome outgoing incoming shared (reloads exports) done log line earlier = (done ≡ []) × (log ≡ []) × (line ≡ [])
 IsOutcome outgoing incoming shared (leaves key number calls end) done log line earlier = HasLeft outgoing incoming shared key number calls end done log line earlier
 
 abbrev pub AreOutcomes : {L : Type 0} → (L → Option (List ℕ)) → (L → Option (List ℕ)) → Bool → List Outcome → Type 0
@@ -262,13 +280,13 @@ pub record IsOneHistory {L : Type 0} (outgoing incoming : L → Option (List ℕ
   pub outcomes : List Outcome
   pub outcomes_are : changes_of outcomes ≡ changes
   pub are_outcomes : AreOutcomes outgoing incoming shared outcomes
-  pub fits : Fits (longer history (all_events outcomes)) new.server
+  pub fits : Fits (history_after history outcomes) new.server
   pub log_is : Grows old.log (log_of outcomes) new.log
   pub lines_are : Grows old.lines (lines_written outcomes) new.lines
   pub whole : new.complete ≡ true → (old.complete ≡ true) × (lines_written outcomes ≡ end_lines changes)
   pub seats_served : (key : ℕ) (seat : Seat L) → new.seat key ≡ Some seat → IsSeatServed outgoing incoming (own_bytes key changes) (own_events key outcomes) (addr_at key changes) seat.client
 
--- Whatever changes a service that begins with no client: all events are one history, in the order of the turns, and one log, and each client is served as if it were alone.
+-- Whatever changes a service that begins with no client: all events are one history, in the order of the turns, each judged by the exports in force at its turn, and one log, and each client is served as if it were alone.
 abbrev pub ServiceIsOneHistory : {L : Type 0} → (L → Option (List ℕ)) → (L → Option (List ℕ)) → Type 0
 ServiceIsOneHistory {L} outgoing incoming = (shared : Bool) (changes : List Change) (old new : ServiceState L) → ((key : ℕ) → old.seat key ≡ None)
     → AreChanges outgoing incoming shared changes old new → (history : History) → Fits history old.server → IsOneHistory outgoing incoming shared history changes old new

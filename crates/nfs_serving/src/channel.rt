@@ -4,8 +4,9 @@ ghost use Rattle.nfs_serving.specs.Outgoing.{Passes, Brings, came_bytes};
 ghost use Rattle.nfs_xdr.specs.Known.{Grows};
 
 use crate::buffer::{Buffer, Received};
+use crate::traffic::Traffic;
 use nfs_xdr::device::DeviceFault;
-use nfs_xdr::link::Link;
+use nfs_xdr::link::{Came, Link};
 use std::alloc::Global;
 use std::marker::Model;
 
@@ -16,6 +17,7 @@ pub struct Channel<L> {
     link: L,
     pending: Buffer,
     ended: bool,
+    traffic: Traffic,
 }
 
 impl<L> Model for Channel<L> {
@@ -38,6 +40,7 @@ impl<L: Link> Channel<L> {
             link,
             pending: Buffer::new(alloc),
             ended: false,
+            traffic: Traffic::none(),
         }
     }
 
@@ -46,6 +49,18 @@ impl<L: Link> Channel<L> {
         ensures { result.now ≡ self.now.link }
     {
         &self.link
+    }
+
+    /// How many bytes are pending.
+    pub fn pending(&self) -> usize
+        ensures { result ≡ length self.now.pending }
+    {
+        self.pending.bytes().len()
+    }
+
+    /// How many bytes came over the link, and how many it has taken.
+    pub fn traffic(&self) -> Traffic {
+        self.traffic
     }
 
     /// Whether nothing is pending.
@@ -66,6 +81,7 @@ impl<L: Link> Channel<L> {
         ensures pending { OnErr result (self.new.pending ≡ self.old.pending) }
     {
         let n = send_some(&mut self.link, &mut self.ended, self.pending.bytes())?;
+        count(&mut self.traffic.sent, n);
         self.pending.take(n);
         self.pending.let_go();
         Ok(())
@@ -84,6 +100,7 @@ impl<L: Link> Channel<L> {
     {
         match send_some(&mut self.link, &mut self.ended, bytes) {
             Ok(n) => {
+                count(&mut self.traffic.sent, n);
                 self.pending.hold(room, &bytes[n..]);
                 Ok(())
             }
@@ -107,8 +124,17 @@ impl<L: Link> Channel<L> {
         ensures incoming { OnErr result (L.incoming self.new.link ≡ L.incoming self.old.link) }
         ensures chunk { OnErr result (chunk.new.bytes ≡ []) }
     {
-        chunk.receive(&mut self.link, most)
+        let received = chunk.receive(&mut self.link, most)?;
+        if let Came::Bytes(n) = received.came {
+            count(&mut self.traffic.received, n);
+        }
+        Ok(received)
     }
+}
+
+// Counts so many bytes more.
+fn count(total: &mut u64, n: usize) {
+    *total = total.saturating_add(n as u64);
 }
 
 // Sends some first bytes of these, as many as the link takes now, unless it is broken.

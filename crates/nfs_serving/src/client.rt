@@ -1,5 +1,5 @@
 //! A client of a server.
-ghost use Rattle.std.specs.Prelude.{◌≡◌, ◌≢◌, ◌⊎◌, ◌≤◌, ◌↔◌, Bool, vec_capacity, ℕ, List, [], None, Some, true, false, IsTrue, IfOk, IfErr, OnOk, OnErr};
+ghost use Rattle.std.specs.Prelude.{◌≡◌, ◌≢◌, ◌⊎◌, ◌≤◌, ◌↔◌, Bool, vec_capacity, ℕ, List, [], length, None, Some, true, false, IsTrue, IfOk, IfErr, OnOk, OnErr};
 ghost use Rattle.nfs_server.specs.Connections.{IsAtStart};
 ghost use Rattle.nfs_server.specs.Feeding.{device, EndsWith};
 ghost use Rattle.nfs_server.specs.Taking.{Waits};
@@ -10,6 +10,7 @@ ghost use Rattle.nfs_xdr.specs.Known.{StaysFailed};
 use crate::buffer::Buffer;
 use crate::channel::Channel;
 use crate::receive_size::ReceiveSize;
+use crate::traffic::Traffic;
 use crate::turn::{End, Turn};
 use crate::turn_buffers::TurnBuffers;
 use nfs_attrs::moment::Moment;
@@ -86,6 +87,18 @@ impl<L: Link> Client<L> {
         ensures { result ≡ self.now.calls }
     {
         self.calls
+    }
+
+    /// How many bytes came from it, and how many went to it.
+    pub fn traffic(&self) -> Traffic {
+        self.channel.traffic()
+    }
+
+    /// How many bytes of replies are pending.
+    pub fn pending(&self) -> usize
+        ensures { result ≡ length self.now.channel.pending }
+    {
+        self.channel.pending()
     }
 
     /// How its connection ended, if it has.

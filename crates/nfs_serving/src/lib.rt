@@ -6,5 +6,6 @@ pub mod channel;
 pub mod client;
 pub mod laws;
 pub mod receive_size;
+pub mod traffic;
 pub mod turn;
 pub mod turn_buffers;

@@ -1,3 +1,5 @@
 pub mod Cuts
+pub mod OpenLines
 pub mod Readings
+pub mod Rows
 pub mod Sources

@@ -1,8 +1,8 @@
 -- What is read of a description, line by line and chunk by chunk.
-use Rattle.std.proofs.Common.{◌≡◌, ℕ, ◌+◌, ◌-◌, ◌^◌, ◌<◌, ◌≤◌, true, false, ◌==◌, min, List, [], ◌∷◌, ◌++◌, length, Option, Some, None, Ok, Err, refl, sym, ap, subst, ◌∙◌, append_assoc, append-nil, arith}
+use Rattle.std.proofs.Common.{◌≡◌, ℕ, ◌+◌, ◌-◌, ◌^◌, ◌<◌, ◌≤◌, true, false, min, List, [], ◌∷◌, ◌++◌, length, Option, Some, None, Ok, Err, refl, sym, ap, subst, ◌∙◌, append_assoc, append-nil, arith}
 use Rattle.std.specs.Option.{is_some}
-use Rattle.std.specs.Prelude.{IfOk, Result}
-use Rattle.std.proofs.lemmas.Bool.{eq-eqb, eqb-true, false≢true}
+use Rattle.std.specs.Prelude.{IfOk, OnOk, Result}
+use Rattle.std.proofs.lemmas.Bool.{false≢true}
 use Rattle.std.proofs.lemmas.List.{length-append}
 use Rattle.nfs_load.specs.declared.load_error.LoadError.{LoadError}
 use Rattle.nfs_load.specs.declared.loaded.Loaded.{Loaded}
@@ -97,17 +97,6 @@ pub all_digested : {D : Type 0} (has : D → List (List ℕ) → Type 0) (fault 
 all_digested has None loading digest done loaded is read = read.digested
 all_digested has (Some error) loading digest done loaded is stop = cc
 
--- ---- a buffer, by its length
-
-pub none_by_len : (items now : List ℕ) (len : ℕ) → now ≡ items → length now ≡ len → true ≡ (len == 0) → items ≡ []
-none_by_len [] now len same long is = refl
-none_by_len (x ∷ items) now len same long is = absurd (omega (arith, ap length same, long, eqb-true len 0 (sym is)))
-
-pub some_by_len : (items now : List ℕ) (len : ℕ) → now ≡ items → length now ≡ len → (len == 0) ≡ false → items ≡ [] → ⊥
-some_by_len items now len same long is none =
-    let zero_long : len ≡ 0 = omega (arith, ap length same, ap length none, long) in
-    false≢true (sym is ∙ eq-eqb len 0 zero_long)
-
 -- ---- the bytes of a line that ends
 
 at_start : (fault : Option LoadError) (kept : List ℕ) → kept ≡ [] → Keeps fault kept []
@@ -115,34 +104,38 @@ at_start None kept none = (none, refl)
 at_start (Some error) kept none = tt
 
 pub ends_line : {D : Type 0} (has : D → List (List ℕ) → Type 0) (old new : Reader D) (part line : List ℕ)
-    → old.reading.fault ≡ None → is_open part ≡ true → line ≡ old.line.items ++ part → new.line.items ≡ []
+    → old.reading.fault ≡ None → is_open part ≡ true → line ≡ old.line ++ part → new.line ≡ []
     → ((done : List (List ℕ)) → HasRead has old.reading done → HasRead has new.reading (done ++ line ∷ []))
     → Takes (HasText has) old (part ++ 10 ∷ []) new
 ends_line has old new part line in_order open_part line_is none reads text it =
-    let kept : (old.line.items ≡ it.rest) × (is_open it.rest ≡ true) = subst (λ fault. Keeps fault old.line.items it.rest) in_order it.kept in
+    let kept : (old.line ≡ it.rest) × (is_open it.rest ≡ true) = subst (λ fault. Keeps fault old.line it.rest) in_order it.kept in
     record {
       done = it.done ++ line ∷ [];
       rest = [];
       cut = subst (λ l. CutsInto (text ++ (part ++ 10 ∷ [])) (it.done ++ l ∷ []) []) (sym (line_is ∙ ap (λ t. t ++ part) kept.0))
           (cuts_line text it.done it.rest part kept.1 open_part it.cut);
       read = reads it.done it.read;
-      kept = at_start new.reading.fault new.line.items none;
+      kept = at_start new.reading.fault new.line none;
     }
 
 -- ---- the bytes of one that doesn't
 
+pub on_any : {T E : Type 0} (result : Result T E) (P : Type 0) → P → OnOk result P
+on_any (Ok x) P p = p
+on_any (Err e) P p = tt
+
 pub keeps_part : {D : Type 0} (has : D → List (List ℕ) → Type 0) (old new : Reader D) (part : List ℕ)
-    → old.reading.fault ≡ None → is_open part ≡ true → new.reading ≡ old.reading → new.line.items ≡ old.line.items ++ part
+    → old.reading.fault ≡ None → is_open part ≡ true → new.reading ≡ old.reading → new.line ≡ old.line ++ part
     → Takes (HasText has) old part new
 keeps_part {D = D} has old new part in_order open_part same line_is text it =
-    let kept : (old.line.items ≡ it.rest) × (is_open it.rest ≡ true) = subst (λ fault. Keeps fault old.line.items it.rest) in_order it.kept in
-    let now : Keeps None new.line.items (it.rest ++ part) = (line_is ∙ ap (λ t. t ++ part) kept.0, open_more it.rest part kept.1 open_part) in
+    let kept : (old.line ≡ it.rest) × (is_open it.rest ≡ true) = subst (λ fault. Keeps fault old.line it.rest) in_order it.kept in
+    let now : Keeps None new.line (it.rest ++ part) = (line_is ∙ ap (λ t. t ++ part) kept.0, open_more it.rest part kept.1 open_part) in
     record {
       done = it.done;
       rest = it.rest ++ part;
       cut = cuts_more text it.done it.rest part it.cut;
       read = subst (λ reading. HasRead has reading it.done) (sym same) it.read;
-      kept = subst (λ fault. Keeps fault new.line.items (it.rest ++ part)) (sym (ap (λ (reading : Reading D). reading.fault) same ∙ in_order)) now;
+      kept = subst (λ fault. Keeps fault new.line (it.rest ++ part)) (sym (ap (λ (reading : Reading D). reading.fault) same ∙ in_order)) now;
     }
 
 anything : (fault : Option LoadError) (kept rest : List ℕ) → is_some fault ≡ true → Keeps fault kept rest
@@ -161,7 +154,7 @@ ignores has it part is text was = record {
   rest = was.rest ++ part;
   cut = cuts_more text was.done was.rest part was.cut;
   read = was.read;
-  kept = anything it.reading.fault it.line.items (was.rest ++ part) is;
+  kept = anything it.reading.fault it.line (was.rest ++ part) is;
 }
 
 -- ---- the end
@@ -176,18 +169,18 @@ ends_faulty has it text is was =
     subst (HasRead has it.reading) (sym (cuts_all text was.done was.rest was.cut))
     (read_on has it.reading.fault it.reading.loading it.reading.digest was.done (lines was.rest) is was.read)
 
-pub ends_whole : {D : Type 0} (has : D → List (List ℕ) → Type 0) (it : Reader D) (text : List ℕ) → it.reading.fault ≡ None → it.line.items ≡ [] → HasText has it text → HasRead has it.reading (lines text)
+pub ends_whole : {D : Type 0} (has : D → List (List ℕ) → Type 0) (it : Reader D) (text : List ℕ) → it.reading.fault ≡ None → it.line ≡ [] → HasText has it text → HasRead has it.reading (lines text)
 ends_whole has it text in_order none was =
-    let kept : (it.line.items ≡ was.rest) × (is_open was.rest ≡ true) = subst (λ fault. Keeps fault it.line.items was.rest) in_order was.kept in
+    let kept : (it.line ≡ was.rest) × (is_open was.rest ≡ true) = subst (λ fault. Keeps fault it.line was.rest) in_order was.kept in
     subst (HasRead has it.reading)
     (sym (cuts_all text was.done was.rest was.cut ∙ ap (λ t. was.done ++ lines t) (sym kept.0 ∙ none) ∙ append-nil was.done)) was.read
 
-pub ends_last : {D : Type 0} (has : D → List (List ℕ) → Type 0) (it : Reader D) (new : Reading D) (text : List ℕ) → it.reading.fault ≡ None → (it.line.items ≡ [] → ⊥)
-    → ((done : List (List ℕ)) → HasRead has it.reading done → HasRead has new (done ++ it.line.items ∷ []))
+pub ends_last : {D : Type 0} (has : D → List (List ℕ) → Type 0) (it : Reader D) (new : Reading D) (text : List ℕ) → it.reading.fault ≡ None → (it.line ≡ [] → ⊥)
+    → ((done : List (List ℕ)) → HasRead has it.reading done → HasRead has new (done ++ it.line ∷ []))
     → HasText has it text → HasRead has new (lines text)
 ends_last has it new text in_order some reads was =
-    let kept : (it.line.items ≡ was.rest) × (is_open was.rest ≡ true) = subst (λ fault. Keeps fault it.line.items was.rest) in_order was.kept in
-    let last : lines was.rest ≡ it.line.items ∷ [] =
+    let kept : (it.line ≡ was.rest) × (is_open was.rest ≡ true) = subst (λ fault. Keeps fault it.line was.rest) in_order was.kept in
+    let last : lines was.rest ≡ it.line ∷ [] =
     one_line was.rest kept.1 (λ none. some (kept.0 ∙ none)) ∙ ap (λ l. l ∷ []) (sym kept.0) in
     subst (HasRead has new) (sym (cuts_all text was.done was.rest was.cut ∙ ap (λ t. was.done ++ t) last)) (reads was.done was.read)
 

@@ -1,3 +1,4 @@
 pub mod Status
 pub mod Sources
 pub mod Readings
+pub mod OpenLines

@@ -76,7 +76,7 @@ pub record HasText {D : Type 0} (has : D → List (List ℕ) → Type 0) (it : R
   pub rest : List ℕ
   pub cut : CutsInto text done rest
   pub read : HasRead has it.reading done
-  pub kept : Keeps it.reading.fault it.line.items rest
+  pub kept : Keeps it.reading.fault it.line rest
 
 -- ---- the life that it begins
 

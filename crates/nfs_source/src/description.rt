@@ -4,17 +4,22 @@ ghost use Rattle.std.specs.Option.{is_some};
 ghost use Rattle.nfs_describe.specs.Outputs.{Takes};
 ghost use Rattle.nfs_describe.specs.Texts.{most_text_bytes};
 ghost use Rattle.nfs_load.specs.Descriptions.{Describes};
+ghost use Rattle.nfs_load.specs.Lines.{begins_file};
 ghost use Rattle.nfs_load.specs.Loadings.{LineTaken};
 ghost use Rattle.nfs_lives.specs.Rows.{HasTaken};
 ghost use Rattle.nfs_text.specs.Lines.{lines};
+ghost use Rattle.nfs_source.specs.OpenLines.{IsDecoded, text_of};
 ghost use Rattle.nfs_source.specs.Readings.{Begins, HasRead, HasText, IsCut, IsFaultOf, is_open, outcome_of, taken_or};
 ghost use Rattle.nfs_source.specs.Sources.{IsRest};
 ghost use Rattle.nfs_source.specs.Status.{IsOfReading, Reports, status_of};
 
 use crate::diagnostic::Diagnostic;
+use crate::open_line::{DecodedLine, EndedLine, OpenLine};
 use crate::source::{Sink, SinkFault, Source, open_text, read_all};
 use memchr::memchr;
 use nfs_advice::skipped::{content_of, put_mark};
+use nfs_content::content::Content;
+use nfs_content::pages::Pages;
 use nfs_inodes::limits::{Limits, MAX_FILE_BYTES};
 use nfs_lives::path_digest::PathDigest;
 use nfs_load::load_error::LoadError;
@@ -28,6 +33,9 @@ use std::rt::Files;
 
 // Of a line with more bytes the content is skipped of the text once it is loaded.
 const LONG_LINE_BYTES: usize = 4_096;
+
+// How many bytes of a content that is refused are kept: advice shows fewer.
+const SHOWN_BYTES: usize = 64;
 
 // How many bytes a line may have beside the digits of a file's content.
 const MOST_WORD_BYTES: usize = 65_536;
@@ -131,6 +139,12 @@ trait LineDigest: Drop {
     // Takes the next line.
     fn take(&mut self, line: &[u8])
         ensures { (done : List (List ℕ)) → has self.old done → has self.new (done ++ line.now ∷ []) };
+
+    // Takes the next line, that of a file, of which these words stand before the content.
+    fn take_file(&mut self, words: &[u8])
+        requires { begins_file words.now ≡ true }
+        ensures { (done : List (List ℕ)) (digits : List ℕ) → has self.old done
+            → has self.new (done ++ (words.now ++ 32 ∷ digits) ∷ []) };
 }
 
 impl LineDigest for PathDigest {
@@ -138,6 +152,10 @@ impl LineDigest for PathDigest {
 
     fn take(&mut self, line: &[u8]) {
         PathDigest::take(self, line);
+    }
+
+    fn take_file(&mut self, words: &[u8]) {
+        PathDigest::take(self, words);
     }
 }
 
@@ -149,6 +167,8 @@ impl LineDigest for NoDigest {
     ghost has = { λ _ _. ⊤ };
 
     fn take(&mut self, _line: &[u8]) {}
+
+    fn take_file(&mut self, _words: &[u8]) {}
 }
 
 // The lines of a description, as far as they were read.
@@ -172,6 +192,28 @@ impl<D: LineDigest> Reading<D> {
         self.digest.take(line);
         self.largest_file = largest_after(line, self.largest_file);
         self.fault = load_line(&mut self.loading, &mut self.text, line)?;
+        Ok(())
+    }
+
+    // Takes the next line, which came in parts.
+    fn take_open(&mut self, alloc: Global, line: OpenLine) -> Result<(), AllocError>
+        requires { self.old.fault ≡ None }
+        ensures { OnOk result ((done : List (List ℕ)) → HasRead D.has self.old done → HasRead D.has self.new (done ++ line ∷ [])) }
+    {
+        match line.end()? {
+            EndedLine::Plain(line) => self.take(line.as_slice()),
+            EndedLine::Decoded(line) => self.take_file(alloc, line),
+        }
+    }
+
+    // Takes the next line, that of a file, whose content is decoded.
+    fn take_file(&mut self, alloc: Global, line: DecodedLine) -> Result<(), AllocError>
+        requires in_order { self.old.fault ≡ None }
+        requires decoded { IsDecoded line }
+        ensures { OnOk result ((done : List (List ℕ)) → HasRead D.has self.old done → HasRead D.has self.new (done ++ text_of line ∷ [])) }
+    {
+        self.digest.take_file(line.words.as_slice());
+        self.fault = load_file(alloc, &mut self.loading, &mut self.text, line)?;
         Ok(())
     }
 
@@ -217,9 +259,9 @@ impl<D: LineDigest> Reading<D> {
 // A description, as far as it was read.
 #[derive(Drop)]
 struct Reader<D> {
+    alloc: Global,
     reading: Reading<D>,
-    // What was read of the line that has not ended yet.
-    line: Vec<u8>,
+    line: OpenLine,
 }
 
 impl<D: LineDigest> Reader<D> {
@@ -228,6 +270,7 @@ impl<D: LineDigest> Reader<D> {
         ensures { HasText D.has result [] }
     {
         Reader {
+            alloc,
             reading: Reading {
                 loading: Loading::new(alloc),
                 text: Vec::new(alloc),
@@ -235,7 +278,7 @@ impl<D: LineDigest> Reader<D> {
                 digest,
                 largest_file: Limits::standard().file_size,
             },
-            line: Vec::new(alloc),
+            line: OpenLine::new(alloc),
         }
     }
 
@@ -245,7 +288,7 @@ impl<D: LineDigest> Reader<D> {
         if self.line.is_empty() {
             self.reading.check_length(part, len)
         } else {
-            self.reading.check_length(self.line.as_slice(), len)
+            self.reading.check_length(self.line.first_bytes(), len)
         }
     }
 
@@ -258,10 +301,9 @@ impl<D: LineDigest> Reader<D> {
         if self.line.is_empty() {
             return self.reading.take(part);
         }
-        self.line.extend_from_slice(part)?;
-        self.reading.take(self.line.as_slice())?;
-        self.line.clear();
-        Ok(())
+        self.line.push(part)?;
+        let line = self.line.take();
+        self.reading.take_open(self.alloc, line)
     }
 
     // Takes a part of a line that has not ended.
@@ -270,9 +312,9 @@ impl<D: LineDigest> Reader<D> {
         requires part { is_open part.now ≡ true }
         ensures { OnOk result (Takes (HasText D.has) self.old part.now self.new) }
     {
-        self.line.extend_from_slice(part)?;
+        self.line.push(part)?;
         self.reading
-            .check_length(self.line.as_slice(), self.line.len())
+            .check_length(self.line.first_bytes(), self.line.len())
     }
 
     // All lines; the last may lack its LF.
@@ -280,7 +322,11 @@ impl<D: LineDigest> Reader<D> {
         ensures read { IfOk result (λ reading. (text : List ℕ) → HasText D.has self text → HasRead D.has reading (lines text)) }
         ensures same { is_some self.reading.fault ≡ true → IfOk result (λ reading. reading ≡ self.reading) }
     {
-        let Reader { reading, line } = self;
+        let Reader {
+            alloc,
+            reading,
+            line,
+        } = self;
         let mut all = reading;
         if all.fault.is_some() {
             return Ok(all);
@@ -288,7 +334,7 @@ impl<D: LineDigest> Reader<D> {
         if line.is_empty() {
             return Ok(all);
         }
-        all.take(line.as_slice())?;
+        all.take_open(alloc, line)?;
         Ok(all)
     }
 }
@@ -349,9 +395,9 @@ fn begins_as_line(line: &[u8]) -> bool {
     true
 }
 
-// What stands before the first LF, and what stands after it.
+/// What stands before the first LF, and what stands after it.
 #[inline(always)]
-fn cut_line(text: &[u8]) -> Option<(&[u8], &[u8])>
+pub(crate) fn cut_line(text: &[u8]) -> Option<(&[u8], &[u8])>
     ensures { MatchOption result (is_open text.now ≡ true) (λ cut. IsCut text.now cut.0.now cut.1.now) }
 {
     match memchr(b'\n', text) {
@@ -382,6 +428,48 @@ fn load_line(
     }
 }
 
+// Loads the line of a file, and puts what is looked at of it at the end of the text. Its fault, if it is faulty.
+fn load_file(
+    alloc: Global,
+    loading: &mut Loading,
+    text: &mut Vec<u8>,
+    line: DecodedLine,
+) -> Result<Option<LoadError>, AllocError>
+    requires { IsDecoded line }
+    ensures { IfOk result (λ fault. LineTaken loading.old (text_of line) (taken_or fault) loading.new) }
+{
+    let DecodedLine { words, content } = line;
+    let bytes = content.len() as u64;
+    let shown = first_digits(alloc, &content)?;
+    text.extend_from_slice(words.as_slice())?;
+    text.push(b' ')?;
+    match loading.take_file(words.as_slice(), content) {
+        Ok(()) => {
+            put_skipped(text, bytes)?;
+            text.push(b'\n')?;
+            Ok(None)
+        }
+        Err(error) => {
+            text.extend_from_slice(shown.as_bytes())?;
+            text.push(b'\n')?;
+            Ok(Some(error))
+        }
+    }
+}
+
+// The first digits of a content.
+fn first_digits(alloc: Global, content: &Pages) -> Result<String, AllocError> {
+    let run = content.run_at(0);
+    hex::encode(alloc, &run[..run.len().min(SHOWN_BYTES)])
+}
+
+// Puts what stands in the place of a content of so many bytes.
+fn put_skipped(text: &mut Vec<u8>, bytes: u64) -> Result<(), AllocError> {
+    let mut mark = Line::new();
+    put_mark(&mut mark, bytes);
+    text.extend_from_slice(mark.as_slice())
+}
+
 fn outcome(loading: Loading, fault: Option<LoadError>) -> Result<Loaded, LoadError>
     ensures { result ≡ outcome_of fault loading }
 {
@@ -398,10 +486,8 @@ fn keep(text: &mut Vec<u8>, line: &[u8]) -> Result<(), AllocError> {
     }
     match content_of(line) {
         Some(content) => {
-            let mut mark = Line::new();
-            put_mark(&mut mark, content.bytes);
             text.extend_from_slice(&line[..content.start])?;
-            text.extend_from_slice(mark.as_slice())
+            put_skipped(text, content.bytes)
         }
         None => text.extend_from_slice(line),
     }

@@ -5,6 +5,8 @@
 pub mod description;
 pub mod diagnostic;
 pub mod fault;
+pub mod heads;
+mod open_line;
 pub mod output;
 pub mod sharing_fault;
 pub mod source;

@@ -23,6 +23,8 @@ pub struct TcpNetwork<'a, R> {
     rt: &'a R,
     clock: SystemClock<'a, R>,
     began: Instant,
+    // How long after that the milliseconds were last asked for.
+    asked: Duration,
     poll: Poll,
     events: Events,
     // Those of the events that were not handed out.
@@ -47,6 +49,7 @@ impl<'a, R: Net + Clock + Log> TcpNetwork<'a, R> {
             rt,
             clock: SystemClock::new(rt),
             began: Instant::now(rt)?,
+            asked: Duration::ZERO,
             poll,
             events: Events::with_capacity(alloc, EVENTS as usize)?,
             ready: VecDeque::with_capacity(alloc, EVENTS as usize)?,
@@ -142,7 +145,19 @@ impl<R: Net + Clock + Log> Network for TcpNetwork<'_, R> {
 
     fn millis(&mut self) -> u64 {
         match self.began.elapsed(self.rt) {
-            Ok(elapsed) => u64::try_from(elapsed.as_millis()).unwrap_or(u64::MAX),
+            Ok(elapsed) => {
+                self.asked = elapsed;
+                u64::try_from(elapsed.as_millis()).unwrap_or(u64::MAX)
+            }
+            Err(_) => 0,
+        }
+    }
+
+    fn micros_since(&self) -> u64 {
+        match self.began.elapsed(self.rt) {
+            Ok(elapsed) => {
+                u64::try_from(elapsed.saturating_sub(self.asked).as_micros()).unwrap_or(u64::MAX)
+            }
             Err(_) => 0,
         }
     }

@@ -6,7 +6,7 @@ mod asked;
 pub mod exports;
 mod grant;
 pub mod judgement;
-mod meaning;
+pub mod meaning;
 mod operation;
 mod place;
 pub mod question;

@@ -3,7 +3,7 @@
 use nfs_rules::rule::Rule;
 
 /// What is so where a call fails the rule.
-pub(crate) fn meaning(rule: Rule) -> &'static str {
+pub fn meaning(rule: Rule) -> &'static str {
     match rule {
         Rule::BadHandle => "the server never issued this handle",
         Rule::StaleHandle => "the handle's file is gone",

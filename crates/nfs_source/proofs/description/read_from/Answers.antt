@@ -1,4 +1,4 @@
-use Rattle.std.proofs.Common.{◌≡◌, ◌++◌, ℕ, List, [], None, inl, inr, length, true, sym, ap, subst, ◌∙◌}
+use Rattle.std.proofs.Common.{◌++◌, [], inl, inr}
 use Rattle.std.proofs.lemmas.Result.{IfErr-weaker, IfOk-weaker}
 use Rattle.nfs_text.specs.Lines.{lines}
 use Rattle.nfs_source.specs.Readings.{HasRead}

@@ -1,10 +1,12 @@
-use Rattle.std.proofs.Common.{◌≡◌, false, is_some, [], rules, length, sym, ap}
+use Rattle.std.proofs.Common.{◌≡◌, false, is_some, [], rules, length, refl, sym, ap}
 use Rattle.std.proofs.lemmas.Bool.{ltb-true}
 use Rattle.nfs_loop.specs.Reports.{at}
 use Rattle.nfs_loop.proofs.Joining.{left_by}
 use Rattle.nfs_loop.proofs.Leaving.{leaves_one, not_held}
 use Rattle.nfs_loop.proofs.Watched.{no_fewer, watched_still, were_others}
-use Rattle.nfs_loop.proofs.Reporting.{accounts_one, accounts_then}
+use Rattle.slab.specs.Slab.{get}
+use Rattle.nfs_loop.proofs.Changing.{nothing}
+use Rattle.nfs_loop.proofs.Reporting.{accounts_none, accounts_one, accounts_then}
 use Rattle.nfs_loop.proofs.service.Service.end_where_silent.Goals as goal
 
 pub returns-in-Some : goal.returns-in-Some
@@ -25,3 +27,6 @@ returns-in-Some g c =
       watched = watched_still c.args.self.now.clients.0 c.remove.new.self.0 c.args.self.now.housekeeping.watches c.leave.new.self.watches (were_others c.args.self.now.clients.0 c.remove.new.self.0 c.args.key c.in-Some.ensures.away)
           (no_fewer (ap length c.leave.ensures.watches)) c.requires.watched;
     }
+
+pub returns-in_default-clause-goes : goal.returns-in_default-clause-goes
+returns-in_default-clause-goes g c server = nothing g.L.Link.outgoing g.L.Link.incoming _ _ server _ _ _ _ _ (λ key. ap (λ q. get q.0 key) c.in_default.ensures.none.0) refl (accounts_none _)

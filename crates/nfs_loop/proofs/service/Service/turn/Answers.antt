@@ -10,7 +10,7 @@ use Rattle.nfs_loop.proofs.Staying.{first_held, held_after}
 use Rattle.nfs_loop.proofs.Reporting.{accounts_one, more_by, more_same}
 use Rattle.nfs_loop.proofs.Watched.{held_now, length_after, length_heard, watched_back, watched_gone}
 use Rattle.nfs_loop.proofs.Watching.{heard_stays}
-use Rattle.nfs_loop.proofs.Turning.{comes_back, goes_away}
+use Rattle.nfs_loop.proofs.Turning.{comes_back, goes_away, nobody_turns}
 use Rattle.nfs_loop.proofs.service.Service.turn.Goals as goal
 
 pub returns-in-Ended : goal.returns-in-Ended
@@ -96,3 +96,6 @@ returns-in-Owing g c = record {
   limits = refl;
   watched = watched_back c.args.self.now.clients c.next.new.self c.in-Some.key c.in-Some.member c.in-Some.ensures.some c.put_back-in-Owing.new.self.0 _ c.args.self.now.housekeeping.watches c.hear.new.self c.put_back-in-Owing.ensures.back (length_heard c.args.self.now.housekeeping.watches c.hear.new.self c.in-Some.key _ _ c.hear.ensures.heard) c.requires.watched;
 }
+
+pub returns-in_default-clause-goes : goal.returns-in_default-clause-goes
+returns-in_default-clause-goes g c = nobody_turns g.L.Link.outgoing g.L.Link.incoming g.L.Link.reports _ _ _ _ _ _ _ c.in_default.ensures.none.0 c.in_default.ensures.none.1

@@ -1,4 +1,4 @@
-use Rattle.std.proofs.Common.{◌≡◌, ◌≤◌, ℕ, List, [], inl, inr, length, subst, sym, arith}
+use Rattle.std.proofs.Common.{◌≤◌, ℕ, List, [], inl, inr, length, subst, sym, arith}
 use Rattle.nfs_source.specs.Sources.{IsRest}
 use Rattle.nfs_source.proofs.source.Source.read_from.Goals as goal
 
