@@ -23,7 +23,8 @@ _nfs3d() {
     check:-*) COMPREPLY=($(compgen -W "--mount --export --bytes --files --chown --strict --all --help" -- "$word")) ;;
     serve:-*) COMPREPLY=($(compgen -W "--mount --export --bytes --files --chown --strict --listen --port --register --connections --clients --idle --cache --audit --audit-failed --audit-skip --times --names --save --save-every --key --control --watch --metrics --verbose --help" -- "$word")) ;;
     describe:-*) COMPREPLY=($(compgen -W "--mount --export --bytes --files --chown --times --strict --key --help" -- "$word")) ;;
-    replay:-*) COMPREPLY=($(compgen -W "--mount --export --bytes --files --chown --cache --save --key --decode --names --help" -- "$word")) ;;
+    replay:-*) COMPREPLY=($(compgen -W "--mount --export --bytes --files --chown --cache --save --key --decode --names --port --host --help" -- "$word")) ;;
+    control:-*) COMPREPLY=($(compgen -W "--save --help" -- "$word")) ;;
     why:-*) COMPREPLY=($(compgen -W "--mount --export --bytes --files --chown --quiet --help" -- "$word")) ;;
     exports:-* | extract:-*) COMPREPLY=($(compgen -W "--mount --export --bytes --files --chown --help" -- "$word")) ;;
     *:-*) COMPREPLY=($(compgen -W "--help" -- "$word")) ;;

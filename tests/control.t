@@ -76,6 +76,17 @@ echo 'error: no such word: stop now; the words are status, clients, mounts, deni
 run control "$socket" stop now
 brings /dev/null "$work/wanted" 1 && answers
 ok $? "stop takes no further word"
+echo "error: cannot write $work/none/last: No such file or directory (os error 2)" >"$work/wanted"
+run control "$socket" stop --save "$work/none/last"
+brings /dev/null "$work/wanted" 1 && answers
+ok $? "stop --save where no file can be made: the service goes on"
+for words in status 'save x' 'stop x'; do
+    # shellcheck disable=SC2086
+    run control "$socket" $words --save "$work/last"
+    ended 2 && grep -qx 'error: --save FILE is for stop: nfs3d control PATH stop --save FILE' "$work/err" || break
+done
+[ "$words" = 'stop x' ] && ended 2 && answers
+ok $? "--save with another word"
 
 echo "saved $work/a copy" >"$work/wanted"
 run control "$socket" save "$work/a copy"
@@ -348,7 +359,34 @@ for turn in 1 2 3 4 5 6 7 8 9 10; do
 done
 [ "$turn" = 10 ] && run control "$socket" status && grep -qx 'volume /a bytes=5 of=1000000 files=7 of=20' "$work/out"
 ok $? "each call is judged by the exports that are in force"
-described "$open_exports" 'export * ro\n'
+
+# Three clients send 4,000 SETATTRs each, while the exports change 20 times. By a model, a client's replies are those of the
+# exports in force: they change at most as often as these, and to nothing else, and each denial is counted.
+for client in 1 2 3; do
+    awk -v n="$client" 'BEGIN { for (i = 0; i < 4000; i++) print "ask 10.0.0.1 0 0:0 chmod /a/f 64" n }' >"$work/calls.$client"
+    "$program" replay "$work/calls.$client" --port "$port" --decode >"$work/replies.$client" 2>&1 &
+done
+run control "$socket" metrics
+denied_before=$(sed -n 's/^nfs3d_denied_total{rule="read-only"} //p' "$work/out")
+for turn in 1 2 3 4 5 6 7 8 9 10; do
+    described 'export * ro,no_root_squash\n' 'export * ro\n'
+    reloads || break
+    described "$open_exports" 'export * ro\n'
+    reloads || break
+done
+[ "$turn" = 10 ] && ended 0
+ok $? "exports change while clients are at work"
+wait_until 60 sh -c "! pgrep -f 'replay $work/calls' >/dev/null"
+for client in 1 2 3; do
+    sed -n 's/^  SETATTR: //p' "$work/replies.$client" >"$work/statuses.$client"
+    [ "$(grep -c '' "$work/statuses.$client")" = 4000 ] && ! grep -qvx 'NFS3_OK\|NFS3ERR_ROFS' "$work/statuses.$client" &&
+        [ "$(uniq "$work/statuses.$client" | grep -c '')" -le 21 ] && [ "$(tail -n 1 "$work/statuses.$client")" = NFS3_OK ] || break
+done
+changed=$?
+cat "$work"/statuses.* | grep -c NFS3ERR_ROFS >"$work/denied"
+run control "$socket" metrics
+[ "$changed" = 0 ] && [ $(($(cat "$work/denied") + denied_before)) = "$(sed -n 's/^nfs3d_denied_total{rule="read-only"} //p' "$work/out")" ] && [ "$(cat "$work/denied")" -gt 0 ]
+ok $? "each reply is by the exports before or after a change, in the order of the changes"
 
 # ---- the end
 
@@ -369,6 +407,24 @@ run control "$socket" stop
 ok $? "nfs3d control returns once the tree is saved"
 brings "$work/stopping" /dev/null 0 && server_ends 0 && grep -q '^file /left ' "$work/saved" && run check "$work/saved" && says "ok volumes=2 files=4 bytes=5"
 ok $? "stop saves the tree where --save says so"
+
+controlled
+"$work/touch" "$port" 127.0.0.1 /a left 2>"$work/wrong"
+run control "$socket" stop --save "$work/last tree"
+brings "$work/stopping" /dev/null 0 && server_ends 0 && grep -q '^file /left ' "$work/last tree" && run check "$work/last tree" && says "ok volumes=2 files=4 bytes=5"
+ok $? "stop --save saves the tree to another file"
+rm "$work/saved"
+controlled --save "$work/saved"
+run control "$socket" stop --save "$work/other"
+brings "$work/stopping" /dev/null 0 && server_ends 0 && [ -f "$work/other" ] && [ -f "$work/saved" ]
+ok $? "beside the one of --save"
+controlled
+# shellcheck disable=SC2016
+bash -c 'exec 3<>"/dev/tcp/127.0.0.1/$0" && printf "\200\0\0\050" >&3 && { "$1" control "$2" stop --save "$3/first" >"$3/told" & } && sleep 0.5 &&
+    { "$1" control "$2" stop --save "$3/second" 2>"$3/second.err"; exec 3>&- && wait $!; }' "$port" "$program" "$socket" "$work"
+same "$work/stopping" "$work/told" && server_ends 0 && [ -f "$work/first" ] && [ ! -e "$work/second" ] &&
+    grep -qx "error: the service is stopping already, and saves its tree to $work/first" "$work/second.err"
+ok $? "a file to save at the end is named once"
 
 # A client that stays: the first NULL of it is sent a second after the stop, beside a connection that comes too late.
 controlled
@@ -398,6 +454,11 @@ printf 'stopping\nerror: the service ended with a fault; see its messages\n' >"$
 run control "$socket" stop
 brings /dev/null "$work/wanted" 1 && server_ends 3 && grep -q "^nfs3d: cannot write $work/gone/saved: " "$work/served.err"
 ok $? "stop, where the tree can't be saved"
+mkdir "$work/gone"
+controlled
+bash -c 'exec 3<>"/dev/tcp/127.0.0.1/$0" && printf "\200\0\0\050" >&3 && { "$1" control "$2" stop --save "$3/gone/saved" >/dev/null 2>"$3/told"; echo $? >"$3/code"; } & sleep 0.5; rm -r "$3/gone"; wait' "$port" "$program" "$socket" "$work"
+same "$work/wanted" "$work/told" && [ "$(cat "$work/code")" = 1 ] && server_ends 3 && grep -q "^nfs3d: cannot write $work/gone/saved: " "$work/served.err"
+ok $? "nor to the file of stop --save"
 
 run serve "$work/tree" --save "$work/saved" --port 0
 ended 2 && grep -q 'or --control PATH$' "$work/err"

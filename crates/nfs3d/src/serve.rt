@@ -169,6 +169,7 @@ where
     if let Some(registration) = registration {
         registration.remove(rt);
     }
+    let done = attending.save_last(server, done);
     let saved = copies.save_last(rt, served.alloc, server, done);
     attending.end(saved.is_err());
     saved?;

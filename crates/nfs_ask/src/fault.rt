@@ -66,7 +66,7 @@ const BYTES: usize = 4;
 
 /// The fault of a call that can't be written, by the word that it is at. The words may begin with the call's
 /// number.
-pub(crate) fn fault_of(fault: CallFault, has_xid: bool) -> AskFault
+pub fn fault_of(fault: CallFault, has_xid: bool) -> AskFault
     ensures { result ≡ spec.fault_of has_xid fault }
 {
     match fault {

@@ -18,6 +18,9 @@ pub enum LineCause {
     /// An `again` line names no earlier line that sent a record.
     #[error("NoCall")]
     NoCall,
+    /// It is for a server of the script's own, and another one is played against.
+    #[error("NotLive")]
+    NotLive,
     /// A word of an `ask` line, counted from 0 after the moment, is not what is wanted there.
     #[error("BadLine")]
     BadWord(usize, Wanted),

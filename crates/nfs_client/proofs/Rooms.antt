@@ -44,6 +44,6 @@ rest_room of_file.Limits content = omega arith
 rest_room of_file.PathLimits content = omega arith
 rest_room of_file.Commit content = omega arith
 
--- after a handle of 24 bytes
-pub file_room : (r : FileRequest) (file content : List ℕ) → length file ≡ 24 → length (file_text r file content) ≤ 100 + length content
+-- after a handle
+pub file_room : (r : FileRequest) (file content : List ℕ) → length file ≤ 64 → length (file_text r file content) ≤ 140 + length content
 file_room r file content sized = omega (arith, sized, length-append (opaque_text file) (file_rest r content), opaque_room file, rest_room r content)

@@ -12,6 +12,7 @@ use Rattle.nfs_args.specs.declared.procedure.MountProcedure.TheVariants as mount
 use Rattle.nfs_inodes.specs.Tree.{Tree, on_some}
 use Rattle.nfs_client.specs.declared.fault.CallFault.{CallFault}
 use Rattle.nfs_client.specs.declared.fault.CallFault.TheVariants.{NoFile, TooLong, BadDigits, Memory}
+use Rattle.nfs_client.specs.declared.caller.Caller as kept_caller
 use Rattle.nfs_client.specs.declared.sender.Sender as kept_sender
 use Rattle.nfs_client.specs.declared.sender.Named as kept_named
 use Rattle.nfs_client.specs.declared.request.Request.{Request}
@@ -30,6 +31,9 @@ pub record Sent : Type 0 where
 abbrev pub sent_by : kept_sender.Sender → Sent
 sent_by sender = record { xid = sender.xid; cred = credential_of sender.cred.now }
 
+abbrev pub sent_of : kept_caller.Caller → Sent
+sent_of caller = record { xid = caller.xid; cred = credential_of caller.cred.now }
+
 -- the head of a call, by the numbers of the program and of the procedure
 abbrev pub head_of : Sent → ℕ → ℕ → List ℕ
 head_of s program procedure = head_text (record { xid = s.xid; program = program; procedure = procedure }) (auth_sys_text s.cred)
@@ -40,6 +44,34 @@ nfs_text s p args = head_of s NFS (procedure_number p) ++ args
 
 abbrev pub mount_text : Sent → MountProcedure → List ℕ → List ℕ
 mount_text s p args = head_of s MOUNT (mount_number p) ++ args
+
+-- ---- on files whose handles are known
+
+abbrev pub on_ok : {X Y E : Type 0} → Result X E → (X → Option Y) → Option Y
+on_ok (Ok x) f = f x
+on_ok (Err e) f = None
+
+abbrev pub file_call : Sent → List ℕ → FileRequest → Option (List ℕ)
+file_call s file r = on_ok (decode_of (digits_of r)) (λ content. Some (nfs_text s (file_procedure r) (file_text r file content)))
+
+-- by the handle of a directory and a name in it
+abbrev pub name_call : Sent → List ℕ → List ℕ → NameRequest → List ℕ
+name_call s dir name r = nfs_text s (name_procedure r) (name_text r dir name)
+
+-- from a name in a directory to one in another
+abbrev pub rename_call : Sent → List ℕ → List ℕ → List ℕ → List ℕ → List ℕ
+rename_call s from from_name to to_name = nfs_text s proc.Rename (dir_op_text from from_name ++ dir_op_text to to_name)
+
+abbrev pub link_call : Sent → List ℕ → List ℕ → List ℕ → List ℕ
+link_call s file dir name = nfs_text s proc.Link (opaque_text file ++ dir_op_text dir name)
+
+abbrev pub mount_record : Sent → MountProcedure → List ℕ → List ℕ
+mount_record s p path = mount_text s p (opaque_text path)
+
+abbrev pub exports_call : Sent → List ℕ
+exports_call s = head_of s MOUNT (mount_number mount.Export)
+
+-- ---- on files that paths name
 
 -- the handle of the file that a path names
 abbrev pub handle_of_path : Tree → List ℕ → Option (List ℕ)
@@ -60,29 +92,21 @@ named_at t place = on_some (handle_in t place.dir) None (λ handle. Some (record
 abbrev pub name_of_path : Tree → List ℕ → Option Named
 name_of_path t path = on_some (place_at t path) None (λ place. named_at t place)
 
-abbrev pub on_ok : {X Y E : Type 0} → Result X E → (X → Option Y) → Option Y
-on_ok (Ok x) f = f x
-on_ok (Err e) f = None
-
 -- ---- by what is asked for
 
 abbrev pub file_record : Tree → Sent → List ℕ → FileRequest → Option (List ℕ)
-file_record t s path r = on_some (handle_of_path t path) None (λ file. on_ok (decode_of (digits_of r)) (λ content.
-    Some (nfs_text s (file_procedure r) (file_text r file content))))
+file_record t s path r = on_some (handle_of_path t path) None (λ file. file_call s file r)
 
 abbrev pub name_record : Tree → Sent → List ℕ → NameRequest → Option (List ℕ)
-name_record t s path r = on_some (name_of_path t path) None (λ named. Some (nfs_text s (name_procedure r) (name_text r named.handle named.name)))
+name_record t s path r = on_some (name_of_path t path) None (λ named. Some (name_call s named.handle named.name r))
 
 abbrev pub rename_record : Tree → Sent → List ℕ → List ℕ → Option (List ℕ)
 rename_record t s path to = on_some (name_of_path t path) None (λ one. on_some (name_of_path t to) None (λ two.
-    Some (nfs_text s proc.Rename (dir_op_text one.handle one.name ++ dir_op_text two.handle two.name))))
+    Some (rename_call s one.handle one.name two.handle two.name)))
 
 abbrev pub link_record : Tree → Sent → List ℕ → List ℕ → Option (List ℕ)
 link_record t s path name = on_some (handle_of_path t path) None (λ file. on_some (name_of_path t name) None (λ to.
-    Some (nfs_text s proc.Link (opaque_text file ++ dir_op_text to.handle to.name))))
-
-abbrev pub mount_record : Sent → MountProcedure → List ℕ → List ℕ
-mount_record s p path = mount_text s p (opaque_text path)
+    Some (link_call s file to.handle to.name)))
 
 abbrev pub record_in : Tree → Sent → List ℕ → Request → Option (List ℕ)
 record_in t s path (request.File r) = file_record t s path r

@@ -2,6 +2,7 @@
 #![tactic(auto)]
 
 mod call_header;
+pub mod caller;
 mod credential;
 pub mod fault;
 pub mod file_request;

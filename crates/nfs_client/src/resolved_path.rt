@@ -75,8 +75,8 @@ fn way_in<'a>(tree: &Tree, index: usize, path: &'a [u8]) -> Option<Way<'a>>
     })
 }
 
-// What stands after a volume's path in a path that goes on from it.
-fn rest_of<'a>(volume: &[u8], path: &'a [u8]) -> Option<&'a [u8]>
+/// What stands after a volume's path in a path that goes on from it.
+pub fn rest_of<'a>(volume: &[u8], path: &'a [u8]) -> Option<&'a [u8]>
     ensures { option_map (λ rest. rest.now) result ≡ rest_after volume.now path.entry.now }
 {
     let rest = strip(volume, path)?;

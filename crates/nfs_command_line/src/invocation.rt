@@ -1,6 +1,7 @@
 //! What the words of the command line ask for.
-ghost use Rattle.std.specs.Prelude.{◌≡◌, codes, option_map};
-ghost use Rattle.nfs_command_line.specs.Given.{IsFlag, IsNumberOr, text_given, text_of};
+ghost use Rattle.std.specs.Prelude.{◌≡◌, codes, option_map, unwrap_or};
+ghost use Rattle.std.specs.Option.{is_some};
+ghost use Rattle.nfs_command_line.specs.Given.{IsFlag, IsNumber, IsNumberOr, text_given, text_of};
 ghost use Rattle.nfs_command_line.specs.Invocations.{invocation_of};
 ghost use Rattle.nfs_command_line.specs.Named.{AreNamed, IsAlone};
 
@@ -10,6 +11,7 @@ use crate::trees::Trees;
 use crate::usage::UsageFault;
 use crate::values::{cache, text};
 use clap::ArgMatches;
+use clap::parser::ValueSource;
 use std::str::FromStr;
 
 /// A command with its words. A file `-` is standard input.
@@ -64,7 +66,8 @@ impl<'a, 'w> Invocation<'a, 'w> {
             Invocation::Serve(words) => UsageFault::of_serving(*words),
             Invocation::Describe(words) => UsageFault::of_all(words.directories(), words.key()),
             Invocation::Extract(words) => UsageFault::of_sharing(words.tree().sharing()),
-            Invocation::Control(_) | Invocation::SelfCall(_) => None,
+            Invocation::Control(words) => UsageFault::of_control(*words),
+            Invocation::SelfCall(_) => None,
         }
     }
 }
@@ -170,6 +173,11 @@ impl<'a, 'w> Exports<'a, 'w> {
     }
 }
 
+// The options of `replay` with a value that are for a server of the script's own.
+const OWN_OPTIONS: [&str; 8] = [
+    "cache", "save", "key", "mount", "export", "bytes", "files", "chown",
+];
+
 /// The words of `replay`.
 #[derive(Clone, Copy)]
 pub struct Replay<'a, 'w> {
@@ -184,11 +192,50 @@ impl<'a, 'w> Replay<'a, 'w> {
         TreeWords::new(self.words)
     }
 
-    /// The script's file.
+    /// The script's file, after the tree.
     pub fn script(&self) -> &'a str
         ensures { result.now ≡ text_of self.now.words.now (codes "script") }
     {
         text(self.words, "script")
+    }
+
+    /// Whether a script stands after the first word.
+    pub(crate) fn has_script(&self) -> bool
+        ensures { result ≡ is_some (text_given self.now.words.now (codes "script")) }
+    {
+        self.words.get_str("script").is_some()
+    }
+
+    /// The script's file, where it stands alone.
+    pub fn lone_script(&self) -> &'a str
+        ensures { result.now ≡ text_of self.now.words.now (codes "tree") }
+    {
+        text(self.words, "tree")
+    }
+
+    /// The port of a server that the script is played against; without it a server of its own.
+    pub fn port(&self) -> Option<u16>
+        ensures { IsNumber ⟦<u16 as FromStr>⟧.from_str_gives self.now.words.now (codes "port") result }
+    {
+        self.words.get_one::<u16>("port")
+    }
+
+    /// The address of that server.
+    pub fn host(&self) -> &'a str
+        ensures { result.now ≡ unwrap_or (text_given self.now.words.now (codes "host")) (codes "127.0.0.1") }
+    {
+        let found = self.words.get_str("host");
+        match found {
+            Some(host) => host,
+            None => "127.0.0.1",
+        }
+    }
+
+    /// Whether an option is given that is for a server of the script's own.
+    pub(crate) fn has_own_options(&self) -> bool {
+        self.is_named()
+            || OWN_OPTIONS.iter().any(|id| self.words.value_source(id)
+                == Some(ValueSource::CommandLine))
     }
 
     /// How many replies are kept.
@@ -248,11 +295,18 @@ impl<'a, 'w> Control<'a, 'w> {
         text(self.words, "word")
     }
 
-    /// Where it saves its tree.
+    /// What stands after that.
     pub fn file(&self) -> Option<&'a str>
         ensures { option_map (λ text. text.now) result ≡ text_given self.now.words.now (codes "file") }
     {
         self.words.get_str("file")
+    }
+
+    /// Where the tree is saved at the end of the service.
+    pub fn save(&self) -> Option<&'a str>
+        ensures { option_map (λ text. text.now) result ≡ text_given self.now.words.now (codes "save") }
+    {
+        self.words.get_str("save")
     }
 }
 

@@ -13,13 +13,25 @@ pub(crate) const REPLAY: CommandRow = CommandRow {
     args: &REPLAY_ARGS,
 };
 
-const REPLAY_ARGS: [ArgRow; 12] = [
+const REPLAY_ARGS: [ArgRow; 14] = [
     TREE,
     ArgRow {
         id: "script",
         value: "SCRIPT",
-        help: "The script to run (docs/PROTOCOL.md lists its lines); - is standard input",
-        takes: Takes::Word,
+        help: "The script to run (docs/PROTOCOL.md lists its lines); - is standard input; with --port it stands alone, in the place of TREE",
+        takes: Takes::OptionalWord,
+    },
+    ArgRow {
+        id: "port",
+        value: "P",
+        help: "Sends the calls of SCRIPT to a running server at this port",
+        takes: Takes::Between(1, 65_535),
+    },
+    ArgRow {
+        id: "host",
+        value: "ADDRESS",
+        help: "The IPv4 or IPv6 address of that server; without it 127.0.0.1",
+        takes: Takes::TextBeside("port"),
     },
     CACHE,
     SAVE,
@@ -209,7 +221,7 @@ pub(crate) const CONTROL: CommandRow = CommandRow {
     args: &CONTROL_ARGS,
 };
 
-const CONTROL_ARGS: [ArgRow; 3] = [
+const CONTROL_ARGS: [ArgRow; 4] = [
     ArgRow {
         id: "path",
         value: "PATH",
@@ -227,5 +239,11 @@ const CONTROL_ARGS: [ArgRow; 3] = [
         value: "FILE",
         help: "Where save writes the tree, without it the file of the service's --save; or how many calls denied shows, up to 1024, without it 20",
         takes: Takes::OptionalWord,
+    },
+    ArgRow {
+        id: "save",
+        value: "FILE",
+        help: "With stop: a file to which the service saves its tree when it ends",
+        takes: Takes::Text,
     },
 ];

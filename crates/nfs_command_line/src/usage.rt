@@ -1,9 +1,10 @@
 //! What is wrong with words that the commands take.
 
-use crate::invocation::Replay;
+use crate::invocation::{Control, Replay};
 use crate::serve::Serve;
 use crate::sharing::{Owner, Sharing};
 use crate::trees::Trees;
+use std::net::IpAddr;
 use thiserror::Error;
 
 /// What is wrong with words, and what to do.
@@ -29,6 +30,18 @@ pub(crate) enum UsageFault {
     /// A service is never saved, since it doesn't end.
     #[error("--save FILE writes when the service ends: add --connections N, --save-every SECONDS, or --control PATH")]
     NeverSaved,
+    /// A file to save to at the end, and a word with which nothing ends.
+    #[error("--save FILE is for stop: nfs3d control PATH stop --save FILE")]
+    SaveWithoutStop,
+    /// A script has neither a tree nor a server, or both.
+    #[error("replay takes TREE and SCRIPT, or with --port SCRIPT alone")]
+    TreeOrPort,
+    /// An option is for a server of the script's own.
+    #[error("with --port, replay takes no options but --host and --decode")]
+    NotWithPort,
+    /// A host isn't an address.
+    #[error("invalid value for '--host <ADDRESS>': it must be an IPv4 or IPv6 address, such as 127.0.0.1")]
+    Host,
     /// Two texts are standard input.
     #[error("TREE and SCRIPT can't both be standard input: name a file for one of them")]
     TwoInputs,
@@ -76,12 +89,45 @@ impl UsageFault {
         }
     }
 
-    /// Of what is run, and of where it is saved.
+    /// Of a script, and of what it is run against.
     pub(crate) fn of_replay(words: Replay<'_, '_>) -> Option<UsageFault> {
+        let is_live = words.port().is_some();
+        if words.has_script() == is_live {
+            return Some(UsageFault::TreeOrPort);
+        }
+        if is_live {
+            UsageFault::of_live(words)
+        } else {
+            UsageFault::of_run(words)
+        }
+    }
+
+    // Of a server that a script is played against.
+    fn of_live(words: Replay<'_, '_>) -> Option<UsageFault> {
+        if words.has_own_options() {
+            return Some(UsageFault::NotWithPort);
+        }
+        match words.host().parse::<IpAddr>() {
+            Ok(_) => None,
+            Err(_) => Some(UsageFault::Host),
+        }
+    }
+
+    // Of what is run, and of where it is saved.
+    fn of_run(words: Replay<'_, '_>) -> Option<UsageFault> {
         if words.tree().name() == "-" && words.script() == "-" {
             return Some(UsageFault::TwoInputs);
         }
         UsageFault::of_keyed(words.tree().sharing(), words.key())
+    }
+
+    /// Of what a service is asked for.
+    pub(crate) fn of_control(words: Control<'_, '_>) -> Option<UsageFault> {
+        let is_stop = words.word() == "stop" && words.file().is_none();
+        if words.save().is_some() && !is_stop {
+            return Some(UsageFault::SaveWithoutStop);
+        }
+        None
     }
 
     /// Of what is served, and of where and when it is saved.

@@ -1,5 +1,5 @@
 //! Where and when the tree of a server is saved.
-ghost use Rattle.std.specs.Prelude.{◌≡◌, ◌⊎◌, IsErr, None};
+ghost use Rattle.std.specs.Prelude.{◌≡◌, ◌⊎◌, IsErr, None, OnErr, OnOk, Some, option_map, string_bytes};
 ghost use Rattle.nfs_commands.specs.Saving.{IsDigest};
 
 use crate::key::{KEY_BYTES, given_key};
@@ -92,6 +92,7 @@ impl<'a> Copies<'a> {
             name: self.name,
             key: self.key,
             saved: None,
+            last_name: None,
         }
     }
 }
@@ -105,6 +106,8 @@ pub struct CopySaver<'a, R> {
     key: Option<[u8; KEY_BYTES]>,
     // The digest of what was saved last.
     saved: Option<[u8; 32]>,
+    // Where the tree is saved when the service ends, beside the file of that name.
+    last_name: Option<String>,
 }
 
 impl<R: Files + RandomSource + Clock + Log> CopySaver<'_, R> {
@@ -138,6 +141,34 @@ impl<'a, R: Files + RandomSource> CopySaver<'a, R> {
         self.saved = None;
         try_place(self.rt, self.alloc, name)?;
         save(self.rt, self.alloc, name, server, self.key)
+    }
+
+    /// The file to which `save_last` saves the tree, if one was named.
+    pub fn last_name(&self) -> Option<&str>
+        ensures { option_map (λ name. name.now) result ≡ option_map string_bytes self.now.last_name }
+    {
+        match &self.last_name {
+            Some(name) => Some(name.as_str()),
+            None => None,
+        }
+    }
+
+    /// Names the file to which `save_last` saves the tree. The faults of `try_place`, with which none is named; `Memory`.
+    pub fn set_last_name(&mut self, name: &str) -> Result<(), Fault>
+        ensures ok { OnOk result (option_map string_bytes self.new.last_name ≡ Some name.now) }
+        ensures err { OnErr result (self.new ≡ self.old) }
+    {
+        try_place(self.rt, self.alloc, name)?;
+        self.last_name = Some(name.to_string(self.alloc)?);
+        Ok(())
+    }
+
+    /// Saves the tree to the file that was named for the end, if one was. The faults of `save`.
+    pub fn save_last(&self, server: &Server) -> Result<(), Fault> {
+        match &self.last_name {
+            Some(name) => save(self.rt, self.alloc, name.as_str(), server, self.key),
+            None => Ok(()),
+        }
     }
 }
 

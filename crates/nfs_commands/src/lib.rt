@@ -13,6 +13,7 @@ pub mod extracting;
 pub mod key;
 pub mod lending;
 mod life;
+mod live;
 pub mod named;
 pub mod replay;
 pub mod saved_file;

@@ -1,6 +1,7 @@
 //! `nfs3d replay`: a script, run over a description.
 
 use crate::copies::Copies;
+use crate::live::replay_live;
 use crate::named::NamedTree;
 use nfs_ask::script_fault::ScriptFault;
 use nfs_command_line::invocation::Replay;
@@ -15,6 +16,7 @@ use nfs_xdr::device::Device;
 use std::alloc::{AllocError, Global};
 use std::io::{self, BufWriter, Write};
 use std::mem::forget;
+use std::net::{Net, TcpStream};
 use std::process::ExitCode;
 use std::random::RandomSource;
 use std::rt::Files;
@@ -22,15 +24,16 @@ use std::rt::Files;
 // How much output is written at once.
 const RUN_BYTES: usize = 65_536;
 
-/// Runs a script over a description, and saves the tree as it then is where the words ask for it. The
-/// faults of `Copies::of`, `NamedTree::read` and `Copies::save_last`; `CannotRead` and `TooLong` where the
-/// script can't be read, `Script` with its first faulty line, `Write` and `Closed` where the output fails,
-/// `Memory`.
-pub fn replay_files<R: Files + Input + Print + Eprint + RandomSource + AllocGlobal>(
-    rt: &R,
-    alloc: Global,
-    words: Replay<'_, '_>,
-) -> Result<ExitCode, Diagnostic> {
+/// Runs a script over a description, and saves the tree as it then is where the words ask for it; or plays it against
+/// a running server (`replay_live`). The faults of `Copies::of`, `NamedTree::read` and `Copies::save_last`; `CannotRead`
+/// and `TooLong` where the script can't be read, `Script` with its first faulty line, `Write` and `Closed` where the
+/// output fails, `Memory`.
+pub fn replay_files<
+    R: Files + Input + Print + Eprint + RandomSource + AllocGlobal + Net<Stream = TcpStream>,
+>(rt: &R, alloc: Global, words: Replay<'_, '_>) -> Result<ExitCode, Diagnostic> {
+    if let Some(port) = words.port() {
+        return replay_live(rt, alloc, words, port);
+    }
     let copies = Copies::of(rt, alloc, words.save(), words.key())?;
     let loaded = NamedTree::load(rt, alloc, words.tree())?;
     match Source::read(rt, alloc, words.script()) {

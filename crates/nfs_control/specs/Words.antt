@@ -5,7 +5,7 @@ use Rattle.nfs_control.specs.declared.words.Word.{Word}
 use Rattle.nfs_control.specs.declared.words.Word.TheVariants as word
 use Rattle.nfs_control.specs.declared.words.WordFault.{WordFault}
 
--- how it stands, its clients, its mounts, so many of the calls that it denied, its metrics, that its exports are read again, a copy of its tree in a file, or where it saves it, or its end
+-- how it stands, its clients, its mounts, so many of the calls that it denied, its metrics, that its exports are read again, a copy of its tree in a file, or where it saves it, or its end, with a copy in a file or without
 pub data Asked : Type 0 where
   Status : Asked
   Clients : Asked
@@ -14,7 +14,7 @@ pub data Asked : Type 0 where
   Metrics : Asked
   Reload : Asked
   Save : Option (List ℕ) → Asked
-  Stop : Asked
+  Stop : Option (List ℕ) → Asked
 
 -- what a word that was read asks for, if one was
 abbrev pub asked_by : Result Word WordFault → Option Asked
@@ -25,7 +25,7 @@ asked_by (Ok (word.Denied most)) = Some (Denied most)
 asked_by (Ok word.Metrics) = Some Metrics
 asked_by (Ok word.Reload) = Some Reload
 asked_by (Ok (word.Save name)) = Some (Save (option_map (λ n. n.now) name))
-asked_by (Ok word.Stop) = Some Stop
+asked_by (Ok (word.Stop name)) = Some (Stop (option_map (λ n. n.now) name))
 asked_by (Err fault) = None
 
 -- a number of denied calls from 1 to 1,024
@@ -36,12 +36,16 @@ some_denied (Some most) = if nat_lt 0 most then Some (Denied most) else None
 abbrev pub denied_of : List ℕ → Option Asked
 denied_of number = some_denied (decimal_of 1024 number)
 
--- the name of a file is all that follows `save` and a space; a number follows `denied` and a space
+-- a number follows `denied` and a space
+abbrev pub numbered_of : List ℕ → Option Asked
+numbered_of line = if bytes_eq (take 7 line) (codes "denied ") then denied_of (drop 7 line) else None
+
+-- the name of a file is all that follows `save` and a space, or `stop --save` and a space
 abbrev pub further_of : List ℕ → Option Asked
 further_of line =
     if bytes_eq (take 5 line) (codes "save ") then Some (Save (Some (drop 5 line)))
-    else (if bytes_eq (take 7 line) (codes "denied ") then denied_of (drop 7 line)
-    else None)
+    else (if bytes_eq (take 12 line) (codes "stop --save ") then Some (Stop (Some (drop 12 line)))
+    else numbered_of line)
 
 -- what a line asks for
 abbrev pub word_of : List ℕ → Option Asked
@@ -53,5 +57,5 @@ word_of line =
     else (if bytes_eq line (codes "metrics") then Some Metrics
     else (if bytes_eq line (codes "reload") then Some Reload
     else (if bytes_eq line (codes "save") then Some (Save None)
-    else (if bytes_eq line (codes "stop") then Some Stop
+    else (if bytes_eq line (codes "stop") then Some (Stop None)
     else further_of line)))))))

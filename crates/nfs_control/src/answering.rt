@@ -65,10 +65,7 @@ impl<L: Link + Drop, R: Files + Input, Q: Files + RandomSource> Answering<
             return self.fault(WordFault::NoText);
         };
         match Word::read(line) {
-            Ok(Word::Stop) => Ok(Answer {
-                text: "stopping\n".to_string(self.alloc)?.into_bytes(),
-                stops: true,
-            }),
+            Ok(Word::Stop(name)) => self.stop(name),
             Ok(word) => {
                 let text = self.text_of(server, word)?;
                 going_on(self.bounded(text)?)
@@ -104,7 +101,33 @@ impl<L: Link + Drop, R: Files + Input, Q: Files + RandomSource> Answering<
                 Ok(answer.into_bytes())
             }
             Word::Save(name) => Ok(self.save(server, name)?.into_bytes()),
-            Word::Stop => Ok(Vec::new(alloc)),
+            Word::Stop(_) => Ok(Vec::new(alloc)),
+        }
+    }
+
+    // The end of the service, once its tree will be saved to this file, if one is named. One may be named once.
+    fn stop(&mut self, name: Option<&str>) -> Result<Answer, AllocError> {
+        if let Some(name) = name
+            && let Some(refusal) = self.refusal_to_save_last(name)?
+        {
+            return going_on(refusal.into_bytes());
+        }
+        Ok(Answer {
+            text: "stopping\n".to_string(self.alloc)?.into_bytes(),
+            stops: true,
+        })
+    }
+
+    // Has the tree saved to this file at the end, or says why it can't be.
+    fn refusal_to_save_last(&mut self, name: &str) -> Result<Option<String>, AllocError> {
+        if let Some(earlier) = self.copies.last_name() {
+            return Ok(Some(format!(in self.alloc;
+                "error: the service is stopping already, and saves its tree to {earlier}\n"
+            )?));
+        }
+        match self.copies.set_last_name(name) {
+            Ok(()) => Ok(None),
+            Err(fault) => Ok(Some(reason(self.alloc, &fault)?)),
         }
     }
 

@@ -39,9 +39,10 @@ pub fn control<R: Net + Print + Eprint>(
 // The line that is sent, with its end.
 fn line_of(alloc: Global, words: Control<'_, '_>) -> Result<String, AllocError> {
     let word = words.word();
-    match words.file() {
-        Some(file) => format!(in alloc; "{word} {file}\n"),
-        None => format!(in alloc; "{word}\n"),
+    match (words.file(), words.save()) {
+        (Some(file), _) => format!(in alloc; "{word} {file}\n"),
+        (None, Some(save)) => format!(in alloc; "{word} --save {save}\n"),
+        (None, None) => format!(in alloc; "{word}\n"),
     }
 }
 

@@ -1,14 +1,16 @@
 //! What a service does between two rounds: copies of its tree, and answers to who controls it or gets its metrics.
+ghost use Rattle.std.specs.Prelude.{IsErr};
 ghost use Rattle.nfs_loop.specs.Attending.{MayReload};
 
 use crate::metrics_socket::MetricsSocket;
 use crate::socket::ControlSocket;
 use crate::watch::Watch;
-use log::Log;
+use log::{Log, warn};
 use nfs_commands::copies::CopySaver;
 use nfs_loop::attendant::Attendant;
 use nfs_loop::view::ServiceView;
 use nfs_server::server::Server;
+use nfs_source::fault::Fault;
 use nfs_xdr::link::Link;
 use std::net::Net;
 use std::random::RandomSource;
@@ -50,6 +52,23 @@ impl<'a, 'b, Q, R: Files + Net> Attending<'a, 'b, Q, R> {
         let Attending { control, .. } = self;
         if let Some(socket) = control {
             socket.remove(has_fault);
+        }
+    }
+}
+
+impl<Q: Files + RandomSource + Log, R> Attending<'_, '_, Q, R> {
+    /// Saves the tree to the file that was named by whoever ended the service, if one was. The fault with which the
+    /// service ended, or else that of the saving; where there are both, that of the saving is logged.
+    pub fn save_last(&self, server: &Server, served: Result<(), Fault>) -> Result<(), Fault>
+        ensures { IsErr served → IsErr result }
+    {
+        match (served, self.copies.save_last(server)) {
+            (Ok(()), saved) => saved,
+            (Err(fault), Ok(())) => Err(fault),
+            (Err(fault), Err(unsaved)) => {
+                warn!(self.log; "{unsaved}");
+                Err(fault)
+            }
         }
     }
 }

@@ -1,6 +1,6 @@
 //! What a line asks a service for.
 ghost use Rattle.std.specs.Prelude.{◌≡◌};
-ghost use Rattle.nfs_control.specs.Words.{asked_by, denied_of, further_of, word_of};
+ghost use Rattle.nfs_control.specs.Words.{asked_by, denied_of, further_of, numbered_of, word_of};
 
 use nfs_lines::denials::MOST_KEPT;
 use nfs_text::number::decimal;
@@ -26,8 +26,8 @@ pub enum Word<'a> {
     Reload,
     /// That its tree is saved: to this file, or else where the service saves it.
     Save(Option<&'a str>),
-    /// That it ends.
-    Stop,
+    /// That it ends, with its tree saved to this file then, if one is named.
+    Stop(Option<&'a str>),
 }
 
 /// Why a line asks for nothing.
@@ -49,7 +49,8 @@ pub enum WordFault {
 
 impl<'a> Word<'a> {
     /// The word of a line: one of `status`, `clients`, `mounts`, `denied`, `metrics`, `reload`, `save` and `stop`;
-    /// `denied ` and a number in decimal digits; or `save ` and the name of a file, which is the whole rest of the line.
+    /// `denied ` and a number in decimal digits; or `save ` or `stop --save ` and the name of a file, which is the whole
+    /// rest of the line.
     /// `BadNumber` where that number is none from 1 to 1,024, `NoSuchWord` for every other line.
     pub fn read(line: &'a str) -> Result<Word<'a>, WordFault>
         ensures { asked_by result ≡ word_of line.entry.now }
@@ -62,7 +63,7 @@ impl<'a> Word<'a> {
             "metrics" => Ok(Word::Metrics),
             "reload" => Ok(Word::Reload),
             "save" => Ok(Word::Save(None)),
-            "stop" => Ok(Word::Stop),
+            "stop" => Ok(Word::Stop(None)),
             _ => Word::read_with(line),
         }
     }
@@ -74,6 +75,16 @@ impl<'a> Word<'a> {
         if let Some(name) = line.strip_prefix("save ") {
             return Ok(Word::Save(Some(name)));
         }
+        match line.strip_prefix("stop --save ") {
+            Some(name) => Ok(Word::Stop(Some(name))),
+            None => Word::read_numbered(line),
+        }
+    }
+
+    // A word that a number follows.
+    fn read_numbered(line: &'a str) -> Result<Word<'a>, WordFault>
+        ensures { asked_by result ≡ numbered_of line.entry.now }
+    {
         match line.strip_prefix("denied ") {
             Some(number) => read_denied(number),
             None => Err(WordFault::NoSuchWord),

@@ -2,14 +2,17 @@
 #![tactic(auto)]
 
 mod captured;
+mod connection;
 pub mod fault;
 mod heard;
 mod hexadecimal;
 mod line_bytes;
 pub mod line_fault;
+pub mod live;
 pub mod printing;
 pub mod queued_call;
 pub mod replay;
+mod results;
 mod script;
 mod sent;
 pub mod shown;

@@ -157,12 +157,20 @@ fn script_advice(
         LineCause::BadHex => reported(alloc, name, line, advise_bytes(script, line)),
         LineCause::NoHandle => reported(alloc, name, line, advise_file(script, line)),
         LineCause::NoCall => reported(alloc, name, line, advise_again(script, line)),
+        LineCause::NotLive => not_live(alloc, name, line),
         _ if ends_in_return(line_of(script, line)) => {
             reported(alloc, name, line, advise_line(script, line))
         }
         LineCause::BadWord(word, wanted) => wanted_at(alloc, name, script, line, word, wanted),
         LineCause::NoFile(word) => wanted_at(alloc, name, script, line, word, Wanted::File),
     }
+}
+
+// Which lines may be played against another server.
+fn not_live(alloc: Global, name: &str, line: u64) -> Option<String> {
+    format!(in alloc;
+        "\n  {name}:{line}:1: with --port, a script has ask, call and again lines"
+    ).ok()
 }
 
 // Whether a line ends with a carriage return, which a word of an `ask` line takes in.
