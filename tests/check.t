@@ -38,15 +38,20 @@ each_row() {
     ok $? "$file has rows"
 }
 
-# The judges. A fault's second line has the description's name in front of the place.
+# The judges. A fault's second line has the description's name in front of the place. Standard input, which can't be read
+# again, brings the same.
 prints() { says "$(cat "$work/wanted")"; }
-advises() { sed -n "2s|^  $work/tree:||p" "$work/err" | same "$work/wanted" - && ended 1; }
+advises() { advised "$work/tree" && run check - --strict <"$work/tree" && advised -; }
+advised() { sed -n "2s|^  $1:||p" "$work/err" | same "$work/wanted" - && ended 1; }
 # With --strict the status is 1 where there is a warning.
 warns() {
-    sed -n "s|^warning: $work/tree:||p" "$work/err" >"$work/warnings"
     grep -qx none "$work/wanted" && : >"$work/wanted"
     status=0
     [ -s "$work/wanted" ] && status=1
+    warned "$work/tree" && run check - --strict <"$work/tree" && warned -
+}
+warned() {
+    sed -n "s|^warning: $1:||p" "$work/err" >"$work/warnings"
     sed 's/ | /\n/g' "$work/wanted" | cmp -s - "$work/warnings" && grep -q '^ok ' "$work/out" && ended "$status" &&
         [ "$(grep -c '' "$work/err")" = "$(grep -c '' "$work/warnings")" ]
 }

@@ -84,6 +84,54 @@ run replay "$work/tree" "$work/none"
 says "line 1: UnknownWord"
 ok $? "replay reports a faulty description before a missing script"
 
+# A description with a faulty line is read once more, for what would be right there. Where it has changed since, nothing is said.
+cc -O2 -shared -fPIC -o "$work/replace.so" tests/files/replace.c
+ok $? "tests/files/replace.c is compiled"
+# changes TEXT: checks the description $work/tree, which has this text when it is read again.
+changes() {
+    printf '%b' "$1" >"$work/changed"
+    (
+        export LD_PRELOAD="$work/replace.so" REPLACE="$work/tree" BY="$work/changed"
+        run check "$work/tree"
+    )
+}
+printf 'server 0102030405060708\nvolume /a 10 3 0755 0 0\ndir /d 0755 0 0\ndir /d 0755 0 0\n' >"$work/tree"
+{ echo "line 4: NameTaken"; echo "  $work/tree:4:5: \"/d\" already exists; see line 3"; } >"$work/wanted"
+run check "$work/tree"
+brings /dev/null "$work/wanted" 1
+ok $? "the second line of a fault names the line above that it looked at"
+changes 'server 0102030405060708\nvolume /a 10 3 0755 0 0\ndir /d 0755 0 0\ndir /d 0755 0 0\nmore'
+brings /dev/null "$work/wanted" 1
+ok $? "it stands where the description changes below the faulty line while it is read"
+echo "line 4: NameTaken" >"$work/wanted"
+for text in 'server 0102030405060708\nvolume /a 10 3 0755 0 0\ndir /d 0755 0 0\ndir /d/e 0755 0 0\n' \
+    'server 0102030405060708\nvolume /a 10 3 0755 0 0\ndir /d/e 0755 0 0\ndir /d 0755 0 0\n' \
+    'server 0102030405060708\nvolume /a 10 3 0755 0 0\ndir /d 0755 0 0\ndir /d 0755 0\n' ''; do
+    changes "$text"
+    brings /dev/null "$work/wanted" 1
+    ok $? "it stands only where the description has the same fault at the same line when it is read again"
+done
+
+# Lines that are loaded are not kept, but for the second line of a fault: 100 MB of them are loaded in 64 MiB of memory.
+# within WORDS..: runs the program with so much memory.
+within() { (ulimit -v 65536 && run "$@"); }
+{ cat examples/e.tree && yes "# $(printf '%098d' 0)" | head -n 1000000; } >"$work/tree"
+within check "$work/tree"
+says "ok volumes=2 files=8 bytes=12"
+ok $? "check of 100 MB of lines in 64 MiB of memory"
+within replay "$work/tree" examples/read.script
+brings examples/read.out /dev/null 0
+ok $? "replay over 100 MB of lines in 64 MiB of memory"
+line=$(($(grep -c '' "$work/tree") + 1))
+echo tree >>"$work/tree"
+echo "line $line: UnknownWord" >"$work/wanted"
+within check "$work/tree"
+brings /dev/null "$work/wanted" 1
+ok $? "a fault below 100 MB of lines is reported without its second line where there is no memory for that"
+run check "$work/tree"
+says "line $line: UnknownWord"
+ok $? "and with it where there is"
+
 # An output that fails at once, and one that takes one block of bytes, of 40 replies.
 yes "call 10.0.0.1 1 $null" | head -n 40 >"$work/calls"
 yes reply 0000002a0000000100000000000000000000000000000000 | head -n 40 >"$work/all"

@@ -1,5 +1,5 @@
 //! What a description in order says that its writer may not have meant.
-ghost use Rattle.std.specs.Prelude.{◌≡◌};
+ghost use Rattle.std.specs.Prelude.{◌≡◌, length, take};
 ghost use Rattle.std.specs.List.{list_any};
 ghost use Rattle.nfs_advice.specs.Open.{is_open_export};
 
@@ -221,13 +221,45 @@ fn decimal_mode(mode: Option<Span<'_>>) -> Option<Advice<'_>> {
 // A set-id file in a volume in which everybody may be root.
 fn set_id<'a>(mode: Option<Span<'a>>, exports: &[Export]) -> Option<Advice<'a>> {
     let word = mode?;
-    let Ok(mode) = Fields::new(Words::new(word.bytes())).mode() else {
-        return None;
-    };
-    if mode & 0o6000 == 0 || !is_open(exports) {
+    if !has_set_id(word) || !is_open(exports) {
         return None;
     }
     Some(Advice::new(word, AdviceReason::Warning(WarningReason::SetId)))
+}
+
+// Whether a word is a mode with a set-id bit.
+fn has_set_id(word: Span<'_>) -> bool {
+    match Fields::new(Words::new(word.bytes())).mode() {
+        Ok(mode) => mode & 0o6000 != 0,
+        Err(_) => false,
+    }
+}
+
+/// What `warnings` and `export_line` look at of a line that is in order: all of it where it is that of a volume or an
+/// export; what stands up to the mode where that of a directory or a file may be warned of; else no bytes.
+pub fn looked_at(line: &[u8]) -> &[u8]
+    ensures { result.now ≡ take (length result.now) line.entry.now }
+{
+    let kind = kind_of(first_word(line));
+    if matches!(kind, LineKind::Volume | LineKind::Export) {
+        return line;
+    }
+    match Span::whole(line).word(2) {
+        Some(mode) if may_be_warned_of(kind, mode) => {
+            let end = (mode.column() - 1).saturating_add(mode.len());
+            &line[..end.min(line.len())]
+        }
+        _ => &[],
+    }
+}
+
+// Whether a mode in a line of this kind may be warned of.
+fn may_be_warned_of(kind: LineKind, mode: Span<'_>) -> bool {
+    match kind {
+        LineKind::Dir => decimal_mode(Some(mode)).is_some(),
+        LineKind::File => decimal_mode(Some(mode)).is_some() || has_set_id(mode),
+        _ => false,
+    }
 }
 
 /// Whether a volume is exported to every address with `no_root_squash`.

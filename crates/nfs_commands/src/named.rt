@@ -19,7 +19,8 @@ use std::rt::Files;
 /// The tree of a description or of a directory.
 #[derive(Drop)]
 pub struct NamedTree<'a> {
-    /// What it says, with its text; of a directory the first lines, which a description of it would have.
+    /// What it says, with what is looked at of its text; of a directory the first lines, which a description of it would
+    /// have.
     pub description: Description<'a>,
     /// Whether something of a directory is skipped.
     pub is_partial: bool,

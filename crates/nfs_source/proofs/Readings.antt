@@ -1,5 +1,5 @@
 -- What is read of a description, line by line and chunk by chunk.
-use Rattle.std.proofs.Common.{◌≡◌, ℕ, ◌+◌, ◌-◌, ◌^◌, ◌<◌, ◌≤◌, true, false, min, List, [], ◌∷◌, ◌++◌, length, Option, Some, None, Ok, Err, refl, sym, ap, subst, ◌∙◌, append_assoc, append-nil, arith}
+use Rattle.std.proofs.Common.{◌≡◌, ◌⊎◌, inl, inr, ℕ, ◌+◌, ◌-◌, ◌^◌, ◌<◌, ◌≤◌, true, false, min, List, [], ◌∷◌, ◌++◌, length, Option, Some, None, Ok, Err, refl, sym, ap, subst, ◌∙◌, append_assoc, append-nil, arith}
 use Rattle.std.specs.Option.{is_some}
 use Rattle.std.specs.Prelude.{IfOk, OnOk, Result}
 use Rattle.std.proofs.lemmas.Bool.{false≢true}
@@ -12,9 +12,11 @@ use Rattle.nfs_load.specs.Loadings.{Becomes, LineTaken, SoFar, number_after}
 use Rattle.nfs_load.proofs.Descriptions.{lines_few, reported, through_more}
 use Rattle.nfs_load.proofs.Loadings.{ends}
 use Rattle.nfs_text.specs.Lines.{lines}
+use Rattle.nfs_source.specs.Status.{IsOfReading, status_of}
+use Rattle.nfs_source.specs.declared.fault.Fault.{Fault}
 use Rattle.nfs_source.specs.declared.description.Reader.{Reader}
 use Rattle.nfs_source.specs.declared.description.Reading.{Reading}
-use Rattle.nfs_source.specs.Readings.{AreLoaded, AreRead, CutsInto, HasRead, HasText, Keeps, StopWith, is_open, outcome_of, taken_or}
+use Rattle.nfs_source.specs.Readings.{AreLoaded, AreRead, CutsInto, HasRead, HasText, IsFaultOf, Keeps, StopWith, is_open, outcome_of, taken_or}
 use Rattle.nfs_describe.specs.Outputs.{Takes}
 use Rattle.nfs_describe.specs.Texts.{most_text_bytes}
 use Rattle.nfs_source.proofs.Cuts.{cuts_all, cuts_line, cuts_more, one_line, open_more}
@@ -191,3 +193,10 @@ ended_in_order {D = D} old new ended same in_order = false≢true (sym (ap is_so
 pub both_ok : {T E : Type 0} (r : Result T E) (P Q : T → Type 0) → IfOk r P → IfOk r Q → IfOk r (λ x. P x × Q x)
 both_ok (Ok x) P Q one two = (one, two)
 both_ok (Err e) P Q one two = tt
+
+-- ---- the fault that it has
+
+pub of_reading : (old new : Option (List ℕ)) (fault : Fault) → (status_of fault ≡ 3) ⊎ ((text : List ℕ) × IsFaultOf old text new fault) → IsOfReading fault
+of_reading old new fault (inl machine) = inl machine
+of_reading old new fault (inr (text, inl (rest, reports))) = inr (text, reports)
+of_reading old new fault (inr (text, inr (read, reports))) = inr (text ++ [], reports [] (omega (arith, length-append text [], read.short)))

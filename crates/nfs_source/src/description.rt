@@ -11,13 +11,14 @@ ghost use Rattle.nfs_text.specs.Lines.{lines};
 ghost use Rattle.nfs_source.specs.OpenLines.{IsDecoded, text_of};
 ghost use Rattle.nfs_source.specs.Readings.{Begins, HasRead, HasText, IsCut, IsFaultOf, is_open, outcome_of, taken_or};
 ghost use Rattle.nfs_source.specs.Sources.{IsRest};
-ghost use Rattle.nfs_source.specs.Status.{IsOfReading, Reports, status_of};
+ghost use Rattle.nfs_source.specs.Status.{IsOfReading, IsReportedAs, Reports, status_of};
 
 use crate::diagnostic::Diagnostic;
+use crate::fault::Fault;
+use crate::kept_lines::{Extent, KeptLines};
 use crate::open_line::{DecodedLine, EndedLine, OpenLine};
 use crate::source::{Sink, SinkFault, Source, open_text, read_all};
 use memchr::memchr;
-use nfs_advice::skipped::{content_of, put_mark};
 use nfs_content::content::Content;
 use nfs_content::pages::Pages;
 use nfs_inodes::limits::{Limits, MAX_FILE_BYTES};
@@ -25,14 +26,10 @@ use nfs_lives::path_digest::PathDigest;
 use nfs_load::load_error::LoadError;
 use nfs_load::loaded::Loaded;
 use nfs_load::loading::Loading;
-use nfs_text::line::Line;
 use nfs_text::words::Words;
 use std::alloc::{AllocError, Global};
 use std::io::Read;
 use std::rt::Files;
-
-// Of a line with more bytes the content is skipped of the text once it is loaded.
-const LONG_LINE_BYTES: usize = 4_096;
 
 // How many bytes of a content that is refused are kept: advice shows fewer.
 const SHOWN_BYTES: usize = 64;
@@ -40,10 +37,12 @@ const SHOWN_BYTES: usize = 64;
 // How many bytes a line may have beside the digits of a file's content.
 const MOST_WORD_BYTES: usize = 65_536;
 
-/// A description: what it says, and its text, in which long contents are skipped.
+/// A description: what it says, and as much of its text as is looked at once it is loaded.
 #[derive(Drop)]
 pub struct Description<'a> {
-    /// Its text.
+    /// Its text, where most lines are empty: those of volumes and exports are whole, and those of directories and files
+    /// that may be warned of have what stands up to the mode. All lines have their numbers. Where the text can't be
+    /// read again all are whole, but for long contents.
     pub source: Source<'a>,
     /// What it says.
     pub loaded: Loaded,
@@ -61,7 +60,7 @@ impl<'a> Description<'a> {
         ensures described { IfOk result (λ it. (text : List ℕ) × Describes text (Ok it.loaded)) }
         ensures fault { IfErr result (λ it. IsOfReading it.fault) }
     {
-        let (description, _) = read_with(rt, alloc, name, NoDigest)?;
+        let (description, _) = read_with(rt, alloc, name, NoDigest, Extent::LookedAt)?;
         Ok(description)
     }
 }
@@ -76,40 +75,73 @@ pub struct Life {
     pub key: [u8; 8],
 }
 
-/// The life that begins with a text of this name; the text is let go. The faults of
-/// `Description::read`.
+/// The life that begins with a text of this name, which is not kept. The faults of `Description::read`.
 pub fn load_life<R: Files + Input>(rt: &R, alloc: Global, name: &str) -> Result<Life, Diagnostic>
     ensures begins { IfOk result (λ life. (text : List ℕ) × Begins text life) }
     ensures fault { IfErr result (λ it. IsOfReading it.fault) }
 {
-    let (description, paths) = read_with(rt, alloc, name, PathDigest::new())?;
+    let (description, paths) = read_with(rt, alloc, name, PathDigest::new(), Extent::Nothing)?;
     let Description { loaded, .. } = description;
     let key = paths.finish(loaded.tree.key());
     Ok(Life { loaded, key })
 }
 
-/// The tree that a text of this name describes; the text is let go. The faults of
-/// `Description::read`.
+/// The tree that a text of this name describes, which is not kept. The faults of `Description::read`.
 pub fn load_tree<R: Files + Input>(rt: &R, alloc: Global, name: &str) -> Result<Loaded, Diagnostic>
     ensures described { IfOk result (λ loaded. (text : List ℕ) × Describes text (Ok loaded)) }
     ensures fault { IfErr result (λ it. IsOfReading it.fault) }
 {
-    let Description { loaded, .. } = Description::read(rt, alloc, name)?;
+    let (description, _) = read_with(rt, alloc, name, NoDigest, Extent::Nothing)?;
+    let Description { loaded, .. } = description;
     Ok(loaded)
 }
 
-// The description of this name, and what is made of its lines beside.
+// The description of this name, and what is made of its lines beside. So much of these is kept; where the text can't be
+// read again, all that the advice on a fault looks at.
 fn read_with<'a, R: Files + Input, D: LineDigest>(
     rt: &R,
     alloc: Global,
     name: &'a str,
     digest: D,
+    extent: Extent,
 ) -> Result<(Description<'a>, D), Diagnostic>
     requires { D.has digest [] }
     ensures described { IfOk result (λ it. (text : List ℕ) × Describes text (Ok it.0.loaded) × D.has it.1 (lines text)) }
     ensures fault { IfErr result (λ it. IsOfReading it.fault) }
 {
-    read_from(alloc, &mut open_text(rt, alloc, name)?, name, digest)
+    let mut file = open_text(rt, alloc, name)?;
+    if !file.is_regular() {
+        return read_from(alloc, &mut file, name, digest, Extent::Lines);
+    }
+    match read_from(alloc, &mut file, name, digest, extent) {
+        Ok(read) => Ok(read),
+        Err(first) => Err(advised(rt, alloc, name, first)),
+    }
+}
+
+// The fault of a text whose lines were not kept, with advice where it is that of a line. For that the text is read again,
+// and its lines are kept; where it has changed so that the fault is another one now, there is no advice.
+fn advised<R: Files + Input>(rt: &R, alloc: Global, name: &str, first: Diagnostic) -> Diagnostic
+    ensures { result.fault ≡ first.fault }
+{
+    if !matches!(first.fault, Fault::Description { .. }) {
+        return first;
+    }
+    match read_lines(rt, alloc, name) {
+        Ok(_) => first,
+        Err(again) => first.with_advice_of(again),
+    }
+}
+
+// The description of this name, with its lines.
+fn read_lines<'a, R: Files + Input>(
+    rt: &R,
+    alloc: Global,
+    name: &'a str,
+) -> Result<Description<'a>, Diagnostic> {
+    let mut file = open_text(rt, alloc, name)?;
+    let (description, _) = read_from(alloc, &mut file, name, NoDigest, Extent::Lines)?;
+    Ok(description)
 }
 
 // The description that a reader of this name has left.
@@ -118,6 +150,7 @@ fn read_from<'a, I: Read, D: LineDigest>(
     file: &mut I,
     name: &'a str,
     digest: D,
+    extent: Extent,
 ) -> Result<(Description<'a>, D), Diagnostic>
     requires { D.has digest [] }
     ensures described { IfOk result (λ it. (text : List ℕ) × IsRest (I.remaining file.old) text (I.remaining file.new)
@@ -125,7 +158,7 @@ fn read_from<'a, I: Read, D: LineDigest>(
     ensures fault { IfErr result (λ it. (status_of it.fault ≡ 3) ⊎ ((text : List ℕ)
         × IsFaultOf (I.remaining file.old) text (I.remaining file.new) it.fault)) }
 {
-    let mut reader = Reader::new(alloc, digest);
+    let mut reader = Reader::new(alloc, digest, extent);
     read_all(alloc, file, name, &mut reader)?;
     let reading = reader.end()?;
     reading.described(alloc, name)
@@ -176,7 +209,7 @@ impl LineDigest for NoDigest {
 struct Reading<D> {
     loading: Loading,
     // The lines that were taken, the first faulty one last. Nothing after that is kept.
-    text: Vec<u8>,
+    kept: KeptLines,
     fault: Option<LoadError>,
     digest: D,
     // The most bytes of a file, as far as it is known.
@@ -191,7 +224,7 @@ impl<D: LineDigest> Reading<D> {
     {
         self.digest.take(line);
         self.largest_file = largest_after(line, self.largest_file);
-        self.fault = load_line(&mut self.loading, &mut self.text, line)?;
+        self.fault = load_line(&mut self.loading, &mut self.kept, line)?;
         Ok(())
     }
 
@@ -213,7 +246,7 @@ impl<D: LineDigest> Reading<D> {
         ensures { OnOk result ((done : List (List ℕ)) → HasRead D.has self.old done → HasRead D.has self.new (done ++ text_of line ∷ [])) }
     {
         self.digest.take_file(line.words.as_slice());
-        self.fault = load_file(alloc, &mut self.loading, &mut self.text, line)?;
+        self.fault = load_file(alloc, &mut self.loading, &mut self.kept, line)?;
         Ok(())
     }
 
@@ -227,7 +260,7 @@ impl<D: LineDigest> Reading<D> {
         }
         if len > most {
             return Err(SinkFault::LongLine {
-                line: count_lines(self.text.as_slice()).saturating_add(1),
+                line: self.kept.count().saturating_add(1),
                 most,
             });
         }
@@ -243,15 +276,18 @@ impl<D: LineDigest> Reading<D> {
     {
         let Reading {
             loading,
-            text,
+            kept,
             fault,
             digest,
             ..
         } = self;
-        let source = Source { name, text };
         match outcome(loading, fault) {
-            Ok(loaded) => Ok((Description { source, loaded }, digest)),
-            Err(error) => Err(Diagnostic::of_description(alloc, error, &source)),
+            Ok(loaded) => {
+                let text = kept.into_text();
+                let source = Source { name, text };
+                Ok((Description { source, loaded }, digest))
+            }
+            Err(error) => Err(diagnostic_of(alloc, error, name, kept)),
         }
     }
 }
@@ -265,7 +301,7 @@ struct Reader<D> {
 }
 
 impl<D: LineDigest> Reader<D> {
-    fn new(alloc: Global, digest: D) -> Reader<D>
+    fn new(alloc: Global, digest: D, extent: Extent) -> Reader<D>
         requires { D.has digest [] }
         ensures { HasText D.has result [] }
     {
@@ -273,7 +309,7 @@ impl<D: LineDigest> Reader<D> {
             alloc,
             reading: Reading {
                 loading: Loading::new(alloc),
-                text: Vec::new(alloc),
+                kept: KeptLines::new(alloc, extent),
                 fault: None,
                 digest,
                 largest_file: Limits::standard().file_size,
@@ -373,17 +409,6 @@ fn largest_after(line: &[u8], largest: usize) -> usize {
     }
 }
 
-// How many lines of a text have ended.
-fn count_lines(text: &[u8]) -> u64 {
-    let mut count = 0u64;
-    for byte in text {
-        if *byte == b'\n' {
-            count = count.saturating_add(1);
-        }
-    }
-    count
-}
-
 // Whether a line may begin with a word of a description, be a comment or have no word, as far as its first byte that is
 // no space says.
 fn begins_as_line(line: &[u8]) -> bool {
@@ -406,52 +431,47 @@ pub(crate) fn cut_line(text: &[u8]) -> Option<(&[u8], &[u8])>
     }
 }
 
-// Loads a line, and puts it at the end of the text. Its fault, if it is faulty.
+// Loads a line, which is kept then. Its fault, if it is faulty.
 fn load_line(
     loading: &mut Loading,
-    text: &mut Vec<u8>,
+    kept: &mut KeptLines,
     line: &[u8],
 ) -> Result<Option<LoadError>, AllocError>
     ensures { IfOk result (λ fault. LineTaken loading.old line.now (taken_or fault) loading.new) }
 {
     match loading.take(line) {
         Ok(()) => {
-            keep(text, line)?;
-            text.push(b'\n')?;
+            kept.take(line)?;
             Ok(None)
         }
         Err(error) => {
-            text.extend_from_slice(line)?;
-            text.push(b'\n')?;
+            kept.take_faulty(&[line])?;
             Ok(Some(error))
         }
     }
 }
 
-// Loads the line of a file, and puts what is looked at of it at the end of the text. Its fault, if it is faulty.
+// Loads the line of a file, of which what is looked at is kept then. Its fault, if it is faulty.
 fn load_file(
     alloc: Global,
     loading: &mut Loading,
-    text: &mut Vec<u8>,
+    kept: &mut KeptLines,
     line: DecodedLine,
 ) -> Result<Option<LoadError>, AllocError>
     requires { IsDecoded line }
     ensures { IfOk result (λ fault. LineTaken loading.old (text_of line) (taken_or fault) loading.new) }
 {
     let DecodedLine { words, content } = line;
+    let words = words.as_slice();
     let bytes = content.len() as u64;
     let shown = first_digits(alloc, &content)?;
-    text.extend_from_slice(words.as_slice())?;
-    text.push(b' ')?;
-    match loading.take_file(words.as_slice(), content) {
+    match loading.take_file(words, content) {
         Ok(()) => {
-            put_skipped(text, bytes)?;
-            text.push(b'\n')?;
+            kept.take_file(words, bytes)?;
             Ok(None)
         }
         Err(error) => {
-            text.extend_from_slice(shown.as_bytes())?;
-            text.push(b'\n')?;
+            kept.take_faulty(&[words, b" ".as_slice(), shown.as_bytes()])?;
             Ok(Some(error))
         }
     }
@@ -463,13 +483,6 @@ fn first_digits(alloc: Global, content: &Pages) -> Result<String, AllocError> {
     hex::encode(alloc, &run[..run.len().min(SHOWN_BYTES)])
 }
 
-// Puts what stands in the place of a content of so many bytes.
-fn put_skipped(text: &mut Vec<u8>, bytes: u64) -> Result<(), AllocError> {
-    let mut mark = Line::new();
-    put_mark(&mut mark, bytes);
-    text.extend_from_slice(mark.as_slice())
-}
-
 fn outcome(loading: Loading, fault: Option<LoadError>) -> Result<Loaded, LoadError>
     ensures { result ≡ outcome_of fault loading }
 {
@@ -479,16 +492,13 @@ fn outcome(loading: Loading, fault: Option<LoadError>) -> Result<Loaded, LoadErr
     }
 }
 
-// Keeps what is looked at of a line that is loaded.
-fn keep(text: &mut Vec<u8>, line: &[u8]) -> Result<(), AllocError> {
-    if line.len() <= LONG_LINE_BYTES {
-        return text.extend_from_slice(line);
+// The fault of a text of this name, with advice where its lines were kept for that.
+fn diagnostic_of(alloc: Global, error: LoadError, name: &str, kept: KeptLines) -> Diagnostic
+    ensures { IsReportedAs error result.fault }
+{
+    if !kept.are_lines() {
+        return Fault::from(error).into();
     }
-    match content_of(line) {
-        Some(content) => {
-            text.extend_from_slice(&line[..content.start])?;
-            put_skipped(text, content.bytes)
-        }
-        None => text.extend_from_slice(line),
-    }
+    let text = kept.into_text();
+    Diagnostic::of_description(alloc, error, &Source { name, text })
 }

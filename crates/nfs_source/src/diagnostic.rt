@@ -48,6 +48,19 @@ impl Diagnostic {
         }
     }
 
+    /// The same fault with the advice of another reading of its text, where that led to the same fault at the same line.
+    pub(crate) fn with_advice_of(self, again: Diagnostic) -> Diagnostic
+        ensures { result.fault ≡ self.fault }
+    {
+        if !is_same_line(&self.fault, &again.fault) {
+            return self;
+        }
+        Diagnostic {
+            fault: self.fault,
+            advice: again.advice,
+        }
+    }
+
     /// A fault of an option that says how a directory is shared, with the line that the option makes in these first
     /// lines of a description, and what would be right there. Without memory for that there is none.
     pub fn of_option(alloc: Global, head: &[u8], line: u64, cause: Cause) -> Diagnostic
@@ -110,6 +123,20 @@ impl Diagnostic {
             fault: fault.into(),
             advice,
         }
+    }
+}
+
+// Whether two faults are the same one of the same line of a description.
+fn is_same_line(one: &Fault, other: &Fault) -> bool {
+    match (one, other) {
+        (
+            Fault::Description { line, cause },
+            Fault::Description {
+                line: other_line,
+                cause: other_cause,
+            },
+        ) => line == other_line && cause == other_cause,
+        _ => false,
     }
 }
 

@@ -6,6 +6,7 @@ pub mod description;
 pub mod diagnostic;
 pub mod fault;
 pub mod heads;
+mod kept_lines;
 mod open_line;
 pub mod output;
 pub mod sharing_fault;

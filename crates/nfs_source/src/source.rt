@@ -11,7 +11,7 @@ use crate::fault::Fault;
 use nfs_load::description::load;
 use nfs_load::loaded::Loaded;
 use std::alloc::{AllocError, Global};
-use std::fs;
+use std::fs::{self, OpenFile};
 use std::io::{self, ErrorKind, Read};
 use std::rt::Files;
 
@@ -29,7 +29,7 @@ const CHUNK_BYTES: usize = 1 << 16;
 pub struct Source<'a> {
     /// The name.
     pub name: &'a str,
-    /// Its bytes.
+    /// Its bytes; of a `Description` those that are kept.
     pub text: Vec<u8>,
 }
 
@@ -137,6 +137,19 @@ impl<I: Read, F: Read> Read for TextFile<I, F> {
         match self {
             TextFile::Standard(input) => input.read(buf),
             TextFile::Named(file) => file.read(buf),
+        }
+    }
+}
+
+impl<I, F: OpenFile> TextFile<I, F> {
+    /// Whether it is a regular file, whose text can be read again from its begin.
+    pub(crate) fn is_regular(&self) -> bool {
+        match self {
+            TextFile::Standard(_) => false,
+            TextFile::Named(file) => match file.metadata() {
+                Ok(metadata) => metadata.is_file(),
+                Err(_) => false,
+            },
         }
     }
 }
