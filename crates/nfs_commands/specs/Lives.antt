@@ -1,14 +1,12 @@
 -- The key of a life of a server of directories.
-use Rattle.std.specs.Prelude.{ℕ, List, [], ◌∷◌, ◌++◌, Option, Some, None, codes, decimal, drop, string_bytes}
-use Rattle.std.specs.List.{flat_map}
+use Rattle.std.specs.Prelude.{◌≡◌, ℕ, zero, suc, List, [], ◌∷◌, ◌++◌, Option, Some, None, codes, decimal, drop, map, string_bytes}
 use Rattle.nfs_commands.specs.declared.shared.SharedDirectory.{SharedDirectory}
+use Rattle.nfs_disk.specs.declared.building.Made.{Made}
 use Rattle.nfs_disk.specs.declared.found.Found.{Found}
 use Rattle.nfs_disk.specs.declared.found.Kind.{Kind}
 use Rattle.nfs_disk.specs.declared.found.Kind.TheVariants.{Directory, Regular, Link}
 use Rattle.nfs_handles.specs.declared.number.Number.{Number}
 use Rattle.nfs_lives.specs.Paths.{life_key, rows_of}
-use Rattle.nfs_lives.specs.Rows.{HasTaken}
-use Rattle.nfs_lives.specs.declared.path_digest.PathDigest.{PathDigest}
 use Rattle.nfs_text.specs.Lines.{lines}
 use Rattle.nfs_words.specs.Texts.{name_text}
 
@@ -24,38 +22,55 @@ kind_text Regular = codes "file-"
 kind_text Link = codes "link-"
 
 -- a path, with what it is and the number that it got, as a line names a path and another
-abbrev pub numbered_line : Found → Option Number → List ℕ
-numbered_line one number = codes "hard " ++ name_text (string_bytes one.path) ++ codes " " ++ kind_text one.kind ++ number_text number
+abbrev pub path_line : Made → List ℕ
+path_line it = codes "hard " ++ name_text (string_bytes it.found.path) ++ codes " " ++ kind_text it.found.kind ++ number_text it.number
 
-abbrev pub numbered_lines : List Found → List (Option Number) → List (List ℕ)
-numbered_lines [] numbers = []
-numbered_lines (one ∷ others) [] = []
-numbered_lines (one ∷ others) (number ∷ numbers) = numbered_line one number ∷ numbered_lines others numbers
+-- these lines are taken after others
+abbrev pub Takes : {S : Type 0} → (S → List (List ℕ) → Type 0) → S → List (List ℕ) → S → Type 0
+Takes has old lines new = (before : List (List ℕ)) → has old before → has new (before ++ lines)
 
--- the digest takes these lines after others
-abbrev pub Takes : PathDigest → List (List ℕ) → PathDigest → Type 0
-Takes old lines new = (before : List (List ℕ)) → HasTaken old before → HasTaken new (before ++ lines)
+abbrev pub found_of : Made → Found
+found_of it = it.found
 
--- each path below a directory, which has the number of the volume's root
-abbrev pub paths_lines : SharedDirectory → List (List ℕ)
-paths_lines directory = numbered_lines (drop 1 directory.survey.found.items) (drop 1 directory.numbers.items)
+-- the path of a volume, and what was made below its root
+pub record MadeDirectory : Type 0 where
+  pub mount : List ℕ
+  pub made : List Made
+
+-- Each that was found below the directory stands there, in the same order.
+pub record IsMadeOf (directory : SharedDirectory) (it : MadeDirectory) : Type 0 where
+  pub mount : it.mount ≡ string_bytes directory.mount
+  pub found : map found_of it.made ≡ drop 1 directory.survey.found.items
+
+-- each is made of one of the directories, in their order
+abbrev pub AreMadeOf : List SharedDirectory → List MadeDirectory → Type 0
+AreMadeOf [] [] = Unit
+AreMadeOf [] (it ∷ others) = ⊥
+AreMadeOf (directory ∷ directories) [] = ⊥
+AreMadeOf (directory ∷ directories) (it ∷ others) = IsMadeOf directory it × AreMadeOf directories others
 
 -- as the line of a volume begins
 abbrev pub mount_line : List ℕ → List ℕ
 mount_line mount = codes "volume " ++ mount
 
--- The paths of each but the first stand after the path of its volume.
-abbrev pub further_lines : SharedDirectory → List (List ℕ)
-further_lines directory = mount_line (string_bytes directory.mount) ∷ paths_lines directory
+-- The first volume has no line of its own.
+abbrev pub mount_lines : ℕ → List ℕ → List (List ℕ)
+mount_lines zero mount = []
+mount_lines (suc index) mount = mount_line mount ∷ []
 
-abbrev pub directory_lines : List SharedDirectory → List (List ℕ)
-directory_lines [] = []
-directory_lines (first ∷ others) = paths_lines first ++ flat_map further_lines others
+-- each path below a directory, which has the number of the volume's root; those of each but the first stand after the path of its volume
+abbrev pub lines_at : ℕ → MadeDirectory → List (List ℕ)
+lines_at index it = mount_lines index it.mount ++ map path_line it.made
+
+-- those of directories, of which the first has this index
+abbrev pub directory_lines : ℕ → List MadeDirectory → List (List ℕ)
+directory_lines index [] = []
+directory_lines index (it ∷ others) = lines_at index it ++ directory_lines (suc index) others
 
 -- the first lines of the description, and those of the directories
-abbrev pub life_lines : List ℕ → List SharedDirectory → List (List ℕ)
-life_lines head directories = lines head ++ directory_lines directories
+abbrev pub life_lines : List ℕ → List MadeDirectory → List (List ℕ)
+life_lines head directories = lines head ++ directory_lines 0 directories
 
 -- by the server's key; so it is another one where a path got another number
-abbrev pub key_of : List ℕ → List ℕ → List SharedDirectory → List ℕ
+abbrev pub key_of : List ℕ → List ℕ → List MadeDirectory → List ℕ
 key_of key head directories = life_key key (rows_of (life_lines head directories))

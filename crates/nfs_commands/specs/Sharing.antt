@@ -1,10 +1,8 @@
--- Which directory has more than its volume takes, and of which something is skipped.
+-- Which directory has more than its volume takes, and whether something is skipped.
 use Rattle.std.specs.Prelude.{◌≡◌, ◌⊎◌, ◌&&◌, ℕ, List, [], ◌∷◌, Option, Some, None, Bool, true, false, nat_le, option_map, String, string_bytes}
 use Rattle.std.specs.Borrow.{Bor}
-use Rattle.std.specs.List.{list_any}
 use Rattle.std.specs.Global.{Global}
 use Rattle.std.specs.declared.alloc.AllocError.{AllocError}
-use Rattle.nfs_commands.specs.declared.shared.SharedDirectory.{SharedDirectory}
 use Rattle.nfs_disk.specs.Surveys.{extent_of}
 use Rattle.nfs_disk.specs.declared.head.Volume.{Volume}
 use Rattle.nfs_disk.specs.declared.survey.Extent.{Extent}
@@ -48,16 +46,7 @@ found_in volume = extent_of volume.survey.now.found.items
 abbrev pub name_given : Option (Bor (List ℕ)) → Option (List ℕ)
 name_given name = option_map (λ text. text.now) name
 
--- ---- what is skipped
-
+-- something is skipped
 abbrev pub is_any : List Warning → Bool
 is_any [] = false
 is_any (warning ∷ others) = true
-
--- something of a directory is skipped
-abbrev pub skips : SharedDirectory → Bool
-skips directory = is_any directory.survey.warnings.items
-
--- something of one of them is
-abbrev pub is_partial : List SharedDirectory → Bool
-is_partial directories = list_any skips directories

@@ -1,6 +1,7 @@
 //! `nfs3d describe`: directories on disk, as a description.
 
 use crate::key::key_of;
+use crate::life::NoDigest;
 use crate::shared::SharedDirectories;
 use crate::skipped::report_skipped;
 use nfs_command_line::invocation::Describe;
@@ -32,8 +33,15 @@ pub fn describe_directories<R: Files + Print + Eprint + RandomSource + AllocGlob
     let key = key_of(rt, alloc, words.key())?;
     let trees: Vec<_> = words.directories().collect(alloc)?;
     let purpose = purpose_of(words);
-    let shared = SharedDirectories::read(rt, alloc, trees.as_slice(), Some(key), purpose)?;
-    report_skipped(rt, shared.directories.as_slice());
+    let shared = SharedDirectories::read(
+        rt,
+        alloc,
+        trees.as_slice(),
+        Some(key),
+        purpose,
+        &mut NoDigest,
+    )?;
+    report_skipped(rt, shared.warnings.as_slice());
     let printed = print_shared(rt, alloc, words, &shared);
     forget(shared);
     Ok(printed?)

@@ -10,6 +10,7 @@ pub mod digested;
 pub mod exports;
 mod exposure;
 pub mod extracting;
+mod filling;
 pub mod key;
 pub mod lending;
 mod life;

@@ -1,94 +1,88 @@
-//! The key of a life of a server of directories.
-ghost use Rattle.std.specs.Prelude.{◌≡◌, drop, IfOk, OnOk};
-ghost use Rattle.std.specs.List.{flat_map};
+//! The lines that the key of a life of a server of directories is drawn from.
+ghost use Rattle.std.specs.Prelude.{◌≡◌, ℕ, List, [], ◌∷◌, IfOk, OnOk, ⊤};
 ghost use Rattle.nfs_text.specs.Lines.{lines};
-ghost use Rattle.nfs_commands.specs.Lives.{Takes, directory_lines, further_lines, key_of, mount_line, numbered_line, numbered_lines, paths_lines};
 ghost use Rattle.nfs_commands.specs.Lives as spec;
+ghost use Rattle.nfs_commands.specs.Lives.{Takes, mount_line, path_line};
+ghost use Rattle.nfs_lives.specs.Rows.{HasTaken};
 ghost use Rattle.nfs_words.specs.Texts.{Puts};
 
-use crate::shared::SharedDirectory;
-use nfs_disk::found::{Found, Kind};
+use nfs_disk::building::Made;
+use nfs_disk::found::Kind;
 use nfs_handles::number::Number;
 use nfs_lives::path_digest::PathDigest;
 use nfs_text::lines::Lines;
 use nfs_words::text::Text;
 use std::alloc::{AllocError, Global};
 
-/// The key for the handles of a life of the server with this key, by the first lines of the description of its
-/// directories, and by what was found in each: each path with what stands there and the number that it got. The paths
-/// of each but the first stand after the path of its volume. So a handle of another life, in which a path had another
-/// number, was of another kind or stood in another volume, has another key.
-pub(crate) fn life_key(
-    alloc: Global,
-    key: [u8; 8],
-    head: &[u8],
-    directories: &[SharedDirectory],
-) -> Result<[u8; 8], AllocError>
-    ensures { IfOk result (λ life. life ≡ key_of key head.now directories.now) }
-{
-    let mut paths = PathDigest::new();
-    take_lines(&mut paths, head);
-    take_directories(alloc, &mut paths, directories)?;
-    Ok(paths.finish(key))
+/// What is made of the lines that the key of a life is drawn from: the first lines of the description of its
+/// directories, and of each path what was found there and the number that it got. So a handle of another life, in which
+/// a path had another number, was of another kind or stood in another volume, has another key.
+pub trait LifeDigest: Drop {
+    // That these lines may be those that were taken.
+    ghost has: { Self → List (List ℕ) → Type 0 };
+
+    /// Takes the first lines of the description.
+    fn take_head(&mut self, head: &[u8])
+        ensures { Takes has self.old (lines head.now) self.new };
+
+    /// Takes the line of a volume, which its paths follow. `AllocError`.
+    fn take_mount(&mut self, alloc: Global, mount: &str) -> Result<(), AllocError>
+        ensures { OnOk result (Takes has self.old (mount_line mount.now ∷ []) self.new) };
+
+    /// Takes the line of a path. `AllocError`.
+    fn take_path(&mut self, alloc: Global, made: &Made) -> Result<(), AllocError>
+        ensures { OnOk result (Takes has self.old (path_line made.now ∷ []) self.new) };
 }
 
-// The lines of directories.
-fn take_directories(
-    alloc: Global,
-    paths: &mut PathDigest,
-    directories: &[SharedDirectory],
-) -> Result<(), AllocError>
-    ensures { OnOk result (Takes paths.old (directory_lines directories.now) paths.new) }
-{
-    match directories.split_first() {
-        Some((first, others)) => {
-            take_paths(alloc, paths, first)?;
-            take_others(alloc, paths, others)
-        }
-        None => Ok(()),
+impl LifeDigest for PathDigest {
+    ghost has = { HasTaken };
+
+    fn take_head(&mut self, head: &[u8]) {
+        take_lines(self, head);
+    }
+
+    fn take_mount(&mut self, alloc: Global, mount: &str) -> Result<(), AllocError> {
+        let line = line_of_mount(alloc, mount)?;
+        self.take(line.as_slice());
+        Ok(())
+    }
+
+    fn take_path(&mut self, alloc: Global, made: &Made) -> Result<(), AllocError> {
+        let line = line_of(alloc, made)?;
+        self.take(line.as_slice());
+        Ok(())
     }
 }
 
-// The lines of those after the first.
-fn take_others(
-    alloc: Global,
-    paths: &mut PathDigest,
-    others: &[SharedDirectory],
-) -> Result<(), AllocError>
-    ensures { OnOk result (Takes paths.old (flat_map further_lines others.now) paths.new) }
-{
-    for directory in others {
-        take_further(alloc, paths, directory)?;
+/// Nothing is made of them, where no life begins.
+#[derive(Drop)]
+pub struct NoDigest;
+
+impl LifeDigest for NoDigest {
+    ghost has = { λ _ _. ⊤ };
+
+    fn take_head(&mut self, _head: &[u8]) {}
+
+    fn take_mount(&mut self, _alloc: Global, _mount: &str) -> Result<(), AllocError> {
+        Ok(())
     }
-    Ok(())
+
+    fn take_path(&mut self, _alloc: Global, _made: &Made) -> Result<(), AllocError> {
+        Ok(())
+    }
 }
 
-// The lines of one of these.
-fn take_further(
-    alloc: Global,
-    paths: &mut PathDigest,
-    directory: &SharedDirectory,
-) -> Result<(), AllocError>
-    ensures { OnOk result (Takes paths.old (further_lines directory.now) paths.new) }
+// The lines of a text.
+fn take_lines(paths: &mut PathDigest, text: &[u8])
+    ensures { Takes HasTaken paths.old (lines text.now) paths.new }
 {
-    let line = line_of_mount(alloc, directory.mount.as_str())?;
-    paths.take(line.as_slice());
-    take_paths(alloc, paths, directory)
+    let mut lines = Lines::new(text);
+    while let Some(line) = lines.next() {
+        paths.take(line);
+    }
 }
 
-// The lines of the paths in a directory.
-fn take_paths(
-    alloc: Global,
-    paths: &mut PathDigest,
-    directory: &SharedDirectory,
-) -> Result<(), AllocError>
-    ensures { OnOk result (Takes paths.old (paths_lines directory.now) paths.new) }
-{
-    let found = tail_of(directory.survey.found.as_slice());
-    take_numbered(alloc, paths, found, tail_of(directory.numbers.as_slice()))
-}
-
-// The line of a volume, which its paths follow.
+// The line of a volume.
 fn line_of_mount(alloc: Global, mount: &str) -> Result<Vec<u8>, AllocError>
     ensures { IfOk result (λ line. line.items ≡ mount_line mount.now) }
 {
@@ -98,46 +92,16 @@ fn line_of_mount(alloc: Global, mount: &str) -> Result<Vec<u8>, AllocError>
     Ok(line)
 }
 
-// The lines of a text.
-fn take_lines(paths: &mut PathDigest, text: &[u8])
-    ensures { Takes paths.old (lines text.now) paths.new }
-{
-    let mut lines = Lines::new(text);
-    while let Some(line) = lines.next() {
-        paths.take(line);
-    }
-}
-
-// A line for each that was found and has a number.
-fn take_numbered(
-    alloc: Global,
-    paths: &mut PathDigest,
-    found: &[Found],
-    numbers: &[Option<Number>],
-) -> Result<(), AllocError>
-    ensures { OnOk result (Takes paths.old (numbered_lines found.now numbers.now) paths.new) }
-{
-    let mut left = numbers;
-    for one in found {
-        if let Some((number, others)) = left.split_first() {
-            let line = line_of(alloc, one, *number)?;
-            paths.take(line.as_slice());
-            left = others;
-        }
-    }
-    Ok(())
-}
-
-// The line of one that was found.
-fn line_of(alloc: Global, one: &Found, number: Option<Number>) -> Result<Vec<u8>, AllocError>
-    ensures { IfOk result (λ line. line.items ≡ numbered_line one.now number) }
+// The line of a path.
+fn line_of(alloc: Global, made: &Made) -> Result<Vec<u8>, AllocError>
+    ensures { IfOk result (λ line. line.items ≡ path_line made.now) }
 {
     let mut line = Text::new(alloc);
     line.put(b"hard ");
-    line.put_name(one.path.as_bytes());
+    line.put_name(made.found.path.as_bytes());
     line.put(b" ");
-    line.put(word_of(one.kind));
-    put_number(&mut line, number);
+    line.put(word_of(made.found.kind));
+    put_number(&mut line, made.number);
     line.into_bytes()
 }
 
@@ -157,15 +121,5 @@ fn put_number(line: &mut Text, number: Option<Number>)
     match number {
         Some(Number(fileid, _)) => line.put_number(fileid),
         None => line.put(b"-"),
-    }
-}
-
-// All but the first.
-fn tail_of<T>(items: &[T]) -> &[T]
-    ensures { result.now ≡ drop 1 items.entry.now }
-{
-    match items.split_first() {
-        Some((_, others)) => others,
-        None => items,
     }
 }

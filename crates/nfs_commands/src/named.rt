@@ -1,11 +1,14 @@
 //! The tree that words name.
+ghost use Rattle.std.specs.Prelude.{◌≡◌, ℕ, List, IfOk};
+ghost use Rattle.nfs_commands.specs.Lives.{MadeDirectory, Takes, key_of, life_lines};
 
-use crate::life::life_key;
+use crate::life::{LifeDigest, NoDigest};
 use crate::shared::{SharedDirectories, name_among};
 use crate::skipped::report_skipped;
 use nfs_command_line::sharing::{Sharing, TreeWords};
 use nfs_command_line::trees::Trees;
 use nfs_disk::survey::Purpose;
+use nfs_lives::path_digest::PathDigest;
 use nfs_load::loaded::Loaded;
 use nfs_source::description::{Description, Life, load_life};
 use nfs_source::diagnostic::Diagnostic;
@@ -42,7 +45,7 @@ impl<'a> NamedTree<'a> {
                 is_partial: false,
             });
         }
-        let shared = share(rt, alloc, &[words])?;
+        let shared = share(rt, alloc, &[words], &mut NoDigest)?;
         Ok(NamedTree::of_shared(words.name(), shared))
     }
 
@@ -139,38 +142,23 @@ fn no_export(alloc: Global, name: Option<&str>) -> Fault {
     }
 }
 
-// The life of a server of directories.
+// The life of a server of directories, of which nothing may be skipped where that is strict.
 fn begin_shared_life<R: Files + Eprint + AllocGlobal>(
     rt: &R,
     alloc: Global,
     trees: &[TreeWords<'_, '_>],
     is_strict: bool,
-) -> Result<Life, Diagnostic> {
-    let shared = share(rt, alloc, trees)?;
-    match shared_key(alloc, &shared, is_strict) {
-        Ok(key) => {
-            let SharedDirectories { loaded, .. } = shared;
-            Ok(Life { loaded, key })
-        }
-        Err(fault) => Err(fault.into()),
-    }
-}
-
-// The key of a life of directories, of which nothing may be skipped where that is strict.
-fn shared_key(
-    alloc: Global,
-    shared: &SharedDirectories,
-    is_strict: bool,
-) -> Result<[u8; 8], Fault> {
+) -> Result<Life, Diagnostic>
+    ensures { IfOk result (λ life. (head : List ℕ) × (made : List MadeDirectory) × (life.key ≡ key_of life.loaded.tree.key head made)) }
+{
+    let mut digest = PathDigest::new();
+    let shared = share(rt, alloc, trees, &mut digest)?;
     if is_strict && shared.is_partial() {
-        return Err(Fault::Sharing(SharingFault::Skipped));
+        return Err(Fault::Sharing(SharingFault::Skipped).into());
     }
-    Ok(life_key(
-        alloc,
-        shared.loaded.tree.key(),
-        shared.head.as_slice(),
-        shared.directories.as_slice(),
-    )?)
+    let SharedDirectories { loaded, .. } = shared;
+    let key = digest.finish(loaded.tree.key());
+    Ok(Life { loaded, key })
 }
 
 /// Whether this is the name of a directory on disk.
@@ -197,12 +185,15 @@ pub fn refuse_sharing(sharing: Sharing<'_, '_>) -> Result<(), Fault> {
 }
 
 // The directories, and what is skipped of them is reported.
-fn share<R: Files + Eprint + AllocGlobal>(
+fn share<R: Files + Eprint + AllocGlobal, D: LifeDigest>(
     rt: &R,
     alloc: Global,
     trees: &[TreeWords<'_, '_>],
-) -> Result<SharedDirectories, Diagnostic> {
-    let shared = SharedDirectories::read(rt, alloc, trees, None, Purpose::Serving)?;
-    report_skipped(rt, shared.directories.as_slice());
+    digest: &mut D,
+) -> Result<SharedDirectories, Diagnostic>
+    ensures { IfOk result (λ it. (made : List MadeDirectory) × Takes D.has digest.old (life_lines it.head.items made) digest.new) }
+{
+    let shared = SharedDirectories::read(rt, alloc, trees, None, Purpose::Serving, digest)?;
+    report_skipped(rt, shared.warnings.as_slice());
     Ok(shared)
 }

@@ -1,16 +1,17 @@
 //! Directories on disk that are shared as volumes.
-ghost use Rattle.std.specs.Prelude.{◌≡◌, IfErr, OnOk};
+ghost use Rattle.std.specs.Prelude.{◌≡◌, IfErr, IfOk, List, OnOk};
 ghost use Rattle.nfs_disk.specs.Heads.{room_of};
+ghost use Rattle.nfs_commands.specs.Lives as lives;
 ghost use Rattle.nfs_commands.specs.Sharing.{IsTooLargeOf, Refuses, Takes, found_in, name_given};
 ghost use Rattle.nfs_commands.specs.Sharing as spec;
 
+use crate::filling::fill;
+use crate::life::LifeDigest;
 use nfs_command_line::sharing::{Owner, Sharing, TreeWords};
-use nfs_disk::building::build;
 use nfs_disk::fault::DiskFault;
 use nfs_disk::head::{Head, Volume, head_of, room_for};
 use nfs_disk::survey::{Extent, Purpose, Survey};
-use nfs_handles::number::Number;
-use nfs_inodes::tree::Tree;
+use nfs_disk::warning::Warning;
 use nfs_load::description::load;
 use nfs_load::load_error::LoadError;
 use nfs_load::loaded::Loaded;
@@ -28,8 +29,8 @@ const KEY_FACTOR: u64 = 0x9e37_79b9_7f4a_7c15;
 /// Directories on disk as the volumes of one tree.
 #[derive(Drop)]
 pub struct SharedDirectories {
-    /// Each of them, in the order of the volumes.
-    pub directories: Vec<SharedDirectory>,
+    /// What is skipped of them, in the order of the volumes.
+    pub warnings: Vec<Warning>,
     /// The first lines of their description: the key, the limits, and the volumes with their exports.
     pub head: Vec<u8>,
     /// The tree, with the exports.
@@ -43,29 +44,31 @@ pub struct SharedDirectory {
     pub mount: String,
     /// What was found on disk, and what of it is skipped.
     pub survey: Survey,
-    /// The number in the tree of each that was found, none of what is skipped.
-    pub numbers: Vec<Option<Number>>,
 }
 
 impl SharedDirectories {
     /// The directories that these words name. Their key is the one that is given, or without one that of the
-    /// devices and numbers that they have on disk, which are the same each time. `CannotRead` where there is no
-    /// such directory; `Sharing` where the words don't fit, or where more was found than a volume takes, before
-    /// a file is read; `Memory`.
-    pub fn read<R: Files + AllocGlobal>(
+    /// devices and numbers that they have on disk, which are the same each time. The digest takes the lines that
+    /// the key of a life is drawn from. `CannotRead` where there is no such directory; `Sharing` where the words
+    /// don't fit, or where more was found than a volume takes, before a file is read; `Memory`.
+    pub fn read<R: Files + AllocGlobal, D: LifeDigest>(
         rt: &R,
         alloc: Global,
         trees: &[TreeWords<'_, '_>],
         key: Option<[u8; 8]>,
         purpose: Purpose,
-    ) -> Result<SharedDirectories, Diagnostic> {
-        let mut directories = survey_all(rt, alloc, trees, purpose)?;
+        digest: &mut D,
+    ) -> Result<SharedDirectories, Diagnostic>
+        ensures { IfOk result (λ it. (made : List lives.MadeDirectory) × lives.Takes D.has digest.old (lives.life_lines it.head.items made) digest.new) }
+    {
+        let directories = survey_all(rt, alloc, trees, purpose)?;
         let key = key.unwrap_or(key_on_disk(directories.as_slice()));
         let head = head_for(alloc, trees, directories.as_slice(), key)?;
         let mut loaded = load_head(alloc, head.as_slice())?;
-        fill(rt, alloc, directories.as_mut_slice(), &mut loaded)?;
+        digest.take_head(head.as_slice());
+        let warnings = fill(rt, alloc, directories, &mut loaded.tree, digest)?;
         Ok(SharedDirectories {
-            directories,
+            warnings,
             head,
             loaded,
         })
@@ -73,9 +76,9 @@ impl SharedDirectories {
 
     /// Whether something of them is skipped.
     pub fn is_partial(&self) -> bool
-        ensures { result ≡ spec.is_partial self.now.directories.items }
+        ensures { result ≡ spec.is_any self.now.warnings.items }
     {
-        self.directories.iter().any(skips)
+        !self.warnings.is_empty()
     }
 }
 
@@ -99,28 +102,7 @@ impl SharedDirectory {
             Some(mount) => mount.to_string(alloc)?,
             None => mount_of(rt, alloc, name)?,
         };
-        Ok(SharedDirectory {
-            mount,
-            survey,
-            numbers: Vec::new(alloc),
-        })
-    }
-
-    // Makes what was found below a root.
-    fn fill<R: Files + AllocGlobal>(
-        &mut self,
-        rt: &R,
-        alloc: Global,
-        tree: &mut Tree,
-        root: Number,
-    ) -> Result<(), Fault> {
-        match build(rt, &mut self.survey, tree, root) {
-            Ok(numbers) => {
-                self.numbers = numbers;
-                Ok(())
-            }
-            Err(fault) => Err(fault_of(alloc, self.survey.directory.as_str(), fault)),
-        }
+        Ok(SharedDirectory { mount, survey })
     }
 
     // The directory as a volume that is shared like this.
@@ -135,13 +117,6 @@ impl SharedDirectory {
             survey: &self.survey,
         }
     }
-}
-
-// Whether something of a directory is skipped.
-fn skips(directory: &SharedDirectory) -> bool
-    ensures { result ≡ spec.skips directory.now }
-{
-    !directory.survey.warnings.is_empty()
 }
 
 // What stands in each of the directories.
@@ -278,22 +253,6 @@ fn load_head(alloc: Global, head: &[u8]) -> Result<Loaded, Diagnostic> {
             Err(Diagnostic::of_option(alloc, head, line, cause))
         }
     }
-}
-
-// Makes what was found in each directory below the root of its volume.
-fn fill<R: Files + AllocGlobal>(
-    rt: &R,
-    alloc: Global,
-    directories: &mut [SharedDirectory],
-    loaded: &mut Loaded,
-) -> Result<(), Fault> {
-    for (index, directory) in directories.iter_mut().enumerate() {
-        let root = loaded.tree.volume(index).map(|volume| volume.root);
-        if let Some(root) = root {
-            directory.fill(rt, alloc, &mut loaded.tree, root)?;
-        }
-    }
-    Ok(())
 }
 
 fn fault_of(alloc: Global, name: &str, fault: DiskFault) -> Fault {

@@ -7,6 +7,7 @@ pub mod fault;
 pub mod found;
 pub mod head;
 pub mod needs;
+mod queue;
 pub mod survey;
 mod tally;
 pub mod warning;

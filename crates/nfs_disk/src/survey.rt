@@ -1,9 +1,8 @@
 //! A walk over a directory on disk.
-ghost use Rattle.std.specs.Prelude.{◌≡◌, ℕ, List, ◌∷◌, count_by, map, not, IfOk, if◌then◌else◌};
+ghost use Rattle.std.specs.Prelude.{◌≡◌, ℕ, List, ◌∷◌, map, not, IfOk, if◌then◌else◌};
 ghost use Rattle.nfs_disk.specs.Surveys as spec;
-ghost use Rattle.nfs_disk.specs.Surveys.{extent_of, is_among, is_because, number_of, owned_by};
+ghost use Rattle.nfs_disk.specs.Surveys.{extent_of, is_among, number_of, owned_by};
 ghost use Rattle.nfs_disk.specs.Tallies.{Holds};
-ghost use Rattle.nfs_disk.specs.declared.warning.Warning.{Warning};
 
 use crate::fault::DiskFault;
 use crate::found::{Found, Kind, given_of, is_alone, kind_of, number_of, size_of, times_of};
@@ -111,16 +110,6 @@ impl Survey {
         }
     }
 
-    /// How many were skipped for this reason.
-    pub fn skipped(&self, reason: SkipReason) -> usize
-        ensures { result ≡ count_by (λ (w : Warning). is_because reason w.reason) self.now.warnings.items }
-    {
-        self.warnings
-            .iter()
-            .filter(|warning| is_because(reason, warning.reason))
-            .count()
-    }
-
     // The directory that everything else is below.
     fn begin<R: Files + AllocGlobal>(&mut self, rt: &R, directory: &str) -> Result<(), DiskFault> {
         let alloc = rt.alloc();
@@ -208,13 +197,6 @@ fn is_first(seen: &mut BTreeSet<u128>, found: &Found) -> Result<bool, AllocError
         return Ok(true);
     }
     Ok(seen.insert(number_of(found))?)
-}
-
-// Whether something is skipped for a reason.
-fn is_because(reason: SkipReason, found: SkipReason) -> bool
-    ensures { result ≡ spec.is_because reason found }
-{
-    reason == found
 }
 
 // What kind of file this is, or why it is skipped.

@@ -1,4 +1,7 @@
 //! What is skipped of a description, and why.
+ghost use Rattle.std.specs.Prelude.{◌≡◌, count_by};
+ghost use Rattle.nfs_disk.specs.Surveys as spec;
+ghost use Rattle.nfs_disk.specs.declared.warning.Warning.{Warning};
 
 use nfs_load::name_form::name_byte;
 use std::fmt;
@@ -59,6 +62,23 @@ impl fmt::Display for Warning {
         write_quoted(f, self.path.as_str())?;
         write!(f, ": {}", self.reason)
     }
+}
+
+/// How many were skipped for this reason.
+pub fn skipped_for(warnings: &[Warning], reason: SkipReason) -> usize
+    ensures { result ≡ count_by (λ (w : Warning). spec.is_because reason w.reason) warnings.now }
+{
+    warnings
+        .iter()
+        .filter(|warning| is_because(reason, warning.reason))
+        .count()
+}
+
+// Whether something is skipped for a reason.
+fn is_because(reason: SkipReason, found: SkipReason) -> bool
+    ensures { result ≡ spec.is_because reason found }
+{
+    reason == found
 }
 
 // A path, with `%` and two hexadecimal digits in place of each byte outside `!` to `~` and of `%`.
