@@ -40,11 +40,15 @@ denied_of number = some_denied (decimal_of 1024 number)
 abbrev pub numbered_of : List ℕ → Option Asked
 numbered_of line = if bytes_eq (take 7 line) (codes "denied ") then denied_of (drop 7 line) else None
 
--- the name of a file is all that follows `save` and a space, or `stop --save` and a space
+-- after `stop` and a space, the name of a file is all that follows `--save` and a space
+abbrev pub stop_of : List ℕ → Option Asked
+stop_of rest = if bytes_eq (take 7 rest) (codes "--save ") then Some (Stop (Some (drop 7 rest))) else None
+
+-- the name of a file is all that follows `save` and a space
 abbrev pub further_of : List ℕ → Option Asked
 further_of line =
     if bytes_eq (take 5 line) (codes "save ") then Some (Save (Some (drop 5 line)))
-    else (if bytes_eq (take 12 line) (codes "stop --save ") then Some (Stop (Some (drop 12 line)))
+    else (if bytes_eq (take 5 line) (codes "stop ") then stop_of (drop 5 line)
     else numbered_of line)
 
 -- what a line asks for

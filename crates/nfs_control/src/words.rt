@@ -1,6 +1,6 @@
 //! What a line asks a service for.
 ghost use Rattle.std.specs.Prelude.{◌≡◌};
-ghost use Rattle.nfs_control.specs.Words.{asked_by, denied_of, further_of, numbered_of, word_of};
+ghost use Rattle.nfs_control.specs.Words.{asked_by, denied_of, further_of, numbered_of, stop_of, word_of};
 
 use nfs_lines::denials::MOST_KEPT;
 use nfs_text::number::decimal;
@@ -75,9 +75,19 @@ impl<'a> Word<'a> {
         if let Some(name) = line.strip_prefix("save ") {
             return Ok(Word::Save(Some(name)));
         }
-        match line.strip_prefix("stop --save ") {
-            Some(name) => Ok(Word::Stop(Some(name))),
+        match line.strip_prefix("stop ") {
+            Some(rest) => Word::read_stop(rest),
             None => Word::read_numbered(line),
+        }
+    }
+
+    // What follows `stop`.
+    fn read_stop(rest: &'a str) -> Result<Word<'a>, WordFault>
+        ensures { asked_by result ≡ stop_of rest.entry.now }
+    {
+        match rest.strip_prefix("--save ") {
+            Some(name) => Ok(Word::Stop(Some(name))),
+            None => Err(WordFault::NoSuchWord),
         }
     }
 
