@@ -362,9 +362,11 @@ ok $? "each call is judged by the exports that are in force"
 
 # Three clients send 4,000 SETATTRs each, while the exports change 20 times. By a model, a client's replies are those of the
 # exports in force: they change at most as often as these, and to nothing else, and each denial is counted.
+players=
 for client in 1 2 3; do
     awk -v n="$client" 'BEGIN { for (i = 0; i < 4000; i++) print "ask 10.0.0.1 0 0:0 chmod /a/f 64" n }' >"$work/calls.$client"
     "$program" replay "$work/calls.$client" --port "$port" --decode >"$work/replies.$client" 2>&1 &
+    players="$players $!"
 done
 run control "$socket" metrics
 denied_before=$(sed -n 's/^nfs3d_denied_total{rule="read-only"} //p' "$work/out")
@@ -376,7 +378,8 @@ for turn in 1 2 3 4 5 6 7 8 9 10; do
 done
 [ "$turn" = 10 ] && ended 0
 ok $? "exports change while clients are at work"
-wait_until 60 sh -c "! pgrep -f 'replay $work/calls' >/dev/null"
+# shellcheck disable=SC2086
+wait $players
 for client in 1 2 3; do
     sed -n 's/^  SETATTR: //p' "$work/replies.$client" >"$work/statuses.$client"
     [ "$(grep -c '' "$work/statuses.$client")" = 4000 ] && ! grep -qvx 'NFS3_OK\|NFS3ERR_ROFS' "$work/statuses.$client" &&

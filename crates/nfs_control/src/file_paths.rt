@@ -15,7 +15,7 @@ const MOST_NAMES: usize = 1_024;
 /// The paths of some files, each by the first of its names that a walk comes to.
 #[derive(Drop)]
 pub(crate) struct FilePaths<'a> {
-    // The directories, each behind its parent.
+    // The directories, each after its parent.
     directories: Vec<Directory<'a>>,
     // Where the files that are wanted stand, by their numbers.
     places: BTreeMap<u64, Place<'a>>,

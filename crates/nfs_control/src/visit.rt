@@ -128,7 +128,7 @@ impl<S: Read + Write + Drop> Visit<S> {
         }
     }
 
-    // Takes a piece of the line. What follows the line is left out.
+    // Takes a piece of the line. What follows the line is ignored.
     fn take_of_line(&mut self, piece: &[u8]) -> Heard
         ensures { IsShort self.old.line → IsShort self.new.line }
     {

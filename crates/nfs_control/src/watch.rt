@@ -59,7 +59,7 @@ impl<'a, R: Files + Input> Watch<'a, R> {
     }
 }
 
-// How the file of a name stands; `None` where it can't be told.
+// How the file of a name stands; `None` where that can't be read.
 fn version_of<R: Files>(rt: &R, name: &str) -> Option<Version> {
     let metadata = fs::metadata(rt, name).ok()?;
     Some(Version {
