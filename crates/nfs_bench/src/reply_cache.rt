@@ -73,8 +73,8 @@ fn once(kept: &mut ReplyCache, record: &[u8]) -> bool {
     if kept.find(ADDR, record) {
         return true;
     }
-    if kept.take_place(ADDR, record).is_ok() {
-        kept.keep(&REPLY[..REPLY.len().min(MAX_KEPT_BYTES)]);
+    if let Ok(place) = kept.prepare(ADDR, record) {
+        kept.keep(place, &REPLY[..REPLY.len().min(MAX_KEPT_BYTES)]);
     }
     false
 }

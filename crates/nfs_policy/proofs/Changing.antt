@@ -128,4 +128,4 @@ module _ (setup : Setup) (old : State) (event : Event) (choice : Choice) (answer
   retransmitted None h = called (head_at event.bytes) refl h
 
 pub step_changes : (setup : Setup) (history : List Done) (old : State) (event : Event) (choice : Choice) (answer : Answer) (new : State) → Step setup history old event choice answer new → Changes setup old event choice answer new
-step_changes setup history old event choice answer new step = retransmitted setup old event choice answer new (first_reply setup.places choice.again history event) step
+step_changes setup history old event choice answer new step = retransmitted setup old event choice answer new (first_reply setup.places history event) step

@@ -126,7 +126,7 @@ answers_follow setups opening (d ∷ before) (e ∷ earlier) state state' run ru
     (subst (λ v. Step setup before run.0 v e.choice e.answer state') alike.1
     (subst (λ old. Step setup before old e.event e.choice e.answer state') was.1
     (subst (λ history. Step (setups (length history)) history run'.0 e.event e.choice e.answer state') was.0 run'.2))) in
-    let same = retransmitted setup run.0 d.event d.choice d.answer e.answer state state' (first_reply setup.places d.choice.again before d.event) run.2 step in
+    let same = retransmitted setup run.0 d.event d.choice d.answer e.answer state state' (first_reply setup.places before d.event) run.2 step in
     ((λ i. same_done d e alike.1 alike.2 same.0 i ∷ was.0 i), same.1)
 
 pub bytes_are_hidden : BytesAreHidden

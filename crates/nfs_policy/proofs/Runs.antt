@@ -166,6 +166,6 @@ reading_is_confined f setups opening (e ∷ before) state run never other agree 
     let r = reading_is_confined f setups opening before run.0 run.1 never.0 other agree in
     let now = agree_at_end f setups opening other before run.0 r.0 run.1 r.1 r.2 in
     let setup = setups (length before) in
-    let s = retransmitted f setup run.0 r.0.tree now.0 e.event e.choice e.answer state (first_reply setup.places e.choice.again before e.event) never.1 run.2 in
+    let s = retransmitted f setup run.0 r.0.tree now.0 e.event e.choice e.answer state (first_reply setup.places before e.event) never.1 run.2 in
     let step : Step setup before r.0 e.event e.choice e.answer s.0 = same_mounts f setup run.0 r.0 (λ old. Step setup before old e.event e.choice e.answer s.0) now.1 s.1 in
     (s.0, (r.0, r.1, step), (r.2, s.2, s.3))

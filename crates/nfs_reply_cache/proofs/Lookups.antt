@@ -1,6 +1,7 @@
 -- Look-ups among the first places, and in places of which one was taken out.
-use Rattle.std.proofs.Common.{◌≡◌, ℕ, zero, suc, ◌≤◌, Bool, true, false, cond, List, [], ◌∷◌, Option, Some, None, take, refl, sym, ap, subst, ◌∙◌, arith}
-use Rattle.nfs_reply_cache.specs.Places.{Key, Place, cached_reply, same, without}
+use Rattle.std.proofs.Common.{◌≡◌, ℕ, zero, suc, ◌+◌, ◌-◌, ◌≤◌, Bool, true, false, cond, List, [], ◌∷◌, length, Option, Some, None, take, refl, sym, ap, subst, ◌∙◌, arith}
+use Rattle.std.proofs.lemmas.List.{take_all}
+use Rattle.nfs_reply_cache.specs.Places.{Key, Place, cached_reply, place_for, same, with_reply, without}
 use Rattle.nfs_reply_cache.proofs.Places.{same_keys}
 
 pub none_some : {X : Type 0} {x : X} → None ≡ Some x → ⊥
@@ -59,3 +60,33 @@ found_in false key other p ps r d s f e = other_part (same other p.key) (Some p.
 pub was_without : (key other : Key) (ps : List Place) (r : List ℕ) → same other key ≡ false → cached_reply other (without key ps) ≡ Some r → cached_reply other ps ≡ Some r
 was_without key other [] r d e = e
 was_without key other (p ∷ ps) r d e = found_in (same key p.key) key other p ps r d refl (was_without key other ps r d) e
+
+-- ---- how many places there are
+
+-- no place is taken out for a key that has none
+same_places : (b : Bool) (p : Place) (ps qs : List Place) (o : Option (List ℕ)) → (o ≡ None → qs ≡ ps) → cond b (Some p.reply) o ≡ None → cond b ps (p ∷ qs) ≡ p ∷ ps
+same_places true p ps qs o f e = absurd (none_some (sym e))
+same_places false p ps qs o f e = ap (λ (l : List Place). p ∷ l) (f e)
+
+pub without_none : (key : Key) (ps : List Place) → cached_reply key ps ≡ None → without key ps ≡ ps
+without_none key [] e = refl
+without_none key (p ∷ ps) e = same_places (same key p.key) p ps (without key ps) (cached_reply key ps) (without_none key ps) e
+
+one_less : (b : Bool) (p : Place) (ps qs : List Place) (o : Option (List ℕ)) (r : List ℕ) → (o ≡ Some r → length qs + 1 ≡ length ps) → cond b (Some p.reply) o ≡ Some r → length (cond b ps (p ∷ qs)) + 1 ≡ length (p ∷ ps)
+one_less true p ps qs o r f e = omega arith
+one_less false p ps qs o r f e = let less = f e in omega (arith, less)
+
+-- and one for a key that has one
+pub length_without : (key : Key) (ps : List Place) (r : List ℕ) → cached_reply key ps ≡ Some r → length (without key ps) + 1 ≡ length ps
+length_without key [] r e = absurd (none_some e)
+length_without key (p ∷ ps) r e = one_less (same key p.key) p ps (without key ps) (cached_reply key ps) r (length_without key ps r) e
+
+-- a reply that was there takes no other's place
+pub found_with : (most : ℕ) (key : Key) (ps : List Place) (r : List ℕ) → length ps ≤ most → cached_reply key ps ≡ Some r → place_for key r ∷ without key ps ≡ with_reply most key (Some r) ps
+found_with most key ps r few e =
+    let less = length_without key ps r e in
+    ap (λ (l : List Place). place_for key r ∷ l) (sym (take_all (most - 1) (without key ps) (omega (arith, less, few))))
+
+-- one that was not there takes the last one's, where there are too many
+pub new_with : (most : ℕ) (key : Key) (ps : List Place) (r : List ℕ) → cached_reply key ps ≡ None → place_for key r ∷ take (most - 1) ps ≡ with_reply most key (Some r) ps
+new_with most key ps r e = ap (λ (l : List Place). place_for key r ∷ take (most - 1) l) (sym (without_none key ps e))

@@ -1,11 +1,11 @@
 -- What the places show of look-ups among what is kept.
-use Rattle.std.proofs.Common.{◌≡◌, ◌<◌, ℕ, zero, suc, length, arith, Bool, true, false, cond, List, [], ◌∷◌, ◌++◌, take, drop, is_some, Option, Some, None, refl, sym, ap, ◌∙◌}
+use Rattle.std.proofs.Common.{◌≡◌, ◌<◌, ◌≤◌, ◌-◌, ℕ, zero, suc, length, arith, Bool, true, false, cond, List, [], ◌∷◌, ◌++◌, take, drop, is_some, Option, Some, None, refl, sym, ap, subst, ◌∙◌}
 use Rattle.std.specs.Prelude.{slice_index_or, ⊤}
-use Rattle.std.specs.Option.{option_map_or}
 use Rattle.std.specs.List.{remove}
-use Rattle.std.proofs.lemmas.List.{map-append}
+use Rattle.std.proofs.Math.Seq.{take-append_seam}
+use Rattle.std.proofs.lemmas.List.{length-map, length_push, map-append}
 use Rattle.nfs_reply_cache.specs.declared.cached_reply.CachedReply.{CachedReply}
-use Rattle.nfs_reply_cache.specs.Places.{Key, Place, same, place_for, cached_reply, without, found_first}
+use Rattle.nfs_reply_cache.specs.Places.{Key, Place, same, place_for, cached_reply, without}
 use Rattle.nfs_reply_cache.specs.Shown.{IsFirstFor, key_of, moved_first, place_of, places_of}
 use Rattle.nfs_reply_cache.proofs.Places.{same_keys}
 
@@ -39,10 +39,6 @@ shows_found key n ks f = let it = found key n ks f in
     (it.0, it.1, map-append place_of (take 1 (drop n ks)) (remove ks n) ∙ ap (λ ps. ps ++ places_of (remove ks n)) it.2 ∙ ap (λ ps. place_for key it.0 ∷ ps) (others key n ks f))
 
 -- ---- what a look-up answers
-
--- what a place at the front is, by the reply that is kept
-pub front_by : (key : Key) (reply : List ℕ) (ps : List Place) → cached_reply key ps ≡ Some reply → found_first key ps ≡ place_for key reply ∷ without key ps
-front_by key reply ps e = ap (λ o. option_map_or (λ reply. place_for key reply ∷ without key ps) o ps) e
 
 pub none_some : {X : Type 0} {x : X} → None ≡ Some x → ⊥
 none_some e = cc
@@ -90,3 +86,18 @@ pub stood : (n : ℕ) (ks : List CachedReply) (k : CachedReply) → n < length k
 stood n [] k within is = absurd (omega (arith, within))
 stood zero (j ∷ ks) k within is = ap (λ (x : CachedReply). x ∷ []) is
 stood (suc n) (j ∷ ks) k within is = stood n ks k (omega (arith, within)) is
+
+-- ---- how many there are
+
+pub few_places : (ks : List CachedReply) (most : ℕ) → length ks ≤ most → length (places_of ks) ≤ most
+few_places ks most few = subst (λ n. n ≤ most) (sym (length-map ks place_of)) few
+
+-- those before the last one
+pub all_but_last : (ks rest : List CachedReply) (last : CachedReply) (most : ℕ) → ks ≡ rest ++ last ∷ [] → length ks ≡ most → take (most - 1) (places_of ks) ≡ places_of rest
+all_but_last ks rest last most is len =
+    let whole : length ks ≡ length (rest ++ last ∷ []) = ap length is in
+    let more = length_push rest last in
+    let shown = length-map rest place_of in
+    let n : most - 1 ≡ length (places_of rest) = omega (arith, len, whole, more, shown) in
+    ap (λ m. take m (places_of ks)) n ∙ ap (λ (l : List CachedReply). take (length (places_of rest)) (places_of l)) is
+    ∙ ap (take (length (places_of rest))) (map-append place_of rest (last ∷ [])) ∙ take-append_seam (places_of rest) (places_of (last ∷ []))

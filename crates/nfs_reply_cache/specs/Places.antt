@@ -1,6 +1,5 @@
 -- Cached replies, the most recently used first.
 use Rattle.std.specs.Prelude.{ℕ, ◌-◌, Bool, List, [], ◌∷◌, Option, Some, None, nat_eq, ◌&&◌, if◌then◌else◌, take}
-use Rattle.std.specs.Option.{option_map_or}
 use Rattle.std.specs.Cmp.Lexicographic.{pointwise}
 use Rattle.nfs_exports.specs.declared.addr.Addr.{Addr}
 
@@ -29,20 +28,12 @@ abbrev pub without : Key → List Place → List Place
 without key [] = []
 without key (p ∷ ps) = if same key p.key then ps else p ∷ without key ps
 
--- the place of a key goes first, if there is one
-abbrev pub found_first : Key → List Place → List Place
-found_first key ps = option_map_or (λ reply. place_for key reply ∷ without key ps) (cached_reply key ps) ps
-
--- with another reply in the first place
-abbrev pub with_first_reply : List ℕ → List Place → List Place
-with_first_reply reply [] = []
-with_first_reply reply (p ∷ ps) = place_for p.key reply ∷ ps
+-- The places once a call of this key was answered: a reply stands at the front then, and the last place goes where there are too many; where there was no memory they stay.
+abbrev pub with_reply : ℕ → Key → Option (List ℕ) → List Place → List Place
+with_reply most key None ps = ps
+with_reply most key (Some reply) ps = place_for key reply ∷ take (most - 1) (without key ps)
 
 -- the places, and how many there may be
 pub record Replies : Type 0 where
   pub places : List Place
   pub most : ℕ
-
--- a place at the front, for which the last one goes where there are too many
-abbrev pub with_first : Place → Replies → List Place
-with_first place kept = place ∷ take (kept.most - 1) kept.places

@@ -16,7 +16,7 @@ const LEAST_ROOM: usize = 256;
 
 /// A reply, with the record that it answered, where that came from, and its bucket.
 #[derive(Drop)]
-pub(crate) struct CachedReply {
+pub struct CachedReply {
     pub(crate) addr: Addr,
     pub(crate) bucket: u16,
     pub(crate) record: Vec<u8>,

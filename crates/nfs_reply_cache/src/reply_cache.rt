@@ -1,14 +1,13 @@
 //! The cached replies, the most recently used first.
-ghost use Rattle.std.specs.Prelude.{◌≡◌, ℕ, List, false, ◌<◌, ◌≤◌, [], ◌∷◌, None, Some, length, drop, take, is_some, IfOk, IfSome, IfNone, OnOk, OnErr};
+ghost use Rattle.std.specs.Prelude.{◌≡◌, ℕ, List, false, ◌<◌, ◌≤◌, [], None, Some, length, is_some, IfOk, IfSome, IfNone};
 ghost use Rattle.std.specs.Prelude.{slice_get, option_map, option_copied, All};
 ghost use Rattle.std.specs.List.{remove};
 ghost use Rattle.std.specs.VecDeque.{deque_len, deque_capacity};
-ghost use Rattle.nfs_reply_cache.specs.Places.{place_for, cached_reply, without, with_first, with_first_reply};
-ghost use Rattle.nfs_reply_cache.specs.Shown.{IsBucketed, IsFirstFor, bucket_of, places_of, moved_first};
+ghost use Rattle.nfs_reply_cache.specs.Places.{cached_reply, with_reply};
+ghost use Rattle.nfs_reply_cache.specs.Shown.{IsBucketed, IsFirstFor, bucket_of, key_of, places_of, moved_first};
 
 use crate::buckets::{Buckets, bucket_of};
-use crate::cached_reply::CachedReply;
-pub use crate::cached_reply::MAX_KEPT_BYTES;
+pub use crate::cached_reply::{CachedReply, MAX_KEPT_BYTES};
 use nfs_exports::addr::Addr;
 use std::alloc::{AllocError, Global};
 use std::collections::VecDeque;
@@ -18,13 +17,15 @@ use std::marker::Model;
 /// the most recently used first, and how many there may be.
 ///
 /// A place costs the bytes of its record, up to twice as many, or 256, and some 600 more; a server
-/// bounds the records of its streams.
+/// bounds the records of its streams. There is one place more, for the next record.
 #[derive(Drop)]
 pub struct ReplyCache {
     // The most recently used first, with room for as many as there may be.
     kept: VecDeque<CachedReply>,
     buckets: Buckets,
     most: usize,
+    // One that is free, whose memory is for the next record.
+    spare: Option<CachedReply>,
 }
 
 impl Model for ReplyCache {
@@ -52,6 +53,7 @@ impl ReplyCache {
             kept: VecDeque::with_capacity(alloc, most)?,
             buckets: Buckets::new(alloc)?,
             most,
+            spare: None,
         })
     }
 
@@ -74,8 +76,9 @@ impl ReplyCache {
     pub fn find(&mut self, addr: Addr, bytes: &[u8]) -> bool
         ensures found { result ≡ is_some (cached_reply (addr, bytes.now) self.old.places) }
         ensures none { result ≡ false → self.new.places ≡ self.old.places }
+        ensures absent { result ≡ false → cached_reply (addr, bytes.now) self.new.places ≡ None }
         ensures front { (reply : List ℕ) → cached_reply (addr, bytes.now) self.old.places ≡ Some reply
-            → self.new.places ≡ place_for (addr, bytes.now) reply ∷ without (addr, bytes.now) self.old.places }
+            → self.new.places ≡ with_reply self.old.most (addr, bytes.now) (Some reply) self.old.places }
         ensures most { self.new.most ≡ self.old.most }
     {
         let bucket = bucket_of(addr, bytes);
@@ -116,60 +119,55 @@ impl ReplyCache {
         }
     }
 
-    /// Takes a place at the front for a record that has none, with no reply yet; the last place goes
-    /// where there are too many. Refused where there is no memory; the places are then as before.
-    pub fn take_place(&mut self, addr: Addr, bytes: &[u8]) -> Result<(), AllocError>
-        ensures ok { OnOk result (self.new.places ≡ with_first (place_for (addr, bytes.now) []) self.old) }
-        ensures err { OnErr result (self.new.places ≡ self.old.places) }
-        ensures most { self.new.most ≡ self.old.most }
+    /// A place for the reply to a record, which [`ReplyCache::keep`] or [`ReplyCache::release`] takes. The
+    /// cached replies stay. Refused where there is no memory.
+    pub fn prepare(&mut self, addr: Addr, bytes: &[u8]) -> Result<CachedReply, AllocError>
+        ensures key { IfOk result (λ place. key_of place ≡ (addr, bytes.now)) }
+        ensures bucketed { IfOk result IsBucketed }
+        ensures same { self.new ≡ self.old }
     {
         let bucket = bucket_of(addr, bytes);
-        if self.kept.len() < self.most {
-            let kept = CachedReply::new(*self.kept.allocator(), bucket, addr, bytes)?;
-            self.kept.push_front_reserved(kept);
-            self.buckets.add(bucket);
-            return Ok(());
-        }
-        let Some(mut kept) = self.kept.pop_back() else {
-            unreachable!()
+        let Some(mut place) = self.spare.take() else {
+            return CachedReply::new(*self.kept.allocator(), bucket, addr, bytes);
         };
-        let went = kept.bucket;
-        match kept.renew(bucket, addr, bytes) {
-            Ok(()) => {
-                self.buckets.remove(went);
-                self.kept.push_front_reserved(kept);
-                self.buckets.add(bucket);
-                Ok(())
-            }
+        match place.renew(bucket, addr, bytes) {
+            Ok(()) => Ok(place),
             Err(error) => {
-                self.kept.push_back_reserved(kept);
+                self.spare = Some(place);
                 Err(error)
             }
         }
     }
 
-    /// Keeps the reply in the place at the front. It takes no memory.
-    pub fn keep(&mut self, reply: &[u8])
-        requires { length reply.now ≤ MAX_KEPT_BYTES }
-        ensures places { self.new.places ≡ with_first_reply reply.now self.old.places }
+    /// Caches the reply to the record of a place, which has none: it goes to the front, and the last one goes
+    /// where there are too many. It takes no memory.
+    pub fn keep(&mut self, mut place: CachedReply, reply: &[u8])
+        requires short { length reply.now ≤ MAX_KEPT_BYTES }
+        requires bucketed { IsBucketed place }
+        requires absent { cached_reply (key_of place) self.old.places ≡ None }
+        ensures places { self.new.places ≡ with_reply self.old.most (key_of place) (Some reply.now) self.old.places }
         ensures most { self.new.most ≡ self.old.most }
     {
-        let Some(mut first) = self.kept.pop_front() else {
+        place.answer(reply);
+        if self.kept.len() < self.most {
+            self.buckets.add(place.bucket);
+            self.kept.push_front_reserved(place);
             return;
+        }
+        let Some(last) = self.kept.pop_back() else {
+            unreachable!()
         };
-        first.answer(reply);
-        self.kept.push_front_reserved(first);
+        self.buckets.remove(last.bucket);
+        self.buckets.add(place.bucket);
+        self.kept.push_front_reserved(place);
+        self.spare = Some(last);
     }
 
-    /// Gives the place at the front back. It takes no memory.
-    pub fn give_back(&mut self)
-        ensures places { self.new.places ≡ drop 1 self.old.places }
-        ensures most { self.new.most ≡ self.old.most }
+    /// Takes back a place whose record gets no reply. The cached replies stay.
+    pub fn release(&mut self, place: CachedReply)
+        ensures { self.new ≡ self.old }
     {
-        let Some(first) = self.kept.pop_front() else {
-            return;
-        };
-        self.buckets.remove(first.bucket);
+        self.spare = Some(place);
     }
 }
 

@@ -28,7 +28,7 @@ use Rattle.nfs_server.specs.declared.audit_line.AuditLine.{AuditLine}
 use Rattle.nfs_server.specs.declared.audit_line.DenialReason.TheVariants as reason
 use Rattle.nfs_server.specs.declared.rpc_rules.RpcRule.{RpcRule}
 use Rattle.nfs_server.specs.declared.rpc_rules.RpcRule.TheVariants.{Arguments, Flavor, WeakCredential, Credential as RpcCredential}
-use Rattle.nfs_server.proofs.Performed.{no_choice}
+use Rattle.nfs_server.proofs.Performed.{with_memory}
 
 -- ---- the line that was held before
 
@@ -42,7 +42,7 @@ any_line_before true None Anew old line event answer new kept a = a
 pub whatever_line : (head : Result (Call × List ℕ) RpcFault) (old : Held) (line : Option AuditLine) (event : Event) (answer : Answer) (new : Held)
     → AnswersCalled head (record old { line = line }) event answer new → AnswersCalled head old event answer new
 whatever_line head old line event answer new a =
-    (a.0, a.1, any_line_before (calls_change event.addr head) (cached_reply (key_of event) old.kept) (Called head old.setup old.state event a.0 answer new.state) old line event answer new.state new.kept a.2)
+    (a.0, any_line_before (calls_change event.addr head) (cached_reply (key_of event) old.kept) (Called head old.setup old.state event a.0 answer new.state) old line event answer new.state new.kept a.1)
 
 -- ---- the first of a list that fails
 
@@ -96,10 +96,6 @@ module _ (old : Held) (event : Event) (call : Call) (bytes : List ℕ) where
   abbrev Answered : List RpcRule → Answer → Held → Type 0
   Answered rules answer new = AnswersBy rules old event call bytes answer new
 
-  -- whether a reply is kept for the record
-  abbrev is_kept : Bool
-  is_kept = is_some (cached_reply (key_of event) old.kept)
-
   -- a rule fails
   pub denied_by : (rules later : List RpcRule) (rule : RpcRule) (reply : List ℕ) (new : Held) → find (fails_rpc call bytes) rules ≡ Some rule
       → reply ≡ rpc_reply rule call.xid → new ≡ record old { line = Some (line_of event.addr call (reason.Rpc rule)) }
@@ -108,7 +104,7 @@ module _ (old : Held) (event : Event) (call : Call) (bytes : List ℕ) where
       let line = line_of event.addr call (reason.Rpc rule) in
       subst (λ n. Answered (rules ++ later) (reported reply n.line) n) (sym new_is)
       (subst (λ v. AnswersJudged v (request_of event.addr call bytes) old event call (reported reply (Some line)) (record old { line = Some line })) (sym (find_before (fails_rpc call bytes) rule rules later found))
-      (no_choice is_kept, refl, ((ap (λ r. denied r line) reply_is, refl), refl)))
+      (with_memory, ((ap (λ r. denied r line) reply_is, refl), refl)))
 
   -- the arguments can't be read
   pub denied_unread : (reply : List ℕ) (new : Held) → is_null call ≡ false → find (fails_rpc call bytes) caller_rules ≡ None → lacks_args call bytes ≡ true
@@ -137,9 +133,9 @@ module _ (old : Held) (event : Event) (call : Call) (bytes : List ℕ) where
     Asks choice = Requested (Some (OfNfs Caller_ args)) old.setup old.state event call choice answer new.state
 
     -- by the reply that is kept
-    by_kept : (o : Option (List ℕ)) → AnswersCached true o Anew old event answer new.state new.kept → (choice : Choice) × (choice.again ≡ is_some o) × AnswersCached true o (Asks choice) old event answer new.state new.kept
-    by_kept (Some reply) a = (no_choice true, refl, a)
-    by_kept None a = let p = a.0.0 false in (p.0, p.1, ((p.2, a.0.1), a.1))
+    by_kept : (o : Option (List ℕ)) → AnswersCached true o Anew old event answer new.state new.kept → (choice : Choice) × AnswersCached true o (Asks choice) old event answer new.state new.kept
+    by_kept (Some reply) a = (with_memory, a)
+    by_kept None a = (a.0.0.0, ((a.0.0.1, a.0.1), a.1))
 
     -- something of NFS that may change the tree
     pub change_requested : is_nfs call ≡ true → is_null call ≡ false → find (fails_rpc call bytes) caller_rules ≡ None → caller call.cred.body ≡ Some (credential_of cred) → args_in call.proc bytes ≡ Some args
@@ -147,23 +143,22 @@ module _ (old : Held) (event : Event) (call : Call) (bytes : List ℕ) where
     change_requested nfs other known cred_is args_is changes a =
         let by = by_kept (cached_reply (key_of event) old.kept) a in
         asked_so (OfNfs Caller_ args) answer new other known (nfs_lacks call bytes nfs ∙ ap is_none args_is) (nfs_asked event call bytes (credential_of cred) args nfs other cred_is args_is)
-        (by.0, by.1, subst (λ b. AnswersCached b (cached_reply (key_of event) old.kept) (Asks by.0) old event answer new.state new.kept) (sym changes) by.2)
+        (by.0, subst (λ b. AnswersCached b (cached_reply (key_of event) old.kept) (Asks by.0) old event answer new.state new.kept) (sym changes) by.1)
 
     -- something else of NFS
     pub anew_requested : is_nfs call ≡ true → is_null call ≡ false → find (fails_rpc call bytes) caller_rules ≡ None → caller call.cred.body ≡ Some (credential_of cred) → args_in call.proc bytes ≡ Some args
         → may_change args ≡ false → Anew → new.kept ≡ old.kept → Answered call_rules answer new
     anew_requested nfs other known cred_is args_is changes a kept =
-        let p = a.0 is_kept in
+        let p = a.0 in
         asked_so (OfNfs Caller_ args) answer new other known (nfs_lacks call bytes nfs ∙ ap is_none args_is) (nfs_asked event call bytes (credential_of cred) args nfs other cred_is args_is)
-        (p.0, p.1, subst (λ b. AnswersCached b (cached_reply (key_of event) old.kept) (Asks p.0) old event answer new.state new.kept) (sym changes) ((p.2, a.1), kept))
+        (p.0, subst (λ b. AnswersCached b (cached_reply (key_of event) old.kept) (Asks p.0) old event answer new.state new.kept) (sym changes) ((p.1, a.1), kept))
 
   -- something of MOUNT
   pub mount_requested : (args : MountArgs) (answer : Answer) (new : Held) → is_nfs call ≡ false → is_null call ≡ false → find (fails_rpc call bytes) caller_rules ≡ None → mount_args_in call.proc bytes ≡ Some args
       → new.state.tree ≡ old.state.tree → new.kept ≡ old.kept → AnswersMount args old.setup.exports old.state event.addr call answer new.state.mounts → Answered call_rules answer new
   mount_requested args answer new mount other known args_is tree kept performed =
-      let p = performed is_kept in
       asked_so (OfMount args) answer new other known (mount_lacks call bytes mount ∙ ap is_none args_is) (mount_asked event call bytes args mount other args_is)
-      (p.0, p.1, (subst (λ t. MountPerformed args old.setup.exports old.state event.addr call p.0 answer (record { tree = t; mounts = new.state.mounts })) (sym tree) p.2, kept))
+      (performed.0, (subst (λ t. MountPerformed args old.setup.exports old.state event.addr call performed.0 answer (record { tree = t; mounts = new.state.mounts })) (sym tree) performed.1, kept))
 
   -- the rules of the head are kept
   pub admitted : (answer : Answer) (new : Held) → find (fails_rpc call bytes) head_rules ≡ None → Answered call_rules answer new → Answered (head_rules ++ call_rules) answer new
@@ -183,4 +178,4 @@ module _ (old : Held) (event : Event) (call : Call) (bytes : List ℕ) where
       let none = find_after (fails_rpc call bytes) head_rules call_rules kept ∙ null_passes null in
       subst (λ v. AnswersJudged v (request_of event.addr call bytes) old event call (reported reply line) old) (sym none)
       (subst (λ r. AnswersJudged None r old event call (reported reply line) old) (sym asks)
-      (no_choice is_kept, refl, ((ap (reported reply) unset ∙ ap granted (reply_is ∙ sym (append-nil (accepted_text call.xid Success))), refl), refl)))
+      (with_memory, ((ap (reported reply) unset ∙ ap granted (reply_is ∙ sym (append-nil (accepted_text call.xid Success))), refl), refl)))

@@ -12,6 +12,7 @@ pub mod Denied
 pub mod Spared
 pub mod Short
 pub mod Changes
+pub mod SurelyHeld
 pub mod Feeding
 pub mod OneRecord
 pub mod Waiting

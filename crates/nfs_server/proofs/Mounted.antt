@@ -34,7 +34,7 @@ use Rattle.nfs_server.specs.Steps.{MountDecided, MountDone, State, success}
 use Rattle.nfs_server.specs.declared.audit_line.AuditLine.{AuditLine}
 use Rattle.nfs_server.specs.declared.audit_line.DenialReason.TheVariants as reason
 use Rattle.nfs_server.specs.ReplyRoom.{Adds}
-use Rattle.nfs_server.proofs.Performed.{no_choice}
+use Rattle.nfs_server.proofs.Performed.{with_memory, without_memory}
 use Rattle.nfs_server.proofs.Room.{adds, adds_none}
 use Rattle.nfs_xdr.specs.Reading.{numbered}
 use Rattle.nfs_xdr.specs.Written.{Written}
@@ -81,14 +81,14 @@ module _ (t : Tree) (exports : List (List Export)) (addr : Addr) (call : Call) (
   left answer mounts l wrote = (ap granted (wrote (mount_text answer) l.2.bytes), ap StateOf l.1, l.3)
 
   granted_left : (args : MountArgs) → came ≡ Granted → MountsAs args t exports addr came old new before after → Replies → AnswersMount args exports (StateOf old) addr call (reported reply None) new
-  granted_left asked.Null e m wrote = λ again. (no_choice again, refl, left result.Null old m wrote)
+  granted_left asked.Null e m wrote = (with_memory, left result.Null old m wrote)
   granted_left (asked.Mount path) e m wrote =
       let g : Mounts t exports addr path Granted old new before after = subst (λ x. Mounts t exports addr path x old new before after) e m in
-      λ again. (no_choice again, refl, subst (λ v. MountDecided v true (StateOf old) addr path call (reported reply None) (StateOf new)) (sym g.0) (g.2, g.3, (ap granted (wrote (mount_text (granted_answer g.2)) g.4.bytes), ap StateOf g.1, g.5)))
-  granted_left asked.Dump e m wrote = λ again. (no_choice again, refl, left (dump_answer t old) old m wrote)
-  granted_left (asked.Unmount path) e m wrote = λ again. (no_choice again, refl, left result.Unmount (after_umnt t addr path old) m wrote)
-  granted_left asked.UnmountAll e m wrote = λ again. (no_choice again, refl, left result.UnmountAll (without_addr addr old) m wrote)
-  granted_left asked.Export e m wrote = λ again. (no_choice again, refl, left (export_answer t exports) old m wrote)
+      (with_memory, subst (λ v. MountDecided v true (StateOf old) addr path call (reported reply None) (StateOf new)) (sym g.0) (g.2, g.3, (ap granted (wrote (mount_text (granted_answer g.2)) g.4.bytes), ap StateOf g.1, g.5)))
+  granted_left asked.Dump e m wrote = (with_memory, left (dump_answer t old) old m wrote)
+  granted_left (asked.Unmount path) e m wrote = (with_memory, left result.Unmount (after_umnt t addr path old) m wrote)
+  granted_left asked.UnmountAll e m wrote = (with_memory, left result.UnmountAll (without_addr addr old) m wrote)
+  granted_left asked.Export e m wrote = (with_memory, left (export_answer t exports) old m wrote)
 
   pub granted_mount : (args : MountArgs) (line : Option AuditLine) → line ≡ None → came ≡ Granted → MountsAs args t exports addr came old new before after → Replies → AnswersMount args exports (StateOf old) addr call (reported reply line) new
   granted_mount args line none e m wrote = subst (λ l. AnswersMount args exports (StateOf old) addr call (reported reply l) new) (sym none) (granted_left args e m wrote)
@@ -99,7 +99,7 @@ module _ (t : Tree) (exports : List (List Export)) (addr : Addr) (call : Call) (
   denied_mount (asked.Mount path) line rule e m wrote line_is =
       let d : Mounts t exports addr path (Denied rule) old new before after = subst (λ x. Mounts t exports addr path x old new before after) e m in
       let text = mount_text (denied_answer rule) in
-      λ again. (no_choice again, refl, subst (λ v. MountDecided v true (StateOf old) addr path call (reported reply (Some line)) (StateOf new)) (sym d.0) (ap (λ r. denied r line) (wrote text d.2.bytes) ∙ ap (denied (success call text)) line_is, ap StateOf d.1, d.3))
+      (with_memory, subst (λ v. MountDecided v true (StateOf old) addr path call (reported reply (Some line)) (StateOf new)) (sym d.0) (ap (λ r. denied r line) (wrote text d.2.bytes) ∙ ap (denied (success call text)) line_is, ap StateOf d.1, d.3))
   denied_mount asked.Dump line rule e m wrote line_is = absurd (true≢false (ap is_granted (sym m.0 ∙ e)))
   denied_mount (asked.Unmount path) line rule e m wrote line_is = absurd (true≢false (ap is_granted (sym m.0 ∙ e)))
   denied_mount asked.UnmountAll line rule e m wrote line_is = absurd (true≢false (ap is_granted (sym m.0 ∙ e)))
@@ -110,9 +110,7 @@ module _ (t : Tree) (exports : List (List Export)) (addr : Addr) (call : Call) (
   refused_mount asked.Null line refused e m reply_is line_is = absurd (true≢false (ap is_granted (sym m.0 ∙ e)))
   refused_mount (asked.Mount path) line refused e m reply_is line_is =
       let r : Mounts t exports addr path (Memory refused) old new before after = subst (λ x. Mounts t exports addr path x old new before after) e m in
-      λ again.
-      let choice : Choice = record { has_memory = false; again = again } in
-      (choice, refl, subst (λ v. MountDecided v false (StateOf old) addr path call (reported reply (Some line)) (StateOf new)) (sym r.0) (r.1, ap (λ x. denied x line) reply_is ∙ ap (denied (accepted_text call.xid SystemErr)) line_is, ap StateOf r.2))
+      (without_memory, subst (λ v. MountDecided v false (StateOf old) addr path call (reported reply (Some line)) (StateOf new)) (sym r.0) (r.1, ap (λ x. denied x line) reply_is ∙ ap (denied (accepted_text call.xid SystemErr)) line_is, ap StateOf r.2))
   refused_mount asked.Dump line refused e m reply_is line_is = absurd (true≢false (ap is_granted (sym m.0 ∙ e)))
   refused_mount (asked.Unmount path) line refused e m reply_is line_is = absurd (true≢false (ap is_granted (sym m.0 ∙ e)))
   refused_mount asked.UnmountAll line refused e m reply_is line_is = absurd (true≢false (ap is_granted (sym m.0 ∙ e)))

@@ -41,9 +41,12 @@ adds_result c (Some doing) (Some (Memory refused)) new before after p = adds_non
 
 -- ---- the steps
 
--- nothing is chosen but what is said of a retransmission
-abbrev pub no_choice : Bool → Choice
-no_choice again = record { has_memory = true; again = again }
+-- there is memory
+abbrev pub with_memory : Choice
+with_memory = record { has_memory = true }
+
+abbrev pub without_memory : Choice
+without_memory = record { has_memory = false }
 
 -- a procedure that may find no memory may change the tree
 wanting : (args : NfsArgs) (one two : Subject) → on_some (doing_of args) false (λ d. d.takes_memory one two) ≡ true → may_change args ≡ true
@@ -71,14 +74,14 @@ wanting (nfs.Pathconf a) one two h = absurd (false≢true h)
 wanting (nfs.Commit a) one two h = absurd (false≢true h)
 
 abbrev pub Performs : Option Doing → Scene → Call → Answer → Tree → Type 0
-Performs o c call answer new = (again : Bool) → (choice : Choice) × (choice.again ≡ again) × Performed o c call choice answer new
+Performs o c call answer new = (choice : Choice) × Performed o c call choice answer new
 
 pub nothing_done : (c : Scene) (o : Option Doing) (came : Option Done) (new : Tree) (before after : Written) (call : Call) (reply : List ℕ) (line : Option AuditLine) → line ≡ None → came ≡ None → PerformsAs c o came new before after
     → ((text : List ℕ) → after.bytes ≡ before.bytes ++ text → reply ≡ success call text)
     → Performs o c call (reported reply line) new
 nothing_done c None came new before after call reply line unset e performs wrote =
     let p : PerformsAs c None None new before after = subst (λ d. PerformsAs c None d new before after) e performs in
-    λ again. (no_choice again, refl, (ap (reported reply) unset ∙ ap granted (wrote [] (ap (λ (w : Written). w.bytes) p.1 ∙ sym (append-nil before.bytes))), p.0))
+    (with_memory, (ap (reported reply) unset ∙ ap granted (wrote [] (ap (λ (w : Written). w.bytes) p.1 ∙ sym (append-nil before.bytes))), p.0))
 nothing_done c (Some doing) came new before after call reply line unset e performs wrote = absurd (subst (λ d. PerformsAs c (Some doing) d new before after) e performs)
 
 pub granted_done : (c : Scene) (o : Option Doing) (came : Option Done) (new : Tree) (before after : Written) (call : Call) (reply : List ℕ) (line : Option AuditLine) → line ≡ None → came ≡ Some Granted → PerformsAs c o came new before after
@@ -87,10 +90,8 @@ pub granted_done : (c : Scene) (o : Option Doing) (came : Option Done) (new : Tr
 granted_done c None came new before after call reply line unset e performs wrote = absurd (subst (λ d. PerformsAs c None d new before after) e performs)
 granted_done c (Some doing) came new before after call reply line unset e performs wrote =
     let h : HasEffect c doing new before after = subst (λ d. PerformsAs c (Some doing) d new before after) e performs in
-    λ again.
-    let choice : Choice = record { has_memory = true; again = again } in (
-      choice,
-      refl,
+    (
+      with_memory,
       subst (λ v. Decided v c doing call (reported reply line) new) (sym h.granted.verdict)
           (record { one = h.one; two = h.two; subjects = h.granted.subjects; tag = h.tag; tag_is = h.tag_is; new_is = h.new_is; answer_is = ap (reported reply) unset ∙ ap granted (wrote _ h.written.text.bytes); encoded = h.written.encoded }),
     )
@@ -102,9 +103,8 @@ denied_done c None came new before after call reply line rule uid e performs wro
 denied_done c (Some doing) came new before after call reply line rule uid e performs wrote line_is =
     let h : HasFailed c doing rule uid new before after = subst (λ d. PerformsAs c (Some doing) d new before after) e performs in
     let text = nfs_text (doing.denied (status_of rule) (seen_in c)) in
-    λ again. (
-      no_choice again,
-      refl,
+    (
+      with_memory,
       subst (λ v. Decided v c doing call (reported reply (Some line)) new) (sym h.verdict)
           (record {
             new_is = h.new_is;
@@ -119,10 +119,8 @@ pub refused_done : (c : Scene) (o : Option Doing) (came : Option Done) (new : Tr
 refused_done c None came new before after call reply line refused asks e performs reply_is line_is = absurd (subst (λ d. PerformsAs c None d new before after) e performs)
 refused_done c (Some doing) came new before after call reply line refused asks e performs reply_is line_is =
     let h : HasNoMemory c doing new before after = subst (λ d. PerformsAs c (Some doing) d new before after) e performs in
-    λ again.
-    let choice : Choice = record { has_memory = false; again = again } in (
-      choice,
-      refl,
+    (
+      without_memory,
       subst (λ b. Refusable b (Some doing) c call (reported reply (Some line)) new) (sym (wanting c.args h.one h.two (ap (λ o. on_some o false (λ d. d.takes_memory h.one h.two)) asks ∙ h.takes)))
           (record { new_is = h.new_is; answer_is = ap (λ r. denied r line) reply_is ∙ ap (denied (accepted_text call.xid SystemErr)) line_is }),
     )
@@ -131,10 +129,8 @@ refused_done c (Some doing) came new before after call reply line refused asks e
 pub no_place : (c : Scene) (o : Option Doing) (new : Tree) (call : Call) (reply : List ℕ) (line : AuditLine) → may_change c.args ≡ true → new ≡ c.tree
     → reply ≡ accepted_text call.xid SystemErr → line ≡ line_of c.caller.addr call reason.Memory
     → Performs o c call (reported reply (Some line)) new
-no_place c o new call reply line changes new_is reply_is line_is = λ again.
-    let choice : Choice = record { has_memory = false; again = again } in (
-      choice,
-      refl,
+no_place c o new call reply line changes new_is reply_is line_is = (
+      without_memory,
       subst (λ b. Refusable b o c call (reported reply (Some line)) new) (sym changes)
           (record { new_is = new_is; answer_is = ap (λ r. denied r line) reply_is ∙ ap (denied (accepted_text call.xid SystemErr)) line_is }),
     )

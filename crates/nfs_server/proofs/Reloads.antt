@@ -28,6 +28,5 @@ module _ (history : History) (exports : List (List Export)) where
     run = same_run history.setups (reloaded history exports).setups history.opening history.done old.state was fits.run;
     in_force = λ n later. ap (λ b. if b then history.setups n else exporting exports (history.setups n)) (le-ltb n (length history.done) later)
         ∙ ap (exporting exports) (fits.in_force n later);
-    held = fits.held;
-    true_to = fits.true_to;
+    cached = fits.cached;
   }

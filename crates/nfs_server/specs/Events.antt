@@ -15,10 +15,9 @@ pub record Answer : Type 0 where
   pub reply : Option (List ℕ)
   pub line : Option AuditLine
 
--- what a server may choose at an event: whether there is memory, and whether a retransmission that isn't surely held is answered as one
+-- the one thing about an event that nothing before it tells: whether there is memory
 pub record Choice : Type 0 where
   pub has_memory : Bool
-  pub again : Bool
 
 -- an event that was answered, and the choice that was made
 pub record Done : Type 0 where

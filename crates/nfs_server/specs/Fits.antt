@@ -1,10 +1,10 @@
 -- Which histories fit a server. The server stores none: a history is the caller's.
-use Rattle.std.specs.Prelude.{◌≡◌, ℕ, ◌+◌, ◌<◌, ◌≤◌, List, [], ◌∷◌, length, Option, Some, take, if◌then◌else◌, nat_lt}
+use Rattle.std.specs.Prelude.{◌≡◌, ℕ, ◌≤◌, List, [], ◌∷◌, length, Option, if◌then◌else◌, nat_lt}
 use Rattle.nfs_exports.specs.declared.export_table.Export.{Export}
 use Rattle.nfs_inodes.specs.Law.{Law}
-use Rattle.nfs_reply_cache.specs.Places.{Key, Place, cached_reply}
+use Rattle.nfs_reply_cache.specs.Places.{Place}
 use Rattle.nfs_server.specs.Events.{Event, Answer, Choice, Done}
-use Rattle.nfs_server.specs.Retransmissions.{Earlier, earlier}
+use Rattle.nfs_server.specs.Retransmissions.{cached_after}
 use Rattle.nfs_server.specs.Steps.{Setup, State, Step, IsRun}
 use Rattle.nfs_server.specs.declared.audit_line.AuditLine.{AuditLine}
 
@@ -47,24 +47,13 @@ pub record IsOpening (opening : State) : Type 0 where
   pub lawful : Law opening.tree
   pub unmounted : opening.mounts ≡ []
 
--- where fewer changing calls came after the earlier one of a key than there are places, its reply stands among as many of the first kept, and one more
-abbrev pub AreHeld : ℕ → List Done → List Place → Type 0
-AreHeld places history kept = (key : Key) (before : Earlier) → earlier key history ≡ Some before → before.since < places
-    → cached_reply key (take (before.since + 1) kept) ≡ Some before.reply
-
--- each cached reply is that of the earlier call of its key
-abbrev pub AreTrue : List Done → List Place → Type 0
-AreTrue history kept = (key : Key) (reply : List ℕ) → cached_reply key kept ≡ Some reply
-    → (since : ℕ) × (earlier key history ≡ Some (record { since = since; reply = reply }))
-
 -- The history is a run from such an opening that ends in what the server holds, whose setup is in force from there on,
--- and the cached replies are those of its calls. One call moves a cached reply back by at most one place.
+-- and the cached replies are those that it leaves.
 pub record Fits (history : History) (s : Held) : Type 0 where
   pub opens : IsOpening history.opening
   pub run : IsRun history.setups history.opening history.done s.state
   pub in_force : (n : ℕ) → length history.done ≤ n → history.setups n ≡ s.setup
-  pub held : AreHeld s.setup.places history.done s.kept
-  pub true_to : AreTrue history.done s.kept
+  pub cached : s.kept ≡ cached_after s.setup.places history.done
 
 -- one more event is a step after a history that fits, and the longer history fits
 abbrev pub GoesOn : History → Held → Event → Choice → Answer → Held → Type 0

@@ -7,6 +7,7 @@ pub mod InMemory
 pub mod ReplyRoom
 pub mod RpcAnswers
 pub mod Retransmissions
+pub mod SurelyHeld
 pub mod Denying
 pub mod Steps
 pub mod Fits

@@ -1,5 +1,5 @@
 -- What one event does to a server, said without a history and by some choice.
-use Rattle.std.specs.Prelude.{◌≡◌, ℕ, ◌+◌, ◌-◌, ◌≤◌, Bool, true, false, List, ◌∷◌, Option, Some, None, Result, is_some, take}
+use Rattle.std.specs.Prelude.{◌≡◌, ℕ, Bool, true, false, List, Option, Some, None, Result}
 use Rattle.std.specs.List.{find}
 use Rattle.nfs_args.specs.MountAnswers.{mount_text}
 use Rattle.nfs_args.specs.declared.mount_answer.MountAnswer.{MountAnswer}
@@ -10,7 +10,7 @@ use Rattle.nfs_args.specs.declared.mount_args.MountArgs.TheVariants as asked
 use Rattle.nfs_exports.specs.declared.addr.Addr.{Addr}
 use Rattle.nfs_exports.specs.declared.export_table.Export.{Export}
 use Rattle.nfs_inodes.specs.Tree.{Tree}
-use Rattle.nfs_reply_cache.specs.Places.{Key, Place, cached_reply, place_for, without}
+use Rattle.nfs_reply_cache.specs.Places.{Place, cached_reply, with_reply}
 use Rattle.nfs_mount.specs.MountAnswers.{IsMountEncoded, Mounts, dump_answer, export_answer}
 use Rattle.nfs_mount.specs.Mounts.{after_umnt, without_addr}
 use Rattle.nfs_mount.specs.declared.mount.Mount.{Mount}
@@ -24,33 +24,28 @@ use Rattle.nfs_rpc.specs.Calls.{Call, head_at}
 use Rattle.nfs_rpc.specs.declared.call.RpcFault.{RpcFault}
 use Rattle.nfs_server.specs.Events.{Event, Answer, Choice, granted}
 use Rattle.nfs_server.specs.Fits.{Held}
-use Rattle.nfs_server.specs.Retransmissions.{calls_change, is_change, is_refused, key_of}
+use Rattle.nfs_server.specs.Retransmissions.{calls_change, is_change, key_of, standing}
 use Rattle.nfs_server.specs.Requests.{Request, request_of}
 use Rattle.nfs_server.specs.RpcRules.{fails_rpc}
 use Rattle.nfs_server.specs.Steps.{Called, Judged, MountPerformed, Performed, State, scene_of}
 use Rattle.nfs_server.specs.declared.rpc_rules.RpcRule.{RpcRule}
 use Rattle.nfs_xdr.specs.Written.{Written, Appends}
 
--- The places after a changing call that isn't kept: without memory the last ones may be lost, one more than there is room for; else the reply has the first.
-abbrev pub Keeps : Bool → ℕ → Key → List Place → Answer → List Place → Type 0
-Keeps true places key old answer new = (n : ℕ) × (places ≤ n + 1) × (new ≡ take n old)
-Keeps false places key old answer new = (reply : List ℕ) × (answer.reply ≡ Some reply) × (new ≡ place_for key reply ∷ take (places - 1) old)
-
--- By whether the call is a changing one, and the reply that is kept for it. `Anew` is what it may be answered where none is.
+-- By whether the call is a changing one, and the reply that is cached for it. `Anew` is what it may be answered where none is.
 abbrev pub AnswersCached : Bool → Option (List ℕ) → Type 0 → Held → Event → Answer → State → List Place → Type 0
 AnswersCached false reply Anew old event answer new kept = Anew × (kept ≡ old.kept)
 AnswersCached true (Some reply) Anew old event answer new kept = (answer ≡ granted reply) × (new ≡ old.state)
-    × (kept ≡ place_for (key_of event) reply ∷ without (key_of event) old.kept)
-AnswersCached true None Anew old event answer new kept = Anew × Keeps (is_refused answer.line) old.setup.places (key_of event) old.kept answer kept
+    × (kept ≡ with_reply old.setup.places (key_of event) (Some reply) old.kept)
+AnswersCached true None Anew old event answer new kept = Anew × (kept ≡ with_reply old.setup.places (key_of event) (standing answer) old.kept)
 
 -- a call, by the first rule of RPC that fails, and what it asks for
 abbrev pub AnswersJudged : Option RpcRule → Option Request → Held → Event → Call → Answer → Held → Type 0
-AnswersJudged failure request old event call answer new = (choice : Choice) × (choice.again ≡ is_some (cached_reply (key_of event) old.kept))
+AnswersJudged failure request old event call answer new = (choice : Choice)
     × AnswersCached (is_change failure request) (cached_reply (key_of event) old.kept) (Judged failure request old.setup old.state event call choice answer new.state) old event answer new.state new.kept
 
 -- a record
 abbrev pub AnswersCalled : Result (Call × List ℕ) RpcFault → Held → Event → Answer → Held → Type 0
-AnswersCalled head old event answer new = (choice : Choice) × (choice.again ≡ is_some (cached_reply (key_of event) old.kept))
+AnswersCalled head old event answer new = (choice : Choice)
     × AnswersCached (calls_change event.addr head) (cached_reply (key_of event) old.kept) (Called head old.setup old.state event choice answer new.state) old event answer new.state new.kept
 
 abbrev pub AnswersRecord : Held → Event → Answer → Held → Type 0
@@ -60,14 +55,13 @@ AnswersRecord old event answer new = (new.setup ≡ old.setup) × AnswersCalled 
 abbrev pub AnswersBy : List RpcRule → Held → Event → Call → List ℕ → Answer → Held → Type 0
 AnswersBy rules old event call bytes answer new = AnswersJudged (find (fails_rpc call bytes) rules) (request_of event.addr call bytes) old event call answer new
 
--- and of a call of NFS that keeps them all, whichever is chosen of a retransmission
+-- and of a call of NFS that keeps them all
 abbrev pub AnswersCall : Scene → Call → Answer → Tree → Type 0
-AnswersCall c call answer new = (again : Bool) → (choice : Choice) × (choice.again ≡ again) × Performed (doing_of c.args) c call choice answer new
+AnswersCall c call answer new = (choice : Choice) × Performed (doing_of c.args) c call choice answer new
 
 -- and of one of MOUNT
 abbrev pub AnswersMount : MountArgs → List (List Export) → State → Addr → Call → Answer → List Mount → Type 0
-AnswersMount args exports old addr call answer mounts = (again : Bool)
-    → (choice : Choice) × (choice.again ≡ again)
+AnswersMount args exports old addr call answer mounts = (choice : Choice)
     × MountPerformed args exports old addr call choice answer (record { tree = old.tree; mounts = mounts })
 
 -- the scene of a call to a server

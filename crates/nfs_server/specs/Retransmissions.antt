@@ -1,10 +1,10 @@
 -- Retransmissions: how they are known, and by which reply they are answered.
-use Rattle.std.specs.Prelude.{ℕ, ◌+◌, Bool, true, false, ◌&&◌, ◌||◌, List, [], ◌∷◌, Option, Some, None, Result, Ok, Err, is_none, nat_lt, if◌then◌else◌}
+use Rattle.std.specs.Prelude.{ℕ, Bool, true, false, ◌&&◌, List, [], ◌∷◌, Option, Some, None, Result, Ok, Err, is_none, if◌then◌else◌}
 use Rattle.nfs_args.specs.declared.args.NfsArgs.{NfsArgs}
 use Rattle.nfs_args.specs.Encoding.{procedure_of}
 use Rattle.nfs_args.specs.Procedures as procedures
 use Rattle.nfs_exports.specs.declared.addr.Addr.{Addr}
-use Rattle.nfs_reply_cache.specs.Places.{Key, same}
+use Rattle.nfs_reply_cache.specs.Places.{Key, Place, cached_reply, with_reply}
 use Rattle.nfs_rpc.specs.Calls.{Call, head_at}
 use Rattle.nfs_rpc.specs.declared.call.RpcFault.{RpcFault}
 use Rattle.nfs_server.specs.Events.{Event, Answer, Done}
@@ -39,7 +39,7 @@ calls_change addr (Ok head) = is_change (rpc_failure_of head.0 head.1) (request_
 abbrev pub is_changing : Event → Bool
 is_changing event = calls_change event.addr (head_at event.bytes)
 
--- ---- earlier calls
+-- ---- the reply cache
 
 -- a retransmission is known by the address and the record
 abbrev pub key_of : Event → Key
@@ -58,29 +58,13 @@ is_refused (Some line) = wants_memory line.reason
 abbrev pub standing : Answer → Option (List ℕ)
 standing answer = if is_refused answer.line then None else answer.reply
 
--- an earlier changing call: how many events with changing calls came after it, and its reply
-pub record Earlier : Type 0 where
-  pub since : ℕ
-  pub reply : List ℕ
-
--- one more changing call, which had this reply for the key or none
-abbrev pub one_later : Option (List ℕ) → Option Earlier → Option Earlier
-one_later (Some reply) before = Some (record { since = 0; reply = reply })
-one_later None (Some before) = Some (record { since = before.since + 1; reply = before.reply })
-one_later None None = None
-
--- the latest event with a changing call of this address and record that was answered otherwise than by SYSTEM_ERR; the history has the newest event first
-abbrev pub earlier : Key → List Done → Option Earlier
-earlier key [] = None
-earlier key (d ∷ history) = if is_changing d.event
-    then one_later (if same key (key_of d.event) then standing d.answer else None) (earlier key history) else earlier key history
-
--- Its reply, where it is surely held: fewer events with changing calls came after it than there are places.
--- Where it isn't, the server may choose to give it all the same.
-abbrev pub reply_again : ℕ → Bool → Option Earlier → Option (List ℕ)
-reply_again places again None = None
-reply_again places again (Some before) = if nat_lt before.since places || again then Some before.reply else None
+-- The reply cache after a history, the most recently used first: each changing call puts its reply at the front, a retransmission its first one once
+-- more; the least recently used goes where there are too many; want of memory leaves all. The history has the newest event first.
+abbrev pub cached_after : ℕ → List Done → List Place
+cached_after places [] = []
+cached_after places (d ∷ history) = if is_changing d.event
+    then with_reply places (key_of d.event) (standing d.answer) (cached_after places history) else cached_after places history
 
 -- the reply by which a retransmission is answered
-abbrev pub first_reply : ℕ → Bool → List Done → Event → Option (List ℕ)
-first_reply places again history event = if is_changing event then reply_again places again (earlier (key_of event) history) else None
+abbrev pub first_reply : ℕ → List Done → Event → Option (List ℕ)
+first_reply places history event = if is_changing event then cached_reply (key_of event) (cached_after places history) else None

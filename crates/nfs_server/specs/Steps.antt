@@ -147,7 +147,7 @@ Retransmitted None setup old event choice answer new = Called (head_at event.byt
 
 -- one event after a history, by the first case that applies
 abbrev pub Step : Setup → List Done → State → Event → Choice → Answer → State → Type 0
-Step setup history old event choice answer new = Retransmitted (first_reply setup.places choice.again history event) setup old event choice answer new
+Step setup history old event choice answer new = Retransmitted (first_reply setup.places history event) setup old event choice answer new
 
 -- The history, the newest event first, is a run from the opening state to this one. Each event is judged by the exports in force when it came: the setups say which after so many events.
 abbrev pub IsRun : (ℕ → Setup) → State → List Done → State → Type 0

@@ -1,6 +1,7 @@
 //! Laws over the definitions alone.
 ghost use Rattle.nfs_server.specs.Cases.{CallsCanBeRead, FoundHasHandle};
 ghost use Rattle.nfs_server.specs.Forward.{RunsForward};
+ghost use Rattle.nfs_server.specs.SurelyHeld.{NoneButTheFirst, SurelyHeld};
 ghost use Rattle.nfs_server.specs.Together.{FeedsAreOneHistory};
 
 /// A history has its newest event first. Read from its first event on, a run is one step after
@@ -22,4 +23,12 @@ pub fn no_case_is_left()
 /// records of its own stream, in their order, as if no other were there.
 pub fn feeds_are_one_history()
     ensures { FeedsAreOneHistory }
+{}
+
+/// A retransmission that is surely held in the reply cache gets its first reply: fewer events with changing
+/// calls came after the latest call of its address and record than the cache has places. No retransmission
+/// gets another reply of before.
+pub fn held_retransmissions_get_their_first_reply()
+    ensures surely { SurelyHeld }
+    ensures first { NoneButTheFirst }
 {}

@@ -383,11 +383,14 @@ impl Server {
             give_again(&self.kept, out);
             return;
         }
-        if let Err(refused) = self.kept.take_place(event.addr, event.bytes) {
-            give_up(out, start, head.xid, refused);
-            self.line = Some(AuditLine::of(event.addr, head, DenialReason::Memory));
-            return;
-        }
+        let place = match self.kept.prepare(event.addr, event.bytes) {
+            Ok(place) => place,
+            Err(refused) => {
+                give_up(out, start, head.xid, refused);
+                self.line = Some(AuditLine::of(event.addr, head, DenialReason::Memory));
+                return;
+            }
+        };
         let call = CallContext {
             table: &self.table,
             caller: Caller {
@@ -398,9 +401,9 @@ impl Server {
         };
         answer_call(out, head, &mut self.tree, &call, args, &mut self.line);
         if wants_memory(&self.line) {
-            self.kept.give_back();
+            self.kept.release(place);
         } else {
-            self.kept.keep(written(out, start));
+            self.kept.keep(place, written(out, start));
         }
     }
 

@@ -1,10 +1,11 @@
 use Rattle.std.proofs.Common.{◌≡◌, ◌≤◌, ℕ, List, ◌∷◌, length, is_some, None, Some, true, All, sym, ap, subst, ◌∙◌}
 use Rattle.std.proofs.lemmas.Bool.Decides.{Decides-eqb}
 use Rattle.nfs_reply_cache.specs.declared.cached_reply.CachedReply.{CachedReply}
-use Rattle.nfs_reply_cache.specs.Places.{Key, Replies, cached_reply, place_for, without}
+use Rattle.nfs_reply_cache.specs.Places.{Key, Replies, cached_reply, place_for, with_reply, without}
 use Rattle.nfs_reply_cache.specs.Shown.{AreCounted, IsBucketed, bucket_of, count_at, in_bucket, places_of}
 use Rattle.nfs_reply_cache.proofs.Counts.{bucket_bound, bucketed_moved, counted_moved, length_moved, none_in}
-use Rattle.nfs_reply_cache.proofs.Shows.{first_within, none_some, same_reply, shows_found}
+use Rattle.nfs_reply_cache.proofs.Lookups.{found_with}
+use Rattle.nfs_reply_cache.proofs.Shows.{few_places, first_within, none_some, same_reply, shows_found}
 use Rattle.nfs_reply_cache.proofs.reply_cache.ReplyCache.find.Goals as goal
 use Rattle.nfs_reply_cache.proofs.reply_cache.ReplyCache.find.Goals.{Then-is_empty}
 
@@ -19,6 +20,9 @@ none c =
 
 pub returns-then-is_empty-clause-found : goal.returns-then-is_empty-clause-found
 returns-then-is_empty-clause-found c = ap is_some (sym (none c))
+
+pub returns-then-is_empty-clause-absent : goal.returns-then-is_empty-clause-absent
+returns-then-is_empty-clause-absent c = λ e. none c
 
 pub returns-then-is_empty-clause-front : goal.returns-then-is_empty-clause-front
 returns-then-is_empty-clause-front c = λ reply e. absurd (none_some (sym (none c) ∙ e))
@@ -47,8 +51,10 @@ returns-in-Some-clause-found c =
 
 pub returns-in-Some-clause-front : goal.returns-in-Some-clause-front
 returns-in-Some-clause-front c = λ reply e.
-    let key : Key = (c.args.addr, c.args.bytes.now) in let it = shows_found key c.in-Some.place c.self.inside.kept.items c.in-Some.ensures.some in
-    let is : cached_reply key (places_of c.self.inside.kept.items) ≡ Some reply = ap (λ (r : Replies). cached_reply key r.places) c.self.view_is ∙ e in
+    let inside = c.self.inside in let keeps = c.self.invariant in
+    let key : Key = (c.args.addr, c.args.bytes.now) in let it = shows_found key c.in-Some.place inside.kept.items c.in-Some.ensures.some in
+    let is : cached_reply key (places_of inside.kept.items) ≡ Some reply = ap (λ (r : Replies). cached_reply key r.places) c.self.view_is ∙ e in
     ap places_of c.move_first.ensures.items ∙ it.2
-    ∙ ap (λ (r : List ℕ). place_for key r ∷ without key (places_of c.self.inside.kept.items)) (same_reply it.0 reply (sym it.1 ∙ is))
-    ∙ ap (λ (r : Replies). place_for key reply ∷ without key r.places) c.self.view_is
+    ∙ ap (λ (r : List ℕ). place_for key r ∷ without key (places_of inside.kept.items)) (same_reply it.0 reply (sym it.1 ∙ is))
+    ∙ found_with inside.most key (places_of inside.kept.items) reply (few_places inside.kept.items inside.most (subst (λ n. n ≤ inside.most) keeps.len keeps.within)) is
+    ∙ ap (λ (r : Replies). with_reply r.most key (Some reply) r.places) c.self.view_is

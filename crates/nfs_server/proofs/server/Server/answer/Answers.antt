@@ -1,14 +1,12 @@
-use Rattle.std.proofs.Common.{◌≡◌, None, is_some, refl, ap, sym, subst, ◌∙◌}
-use Rattle.nfs_reply_cache.specs.Places.{cached_reply}
+use Rattle.std.proofs.Common.{◌≡◌, None, refl, ap, sym, subst, ◌∙◌}
 use Rattle.nfs_rpc.specs.Calls.{head_at}
 use Rattle.nfs_server.specs.Events.{Answer, silence}
 use Rattle.nfs_server.specs.Fits.{Held}
 use Rattle.nfs_server.specs.OneEvent.{AnswersRecord, AnswersCalled}
-use Rattle.nfs_server.specs.Retransmissions.{key_of}
 use Rattle.nfs_server.specs.ReplyRoom.{after, reply_at}
 use Rattle.nfs_server.specs.InMemory.{event_of, held, reported}
 use Rattle.nfs_server.proofs.Judged.{whatever_line}
-use Rattle.nfs_server.proofs.Performed.{no_choice}
+use Rattle.nfs_server.proofs.Performed.{with_memory}
 use Rattle.nfs_server.proofs.Room.{reply_is}
 use Rattle.nfs_server.proofs.server.Server.answer.Goals as goal
 
@@ -18,7 +16,7 @@ returns-in_default-clause-answers c =
     let old : Held = held inside.kept inside.table inside.tree inside.mounts inside.line in
     let new : Held = held inside.kept inside.table inside.tree inside.mounts None in
     subst (λ (h : Held). AnswersRecord h event silence new) c.self.view_is
-    (refl, subst (λ head. AnswersCalled head old event silence new) (sym c.in_default.ensures.exact) (no_choice (is_some (cached_reply (key_of event) old.kept)), refl, ((refl, refl), refl)))
+    (refl, subst (λ head. AnswersCalled head old event silence new) (sym c.in_default.ensures.exact) (with_memory, ((refl, refl), refl)))
 
 pub returns-clause-answers : goal.returns-clause-answers
 returns-clause-answers c =
