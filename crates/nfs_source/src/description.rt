@@ -41,8 +41,7 @@ const MOST_WORD_BYTES: usize = 65_536;
 #[derive(Drop)]
 pub struct Description<'a> {
     /// Its text, where most lines are empty: those of volumes and exports are whole, and those of directories and files
-    /// that may be warned of have what stands up to the mode. All lines have their numbers. Where the text can't be
-    /// read again all are whole, but for long contents.
+    /// that may be warned of have what stands up to the mode. All lines have their numbers.
     pub source: Source<'a>,
     /// What it says.
     pub loaded: Loaded,
@@ -97,7 +96,7 @@ pub fn load_tree<R: Files + Input>(rt: &R, alloc: Global, name: &str) -> Result<
 }
 
 // The description of this name, and what is made of its lines beside. So much of these is kept; where the text can't be
-// read again, all that the advice on a fault looks at.
+// read again, the first 1 MiB of them beside, for the advice on a fault.
 fn read_with<'a, R: Files + Input, D: LineDigest>(
     rt: &R,
     alloc: Global,
@@ -111,9 +110,10 @@ fn read_with<'a, R: Files + Input, D: LineDigest>(
 {
     let mut file = open_text(rt, alloc, name)?;
     if !file.is_regular() {
-        return read_from(alloc, &mut file, name, digest, Extent::Lines);
+        let kept = KeptLines::of_once(alloc, extent);
+        return read_from(alloc, &mut file, name, digest, kept);
     }
-    match read_from(alloc, &mut file, name, digest, extent) {
+    match read_from(alloc, &mut file, name, digest, KeptLines::new(alloc, extent)) {
         Ok(read) => Ok(read),
         Err(first) => Err(advised(rt, alloc, name, first)),
     }
@@ -140,7 +140,8 @@ fn read_lines<'a, R: Files + Input>(
     name: &'a str,
 ) -> Result<Description<'a>, Diagnostic> {
     let mut file = open_text(rt, alloc, name)?;
-    let (description, _) = read_from(alloc, &mut file, name, NoDigest, Extent::Lines)?;
+    let kept = KeptLines::new(alloc, Extent::Lines);
+    let (description, _) = read_from(alloc, &mut file, name, NoDigest, kept)?;
     Ok(description)
 }
 
@@ -150,7 +151,7 @@ fn read_from<'a, I: Read, D: LineDigest>(
     file: &mut I,
     name: &'a str,
     digest: D,
-    extent: Extent,
+    kept: KeptLines,
 ) -> Result<(Description<'a>, D), Diagnostic>
     requires { D.has digest [] }
     ensures described { IfOk result (λ it. (text : List ℕ) × IsRest (I.remaining file.old) text (I.remaining file.new)
@@ -158,7 +159,7 @@ fn read_from<'a, I: Read, D: LineDigest>(
     ensures fault { IfErr result (λ it. (status_of it.fault ≡ 3) ⊎ ((text : List ℕ)
         × IsFaultOf (I.remaining file.old) text (I.remaining file.new) it.fault)) }
 {
-    let mut reader = Reader::new(alloc, digest, extent);
+    let mut reader = Reader::new(alloc, digest, kept);
     read_all(alloc, file, name, &mut reader)?;
     let reading = reader.end()?;
     reading.described(alloc, name)
@@ -301,7 +302,7 @@ struct Reader<D> {
 }
 
 impl<D: LineDigest> Reader<D> {
-    fn new(alloc: Global, digest: D, extent: Extent) -> Reader<D>
+    fn new(alloc: Global, digest: D, kept: KeptLines) -> Reader<D>
         requires { D.has digest [] }
         ensures { HasText D.has result [] }
     {
@@ -309,7 +310,7 @@ impl<D: LineDigest> Reader<D> {
             alloc,
             reading: Reading {
                 loading: Loading::new(alloc),
-                kept: KeptLines::new(alloc, extent),
+                kept,
                 fault: None,
                 digest,
                 largest_file: Limits::standard().file_size,
@@ -496,9 +497,8 @@ fn outcome(loading: Loading, fault: Option<LoadError>) -> Result<Loaded, LoadErr
 fn diagnostic_of(alloc: Global, error: LoadError, name: &str, kept: KeptLines) -> Diagnostic
     ensures { IsReportedAs error result.fault }
 {
-    if !kept.are_lines() {
+    let Some(text) = kept.into_lines() else {
         return Fault::from(error).into();
-    }
-    let text = kept.into_text();
+    };
     Diagnostic::of_description(alloc, error, &Source { name, text })
 }

@@ -9,6 +9,9 @@ use std::alloc::{AllocError, Global};
 // Of a line with more bytes the content is skipped once it is loaded.
 const LONG_LINE_BYTES: usize = 4_096;
 
+// How many bytes of lines are kept for the advice on a fault of a text that can't be read again.
+const MOST_ADVICE_BYTES: usize = 1_048_576;
+
 /// How much of the lines is kept.
 #[derive(Clone, Copy)]
 pub(crate) enum Extent {
@@ -25,6 +28,8 @@ pub(crate) enum Extent {
 pub(crate) struct KeptLines {
     extent: Extent,
     text: Vec<u8>,
+    // All but long contents, for the advice on a fault, as long as they are few.
+    begin: Option<Vec<u8>>,
     count: u64,
 }
 
@@ -36,6 +41,20 @@ impl KeptLines {
         KeptLines {
             extent,
             text: Vec::new(alloc),
+            begin: None,
+            count: 0,
+        }
+    }
+
+    /// No line was taken of a text that can't be read again: beside that extent, all lines are kept for the advice on a
+    /// fault while they have at most 1 MiB.
+    pub(crate) fn of_once(alloc: Global, extent: Extent) -> KeptLines
+        ensures { result.count ≡ 0 }
+    {
+        KeptLines {
+            extent,
+            text: Vec::new(alloc),
+            begin: Some(Vec::new(alloc)),
             count: 0,
         }
     }
@@ -47,16 +66,19 @@ impl KeptLines {
         self.count
     }
 
-    /// Whether all but long contents are kept.
-    pub(crate) fn are_lines(&self) -> bool {
-        matches!(self.extent, Extent::Lines)
-    }
-
-    /// What is kept.
+    /// What is kept of that extent.
     pub(crate) fn into_text(self) -> Vec<u8>
         ensures { result ≡ self.text }
     {
         self.text
+    }
+
+    /// All but long contents, for the advice on a fault. `None` where they aren't kept.
+    pub(crate) fn into_lines(self) -> Option<Vec<u8>> {
+        match self.extent {
+            Extent::Lines => Some(self.text),
+            Extent::LookedAt | Extent::Nothing => self.begin,
+        }
     }
 
     /// Takes a line that is in order.
@@ -67,6 +89,9 @@ impl KeptLines {
             Extent::Lines => put_line(&mut self.text, line)?,
             Extent::LookedAt => self.text.extend_from_slice(looked_at(line))?,
             Extent::Nothing => {}
+        }
+        if let Some(begin) = &mut self.begin {
+            put_line(begin, line)?;
         }
         self.end_line()
     }
@@ -80,6 +105,9 @@ impl KeptLines {
             Extent::LookedAt => self.text.extend_from_slice(looked_at(words))?,
             Extent::Nothing => {}
         }
+        if let Some(begin) = &mut self.begin {
+            put_file(begin, words, bytes)?;
+        }
         self.end_line()
     }
 
@@ -87,10 +115,13 @@ impl KeptLines {
     pub(crate) fn take_faulty(&mut self, parts: &[&[u8]]) -> Result<(), AllocError>
         ensures { self.new.count ≡ self.old.count }
     {
-        if self.are_lines() {
-            put_parts(&mut self.text, parts)?;
+        if let Some(begin) = &mut self.begin {
+            put_parts(begin, parts)?;
         }
-        Ok(())
+        match self.extent {
+            Extent::Lines => put_parts(&mut self.text, parts),
+            Extent::LookedAt | Extent::Nothing => Ok(()),
+        }
     }
 
     // Ends a line that is in order.
@@ -101,6 +132,20 @@ impl KeptLines {
         match self.extent {
             Extent::Lines | Extent::LookedAt => self.text.push(b'\n')?,
             Extent::Nothing => {}
+        }
+        self.end_begin()
+    }
+
+    // Ends a line of those that are kept while they are few. Where they are more, they are let go.
+    fn end_begin(&mut self) -> Result<(), AllocError>
+        ensures { OnOk result (self.new.count ≡ self.old.count) }
+    {
+        let Some(begin) = &mut self.begin else {
+            return Ok(());
+        };
+        begin.push(b'\n')?;
+        if begin.len() > MOST_ADVICE_BYTES {
+            self.begin = None;
         }
         Ok(())
     }
