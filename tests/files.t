@@ -122,15 +122,30 @@ ok $? "check of 100 MB of lines in 64 MiB of memory"
 within replay "$work/tree" examples/read.script
 brings examples/read.out /dev/null 0
 ok $? "replay over 100 MB of lines in 64 MiB of memory"
+# shellcheck disable=SC2002
+cat "$work/tree" | within check -
+says "ok volumes=2 files=8 bytes=12"
+ok $? "check of 100 MB of lines from a pipe in 64 MiB of memory"
 line=$(($(grep -c '' "$work/tree") + 1))
 echo tree >>"$work/tree"
 echo "line $line: UnknownWord" >"$work/wanted"
+cp "$work/wanted" "$work/wanted.pipe"
 within check "$work/tree"
 brings /dev/null "$work/wanted" 1
 ok $? "a fault below 100 MB of lines is reported without its second line where there is no memory for that"
 run check "$work/tree"
 says "line $line: UnknownWord"
 ok $? "and with it where there is"
+# Lines of a pipe can't be read again: the first MiB of them is kept.
+# shellcheck disable=SC2002
+cat "$work/tree" | run check -
+brings /dev/null "$work/wanted.pipe" 1
+ok $? "a fault below more than 1 MiB of lines from a pipe is reported without its second line"
+{ cat examples/e.tree && yes "# $(printf '%098d' 0)" | head -n 10000; } >"$work/tree"
+line=$(($(grep -c '' "$work/tree") + 1))
+{ cat "$work/tree" && echo tree; } | run check -
+says "line $line: UnknownWord"
+ok $? "and with it below less"
 
 # An output that fails at once, and one that takes one block of bytes, of 40 replies.
 yes "call 10.0.0.1 1 $null" | head -n 40 >"$work/calls"
