@@ -86,4 +86,4 @@ called (Err fault) s event choice answer new kept passes a = none_line answer No
 called (Ok head) s event choice answer new kept passes a = judged s event head.0 choice answer new (rpc_failure_of head.0 head.1) (request_of event.addr head.0 head.1) (cached_reply (key_of event) s.kept) kept passes a
 
 pub spared : (s : Held) (event : Event) (answer : Answer) (new : Held) → fails_rule s event ≡ false → AnswersRecord s event answer new → IsSpared answer.line
-spared s event answer new passes a = called (head_at event.bytes) s event a.1.0 answer new.state new.kept passes a.1.2
+spared s event answer new passes a = called (head_at event.bytes) s event a.1.0 answer new.state new.kept passes a.1.1

@@ -111,11 +111,11 @@ true_next places d history kept true (Some reply) c s true_to =
     (λ other r q e. was_without (key_of d.event) other kept r q (found_whole other (places - 1) (without (key_of d.event) kept) r e)) true_to
 
 are_held : (places : ℕ) (history : List Done) → AreHeld places history (cached_after places history)
-are_held places [] key before e l = absurd (none_some e)
+are_held places [] = λ key before e l. absurd (none_some e)
 are_held places (d ∷ history) = held_next places d history (cached_after places history) (is_changing d.event) (standing d.answer) refl refl (are_held places history)
 
 are_true : (places : ℕ) (history : List Done) → AreTrue history (cached_after places history)
-are_true places [] key reply e = absurd (none_some e)
+are_true places [] = λ key reply e. absurd (none_some e)
 are_true places (d ∷ history) = true_next places d history (cached_after places history) (is_changing d.event) (standing d.answer) refl refl (are_true places history)
 
 first_by : (places : ℕ) (history : List Done) (event : Event) (b : Bool) → is_changing event ≡ b
