@@ -55,9 +55,14 @@ pub fn replay<W: ByteOut>(
     ensures first { IfErr result (StopsBy script.now) }
 {
     let mut player = Player::new(alloc, loaded, cache, shown)?;
-    player.play(script, out)?;
-    let Player { sessions, .. } = player;
-    Ok(sessions)
+    // Case by case: with `?` the proof has to look through the whole player.
+    match player.play(script, out) {
+        Ok(()) => {
+            let Player { sessions, .. } = player;
+            Ok(sessions)
+        }
+        Err(fault) => Err(fault),
+    }
 }
 
 #[derive(Drop)]
