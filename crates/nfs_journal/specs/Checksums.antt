@@ -1,0 +1,23 @@
+-- CRC-32C, the checksum of an entry, bit by bit (RFC 3720, section 12.1).
+use Rattle.std.specs.Prelude.{ℕ, ◌*◌, ◌/◌, ◌%◌, List, [], ◌∷◌, bit_xor}
+
+-- the polynomial, its bits in reverse
+abbrev pub polynomial : ℕ
+polynomial = 0x82F63B78
+
+-- The remainder after one bit more: the lowest bit goes out, and takes the polynomial off where it is 1.
+unfoldable pub after_bit : ℕ → ℕ
+after_bit n = bit_xor (n / 2) (n % 2 * polynomial)
+
+-- after eight bits more
+unfoldable pub after_eight : ℕ → ℕ
+after_eight n = after_bit (after_bit (after_bit (after_bit (after_bit (after_bit (after_bit (after_bit n)))))))
+
+-- after these bytes
+unfoldable pub after_bytes : ℕ → List ℕ → ℕ
+after_bytes n [] = n
+after_bytes n (byte ∷ bytes) = after_bytes (after_eight (bit_xor n byte)) bytes
+
+-- It begins with 32 ones, and all bits are turned over at the end.
+unfoldable pub crc32c : List ℕ → ℕ
+crc32c bytes = bit_xor (after_bytes 0xFFFFFFFF bytes) 0xFFFFFFFF

@@ -1,0 +1,5 @@
+pub mod Noted
+pub mod Checksums
+pub mod Entries
+pub mod Alike
+pub mod Recovering
