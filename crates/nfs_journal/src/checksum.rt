@@ -29,7 +29,7 @@ fn remainder_of(byte: u8) -> u32
     REMAINDERS[byte as usize]
 }
 
-static REMAINDERS: [u32; 256] = [
+const REMAINDERS: [u32; 256] = [
     0x0000_0000, 0xf26b_8303, 0xe13b_70f7, 0x1350_f3f4, 0xc79a_971f, 0x35f1_141c, 0x26a1_e7e8, 0xd4ca_64eb,
     0x8ad9_58cf, 0x78b2_dbcc, 0x6be2_2838, 0x9989_ab3b, 0x4d43_cfd0, 0xbf28_4cd3, 0xac78_bf27, 0x5e13_3c24,
     0x105e_c76f, 0xe235_446c, 0xf165_b798, 0x030e_349b, 0xd7c4_5070, 0x25af_d373, 0x36ff_2087, 0xc494_a384,

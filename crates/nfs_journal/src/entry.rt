@@ -50,7 +50,7 @@ fn encode_content(out: &mut Output, event: Event<'_>, reply: &[u8])
     requires room { CONTENT_BYTES + length reply.now + length event.bytes.now ≤ out.old.room }
     requires below { length reply.now < 2 ^ 31 }
     ensures text { Appends (content_text (event_of event.entry) reply.now) out.old out.new }
-    ensures room { out.new.room + CONTENT_BYTES + length reply.now + length event.bytes.now ≡ out.old.room }
+    ensures room { out.new.room + CONTENT_BYTES + length reply.now + length event.entry.bytes.now ≡ out.old.room }
     ensures after { length out.old.bytes ≤ length out.new.bytes }
 {
     out.u32(event.addr.0);
