@@ -1,5 +1,5 @@
 -- Servers that were asked and answered the same hold the same.
-use Rattle.std.proofs.Common.{◌≡◌, ℕ, ◌≤◌, Bool, true, false, cond, not, ◌&&◌, List, [], ◌∷◌, length, Option, Some, None, suc, refl, sym, ap, subst, ◌∙◌, arith}
+use Rattle.std.proofs.Common.{◌≡◌, ℕ, Bool, true, false, cond, not, ◌&&◌, List, [], ◌∷◌, length, Option, Some, None, suc, refl, sym, ap, subst, ◌∙◌, arith}
 use Rattle.std.specs.Prelude.{Result, Ok, Err, if◌then◌else◌}
 use Rattle.std.specs.List.{AllByRecursion}
 use Rattle.std.proofs.lemmas.Bool.{false≢true}
@@ -10,7 +10,7 @@ use Rattle.nfs_handles.specs.Tags.{OneIsNext}
 use Rattle.nfs_inodes.proofs.Lists.{same_some}
 use Rattle.nfs_inodes.specs.Reading.{numbered_files}
 use Rattle.nfs_inodes.specs.Tree.{Tree, File}
-use Rattle.nfs_journal.specs.Alike.{AreAlike, AllAlike, BeginAlike, AlikeHoldTheSame}
+use Rattle.nfs_journal.specs.Alike.{AllAlike, AlikeHoldTheSame}
 use Rattle.nfs_journal.specs.Noted.{IsServed}
 use Rattle.nfs_mount.specs.MountRules.{mount_verdict}
 use Rattle.nfs_procs.specs.Doing.{Doing}
@@ -22,7 +22,6 @@ use Rattle.nfs_rpc.specs.declared.call.RpcFault.{RpcFault}
 use Rattle.nfs_rules.specs.Subjects.{Subject}
 use Rattle.nfs_rules.specs.declared.rule.Rule.{Rule}
 use Rattle.nfs_server.specs.Events.{Event, Answer, Choice, Done}
-use Rattle.nfs_server.specs.Fits.{Held, History, Fits}
 use Rattle.nfs_server.specs.Requests.{Request, Nothing, OfNfs, OfMount, request_of}
 use Rattle.nfs_server.specs.Retransmissions.{cached_after, first_reply, is_changing, is_refused, key_of, may_change, standing}
 use Rattle.nfs_server.specs.RpcRules.{rpc_failure_of}

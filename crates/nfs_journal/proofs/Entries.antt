@@ -1,11 +1,8 @@
 -- What is written and read of an entry.
-use Rattle.std.proofs.Common.{◌≡◌, ℕ, ◌+◌, true, List, ◌++◌, drop, length, refl, sym, ap, subst, ◌∙◌, append_assoc, arith}
-use Rattle.std.proofs.Math.Seq.{drop-append_seam}
+use Rattle.std.proofs.Common.{◌≡◌, ℕ, ◌+◌, List, ◌++◌, length, ap, ◌∙◌, append_assoc, arith}
 use Rattle.std.proofs.lemmas.List.{length-append}
 use Rattle.std.specs.Int.{w32, to_be_bytes}
-use Rattle.nfs_journal.specs.Checksums.{crc32c}
-use Rattle.nfs_journal.specs.Entries.{content_text, checked, entry_text}
-use Rattle.nfs_rpc.specs.Records.{fragment, header}
+use Rattle.nfs_journal.specs.Entries.{content_text}
 use Rattle.nfs_server.specs.Events.{Event}
 use Rattle.nfs_xdr.specs.Written.{Written, Appends}
 
@@ -24,30 +21,8 @@ six a b c d e f =
 pub content_length : (event : Event) (reply : List ℕ) → length (content_text event reply) ≡ 16 + length reply + length event.bytes
 content_length event reply = six (to_be_bytes w32 event.addr.0) (to_be_bytes w32 event.moment.seconds) (to_be_bytes w32 event.moment.nanos) (to_be_bytes w32 (length reply)) reply event.bytes
 
-checked_length : (bytes : List ℕ) → length (checked bytes) ≡ length bytes + 4
-checked_length bytes = length-append bytes (to_be_bytes w32 (crc32c bytes))
-
 pub content_written : (event : Event) (reply : List ℕ) (t u v w x y z : Written) → Appends (to_be_bytes w32 event.addr.0) t u → Appends (to_be_bytes w32 event.moment.seconds) u v
     → Appends (to_be_bytes w32 event.moment.nanos) v w → Appends (to_be_bytes w32 (length reply)) w x → Appends reply x y → Appends event.bytes y z → Appends (content_text event reply) t z
 content_written event reply t u v w x y z a b c d e f =
     both _ event.bytes t y z (both _ reply t x y (both _ (to_be_bytes w32 (length reply)) t w x
     (both _ (to_be_bytes w32 event.moment.nanos) t v w (both (to_be_bytes w32 event.addr.0) (to_be_bytes w32 event.moment.seconds) t u v a b) c) d) e) f
-
-pub entry_written : (event : Event) (reply mark : List ℕ) (len checksum : ℕ) (s t u v : Written) → len ≡ 20 + length reply + length event.bytes → mark ≡ header true len
-    → Appends mark s t → Appends (content_text event reply) t u → checksum ≡ crc32c (drop (length t.bytes) u.bytes) → Appends (to_be_bytes w32 checksum) u v
-    → Appends (fragment true (entry_text event reply)) s v
-entry_written event reply mark len checksum s t u v counted marked a b summed c =
-    let counts : len ≡ length (entry_text event reply) = counted_by (length (content_text event reply)) (content_length event reply) (checked_length (content_text event reply)) in
-    both (header true (length (entry_text event reply))) (entry_text event reply) s t v
-    (subst (λ m. Appends m s t) (marked ∙ ap (header true) counts) a)
-    (both (content_text event reply) (to_be_bytes w32 (crc32c (content_text event reply))) t u v b (subst (λ n. Appends (to_be_bytes w32 n) u v) sums c))
-  where
-    sums : checksum ≡ crc32c (content_text event reply)
-    sums = summed ∙ ap (λ bytes. crc32c (drop (length t.bytes) bytes)) b.bytes ∙ ap crc32c (drop-append_seam t.bytes (content_text event reply))
-
-    counted_by : (n : ℕ) → n ≡ 16 + length reply + length event.bytes → length (entry_text event reply) ≡ n + 4 → len ≡ length (entry_text event reply)
-    counted_by n e f = omega (arith, counted, e, f)
-
--- what is read, where this is the checksum of it
-pub entry_read : (content front back bytes : List ℕ) → content ≡ front → front ++ back ≡ checked front → front ++ back ≡ bytes → checked content ≡ bytes
-entry_read content front back bytes e f g = ap checked e ∙ sym f ∙ g

@@ -1,18 +1,17 @@
 -- The noted events are a history of their own.
-use Rattle.std.proofs.Common.{◌≡◌, ℕ, suc, ◌<◌, ◌≤◌, Bool, true, false, cond, not, ◌&&◌, List, [], ◌∷◌, ◌++◌, length, Option, Some, None, is_none, refl, sym, ap, subst, ◌∙◌, append-nil, arith}
+use Rattle.std.proofs.Common.{◌≡◌, ℕ, ◌<◌, ◌≤◌, Bool, true, false, cond, not, ◌&&◌, List, [], ◌∷◌, ◌++◌, length, Option, Some, None, is_none, refl, sym, ap, subst, ◌∙◌, append-nil, arith}
 use Rattle.std.specs.Prelude.{Result, Ok, Err, if◌then◌else◌, nat_eq}
 use Rattle.std.specs.List.{AllByRecursion}
 use Rattle.std.proofs.lemmas.Bool.{true≢false, false≢true, eq-eqb, ne_eqb}
 use Rattle.nfs_exports.specs.declared.addr.Addr.{Addr}
 use Rattle.nfs_journal.proofs.Stays.{stays}
 use Rattle.nfs_journal.specs.Entries.{entry_of, journal_text, JournalIsOfNoted}
-use Rattle.nfs_journal.specs.Noted.{is_noted_request, is_noted_call, is_noted, has_entry, noted, noted_setups, noted_history, IsServed, NotedIsHistory, NotedAreServed}
-use Rattle.nfs_reply_cache.specs.Places.{Place, cached_reply, with_reply}
+use Rattle.nfs_journal.specs.Noted.{is_noted_request, is_noted_call, is_noted, has_entry, noted, noted_setups, IsServed, NotedIsHistory, NotedAreServed}
+use Rattle.nfs_reply_cache.specs.Places.{cached_reply, with_reply}
 use Rattle.nfs_rpc.specs.Calls.{Call, head_at}
 use Rattle.nfs_rpc.specs.Records.{fragment}
 use Rattle.nfs_rpc.specs.declared.call.RpcFault.{RpcFault}
 use Rattle.nfs_server.specs.Events.{Event, Done}
-use Rattle.nfs_server.specs.Fits.{Held, History, Fits}
 use Rattle.nfs_server.specs.Requests.{Request, Nothing, OfNfs, OfMount, request_of}
 use Rattle.nfs_server.specs.Retransmissions.{cached_after, calls_change, is_change, is_changing, is_refused, key_of, requests_change, standing}
 use Rattle.nfs_server.specs.RpcRules.{rpc_failure_of}

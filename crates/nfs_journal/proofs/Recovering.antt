@@ -1,19 +1,19 @@
 -- A journal is run again entry by entry.
-use Rattle.std.proofs.Common.{◌≡◌, ℕ, ◌+◌, ◌-◌, ◌<◌, ◌≤◌, false, List, [], ◌∷◌, ◌++◌, map, reverse, take, drop, length, Option, refl, sym, ap, subst, ◌∙◌, append_assoc, append-nil, arith}
+use Rattle.std.proofs.Common.{◌≡◌, ℕ, ◌+◌, ◌-◌, ◌≤◌, false, List, [], ◌∷◌, ◌++◌, map, reverse, take, drop, length, Option, refl, sym, ap, subst, ◌∙◌, append_assoc, append-nil, arith}
 use Rattle.std.proofs.lemmas.List.{map-append, reverse-append, length-append, take_all}
 use Rattle.std.specs.Prelude.{Result, Ok, Err, OnOk}
 use Rattle.nfs_journal.specs.Entries.{entry_of, entry_text}
 use Rattle.nfs_journal.specs.Noted.{IsServed}
-use Rattle.nfs_journal.specs.Recovering.{Reruns, HasRerun, RunsOn}
+use Rattle.nfs_journal.specs.Recovering.{Reruns, RunsOn}
 use Rattle.nfs_rpc.proofs.Streams.{records_grow}
-use Rattle.nfs_rpc.specs.Progress.{Progress, Unfinished, Moves}
+use Rattle.nfs_rpc.specs.Progress.{Progress, Moves}
 use Rattle.nfs_rpc.specs.Records.{AreRecords}
 use Rattle.nfs_rpc.specs.declared.framer.Stage.TheVariants.{Ready}
 use Rattle.nfs_server.proofs.Feeding.{all_append, records_append}
 use Rattle.nfs_server.proofs.Going.{Handles}
 use Rattle.nfs_server.proofs.OneRecord.{is_cut, whole}
-use Rattle.nfs_server.specs.Events.{Event, Done}
-use Rattle.nfs_server.specs.Fits.{Held, History, Fits}
+use Rattle.nfs_server.specs.Events.{Event}
+use Rattle.nfs_server.specs.Fits.{Held, Fits}
 use Rattle.nfs_server.specs.InMemory.{reported}
 use Rattle.nfs_server.specs.Retransmissions.{is_refused}
 use Rattle.nfs_server.specs.Runs.{longer}

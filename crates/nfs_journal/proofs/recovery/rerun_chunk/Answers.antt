@@ -1,4 +1,4 @@
-use Rattle.std.proofs.Common.{◌≡◌, ◌+◌, [], length, refl, subst, sym, ◌∙◌, append-nil, add-zero, arith, rules}
+use Rattle.std.proofs.Common.{[], subst, sym, append-nil, add-zero, arith, rules}
 use Rattle.nfs_rpc.specs.Progress.{Moves, Unfinished}
 use Rattle.nfs_journal.specs.Recovering.{RunsOn}
 use Rattle.nfs_journal.proofs.Recovering.{all_taken, runs_none, takes_on}

@@ -1,4 +1,4 @@
-use Rattle.std.proofs.Common.{◌≡◌, ◌+◌, ◌-◌, ◌≤◌, length, take}
+use Rattle.std.proofs.Common.{◌+◌, ◌-◌, ◌≤◌, length, take}
 use Rattle.nfs_server.specs.Connections.{IsBetween}
 use Rattle.nfs_journal.specs.Recovering.{RunsOn}
 use Rattle.nfs_journal.proofs.recovery.rerun_chunk.Given as goal
