@@ -2,9 +2,8 @@
 use Rattle.std.proofs.Common.{◌≡◌, ℕ, ◌+◌, ◌-◌, ◌≤◌, false, List, [], ◌∷◌, ◌++◌, map, reverse, take, drop, length, Option, refl, sym, ap, subst, ◌∙◌, append_assoc, append-nil, arith}
 use Rattle.std.proofs.lemmas.List.{map-append, reverse-append, length-append, take_all}
 use Rattle.std.specs.Prelude.{Result, Ok, Err, OnOk}
-use Rattle.nfs_journal.specs.Entries.{entry_of, entry_text}
-use Rattle.nfs_journal.specs.Noted.{IsServed}
-use Rattle.nfs_journal.specs.Recovering.{Reruns, RunsOn}
+use Rattle.nfs_journal.specs.Entries.{AreWords, entry_of, entry_text}
+use Rattle.nfs_journal.specs.Recovering.{IsRerun, Reruns, RunsOn}
 use Rattle.nfs_rpc.proofs.Streams.{records_grow}
 use Rattle.nfs_rpc.specs.Progress.{Progress, Moves}
 use Rattle.nfs_rpc.specs.Records.{AreRecords}
@@ -23,10 +22,14 @@ use Rattle.nfs_xdr.proofs.Knowing.{taken_on}
 
 -- what is handled is run again where the reply is that of the entry
 pub reruns : (event : Event) (reply shown bytes : List ℕ) (line : Option AuditLine) (old new : Held) → Handles old event (reported shown line) new → shown ≡ reply
-    → entry_text event reply ≡ bytes → is_refused line ≡ false → Reruns bytes old new
-reruns event reply shown bytes line old new handles same spelled served history fits =
-    let h = handles history fits in
-    (record { event = event; choice = h.0; answer = reported shown line }, ap (entry_text event) same ∙ spelled, served, h.1.1)
+    → entry_text event reply ≡ bytes → AreWords event reply → is_refused line ≡ false → Reruns bytes old new
+reruns event reply shown bytes line old new handles same spelled words served history fits =
+    let h = handles history fits in (
+      record { event = event; choice = h.0; answer = reported shown line },
+      ap (entry_text event) same ∙ spelled,
+      record { served = served; answered = refl; words = subst (AreWords event) (sym same) words },
+      h.1.1,
+    )
 
 -- no entry is whole
 pub runs_none : (bytes : List ℕ) (unfinished : ℕ) (s : Held) (from to : Progress) → Moves from bytes to → RunsOn bytes unfinished 0 (unfinished + length bytes) s s from to
@@ -34,7 +37,7 @@ runs_none bytes unfinished s from to moves history fits text u len = record {
   done = [];
   rest = text ++ bytes;
   cut = refl;
-  served = tt;
+  rerun = tt;
   fits = fits;
   rest_is = moves text u;
   entries_are = refl;
@@ -51,7 +54,7 @@ runs_one bytes unfinished old new from mid to moves ready reruns anew history fi
       done = r.0 ∷ [];
       rest = [];
       cut = subst (λ entry. AreRecords (text ++ bytes) (entry ∷ []) []) (sym r.1) (is_cut mid.content (text ++ bytes) [] (text ++ bytes) w.1 (sym (append-nil (text ++ bytes))));
-      served = (r.2, tt);
+      rerun = (r.2, tt);
       fits = r.3;
       rest_is = anew.1;
       entries_are = refl;
@@ -70,7 +73,7 @@ runs_on xs ys a b c n m old mid new from between to before then history fits tex
       rest = g.rest;
       cut = subst (λ es. AreRecords (text ++ (xs ++ ys)) es g.rest) (sym entries) (subst (λ t. AreRecords t (map entry_of (reverse f.done) ++ map entry_of (reverse g.done)) g.rest) (append_assoc text xs ys)
           (records_append ((text ++ xs) ++ ys) (map entry_of (reverse f.done)) (map entry_of (reverse g.done)) (f.rest ++ ys) g.rest (records_grow (text ++ xs) (map entry_of (reverse f.done)) f.rest ys f.cut) g.cut));
-      served = all_append IsServed g.done f.done g.served f.served;
+      rerun = all_append IsRerun g.done f.done g.rerun f.rerun;
       fits = subst (λ d. Fits (record history { done = d }) new) (sym (append_assoc g.done f.done history.done)) g.fits;
       rest_is = g.rest_is;
       entries_are = length-append g.done f.done ∙ omega (arith, f.entries_are, g.entries_are);

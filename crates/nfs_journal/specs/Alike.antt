@@ -21,8 +21,12 @@ pub record BeginAlike (a b : History) : Type 0 where
   pub opening_is : a.opening ≡ b.opening
   pub setup_is : (n : ℕ) → a.setups n ≡ b.setups n
 
+-- the same setup, tree, mount list and reply cache
+abbrev pub HoldTheSame : Held → Held → Type 0
+HoldTheSame s t = (s.setup ≡ t.setup) × (s.state ≡ t.state) × (s.kept ≡ t.kept)
+
 -- Two servers that began alike, and were asked and answered the same without want of memory, hold the same.
 abbrev pub AlikeHoldTheSame : Type 0
 AlikeHoldTheSame = (history other : History) (s t : Held) → Fits history s → Fits other t → BeginAlike history other
     → AllByRecursion IsServed history.done → AllByRecursion IsServed other.done → AllAlike history.done other.done
-    → (s.setup ≡ t.setup) × (s.state ≡ t.state) × (s.kept ≡ t.kept)
+    → HoldTheSame s t

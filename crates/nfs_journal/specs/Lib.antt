@@ -3,3 +3,4 @@ pub mod Checksums
 pub mod Entries
 pub mod Alike
 pub mod Recovering
+pub mod Recovered

@@ -1,5 +1,5 @@
 -- Which events a journal has.
-use Rattle.std.specs.Prelude.{◌≡◌, ℕ, Bool, true, false, not, ◌&&◌, List, [], ◌∷◌, length, Option, Some, None, Result, Ok, Err, is_none, if◌then◌else◌, nat_eq}
+use Rattle.std.specs.Prelude.{◌≡◌, ℕ, Bool, true, false, not, ◌&&◌, List, [], ◌∷◌, length, Option, Some, None, IsSome, Result, Ok, Err, is_none, if◌then◌else◌, nat_eq}
 use Rattle.std.specs.List.{AllByRecursion}
 use Rattle.nfs_args.specs.declared.mount_args.MountArgs.{MountArgs}
 use Rattle.nfs_args.specs.declared.mount_args.MountArgs.TheVariants as asked
@@ -73,3 +73,7 @@ IsServed d = is_refused d.answer.line ≡ false
 -- no noted event was
 abbrev pub NotedAreServed : Type 0
 NotedAreServed = (done : List Done) → AllByRecursion IsServed (noted done)
+
+-- each has a reply
+abbrev pub NotedAreAnswered : Type 0
+NotedAreAnswered = (history : History) (s : Held) → Fits history s → AllByRecursion (λ d. IsSome d.answer.reply) (noted history.done)

@@ -1,7 +1,8 @@
 //! The entries of a journal.
-ghost use Rattle.std.specs.Prelude.{◌≡◌, ◌+◌, ◌^◌, ◌<◌, ◌≤◌, ◌++◌, true, length, IfSome, IsTrue};
+ghost use Rattle.std.specs.Prelude.{◌≡◌, ◌+◌, ◌^◌, ◌<◌, ◌≤◌, ◌↔◌, true, length, IfOk, IfSome, IsNone, IsTrue};
 ghost use Rattle.std.specs.Int.{w32, to_be_bytes};
-ghost use Rattle.nfs_journal.specs.Entries.{checked, content_text, entry_text};
+ghost use Rattle.nfs_journal.specs.Entries.{AreWords, Decodes, IsNoEntry, content_at, content_text, entry_text};
+ghost use Rattle.nfs_journal.specs.Checksums.{crc32c as checksum_of};
 ghost use Rattle.nfs_rpc.specs.Records.{fragment};
 ghost use Rattle.nfs_server.specs.InMemory.{event_of};
 ghost use Rattle.nfs_xdr.specs.Written.{Appends};
@@ -11,6 +12,7 @@ use nfs_attrs::moment::Moment;
 use nfs_exports::addr::Addr;
 use nfs_rpc::record::{HEADER_BYTES, frame_record};
 use nfs_server::event::Event;
+use nfs_xdr::fault::XdrFault;
 use nfs_xdr::input::Input;
 use nfs_xdr::output::Output;
 
@@ -61,9 +63,11 @@ fn encode_content(out: &mut Output, event: Event<'_>, reply: &[u8])
     out.part(event.bytes);
 }
 
-/// Reads an entry. None where the bytes are too few for one, or the checksum is not theirs.
+/// Reads an entry. None exactly where no entry has these bytes.
 pub fn decode_entry(bytes: &[u8]) -> Option<Entry<'_>>
-    ensures { IfSome result (λ entry. entry_text (event_of entry.event) entry.reply.now ≡ bytes.entry.now) }
+    ensures found { IfSome result (λ entry. entry_text (event_of entry.event) entry.reply.now ≡ bytes.entry.now) }
+    ensures words { IfSome result (λ entry. AreWords (event_of entry.event) entry.reply.now) }
+    ensures none { IsNone result → IsNoEntry bytes.entry.now }
 {
     if bytes.len() < CHECKSUM_BYTES {
         return None;
@@ -72,39 +76,36 @@ pub fn decode_entry(bytes: &[u8]) -> Option<Entry<'_>>
     if !is_checksum(checksum, content) {
         return None;
     }
-    decode_content(content)
+    match decode_content(content) {
+        Ok(entry) => Some(entry),
+        Err(_) => None,
+    }
 }
 
 // Whether this is the checksum of some bytes.
 fn is_checksum(checksum: &[u8], bytes: &[u8]) -> bool
-    ensures { IsTrue result → bytes.now ++ checksum.now ≡ checked bytes.now }
+    ensures { IsTrue result ↔ (checksum.now ≡ to_be_bytes w32 (checksum_of bytes.now)) }
 {
     checksum == &crc32c(bytes).to_be_bytes()[..]
 }
 
-// Reads what an entry has before its checksum. None where the bytes are too few.
-fn decode_content(bytes: &[u8]) -> Option<Entry<'_>>
-    ensures { IfSome result (λ entry. content_text (event_of entry.event) entry.reply.now ≡ bytes.entry.now) }
+// Reads what an entry has before its checksum.
+fn decode_content(bytes: &[u8]) -> Result<Entry<'_>, XdrFault>
+    ensures exact { Decodes result (content_at bytes.entry.now) }
+    ensures text { IfOk result (λ entry. content_text (event_of entry.event) entry.reply.now ≡ bytes.entry.now) }
+    ensures words { IfOk result (λ entry. AreWords (event_of entry.event) entry.reply.now) }
 {
     let mut input = Input::new(bytes);
-    let Ok(addr) = input.u32() else {
-        return None;
-    };
-    let Ok(seconds) = input.u32() else {
-        return None;
-    };
-    let Ok(nanos) = input.u32() else {
-        return None;
-    };
-    let Ok(len) = input.u32() else {
-        return None;
-    };
+    let addr = input.u32()?;
+    let seconds = input.u32()?;
+    let nanos = input.u32()?;
+    let len = input.u32()?;
     let rest = input.rest();
     if rest.len() < len as usize {
-        return None;
+        return Err(XdrFault::Short);
     }
     let (reply, bytes) = rest.split_at(len as usize);
-    Some(Entry {
+    Ok(Entry {
         event: Event {
             addr: Addr(addr),
             moment: Moment { seconds, nanos },
