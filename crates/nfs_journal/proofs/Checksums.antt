@@ -6,7 +6,7 @@ use Rattle.std.specs.List.{range_with_len}
 use Rattle.std.proofs.lemmas.List.FromFn.{get_or-map-range_with_len}
 use Rattle.std.proofs.lemmas.Nat.{xor_block, xor_comm, xor_mod, xor_shr}
 use Rattle.std.specs.Int.Bits.{xor_assoc, xor_zero_l, xor_zero_r}
-use Rattle.nfs_journal.specs.Checksums.{polynomial, after_bit, after_eight, after_bytes, crc32c}
+use Rattle.nfs_journal.specs.Checksums.{polynomial, after_bit, after_eight, after_bytes, crc32c, KnowsExamples}
 
 -- ---- bytes
 
@@ -103,3 +103,7 @@ eight_by_byte n byte =
 -- the remainders of all bytes in their order
 pub of_byte : (byte : ℕ) → byte < 256 → get_or (map after_eight (range_with_len 0 256)) byte 0 ≡ after_eight byte
 of_byte byte less = get_or-map-range_with_len after_eight 0 256 byte byte 0 less (omega arith)
+
+pub knows_examples : KnowsExamples
+unfolding after_bit after_eight after_bytes crc32c
+knows_examples = record { zeros = refl; ones = refl; rising = refl }

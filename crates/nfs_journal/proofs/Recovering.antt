@@ -1,9 +1,13 @@
 -- A journal is run again entry by entry.
 use Rattle.std.proofs.Common.{◌≡◌, ℕ, ◌+◌, ◌-◌, ◌≤◌, false, List, [], ◌∷◌, ◌++◌, map, reverse, take, drop, length, Option, refl, sym, ap, subst, ◌∙◌, append_assoc, append-nil, arith}
 use Rattle.std.proofs.lemmas.List.{map-append, reverse-append, length-append, take_all}
-use Rattle.std.specs.Prelude.{Result, Ok, Err, OnOk}
+use Rattle.std.proofs.lemmas.Bool.{true≢false}
+use Rattle.nfs_inodes.proofs.Lists.{same_some}
+use Rattle.std.specs.Prelude.{Result, Ok, Err, OnOk, IfErr, is_none}
 use Rattle.nfs_journal.specs.Entries.{AreWords, entry_of, entry_text}
-use Rattle.nfs_journal.specs.Recovering.{IsRerun, Reruns, RunsOn}
+use Rattle.nfs_journal.specs.Recovering.{IsOther, Fails, IsRerun, Reruns, RunsOn}
+use Rattle.nfs_journal.specs.declared.recovery.RecoveryFault.{RecoveryFault}
+use Rattle.nfs_journal.specs.declared.recovery.RecoveryFault.TheVariants.{BadEntry, OtherReply, Memory}
 use Rattle.nfs_rpc.proofs.Streams.{records_grow}
 use Rattle.nfs_rpc.specs.Progress.{Progress, Moves}
 use Rattle.nfs_rpc.specs.Records.{AreRecords}
@@ -11,7 +15,7 @@ use Rattle.nfs_rpc.specs.declared.framer.Stage.TheVariants.{Ready}
 use Rattle.nfs_server.proofs.Feeding.{all_append, records_append}
 use Rattle.nfs_server.proofs.Going.{Handles}
 use Rattle.nfs_server.proofs.OneRecord.{is_cut, whole}
-use Rattle.nfs_server.specs.Events.{Event}
+use Rattle.nfs_server.specs.Events.{Event, silence}
 use Rattle.nfs_server.specs.Fits.{Held, Fits}
 use Rattle.nfs_server.specs.InMemory.{reported}
 use Rattle.nfs_server.specs.Retransmissions.{is_refused}
@@ -30,6 +34,32 @@ reruns event reply shown bytes line old new handles same spelled words served hi
       record { served = served; answered = refl; words = subst (AreWords event) (sym same) words },
       h.1.1,
     )
+
+-- ---- one is not
+
+module _ (event : Event) (reply shown bytes : List ℕ) (line : Option AuditLine) (old new : Held) (spelled : entry_text event reply ≡ bytes) where
+  -- what is handled is answered otherwise, or refused
+  pub fails : (fault : RecoveryFault) → Handles old event (reported shown line) new → IsOther fault shown reply line → Fails fault bytes old new
+  fails BadEntry handles other = absurd other
+  fails OtherReply handles other = λ history fits.
+      let h = handles history fits in
+      (record { event = event; choice = h.0; answer = reported shown line }, reply, spelled, other.0, λ e. other.1 (same_some e), h.1.1)
+  fails Memory handles other = λ history fits.
+      let h = handles history fits in
+      (record { event = event; choice = h.0; answer = reported shown line }, reply, spelled, other, h.1.1)
+
+  -- or not at all
+  pub fails_silent : Handles old event silence new → Fails OtherReply bytes old new
+  fails_silent handles history fits =
+      let h = handles history fits in
+      (record { event = event; choice = h.0; answer = silence }, reply, spelled, refl, λ e. true≢false (ap is_none e), h.1.1)
+
+-- what holds of a fault gives something else of it
+pub of_fault : {X E : Type 0} (P Q : E → Type 0) (r : Result X E) → IfErr r P → ((e : E) → P e → Q e) → IfErr r Q
+of_fault P Q (Ok x) p f = tt
+of_fault P Q (Err e) p f = f e p
+
+-- ---- chunks
 
 -- no entry is whole
 pub runs_none : (bytes : List ℕ) (unfinished : ℕ) (s : Held) (from to : Progress) → Moves from bytes to → RunsOn bytes unfinished 0 (unfinished + length bytes) s s from to

@@ -1,5 +1,6 @@
 -- Which events a journal has.
-use Rattle.std.specs.Prelude.{◌≡◌, ℕ, Bool, true, false, not, ◌&&◌, List, [], ◌∷◌, length, Option, Some, None, IsSome, Result, Ok, Err, is_none, if◌then◌else◌, nat_eq}
+use Rattle.std.specs.Prelude.{◌≡◌, ℕ, Bool, true, false, not, ◌&&◌, List, [], ◌∷◌, length, Option, Some, None, IsSome, Result, Ok, Err, is_none}
+use Rattle.std.specs.Prelude.{if◌then◌else◌, nat_eq}
 use Rattle.std.specs.List.{AllByRecursion}
 use Rattle.nfs_args.specs.declared.mount_args.MountArgs.{MountArgs}
 use Rattle.nfs_args.specs.declared.mount_args.MountArgs.TheVariants as asked

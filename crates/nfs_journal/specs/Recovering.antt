@@ -1,13 +1,17 @@
 -- A journal is run again.
-use Rattle.std.specs.Prelude.{◌≡◌, ℕ, List, ◌∷◌, [], ◌++◌, length, map, reverse, IsSome}
+use Rattle.std.specs.Prelude.{◌≡◌, ◌≢◌, ℕ, true, false, List, ◌∷◌, [], ◌++◌, length, map, reverse, Option, IsSome, Some}
 use Rattle.std.specs.List.{AllByRecursion}
-use Rattle.nfs_journal.specs.Entries.{AreWords, entry_of, reply_bytes}
+use Rattle.nfs_journal.specs.Entries.{AreWords, IsNoEntry, entry_of, entry_text, reply_bytes}
 use Rattle.nfs_journal.specs.Noted.{IsServed}
+use Rattle.nfs_journal.specs.declared.recovery.RecoveryFault.{RecoveryFault}
+use Rattle.nfs_journal.specs.declared.recovery.RecoveryFault.TheVariants.{BadEntry, OtherReply, Memory}
 use Rattle.nfs_rpc.specs.Progress.{Progress, Unfinished}
 use Rattle.nfs_rpc.specs.Records.{AreRecords}
 use Rattle.nfs_server.specs.Events.{Done}
 use Rattle.nfs_server.specs.Fits.{Held, History, Fits}
+use Rattle.nfs_server.specs.Retransmissions.{is_refused}
 use Rattle.nfs_server.specs.Runs.{longer}
+use Rattle.nfs_server.specs.declared.audit_line.AuditLine.{AuditLine}
 
 -- it was answered, with memory, and the numbers of its entry have 32 bits each
 pub record IsRerun (d : Done) : Type 0 where
@@ -18,6 +22,20 @@ pub record IsRerun (d : Done) : Type 0 where
 -- one event was answered as this entry says, whatever history fits
 abbrev pub Reruns : List ℕ → Held → Held → Type 0
 Reruns entry old new = (history : History) → Fits history old → (d : Done) × (entry_of d ≡ entry) × IsRerun d × Fits (longer history (d ∷ [])) new
+
+-- a reply is not the one that was expected, or is not looked at for want of memory
+abbrev pub IsOther : RecoveryFault → List ℕ → List ℕ → Option AuditLine → Type 0
+IsOther BadEntry reply expected line = ⊥
+IsOther OtherReply reply expected line = (is_refused line ≡ false) × (reply ≢ expected)
+IsOther Memory reply expected line = is_refused line ≡ true
+
+-- one event was not answered as this entry says, whatever history fits: the bytes are none, it was answered otherwise, or refused for want of memory
+abbrev pub Fails : RecoveryFault → List ℕ → Held → Held → Type 0
+Fails BadEntry entry old new = IsNoEntry entry × (new ≡ old)
+Fails OtherReply entry old new = (history : History) → Fits history old → (d : Done) × (reply : List ℕ) × (entry_text d.event reply ≡ entry)
+    × IsServed d × (d.answer.reply ≢ Some reply) × Fits (longer history (d ∷ [])) new
+Fails Memory entry old new = (history : History) → Fits history old → (d : Done) × (reply : List ℕ) × (entry_text d.event reply ≡ entry)
+    × (is_refused d.answer.line ≡ true) × Fits (longer history (d ∷ [])) new
 
 -- At the front of the bytes stand so many entries, and then a rest of so many bytes that may be the beginning of one more. Each event was
 -- answered again in its turn, as its entry says.

@@ -1,5 +1,6 @@
 //! Laws over the definitions alone.
 ghost use Rattle.nfs_journal.specs.Alike.{AlikeHoldTheSame};
+ghost use Rattle.nfs_journal.specs.Checksums.{KnowsExamples};
 ghost use Rattle.nfs_journal.specs.Entries.{EntriesAreReadOnce, JournalIsOfNoted};
 ghost use Rattle.nfs_journal.specs.Noted.{NotedAreAnswered, NotedAreServed, NotedIsHistory};
 ghost use Rattle.nfs_journal.specs.Recovered.{FrontIsEarlier, RecoveryIsExact};
@@ -31,4 +32,9 @@ pub fn entries_are_read_once()
 pub fn recovery_is_exact()
     ensures whole { RecoveryIsExact }
     ensures front { FrontIsEarlier }
+{}
+
+/// The checksums of RFC 3720's examples are those that it gives.
+pub fn known_checksums()
+    ensures { KnowsExamples }
 {}

@@ -1,6 +1,6 @@
 //! A server becomes again what it was, by its journal.
-ghost use Rattle.std.specs.Prelude.{◌≡◌, false, ◌+◌, ◌^◌, ◌<◌, ◌≤◌, length, take, IfOk, OnOk};
-ghost use Rattle.nfs_journal.specs.Recovering.{Reruns, RunsOn};
+ghost use Rattle.std.specs.Prelude.{◌≡◌, false, ◌+◌, ◌^◌, ◌<◌, ◌≤◌, length, take, IfOk, IfErr, OnOk};
+ghost use Rattle.nfs_journal.specs.Recovering.{Fails, IsOther, Reruns, RunsOn};
 ghost use Rattle.nfs_server.specs.Connections.{IsBetween};
 ghost use Rattle.nfs_server.specs.Retransmissions.{is_refused};
 ghost use Rattle.nfs_server.specs.Taking.{BeginsAnew};
@@ -141,7 +141,8 @@ pub fn rerun_entry(
     reply: &mut ReplyBuf,
     bytes: &[u8],
 ) -> Result<(), RecoveryFault>
-    ensures { OnOk result (Reruns bytes.now server.old server.new) }
+    ensures reruns { OnOk result (Reruns bytes.now server.old server.new) }
+    ensures fails { IfErr result (λ fault. Fails fault bytes.now server.old server.new) }
 {
     let Some(entry) = decode_entry(bytes) else {
         return Err(RecoveryFault::BadEntry);
@@ -156,6 +157,7 @@ pub fn rerun_entry(
 fn check(server: &Server, reply: &ReplyBuf, expected: &[u8]) -> Result<(), RecoveryFault>
     ensures same { OnOk result (reply.now.reply ≡ expected.now) }
     ensures served { OnOk result (is_refused server.now.line ≡ false) }
+    ensures fails { IfErr result (λ fault. IsOther fault reply.now.reply expected.now server.now.line) }
 {
     if wanted_memory(server) {
         return Err(RecoveryFault::Memory);
