@@ -109,7 +109,7 @@ alike_cached places (a ∷ done) (b ∷ other) s t e =
     ∙ ap (λ o. if is_changing a.event then with_reply places (key_of a.event) o (cached_after places other) else cached_after places other) (same_standing a.answer b.answer s.0 t.0 e.0.reply_is)
     ∙ ap (λ (v : Event). if is_changing v then with_reply places (key_of v) (standing b.answer) (cached_after places other) else cached_after places other) e.0.event_is
 
-alike_length : (done other : List Done) → AllAlike done other → length done ≡ length other
+pub alike_length : (done other : List Done) → AllAlike done other → length done ≡ length other
 alike_length [] [] e = refl
 alike_length [] (b ∷ other) e = absurd e
 alike_length (a ∷ done) [] e = absurd e

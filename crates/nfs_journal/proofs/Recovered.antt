@@ -4,7 +4,7 @@ use Rattle.std.specs.Prelude.{if◌then◌else◌, nat_eq}
 use Rattle.std.specs.List.{AllByRecursion}
 use Rattle.std.proofs.lemmas.Bool.{true≢false, false≢true}
 use Rattle.std.proofs.lemmas.List.{append_cancel_left, length-append, map-append, reverse-append, reverse-reverse}
-use Rattle.nfs_journal.proofs.Alike.{alike_hold_the_same}
+use Rattle.nfs_journal.proofs.Alike.{alike_hold_the_same, alike_length}
 use Rattle.nfs_journal.proofs.Answered.{noted_are_answered}
 use Rattle.nfs_journal.proofs.Decoding.{entries_once}
 use Rattle.nfs_journal.proofs.Noted.{noted_are_served, noted_is_history}
@@ -160,7 +160,7 @@ run_front setups opening (d ∷ later) earlier state run = run_front setups open
 
 -- ---- recovery
 
-module _ (history : History) (s t : Held) (bytes lost : List ℕ) (unfinished : ℕ) (life : IsLife history s) (cut : bytes ++ lost ≡ journal_text history.done) (it : HasRecovered history s bytes unfinished t) where
+module _ (history : History) (s t : Held) (bytes lost : List ℕ) (entries unfinished : ℕ) (life : IsLife history s) (cut : bytes ++ lost ≡ journal_text history.done) (it : HasRecovered history s bytes entries unfinished t) where
   abbrev are : List Done
   are = noted history.done
 
@@ -202,8 +202,8 @@ module _ (history : History) (s t : Held) (bytes lost : List ℕ) (unfinished : 
       (record { opening_is = refl; setup_is = in_force })
       (all_back IsServed later earlier (subst (AllByRecursion IsServed) parts (noted_are_served history.done))) (served_of again it.rerun.rerun) alike
 
-  as_earlier : HoldsAsEarlier history t
-  as_earlier = record { later = later; earlier = earlier; noted_are = parts; s = u; fits = fits; same = holds u fits }
+  as_earlier : HoldsAsEarlier history entries t
+  as_earlier = record { later = later; earlier = earlier; noted_are = parts; entries_are = alike_length earlier again alike ∙ it.rerun.entries_are; s = u; fits = fits; same = holds u fits }
     where
       between : (between : State) × IsRun (noted_history history).setups history.opening earlier between
       between = run_front (noted_history history).setups history.opening later earlier s.state (subst (λ d. IsRun (noted_history history).setups history.opening d s.state) parts fitting.run)
@@ -225,13 +225,13 @@ module _ (history : History) (s t : Held) (bytes lost : List ℕ) (unfinished : 
       whole = parts ∙ ap (λ l. reverse l ++ earlier) (no_back matched.1 (matched.4 ∙ none))
 
 pub front_is_earlier : FrontIsEarlier
-front_is_earlier history s t bytes lost unfinished life cut it = as_earlier history s t bytes lost unfinished life cut it
+front_is_earlier history s t bytes lost entries unfinished life cut it = as_earlier history s t bytes lost entries unfinished life cut it
 
 pub recovery_is_exact : RecoveryIsExact
-recovery_is_exact history s t unfinished life it =
+recovery_is_exact history s t entries unfinished life it =
     let text = journal_text history.done in
     let cut : text ++ [] ≡ text = append-nil text in
     let left = is_left it.rerun.rest it.progress it.between it.rerun.rest_is in
-    let it_all = front history s t text [] unfinished life cut it in
+    let it_all = front history s t text [] entries unfinished life cut it in
     let none = none_left it_all.0 it.rerun.rest left.none_whole (subst (λ rest. AreRecords rest it_all.0 []) (append-nil it.rerun.rest) it_all.2) in
-    (sym it.rerun.unfinished_is ∙ ap length none.1, all_come history s t text [] unfinished life cut it none.0)
+    (sym it.rerun.unfinished_is ∙ ap length none.1, all_come history s t text [] entries unfinished life cut it none.0)
