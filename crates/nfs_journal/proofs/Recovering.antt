@@ -1,15 +1,15 @@
 -- A journal is run again entry by entry.
-use Rattle.std.proofs.Common.{◌≡◌, ℕ, ◌+◌, ◌-◌, ◌≤◌, false, List, [], ◌∷◌, ◌++◌, map, reverse, take, drop, length, Option, refl, sym, ap, subst, ◌∙◌, append_assoc, append-nil, arith}
-use Rattle.std.proofs.lemmas.List.{map-append, reverse-append, length-append, take_all}
+use Rattle.std.proofs.Common.{inr, ◌≡◌, ℕ, ◌+◌, ◌-◌, ◌≤◌, false, List, [], ◌∷◌, ◌++◌, map, reverse, take, drop, length, Option, refl, sym, ap, subst, ◌∙◌, append_assoc, append-nil, arith}
+use Rattle.std.proofs.lemmas.List.{map-append, reverse-append, length-append, length-drop, take-append-drop, take_all}
 use Rattle.std.proofs.lemmas.Bool.{true≢false}
 use Rattle.nfs_inodes.proofs.Lists.{same_some}
 use Rattle.std.specs.Prelude.{Result, Ok, Err, OnOk, IfErr, is_none}
 use Rattle.nfs_journal.specs.Entries.{AreWords, entry_of, entry_text}
-use Rattle.nfs_journal.specs.Recovering.{IsOther, Fails, IsRerun, Reruns, RunsOn}
+use Rattle.nfs_journal.specs.Recovering.{Breaks, BreaksOn, Fails, FailsNext, IsOther, IsRerun, Reruns, RunsOn}
 use Rattle.nfs_journal.specs.declared.recovery.RecoveryFault.{RecoveryFault}
 use Rattle.nfs_journal.specs.declared.recovery.RecoveryFault.TheVariants.{BadEntry, OtherReply, Memory}
 use Rattle.nfs_rpc.proofs.Streams.{records_grow}
-use Rattle.nfs_rpc.specs.Progress.{Progress, Moves}
+use Rattle.nfs_rpc.specs.Progress.{Progress, Moves, Unfinished}
 use Rattle.nfs_rpc.specs.Records.{AreRecords}
 use Rattle.nfs_rpc.specs.declared.framer.Stage.TheVariants.{Ready}
 use Rattle.nfs_server.proofs.Feeding.{all_append, records_append}
@@ -124,3 +124,56 @@ module _ (chunk : List ℕ) (i a b n : ℕ) (old mid : Held) (from between : Pro
 pub both_ok : {X E : Type 0} (A B C : Type 0) (r : Result X E) → OnOk r A → OnOk r B → (A → B → C) → OnOk r C
 both_ok A B C (Ok x) a b f = f a b
 both_ok A B C (Err e) a b f = tt
+
+-- ---- chunks that break off
+
+-- nothing of it is run again
+pub breaks_now : (fault : RecoveryFault) (bytes : List ℕ) (before : ℕ) (old new : Held) (from : Progress) → ((text : List ℕ) → Unfinished text from → Breaks fault from.limit (text ++ bytes) old new)
+    → BreaksOn fault bytes before old new from
+breaks_now fault bytes before old new from breaks history fits text u len =
+    record { done = []; rest = text ++ bytes; cut = refl; rerun = tt; between = old; fits = fits; breaks = breaks text u }
+
+next_breaks : (fault : RecoveryFault) (limit : ℕ) (bytes : List ℕ) (old new : Held) → FailsNext fault bytes old new → Breaks fault limit bytes old new
+next_breaks BadEntry limit bytes old new f = inr f
+next_breaks OtherReply limit bytes old new f = f
+next_breaks Memory limit bytes old new f = inr f
+
+-- the record that is whole fails as an entry
+pub breaks_one : (fault : RecoveryFault) (chunk : List ℕ) (used before : ℕ) (old new : Held) (from mid : Progress) → Moves from (take used chunk) mid → mid.stage ≡ Ready → Fails fault mid.content old new
+    → BreaksOn fault chunk before old new from
+breaks_one fault chunk used before old new from mid moves ready failed = breaks_now fault chunk before old new from
+    (λ text u. next_breaks fault from.limit (text ++ chunk) old new (
+      mid.content,
+      drop used chunk,
+      record {
+        text = text ++ take used chunk;
+        encoded = (whole mid (text ++ take used chunk) ready (moves text u)).1;
+        bytes_are = ap (λ t. text ++ t) (sym (take-append-drop used chunk)) ∙ sym (append_assoc text (take used chunk) (drop used chunk));
+      },
+      failed,
+    ))
+
+breaks_after : (fault : RecoveryFault) (xs ys : List ℕ) (a b n : ℕ) (old mid new : Held) (from between : Progress) → RunsOn xs a n b old mid from between → between.limit ≡ from.limit
+    → BreaksOn fault ys b mid new between → BreaksOn fault (xs ++ ys) a old new from
+breaks_after fault xs ys a b n old mid new from between before limit then history fits text u len =
+    let f = before history fits text u len in
+    let g = then (longer history f.done) f.fits f.rest f.rest_is f.unfinished_is in
+    let entries : map entry_of (reverse (g.done ++ f.done)) ≡ map entry_of (reverse f.done) ++ map entry_of (reverse g.done) =
+    ap (map entry_of) (reverse-append g.done f.done) ∙ map-append entry_of (reverse f.done) (reverse g.done) in
+    record {
+      done = g.done ++ f.done;
+      rest = g.rest;
+      cut = subst (λ es. AreRecords (text ++ (xs ++ ys)) es g.rest) (sym entries) (subst (λ t. AreRecords t (map entry_of (reverse f.done) ++ map entry_of (reverse g.done)) g.rest) (append_assoc text xs ys)
+          (records_append ((text ++ xs) ++ ys) (map entry_of (reverse f.done)) (map entry_of (reverse g.done)) (f.rest ++ ys) g.rest (records_grow (text ++ xs) (map entry_of (reverse f.done)) f.rest ys f.cut) g.cut));
+      rerun = all_append IsRerun g.done f.done g.rerun f.rerun;
+      between = g.between;
+      fits = subst (λ d. Fits (record history { done = d }) g.between) (sym (append_assoc g.done f.done history.done)) g.fits;
+      breaks = subst (λ k. Breaks fault k g.rest g.between new) limit g.breaks;
+    }
+
+pub breaks_in : (fault : RecoveryFault) (chunk : List ℕ) (i a b n : ℕ) (old mid new : Held) (from between : Progress) → RunsOn (take i chunk) a n b old mid from between → between.limit ≡ from.limit
+    → BreaksOn fault (take (length chunk - i) (drop i chunk)) b mid new between → BreaksOn fault chunk a old new from
+breaks_in fault chunk i a b n old mid new from between before limit then =
+    let left : take (length chunk - i) (drop i chunk) ≡ drop i chunk = take_all (length chunk - i) (drop i chunk) (omega (arith, length-drop i chunk)) in
+    subst (λ t. BreaksOn fault t a old new from) (ap (λ t. take i chunk ++ t) left ∙ take-append-drop i chunk)
+    (breaks_after fault (take i chunk) (take (length chunk - i) (drop i chunk)) a b n old mid new from between before limit then)

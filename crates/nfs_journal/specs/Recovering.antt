@@ -1,17 +1,18 @@
 -- A journal is run again.
-use Rattle.std.specs.Prelude.{◌≡◌, ◌≢◌, ℕ, true, false, List, ◌∷◌, [], ◌++◌, length, map, reverse, Option, IsSome, Some}
+use Rattle.std.specs.Prelude.{◌≡◌, ◌≢◌, ◌⊎◌, ℕ, true, false, List, ◌∷◌, [], ◌++◌, length, map, reverse, Option, IsSome, Some}
 use Rattle.std.specs.List.{AllByRecursion}
 use Rattle.nfs_journal.specs.Entries.{AreWords, IsNoEntry, entry_of, entry_text, reply_bytes}
 use Rattle.nfs_journal.specs.Noted.{IsServed}
 use Rattle.nfs_journal.specs.declared.recovery.RecoveryFault.{RecoveryFault}
 use Rattle.nfs_journal.specs.declared.recovery.RecoveryFault.TheVariants.{BadEntry, OtherReply, Memory}
 use Rattle.nfs_rpc.specs.Progress.{Progress, Unfinished}
-use Rattle.nfs_rpc.specs.Records.{AreRecords}
+use Rattle.nfs_rpc.specs.Records.{AreRecords, IsRecord, ReachesTooLong, ReachesWithin}
 use Rattle.nfs_server.specs.Events.{Done}
 use Rattle.nfs_server.specs.Fits.{Held, History, Fits}
 use Rattle.nfs_server.specs.Retransmissions.{is_refused}
 use Rattle.nfs_server.specs.Runs.{longer}
 use Rattle.nfs_server.specs.declared.audit_line.AuditLine.{AuditLine}
+use Rattle.nfs_xdr.specs.Encoding.{Begins}
 
 -- it was answered, with memory, and the numbers of its entry have 32 bits each
 pub record IsRerun (d : Done) : Type 0 where
@@ -53,3 +54,30 @@ pub record HasRerun (history : History) (bytes : List ℕ) (entries unfinished :
 abbrev pub RunsOn : List ℕ → ℕ → ℕ → ℕ → Held → Held → Progress → Progress → Type 0
 RunsOn bytes before entries unfinished old new from to = (history : History) → Fits history old → (text : List ℕ) → Unfinished text from
     → length text ≡ before → HasRerun history (text ++ bytes) entries unfinished new to
+
+-- ---- faults
+
+-- at the front of the bytes stands a record that fails as an entry
+abbrev pub FailsNext : RecoveryFault → List ℕ → Held → Held → Type 0
+FailsNext fault bytes old new = (entry : List ℕ) × (after : List ℕ) × Begins IsRecord entry bytes after × Fails fault entry old new
+
+-- so, or it brings a length above the limit, or there is no memory for it
+abbrev pub Breaks : RecoveryFault → ℕ → List ℕ → Held → Held → Type 0
+Breaks BadEntry limit bytes old new = (ReachesTooLong limit bytes × (new ≡ old)) ⊎ FailsNext BadEntry bytes old new
+Breaks OtherReply limit bytes old new = FailsNext OtherReply bytes old new
+Breaks Memory limit bytes old new = (ReachesWithin limit bytes × (new ≡ old)) ⊎ FailsNext Memory bytes old new
+
+-- At the front of the bytes stand entries whose events were answered again, and then what brings this fault.
+pub record HasBroken (fault : RecoveryFault) (history : History) (limit : ℕ) (bytes : List ℕ) (s : Held) : Type 0 where
+  pub done : List Done
+  pub rest : List ℕ
+  pub cut : AreRecords bytes (map entry_of (reverse done)) rest
+  pub rerun : AllByRecursion IsRerun done
+  pub between : Held
+  pub fits : Fits (longer history done) between
+  pub breaks : Breaks fault limit rest between s
+
+-- The same of every history that fits, and of whatever was unfinished before the bytes, which was so long.
+abbrev pub BreaksOn : RecoveryFault → List ℕ → ℕ → Held → Held → Progress → Type 0
+BreaksOn fault bytes before old new from = (history : History) → Fits history old → (text : List ℕ) → Unfinished text from
+    → length text ≡ before → HasBroken fault history from.limit (text ++ bytes) new

@@ -1,6 +1,6 @@
 //! A server becomes again what it was, by its journal.
 ghost use Rattle.std.specs.Prelude.{◌≡◌, false, ◌+◌, ◌^◌, ◌<◌, ◌≤◌, length, take, IfOk, IfErr, OnOk};
-ghost use Rattle.nfs_journal.specs.Recovering.{Fails, IsOther, Reruns, RunsOn};
+ghost use Rattle.nfs_journal.specs.Recovering.{BreaksOn, Fails, IsOther, Reruns, RunsOn};
 ghost use Rattle.nfs_server.specs.Connections.{IsBetween};
 ghost use Rattle.nfs_server.specs.Retransmissions.{is_refused};
 ghost use Rattle.nfs_server.specs.Taking.{BeginsAnew};
@@ -24,7 +24,7 @@ pub struct Rerun {
 /// Why a journal can't be run again.
 #[derive(Clone, Copy, Debug, PartialEq, Eq)]
 pub enum RecoveryFault {
-    /// A record is no entry, has another checksum, or is too long for an entry.
+    /// A record is no entry, or longer than the framer takes.
     BadEntry,
     /// The server answers an entry otherwise than it says: the journal is that of another server.
     OtherReply,
@@ -47,6 +47,8 @@ pub fn rerun_chunk(
     ensures entries { IfOk result (λ rerun. rerun.entries ≤ length chunk.now) }
     ensures unfinished { IfOk result (λ rerun. rerun.unfinished ≤ unfinished + length chunk.now) }
     ensures between { OnOk result (IsBetween framer.new) }
+    ensures limit { framer.new.limit ≡ framer.old.limit }
+    ensures breaks { IfErr result (λ fault. BreaksOn fault chunk.now unfinished server.old server.new framer.old) }
     ensures runs { IfOk result (λ rerun. RunsOn chunk.now unfinished rerun.entries rerun.unfinished server.old server.new framer.old framer.new) }
 {
     let mut used = 0;
@@ -91,13 +93,16 @@ fn rerun_one(
     ensures entries { IfOk result (λ part. part.rerun.entries ≤ part.used) }
     ensures unfinished { IfOk result (λ part. part.rerun.unfinished ≤ unfinished + part.used) }
     ensures between { OnOk result (IsBetween framer.new) }
+    ensures limit { framer.new.limit ≡ framer.old.limit }
+    ensures breaks { IfErr result (λ fault. BreaksOn fault chunk.now unfinished server.old server.new framer.old) }
     ensures runs { IfOk result (λ part. RunsOn (take part.used chunk.now) unfinished part.rerun.entries part.rerun.unfinished
         server.old server.new framer.old framer.new) }
 {
     let fed = match framer.feed(chunk) {
         Ok(fed) => fed,
         Err(FrameFault::Memory) => return Err(RecoveryFault::Memory),
-        Err(_) => return Err(RecoveryFault::BadEntry),
+        Err(FrameFault::TooLong) => return Err(RecoveryFault::BadEntry),
+        Err(FrameFault::Failed) => unreachable!(),
     };
     if !fed.ready {
         return Ok(Part {
@@ -128,6 +133,8 @@ fn rerun_record(
 ) -> Result<(), RecoveryFault>
     requires { framer.old.stage ≡ Stage.Ready }
     ensures next { BeginsAnew framer.new }
+    ensures limit { framer.new.limit ≡ framer.old.limit }
+    ensures fails { IfErr result (λ fault. Fails fault framer.old.content server.old server.new) }
     ensures reruns { OnOk result (Reruns framer.old.content server.old server.new) }
 {
     let rerun = rerun_entry(server, reply, framer.whole());

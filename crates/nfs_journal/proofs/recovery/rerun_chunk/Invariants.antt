@@ -1,4 +1,4 @@
-use Rattle.std.proofs.Common.{◌+◌, ◌-◌, ◌≤◌, length, take}
+use Rattle.std.proofs.Common.{◌≡◌, ◌+◌, ◌-◌, ◌≤◌, length, take}
 use Rattle.nfs_server.specs.Connections.{IsBetween}
 use Rattle.nfs_journal.specs.Recovering.{RunsOn}
 use Rattle.nfs_journal.proofs.recovery.rerun_chunk.Given as goal
@@ -9,6 +9,7 @@ invariant-loop-used l = record {
   entries : l.rerun.entries ≤ l.used;
   unfinished : l.rerun.unfinished ≤ l.unfinished + l.used;
   between : IsBetween l.framer;
+  limit : l.framer.limit ≡ l.fn.framer.limit;
   runs : RunsOn (take l.used l.chunk) l.unfinished l.rerun.entries l.rerun.unfinished l.fn.server l.server l.fn.framer l.framer;
 }
 
