@@ -1,0 +1,9 @@
+pub mod Stays
+pub mod Noted
+pub mod Alike
+pub mod Checksums
+pub mod Entries
+pub mod Decoding
+pub mod Recovering
+pub mod Answered
+pub mod Recovered

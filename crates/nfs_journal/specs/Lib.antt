@@ -1,0 +1,6 @@
+pub mod Noted
+pub mod Checksums
+pub mod Entries
+pub mod Alike
+pub mod Recovering
+pub mod Recovered
