@@ -1,5 +1,5 @@
 -- What becomes of the reply cache at a call that may change the tree, and has no reply there.
-use Rattle.std.proofs.Common.{◌≡◌, ℕ, Bool, true, false, cond, List, Option, None, Some, sym, ap, subst, ◌∙◌}
+use Rattle.std.proofs.Common.{◌≡◌, ℕ, true, false, cond, List, Option, None, Some, sym, ap, subst, ◌∙◌}
 use Rattle.nfs_reply_cache.specs.Places.{cached_reply, with_reply}
 use Rattle.nfs_procs.specs.Scenes.{Scene}
 use Rattle.nfs_rpc.specs.Calls.{Call}

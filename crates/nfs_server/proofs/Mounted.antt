@@ -1,5 +1,5 @@
 -- What became of a call of MOUNT is a step of the server.
-use Rattle.std.proofs.Common.{◌≡◌, ℕ, Bool, true, false, List, ◌++◌, Option, Some, None, refl, sym, ap, subst, ◌∙◌}
+use Rattle.std.proofs.Common.{◌≡◌, ℕ, Bool, true, false, List, ◌++◌, Option, Some, None, sym, ap, subst, ◌∙◌}
 use Rattle.std.proofs.lemmas.Bool.{true≢false}
 use Rattle.std.specs.Prelude.{Result, Ok, Err}
 use Rattle.std.specs.Result.{result_ok}
@@ -26,7 +26,7 @@ use Rattle.nfs_rpc.specs.Replies.{accepted_text}
 use Rattle.nfs_rpc.specs.declared.reply.Accept.TheVariants.{SystemErr}
 use Rattle.nfs_rules.specs.declared.rule.Rule.{Rule}
 use Rattle.nfs_server.specs.AuditLines.{line_of}
-use Rattle.nfs_server.specs.Events.{Choice, granted, denied}
+use Rattle.nfs_server.specs.Events.{granted, denied}
 use Rattle.nfs_server.specs.OneEvent.{AnswersMount, Leaves, MountsAs}
 use Rattle.nfs_server.specs.Requests.{mount_args_in, read_args}
 use Rattle.nfs_server.specs.InMemory.{reported}

@@ -1,5 +1,5 @@
 -- What became of a call of NFS is a step of the server.
-use Rattle.std.proofs.Common.{◌≡◌, ℕ, Bool, true, false, List, [], ◌++◌, Option, Some, None, refl, sym, ap, subst, ◌∙◌, append-nil}
+use Rattle.std.proofs.Common.{◌≡◌, ℕ, true, false, List, [], ◌++◌, Option, Some, None, refl, sym, ap, subst, ◌∙◌, append-nil}
 use Rattle.std.proofs.lemmas.Bool.{false≢true}
 use Rattle.std.specs.declared.alloc.AllocError.{AllocError}
 use Rattle.nfs_args.specs.Answers.{nfs_text}
@@ -89,8 +89,7 @@ pub granted_done : (c : Scene) (o : Option Doing) (came : Option Done) (new : Tr
     → Performs o c call (reported reply line) new
 granted_done c None came new before after call reply line unset e performs wrote = absurd (subst (λ d. PerformsAs c None d new before after) e performs)
 granted_done c (Some doing) came new before after call reply line unset e performs wrote =
-    let h : HasEffect c doing new before after = subst (λ d. PerformsAs c (Some doing) d new before after) e performs in
-    (
+    let h : HasEffect c doing new before after = subst (λ d. PerformsAs c (Some doing) d new before after) e performs in (
       with_memory,
       subst (λ v. Decided v c doing call (reported reply line) new) (sym h.granted.verdict)
           (record { one = h.one; two = h.two; subjects = h.granted.subjects; tag = h.tag; tag_is = h.tag_is; new_is = h.new_is; answer_is = ap (reported reply) unset ∙ ap granted (wrote _ h.written.text.bytes); encoded = h.written.encoded }),
@@ -102,8 +101,7 @@ pub denied_done : (c : Scene) (o : Option Doing) (came : Option Done) (new : Tre
 denied_done c None came new before after call reply line rule uid e performs wrote line_is = absurd (subst (λ d. PerformsAs c None d new before after) e performs)
 denied_done c (Some doing) came new before after call reply line rule uid e performs wrote line_is =
     let h : HasFailed c doing rule uid new before after = subst (λ d. PerformsAs c (Some doing) d new before after) e performs in
-    let text = nfs_text (doing.denied (status_of rule) (seen_in c)) in
-    (
+    let text = nfs_text (doing.denied (status_of rule) (seen_in c)) in (
       with_memory,
       subst (λ v. Decided v c doing call (reported reply (Some line)) new) (sym h.verdict)
           (record {
@@ -118,8 +116,7 @@ pub refused_done : (c : Scene) (o : Option Doing) (came : Option Done) (new : Tr
     → Performs o c call (reported reply (Some line)) new
 refused_done c None came new before after call reply line refused asks e performs reply_is line_is = absurd (subst (λ d. PerformsAs c None d new before after) e performs)
 refused_done c (Some doing) came new before after call reply line refused asks e performs reply_is line_is =
-    let h : HasNoMemory c doing new before after = subst (λ d. PerformsAs c (Some doing) d new before after) e performs in
-    (
+    let h : HasNoMemory c doing new before after = subst (λ d. PerformsAs c (Some doing) d new before after) e performs in (
       without_memory,
       subst (λ b. Refusable b (Some doing) c call (reported reply (Some line)) new) (sym (wanting c.args h.one h.two (ap (λ o. on_some o false (λ d. d.takes_memory h.one h.two)) asks ∙ h.takes)))
           (record { new_is = h.new_is; answer_is = ap (λ r. denied r line) reply_is ∙ ap (denied (accepted_text call.xid SystemErr)) line_is }),
@@ -130,7 +127,7 @@ pub no_place : (c : Scene) (o : Option Doing) (new : Tree) (call : Call) (reply 
     → reply ≡ accepted_text call.xid SystemErr → line ≡ line_of c.caller.addr call reason.Memory
     → Performs o c call (reported reply (Some line)) new
 no_place c o new call reply line changes new_is reply_is line_is = (
-      without_memory,
-      subst (λ b. Refusable b o c call (reported reply (Some line)) new) (sym changes)
-          (record { new_is = new_is; answer_is = ap (λ r. denied r line) reply_is ∙ ap (denied (accepted_text call.xid SystemErr)) line_is }),
-    )
+  without_memory,
+  subst (λ b. Refusable b o c call (reported reply (Some line)) new) (sym changes)
+      (record { new_is = new_is; answer_is = ap (λ r. denied r line) reply_is ∙ ap (denied (accepted_text call.xid SystemErr)) line_is }),
+)

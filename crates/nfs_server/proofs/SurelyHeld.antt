@@ -1,5 +1,5 @@
 -- What is surely held of the reply cache.
-use Rattle.std.proofs.Common.{◌≡◌, ℕ, suc, ◌+◌, ◌-◌, ◌<◌, ◌≤◌, Bool, true, false, cond, List, [], ◌∷◌, Option, Some, None, take, refl, sym, ap, subst, ◌∙◌, arith}
+use Rattle.std.proofs.Common.{◌≡◌, ℕ, suc, ◌+◌, ◌-◌, ◌<◌, Bool, true, false, cond, List, [], ◌∷◌, Option, Some, None, take, refl, sym, ap, subst, ◌∙◌, arith}
 use Rattle.std.specs.Prelude.{if◌then◌else◌}
 use Rattle.nfs_reply_cache.specs.Places.{Key, Place, same, place_for, cached_reply, with_reply, without}
 use Rattle.nfs_reply_cache.proofs.Lookups.{found_cut, found_more, found_whole, none_some, stands_without, was_without}

@@ -113,7 +113,8 @@ fn read_with<'a, R: Files + Input, D: LineDigest>(
         let kept = KeptLines::of_once(alloc, extent);
         return read_from(alloc, &mut file, name, digest, kept);
     }
-    match read_from(alloc, &mut file, name, digest, KeptLines::new(alloc, extent)) {
+    let kept = KeptLines::new(alloc, extent);
+    match read_from(alloc, &mut file, name, digest, kept) {
         Ok(read) => Ok(read),
         Err(first) => Err(advised(rt, alloc, name, first)),
     }

@@ -1,5 +1,5 @@
-use Rattle.std.proofs.Common.{◌≡◌, List, length, None, Some, drop, refl, ap, sym, subst, ◌∙◌, rules}
-use Rattle.nfs_reply_cache.specs.Places.{Key, Place, cached_reply, with_reply}
+use Rattle.std.proofs.Common.{◌≡◌, length, None, Some, refl, ap, sym, subst, ◌∙◌, rules}
+use Rattle.nfs_reply_cache.specs.Places.{Key, cached_reply, with_reply}
 use Rattle.nfs_reply_cache.proofs.Shows.{none_found}
 use Rattle.nfs_procs.specs.Procedures.{doing_of}
 use Rattle.nfs_rpc.specs.Calls.{call_of}
