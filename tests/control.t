@@ -453,18 +453,54 @@ bash -c 'exec 3<>"/dev/tcp/127.0.0.1/$0" && printf "\200\0\0\050\0\0\0\052" >&3 
 same "$work/stopping" "$work/told" && server_ends 0
 ok $? "nor does one that has sent half a call"
 
+# goes_on FILE WHY: whether the last run was told that the service goes on, since it can't write this file, of which nothing is left;
+# it is logged, and new clients are served.
+goes_on() {
+    printf 'stopping\nerror: cannot write %s: %s; the service goes on\n' "$1" "$2" >"$work/wanted"
+    brings /dev/null "$work/wanted" 1 && grep -q "cannot write $1: $2; the service goes on\$" "$work/served.err" && [ ! -e "$1" ] && [ ! -e "$1.part" ] &&
+        wait_until 10 "$work/touch" "$port" 127.0.0.1 /a later 2>"$work/wrong"
+}
+
 mkdir "$work/gone"
 controlled --save "$work/gone/saved"
 rm -r "$work/gone"
-printf 'stopping\nerror: the service ended with a fault; see its messages\n' >"$work/wanted"
 run control "$socket" stop
-brings /dev/null "$work/wanted" 1 && server_ends 3 && grep -q "^nfs3d: cannot write $work/gone/saved: " "$work/served.err"
-ok $? "stop, where the tree can't be saved"
+goes_on "$work/gone/saved" "No such file or directory (os error 2)"
+ok $? "stop, where the tree can't be saved: the service goes on, and serves new clients"
+run control "$socket" stop --save "$work/beside"
+goes_on "$work/gone/saved" "No such file or directory (os error 2)"
+ok $? "so it does where only the file of stop --save can be written"
+rm -f "$work/beside"
 mkdir "$work/gone"
+run control "$socket" stop
+brings "$work/stopping" /dev/null 0 && server_ends 0 && grep -q '^file /later ' "$work/gone/saved" && [ ! -e "$work/beside" ]
+ok $? "it ends once the tree can be saved, and FILE is forgotten that could not be"
 controlled
-bash -c 'exec 3<>"/dev/tcp/127.0.0.1/$0" && printf "\200\0\0\050" >&3 && { "$1" control "$2" stop --save "$3/gone/saved" >/dev/null 2>"$3/told"; echo $? >"$3/code"; } & sleep 0.5; rm -r "$3/gone"; wait' "$port" "$program" "$socket" "$work"
-same "$work/wanted" "$work/told" && [ "$(cat "$work/code")" = 1 ] && server_ends 3 && grep -q "^nfs3d: cannot write $work/gone/saved: " "$work/served.err"
-ok $? "nor to the file of stop --save"
+bash -c 'exec 3<>"/dev/tcp/127.0.0.1/$0" && printf "\200\0\0\050" >&3 && { "$1" control "$2" stop --save "$3/gone/last" >"$3/out" 2>"$3/err"; echo $? >"$3/status"; } & sleep 0.5; rm -r "$3/gone"; wait' "$port" "$program" "$socket" "$work"
+goes_on "$work/gone/last" "No such file or directory (os error 2)"
+ok $? "nor is it ended where the file of stop --save can be made no more when its clients are gone"
+
+# A file may have 4,096 bytes at most, as on a disk that is full before the tree is written.
+awk 'BEGIN { printf "server 0102030405060708\nvolume /a 1000000 20 0755 0 0\nexport * rw,no_root_squash\nfile /f 0644 0 0 "; for (i = 0; i < 16384; i++) printf "00"; print "" }' >"$work/large.tree"
+trap '' XFSZ
+serving "$work/large.tree" --control "$socket" && wait_until 10 test -S "$socket"
+trap - XFSZ
+prlimit --pid "$(server_process)" --fsize=4096:unlimited
+run control "$socket" stop --save "$work/full"
+goes_on "$work/full" "File too large (os error 27)"
+ok $? "stop --save on a disk that is full: the service goes on"
+prlimit --pid "$(server_process)" --fsize=unlimited:unlimited
+run control "$socket" stop --save "$work/full"
+brings "$work/stopping" /dev/null 0 && server_ends 0 && grep -q '^file /later ' "$work/full" && run check "$work/full" && says "ok volumes=1 files=3 bytes=16384"
+ok $? "and ends once there is room"
+
+# A service that ends by itself has nobody to go on for.
+mkdir "$work/gone"
+controlled --save "$work/gone/saved" --connections 1
+rm -r "$work/gone"
+"$work/touch" "$port" 127.0.0.1 /a last 2>"$work/wrong"
+server_ends 3 && grep -q "^nfs3d: cannot write $work/gone/saved: " "$work/served.err"
+ok $? "a service that ends by itself, and whose tree can't be saved, ends with that fault"
 
 run serve "$work/tree" --save "$work/saved" --port 0
 ended 2 && grep -q 'or --control PATH$' "$work/err"

@@ -119,6 +119,9 @@ within() { (ulimit -v 65536 && run "$@"); }
 within check "$work/tree"
 says "ok volumes=2 files=8 bytes=12"
 ok $? "check of 100 MB of lines in 64 MiB of memory"
+within check "$work/tree" --all
+says "ok volumes=2 files=8 bytes=12"
+ok $? "check --all of 100 MB of lines in 64 MiB of memory"
 within replay "$work/tree" examples/read.script
 brings examples/read.out /dev/null 0
 ok $? "replay over 100 MB of lines in 64 MiB of memory"
@@ -136,6 +139,14 @@ ok $? "a fault below 100 MB of lines is reported without its second line where t
 run check "$work/tree"
 says "line $line: UnknownWord"
 ok $? "and with it where there is"
+{ cat "$work/wanted.pipe" && echo "nfs3d: out of memory: faulty lines after the first are not looked for"; } >"$work/wanted"
+within check "$work/tree" --all
+brings /dev/null "$work/wanted" 1
+ok $? "check --all reports that fault alone where there is no memory for the text"
+{ cat "$work/wanted.pipe" && echo "faulty lines: 1"; } >"$work/wanted"
+run check "$work/tree" --all
+sed -n '1p;$p' "$work/err" | same "$work/wanted" - && ended 1
+ok $? "and counts all where there is"
 # Lines of a pipe can't be read again: the first MiB of them is kept.
 # shellcheck disable=SC2002
 cat "$work/tree" | run check -
@@ -146,6 +157,66 @@ line=$(($(grep -c '' "$work/tree") + 1))
 { cat "$work/tree" && echo tree; } | run check -
 says "line $line: UnknownWord"
 ok $? "and with it below less"
+
+# A text of more than 1 GiB, most of it in the holes of a file.
+grep -v '^#' examples/e.tree >"$work/tree"
+for _ in $(seq 1100); do
+    printf '#' >>"$work/tree"
+    truncate -s +1048576 "$work/tree"
+    echo >>"$work/tree"
+done
+within check "$work/tree" --all
+says "ok volumes=2 files=8 bytes=12"
+ok $? "check --all of a text of more than 1 GiB in 64 MiB of memory"
+printf x | dd of="$work/tree" conv=notrunc 2>/dev/null
+run check "$work/tree"
+{ cat "$work/err" && echo "nfs3d: $work/tree is longer than 1 GiB: faulty lines after the first are not looked for"; } >"$work/wanted"
+run check "$work/tree" --all
+brings /dev/null "$work/wanted" 1
+ok $? "check --all of one whose first line is faulty reports that line, and that no other is looked for"
+
+# The content of a long line is decoded as it comes, whichever case its letters have: 16 MiB of it are loaded in 64 MiB of memory.
+# large DIGITS [LIMIT]: a description of a file of 16 MiB, whose content is these 16 digits again and again; above it a limit.
+large() {
+    echo "server 0102030405060708"
+    echo "${2:-limits file-size=16777217}"
+    echo "volume /a 16777216 3 0755 0 0"
+    printf 'file /f 0644 0 0 '
+    yes "$1" | tr -d '\n' | head -c 33554432
+    echo
+}
+for digits in 0123456789abcdef 0123456789ABCDEF; do
+    large $digits >"$work/$digits"
+    within check "$work/$digits"
+    says "ok volumes=1 files=2 bytes=16777216"
+    ok $? "check of 16 MiB in the digits $digits in 64 MiB of memory"
+done
+{ large 0123456789012345 | head -c -9 && echo ABCDEF01; } >"$work/tree"
+within check "$work/tree"
+says "ok volumes=1 files=2 bytes=16777216"
+ok $? "check of 16 MiB whose only letters are capitals near the end in 64 MiB of memory"
+{ large 0123456789012345 | head -c -9 && echo ABcdef01; } >"$work/tree"
+run check "$work/tree"
+says "ok volumes=1 files=2 bytes=16777216"
+ok $? "check of 16 MiB with letters of both cases"
+run extract "$work/0123456789abcdef" "$work/small"
+run extract "$work/0123456789ABCDEF" "$work/capital"
+cmp -s "$work/small/f" "$work/capital/f" && [ "$(head -c 8 "$work/capital/f" | od -An -tx1 | tr -d ' ')" = 0123456789abcdef ]
+ok $? "both cases say the same bytes"
+# The second line of a fault shows the digits as they came.
+for digits in 0123456789abcdef 0123456789ABCDEF; do
+    large $digits "limits file-size=5" >"$work/tree"
+    shown=$(echo "$digits$digits$digits$digits" | head -c 60)
+    { echo "line 4: BadContent" && echo "  $work/tree:4:18: \"$shown..\" is too long; a file has at most 5 bytes"; } >"$work/wanted"
+    run check "$work/tree"
+    brings /dev/null "$work/wanted" 1
+    ok $? "a content of 16 MiB in the digits $digits that is too long"
+    { cat "$work/$digits" && echo "file /f 0644 0 0 -"; } >"$work/tree"
+    { echo "line 5: NameTaken" && echo "  $work/tree:5:6: \"/f\" already exists; see line 4"; } >"$work/wanted"
+    run check "$work/tree"
+    brings /dev/null "$work/wanted" 1
+    ok $? "a fault below a content of 16 MiB in the digits $digits"
+done
 
 # An output that fails at once, and one that takes one block of bytes, of 40 replies.
 yes "call 10.0.0.1 1 $null" | head -n 40 >"$work/calls"

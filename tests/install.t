@@ -62,7 +62,7 @@ fi
 
 # Each option that the help of a command reports is in its completion, and all are in the manual, and no other.
 : >"$work/options"
-for command in check describe replay serve why; do
+for command in check control describe journal replay serve why; do
     run "$command" --help
     sed -n 's/^ *\(-[a-z], \)\{0,1\}\(--[a-z-]*\).*/\2/p' "$work/out" | grep -vx -e --help | sort >"$work/wanted"
     [ -s "$work/wanted" ] &&

@@ -89,11 +89,11 @@ refused() {
     brings /dev/null "$work/wanted" 2
 }
 
-refused "$work/script" 'replay takes TREE and SCRIPT, or with --port SCRIPT alone'
+refused "$work/script" 'replay takes TREE and SCRIPT, with --journal TREE alone, or with --port SCRIPT alone'
 ok $? "neither a tree nor a port"
-refused "$work/tree $work/script --port $port" 'replay takes TREE and SCRIPT, or with --port SCRIPT alone'
+refused "$work/tree $work/script --port $port" 'replay takes TREE and SCRIPT, with --journal TREE alone, or with --port SCRIPT alone'
 ok $? "both"
-for option in '--cache 3' "--save $work/copy" '--names' '--mount /m'; do
+for option in '--cache 3' "--save $work/copy" "--journal $work/journal" '--names' '--mount /m'; do
     refused "$work/script --port $port $option" 'with --port, replay takes no options but --host and --decode' || break
 done
 [ "$option" = '--mount /m' ] && ended 2

@@ -121,11 +121,18 @@ refused_each replay examples/e.tree examples/read.script --decode --names
 refused_each why examples/farm.tree 10.1.4.7 500 write /tools/bin/cc
 refused_each exports examples/farm.tree
 
-# One growth refused while three clients make and remove files, and one more comes: it costs at most one of them a call or
-# its connection, and the server goes on; or there is no server, which says why.
+# A journal is run again, looked at and compacted.
 compiles load bench/load.c
 bench/tree >"$work/tree"
 keyed "$work/tree"
+serving "$work/tree" --journal "$work/journal"
+"$work/load" "$port" make 1 1 10 >"$work/out" 2>&1
+stop
+refused_each replay "$work/tree" --journal "$work/journal"
+refused_each journal compact "$work/tree" "$work/journal" "$work/left.tree" --key 0102030405060708
+
+# One growth refused while three clients make and remove files, and one more comes: it costs at most one of them a call or
+# its connection, and the server goes on; or there is no server, which says why.
 env GROWTHS="$work/grown" LD_PRELOAD="$work/refuse.so" "$program" serve "$work/tree" --port 0 --connections 0 >"$work/served" 2>"$work/err"
 first=$(cat "$work/grown")
 # poorly_served K: whether a server whose growth K is refused ends so, or serves all clients but one. Adds to `harmed`.

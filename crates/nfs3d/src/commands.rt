@@ -9,6 +9,7 @@ use nfs_commands::check::check_file;
 use nfs_commands::describing::describe_directories;
 use nfs_commands::exports::print_exports;
 use nfs_commands::extracting::extract_tree;
+use nfs_commands::journal_work::do_journal;
 use nfs_commands::replay::replay_files;
 use nfs_commands::why::print_why;
 use nfs_control::asking::control;
@@ -74,6 +75,7 @@ where
         Some(Invocation::Control(words)) => control(rt, alloc, words),
         Some(Invocation::Describe(words)) => describe_directories(rt, alloc, words),
         Some(Invocation::Extract(words)) => extract_tree(rt, alloc, words),
+        Some(Invocation::Journal(words)) => do_journal(rt, alloc, words),
         Some(Invocation::SelfCall(words)) => call_self(rt, alloc, words.tree()),
         None => Ok(ExitCode::SUCCESS),
     }

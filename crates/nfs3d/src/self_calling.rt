@@ -3,12 +3,14 @@
 use crate::serve::fault_of;
 use log::Log;
 use nfs_commands::lending::{ServerUse, lend_tree};
+use nfs_journal::file_journal::FileJournal;
 use nfs_server::server::Server;
 use nfs_source::diagnostic::Diagnostic;
 use nfs_source::fault::Fault;
 use nfs_tcp::self_call::self_call;
 use nfs_xdr::device::Device;
 use std::alloc::Global;
+use std::fs::File;
 use std::io;
 use std::net::{Ipv4Addr, Net, SocketAddr, SocketAddrV4, TcpListener, TcpStream};
 use std::process::ExitCode;
@@ -36,11 +38,15 @@ struct OwnCall<'a, R> {
     alloc: Global,
 }
 
-impl<R> ServerUse for OwnCall<'_, R>
+impl<R> ServerUse<R> for OwnCall<'_, R>
 where
     R: Print + Net<Listener = TcpListener, Stream = TcpStream> + Clock + Log,
 {
-    fn run(&self, server: &mut Server) -> Result<ExitCode, Diagnostic> {
+    fn run(
+        &self,
+        server: &mut Server,
+        _journal: Option<FileJournal<'_, R, File>>,
+    ) -> Result<ExitCode, Diagnostic> {
         call_server(self.rt, self.alloc, server)?;
         Ok(ExitCode::SUCCESS)
     }

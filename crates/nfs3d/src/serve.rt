@@ -8,22 +8,26 @@ use nfs_command_line::serve::Serve;
 use nfs_command_line::words::VERSION;
 use nfs_commands::copies::Copies;
 use nfs_commands::lending::{ServerUse, lend_life};
-use nfs_commands::named::description_name;
+use nfs_commands::named::{description_name, is_same_file};
+use nfs_commands::saved_file::cannot_write;
 use nfs_control::attending::Attending;
 use nfs_control::metrics_socket::MetricsSocket;
 use nfs_control::socket::{About, ControlSocket};
 use nfs_control::watch::Watch;
+use nfs_journal::file_journal::FileJournal;
 use nfs_lines::line_out::LineOut;
 use nfs_lines::lines::Lines;
 use nfs_lines::rule_names::first_unknown;
 use nfs_loop::attendant::Attendant;
 use nfs_loop::limits::Limits;
 use nfs_loop::network::Network;
-use nfs_loop::service::Service;
+use nfs_loop::service::{Service, begin_notes};
+use nfs_loop::serving_fault::ServingFault;
 use nfs_server::moments::Moments;
 use nfs_server::server::Server;
 use nfs_source::diagnostic::Diagnostic;
 use nfs_source::fault::Fault;
+use nfs_source::journal_fault::JournalFault;
 use nfs_tcp::clock::SystemClock;
 use nfs_tcp::network::TcpNetwork;
 use nfs_tcp::service_fault::ServiceFault;
@@ -76,13 +80,19 @@ struct ServiceAt<'a, 'w, R> {
     copies: &'a Copies<'a>,
 }
 
-impl<R> ServerUse for ServiceAt<'_, '_, R>
+impl<R> ServerUse<R> for ServiceAt<'_, '_, R>
 where
     R: Files<File = File> + Input + Print + Eprint + Net + Clock + RandomSource,
 {
-    fn run(&self, server: &mut Server) -> Result<ExitCode, Diagnostic> {
+    fn run(
+        &self,
+        server: &mut Server,
+        journal: Option<FileJournal<'_, R, File>>,
+    ) -> Result<ExitCode, Diagnostic> {
         let (addresses, words) = (self.addresses, self.words);
-        serve_and_save(self.rt, self.alloc, server, addresses, words, self.copies)
+        let (rt, alloc, copies) = (self.rt, self.alloc, self.copies);
+        let mut journal = journal;
+        serve_and_save(rt, alloc, server, &mut journal, addresses, words, copies)
     }
 }
 
@@ -91,6 +101,7 @@ fn serve_and_save<'a, R: Files<File = File> + Input + Print + Eprint + Net + Clo
     rt: &'a R,
     alloc: Global,
     server: &mut Server,
+    journal: &mut Option<FileJournal<'_, R, File>>,
     addresses: &[IpAddr],
     words: Serve<'a, '_>,
     copies: &Copies<'_>,
@@ -101,16 +112,24 @@ fn serve_and_save<'a, R: Files<File = File> + Input + Print + Eprint + Net + Clo
         let _ = eprintln!(rt; "error: --watch takes one description, in a file");
         return Ok(ExitCode::from(2));
     }
+    if let Some(name) = words.save()
+        && served.is_of_journal(rt, name)
+    {
+        let _ = eprintln!(rt;
+            "error: --save would replace the description that the journal belongs to: save to another file"
+        );
+        return Ok(ExitCode::from(2));
+    }
     let out = output(rt, alloc)?;
     match words.audit() {
         Some(name) => {
             let audit = audit_file(rt, alloc, name)?;
             let lines = Lines::new(alloc, wording_of(words), audit, Some(out));
-            run_with(served, rt, server, lines, copies)
+            run_with(served, rt, server, journal, lines, copies)
         }
         None => {
             let lines = Lines::alone(alloc, wording_of(words), out);
-            run_with(served, rt, server, lines, copies)
+            run_with(served, rt, server, journal, lines, copies)
         }
     }
 }
@@ -120,6 +139,7 @@ fn run_with<'a, R, A, C>(
     served: Served<'a>,
     rt: &'a R,
     server: &mut Server,
+    journal: &mut Option<FileJournal<'_, R, File>>,
     lines: Lines<'_, A, C>,
     copies: &Copies<'_>,
 ) -> Result<ExitCode, Diagnostic>
@@ -130,7 +150,7 @@ where
 {
     let mut lines = lines;
     let logged = Logged::new(rt, served.level, Console(rt));
-    serve_logged(served, rt, &logged, server, &mut lines, copies)
+    serve_logged(served, rt, &logged, server, journal, &mut lines, copies)
 }
 
 // Serves, logging so, and then saves. The portmapper knows of the service as long as it lasts; where it can't be told,
@@ -140,11 +160,12 @@ fn serve_logged<'a, 'b, R, L, A, C>(
     rt: &'a R,
     logged: &'b L,
     server: &mut Server,
+    journal: &mut Option<FileJournal<'_, R, File>>,
     lines: &mut Lines<'_, A, C>,
     copies: &'b Copies<'_>,
 ) -> Result<ExitCode, Diagnostic>
 where
-    R: Files + Input + Eprint + Net + RandomSource,
+    R: Files + Input + Eprint + Net + Clock + RandomSource,
     L: Files + Net + Clock + RandomSource + Log,
     A: LineOut,
     C: LineOut,
@@ -157,7 +178,7 @@ where
     }
     let saver = copies.saver(logged, served.alloc);
     let watch = served.watch(rt);
-    let mut attending = Attending::new(saver, control, metrics, watch, logged);
+    let mut attending = Attending::new(served.alloc, saver, control, metrics, watch, logged);
     let registration = match served.register(rt) {
         Ok(registration) => registration,
         Err(fault) => {
@@ -165,15 +186,37 @@ where
             return Err(fault.into());
         }
     };
-    let done = served.run(logged, server, &mut net, lines, &mut attending);
+    let done = served.run(logged, server, journal, &mut net, lines, &mut attending);
     if let Some(registration) = registration {
         registration.remove(rt);
     }
-    let done = attending.save_last(server, done);
-    let saved = copies.save_last(rt, served.alloc, server, done);
+    let saved = save_last(rt, served.alloc, server, &attending, copies, done);
     attending.end(saved.is_err());
     saved?;
     Ok(ExitCode::SUCCESS)
+}
+
+// Saves the tree of a service that has ended so, unless that was done before it ended.
+fn save_last<R, L, C>(
+    rt: &R,
+    alloc: Global,
+    server: &Server,
+    attending: &Attending<'_, '_, L, C>,
+    copies: &Copies<'_>,
+    served: Result<(), Fault>,
+) -> Result<(), Diagnostic>
+where
+    R: Files + RandomSource + Eprint,
+    L: Files + RandomSource + Log,
+{
+    if attending.is_finished() {
+        return match served {
+            Ok(()) => Ok(()),
+            Err(fault) => Err(fault.into()),
+        };
+    }
+    let served = attending.save_last(server, served);
+    copies.save_last(rt, alloc, server, served)
 }
 
 // The addresses that are listened at; none, which is reported, where a word is faulty.
@@ -255,6 +298,8 @@ struct Served<'a> {
     is_watched: bool,
     // The name of the description that is served, if it is one.
     description: Option<&'a str>,
+    // The name of the journal, if there is one.
+    journal: Option<&'a str>,
 }
 
 impl<'a> Served<'a> {
@@ -296,6 +341,7 @@ impl<'a> Served<'a> {
             metrics,
             is_watched: words.is_watched(),
             description: None,
+            journal: words.journal(),
         })
     }
 
@@ -324,6 +370,7 @@ impl<'a> Served<'a> {
         };
         let about = About {
             description: self.description,
+            has_journal: self.journal.is_some(),
             first_lines: first_lines(self.alloc, self.locals.as_slice())?,
         };
         match bind(rt, self.alloc, path, about, net) {
@@ -361,6 +408,14 @@ impl<'a> Served<'a> {
         }
     }
 
+    // Whether this is the file of the description to which the journal belongs.
+    fn is_of_journal<R: Files>(&self, rt: &R, name: &str) -> bool {
+        match self.description {
+            Some(description) => self.journal.is_some() && is_same_file(rt, name, description),
+            None => false,
+        }
+    }
+
     // What watches the description, where the words ask for that.
     fn watch<'r, R: Files + Input>(&self, rt: &'r R) -> Option<Watch<'r, R>>
     where
@@ -387,16 +442,18 @@ impl<'a> Served<'a> {
     }
 
     // Says where it is listened, and serves the clients of the network.
-    fn run<R, N, L, A, C, T>(
+    fn run<R, Q, N, L, A, C, T>(
         &self,
         rt: &R,
         server: &mut Server,
+        journal: &mut Option<FileJournal<'_, Q, File>>,
         net: &mut N,
         lines: &mut Lines<'_, A, C>,
         attendant: &mut T,
     ) -> Result<(), Fault>
     where
         R: Clock + Log,
+        Q: Clock,
         N: Network<Stream = L>,
         L: Link + Drop,
         A: LineOut,
@@ -410,10 +467,23 @@ impl<'a> Served<'a> {
             announce(rt, self.alloc, "metrics", local, lines)?;
         }
         let mut service = Service::new(self.alloc, self.limits)?;
-        match service.serve(rt, server, net, lines, attendant) {
+        if let Err(error) = begin_notes(self.alloc, server, journal) {
+            return Err(Fault::Memory(error));
+        }
+        match service.serve(rt, server, net, lines, attendant, journal) {
             Ok(()) if lines.lost_some() => Err(Fault::Write),
             Ok(()) => Ok(()),
-            Err(error) => Err(fault_of(self.address, error.into())),
+            Err(ServingFault::Network(error)) => Err(fault_of(self.address, error.into())),
+            Err(ServingFault::Journal(_)) => Err(self.journal_fault(journal)),
+        }
+    }
+
+    // Why what was answered doesn't come to last in the journal.
+    fn journal_fault<Q>(&self, journal: &mut Option<FileJournal<'_, Q, File>>) -> Fault {
+        let name = self.journal.unwrap_or("the journal");
+        match journal.as_mut().and_then(FileJournal::take_error) {
+            Some(error) => cannot_write(self.alloc, name, error),
+            None => Fault::of_journal(self.alloc, name, JournalFault::Lost),
         }
     }
 }

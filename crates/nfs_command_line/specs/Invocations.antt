@@ -4,7 +4,7 @@ use Rattle.clap.specs.Words.{found_of, rows_of, subcommand_name_of, subcommand_r
 use Rattle.std.specs.Borrow.{Bor}
 use Rattle.clap.specs.declared.parser.matches.ArgMatches.{ArgMatches}
 use Rattle.nfs_command_line.specs.declared.invocation.Invocation.{Invocation}
-use Rattle.nfs_command_line.specs.declared.invocation.Invocation.TheVariants.{Check, Why, Exports, Replay, Serve, Control, Describe, Extract, SelfCall}
+use Rattle.nfs_command_line.specs.declared.invocation.Invocation.TheVariants.{Check, Why, Exports, Replay, Serve, Control, Journal, Describe, Extract, SelfCall}
 
 -- the command of a name, with the words of its arguments
 abbrev pub invocation_of : List ℕ → Bor ArgMatches → Option Invocation
@@ -15,10 +15,11 @@ invocation_of name words =
     else (if bytes_eq name (codes "replay") then Some (Replay (record { words = words }))
     else (if bytes_eq name (codes "serve") then Some (Serve (record { words = words }))
     else (if bytes_eq name (codes "control") then Some (Control (record { words = words }))
+    else (if bytes_eq name (codes "journal") then Some (Journal (record { words = words }))
     else (if bytes_eq name (codes "describe") then Some (Describe (record { words = words }))
     else (if bytes_eq name (codes "extract") then Some (Extract (record { words = words }))
     else (if bytes_eq name (codes "self") then Some (SelfCall (record { words = words }))
-    else None))))))))
+    else None)))))))))
 
 -- what the words ask for: the command of the subcommand that they name, with its own words
 pub record Asks (matches : ArgMatches) (result : Option Invocation) : Type 0 where

@@ -1,3 +1,4 @@
 pub mod Given
 pub mod Invocations
+pub mod Journals
 pub mod Named

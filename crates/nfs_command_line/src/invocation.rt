@@ -5,6 +5,7 @@ ghost use Rattle.nfs_command_line.specs.Given.{IsFlag, IsNumber, IsNumberOr, tex
 ghost use Rattle.nfs_command_line.specs.Invocations.{invocation_of};
 ghost use Rattle.nfs_command_line.specs.Named.{AreNamed, IsAlone};
 
+use crate::journal::JournalCommand;
 use crate::serve::Serve;
 use crate::sharing::TreeWords;
 use crate::trees::Trees;
@@ -29,6 +30,8 @@ pub enum Invocation<'a, 'w> {
     Serve(Serve<'a, 'w>),
     /// A running service is asked, or stopped.
     Control(Control<'a, 'w>),
+    /// A journal is looked at, cut or compacted.
+    Journal(JournalCommand<'a, 'w>),
     /// Directories on disk are described.
     Describe(Describe<'a, 'w>),
     /// A tree is written as a directory on disk.
@@ -49,6 +52,7 @@ impl<'a, 'w> Invocation<'a, 'w> {
             "replay" => Some(Invocation::Replay(Replay { words })),
             "serve" => Some(Invocation::Serve(Serve::new(words))),
             "control" => Some(Invocation::Control(Control { words })),
+            "journal" => Some(Invocation::Journal(JournalCommand::new(words))),
             "describe" => Some(Invocation::Describe(Describe { words })),
             "extract" => Some(Invocation::Extract(Extract { words })),
             "self" => Some(Invocation::SelfCall(SelfCall { words })),
@@ -67,6 +71,7 @@ impl<'a, 'w> Invocation<'a, 'w> {
             Invocation::Describe(words) => UsageFault::of_all(words.directories(), words.key()),
             Invocation::Extract(words) => UsageFault::of_sharing(words.tree().sharing()),
             Invocation::Control(words) => UsageFault::of_control(*words),
+            Invocation::Journal(words) => UsageFault::of_journal(*words),
             Invocation::SelfCall(_) => None,
         }
     }
@@ -174,8 +179,8 @@ impl<'a, 'w> Exports<'a, 'w> {
 }
 
 // The options of `replay` with a value that are for a server of the script's own.
-const OWN_OPTIONS: [&str; 8] = [
-    "cache", "save", "key", "mount", "export", "bytes", "files", "chown",
+const OWN_OPTIONS: [&str; 9] = [
+    "cache", "save", "key", "journal", "mount", "export", "bytes", "files", "chown",
 ];
 
 /// The words of `replay`.
@@ -257,6 +262,13 @@ impl<'a, 'w> Replay<'a, 'w> {
         ensures { option_map (λ text. text.now) result ≡ text_given self.now.words.now (codes "key") }
     {
         self.words.get_str("key")
+    }
+
+    /// The journal that is run again, in the place of a script.
+    pub fn journal(&self) -> Option<&'a str>
+        ensures { option_map (λ text. text.now) result ≡ text_given self.now.words.now (codes "journal") }
+    {
+        self.words.get_str("journal")
     }
 
     /// Whether replies are printed in words too.

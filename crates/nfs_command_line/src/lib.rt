@@ -3,6 +3,7 @@
 
 mod arguments;
 pub mod invocation;
+pub mod journal;
 mod questions;
 mod rows;
 mod runs;

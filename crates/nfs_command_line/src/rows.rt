@@ -50,6 +50,8 @@ pub(crate) enum Takes {
     TextsOr(&'static str),
     /// One of two texts; without it the first.
     OneOf(&'static [&'static str; 2]),
+    /// One of two texts that makes no sense without another option; without it the first.
+    OneOfBeside(&'static [&'static str; 2], &'static str),
     /// A number of 64 bits.
     Number,
     /// A number of 64 bits, and the option may be repeated.
@@ -95,6 +97,7 @@ fn arg_of<'a>(alloc: Global, row: &ArgRow) -> Result<Arg<'a>, AllocError> {
                 .default_value(default),
         ),
         Takes::TextBeside(other) => option(alloc, row).requires_arg(other),
+        Takes::OneOfBeside(values, other) => one_of(alloc, row, values).requires_arg(other),
         Takes::BetweenBeside(from, to, other) => between(alloc, row, from, to).requires_arg(other),
         other => Ok(valued(alloc, row, other)),
     }
@@ -104,9 +107,7 @@ fn arg_of<'a>(alloc: Global, row: &ArgRow) -> Result<Arg<'a>, AllocError> {
 fn valued<'a>(alloc: Global, row: &ArgRow, takes: Takes) -> Arg<'a> {
     match takes {
         Takes::TextOr(default) => option(alloc, row).default_value(default),
-        Takes::OneOf(values) => option(alloc, row)
-            .value_parser(values.as_slice())
-            .default_value(values[0]),
+        Takes::OneOf(values) => one_of(alloc, row, values),
         Takes::Number => option(alloc, row).value_parser(value_parser!(u64)),
         Takes::Numbers => option(alloc, row)
             .action(ArgAction::Append)
@@ -123,6 +124,12 @@ fn word<'a>(alloc: Global, row: &ArgRow) -> Arg<'a> {
 
 fn option<'a>(alloc: Global, row: &ArgRow) -> Arg<'a> {
     word(alloc, row).long(row.id)
+}
+
+fn one_of<'a>(alloc: Global, row: &ArgRow, values: &'static [&'static str; 2]) -> Arg<'a> {
+    option(alloc, row)
+        .value_parser(values.as_slice())
+        .default_value(values[0])
 }
 
 fn between<'a>(alloc: Global, row: &ArgRow, from: i64, to: i64) -> Arg<'a> {

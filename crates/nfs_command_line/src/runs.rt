@@ -13,12 +13,12 @@ pub(crate) const REPLAY: CommandRow = CommandRow {
     args: &REPLAY_ARGS,
 };
 
-const REPLAY_ARGS: [ArgRow; 14] = [
+const REPLAY_ARGS: [ArgRow; 15] = [
     TREE,
     ArgRow {
         id: "script",
         value: "SCRIPT",
-        help: "The script to run (docs/PROTOCOL.md lists its lines); - is standard input; with --port it stands alone, in the place of TREE",
+        help: "The script to run (docs/PROTOCOL.md lists its lines); - is standard input; with --port it stands alone, in the place of TREE; with --journal there is none",
         takes: Takes::OptionalWord,
     },
     ArgRow {
@@ -32,6 +32,12 @@ const REPLAY_ARGS: [ArgRow; 14] = [
         value: "ADDRESS",
         help: "The IPv4 or IPv6 address of that server; without it 127.0.0.1",
         takes: Takes::TextBeside("port"),
+    },
+    ArgRow {
+        id: "journal",
+        value: "FILE",
+        help: "Runs the entries of this journal again over TREE, without a script, and compares the replies",
+        takes: Takes::Text,
     },
     CACHE,
     SAVE,
@@ -110,7 +116,7 @@ pub(crate) const SERVE: CommandRow = CommandRow {
     args: &SERVE_ARGS,
 };
 
-const SERVE_ARGS: [ArgRow; 26] = [
+const SERVE_ARGS: [ArgRow; 28] = [
     TREES,
     MOUNT_EACH,
     EXPORT,
@@ -195,6 +201,18 @@ const SERVE_ARGS: [ArgRow; 26] = [
     },
     SAVED_KEY,
     ArgRow {
+        id: "journal",
+        value: "FILE",
+        help: "Notes each call that may change the tree in FILE before its reply goes out; started again with it, the server goes on where it was",
+        takes: Takes::Text,
+    },
+    ArgRow {
+        id: "journal-sync",
+        value: "WHEN",
+        help: "When entries are synced to disk: before the replies of each round, or never",
+        takes: Takes::OneOfBeside(&["round", "never"], "journal"),
+    },
+    ArgRow {
         id: "control",
         value: "PATH",
         help: "A Unix socket to make, by which nfs3d control asks and stops the service",
@@ -246,4 +264,39 @@ const CONTROL_ARGS: [ArgRow; 4] = [
         help: "With stop: a file to which the service saves its tree when it ends",
         takes: Takes::Text,
     },
+];
+
+/// `journal`.
+pub(crate) const JOURNAL: CommandRow = CommandRow {
+    name: "journal",
+    about: "Checks a journal, cuts it before its first damage, or describes the tree that it leads to",
+    args: &JOURNAL_ARGS,
+};
+
+const JOURNAL_ARGS: [ArgRow; 5] = [
+    ArgRow {
+        id: "word",
+        value: "WORD",
+        help: "What to do: 'check JOURNAL' says how many entries are whole, or which is damaged; 'cut JOURNAL' cuts the file after the last whole entry before the first damage; 'compact TREE JOURNAL NEW' writes the description of the tree that JOURNAL leads to from TREE",
+        takes: Takes::Word,
+    },
+    ArgRow {
+        id: "first",
+        value: "FILE",
+        help: "The journal; with compact TREE, the description that it began with",
+        takes: Takes::Word,
+    },
+    ArgRow {
+        id: "second",
+        value: "JOURNAL",
+        help: "With compact: the journal",
+        takes: Takes::OptionalWord,
+    },
+    ArgRow {
+        id: "third",
+        value: "NEW",
+        help: "With compact: the file of the new description",
+        takes: Takes::OptionalWord,
+    },
+    KEY,
 ];

@@ -3,6 +3,7 @@ ghost use Rattle.std.specs.Prelude.{◌≡◌, ◌≢◌, Some, codes, map, opti
 ghost use Rattle.nfs_command_line.specs.Given.{IsFlag, IsNumber, IsNumberOr, text_given, texts_given};
 ghost use Rattle.nfs_command_line.specs.Named.{AreNamed};
 ghost use Rattle.nfs_command_line.specs.declared.serve.AuditFailed.TheVariants.{Count, Refuse};
+ghost use Rattle.nfs_command_line.specs.declared.serve.JournalSync.TheVariants.{Never, Round};
 
 use crate::trees::Trees;
 use crate::values::{cache, texts};
@@ -22,6 +23,15 @@ pub enum AuditFailed {
     Refuse,
     /// Calls are answered, and the lost lines are counted.
     Count,
+}
+
+/// When the entries of a journal are synced to disk.
+#[derive(Clone, Copy, Debug, PartialEq, Eq)]
+pub enum JournalSync {
+    /// Once in each round, before its replies go out.
+    Round,
+    /// Never: the system writes them when it likes.
+    Never,
 }
 
 impl<'a, 'w> Serve<'a, 'w> {
@@ -145,6 +155,24 @@ impl<'a, 'w> Serve<'a, 'w> {
         ensures { option_map (λ text. text.now) result ≡ text_given self.now.words.now (codes "key") }
     {
         self.words.get_str("key")
+    }
+
+    /// The file in which each call that may change the tree is noted.
+    pub fn journal(&self) -> Option<&'a str>
+        ensures { option_map (λ text. text.now) result ≡ text_given self.now.words.now (codes "journal") }
+    {
+        self.words.get_str("journal")
+    }
+
+    /// When its entries are synced to disk.
+    pub fn journal_sync(&self) -> JournalSync
+        ensures never { text_given self.now.words.now (codes "journal-sync") ≡ Some (codes "never") → result ≡ Never }
+        ensures round { text_given self.now.words.now (codes "journal-sync") ≢ Some (codes "never") → result ≡ Round }
+    {
+        match self.words.get_str("journal-sync") {
+            Some("never") => JournalSync::Never,
+            _ => JournalSync::Round,
+        }
     }
 
     /// The socket by which it is asked and stopped.

@@ -1,6 +1,7 @@
 //! What is wrong with words that the commands take.
 
 use crate::invocation::{Control, Replay};
+use crate::journal::{JournalCommand, JournalWork};
 use crate::serve::Serve;
 use crate::sharing::{Owner, Sharing};
 use crate::trees::Trees;
@@ -33,12 +34,24 @@ pub(crate) enum UsageFault {
     /// A file to save to at the end, and a word with which nothing ends.
     #[error("--save FILE is for stop: nfs3d control PATH stop --save FILE")]
     SaveWithoutStop,
-    /// A script has neither a tree nor a server, or both.
-    #[error("replay takes TREE and SCRIPT, or with --port SCRIPT alone")]
+    /// A script has neither a tree nor a server, or both, or stands beside a journal.
+    #[error("replay takes TREE and SCRIPT, with --journal TREE alone, or with --port SCRIPT alone")]
     TreeOrPort,
     /// An option is for a server of the script's own.
     #[error("with --port, replay takes no options but --host and --decode")]
     NotWithPort,
+    /// A journal is run again, and its tree is to be saved.
+    #[error("with --journal, replay saves nothing: nfs3d journal compact TREE JOURNAL NEW writes the tree")]
+    SaveWithJournal,
+    /// The exports of a service with a journal are to change.
+    #[error("--watch does not work with --journal: start the service again to put other exports in force")]
+    WatchedJournal,
+    /// What is to be done with a journal has other words, or too few or too many of them.
+    #[error("journal takes 'check JOURNAL', 'cut JOURNAL' or 'compact TREE JOURNAL NEW'")]
+    JournalWork,
+    /// A key, and a word with which nothing is described.
+    #[error("--key KEY is for compact: nfs3d journal compact TREE JOURNAL NEW --key KEY")]
+    KeyWithoutCompact,
     /// A host isn't an address.
     #[error("invalid value for '--host <ADDRESS>': it must be an IPv4 or IPv6 address, such as 127.0.0.1")]
     Host,
@@ -92,14 +105,25 @@ impl UsageFault {
     /// Of a script, and of what it is run against.
     pub(crate) fn of_replay(words: Replay<'_, '_>) -> Option<UsageFault> {
         let is_live = words.port().is_some();
-        if words.has_script() == is_live {
+        let is_journal = words.journal().is_some();
+        if words.has_script() == (is_live || is_journal) {
             return Some(UsageFault::TreeOrPort);
         }
         if is_live {
             UsageFault::of_live(words)
+        } else if is_journal {
+            UsageFault::of_rerun(words)
         } else {
             UsageFault::of_run(words)
         }
+    }
+
+    // Of a journal that is run again.
+    fn of_rerun(words: Replay<'_, '_>) -> Option<UsageFault> {
+        if words.save().is_some() {
+            return Some(UsageFault::SaveWithJournal);
+        }
+        UsageFault::of_sharing(words.tree().sharing())
     }
 
     // Of a server that a script is played against.
@@ -130,6 +154,16 @@ impl UsageFault {
         None
     }
 
+    /// Of what is to be done with a journal.
+    pub(crate) fn of_journal(words: JournalCommand<'_, '_>) -> Option<UsageFault> {
+        match words.work() {
+            None => Some(UsageFault::JournalWork),
+            Some(JournalWork::Compact { .. }) => UsageFault::of_key(words.key()),
+            Some(_) if words.key().is_some() => Some(UsageFault::KeyWithoutCompact),
+            Some(_) => None,
+        }
+    }
+
     /// Of what is served, and of where and when it is saved.
     pub(crate) fn of_serving(words: Serve<'_, '_>) -> Option<UsageFault> {
         let is_saved = words.connections().is_some()
@@ -137,6 +171,9 @@ impl UsageFault {
             || words.control().is_some();
         if words.save().is_some() && !is_saved {
             return Some(UsageFault::NeverSaved);
+        }
+        if words.is_watched() && words.journal().is_some() {
+            return Some(UsageFault::WatchedJournal);
         }
         UsageFault::of_all(words.trees(), words.key())
     }

@@ -4,7 +4,7 @@ ghost use Rattle.nfs_command_line.specs.Invocations.{Asks};
 use crate::invocation::Invocation;
 use crate::questions::{CHECK, EXPORTS, WHY};
 use crate::rows::{CommandRow, command_of};
-use crate::runs::{CONTROL, DESCRIBE, EXTRACT, REPLAY, SELF_CALL, SERVE};
+use crate::runs::{CONTROL, DESCRIBE, EXTRACT, JOURNAL, REPLAY, SELF_CALL, SERVE};
 use crate::usage::UsageFault;
 use clap::error::ErrorKind;
 use clap::{ArgMatches, Command, Error};
@@ -15,8 +15,8 @@ use std::process::ExitCode;
 pub const VERSION: &str = "1.0.0";
 
 // The commands, in the order of the help.
-const COMMANDS: [CommandRow; 9] = [
-    CHECK, WHY, EXPORTS, REPLAY, SERVE, CONTROL, DESCRIBE, EXTRACT, SELF_CALL,
+const COMMANDS: [CommandRow; 10] = [
+    CHECK, WHY, EXPORTS, REPLAY, SERVE, CONTROL, JOURNAL, DESCRIBE, EXTRACT, SELF_CALL,
 ];
 
 /// Words that ask for something.

@@ -11,14 +11,21 @@ use std::time::{Clock, SystemTime, UNIX_EPOCH};
 const SET_MICROS: u64 = 1_577_836_800_000_000;
 
 /// A server whose life begins: its handles have the key of the life, and files that clients make have
-/// numbers that no earlier life has reached, from the microseconds since 1970 on. A clock that was never
-/// set is warned of. `NoTime` where there is no clock, `Memory`.
+/// numbers that no earlier life has reached. The faults of `next_number`, and `Memory`.
 pub(crate) fn begin<R: Clock + Eprint>(
     rt: &R,
     alloc: Global,
     life: Life,
     cache: usize,
 ) -> Result<Server, Fault> {
+    let next = next_number(rt)?;
+    let Life { loaded, key } = life;
+    Ok(open_server(alloc, loaded, key, next, cache.clamp(1, 1024))?)
+}
+
+/// The least number of files that clients make in a life that begins now: the microseconds since 1970. A clock that was
+/// never set is warned of. `NoTime` where there is no clock.
+pub(crate) fn next_number<R: Clock + Eprint>(rt: &R) -> Result<u64, Fault> {
     let Some(micros) = micros_now(rt) else {
         return Err(Fault::NoTime);
     };
@@ -27,8 +34,7 @@ pub(crate) fn begin<R: Clock + Eprint>(
             "nfs3d: warning: the system's clock was never set: handles of files that clients made before a restart may name other files; set the clock before the server starts"
         );
     }
-    let Life { loaded, key } = life;
-    Ok(open_server(alloc, loaded, key, micros, cache.clamp(1, 1024))?)
+    Ok(micros)
 }
 
 // The microseconds since 1970.

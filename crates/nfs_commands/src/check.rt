@@ -1,6 +1,7 @@
 //! `nfs3d check`: whether a description is in order, and how much it holds.
+ghost use Rattle.std.specs.Prelude.{◌≡◌, IfErr};
 
-use crate::named::{NamedTree, is_directory, refuse_sharing};
+use crate::named::{NamedTree, is_directory, is_file, refuse_sharing};
 use crate::totals::totals_line;
 use nfs_advice::every::{Faulty, every_fault};
 use nfs_advice::warnings::{Warning, warnings};
@@ -10,6 +11,7 @@ use nfs_load::load_error::LoadError;
 use nfs_load::loaded::Loaded;
 use nfs_source::description::Description;
 use nfs_source::diagnostic::Diagnostic;
+use nfs_source::fault::Fault;
 use nfs_source::output::print;
 use nfs_source::source::Source;
 use std::alloc::{AllocError, Global};
@@ -17,10 +19,11 @@ use std::mem::forget;
 use std::process::ExitCode;
 use std::rt::Files;
 
-/// Prints what a description holds, and on standard error what it says that may not be meant; the
-/// status is 1 then where that is strict. Where the whole of it is looked at, its faulty lines are all
-/// reported, with the status 1. So it is of a directory of which something is skipped, where that is strict.
-/// The faults of `NamedTree::read`; `Write` and `Closed` where the output fails.
+/// Prints what a description holds, and on standard error what it says that may not be meant; the status is 1 then
+/// where that is strict, and so it is of a directory of which something is skipped. Where all faulty lines are wanted,
+/// they are all reported, with the status 1; or the first, and why no other is looked for, where a file's text has more
+/// than 1 GiB or there is no memory for it. The faults of `NamedTree::read`, and `TooLong` of a pipe whose faulty lines
+/// are all wanted; `Write` and `Closed` where the output fails.
 pub fn check_file<R: Files + Input + Print + Eprint + AllocGlobal>(
     rt: &R,
     alloc: Global,
@@ -34,8 +37,7 @@ pub fn check_file<R: Files + Input + Print + Eprint + AllocGlobal>(
     check_tree(rt, alloc, tree, is_strict)
 }
 
-// Prints what a tree holds, and warns. What was loaded is not given back file by file, since the process
-// ends.
+// Prints what a tree holds, and warns.
 fn check_tree<R: Files + Input + Print + Eprint + AllocGlobal>(
     rt: &R,
     alloc: Global,
@@ -46,29 +48,94 @@ fn check_tree<R: Files + Input + Print + Eprint + AllocGlobal>(
         description,
         is_partial,
     } = NamedTree::read(rt, alloc, tree)?;
-    let Description { source, loaded } = &description;
-    let status = report_loaded(rt, alloc, source, loaded, is_strict);
-    forget(description);
+    let status = report_description(rt, alloc, description, is_strict);
     if is_strict && is_partial && status.is_ok() {
         return Ok(ExitCode::from(1));
     }
     status
 }
 
-// The same with all its faulty lines.
+// Prints what a description holds, and warns, or reports all its faulty lines. These are looked for in the whole text,
+// which is read where a line of it is faulty; that of a pipe can't be read again, and is whole before.
 fn check_whole<R: Files + Input + Print + Eprint>(
     rt: &R,
     alloc: Global,
     name: &str,
     is_strict: bool,
 ) -> Result<ExitCode, Diagnostic> {
-    let description = Source::read(rt, alloc, name)?;
-    if report_faults(rt, alloc, &description)? {
+    if !is_file(rt, name) {
+        let source = Source::read(rt, alloc, name)?;
+        return check_source(rt, alloc, &source, is_strict);
+    }
+    match Description::read(rt, alloc, name) {
+        Ok(description) => report_description(rt, alloc, description, is_strict),
+        Err(first) => report_every(rt, alloc, name, first),
+    }
+}
+
+// The same of a whole text.
+fn check_source<R: Print + Eprint>(
+    rt: &R,
+    alloc: Global,
+    source: &Source<'_>,
+    is_strict: bool,
+) -> Result<ExitCode, Diagnostic> {
+    if report_faults(rt, alloc, source)? {
         return Ok(ExitCode::from(1));
     }
-    let loaded = description.load(alloc)?;
-    let status = report_loaded(rt, alloc, &description, &loaded, is_strict);
+    let loaded = source.load(alloc)?;
+    let status = report_loaded(rt, alloc, source, &loaded, is_strict);
     forget(loaded);
+    status
+}
+
+// Reports all faulty lines of the file of this name, of which this is the first. Where its text can't be had as a whole,
+// that is said below the first.
+fn report_every<R: Files + Input + Eprint>(
+    rt: &R,
+    alloc: Global,
+    name: &str,
+    first: Diagnostic,
+) -> Result<ExitCode, Diagnostic>
+    ensures { IfErr result (λ it. it ≡ first) }
+{
+    if !matches!(
+        first.fault,
+        Fault::Description { .. } | Fault::LongLine { .. }
+    ) {
+        return Err(first);
+    }
+    match report_whole(rt, alloc, name) {
+        Ok(true) => Ok(ExitCode::from(1)),
+        Ok(false) => Err(first),
+        Err(fault) => {
+            first.report(rt);
+            let _ = eprintln!(rt; "{fault}: faulty lines after the first are not looked for");
+            Ok(ExitCode::from(first.fault.status()))
+        }
+    }
+}
+
+// Reports all faulty lines of the whole text of this name, if it has one.
+fn report_whole<R: Files + Input + Eprint>(
+    rt: &R,
+    alloc: Global,
+    name: &str,
+) -> Result<bool, Fault> {
+    let source = Source::read(rt, alloc, name)?;
+    Ok(report_faults(rt, alloc, &source)?)
+}
+
+// Prints what a description holds, and warns. What was loaded is not given back file by file, since the process ends.
+fn report_description<R: Print + Eprint>(
+    rt: &R,
+    alloc: Global,
+    description: Description<'_>,
+    is_strict: bool,
+) -> Result<ExitCode, Diagnostic> {
+    let Description { source, loaded } = &description;
+    let status = report_loaded(rt, alloc, source, loaded, is_strict);
+    forget(description);
     status
 }
 

@@ -163,6 +163,27 @@ impl<'a, R: Files + RandomSource> CopySaver<'a, R> {
         Ok(())
     }
 
+    /// Saves the tree for the end of a service: where it is saved, and to the file that was named for the end, if there
+    /// are such. The faults of `save`, with which no file is named for the end any more.
+    pub fn save_to_end(&mut self, server: &Server) -> Result<(), Fault>
+        ensures ok { OnOk result (self.new ≡ self.old) }
+        ensures err { OnErr result (self.new ≡ record self.old { last_name = None }) }
+    {
+        let saved = self.save_all(server);
+        if saved.is_err() {
+            self.last_name = None;
+        }
+        saved
+    }
+
+    // The same, which names nothing.
+    fn save_all(&self, server: &Server) -> Result<(), Fault> {
+        if let Some(name) = self.name {
+            save(self.rt, self.alloc, name, server, self.key)?;
+        }
+        self.save_last(server)
+    }
+
     /// Saves the tree to the file that was named for the end, if one was. The faults of `save`.
     pub fn save_last(&self, server: &Server) -> Result<(), Fault> {
         match &self.last_name {

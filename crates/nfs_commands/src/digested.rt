@@ -44,18 +44,18 @@ impl<O: Output> Output for Digested<O> {
     }
 }
 
-// The digest (SHA-256, FIPS 180-4) of a description, whatever the key in its first line is: of what stands
-// after that line, from its LF on.
+/// The digest (SHA-256, FIPS 180-4) of a description, whatever the key in its first line is: of what stands
+/// after that line, from its LF on.
 #[derive(Drop)]
-struct DescriptionDigest {
+pub(crate) struct DescriptionDigest {
     digest: Sha256,
     // Whether the first line has ended.
     is_after_key: bool,
 }
 
 impl DescriptionDigest {
-    // Nothing was taken.
-    fn new() -> DescriptionDigest
+    /// Nothing was taken.
+    pub(crate) fn new() -> DescriptionDigest
         ensures { IsDigestOf result [] }
     {
         DescriptionDigest {
@@ -64,8 +64,8 @@ impl DescriptionDigest {
         }
     }
 
-    // Takes the next part.
-    fn take(&mut self, part: &[u8])
+    /// Takes the next part.
+    pub(crate) fn take(&mut self, part: &[u8])
         ensures { (before : List ℕ) → IsDigestOf self.old before → IsDigestOf self.new (before ++ part.now) }
     {
         if self.is_after_key {
@@ -78,7 +78,8 @@ impl DescriptionDigest {
         }
     }
 
-    fn finish(self) -> [u8; 32]
+    /// The digest of what was taken.
+    pub(crate) fn finish(self) -> [u8; 32]
         ensures { (text : List ℕ) → IsDigestOf self text → result ≡ digest_of text }
     {
         let DescriptionDigest { digest, .. } = self;

@@ -17,6 +17,7 @@ use nfs_source::sharing_fault::SharingFault;
 use nfs_source::source::Source;
 use std::alloc::{AllocError, Global};
 use std::fs;
+use std::os::unix::fs::MetadataExt;
 use std::rt::Files;
 
 /// The tree of a description or of a directory.
@@ -83,14 +84,24 @@ pub fn begin_life<R: Files + Input + Eprint + AllocGlobal>(
     is_strict: bool,
 ) -> Result<Life, Diagnostic> {
     let trees: Vec<_> = words.collect(alloc)?;
-    match description_in(rt, trees.as_slice()) {
+    begin_life_of(rt, alloc, trees.as_slice(), is_strict)
+}
+
+/// The same of these words.
+pub(crate) fn begin_life_of<R: Files + Input + Eprint + AllocGlobal>(
+    rt: &R,
+    alloc: Global,
+    trees: &[TreeWords<'_, '_>],
+    is_strict: bool,
+) -> Result<Life, Diagnostic> {
+    match description_in(rt, trees) {
         Some(alone) => {
             refuse_sharing(alone.sharing())?;
             load_life(rt, alloc, alone.name())
         }
         None => {
-            refuse_unshared(rt, alloc, trees.as_slice())?;
-            begin_shared_life(rt, alloc, trees.as_slice(), is_strict)
+            refuse_unshared(rt, alloc, trees)?;
+            begin_shared_life(rt, alloc, trees, is_strict)
         }
     }
 }
@@ -166,6 +177,26 @@ pub fn is_directory<R: Files>(rt: &R, name: &str) -> bool {
     match fs::metadata(rt, name) {
         Ok(metadata) => metadata.is_dir(),
         Err(_) => false,
+    }
+}
+
+/// Whether this is the name of a regular file, whose text can be read again from its begin, as that of standard input or
+/// of a pipe can't.
+pub fn is_file<R: Files>(rt: &R, name: &str) -> bool {
+    if name == "-" {
+        return false;
+    }
+    match fs::metadata(rt, name) {
+        Ok(metadata) => metadata.is_file(),
+        Err(_) => false,
+    }
+}
+
+/// Whether two names are those of one file on disk.
+pub fn is_same_file<R: Files>(rt: &R, one: &str, other: &str) -> bool {
+    match (fs::metadata(rt, one), fs::metadata(rt, other)) {
+        (Ok(one), Ok(other)) => one.dev() == other.dev() && one.ino() == other.ino(),
+        _ => false,
     }
 }
 

@@ -1,6 +1,7 @@
 //! `nfs3d replay`: a script, run over a description.
 
 use crate::copies::Copies;
+use crate::journal_work::rerun_journal;
 use crate::live::replay_live;
 use crate::named::NamedTree;
 use nfs_ask::script_fault::ScriptFault;
@@ -14,25 +15,38 @@ use nfs_source::output::fault_of;
 use nfs_source::source::Source;
 use nfs_xdr::device::Device;
 use std::alloc::{AllocError, Global};
+use std::fs::File;
 use std::io::{self, BufWriter, Write};
 use std::mem::forget;
 use std::net::{Net, TcpStream};
 use std::process::ExitCode;
 use std::random::RandomSource;
 use std::rt::Files;
+use std::time::Clock;
 
 // How much output is written at once.
 const RUN_BYTES: usize = 65_536;
 
 /// Runs a script over a description, and saves the tree as it then is where the words ask for it; or plays it against
-/// a running server (`replay_live`). The faults of `Copies::of`, `NamedTree::read` and `Copies::save_last`; `CannotRead`
+/// a running server (`replay_live`), or runs a journal again (`rerun_journal`). The faults of `Copies::of`, `NamedTree::read` and `Copies::save_last`; `CannotRead`
 /// and `TooLong` where the script can't be read, `Script` with its first faulty line, `Write` and `Closed` where the
 /// output fails, `Memory`.
-pub fn replay_files<
-    R: Files + Input + Print + Eprint + RandomSource + AllocGlobal + Net<Stream = TcpStream>,
->(rt: &R, alloc: Global, words: Replay<'_, '_>) -> Result<ExitCode, Diagnostic> {
+pub fn replay_files<R>(rt: &R, alloc: Global, words: Replay<'_, '_>) -> Result<ExitCode, Diagnostic>
+where
+    R: Files<File = File>
+        + Input
+        + Print
+        + Eprint
+        + RandomSource
+        + AllocGlobal
+        + Net<Stream = TcpStream>
+        + Clock,
+{
     if let Some(port) = words.port() {
         return replay_live(rt, alloc, words, port);
+    }
+    if let Some(name) = words.journal() {
+        return rerun_journal(rt, alloc, words.tree(), name);
     }
     let copies = Copies::of(rt, alloc, words.save(), words.key())?;
     let loaded = NamedTree::load(rt, alloc, words.tree())?;

@@ -132,6 +132,11 @@ fn is_taken<R: Files>(rt: &R, name: &str) -> bool {
     }
 }
 
+/// Has the names in the directory of this one on disk.
+pub(crate) fn sync_directory<R: Files>(rt: &R, name: &str) -> io::Result<()> {
+    fs::open(rt, directory_of(name))?.sync_all()
+}
+
 fn part_of(alloc: Global, name: &str) -> Result<String, AllocError> {
     format!(in alloc; "{name}.part")
 }
@@ -145,7 +150,8 @@ fn directory_of(name: &str) -> &str {
     }
 }
 
-fn cannot_write(alloc: Global, name: &str, error: io::Error) -> Fault {
+/// That a file of this name can't be written, and what the system says.
+pub fn cannot_write(alloc: Global, name: &str, error: io::Error) -> Fault {
     match name.to_string(alloc) {
         Ok(name) => Fault::CannotWrite { name, error },
         Err(error) => Fault::Memory(error),

@@ -3,6 +3,7 @@ use Rattle.std.specs.Prelude.{ℕ, zero, suc, List, [], ◌++◌, length, slice_
 use Rattle.nfs_inodes.specs.Tree.{Tree, Volume, bytes_of, files_of, on_some}
 use Rattle.nfs_inodes.specs.declared.volumes.Totals.{Totals}
 use Rattle.nfs_control.specs.declared.figures.Figures.{Figures}
+use Rattle.nfs_server.specs.declared.journal_out.JournalFigures.{JournalFigures}
 
 -- a name and a number
 abbrev pub line : List ℕ → ℕ → List ℕ
@@ -24,6 +25,11 @@ abbrev pub resident_line : Option ℕ → List ℕ
 resident_line None = []
 resident_line (Some bytes) = line (codes "memory ") bytes
 
+-- how much of a journal there is, how often it was synced, and how many microseconds that took
+abbrev pub journal_line : Option JournalFigures → List ℕ
+journal_line None = []
+journal_line (Some j) = (codes "journal " ++ decimal j.bytes) ++ (codes " syncs=" ++ decimal j.syncs) ++ line (codes " sync-micros=") j.sync_micros
+
 -- what a volume has, and how much it may have
 abbrev pub volume_line : Volume → Totals → List ℕ
 volume_line v t = codes "volume " ++ v.path ++ (codes " bytes=" ++ decimal t.bytes) ++ (codes " of=" ++ decimal v.max_bytes)
@@ -40,4 +46,4 @@ lines_of_first t (suc n) = lines_of_first t n ++ line_at t n
 
 -- these first lines, what the service says of itself, and a line for each volume, in the order of the description
 abbrev pub status_text : List ℕ → Figures → Tree → List ℕ
-status_text first f t = first ++ service_lines f ++ activity_lines f ++ resident_line f.resident ++ lines_of_first t (length t.volumes)
+status_text first f t = first ++ service_lines f ++ activity_lines f ++ resident_line f.resident ++ journal_line f.journal ++ lines_of_first t (length t.volumes)

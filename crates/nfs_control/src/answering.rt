@@ -10,16 +10,21 @@ use crate::reloading::reload;
 use crate::resident::resident_bytes;
 use crate::socket::About;
 use crate::status::status_text;
+use crate::unsaved::reason;
 use crate::visit::MOST_ANSWER_BYTES;
 use crate::words::{Word, WordFault};
 use nfs_commands::copies::CopySaver;
+use nfs_commands::named::is_same_file;
 use nfs_loop::view::ServiceView;
 use nfs_server::server::Server;
-use nfs_source::fault::Fault;
 use nfs_xdr::link::Link;
 use std::alloc::{AllocError, Global};
 use std::random::RandomSource;
 use std::rt::Files;
+
+// Why a tree is not saved to a file.
+const OF_JOURNAL: &str =
+    "error: that would replace the description that the journal belongs to: save to another file\n";
 
 /// What answers.
 #[derive(Drop)]
@@ -96,13 +101,22 @@ impl<L: Link + Drop, R: Files + Input, Q: Files + RandomSource> Answering<
             Word::Mounts => mounts_text(alloc, server),
             Word::Denied(most) => { denied_text(alloc, server.tree(), self.view.denials, most) }
             Word::Metrics => metrics_of(self.rt, alloc, server, self.view),
-            Word::Reload => {
-                let answer = reload(self.rt, alloc, self.about.description, server)?;
-                Ok(answer.into_bytes())
-            }
+            Word::Reload => { Ok(self.reload(server)?.into_bytes()) }
             Word::Save(name) => Ok(self.save(server, name)?.into_bytes()),
             Word::Stop(_) => Ok(Vec::new(alloc)),
         }
+    }
+
+    // Puts the exports of the description in force, unless a journal belongs to those that are.
+    fn reload(&self, server: &mut Server) -> Result<String, AllocError>
+        ensures { MayReload server.old server.new }
+    {
+        if self.about.has_journal {
+            return "error: a service with a journal keeps its exports; start it again to put others in force\n".to_string(
+                self.alloc,
+            );
+        }
+        reload(self.rt, self.alloc, self.about.description, server)
     }
 
     // The end of the service, once its tree will be saved to this file, if one is named. One may be named once.
@@ -120,6 +134,9 @@ impl<L: Link + Drop, R: Files + Input, Q: Files + RandomSource> Answering<
 
     // Has the tree saved to this file at the end, or says why it can't be.
     fn refusal_to_save_last(&mut self, name: &str) -> Result<Option<String>, AllocError> {
+        if self.is_of_journal(name) {
+            return Ok(Some(OF_JOURNAL.to_string(self.alloc)?));
+        }
         if let Some(earlier) = self.copies.last_name() {
             return Ok(Some(format!(in self.alloc;
                 "error: the service is stopping already, and saves its tree to {earlier}\n"
@@ -127,7 +144,7 @@ impl<L: Link + Drop, R: Files + Input, Q: Files + RandomSource> Answering<
         }
         match self.copies.set_last_name(name) {
             Ok(()) => Ok(None),
-            Err(fault) => Ok(Some(reason(self.alloc, &fault)?)),
+            Err(fault) => Ok(Some(reason(self.alloc, &fault, "")?)),
         }
     }
 
@@ -152,23 +169,23 @@ impl<L: Link + Drop, R: Files + Input, Q: Files + RandomSource> Answering<
         let Some(name) = name.or(self.copies.name()) else {
             return "error: name a file, since the service has no --save\n".to_string(self.alloc);
         };
+        if self.is_of_journal(name) {
+            return OF_JOURNAL.to_string(self.alloc);
+        }
         match self.copies.save_as(server, name) {
             Ok(()) => format!(in self.alloc; "saved {name}\n"),
-            Err(fault) => reason(self.alloc, &fault),
+            Err(fault) => reason(self.alloc, &fault, ""),
         }
     }
-}
 
-// Why a tree isn't saved.
-fn reason(alloc: Global, fault: &Fault) -> Result<String, AllocError> {
-    match fault {
-        Fault::CannotWrite { name, error } => {
-            format!(in alloc; "error: cannot write {name}: {error}\n")
+    // Whether this is the file of the description to which the journal of the service belongs.
+    fn is_of_journal(&self, name: &str) -> bool {
+        match self.about.description {
+            Some(description) => {
+                self.about.has_journal && is_same_file(self.rt, name, description)
+            }
+            None => false,
         }
-        Fault::CannotRead { name, error } => {
-            format!(in alloc; "error: cannot read {name}: {error}\n")
-        }
-        _ => "error: out of memory\n".to_string(alloc),
     }
 }
 

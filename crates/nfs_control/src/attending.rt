@@ -1,9 +1,10 @@
 //! What a service does between two rounds: copies of its tree, and answers to who controls it or gets its metrics.
-ghost use Rattle.std.specs.Prelude.{IsErr};
+ghost use Rattle.std.specs.Prelude.{◌≡◌, IsErr};
 ghost use Rattle.nfs_loop.specs.Attending.{MayReload};
 
 use crate::metrics_socket::MetricsSocket;
 use crate::socket::ControlSocket;
+use crate::unsaved::reason;
 use crate::watch::Watch;
 use log::{Log, warn};
 use nfs_commands::copies::CopySaver;
@@ -12,6 +13,7 @@ use nfs_loop::view::ServiceView;
 use nfs_server::server::Server;
 use nfs_source::fault::Fault;
 use nfs_xdr::link::Link;
+use std::alloc::Global;
 use std::net::Net;
 use std::random::RandomSource;
 use std::rt::Files;
@@ -26,11 +28,15 @@ pub struct Attending<'a, 'b, Q, R> {
     metrics: Option<MetricsSocket<'b, R>>,
     watch: Option<Watch<'b, R>>,
     log: &'a Q,
+    alloc: Global,
+    // Whether the tree is saved for the end of the service.
+    is_finished: bool,
 }
 
 impl<'a, 'b, Q, R: Files + Net> Attending<'a, 'b, Q, R> {
     /// With what saves the tree, the sockets, and what watches the description. It logs what that does.
     pub fn new(
+        alloc: Global,
         copies: CopySaver<'a, Q>,
         control: Option<ControlSocket<'b, R>>,
         metrics: Option<MetricsSocket<'b, R>>,
@@ -43,6 +49,8 @@ impl<'a, 'b, Q, R: Files + Net> Attending<'a, 'b, Q, R> {
             metrics,
             watch,
             log,
+            alloc,
+            is_finished: false,
         }
     }
 
@@ -53,6 +61,15 @@ impl<'a, 'b, Q, R: Files + Net> Attending<'a, 'b, Q, R> {
         if let Some(socket) = control {
             socket.remove(has_fault);
         }
+    }
+}
+
+impl<Q, R> Attending<'_, '_, Q, R> {
+    /// Whether the tree is saved already for the end of the service, which was told to end.
+    pub fn is_finished(&self) -> bool
+        ensures { result ≡ self.now.is_finished }
+    {
+        self.is_finished
     }
 }
 
@@ -73,6 +90,20 @@ impl<Q: Files + RandomSource + Log, R> Attending<'_, '_, Q, R> {
     }
 }
 
+impl<Q: Log, R: Files + Net> Attending<'_, '_, Q, R> {
+    // Tells whoever asked for the end of the service that it goes on, since its tree can't be saved.
+    fn go_on(&mut self, fault: &Fault) {
+        warn!(self.log; "{fault}; the service goes on");
+        let Some(socket) = &mut self.control else {
+            return;
+        };
+        match reason(self.alloc, fault, "; the service goes on") {
+            Ok(line) => socket.go_on(line.as_bytes()),
+            Err(_) => socket.go_on(b"error: out of memory; the service goes on\n"),
+        }
+    }
+}
+
 impl<Q: Log, R: Files + Input + Net> Attending<'_, '_, Q, R> {
     // Puts the exports of the description in force, where it is watched and has changed.
     fn look_at_description(&mut self, server: &mut Server)
@@ -86,8 +117,21 @@ impl<Q: Log, R: Files + Input + Net> Attending<'_, '_, Q, R> {
 
 impl<Q: Files + RandomSource + Clock + Log, R: Files + Input + Net> Attendant
     for Attending<'_, '_, Q, R> {
+    ghost may_end = { λ a. a.is_finished };
+
     fn save(&mut self, server: &Server) {
         self.copies.save(server);
+    }
+
+    fn finish(&mut self, server: &Server) -> bool {
+        match self.copies.save_to_end(server) {
+            Ok(()) => self.is_finished = true,
+            Err(fault) => {
+                self.is_finished = false;
+                self.go_on(&fault);
+            }
+        }
+        self.is_finished
     }
 
     fn attend<L: Link + Drop>(&mut self, server: &mut Server, view: &ServiceView<'_, L>) -> bool {

@@ -3,6 +3,7 @@
 use nfs_loop::attendant::Standing;
 use nfs_loop::turn_times::TurnTimes;
 use nfs_loop::view::ServiceView;
+use nfs_server::journal_out::JournalFigures;
 use nfs_server::server::Server;
 use nfs_serving::traffic::Traffic;
 use nfs_xdr::link::Link;
@@ -34,6 +35,8 @@ pub struct Figures {
     pub dropped: u64,
     /// How many bytes of memory the process takes, where the system says it.
     pub resident: Option<u64>,
+    /// What the journal says of itself, if there is one.
+    pub journal: Option<JournalFigures>,
 }
 
 impl Figures {
@@ -56,6 +59,7 @@ impl Figures {
             turn_times: view.turn_times,
             dropped: view.dropped,
             resident,
+            journal: view.journal,
         }
     }
 }

@@ -17,6 +17,7 @@ mod resident;
 mod sentences;
 pub mod socket;
 pub mod status;
+mod unsaved;
 mod visit;
 mod visits;
 pub mod watch;

@@ -9,6 +9,7 @@ use nfs_lines::rule_names::name_of;
 use nfs_loop::turn_times::{TURN_BOUNDS, TurnTimes};
 use nfs_loop::view::ServiceView;
 use nfs_server::call_counts::CallCounts;
+use nfs_server::journal_out::JournalFigures;
 use nfs_server::server::Server;
 use nfs_words::text::Text;
 use nfs_xdr::link::Link;
@@ -53,6 +54,7 @@ fn metrics_text(
 ) -> Result<Vec<u8>, AllocError> {
     let mut out = Text::new(alloc);
     put_service(&mut out, figures);
+    put_journal(&mut out, figures.journal);
     put_turns(&mut out, &figures.turn_times);
     put_calls(&mut out, calls);
     put_denied(&mut out, denied);
@@ -131,6 +133,34 @@ fn put_service(out: &mut Text, figures: &Figures) {
             resident,
         );
     }
+}
+
+// What a journal says of itself, if there is one.
+fn put_journal(out: &mut Text, journal: Option<JournalFigures>) {
+    let Some(figures) = journal else {
+        return;
+    };
+    put_gauge(
+        out,
+        b"nfs3d_journal_bytes",
+        b"How many bytes the journal has.",
+        figures.bytes,
+    );
+    put_counter(
+        out,
+        b"nfs3d_journal_syncs_total",
+        b"How often the journal was synced.",
+        figures.syncs,
+    );
+    put_head(
+        out,
+        b"nfs3d_journal_sync_seconds_total",
+        b"How long the journal was being synced.",
+        Kind::Counter,
+    );
+    out.put(b"nfs3d_journal_sync_seconds_total ");
+    put_seconds(out, figures.sync_micros);
+    out.put(b"\n");
 }
 
 // How long turns took: for each bound how many took no longer.

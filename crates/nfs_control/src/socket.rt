@@ -30,6 +30,8 @@ const MODE: u32 = 0o600;
 pub struct About<'a> {
     /// The name of the description that it serves; `None` where it serves directories.
     pub description: Option<&'a str>,
+    /// Whether it has a journal, which belongs to that description and its exports.
+    pub has_journal: bool,
     /// The first lines of its status.
     pub first_lines: String,
 }
@@ -72,6 +74,14 @@ impl<'a, R: Files + Net> ControlSocket<'a, R> {
             listener,
             visits,
         })
+    }
+
+    /// Tells this line to whoever asked for the end of the service, which goes on.
+    pub fn go_on(&mut self, line: &[u8]) {
+        for visit in self.visits.as_mut_slice() {
+            visit.let_go(line);
+        }
+        self.visits.sweep();
     }
 
     /// Takes the socket away, and closes its connections. Where the service ended with a fault, whoever asked for its

@@ -1,19 +1,21 @@
 //! How a service stands, and what its volumes have.
 ghost use Rattle.std.specs.Prelude.{◌≡◌, ◌++◌, codes, decimal, IfOk, length};
 ghost use Rattle.nfs_control.specs.Status as spec;
-ghost use Rattle.nfs_control.specs.Status.{activity_lines, line_at, lines_of_first, resident_line, service_lines, volume_line};
+ghost use Rattle.nfs_control.specs.Status.{activity_lines, journal_line, line_at, lines_of_first, resident_line, service_lines, volume_line};
 ghost use Rattle.nfs_inodes.specs.Views.{volume_seen};
 ghost use Rattle.nfs_words.specs.Texts.{Puts};
 
 use crate::figures::Figures;
 use nfs_inodes::tree::Tree;
 use nfs_inodes::volumes::{Totals, VolumeView};
+use nfs_server::journal_out::JournalFigures;
 use nfs_words::text::Text;
 use std::alloc::{AllocError, Global};
 
 /// The answer to `status`: these first lines; the lines `uptime SECONDS`, `clients N`, `connections N`, `calls N`,
 /// `calls-per-second N`, `denied N`, `mounts N`, `cached-replies N of=MOST`, `received BYTES`, `sent BYTES`,
-/// `pending BYTES`, `dropped-lines N` and, where the system says it, `memory BYTES`; and for each volume
+/// `pending BYTES`, `dropped-lines N`; where the system says it, `memory BYTES`; where there is a journal
+/// `journal BYTES syncs=N sync-micros=N`; and for each volume
 /// `volume PATH bytes=USED of=MOST files=USED of=MOST`.
 pub(crate) fn status_text(
     alloc: Global,
@@ -28,6 +30,7 @@ pub(crate) fn status_text(
     put_service(&mut out, figures);
     put_activity(&mut out, figures);
     put_resident(&mut out, figures.resident);
+    put_journal(&mut out, figures.journal);
     put_volumes(&mut out, tree);
     out.into_bytes()
 }
@@ -62,6 +65,19 @@ fn put_resident(out: &mut Text, resident: Option<u64>)
 {
     match resident {
         Some(bytes) => put_line(out, b"memory ", bytes),
+        None => out.put(b""),
+    }
+}
+
+fn put_journal(out: &mut Text, journal: Option<JournalFigures>)
+    ensures { Puts (journal_line journal) out.old out.new }
+{
+    match journal {
+        Some(figures) => {
+            out.put_field(b"journal ", figures.bytes);
+            out.put_field(b" syncs=", figures.syncs);
+            put_line(out, b" sync-micros=", figures.sync_micros);
+        }
         None => out.put(b""),
     }
 }

@@ -13,7 +13,7 @@ pub(crate) const MOST_LINE_BYTES: usize = 4_096;
 pub(crate) const MOST_ANSWER_BYTES: usize = 16 << 20;
 
 // How much is read at once.
-const PIECE_BYTES: usize = 512;
+const CHUNK_BYTES: usize = 512;
 
 /// What came of a line, or of the head of a request.
 #[derive(Clone, Copy, Debug, PartialEq, Eq)]
@@ -105,10 +105,10 @@ impl<S: Read + Write + Drop> Visit<S> {
     fn hear_some(&mut self) -> Option<Heard>
         ensures { IsShort self.old.line → IsShort self.new.line }
     {
-        let mut piece = [0; PIECE_BYTES];
-        match self.stream.read(&mut piece) {
+        let mut chunk = [0; CHUNK_BYTES];
+        match self.stream.read(&mut chunk) {
             Ok(0) => self.close(),
-            Ok(n) => return Some(self.take(&piece[..n])),
+            Ok(n) => return Some(self.take(&chunk[..n])),
             Err(error) => match error.kind() {
                 ErrorKind::WouldBlock => {}
                 ErrorKind::Interrupted => return Some(Heard::Part),
@@ -118,31 +118,31 @@ impl<S: Read + Write + Drop> Visit<S> {
         None
     }
 
-    // Takes a piece of a line or of a head.
-    fn take(&mut self, piece: &[u8]) -> Heard
+    // Takes a chunk of a line or of a head.
+    fn take(&mut self, chunk: &[u8]) -> Heard
         ensures { IsShort self.old.line → IsShort self.new.line }
     {
         match self.form {
-            Form::Line => self.take_of_line(piece),
-            Form::Head => self.take_of_head(piece),
+            Form::Line => self.take_of_line(chunk),
+            Form::Head => self.take_of_head(chunk),
         }
     }
 
-    // Takes a piece of the line. What follows the line is ignored.
-    fn take_of_line(&mut self, piece: &[u8]) -> Heard
+    // Takes a chunk of the line. What follows the line is ignored.
+    fn take_of_line(&mut self, chunk: &[u8]) -> Heard
         ensures { IsShort self.old.line → IsShort self.new.line }
     {
-        match piece.iter().position(|byte| *byte == b'\n') {
-            Some(end) => self.keep(&piece[..end], true),
-            None => self.keep(piece, false),
+        match chunk.iter().position(|byte| *byte == b'\n') {
+            Some(end) => self.keep(&chunk[..end], true),
+            None => self.keep(chunk, false),
         }
     }
 
-    // Takes a piece of the head.
-    fn take_of_head(&mut self, piece: &[u8]) -> Heard
+    // Takes a chunk of the head.
+    fn take_of_head(&mut self, chunk: &[u8]) -> Heard
         ensures { IsShort self.old.line → IsShort self.new.line }
     {
-        match self.keep(piece, false) {
+        match self.keep(chunk, false) {
             Heard::Part if read_request(self.line.as_slice()).is_some() => Heard::All,
             heard => heard,
         }
@@ -178,6 +178,19 @@ impl<S: Read + Write + Drop> Visit<S> {
         if self.stage == Stage::Holding && self.answer.extend_from_slice(line).is_ok() {
             self.tell();
         }
+    }
+
+    /// Adds a line to an answer that is held, which is written then as every other one.
+    pub(crate) fn let_go(&mut self, line: &[u8]) {
+        if self.stage != Stage::Holding {
+            return;
+        }
+        if self.answer.extend_from_slice(line).is_err() {
+            self.close();
+            return;
+        }
+        self.stage = Stage::Telling;
+        self.tell();
     }
 
     /// Closes it.

@@ -6,7 +6,8 @@ use Rattle.std.proofs.lemmas.Bool.{false≢true}
 use Rattle.nfs_args.specs.declared.mount_args.MountArgs.{MountArgs}
 use Rattle.nfs_args.specs.declared.mount_args.MountArgs.TheVariants as asked
 use Rattle.nfs_inodes.specs.Tree.{Tree}
-use Rattle.nfs_journal.specs.Noted.{NotedAreAnswered, has_entry, is_noted, is_noted_call, noted}
+use Rattle.nfs_journal.specs.Noted.{NotedAreAnswered, noted}
+use Rattle.nfs_server.specs.Noted.{has_entry, is_noted, is_noted_call}
 use Rattle.nfs_mount.specs.MountRules.{mount_verdict}
 use Rattle.nfs_procs.specs.Doing.{Doing}
 use Rattle.nfs_procs.specs.Procedures.{doing_of}

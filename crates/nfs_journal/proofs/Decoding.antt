@@ -5,8 +5,9 @@ use Rattle.std.proofs.lemmas.Bool.{le-ltb, true≢false}
 use Rattle.std.proofs.lemmas.List.{append_cancel_left, length-append}
 use Rattle.std.specs.Int.{w32, to_be_bytes}
 use Rattle.std.specs.Prelude.{Result, Ok, Err, if◌then◌else◌, nat_lt, is_ok}
-use Rattle.nfs_journal.specs.Checksums.{crc32c}
-use Rattle.nfs_journal.specs.Entries.{AreWords, EntriesAreReadOnce, IsNoEntry, checked, content_at, content_text, entry_text, event_with}
+use Rattle.nfs_checksum.specs.Checksums.{crc32c}
+use Rattle.nfs_journal.specs.Entries.{AreWords, EntriesAreReadOnce, IsNoEntry, content_at, event_with}
+use Rattle.nfs_server.specs.Entries.{checked, content_text, entry_text}
 use Rattle.nfs_server.specs.Events.{Event}
 use Rattle.nfs_xdr.proofs.Items.{finds_u32}
 use Rattle.nfs_xdr.specs.Reading.{◌>>=◌, number_at}

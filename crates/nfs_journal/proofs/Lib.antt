@@ -1,9 +1,11 @@
 pub mod Stays
 pub mod Noted
 pub mod Alike
-pub mod Checksums
-pub mod Entries
 pub mod Decoding
-pub mod Recovering
+pub mod Rerunning
 pub mod Answered
 pub mod Recovered
+pub mod Heading
+pub mod Scanning
+pub mod Lives
+pub mod Blocking

@@ -5,8 +5,10 @@ use Rattle.std.specs.List.{AllByRecursion}
 use Rattle.std.proofs.lemmas.Bool.{true≢false, false≢true, eq-eqb, ne_eqb}
 use Rattle.nfs_exports.specs.declared.addr.Addr.{Addr}
 use Rattle.nfs_journal.proofs.Stays.{stays}
-use Rattle.nfs_journal.specs.Entries.{entry_of, journal_text, JournalIsOfNoted}
-use Rattle.nfs_journal.specs.Noted.{is_noted_request, is_noted_call, is_noted, has_entry, noted, noted_setups, IsServed, NotedIsHistory, NotedAreServed}
+use Rattle.nfs_journal.specs.Entries.{JournalIsOfNoted}
+use Rattle.nfs_server.specs.Entries.{entry_of, journal_text}
+use Rattle.nfs_journal.specs.Noted.{noted, noted_setups, IsServed, NotedIsHistory, NotedAreServed}
+use Rattle.nfs_server.specs.Noted.{is_noted_request, is_noted_call, is_noted, has_entry}
 use Rattle.nfs_reply_cache.specs.Places.{cached_reply, with_reply}
 use Rattle.nfs_rpc.specs.Calls.{Call, head_at}
 use Rattle.nfs_rpc.specs.Records.{fragment}
@@ -129,12 +131,22 @@ run_noted setups now opening (d ∷ before) state h = by (has_entry d) refl
 
 -- ---- laws
 
+pub journal_is_of_noted : JournalIsOfNoted
+journal_is_of_noted [] = refl
+journal_is_of_noted (d ∷ before) = by (has_entry d) refl (journal_is_of_noted before)
+  where
+    by : (b : Bool) → has_entry d ≡ b → journal_text (noted before) ≡ journal_text before
+        → journal_text (if b then d ∷ noted before else noted before) ≡ journal_text before ++ (if b then fragment true (entry_of d) else [])
+    by true e h = ap (λ text. text ++ (if has_entry d then fragment true (entry_of d) else [])) h ∙ ap (λ b. journal_text before ++ (if b then fragment true (entry_of d) else [])) e
+    by false e h = h ∙ sym (append-nil (journal_text before))
+
 pub noted_is_history : NotedIsHistory
 noted_is_history history s fits = record {
   opens = fits.opens;
   run = run_noted history.setups (history.setups (length history.done)) history.opening history.done s.state fits.run;
   in_force = λ n later. last_setup history.setups (history.setups (length history.done)) history.done n later ∙ fits.in_force (length history.done) (omega arith);
   cached = fits.cached ∙ sym (cached_noted s.setup.places history.done);
+  notes_are = λ bytes e. journal_is_of_noted history.done ∙ fits.notes_are bytes e;
 }
 
 unrefused : (n r : Bool) → n && not r ≡ true → r ≡ false
@@ -149,12 +161,3 @@ noted_are_served (d ∷ before) = by (has_entry d) refl (noted_are_served before
     by : (b : Bool) → has_entry d ≡ b → AllByRecursion IsServed (noted before) → AllByRecursion IsServed (if b then d ∷ noted before else noted before)
     by true e h = (unrefused (is_noted d.event) (is_refused d.answer.line) e, h)
     by false e h = h
-
-pub journal_is_of_noted : JournalIsOfNoted
-journal_is_of_noted [] = refl
-journal_is_of_noted (d ∷ before) = by (has_entry d) refl (journal_is_of_noted before)
-  where
-    by : (b : Bool) → has_entry d ≡ b → journal_text (noted before) ≡ journal_text before
-        → journal_text (if b then d ∷ noted before else noted before) ≡ journal_text before ++ (if b then fragment true (entry_of d) else [])
-    by true e h = ap (λ text. text ++ (if has_entry d then fragment true (entry_of d) else [])) h ∙ ap (λ b. journal_text before ++ (if b then fragment true (entry_of d) else [])) e
-    by false e h = h ∙ sym (append-nil (journal_text before))

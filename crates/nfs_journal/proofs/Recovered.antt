@@ -9,8 +9,10 @@ use Rattle.nfs_journal.proofs.Answered.{noted_are_answered}
 use Rattle.nfs_journal.proofs.Decoding.{entries_once}
 use Rattle.nfs_journal.proofs.Noted.{noted_are_served, noted_is_history}
 use Rattle.nfs_journal.specs.Alike.{AreAlike, AllAlike, HoldTheSame}
-use Rattle.nfs_journal.specs.Entries.{FitsEntry, entry_of, journal_text, reply_bytes}
-use Rattle.nfs_journal.specs.Noted.{IsServed, has_entry, noted, noted_history, noted_setups}
+use Rattle.nfs_journal.specs.Entries.{FitsEntry}
+use Rattle.nfs_server.specs.Entries.{entry_of, journal_text, reply_bytes}
+use Rattle.nfs_journal.specs.Noted.{IsServed, noted, noted_history, noted_setups}
+use Rattle.nfs_server.specs.Noted.{has_entry}
 use Rattle.nfs_journal.specs.Recovered.{IsLife, HasRecovered, HoldsAsEarlier, FrontIsEarlier, RecoveryIsExact}
 use Rattle.nfs_journal.specs.Recovering.{IsRerun}
 use Rattle.nfs_rpc.proofs.Streams.{record_once, records_close, records_grow}
@@ -41,15 +43,15 @@ tail_of x y xs ys e = cc
 turned : {X : Type 0} (x : X) (xs : List X) → reverse (x ∷ xs) ≡ reverse xs ++ x ∷ []
 turned x xs = reverse-append (x ∷ []) xs
 
-all_reverse : {X : Type 0} (P : X → Type 0) (xs : List X) → AllByRecursion P xs → AllByRecursion P (reverse xs)
+pub all_reverse : {X : Type 0} (P : X → Type 0) (xs : List X) → AllByRecursion P xs → AllByRecursion P (reverse xs)
 all_reverse P [] a = tt
 all_reverse P (x ∷ xs) a = subst (AllByRecursion P) (sym (turned x xs)) (all_append P (reverse xs) (x ∷ []) (all_reverse P xs a.1) (a.0, tt))
 
-all_back : {X : Type 0} (P : X → Type 0) (xs ys : List X) → AllByRecursion P (xs ++ ys) → AllByRecursion P ys
+pub all_back : {X : Type 0} (P : X → Type 0) (xs ys : List X) → AllByRecursion P (xs ++ ys) → AllByRecursion P ys
 all_back P [] ys a = a
 all_back P (x ∷ xs) ys a = all_back P xs ys a.1
 
-all_noted : (P : Done → Type 0) (done : List Done) → AllByRecursion P done → AllByRecursion P (noted done)
+pub all_noted : (P : Done → Type 0) (done : List Done) → AllByRecursion P done → AllByRecursion P (noted done)
 all_noted P [] a = tt
 all_noted P (d ∷ before) a = by (has_entry d) (all_noted P before a.1)
   where
@@ -128,7 +130,7 @@ alike_append [] (b ∷ ys) x y e a = absurd e
 alike_append (b ∷ xs) [] x y e a = absurd e
 alike_append (b ∷ xs) (c ∷ ys) x y e a = (e.0, alike_append xs ys x y e.1 a)
 
-alike_reverse : (xs ys : List Done) → AllAlike xs ys → AllAlike (reverse xs) (reverse ys)
+pub alike_reverse : (xs ys : List Done) → AllAlike xs ys → AllAlike (reverse xs) (reverse ys)
 alike_reverse [] [] e = tt
 alike_reverse [] (y ∷ ys) e = absurd e
 alike_reverse (x ∷ xs) [] e = absurd e
@@ -161,10 +163,10 @@ run_front setups opening (d ∷ later) earlier state run = run_front setups open
 -- ---- recovery
 
 module _ (history : History) (s t : Held) (bytes lost : List ℕ) (entries unfinished : ℕ) (life : IsLife history s) (cut : bytes ++ lost ≡ journal_text history.done) (it : HasRecovered history s bytes entries unfinished t) where
-  abbrev are : List Done
+  abbrev pub are : List Done
   are = noted history.done
 
-  abbrev again : List Done
+  abbrev pub again : List Done
   again = it.rerun.done
 
   fitting : Fits (noted_history history) s
@@ -176,22 +178,22 @@ module _ (history : History) (s t : Held) (bytes lost : List ℕ) (entries unfin
   are_rerun : AllByRecursion IsRerun are
   are_rerun = rerun_of are (noted_are_served history.done) (noted_are_answered history s life.fits) (all_noted FitsEntry history.done life.entries)
 
-  front : (left : List (List ℕ)) × (map entry_of (reverse are) ≡ map entry_of (reverse again) ++ left) × AreRecords (it.rerun.rest ++ lost) left []
+  pub front : (left : List (List ℕ)) × (map entry_of (reverse are) ≡ map entry_of (reverse again) ++ left) × AreRecords (it.rerun.rest ++ lost) left []
   front = front_of (map entry_of (reverse again)) (map entry_of (reverse are)) bytes it.rerun.rest lost (journal_text history.done) cut it.rerun.cut (journal_records history.done life.entries)
 
-  matched : (first : List Done) × (back : List Done) × (reverse are ≡ first ++ back) × AllAlike first (reverse again) × (map entry_of back ≡ front.0)
+  pub matched : (first : List Done) × (back : List Done) × (reverse are ≡ first ++ back) × AllAlike first (reverse again) × (map entry_of back ≡ front.0)
   matched = alike_front (reverse are) (reverse again) front.0 (all_reverse IsRerun are are_rerun) (all_reverse IsRerun again it.rerun.rerun) front.1
 
-  abbrev earlier : List Done
+  abbrev pub earlier : List Done
   earlier = reverse matched.0
 
-  abbrev later : List Done
+  abbrev pub later : List Done
   later = reverse matched.1
 
-  parts : are ≡ later ++ earlier
+  pub parts : are ≡ later ++ earlier
   parts = sym (reverse-reverse are) ∙ ap reverse matched.2 ∙ reverse-append matched.0 matched.1
 
-  alike : AllAlike earlier again
+  pub alike : AllAlike earlier again
   alike = subst (AllAlike earlier) (reverse-reverse again) (alike_reverse matched.0 (reverse again) matched.3)
 
   fits_again : Fits (record (opening_with s.setup history.opening) { done = again }) t
@@ -209,10 +211,10 @@ module _ (history : History) (s t : Held) (bytes lost : List ℕ) (entries unfin
       between = run_front (noted_history history).setups history.opening later earlier s.state (subst (λ d. IsRun (noted_history history).setups history.opening d s.state) parts fitting.run)
 
       u : Held
-      u = record { setup = s.setup; state = between.0; kept = cached_after s.setup.places earlier; line = None }
+      u = record { setup = s.setup; state = between.0; kept = cached_after s.setup.places earlier; line = None; notes = None }
 
       fits : Fits (record (noted_history history) { done = earlier }) u
-      fits = record { opens = fitting.opens; run = between.1; in_force = λ n le. in_force n; cached = refl }
+      fits = record { opens = fitting.opens; run = between.1; in_force = λ n le. in_force n; cached = refl; notes_are = λ bytes e. cc }
 
   all_come : front.0 ≡ [] → HoldTheSame s t
   all_come none = holds s (subst (λ d. Fits (record (noted_history history) { done = d }) s) whole fitting)

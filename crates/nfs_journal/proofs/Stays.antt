@@ -9,7 +9,7 @@ use Rattle.nfs_args.specs.declared.mount_args.MountArgs.TheVariants as asked
 use Rattle.nfs_attrs.specs.declared.moment.Moment.{Moment}
 use Rattle.nfs_exports.specs.declared.export_table.Export.{Export}
 use Rattle.nfs_inodes.specs.Tree.{Tree, on_some}
-use Rattle.nfs_journal.specs.Noted.{may_change_mounts, is_noted_request, is_noted_call, is_noted, has_entry}
+use Rattle.nfs_server.specs.Noted.{may_change_mounts, is_noted_request, is_noted_call, is_noted, has_entry}
 use Rattle.nfs_mount.specs.MountRules.{mount_verdict}
 use Rattle.nfs_procs.proofs.Judged.{subject_tree}
 use Rattle.nfs_procs.specs.Doing.{Doing}

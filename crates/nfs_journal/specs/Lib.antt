@@ -1,6 +1,10 @@
 pub mod Noted
-pub mod Checksums
 pub mod Entries
 pub mod Alike
 pub mod Recovering
 pub mod Recovered
+pub mod Heads
+pub mod OnFile
+pub mod Scanning
+pub mod Lives
+pub mod Blocks

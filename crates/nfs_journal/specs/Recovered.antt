@@ -2,7 +2,8 @@
 use Rattle.std.specs.Prelude.{◌≡◌, ℕ, List, ◌++◌, length}
 use Rattle.std.specs.List.{AllByRecursion}
 use Rattle.nfs_journal.specs.Alike.{HoldTheSame}
-use Rattle.nfs_journal.specs.Entries.{FitsEntry, journal_text}
+use Rattle.nfs_journal.specs.Entries.{FitsEntry}
+use Rattle.nfs_server.specs.Entries.{journal_text}
 use Rattle.nfs_journal.specs.Noted.{noted, noted_history}
 use Rattle.nfs_journal.specs.Recovering.{HasRerun}
 use Rattle.nfs_rpc.specs.Progress.{Progress}

@@ -1,8 +1,13 @@
-//! The journal of a server: which events have an entry, how an entry is encoded, and how a server
-//! becomes again what it was by running its journal again.
+//! The journal of a server: its head, its entries, how it is kept in a file, and how a server becomes again
+//! what it was by running its journal again.
 #![tactic(auto)]
 
-pub mod checksum;
+pub mod block;
+pub mod broken_entry;
 pub mod entry;
+pub mod file_journal;
+pub mod head;
 pub mod laws;
+pub mod recovering;
 pub mod recovery;
+pub mod scan;

@@ -12,13 +12,13 @@ use nfs_server::event::Handled;
 use nfs_server::reply_buf::ReplyBuf;
 use nfs_server::server::Server;
 
-/// How far a journal was run again.
+/// How far a chunk was run again.
 #[derive(Clone, Copy, Debug, PartialEq, Eq)]
-pub struct Rerun {
+pub(crate) struct Rerun {
     /// The number of entries.
-    pub entries: u64,
+    pub(crate) entries: u64,
     /// The number of bytes after the last of them, which may be the beginning of one more.
-    pub unfinished: u64,
+    pub(crate) unfinished: u64,
 }
 
 /// Why a journal can't be run again.
@@ -32,54 +32,17 @@ pub enum RecoveryFault {
     Memory,
 }
 
-/// Runs the entries of a chunk of a journal again, after so many unfinished bytes. Each event is
-/// answered as its entry says, or a fault is reported. Nothing is said of what the unfinished bytes
-/// would become.
-pub fn rerun_chunk(
-    server: &mut Server,
-    reply: &mut ReplyBuf,
-    framer: &mut Framer,
-    unfinished: u64,
-    chunk: &[u8],
-) -> Result<Rerun, RecoveryFault>
-    requires between { IsBetween framer.old }
-    requires room { unfinished + length chunk.now < 2 ^ 64 }
-    ensures entries { IfOk result (λ rerun. rerun.entries ≤ length chunk.now) }
-    ensures unfinished { IfOk result (λ rerun. rerun.unfinished ≤ unfinished + length chunk.now) }
-    ensures between { OnOk result (IsBetween framer.new) }
-    ensures limit { framer.new.limit ≡ framer.old.limit }
-    ensures breaks { IfErr result (λ fault. BreaksOn fault chunk.now unfinished server.old server.new framer.old) }
-    ensures runs { IfOk result (λ rerun. RunsOn chunk.now unfinished rerun.entries rerun.unfinished server.old server.new framer.old framer.new) }
-{
-    let mut used = 0;
-    let mut rerun = Rerun {
-        entries: 0,
-        unfinished,
-    };
-    while used < chunk.len() {
-        match rerun_one(server, reply, framer, rerun.unfinished, &chunk[used..]) {
-            Ok(part) => {
-                used += part.used;
-                rerun = Rerun {
-                    entries: rerun.entries + part.rerun.entries,
-                    unfinished: part.rerun.unfinished,
-                };
-            }
-            Err(fault) => return Err(fault),
-        }
-    }
-    Ok(rerun)
-}
-
-// What became of a chunk up to the end of the first entry.
+/// What became of a chunk up to the end of the first entry.
 #[derive(Clone, Copy, Debug, PartialEq, Eq)]
-struct Part {
-    used: usize,
-    rerun: Rerun,
+pub(crate) struct Part {
+    pub(crate) used: usize,
+    pub(crate) rerun: Rerun,
 }
 
-// Takes a chunk up to the end of the first entry, which it runs again.
-fn rerun_one(
+/// Takes a chunk up to the end of the first entry, which it runs again, after so many unfinished bytes.
+/// Its event is answered as the entry says, or a fault is reported. Nothing is said of what the unfinished
+/// bytes would become.
+pub(crate) fn rerun_one(
     server: &mut Server,
     reply: &mut ReplyBuf,
     framer: &mut Framer,
@@ -94,7 +57,8 @@ fn rerun_one(
     ensures unfinished { IfOk result (λ part. part.rerun.unfinished ≤ unfinished + part.used) }
     ensures between { OnOk result (IsBetween framer.new) }
     ensures limit { framer.new.limit ≡ framer.old.limit }
-    ensures breaks { IfErr result (λ fault. BreaksOn fault chunk.now unfinished server.old server.new framer.old) }
+    ensures breaks { IfErr result (λ fault. BreaksOn fault chunk.now unfinished 0 (unfinished + length chunk.now)
+        server.old server.new framer.old) }
     ensures runs { IfOk result (λ part. RunsOn (take part.used chunk.now) unfinished part.rerun.entries part.rerun.unfinished
         server.old server.new framer.old framer.new) }
 {

@@ -8,7 +8,7 @@ use Rattle.nfs_loop.specs.Reports.{Report, IsReported, Accounts}
 use Rattle.nfs_loop.specs.Stages.{Stage, stage, state, seat_of, turned, Goes, WithoutTurns}
 use Rattle.nfs_loop.proofs.Reporting.{accounts_then, accounts_none, accounts_one, accounts_same}
 use Rattle.nfs_server.specs.Fits.{Held}
-use Rattle.nfs_serving.specs.Service.{Seat, ServiceState, Change, joins, turns, leaves, passes, reloads, AreChanges}
+use Rattle.nfs_serving.specs.Service.{Seat, ServiceState, Change, joins, turns, leaves, passes, reloads, settles, AreChanges}
 use Rattle.nfs_serving.proofs.Turning.{grows_none}
 use Rattle.nfs_xdr.proofs.Knowing.{Grows-then, stays_none, stays_then}
 
@@ -19,6 +19,7 @@ turned_then earlier (turns key moment bytes ∷ later) = ap (λ l. l ++ key ∷ 
 turned_then earlier (leaves key number calls end ∷ later) = turned_then earlier later
 turned_then earlier (passes ∷ later) = turned_then earlier later
 turned_then earlier (reloads exports ∷ later) = turned_then earlier later
+turned_then earlier (settles notes ∷ later) = turned_then earlier later
 
 module _ {L : Type 0} (outgoing incoming : L → Option (List ℕ)) where
   pub changes_then : (shared : Bool) (earlier later : List Change) (a b c : ServiceState L) → AreChanges outgoing incoming shared earlier a b → AreChanges outgoing incoming shared later b c → AreChanges outgoing incoming shared (later ++ earlier) a c

@@ -1,4 +1,5 @@
 pub mod Reporting
+pub mod Settling
 pub mod Lengthening
 pub mod Watching
 pub mod Releasing

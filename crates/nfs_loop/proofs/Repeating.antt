@@ -8,6 +8,7 @@ use Rattle.nfs_loop.specs.declared.watches.Watch.{Watch}
 use Rattle.nfs_loop.specs.Watching.{AllBegin, AllStay, ReleasesBy, SomeMayBeHeld}
 use Rattle.nfs_exports.specs.declared.export_table.Export.{Export}
 use Rattle.nfs_loop.specs.Attending.{MayReload}
+use Rattle.nfs_loop.specs.Journals.{IsSettled, JournalGoes, SettlesBy, settles_of}
 use Rattle.nfs_loop.specs.Reports.{Report, since, Accounts, ComeBy}
 use Rattle.nfs_loop.specs.Stages.{Stage, state, seat_of, seats, turned, AllOthersStay, AsksAll, Goes, HeardInTurns, Notes, Schedule, SilentLeave, WaitAgain, WithoutTurns, MayBeFull, IsRound, most_asked, AreRounds, Rounds, changes_of, reload_of}
 use Rattle.nfs_loop.proofs.Reporting.{accounts_then, come_same, come_then, first_then}
@@ -94,6 +95,19 @@ module _ {L : Type 0} (outgoing incoming : L → Option (List ℕ)) (reports : L
   reload_after ended new shared (inl same) is = (None, ap state is ∙ ap (λ (s : Held). state (record ended { server = s })) same)
   reload_after ended new shared (inr (exports, to)) is = (Some exports, (state ended, refl, ap state is ∙ ap (λ (s : Held). state (record ended { server = s })) to))
 
+  -- notes come to last, or none do
+  settle_after : (mid new : Stage L) (shared : Bool) (noted : Option (List ℕ)) → SettlesBy noted mid.server new.server → new ≡ record mid { server = new.server } → AreChanges outgoing incoming shared (settles_of noted) (state mid) (state new)
+  settle_after mid new shared None same is = ap state is ∙ ap (λ (s : Held). state (record mid { server = s })) same
+  settle_after mid new shared (Some notes) s is = (state mid, refl, (s.0, ap state is ∙ ap (λ (h : Held). state (record mid { server = h })) s.1))
+
+  settles_no_turn : (noted : Option (List ℕ)) (changes : List Change) → turned (settles_of noted ++ changes) ≡ turned changes
+  settles_no_turn None changes = refl
+  settles_no_turn (Some notes) changes = refl
+
+  settles_no_report : (noted : Option (List ℕ)) (changes : List Change) (a b : Option (List Report)) → ComeBy a changes b → ComeBy a (settles_of noted ++ changes) b
+  settles_no_report None changes a b f = f
+  settles_no_report (Some notes) changes a b f = f
+
   no_turn : (exports : Option (List (List Export))) (changes : List Change) → turned (reload_of exports ++ changes) ≡ turned changes
   no_turn None changes = refl
   no_turn (Some exports) changes = refl
@@ -102,29 +116,33 @@ module _ {L : Type 0} (outgoing incoming : L → Option (List ℕ)) (reports : L
   no_report None changes a b f = f
   no_report (Some exports) changes a b f = f
 
-  pub round_of : (a between before after c d : Option (List Report)) (from to : Schedule) (ready_queue first : List ℕ) (old gathered turned_at ended new : Stage L) (held left : List Watch)
+  pub round_of : (a between before after c d : Option (List Report)) (from to : Schedule) (ready_queue first : List ℕ) (old gathered turned_at ended reloaded new : Stage L) (held left : List Watch)
       → Notes old.members from.watches from.queue ready_queue a between → AsksAll most_asked a between → AllStay old.members from.watches gathered.members held → AllBegin old.members between before gathered.members held → ReleasesBy gathered.members from.full before after held left ready_queue first
       → MayBeFull from.full old.written → gathered.written ≡ old.written
       → Goes outgoing incoming (λ changes. WithoutTurns between changes before) old gathered
       → Goes outgoing incoming (λ changes. (turned changes ≡ first) × Accounts after changes c) gathered turned_at → AllOthersStay first (seats gathered.members) (seats turned_at.members)
       → HeardInTurns incoming reports after c first to.queue left to.watches (seats turned_at.members)
       → Goes outgoing incoming (λ changes. WithoutTurns c changes d) turned_at ended
-      → MayReload ended.server new.server → new ≡ record ended { server = new.server }
+      → MayReload ended.server reloaded.server → reloaded ≡ record ended { server = reloaded.server }
+      → IsSettled from.journal old.server → (noted : Option (List ℕ)) × SettlesBy noted reloaded.server new.server × JournalGoes from.journal noted to.journal → new ≡ record reloaded { server = new.server }
       → WaitAgain incoming reports to.watches (seats turned_at.members) first to.queue → ((key : ℕ) → (get new.members key ≡ get turned_at.members key) ⊎ (get new.members key ≡ None))
       → SomeMayBeHeld first left to.watches → SilentLeave to.watches to.queue from.idle from.looked c d to.looked turned_at.members new.members → to.idle ≡ from.idle
       → (changes : List Change) × IsRound outgoing incoming reports changes a d from to old new
   unfolding after_turns before_turns with_reports
-  round_of a between before after c d from to ready_queue first old gathered turned_at ended new held left notes asked stay begin releases full_is nothing_written f g others heard h may_reload new_is again some_left some_held silent idle_stays =
+  round_of a between before after c d from to ready_queue first old gathered turned_at ended reloaded new held left notes asked stay begin releases full_is nothing_written f g others heard h may_reload reloaded_is settled_first settle new_is again some_left some_held silent idle_stays =
       let joining = with_reports a between before after old gathered (notes_account old.members from.watches from.queue ready_queue a between notes) (releases_account gathered.members from.full before after held left ready_queue first releases) f in
       let serving = before_turns a after c first old gathered turned_at joining g in
       let whole = after_turns a c d first old turned_at ended serving h in
-      let reload = reload_after ended new old.written.shared may_reload new_is in
-      let changes = changes_then outgoing incoming old.written.shared whole.changes (reload_of reload.0) (state old) (state ended) (state new) whole.are_changes reload.1 in (
-        reload_of reload.0 ++ whole.changes,
+      let reload = reload_after ended reloaded old.written.shared may_reload reloaded_is in
+      let with_reload = reload_of reload.0 ++ whole.changes in
+      let reload_goes = changes_then outgoing incoming old.written.shared whole.changes (reload_of reload.0) (state old) (state ended) (state reloaded) whole.are_changes reload.1 in
+      let settle_goes = settle_after reloaded new old.written.shared settle.0 settle.1 new_is in
+      let changes = changes_then outgoing incoming old.written.shared with_reload (settles_of settle.0) (state old) (state reloaded) (state new) reload_goes settle_goes in (
+        settles_of settle.0 ++ with_reload,
         record {
           are_changes = changes;
-          shared_stays = ap (λ (s : Stage L). s.written.shared) new_is ∙ whole.shared_stays;
-          accounts = no_report reload.0 whole.changes a d whole.such.1.1;
+          shared_stays = ap (λ (s : Stage L). s.written.shared) new_is ∙ ap (λ (s : Stage L). s.written.shared) reloaded_is ∙ whole.shared_stays;
+          accounts = settles_no_report settle.0 with_reload a d (no_report reload.0 whole.changes a d whole.such.1.1);
           between = between;
           ready_queue = ready_queue;
           notes = notes;
@@ -143,7 +161,7 @@ module _ {L : Type 0} (outgoing incoming : L → Option (List ℕ)) (reports : L
           first = first;
           releases = releases;
           full_is = full_is;
-          turned_are = no_turn reload.0 whole.changes ∙ whole.such.0;
+          turned_are = settles_no_turn settle.0 with_reload ∙ no_turn reload.0 whole.changes ∙ whole.such.0;
           wait_again = again_where_some_left incoming reports to.watches (seats turned_at.members) (seats new.members) first to.queue (λ key. seat_or_none (get turned_at.members key) (get new.members key) (some_left key)) again;
           some_held = some_held;
           served = turned_at;
@@ -162,11 +180,16 @@ module _ {L : Type 0} (outgoing incoming : L → Option (List ℕ)) (reports : L
           ending_leads = subst (λ s. AreChanges outgoing incoming s h.changes (state turned_at) (state ended)) serving.shared_stays h.are_changes;
           ending_accounts = h.such;
           exports = reload.0;
+          reloaded = reloaded;
           reload_leads = reload.1;
+          settled_first = settled_first;
+          noted = settle.0;
+          settle_leads = settle_goes;
+          journal_goes = settle.2;
           changes_are = refl;
           silent = silent;
           idle_stays = idle_stays;
-          log_stays = failed_logs_stay outgoing incoming old.written.shared (reload_of reload.0 ++ whole.changes) (state old) (state new) changes;
+          log_stays = failed_logs_stay outgoing incoming old.written.shared (settles_of settle.0 ++ with_reload) (state old) (state new) changes;
         },
       )
 

@@ -1,7 +1,7 @@
 -- What is reported, one thing after another.
 use Rattle.std.proofs.Common.{◌≡◌, List, [], ◌∷◌, ◌++◌, Option, Some, sym, ap, ◌∙◌, append_assoc}
 use Rattle.nfs_loop.specs.Reports.{Report, came, at, IsReported, IsReportedFirst, IsReportedIn, ReportsMore, AreBy, ComeBy, KeepExports, Accounts}
-use Rattle.nfs_serving.specs.Service.{Change, joins, turns, leaves, passes, reloads}
+use Rattle.nfs_serving.specs.Service.{Change, joins, turns, leaves, passes, reloads, settles}
 
 by_more : (more news : List Report) (changes : List Change) → AreBy news changes → AreBy (more ++ news) changes
 by_more more news [] a = tt
@@ -19,6 +19,7 @@ by_more more news (turns key moment bytes ∷ earlier) a = (more ++ a.0, a.1, ap
 by_more more news (leaves key number calls end ∷ earlier) a = by_more more news earlier a
 by_more more news (passes ∷ earlier) a = by_more more news earlier a
 by_more more news (reloads exports ∷ earlier) a = by_more more news earlier a
+by_more more news (settles notes ∷ earlier) a = by_more more news earlier a
 
 by_then : (first second : List Report) (earlier later : List Change) → AreBy first earlier → AreBy second later → AreBy (second ++ first) (later ++ earlier)
 by_then first second earlier [] a b = by_more second first earlier a
@@ -37,6 +38,7 @@ by_then first second earlier (turns key moment bytes ∷ later) a b =
 by_then first second earlier (leaves key number calls end ∷ later) a b = by_then first second earlier later a b
 by_then first second earlier (passes ∷ later) a b = by_then first second earlier later a b
 by_then first second earlier (reloads exports ∷ later) a b = by_then first second earlier later a b
+by_then first second earlier (settles notes ∷ later) a b = by_then first second earlier later a b
 
 pub come_then : (a b c : Option (List Report)) (earlier later : List Change) → ComeBy a earlier b → ComeBy b later c → ComeBy a (later ++ earlier) c
 come_then a b c earlier later f g before e =
@@ -51,6 +53,7 @@ keep_then earlier (turns key moment bytes ∷ later) a b = keep_then earlier lat
 keep_then earlier (leaves key number calls end ∷ later) a b = keep_then earlier later a b
 keep_then earlier (passes ∷ later) a b = keep_then earlier later a b
 keep_then earlier (reloads exports ∷ later) a b = absurd b
+keep_then earlier (settles notes ∷ later) a b = keep_then earlier later a b
 
 pub accounts_then : (a b c : Option (List Report)) (earlier later : List Change) → Accounts a earlier b → Accounts b later c → Accounts a (later ++ earlier) c
 accounts_then a b c earlier later f g = (keep_then earlier later f.0 g.0, come_then a b c earlier later f.1 g.1)

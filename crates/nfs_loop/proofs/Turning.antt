@@ -16,7 +16,7 @@ use Rattle.nfs_loop.proofs.Reporting.{accounts_none, accounts_then}
 use Rattle.nfs_server.specs.Feeding.{device}
 use Rattle.nfs_server.specs.Fits.{Held}
 use Rattle.nfs_serving.specs.Service.{Seat, ServiceState, Change, turns, leaves, LeavesBy, end_text}
-use Rattle.nfs_serving.specs.Turns.{Standing, Turns}
+use Rattle.nfs_serving.specs.Turns.{SendsPending, Standing, Turns}
 use Rattle.nfs_serving.specs.declared.turn.End.{End}
 use Rattle.nfs_xdr.specs.Known.{Grows, StaysFailed}
 use Rattle.nfs_xdr.specs.declared.link.Came.{Came}
@@ -47,7 +47,7 @@ with_client m now = record { client = now; number = m.number; peer = m.peer; add
 module _ {L : Type 0} (outgoing incoming : L → Option (List ℕ)) (reports : L → ℕ → Came → L → Type 0) (moment : Moment) (old mid : Waiting (Member L)) (key : ℕ) (member : Member L) (c : IsCalled old mid key member)
     (server served : Held) (joined : ℕ) (w v : Written) (stays : StaysFailed w.broken w.log v.broken v.log) (shared : v.shared ≡ w.shared) (lines : v.lines ≡ w.lines) (complete : v.complete ≡ w.complete)
     (reported first reported_now : Option (List Report)) (before : Accounts reported [] first) (report : IsReported first (at moment) reported_now)
-    (now : Standing L) (turn : Turns outgoing incoming moment member.client now server served (device w.log v.log)) where
+    (now : Standing L) (turn : Turns outgoing incoming moment member.client now server served (device w.log v.log)) (held_back : (notes : List ℕ) → server.notes ≡ Some notes → SendsPending outgoing member.client now) where
   turn_reported : Accounts reported (turns key moment turn.0 ∷ []) reported_now
   turn_reported = accounts_then reported first reported_now [] (turns key moment turn.0 ∷ []) before (tt, λ news e. (at moment ∷ [], report news e, ([], [], refl, tt)))
 
@@ -71,6 +71,7 @@ module _ {L : Type 0} (outgoing incoming : L → Option (List ℕ)) (reports : L
         sat = ap (option_map seat_of) c.was;
         sits = ap (option_map seat_of) back.changed;
         turn = turn.1;
+        held_back = held_back;
         log_stays = stays;
         others = λ other differ. ap (option_map seat_of) (back.others other differ ∙ c.away.others other differ);
         joined_stays = refl;
@@ -115,6 +116,7 @@ module _ {L : Type 0} (outgoing incoming : L → Option (List ℕ)) (reports : L
           sat = ap (option_map seat_of) c.was;
           sits = there;
           turn = turn.1;
+          held_back = held_back;
           log_stays = stays;
           others = elsewhere;
           joined_stays = refl;

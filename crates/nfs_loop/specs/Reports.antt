@@ -4,7 +4,7 @@ use Rattle.std.specs.declared.net.ip_addr.IpAddr.{IpAddr}
 use Rattle.nfs_attrs.specs.declared.moment.Moment.{Moment}
 use Rattle.nfs_exports.specs.declared.addr.Addr.{Addr}
 use Rattle.nfs_loop.specs.Peers.{IsAddrOf}
-use Rattle.nfs_serving.specs.Service.{Change, joins, turns, leaves, passes, reloads}
+use Rattle.nfs_serving.specs.Service.{Change, joins, turns, leaves, passes, reloads, settles}
 
 -- something is ready for the client of a key; connections may wait; nothing more is ready; a connection came from a peer, and its client has this key; it was asked for the moment, or how many milliseconds the service has run
 pub data Report : Type 0 where
@@ -49,6 +49,7 @@ AreBy news (turns key moment bytes ∷ earlier) = (after before : List Report) �
 AreBy news (leaves key number calls end ∷ earlier) = AreBy news earlier
 AreBy news (passes ∷ earlier) = AreBy news earlier
 AreBy news (reloads exports ∷ earlier) = AreBy news earlier
+AreBy news (settles notes ∷ earlier) = AreBy news earlier
 
 -- where it is known what was reported, these are the changes by what was reported in between
 abbrev pub ComeBy : Option (List Report) → List Change → Option (List Report) → Type 0

@@ -7,6 +7,7 @@ use Rattle.nfs_exports.specs.declared.addr.Addr.{Addr}
 use Rattle.nfs_attrs.specs.declared.moment.Moment.{Moment}
 use Rattle.nfs_exports.specs.declared.export_table.Export.{Export}
 use Rattle.nfs_lines.specs.Written.{Written}
+use Rattle.nfs_loop.specs.Journals.{Journal, IsSettled, JournalGoes, settles_of}
 use Rattle.nfs_loop.specs.Peers.{IsAddrOf}
 use Rattle.nfs_loop.specs.Reports.{Report, ready, listener_ready, nothing_ready, came, at, since, IsReported, IsReportedFirst, IsTimeIn, Accounts, ComeBy, KeepExports}
 use Rattle.nfs_loop.specs.declared.member.Member.{Member}
@@ -18,7 +19,7 @@ use Rattle.nfs_loop.specs.Refusing.{hold_for}
 use Rattle.nfs_loop.specs.Watching.{watch_at, heard_at, hold_at, AllBegin, AllStay, ReleasesBy, SomeMayBeHeld}
 use Rattle.nfs_queue.specs.Queues.{is_waiting, with_ready}
 use Rattle.nfs_server.specs.Fits.{Held, History}
-use Rattle.nfs_serving.specs.Service.{Seat, ServiceState, IsNew, Change, joins, turns, leaves, passes, reloads, AreChanges, IsOneHistory}
+use Rattle.nfs_serving.specs.Service.{Seat, ServiceState, IsNew, Change, joins, turns, leaves, passes, reloads, settles, AreChanges, IsOneHistory}
 use Rattle.nfs_serving.specs.Outgoing.{IsDrained, IsExhausted, IsQuiet}
 use Rattle.nfs_serving.specs.Turns.{IsHeld}
 use Rattle.nfs_xdr.specs.Known.{StaysFailed}
@@ -51,6 +52,7 @@ turned (turns key moment bytes ∷ earlier) = turned earlier ++ key ∷ []
 turned (leaves key number calls end ∷ earlier) = turned earlier
 turned (passes ∷ earlier) = turned earlier
 turned (reloads exports ∷ earlier) = turned earlier
+turned (settles notes ∷ earlier) = turned earlier
 
 -- Whoever has its turn and stays sleeps only where it is owed an event or room for lines: replies are pending that the link did not take; all that was received was taken, and the link reported that nothing more was there; or its next record is held, and so is the client, until the log is not full any more.
 abbrev pub Sleeps : {L : Type 0} → (L → Option (List ℕ)) → (L → ℕ → Came → L → Type 0) → Option Hold → Option (Seat L) → Type 0
@@ -224,16 +226,17 @@ pub record SilentLeave {M : Type 0} (watches : List Watch) (queue : List ℕ) (i
 
 -- ---- the rounds of the loop
 
--- The keys of those that wait, the next one first, and what is known of the clients; for how many seconds a client may be silent, if there is a limit, and when silent ones were last looked for, in seconds since the service began; and whether the log is full.
+-- The keys of those that wait, the next one first, and what is known of the clients; for how many seconds a client may be silent, if there is a limit, and when silent ones were last looked for, in seconds since the service began; whether the log is full; and the journal, if there is one.
 pub record Schedule : Type 0 where
   pub queue : List ℕ
   pub watches : List Watch
   pub idle : Option ℕ
   pub looked : ℕ
   pub full : Bool
+  pub journal : Option Journal
 
-abbrev pub schedule : List ℕ → List Watch → Option ℕ → ℕ → Bool → Schedule
-schedule queue watches idle looked full = record { queue = queue; watches = watches; idle = idle; looked = looked; full = full }
+abbrev pub schedule : List ℕ → List Watch → Option ℕ → ℕ → Bool → Option Journal → Schedule
+schedule queue watches idle looked full journal = record { queue = queue; watches = watches; idle = idle; looked = looked; full = full; journal = journal }
 
 -- the log is full only where its device has not failed, and at least 4 MiB of lines were put into it, where that is known
 abbrev pub MayBeFull : Bool → Written → Type 0
@@ -244,7 +247,7 @@ abbrev pub reload_of : Option (List (List Export)) → List Change
 reload_of None = []
 reload_of (Some exports) = reloads exports ∷ []
 
--- A round: the network is asked what is ready. Those of which something was reported wait after those that waited, unless they get no turn for now; others may have joined since; and after them wait those whose hold is over, by what the clock reported once these had come and before the moment of any turn, and as the log was full or not. Nothing was written up to there. Then each who waits has one turn, in that order, and at the end it waits again, sleeps or is gone. All others stay, and only those that had a turn are held who were not before. When each was heard of stays, but for two: for one that joins, and for one of which something was heard in its turn, it is a time that the clock reported then. At the end of the round, once all turns are over, those that are silent leave, and nobody else does there, by the time that the clock reported then. The changes up to there lead to those who are looked at, and nobody has a turn in the others. At the very end other exports may be put in force, and only there.
+-- A round: the network is asked what is ready. Those of which something was reported wait after those that waited, unless they get no turn for now; others may have joined since; and after them wait those whose hold is over, by what the clock reported once these had come and before the moment of any turn, and as the log was full or not. Nothing was written up to there. Then each who waits has one turn, in that order, and at the end it waits again, sleeps or is gone. All others stay, and only those that had a turn are held who were not before. When each was heard of stays, but for two: for one that joins, and for one of which something was heard in its turn, it is a time that the clock reported then. At the end of the round, once all turns are over, those that are silent leave, and nobody else does there, by the time that the clock reported then. The changes up to there lead to those who are looked at, and nobody has a turn in the others. At the very end other exports may be put in force, and only there. Where there is a journal, the server has nothing to note when the round begins; and after all else what it noted in this round comes to last in the journal, unless that fails.
 pub record IsRound {L : Type 0} (outgoing incoming : L → Option (List ℕ)) (reports : L → ℕ → Came → L → Type 0) (changes : List Change) (reported reported_now : Option (List Report)) (from to : Schedule) (old new : Stage L) : Type 0 where
   pub are_changes : AreChanges outgoing incoming old.written.shared changes (state old) (state new)
   pub shared_stays : new.written.shared ≡ old.written.shared
@@ -286,8 +289,13 @@ pub record IsRound {L : Type 0} (outgoing incoming : L → Option (List ℕ)) (r
   pub ending_leads : AreChanges outgoing incoming old.written.shared ending (state served) (state ended)
   pub ending_accounts : WithoutTurns looks_at ending reported_now
   pub exports : Option (List (List Export))
-  pub reload_leads : AreChanges outgoing incoming old.written.shared (reload_of exports) (state ended) (state new)
-  pub changes_are : changes ≡ reload_of exports ++ (ending ++ serving)
+  pub reloaded : Stage L
+  pub reload_leads : AreChanges outgoing incoming old.written.shared (reload_of exports) (state ended) (state reloaded)
+  pub settled_first : IsSettled from.journal old.server
+  pub noted : Option (List ℕ)
+  pub settle_leads : AreChanges outgoing incoming old.written.shared (settles_of noted) (state reloaded) (state new)
+  pub journal_goes : JournalGoes from.journal noted to.journal
+  pub changes_are : changes ≡ settles_of noted ++ (reload_of exports ++ (ending ++ serving))
   pub silent : SilentLeave to.watches to.queue from.idle from.looked looks_at reported_now to.looked served.members new.members
   pub idle_stays : to.idle ≡ from.idle
   pub log_stays : StaysFailed old.written.broken old.written.log new.written.broken new.written.log

@@ -4,7 +4,7 @@ ghost use Rattle.nfs_lines.specs.Written.{PassedOn, written};
 ghost use Rattle.nfs_loop.specs.Attending.{MayReload};
 ghost use Rattle.nfs_loop.specs.Refusing.{hold_for};
 ghost use Rattle.nfs_loop.specs.Reports.{Accounts};
-ghost use Rattle.nfs_loop.specs.Ending.{is_over_after, until_after};
+ghost use Rattle.nfs_loop.specs.Ending.{EndsAfter, EndsIfSaved, is_at_end, until_told};
 ghost use Rattle.nfs_loop.specs.Stages.{looked_after};
 
 use crate::attendant::{Attendant, Standing};
@@ -17,11 +17,12 @@ use crate::refused_peers::RefusedPeers;
 use crate::turn_times::TurnTimes;
 use crate::view::ServiceView;
 use crate::watches::Watches;
-use log::Log;
+use log::{Log, warn};
 use nfs_exports::addr::Addr;
 use nfs_lines::line_out::LineOut;
 use nfs_lines::lines::Lines;
 use nfs_queue::clients::Clients;
+use nfs_server::journal_out::JournalFigures;
 use nfs_server::server::Server;
 use nfs_serving::traffic::Traffic;
 use nfs_xdr::link::Link;
@@ -86,6 +87,10 @@ pub(crate) struct Housekeeping {
     until: Option<u64>,
     // Whether it goes on no more.
     is_over: bool,
+    // Whether it accepts no connections since it was told to end.
+    is_closed: bool,
+    // When it last tried to accept them again, and was refused that.
+    tried: Option<u64>,
 }
 
 impl Housekeeping {
@@ -111,6 +116,8 @@ impl Housekeeping {
             saved: 0,
             until: None,
             is_over: false,
+            is_closed: false,
+            tried: None,
         }
     }
 
@@ -146,7 +153,7 @@ impl Housekeeping {
     fn looks_at_the_clock(&self, clients: usize) -> bool {
         let may_be_silent = self.limits.idle.is_some() && clients > 0;
         let may_be_saved = self.limits.save_every.is_some() && self.is_touched;
-        may_be_silent || may_be_saved || self.until.is_some() || self.limits.is_watched
+        may_be_silent || may_be_saved || self.is_closed || self.limits.is_watched
     }
 
     /// Has a connection accepted that could not be accepted before.
@@ -200,6 +207,7 @@ impl Housekeeping {
         lines: &mut Lines<'_, A, C>,
         attendant: &mut T,
         clients: &Clients<Member<L>>,
+        journal: Option<JournalFigures>,
     )
         ensures reloads { MayReload server.old server.new }
         ensures reported { Accounts (N.reported net.old) [] (N.reported net.new) }
@@ -220,10 +228,10 @@ impl Housekeeping {
             seconds,
         };
         let is_told = self.is_to_ask(seconds)
-            && self.ask(server, lines, attendant, clients, standing);
+            && self.ask(server, lines, attendant, clients, standing, journal);
         self.is_woken = false;
         self.asked = seconds;
-        self.look_at_end(net, is_told, standing);
+        self.look_at_end(rt, server, net, attendant, is_told, standing);
     }
 
     // Notes how many calls had come when this second began.
@@ -250,6 +258,7 @@ impl Housekeeping {
         attendant: &mut T,
         clients: &Clients<Member<L>>,
         standing: Standing,
+        journal: Option<JournalFigures>,
     ) -> bool
         ensures { MayReload server.old server.new }
     {
@@ -261,6 +270,7 @@ impl Housekeeping {
             turn_times: self.turn_times,
             denials: lines.denied.denials(),
             dropped: lines.dropped(),
+            journal,
             clients,
             watches: &self.watches,
         };
@@ -289,11 +299,35 @@ impl Housekeeping {
             || seconds.saturating_sub(self.watches.heard(key)) < QUIET_SECONDS
     }
 
-    // Accepts no more connections once the service is told to end. It is over when no client is busy, or after 10
-    // seconds.
-    fn look_at_end<N: Network>(&mut self, net: &mut N, is_told: bool, standing: Standing)
-        ensures until { self.new.until ≡ until_after is_told standing.seconds self.old.until }
-        ensures over { self.new.is_over ≡ is_over_after standing self.new.until self.old.is_over }
+    // Has a service end that was told to, once no client is busy, or after 10 seconds, if its tree is saved then. Where it
+    // can't be, the service goes on as if it had not been told.
+    fn look_at_end<R: Log, N: Network, T: Attendant>(
+        &mut self,
+        rt: &R,
+        server: &Server,
+        net: &mut N,
+        attendant: &mut T,
+        is_told: bool,
+        standing: Standing,
+    )
+        ensures ends { EndsAfter standing (until_told is_told standing.seconds self.old.until) (T.may_end attendant.new)
+            self.old.is_over self.new.until self.new.is_over }
+        ensures reported { N.reported net.new ≡ N.reported net.old }
+        ensures watches { self.new.watches ≡ self.old.watches }
+        ensures looked { self.new.looked ≡ self.old.looked }
+        ensures limits { self.new.limits ≡ self.old.limits }
+    {
+        self.note_told(net, is_told, standing.seconds);
+        if self.is_at_end(standing) {
+            self.end(server, attendant);
+        }
+        self.listen_again(rt, net, standing.seconds);
+    }
+
+    // Accepts no more connections once the service is told to end.
+    fn note_told<N: Network>(&mut self, net: &mut N, is_told: bool, seconds: u64)
+        ensures until { self.new.until ≡ until_told is_told seconds self.old.until }
+        ensures over { self.new.is_over ≡ self.old.is_over }
         ensures reported { N.reported net.new ≡ N.reported net.old }
         ensures watches { self.new.watches ≡ self.old.watches }
         ensures looked { self.new.looked ≡ self.old.looked }
@@ -301,12 +335,58 @@ impl Housekeeping {
     {
         if is_told && self.until.is_none() {
             net.close_listener();
-            self.until = Some(standing.seconds.saturating_add(LAST_SECONDS));
+            self.is_closed = true;
+            self.until = Some(seconds.saturating_add(LAST_SECONDS));
         }
-        if let Some(until) = self.until
-            && (standing.busy == 0 || standing.seconds >= until)
-        {
+    }
+
+    // Whether no client is busy any more, or its 10 seconds are over.
+    fn is_at_end(&self, standing: Standing) -> bool
+        ensures { result ≡ is_at_end standing self.now.until }
+    {
+        match self.until {
+            Some(until) => standing.busy == 0 || standing.seconds >= until,
+            None => false,
+        }
+    }
+
+    // Ends the service, if its tree is saved.
+    fn end<T: Attendant>(&mut self, server: &Server, attendant: &mut T)
+        ensures ends { EndsIfSaved (T.may_end attendant.new) self.old.until self.old.is_over self.new.until self.new.is_over }
+        ensures watches { self.new.watches ≡ self.old.watches }
+        ensures looked { self.new.looked ≡ self.old.looked }
+        ensures limits { self.new.limits ≡ self.old.limits }
+    {
+        if attendant.finish(server) {
             self.is_over = true;
+        } else {
+            self.until = None;
+        }
+    }
+
+    // Accepts connections again where the service goes on that had been told to end. Where the system refuses that,
+    // it is tried again a second later.
+    fn listen_again<R: Log, N: Network>(&mut self, rt: &R, net: &mut N, seconds: u64)
+        ensures until { self.new.until ≡ self.old.until }
+        ensures over { self.new.is_over ≡ self.old.is_over }
+        ensures reported { N.reported net.new ≡ N.reported net.old }
+        ensures watches { self.new.watches ≡ self.old.watches }
+        ensures looked { self.new.looked ≡ self.old.looked }
+        ensures limits { self.new.limits ≡ self.old.limits }
+    {
+        if !self.is_closed || self.until.is_some() || self.tried == Some(seconds) {
+            return;
+        }
+        match net.open_listener() {
+            Ok(()) => {
+                self.tried = None;
+                self.is_closed = false;
+                self.waiting = Waiting::Some;
+            }
+            Err(error) => {
+                self.tried = Some(seconds);
+                warn!(rt; "no connection can be accepted: {error}");
+            }
         }
     }
 

@@ -15,6 +15,7 @@ mod refused_peers;
 pub mod report;
 mod rounds;
 pub mod service;
+pub mod serving_fault;
 mod silence;
 pub mod turn_times;
 pub mod view;

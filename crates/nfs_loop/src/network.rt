@@ -67,6 +67,11 @@ pub trait Network {
     fn close_listener(&mut self)
         ensures { reported self.new ≡ reported self.old };
 
+    /// Accepts connections again, where it had been told to accept none. The error of the system, with which it
+    /// accepts none.
+    fn open_listener(&mut self) -> io::Result<()>
+        ensures { reported self.new ≡ reported self.old };
+
     /// Whether its peer has reset this stream's connection, in place of ending its side.
     fn was_reset(&self, stream: &Self::Stream) -> bool;
 

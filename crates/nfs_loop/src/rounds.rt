@@ -1,5 +1,5 @@
 //! Whose turn it is.
-ghost use Rattle.std.specs.Prelude.{◌≡◌, ◌↔◌, ℕ, false};
+ghost use Rattle.std.specs.Prelude.{◌≡◌, ◌↔◌, ℕ, false, is_some};
 ghost use Rattle.slab.specs.Slab.{get};
 ghost use Rattle.nfs_lines.specs.Queued.{is_full};
 ghost use Rattle.nfs_lines.specs.Written.{written};
@@ -148,7 +148,8 @@ impl<L: Link + Drop> Service<L> {
         }
     }
 
-    // Gives the one that has waited longest its turn. It waits for another one where more may have come.
+    // Gives the one that has waited longest its turn. It waits for another one where more may have come, or its replies were
+    // held.
     fn turn<R: Log, N: Network<Stream = L>, A: LineOut, C: LineOut>(
         &mut self,
         rt: &R,
@@ -174,9 +175,10 @@ impl<L: Link + Drop> Service<L> {
         };
         let millis = net.millis();
         let moment = net.now();
+        let holds = keeps_notes(server);
         let turn = member
             .client
-            .turn(server, &mut self.room, moment, &mut lines.denied);
+            .turn(server, &mut self.room, moment, &mut lines.denied, holds);
         self.housekeeping.turn_times.add(net.micros_since());
         let is_heard = is_heard(turn);
         self.housekeeping.is_touched |= is_heard;
@@ -196,8 +198,16 @@ impl<L: Link + Drop> Service<L> {
                 self.clients.put_back(key, member, false);
             }
             Turn::Owing => self.clients.put_back(key, member, false),
+            Turn::Answered => self.clients.put_back(key, member, true),
         }
     }
+}
+
+// Whether a server keeps notes, so that replies are held until these last.
+fn keeps_notes(server: &Server) -> bool
+    ensures { result ≡ is_some server.now.notes }
+{
+    server.notes().is_some()
 }
 
 // Whether something was heard of a client that had this turn.

@@ -1,8 +1,9 @@
 //! A service that serves many clients at once, in turns.
-ghost use Rattle.std.specs.Prelude.{◌≡◌, ℕ, List, None, IfOk};
+ghost use Rattle.std.specs.Prelude.{◌≡◌, ℕ, List, Option, None, IfOk, OnOk, OnErr};
 ghost use Rattle.slab.specs.Slab.{get};
 ghost use Rattle.nfs_lines.specs.Queued.{is_full};
 ghost use Rattle.nfs_lines.specs.Written.{PassedOn, written};
+ghost use Rattle.nfs_loop.specs.Journals.{IsSettled, JournalGoes, SettlesBy, journal_of};
 ghost use Rattle.nfs_loop.specs.Stages.{Goes, IsRound, Lived, Rounds, schedule, stage};
 ghost use Rattle.nfs_loop.specs.Reports.{ComeBy};
 ghost use Rattle.nfs_loop.specs.Watching.{AreWatched};
@@ -14,11 +15,14 @@ use crate::housekeeping::{Housekeeping, LINES_MILLIS};
 use crate::limits::Limits;
 use crate::member::Member;
 use crate::network::Network;
+use crate::serving_fault::ServingFault;
 use log::Log;
 use nfs_lines::line_out::LineOut;
 use nfs_lines::lines::Lines;
 use nfs_queue::clients::Clients;
+use nfs_server::journal_out::{JournalFigures, JournalOut};
 use nfs_server::server::Server;
+use nfs_server::settle_fault::SettleFault;
 use nfs_serving::laws::service_is_one_history;
 use nfs_serving::turn_buffers::TurnBuffers;
 use nfs_xdr::link::Link;
@@ -64,48 +68,62 @@ impl<L: Link + Drop> Service<L> {
     /// are pending go out. Each connection's end is written as a line, and so is each denied call. Lines that can't
     /// be written end no service.
     ///
+    /// Where there is a journal, a reply goes out only once the entries of its round last there; where that fails, the
+    /// service ends before, with the fault.
+    ///
     /// Whatever the network answers, all that changes is one history and one log, also where the network
-    /// fails, which is the only fault. In each round the network is asked what is ready, and then each client
+    /// or the journal fails, which are the only faults. In each round the network is asked what is ready, and then each client
     /// that waits has one turn, in the order of the queue: the one at place i waits for i turns of others.
-    pub fn serve<R: Log, N: Network<Stream = L>, A: LineOut, C: LineOut, T: Attendant>(
+    pub fn serve<
+        R: Log,
+        N: Network<Stream = L>,
+        A: LineOut,
+        C: LineOut,
+        T: Attendant,
+        J: JournalOut,
+    >(
         &mut self,
         rt: &R,
         server: &mut Server,
         net: &mut N,
         lines: &mut Lines<'_, A, C>,
         attendant: &mut T,
-    ) -> io::Result<()>
+        journal: &mut Option<J>,
+    ) -> Result<(), ServingFault>
         requires watched { AreWatched self.old.clients.0 self.old.housekeeping.watches }
+        requires settled { IsSettled (journal_of J.lasting J.failed journal.old) server.old }
         ensures lived { ((key : ℕ) → get self.old.clients.0 key ≡ None) → (history : History) → Fits history server.old
             → Lived L.outgoing L.incoming L.reports history (N.reported net.old) (N.reported net.new)
             (schedule self.old.clients.1.0 self.old.housekeeping.watches self.old.housekeeping.limits.idle self.old.housekeeping.looked
-            (is_full lines.old.denied.queue))
+            (is_full lines.old.denied.queue) (journal_of J.lasting J.failed journal.old))
             (schedule self.new.clients.1.0 self.new.housekeeping.watches self.new.housekeeping.limits.idle self.new.housekeeping.looked
-            (is_full lines.new.denied.queue))
+            (is_full lines.new.denied.queue) (journal_of J.lasting J.failed journal.new))
             (stage server.old self.old.clients.0 self.old.joined (written A.taken C.taken lines.old))
             (stage server.new self.new.clients.0 self.new.joined (written A.taken C.taken lines.new)) }
         ensures watched { AreWatched self.new.clients.0 self.new.housekeeping.watches }
     {
         service_is_one_history::<L>();
-        self.run(rt, server, net, lines, attendant)
+        self.run(rt, server, net, lines, attendant, journal)
     }
 
     // The same, as changes.
-    fn run<R: Log, N: Network<Stream = L>, A: LineOut, C: LineOut, T: Attendant>(
+    fn run<R: Log, N: Network<Stream = L>, A: LineOut, C: LineOut, T: Attendant, J: JournalOut>(
         &mut self,
         rt: &R,
         server: &mut Server,
         net: &mut N,
         lines: &mut Lines<'_, A, C>,
         attendant: &mut T,
-    ) -> io::Result<()>
+        journal: &mut Option<J>,
+    ) -> Result<(), ServingFault>
         requires watched { AreWatched self.old.clients.0 self.old.housekeeping.watches }
+        requires settled { IsSettled (journal_of J.lasting J.failed journal.old) server.old }
         ensures goes { Goes L.outgoing L.incoming
             (λ changes. Rounds L.outgoing L.incoming L.reports (N.reported net.old)
             (schedule self.old.clients.1.0 self.old.housekeeping.watches self.old.housekeeping.limits.idle self.old.housekeeping.looked
-            (is_full lines.old.denied.queue))
+            (is_full lines.old.denied.queue) (journal_of J.lasting J.failed journal.old))
             (schedule self.new.clients.1.0 self.new.housekeeping.watches self.new.housekeeping.limits.idle self.new.housekeeping.looked
-            (is_full lines.new.denied.queue))
+            (is_full lines.new.denied.queue) (journal_of J.lasting J.failed journal.new))
             (stage server.old self.old.clients.0 self.old.joined (written A.taken C.taken lines.old)) changes
             × ComeBy (N.reported net.old) changes (N.reported net.new))
             (stage server.old self.old.clients.0 self.old.joined (written A.taken C.taken lines.old))
@@ -117,28 +135,40 @@ impl<L: Link + Drop> Service<L> {
             left -= 1;
             let timeout = self.timeout(lines.pending() > 0);
             if let Err(error) = net.wait(timeout) {
-                return Err(error);
+                return Err(ServingFault::Network(error));
             }
-            self.round(rt, server, net, lines, attendant);
+            match self.round(rt, server, net, lines, attendant, journal) {
+                Ok(()) => {}
+                Err(fault) => {
+                    let _ = self.finish(net, lines);
+                    return Err(ServingFault::Journal(fault));
+                }
+            }
         }
-        self.finish(net, lines)
+        match self.finish(net, lines) {
+            Ok(()) => Ok(()),
+            Err(error) => Err(ServingFault::Network(error)),
+        }
     }
 
     // One round: what is done after each wait.
-    fn round<R: Log, N: Network<Stream = L>, A: LineOut, C: LineOut, T: Attendant>(
+    fn round<R: Log, N: Network<Stream = L>, A: LineOut, C: LineOut, T: Attendant, J: JournalOut>(
         &mut self,
         rt: &R,
         server: &mut Server,
         net: &mut N,
         lines: &mut Lines<'_, A, C>,
         attendant: &mut T,
-    )
+        journal: &mut Option<J>,
+    ) -> Result<(), SettleFault>
         requires watched { AreWatched self.old.clients.0 self.old.housekeeping.watches }
+        requires settled { IsSettled (journal_of J.lasting J.failed journal.old) server.old }
+        ensures settled { OnOk result (IsSettled (journal_of J.lasting J.failed journal.new) server.new) }
         ensures round { (changes : List Change) × IsRound L.outgoing L.incoming L.reports changes (N.reported net.old) (N.reported net.new)
             (schedule self.old.clients.1.0 self.old.housekeeping.watches self.old.housekeeping.limits.idle self.old.housekeeping.looked
-            (is_full lines.old.denied.queue))
+            (is_full lines.old.denied.queue) (journal_of J.lasting J.failed journal.old))
             (schedule self.new.clients.1.0 self.new.housekeeping.watches self.new.housekeeping.limits.idle self.new.housekeeping.looked
-            (is_full lines.new.denied.queue))
+            (is_full lines.new.denied.queue) (journal_of J.lasting J.failed journal.new))
             (stage server.old self.old.clients.0 self.old.joined (written A.taken C.taken lines.old))
             (stage server.new self.new.clients.0 self.new.joined (written A.taken C.taken lines.new)) }
         ensures watched { AreWatched self.new.clients.0 self.new.housekeeping.watches }
@@ -148,8 +178,10 @@ impl<L: Link + Drop> Service<L> {
         self.release(net, lines);
         self.turns(rt, server, net, lines);
         self.end_silent(rt, net, lines);
+        let figures = figures_of(journal);
         self.housekeeping
-            .attend(rt, server, net, lines, attendant, &self.clients);
+            .attend(rt, server, net, lines, attendant, &self.clients, figures);
+        settle(server, journal)
     }
 
     // Passes on the lines that are left, as long as somebody may read them.
@@ -178,5 +210,42 @@ impl<L: Link + Drop> Service<L> {
             return Some(Duration::ZERO);
         }
         self.housekeeping.timeout(self.clients.len(), has_lines)
+    }
+}
+
+/// Has a server keep notes from now on, where there is a journal for them. Refused where there is no memory; the
+/// server is then as it was.
+pub fn begin_notes<J: JournalOut>(
+    alloc: Global,
+    server: &mut Server,
+    journal: &Option<J>,
+) -> Result<(), AllocError>
+    ensures settled { OnOk result (IsSettled (journal_of J.lasting J.failed journal.now) server.new) }
+    ensures none { journal.now ≡ None → server.new ≡ server.old }
+    ensures refused { OnErr result (server.new ≡ server.old) }
+{
+    match journal {
+        Some(_) => server.keep_notes(alloc),
+        None => Ok(()),
+    }
+}
+
+// What a journal says of itself, if there is one.
+fn figures_of<J: JournalOut>(journal: &Option<J>) -> Option<JournalFigures> {
+    match journal {
+        Some(journal) => Some(journal.figures()),
+        None => None,
+    }
+}
+
+// Makes what the server noted last in the journal, if there is one.
+fn settle<J: JournalOut>(server: &mut Server, journal: &mut Option<J>) -> Result<(), SettleFault>
+    ensures goes { (noted : Option (List ℕ)) × SettlesBy noted server.old server.new
+        × JournalGoes (journal_of J.lasting J.failed journal.old) noted (journal_of J.lasting J.failed journal.new) }
+    ensures settled { OnOk result (IsSettled (journal_of J.lasting J.failed journal.new) server.new) }
+{
+    match journal {
+        Some(journal) => server.settle(journal),
+        None => Ok(()),
     }
 }

@@ -6,6 +6,7 @@ use crate::turn_times::TurnTimes;
 use crate::watches::Watches;
 use nfs_lines::denials::Denials;
 use nfs_queue::clients::Clients;
+use nfs_server::journal_out::JournalFigures;
 use nfs_serving::traffic::Traffic;
 use nfs_xdr::link::Link;
 use std::net::SocketAddr;
@@ -27,6 +28,8 @@ pub struct ServiceView<'a, L: Drop> {
     pub denials: &'a Denials,
     /// How many lines were dropped, or counted in place of being written.
     pub dropped: u64,
+    /// What its journal says of itself, if it has one.
+    pub journal: Option<JournalFigures>,
     pub(crate) clients: &'a Clients<Member<L>>,
     pub(crate) watches: &'a Watches,
 }

@@ -194,8 +194,8 @@ fn take_turns(
 ) -> Option<(End, End)> {
     let mut audit = Device::new(std::io::sink());
     for _ in 0..1_000 {
-        let one = first.turn(server, room, NOW, &mut audit);
-        let other = second.turn(server, room, NOW, &mut audit);
+        let one = first.turn(server, room, NOW, &mut audit, false);
+        let other = second.turn(server, room, NOW, &mut audit, false);
         if let (Turn::Ended(one), Turn::Ended(other)) = (one, other) {
             return Some((one, other));
         }
@@ -254,7 +254,7 @@ fn meets(alloc: Global, server: &mut Server, room: &mut TurnBuffers) -> Option<b
     let mut client = client(alloc, u32::MAX);
     let mut audit = Device::new(std::io::sink());
     for _ in 0..1_000 {
-        if let Turn::Ended(end) = client.turn(server, room, NOW, &mut audit) {
+        if let Turn::Ended(end) = client.turn(server, room, NOW, &mut audit, false) {
             let sent = client.link().sent();
             return match end {
                 End::Closed => (sent == REPLIES).then_some(true),

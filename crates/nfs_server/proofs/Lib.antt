@@ -1,4 +1,7 @@
+pub mod Entries
+pub mod Noting
 pub mod Keep
+pub mod Settling
 pub mod Going
 pub mod Forward
 pub mod Reloads
@@ -8,6 +11,7 @@ pub mod Room
 pub mod Performed
 pub mod Mounted
 pub mod Judged
+pub mod ByRules
 pub mod Denied
 pub mod Spared
 pub mod Short

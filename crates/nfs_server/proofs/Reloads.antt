@@ -29,4 +29,5 @@ module _ (history : History) (exports : List (List Export)) where
     in_force = λ n later. ap (λ b. if b then history.setups n else exporting exports (history.setups n)) (le-ltb n (length history.done) later)
         ∙ ap (exporting exports) (fits.in_force n later);
     cached = fits.cached;
+    notes_are = fits.notes_are;
   }

@@ -3,24 +3,29 @@ use Rattle.std.specs.Prelude.{◌≡◌, ℕ, ◌≤◌, List, [], ◌∷◌, le
 use Rattle.nfs_exports.specs.declared.export_table.Export.{Export}
 use Rattle.nfs_inodes.specs.Law.{Law}
 use Rattle.nfs_reply_cache.specs.Places.{Place}
+use Rattle.nfs_server.specs.Entries.{journal_text}
 use Rattle.nfs_server.specs.Events.{Event, Answer, Choice, Done}
+use Rattle.nfs_server.specs.Notes.{AreNoted}
 use Rattle.nfs_server.specs.Retransmissions.{cached_after}
 use Rattle.nfs_server.specs.Steps.{Setup, State, Step, IsRun}
 use Rattle.nfs_server.specs.declared.audit_line.AuditLine.{AuditLine}
 
 -- what a server holds: beside its setup and state, the replies that are kept, the most recently used first,
--- and the line of its last call, where that was denied
+-- the line of its last call, where that was denied, and its notes, where some are kept and none were lost
 pub record Held : Type 0 where
   pub setup : Setup
   pub state : State
   pub kept : List Place
   pub line : Option AuditLine
+  pub notes : Option (List ℕ)
 
--- an opening state, the setup in force after each number of events, and the events since with their choices and answers, the newest first
+-- An opening state, the setup in force after each number of events, and the events since with their choices and answers, the newest first;
+-- and what of their journal outlives the process.
 pub record History : Type 0 where
   pub opening : State
   pub setups : ℕ → Setup
   pub done : List Done
+  pub lasting : List ℕ
 
 -- the history with one more event
 abbrev pub after : History → Event → Choice → Answer → History
@@ -28,7 +33,11 @@ after history event choice answer = record history { done = record { event = eve
 
 -- the history of a server that has seen no event
 abbrev pub opening_with : Setup → State → History
-opening_with setup opening = record { opening = opening; setups = λ n. setup; done = [] }
+opening_with setup opening = record { opening = opening; setups = λ n. setup; done = []; lasting = [] }
+
+-- the history whose whole journal outlives the process
+abbrev pub settled : History → History
+settled history = record history { lasting = journal_text history.done }
 
 -- the setup with these exports
 abbrev pub exporting : List (List Export) → Setup → Setup
@@ -48,12 +57,13 @@ pub record IsOpening (opening : State) : Type 0 where
   pub unmounted : opening.mounts ≡ []
 
 -- The history is a run from such an opening that ends in what the server holds, whose setup is in force from there on,
--- and the cached replies are those that it leaves.
+-- the cached replies are those that it leaves, and the notes are what of its journal doesn't last yet.
 pub record Fits (history : History) (s : Held) : Type 0 where
   pub opens : IsOpening history.opening
   pub run : IsRun history.setups history.opening history.done s.state
   pub in_force : (n : ℕ) → length history.done ≤ n → history.setups n ≡ s.setup
   pub cached : s.kept ≡ cached_after s.setup.places history.done
+  pub notes_are : AreNoted history.done history.lasting s.notes
 
 -- one more event is a step after a history that fits, and the longer history fits
 abbrev pub GoesOn : History → Held → Event → Choice → Answer → Held → Type 0

@@ -33,10 +33,11 @@ answered Answered bytes line = reported bytes line
 answered NoReply bytes line = silence
 
 -- the fields of a server
-abbrev pub held : Replies → List (List Export) → Tree → List Mount → Option AuditLine → Held
-held kept exports tree mounts line = record {
+abbrev pub held : Replies → List (List Export) → Tree → List Mount → Option AuditLine → Option (List ℕ) → Held
+held kept exports tree mounts line notes = record {
   setup = record { places = kept.most; exports = exports };
   state = record { tree = tree; mounts = mounts };
   kept = kept.places;
   line = line;
+  notes = notes;
 }

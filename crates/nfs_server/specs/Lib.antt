@@ -7,6 +7,9 @@ pub mod InMemory
 pub mod ReplyRoom
 pub mod RpcAnswers
 pub mod Retransmissions
+pub mod Noted
+pub mod Entries
+pub mod Notes
 pub mod SurelyHeld
 pub mod Denying
 pub mod Steps

@@ -3,6 +3,7 @@ ghost use Rattle.std.specs.Prelude.{◌≡◌, ◌+◌, ◌≤◌, ℕ, length, 
 ghost use Rattle.std.specs.Result.{result_ok};
 ghost use Rattle.nfs_args.specs.Procedures.{mount_number, mount_procedures};
 ghost use Rattle.nfs_rpc.specs.Calls.{call_of};
+ghost use Rattle.nfs_server.specs.Noted as noted;
 ghost use Rattle.nfs_server.specs.OneEvent.{AnswersMount, MountsAs};
 ghost use Rattle.nfs_server.specs.ReplyRoom.{Adds, HasReplyRoom, after};
 ghost use Rattle.nfs_server.specs.Requests.{mount_args_in};
@@ -36,6 +37,16 @@ pub(crate) fn read_mount_args(
         → result_ok result ≡ mount_args_in number input.entry }
 {
     read_mount(procedure, input)
+}
+
+/// Whether these are arguments of a procedure that may change the mount list.
+pub(crate) fn may_change_mounts(args: &MountArgs<'_>) -> bool
+    ensures { result ≡ noted.may_change_mounts args.now }
+{
+    match args {
+        MountArgs::Mount(_) | MountArgs::Unmount(_) | MountArgs::UnmountAll => true,
+        MountArgs::Null | MountArgs::Dump | MountArgs::Export => false,
+    }
 }
 
 /// The reply to a call other than NULL: what it asks for is done where no rule fails, and there is

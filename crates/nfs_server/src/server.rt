@@ -1,5 +1,5 @@
 //! A server, which takes one whole record at a time.
-ghost use Rattle.std.specs.Prelude.{◌≡◌, ℕ, ◌≤◌, List, [], ◌∷◌, ◌++◌, true, false, length, IfOk, None, Some, is_err};
+ghost use Rattle.std.specs.Prelude.{◌≡◌, ℕ, ◌≤◌, ◌↔◌, List, [], ◌∷◌, ◌++◌, ◌&&◌, true, false, not, length, Option, IfOk, IsErrOf, OnErr, OnOk, None, Some, is_err, option_map, if◌then◌else◌};
 ghost use Rattle.std.specs.List.{find};
 ghost use Rattle.nfs_args.specs.Encoding.{HasCountedBytes};
 ghost use Rattle.nfs_args.specs.Procedures.{mount_number, mount_procedures, procedure_number, procedures};
@@ -13,11 +13,16 @@ ghost use Rattle.nfs_server.specs.AuditLines.{line_of};
 ghost use Rattle.nfs_server.specs.declared.audit_line.DenialReason.TheVariants.{Rpc};
 ghost use Rattle.nfs_server.specs.RpcRules.{fails_rpc, caller_rules, rpc_reply, rpc_rules};
 ghost use Rattle.nfs_server.specs.InMemory.{event_of, answer_of, answered, is_silent, reported};
-ghost use Rattle.nfs_server.specs.Fits.{Held, History, Fits, GoesOn, opening_with, reloaded, with_exports};
+ghost use Rattle.nfs_server.specs.Entries.{entry_text, journal_text};
+ghost use Rattle.nfs_server.specs.Fits.{Held, History, Fits, GoesOn, opening_with, reloaded, settled, with_exports};
+ghost use Rattle.nfs_server.specs.Noted as noted;
+ghost use Rattle.nfs_server.specs.Notes.{notes_after, to_note, with_entry};
 ghost use Rattle.nfs_server.specs.OneEvent.{AnswersRecord, AnswersBy, AnswersChange, PerformsAnew, scene_for};
 ghost use Rattle.nfs_server.specs.Retransmissions as retransmissions;
 ghost use Rattle.nfs_server.specs.ReplyRoom.{Adds, HasReplyRoom, after};
 ghost use Rattle.nfs_reply_cache.specs.Places.{Key, Place, place_for};
+ghost use Rattle.nfs_rpc.specs.Records.{fragment};
+ghost use Rattle.nfs_xdr.specs.Known.{Grows, GrowsByPart};
 ghost use Rattle.nfs_xdr.specs.Reading.{numbered};
 ghost use Rattle.nfs_server.specs.Runs.{events_of, RunsThrough};
 
@@ -25,11 +30,14 @@ use crate::arguments::read_args;
 use crate::audit_line::{AuditLine, DenialReason};
 use crate::call_counts::CallCounts;
 use crate::event::{Event, Handled, Outcome, Sink};
-use crate::mount::{answer_mount, read_mount_args};
+use crate::journal_out::JournalOut;
+use crate::mount::{answer_mount, may_change_mounts, read_mount_args};
 use crate::nfs_call::{answer_call, may_change};
+use crate::notes::Notes;
 use crate::reply::{give_up, refuse, retransmission, succeed};
 use crate::reply_buf::{ReplyBuf, begin, frame, written};
 use crate::rpc_rules::{Admitted, RpcRule, admit, caller_failure, identify};
+use crate::settle_fault::SettleFault;
 use nfs_args::args::NfsArgs;
 use nfs_args::mount_args::MountArgs;
 use nfs_args::procedure::{MountProcedure, Procedure};
@@ -59,6 +67,7 @@ pub struct Server {
     kept: ReplyCache,
     line: Option<AuditLine>,
     counts: CallCounts,
+    notes: Notes,
 }
 
 impl Model for Server {
@@ -68,7 +77,7 @@ impl Model for Server {
 
     ghost use Rattle.nfs_server.specs.InMemory.{held};
 
-    ghost view = { λ s. held s.kept s.table s.tree s.mounts s.line };
+    ghost view = { λ s. held s.kept s.table s.tree s.mounts s.line s.notes };
 }
 
 impl Server {
@@ -83,6 +92,7 @@ impl Server {
         ensures kept { IfOk result (λ server. server.kept ≡ []) }
         ensures fits { IfOk result (λ server. Fits (opening_with server.setup server.state) server) }
         ensures line { IfOk result (λ server. server.line ≡ None) }
+        ensures notes { IfOk result (λ server. server.notes ≡ None) }
     {
         loaded.tree.law();
         Ok(Server {
@@ -92,6 +102,7 @@ impl Server {
             kept: ReplyCache::new(alloc, cache)?,
             line: None,
             counts: CallCounts::new(),
+            notes: Notes::none(),
         })
     }
 
@@ -117,6 +128,43 @@ impl Server {
         ensures fits { (history : History) → Fits history self.old → Fits (reloaded history table) self.new }
     {
         self.table = table;
+    }
+
+    /// Keeps notes from now on: the entries of what is answered, until they last in a journal. Whatever
+    /// history fits, its whole journal is taken to last already. Refused where there is no memory: nothing
+    /// changes.
+    pub fn keep_notes(&mut self, alloc: Global) -> Result<(), AllocError>
+        ensures ok { OnOk result (self.new ≡ record self.old { notes = Some [] }) }
+        ensures err { OnErr result (self.new ≡ self.old) }
+        ensures fits { OnOk result ((history : History) → Fits history self.old → Fits (settled history) self.new) }
+    {
+        self.notes.keep(alloc)
+    }
+
+    /// The notes, where some are kept and none were lost for want of room.
+    pub fn notes(&self) -> Option<&[u8]>
+        ensures { option_map (λ bytes. bytes.now) result ≡ self.now.notes }
+    {
+        self.notes.bytes()
+    }
+
+    /// Makes the notes last in a journal; then there are none. Whatever history fits, its whole journal
+    /// lasts then: where what lasted of it before was there, all of it is. Where there are no notes, the
+    /// journal isn't touched. At a fault the server stays as it is. Where notes were lost, they can't come
+    /// to last any more, and what was answered since should not go out.
+    pub fn settle<J: JournalOut>(&mut self, journal: &mut J) -> Result<(), SettleFault>
+        ensures ok { OnOk result (self.new ≡ record self.old { notes = Some [] }) }
+        ensures grows { OnOk result (Grows (J.lasting journal.old) (to_note self.old.notes) (J.lasting journal.new)) }
+        ensures fits { OnOk result ((history : History) → Fits history self.old → Fits (settled history) self.new) }
+        ensures lasts { OnOk result ((history : History) → Fits history self.old → J.lasting journal.old ≡ Some history.lasting
+            → J.lasting journal.new ≡ Some (journal_text history.done)) }
+        ensures lost { IsErrOf result SettleFault.Lost ↔ (self.old.notes ≡ None) }
+        ensures part { OnErr result (GrowsByPart (J.lasting journal.old) (to_note self.old.notes) (J.lasting journal.new)) }
+        ensures failed { IsErrOf result SettleFault.JournalFault → J.failed journal.new ≡ true }
+        ensures idle { to_note self.old.notes ≡ [] → journal.new ≡ journal.old }
+        ensures err { OnErr result (self.new ≡ self.old) }
+    {
+        self.notes.settle(journal)
     }
 
     /// How many calls came of each procedure.
@@ -226,7 +274,7 @@ impl Server {
 
     /// Takes one whole record. For every history that fits before, the answer is a step after it,
     /// and the history with this event fits after. There is no reply exactly where no head of a call can be
-    /// read.
+    /// read. Where notes are kept, an event that a journal has is noted with its reply.
     pub fn handle(&mut self, event: Event<'_>, reply: &mut ReplyBuf) -> Handled
         ensures setup { self.new.setup ≡ self.old.setup }
         ensures step { (history : History) → Fits history self.old → (choice : Choice)
@@ -234,58 +282,84 @@ impl Server {
         ensures silent { result ≡ Handled.NoReply → (reply.new.reply ≡ []) × (self.new.line ≡ None) }
         ensures unreadable { is_silent result ≡ is_err (head_at event.entry.bytes.now) }
         ensures spared { fails_rule self.old (event_of event.entry) ≡ false → IsSpared (answered result reply.new.reply self.new.line).line }
+        ensures notes { self.new.notes ≡ notes_after (event_of event.entry) (answered result reply.new.reply self.new.line) self.old.notes }
         ensures earlier { reply.new.earlier ≡ reply.old.earlier }
         ensures most { reply.new.most ≡ reply.old.most }
     {
-        self.answer(event, reply)
+        let (handled, is_noted) = self.answer(event, reply);
+        self.note(is_noted, event, reply);
+        handled
     }
 
-    /// The same, said without a history, for who keeps none.
+    // Notes an event with its reply where it is one that is noted, unless it was refused for want of
+    // memory.
     #[inline(always)]
-    pub fn answer(&mut self, event: Event<'_>, reply: &mut ReplyBuf) -> Handled
-        ensures answers { AnswersRecord self.old (event_of event.entry) (answered result reply.new.reply self.new.line) self.new }
-        ensures silent { result ≡ Handled.NoReply → (reply.new.reply ≡ []) × (self.new.line ≡ None) }
-        ensures unreadable { is_silent result ≡ is_err (head_at event.entry.bytes.now) }
+    fn note(&mut self, is_noted: bool, event: Event<'_>, reply: &ReplyBuf)
+        ensures { self.new ≡ record self.old {
+          notes = (if is_noted && not (retransmissions.is_refused self.old.line)
+              then with_entry (fragment true (entry_text (event_of event.entry) reply.now.reply)) self.old.notes else self.old.notes);
+        } }
+    {
+        if is_noted && !wants_memory(&self.line) {
+            self.notes.add(event, reply.bytes());
+        }
+    }
+
+    // Takes one whole record, said without a history, and notes nothing: whether there is a reply, and
+    // whether it is a call that is noted.
+    #[inline(always)]
+    fn answer(&mut self, event: Event<'_>, reply: &mut ReplyBuf) -> (Handled, bool)
+        ensures answers { AnswersRecord self.old (event_of event.entry) (answered result.0 reply.new.reply self.new.line) self.new }
+        ensures noted { result.1 ≡ noted.is_noted (event_of event.entry) }
+        ensures notes { self.new.notes ≡ self.old.notes }
+        ensures silent { result.0 ≡ Handled.NoReply → (reply.new.reply ≡ []) × (self.new.line ≡ None) }
+        ensures unreadable { is_silent result.0 ≡ is_err (head_at event.entry.bytes.now) }
         ensures earlier { reply.new.earlier ≡ reply.old.earlier }
         ensures most { reply.new.most ≡ reply.old.most }
     {
         let Ok(head) = read_call(event.bytes) else {
             reply.clear();
             self.line = None;
-            return Handled::NoReply;
+            return (Handled::NoReply, false);
         };
         begin(&mut reply.out, reply.start);
         forget(&mut self.line);
-        self.respond(&head, event, &mut reply.out);
+        let is_noted = self.respond(&head, event, &mut reply.out);
         frame(&mut reply.out, reply.start);
-        Handled::Answered
+        (Handled::Answered, is_noted)
     }
 
-    // The reply to a call, and its line where it is denied. The line is left where it is kept, so that
-    // nothing is moved for a call that has none. What stands out of line takes a copy of the head, so that
-    // a call of NULL lays none down.
+    // The reply to a call, and its line where it is denied; and whether the call is noted. The line is left
+    // where it is kept, so that nothing is moved for a call that has none. What stands out of line takes a
+    // copy of the head, so that a call of NULL lays none down.
     #[inline(always)]
-    fn respond(&mut self, head: &CallHead<'_>, event: Event<'_>, out: &mut Output)
+    fn respond(&mut self, head: &CallHead<'_>, event: Event<'_>, out: &mut Output) -> bool
         requires room { HasReplyRoom out.old }
         requires line { self.old.line ≡ None }
         ensures adds { Adds out.old out.new }
         ensures setup { self.new.setup ≡ self.old.setup }
+        ensures notes { self.new.notes ≡ self.old.notes }
+        ensures noted { result ≡ noted.is_noted_by rpc_rules (event_of event.entry) (call_of head.now) head.now.args }
         ensures judged { AnswersBy rpc_rules self.old (event_of event.entry) (call_of head.now) head.now.args
             (reported (after out.old out.new) self.new.line) self.new }
     {
         match admit(head) {
-            Err(rule) => self.deny(&head.copied(), event, rule, out),
+            Err(rule) => {
+                self.deny(&head.copied(), event, rule, out);
+                false
+            }
             Ok(Admitted::Null) => {
                 self.count(Admitted::Null);
                 succeed(out, head.xid);
+                false
             }
             Ok(Admitted::Nfs(procedure)) => {
                 self.count(Admitted::Nfs(procedure));
-                self.answer_nfs(procedure, &head.copied(), event, out);
+                self.answer_nfs(procedure, &head.copied(), event, out)
             }
             Ok(Admitted::Mount(procedure)) => {
                 self.count(Admitted::Mount(procedure));
-                self.answer_mount(procedure, &head.copied(), event, out);
+                self.answer_mount(procedure, &head.copied(), event, out)
             }
         }
     }
@@ -302,7 +376,8 @@ impl Server {
         }
     }
 
-    // The reply to a call of NFS other than NULL, and its line where it is denied.
+    // The reply to a call of NFS other than NULL, and its line where it is denied; and whether the call is
+    // noted.
     #[inline(always)]
     fn answer_nfs(
         &mut self,
@@ -310,7 +385,7 @@ impl Server {
         head: &CallHead<'_>,
         event: Event<'_>,
         out: &mut Output,
-    )
+    ) -> bool
         requires room { HasReplyRoom out.old }
         requires line { self.old.line ≡ None }
         requires nfs { is_nfs (call_of head.now) ≡ true }
@@ -318,12 +393,17 @@ impl Server {
         requires procedure { numbered procedure_number procedures head.now.proc ≡ Some procedure }
         ensures adds { Adds out.old out.new }
         ensures setup { self.new.setup ≡ self.old.setup }
+        ensures notes { self.new.notes ≡ self.old.notes }
+        ensures noted { result ≡ noted.is_noted_by (caller_rules ++ Arguments ∷ []) (event_of event.entry) (call_of head.now) head.now.args }
         ensures judged { AnswersBy (caller_rules ++ Arguments ∷ []) self.old (event_of event.entry) (call_of head.now) head.now.args
             (reported (after out.old out.new) self.new.line) self.new }
     {
         let mut cred = Cred::nobody();
         match identify(head, &mut cred) {
-            Err(rule) => self.deny(head, event, rule, out),
+            Err(rule) => {
+                self.deny(head, event, rule, out);
+                false
+            }
             Ok(()) => self.answer_caller(procedure, head, event, &cred, out),
         }
     }
@@ -337,7 +417,7 @@ impl Server {
         event: Event<'_>,
         cred: &Cred,
         out: &mut Output,
-    )
+    ) -> bool
         requires room { HasReplyRoom out.old }
         requires line { self.old.line ≡ None }
         requires nfs { is_nfs (call_of head.now) ≡ true }
@@ -347,14 +427,25 @@ impl Server {
         requires cred { caller (call_of head.now).cred.body ≡ Some (credential_of cred.now) }
         ensures adds { Adds out.old out.new }
         ensures setup { self.new.setup ≡ self.old.setup }
+        ensures notes { self.new.notes ≡ self.old.notes }
+        ensures noted { result ≡ noted.is_noted_by (caller_rules ++ Arguments ∷ []) (event_of event.entry) (call_of head.now) head.now.args }
         ensures judged { AnswersBy (caller_rules ++ Arguments ∷ []) self.old (event_of event.entry) (call_of head.now) head.now.args
             (reported (after out.old out.new) self.new.line) self.new }
     {
         let mut args = NfsArgs::Null;
         match read_args(procedure, Input::new(head.args.rest()), &mut args) {
-            Err(_) => self.deny(head, event, RpcRule::Arguments, out),
-            Ok(()) if may_change(&args) => self.answer_change(head, event, cred, &args, out),
-            Ok(()) => self.answer_anew(head, event, cred, &args, out),
+            Err(_) => {
+                self.deny(head, event, RpcRule::Arguments, out);
+                false
+            }
+            Ok(()) if may_change(&args) => {
+                self.answer_change(head, event, cred, &args, out);
+                true
+            }
+            Ok(()) => {
+                self.answer_anew(head, event, cred, &args, out);
+                false
+            }
         }
     }
 
@@ -375,6 +466,7 @@ impl Server {
         requires change { retransmissions.may_change args.now ≡ true }
         ensures adds { Adds out.old out.new }
         ensures setup { self.new.setup ≡ self.old.setup }
+        ensures notes { self.new.notes ≡ self.old.notes }
         ensures answers { AnswersChange (scene_for self.old (event_of event.entry) cred.now args.now) (call_of head.now) self.old
             (event_of event.entry) (reported (after out.old out.new) self.new.line) self.new }
     {
@@ -422,6 +514,7 @@ impl Server {
         requires line { self.old.line ≡ None }
         ensures adds { Adds out.old out.new }
         ensures setup { self.new.setup ≡ self.old.setup }
+        ensures notes { self.new.notes ≡ self.old.notes }
         ensures kept { self.new.kept ≡ self.old.kept }
         ensures answers { PerformsAnew (scene_for self.old (event_of event.entry) cred.now args.now) (call_of head.now)
             (reported (after out.old out.new) self.new.line) self.old self.new }
@@ -437,8 +530,8 @@ impl Server {
         answer_call(out, head, &mut self.tree, &call, args, &mut self.line);
     }
 
-    // The reply to a call of MOUNT other than NULL, and its line where it is denied. Out of line, so
-    // that calls of NFS pay nothing for it.
+    // The reply to a call of MOUNT other than NULL, and its line where it is denied; and whether the call
+    // is noted. Out of line, so that calls of NFS pay nothing for it.
     #[inline(never)]
     fn answer_mount(
         &mut self,
@@ -446,7 +539,7 @@ impl Server {
         head: &CallHead<'_>,
         event: Event<'_>,
         out: &mut Output,
-    )
+    ) -> bool
         requires room { HasReplyRoom out.old }
         requires line { self.old.line ≡ None }
         requires mount { is_nfs (call_of head.now) ≡ false }
@@ -454,18 +547,23 @@ impl Server {
         requires procedure { numbered mount_number mount_procedures head.now.proc ≡ Some procedure }
         ensures adds { Adds out.old out.new }
         ensures setup { self.new.setup ≡ self.old.setup }
+        ensures notes { self.new.notes ≡ self.old.notes }
+        ensures noted { result ≡ noted.is_noted_by (caller_rules ++ Arguments ∷ []) (event_of event.entry) (call_of head.now) head.now.args }
         ensures judged { AnswersBy (caller_rules ++ Arguments ∷ []) self.old (event_of event.entry) (call_of head.now) head.now.args
             (reported (after out.old out.new) self.new.line) self.new }
     {
         if let Some(rule) = caller_failure(head) {
-            return self.deny(head, event, rule, out);
+            self.deny(head, event, rule, out);
+            return false;
         }
         let Ok(args) = read_mount_args(procedure, Input::new(head.args.rest())) else {
-            return self.deny(head, event, RpcRule::Arguments, out);
+            self.deny(head, event, RpcRule::Arguments, out);
+            return false;
         };
         let (tree, table, mounts) = (&self.tree, &self.table, &mut self.mounts);
         let line = &mut self.line;
         answer_mount(out, head, tree, table, mounts, event.addr, &args, line);
+        may_change_mounts(&args)
     }
 
     // The reply to a call that fails a rule of RPC, and its line. Out of line, so that other calls pay

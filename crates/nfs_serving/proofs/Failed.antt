@@ -1,6 +1,6 @@
 -- Once the log has failed, nothing more is written to it.
 use Rattle.std.proofs.Common.{◌≡◌, ℕ, Bool, List, [], ◌∷◌, Option, sym, ap, subst}
-use Rattle.nfs_serving.specs.Service.{ServiceState, Change, joins, turns, leaves, passes, reloads, AreChanges, IsChange, FailedLogsStay}
+use Rattle.nfs_serving.specs.Service.{ServiceState, Change, joins, turns, leaves, passes, reloads, settles, AreChanges, IsChange, FailedLogsStay}
 use Rattle.nfs_xdr.specs.Known.{StaysFailed}
 use Rattle.nfs_xdr.proofs.Knowing.{stays_none, stays_then}
 
@@ -14,6 +14,7 @@ module _ {L : Type 0} (outgoing incoming : L → Option (List ℕ)) (shared : Bo
   by_change (leaves key number calls end) old new l = l.log_stays
   by_change passes old new p = p.log_stays
   by_change (reloads exports) old new r = stays_same old.broken new.broken old.log new.log (ap (λ (s : ServiceState L). s.broken) r) (ap (λ (s : ServiceState L). s.log) r)
+  by_change (settles notes) old new s = stays_same old.broken new.broken old.log new.log (ap (λ (s : ServiceState L). s.broken) s.1) (ap (λ (s : ServiceState L). s.log) s.1)
 
   by_changes : (changes : List Change) (old new : ServiceState L) → AreChanges outgoing incoming shared changes old new → StaysFailed old.broken old.log new.broken new.log
   by_changes [] old new same = subst (λ (s : ServiceState L). StaysFailed old.broken old.log s.broken s.log) (sym same) (stays_none old.broken old.log)

@@ -1,4 +1,5 @@
 pub mod Turning
+pub mod Settling
 pub mod Service
 pub mod Windows
 pub mod Failed

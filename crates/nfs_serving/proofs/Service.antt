@@ -13,7 +13,7 @@ use Rattle.nfs_server.proofs.Feeding.{records_append, replies_append}
 use Rattle.nfs_server.specs.Connections.{Joined}
 use Rattle.nfs_server.specs.Events.{Event, Done}
 use Rattle.nfs_server.specs.Feeding.{Device, device, Brings, Ends, event_at, lines_of, line_bytes, replies_of, framed}
-use Rattle.nfs_server.specs.Fits.{Held, History, Fits, reloaded}
+use Rattle.nfs_server.specs.Fits.{Held, History, Fits, reloaded, settled}
 use Rattle.nfs_server.specs.Runs.{longer}
 use Rattle.nfs_server.specs.declared.serve_fault.ServeFault.{ServeFault}
 use Rattle.nfs_server.specs.declared.serve_fault.ServeFault.TheVariants as reported
@@ -21,8 +21,9 @@ use Rattle.nfs_server.specs.declared.session_fault.SessionFault.{SessionFault}
 use Rattle.nfs_server.specs.declared.session_fault.SessionFault.TheVariants.{ConnectionTaken, UnknownConnection, Ended, TooLong, Memory, AuditFault, WriteFault}
 use Rattle.nfs_server.specs.declared.taking.Origin.{Origin}
 use Rattle.nfs_server.proofs.Reloads.{reloaded_fits}
+use Rattle.nfs_serving.proofs.Settling.{settled_fits}
 use Rattle.nfs_server.proofs.Together.{fed_on}
-use Rattle.nfs_serving.specs.Service.{Seat, ServiceState, IsNew, Change, joins, turns, leaves, passes, reloads, Joins, HasTurn, Leaves, PassesOn, Reloads, own_bytes, own_events, addr_at, IsClientServed, IsPartServed, history_after, log_of, lines_written, IsLog, AreFrom, end_lines, IsSeatServed, HasLeft, IsOneHistory, ServiceIsOneHistory}
+use Rattle.nfs_serving.specs.Service.{Seat, ServiceState, IsNew, Change, joins, turns, leaves, passes, reloads, settles, Joins, HasTurn, Leaves, PassesOn, Reloads, Settles, own_bytes, own_events, addr_at, IsClientServed, IsPartServed, history_after, log_of, lines_written, IsLog, AreFrom, end_lines, IsSeatServed, HasLeft, IsOneHistory, ServiceIsOneHistory}
 use Rattle.nfs_serving.specs.Turns.{Standing, IsEndBy, IsEndedBy, Rests, StandsAfter, Takes, TurnsBy, origin_of, written}
 use Rattle.nfs_serving.proofs.Turning.{grows_none, passes_keep, shrinks_none, shrinks_then}
 use Rattle.nfs_serving.specs.declared.turn.End.{End}
@@ -345,6 +346,20 @@ module _ {L : Type 0} (outgoing incoming : L → Option (List ℕ)) where
       seats_served = λ k. still k (ap (λ (s : ServiceState L). s.seat k) r);
     }
 
+    -- ---- notes come to last
+    settles_on : (notes : List ℕ) → Settles notes between new → IsOneHistory outgoing incoming shared history (settles notes ∷ earlier) old new
+    settles_on notes s = record {
+      outcomes = record { change = settles notes; done = []; log = []; line = [] } ∷ before.outcomes;
+      outcomes_are = ap (λ cs. settles notes ∷ cs) before.outcomes_are;
+      are_outcomes = ((refl, refl, refl), before.are_outcomes);
+      fits = subst (Fits (settled (history_after history before.outcomes))) (sym (ap (λ (s : ServiceState L). s.server) s.1))
+          (settled_fits (history_after history before.outcomes) between.server before.fits);
+      log_is = none_more old.log between.log new.log (log_of before.outcomes) (ap (λ (s : ServiceState L). s.log) s.1) before.log_is;
+      lines_are = none_more old.lines between.lines new.lines (lines_written before.outcomes) (ap (λ (s : ServiceState L). s.lines) s.1) before.lines_are;
+      whole = whole_still (ap (λ (s : ServiceState L). s.complete) s.1);
+      seats_served = λ k. still k (ap (λ (s : ServiceState L). s.seat k) s.1);
+    }
+
     -- ---- one has a turn
     module _ (key : ℕ) (moment : Moment) (came : List ℕ) (h : HasTurn outgoing incoming key moment came between new) where
       own : IsSeatServed outgoing incoming (own_bytes key earlier) (own_events key before.outcomes) (addr_at key earlier) h.was
@@ -441,3 +456,5 @@ module _ {L : Type 0} (outgoing incoming : L → Option (List ℕ)) where
       passes_on shared history earlier old are.0 new (service_is_one_history shared earlier old are.0 none are.1 history fits) are.2
   service_is_one_history shared (reloads exports ∷ earlier) old new none are history fits =
       reloads_on shared history earlier old are.0 new (service_is_one_history shared earlier old are.0 none are.1 history fits) exports are.2
+  service_is_one_history shared (settles notes ∷ earlier) old new none are history fits =
+      settles_on shared history earlier old are.0 new (service_is_one_history shared earlier old are.0 none are.1 history fits) notes are.2

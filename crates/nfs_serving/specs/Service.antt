@@ -9,11 +9,11 @@ use Rattle.nfs_rpc.specs.Records.{AreRecords, ReachesTooLong}
 use Rattle.nfs_server.specs.Events.{Done}
 use Rattle.nfs_server.specs.FaultWords.{word_of_stream}
 use Rattle.nfs_server.specs.Feeding.{device, lines_of, line_bytes, replies_of}
-use Rattle.nfs_server.specs.Fits.{Held, History, Fits, reloaded, with_exports}
+use Rattle.nfs_server.specs.Fits.{Held, History, Fits, reloaded, settled, with_exports}
 use Rattle.nfs_server.specs.Runs.{longer}
 use Rattle.nfs_server.specs.Together.{IsServed}
 use Rattle.nfs_server.specs.declared.serve_fault.ServeFault.TheVariants.{ReadFault, TooLong}
-use Rattle.nfs_serving.specs.Turns.{Standing, IsAtRest, TurnsBy, written}
+use Rattle.nfs_serving.specs.Turns.{Standing, IsAtRest, SendsPending, TurnsBy, written}
 use Rattle.nfs_serving.specs.declared.turn.End.{End}
 use Rattle.nfs_serving.specs.declared.turn.End.TheVariants.{Closed, Fault}
 use Rattle.nfs_xdr.specs.Known.{Grows, Shrinks, StaysFailed}
@@ -43,13 +43,14 @@ pub record IsNew {L : Type 0} (c : Standing L) : Type 0 where
 
 -- ---- what changes it
 
--- a client joins under a key, with the number of its connection and its address; that of a key has a turn, at a moment, in which bytes come; it leaves, after so many calls, by an end; lines that were written are passed on to their devices; or these exports are put in force, a list for each volume
+-- a client joins under a key, with the number of its connection and its address; that of a key has a turn, at a moment, in which bytes come; it leaves, after so many calls, by an end; lines that were written are passed on to their devices; these exports are put in force, a list for each volume; or these notes come to last in the journal
 pub data Change : Type 0 where
   joins : ℕ → ℕ → Addr → Change
   turns : ℕ → Moment → List ℕ → Change
   leaves : ℕ → ℕ → ℕ → End → Change
   passes : Change
   reloads : List (List Export) → Change
+  settles : List ℕ → Change
 
 abbrev pub OthersSit : {L : Type 0} → ℕ → ServiceState L → ServiceState L → Type 0
 OthersSit key old new = (other : ℕ) → other ≢ key → new.seat other ≡ old.seat other
@@ -77,6 +78,7 @@ pub record Joins {L : Type 0} (key number : ℕ) (addr : Addr) (old new : Servic
   pub broken_stays : new.broken ≡ old.broken
   pub complete_stays : new.complete ≡ old.complete
 
+-- A client has its turn. Where the server keeps notes, nothing goes out in it but what was pending when it began.
 pub record HasTurn {L : Type 0} (outgoing incoming : L → Option (List ℕ)) (key : ℕ) (moment : Moment) (came : List ℕ) (old new : ServiceState L) : Type 0 where
   pub number : ℕ
   pub was : Standing L
@@ -84,6 +86,7 @@ pub record HasTurn {L : Type 0} (outgoing incoming : L → Option (List ℕ)) (k
   pub sat : old.seat key ≡ Some (record { number = number; client = was })
   pub sits : new.seat key ≡ Some (record { number = number; client = now })
   pub turn : TurnsBy outgoing incoming moment came was now old.server new.server (device old.log new.log)
+  pub held_back : (notes : List ℕ) → old.server.notes ≡ Some notes → SendsPending outgoing was now
   pub log_stays : StaysFailed old.broken old.log new.broken new.log
   pub others : OthersSit key old new
   pub joined_stays : new.joined ≡ old.joined
@@ -119,6 +122,10 @@ pub record Leaves {L : Type 0} (shared : Bool) (key number calls : ℕ) (end : E
 abbrev pub Reloads : {L : Type 0} → List (List Export) → ServiceState L → ServiceState L → Type 0
 Reloads exports old new = new ≡ record old { server = with_exports exports old.server }
 
+-- these are all of the server's notes, there are none then, and nothing else changes
+abbrev pub Settles : {L : Type 0} → List ℕ → ServiceState L → ServiceState L → Type 0
+Settles notes old new = (old.server.notes ≡ Some notes) × (new ≡ record old { server = record old.server { notes = Some [] } })
+
 -- nothing new is written
 pub record PassesOn {L : Type 0} (old new : ServiceState L) : Type 0 where
   pub server_stays : new.server ≡ old.server
@@ -135,6 +142,7 @@ IsChange outgoing incoming shared (turns key moment came) old new = HasTurn outg
 IsChange outgoing incoming shared (leaves key number calls end) old new = Leaves shared key number calls end old new
 IsChange outgoing incoming shared passes old new = PassesOn old new
 IsChange outgoing incoming shared (reloads exports) old new = Reloads exports old new
+IsChange outgoing incoming shared (settles notes) old new = Settles notes old new
 
 -- one change after another, the newest first
 abbrev pub AreChanges : {L : Type 0} → (L → Option (List ℕ)) → (L → Option (List ℕ)) → Bool → List Change → ServiceState L → ServiceState L → Type 0
@@ -151,6 +159,7 @@ own_bytes key (turns k moment came ∷ earlier) = own_bytes key earlier ++ (if n
 own_bytes key (leaves k number calls end ∷ earlier) = own_bytes key earlier
 own_bytes key (passes ∷ earlier) = own_bytes key earlier
 own_bytes key (reloads exports ∷ earlier) = own_bytes key earlier
+own_bytes key (settles notes ∷ earlier) = own_bytes key earlier
 
 -- the address from which it joined
 abbrev pub addr_at : ℕ → List Change → Option Addr
@@ -160,6 +169,7 @@ addr_at key (turns k moment came ∷ earlier) = addr_at key earlier
 addr_at key (leaves k number calls end ∷ earlier) = addr_at key earlier
 addr_at key (passes ∷ earlier) = addr_at key earlier
 addr_at key (reloads exports ∷ earlier) = addr_at key earlier
+addr_at key (settles notes ∷ earlier) = addr_at key earlier
 
 -- a change, its events, the newest first, what it wrote to the log, and what as the line of a connection
 pub record Outcome : Type 0 where
@@ -168,10 +178,17 @@ pub record Outcome : Type 0 where
   pub log : List ℕ
   pub line : List ℕ
 
--- the history with one change more: a reload puts its exports in force, and the events of another make it longer
+-- the history with one change more: a reload puts its exports in force, once notes have come to last, its whole journal lasts, and the events of another make it longer
 abbrev pub history_with : Change → List Done → History → History
 history_with (reloads exports) done history = reloaded history exports
+history_with (settles notes) done history = settled history
 history_with other done history = longer history done
+
+-- all notes that came to last, in their order
+abbrev pub settled_by : List Change → List ℕ
+settled_by [] = []
+settled_by (settles notes ∷ earlier) = settled_by earlier ++ notes
+settled_by (other ∷ earlier) = settled_by earlier
 
 -- the history with these outcomes, one after another
 abbrev pub history_after : History → List Outcome → History
@@ -184,6 +201,7 @@ own_done key (turns k moment came) done earlier = (if nat_eq key k then done els
 own_done key (leaves k number calls end) done earlier = earlier
 own_done key passes done earlier = earlier
 own_done key (reloads exports) done earlier = earlier
+own_done key (settles notes) done earlier = earlier
 
 -- the events of the client of a key since it joined
 abbrev pub own_events : ℕ → List Outcome → List Done
@@ -219,6 +237,7 @@ lines_after (joins key number addr) before = before
 lines_after (turns key moment came) before = before
 lines_after passes before = before
 lines_after (reloads exports) before = before
+lines_after (settles notes) before = before
 lines_after (leaves key number calls end) before = before ++ end_text number calls end
 
 -- the lines of the connections that ended, in their order
@@ -269,6 +288,7 @@ IsOutcome outgoing incoming shared (joins key number addr) done log line earlier
 IsOutcome outgoing incoming shared (turns key moment came) done log line earlier = AreFrom (addr_at key (changes_of earlier)) moment done × IsLog done log × (line ≡ [])
 IsOutcome outgoing incoming shared passes done log line earlier = (done ≡ []) × (log ≡ []) × (line ≡ [])
 IsOutcome outgoing incoming shared (reloads exports) done log line earlier = (done ≡ []) × (log ≡ []) × (line ≡ [])
+IsOutcome outgoing incoming shared (settles notes) done log line earlier = (done ≡ []) × (log ≡ []) × (line ≡ [])
 IsOutcome outgoing incoming shared (leaves key number calls end) done log line earlier = HasLeft outgoing incoming shared key number calls end done log line earlier
 
 abbrev pub AreOutcomes : {L : Type 0} → (L → Option (List ℕ)) → (L → Option (List ℕ)) → Bool → List Outcome → Type 0

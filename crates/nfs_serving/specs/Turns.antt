@@ -120,6 +120,10 @@ TurnsBy outgoing incoming moment came old new server served audit =
 abbrev pub Turns : {L : Type 0} → (L → Option (List ℕ)) → (L → Option (List ℕ)) → Moment → Standing L → Standing L → Held → Held → Device → Type 0
 Turns outgoing incoming moment old new server served audit = (came : List ℕ) × TurnsBy outgoing incoming moment came old new server served audit
 
+-- nothing was sent but some first bytes of what had been pending
+abbrev pub SendsPending : {L : Type 0} → (L → Option (List ℕ)) → Standing L → Standing L → Type 0
+SendsPending outgoing old new = (left : List ℕ) × Passes (outgoing old.channel.link) old.channel.pending (outgoing new.channel.link) left
+
 -- what a turn says of the client after it
 abbrev pub Reports : {L : Type 0} → Turn → Standing L → Type 0
 Reports turn.Fed new = new.channel.pending ≡ []
@@ -127,6 +131,7 @@ Reports turn.Drained new = (new.channel.pending ≡ []) × (new.chunk ≡ [])
 Reports turn.Idle new = (new.channel.pending ≡ []) × (new.chunk ≡ [])
 Reports turn.Held new = new.channel.pending ≡ []
 Reports turn.Owing new = new.channel.pending ≢ []
+Reports turn.Answered new = new.channel.pending ≢ []
 Reports (turn.Ended end) new = (new.end ≡ Some end) × ((new.channel.pending ≡ []) ⊎ (new.channel.failed ≡ true))
 
 -- a turn after which nothing more is there has asked the link
@@ -136,6 +141,7 @@ HasAsked incoming reports turn.Drained new = IsDrained incoming reports new.chan
 HasAsked incoming reports turn.Idle new = IsQuiet reports new.channel.link
 HasAsked incoming reports turn.Held new = Unit {0}
 HasAsked incoming reports turn.Owing new = Unit {0}
+HasAsked incoming reports turn.Answered new = Unit {0}
 HasAsked incoming reports (turn.Ended end) new = Unit {0}
 
 -- a client's next record waits, since the log is full, whatever was unfinished

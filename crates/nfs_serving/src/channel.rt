@@ -87,17 +87,22 @@ impl<L: Link> Channel<L> {
         Ok(())
     }
 
-    /// Sends these bytes, where nothing is pending, as much of them as the link takes now. The others are
-    /// pending then, all of them where the link is broken, in a list that has room for them, in whose
-    /// stead another comes.
-    pub fn send(&mut self, bytes: &[u8], room: &mut Vec<u8>) -> Result<(), DeviceFault>
+    /// Sends these bytes, where nothing is pending, as much of them as the link takes now, and none where
+    /// they are to be held. The others are pending then, all of them where the link is broken, in a list
+    /// that has room for them, in whose stead another comes.
+    pub fn send(&mut self, bytes: &[u8], room: &mut Vec<u8>, holds: bool) -> Result<(), DeviceFault>
         requires pending { self.old.pending ≡ [] }
         requires room { length bytes.now ≤ vec_capacity room.old }
         ensures passes { Passes (L.outgoing self.old.link) bytes.now (L.outgoing self.new.link) self.new.pending }
         ensures incoming { L.incoming self.new.link ≡ L.incoming self.old.link }
         ensures alive { OnOk result (self.new.failed ≡ self.old.failed) }
         ensures fault { OnErr result (self.new.failed ≡ true) }
+        ensures holds { holds ≡ true → L.outgoing self.new.link ≡ L.outgoing self.old.link }
     {
+        if holds {
+            self.pending.hold(room, bytes);
+            return Ok(());
+        }
         match send_some(&mut self.link, &mut self.ended, bytes) {
             Ok(n) => {
                 count(&mut self.traffic.sent, n);

@@ -4,7 +4,7 @@ ghost use Rattle.nfs_server.specs.Connections.{IsAtStart};
 ghost use Rattle.nfs_server.specs.Feeding.{device, EndsWith};
 ghost use Rattle.nfs_server.specs.Taking.{Waits};
 ghost use Rattle.nfs_serving.specs.Outgoing.{IsDrained};
-ghost use Rattle.nfs_serving.specs.Turns.{EndsForCause, Gathers, HasAsked, IsAtRest, IsCause, IsCauseInRecords, IsEndBy, IsEndedBy, IsHeld, Rests, Takes, Reports, Turns, origin_of};
+ghost use Rattle.nfs_serving.specs.Turns.{EndsForCause, Gathers, HasAsked, IsAtRest, IsCause, IsCauseInRecords, IsEndBy, IsEndedBy, IsHeld, Rests, Takes, Reports, SendsPending, Turns, origin_of};
 ghost use Rattle.nfs_xdr.specs.Known.{StaysFailed};
 
 use crate::buffer::Buffer;
@@ -124,17 +124,22 @@ impl<L: Link> Client<L> {
     ///
     /// A fault of a record, of the audit lines or of memory ends the connection after the replies
     /// to the records before it; a fault of the link ends it at once.
+    ///
+    /// Where the turn holds its replies, none of them goes out, and they are pending: nothing goes out in
+    /// it but what was pending when it began.
     pub fn turn<A: AuditOut>(
         &mut self,
         server: &mut Server,
         room: &mut TurnBuffers,
         moment: Moment,
         audit: &mut A,
+        holds: bool,
     ) -> Turn
         ensures turns { Turns L.outgoing L.incoming moment self.old self.new server.old server.new
             (device (A.contents audit.old) (A.contents audit.new)) }
         ensures reports { Reports result self.new }
         ensures held { result ≡ Turn.Held → IsHeld moment self.new server.new (A.full audit.new) }
+        ensures holds { holds ≡ true → SendsPending L.outgoing self.old self.new }
         ensures asked { HasAsked L.incoming L.reports result self.new }
         ensures setup { server.new.setup ≡ server.old.setup }
         ensures stays { StaysFailed (A.broken audit.old) (A.contents audit.old) (A.broken audit.new) (A.contents audit.new) }
@@ -149,7 +154,7 @@ impl<L: Link> Client<L> {
         if let Some(end) = self.end {
             return Turn::Ended(end);
         }
-        self.take(server, room, moment, audit)
+        self.take(server, room, moment, audit, holds)
     }
 
     // Sends what is pending, as much of it as the link takes.
@@ -168,6 +173,7 @@ impl<L: Link> Client<L> {
         room: &mut TurnBuffers,
         moment: Moment,
         audit: &mut A,
+        holds: bool,
     ) -> Turn
         requires pending { self.old.channel.pending ≡ [] }
         requires alive { self.old.end ≡ None }
@@ -175,6 +181,7 @@ impl<L: Link> Client<L> {
             (device (A.contents audit.old) (A.contents audit.new)) }
         ensures reports { Reports result self.new }
         ensures held { result ≡ Turn.Held → IsHeld moment self.new server.new (A.full audit.new) }
+        ensures holds { holds ≡ true → L.outgoing self.new.channel.link ≡ L.outgoing self.old.channel.link }
         ensures asked { HasAsked L.incoming L.reports result self.new }
         ensures setup { server.new.setup ≡ server.old.setup }
         ensures stays { StaysFailed (A.broken audit.old) (A.contents audit.old) (A.broken audit.new) (A.contents audit.new) }
@@ -183,7 +190,7 @@ impl<L: Link> Client<L> {
         if room.make().is_err() {
             return self.ends(End::Fault(ServeFault::Memory));
         }
-        let turn = self.take_some(server, room, moment, audit);
+        let turn = self.take_some(server, room, moment, audit, holds);
         self.chunk.give_back(&mut room.bytes);
         turn
     }
@@ -195,6 +202,7 @@ impl<L: Link> Client<L> {
         room: &mut TurnBuffers,
         moment: Moment,
         audit: &mut A,
+        holds: bool,
     ) -> Turn
         requires pending { self.old.channel.pending ≡ [] }
         requires alive { self.old.end ≡ None }
@@ -203,6 +211,7 @@ impl<L: Link> Client<L> {
             (device (A.contents audit.old) (A.contents audit.new)) }
         ensures reports { Reports result self.new }
         ensures held { result ≡ Turn.Held → IsHeld moment self.new server.new (A.full audit.new) }
+        ensures holds { holds ≡ true → L.outgoing self.new.channel.link ≡ L.outgoing self.old.channel.link }
         ensures asked { HasAsked L.incoming L.reports result self.new }
         ensures setup { server.new.setup ≡ server.old.setup }
         ensures stays { StaysFailed (A.broken audit.old) (A.contents audit.old) (A.broken audit.new) (A.contents audit.new) }
@@ -210,12 +219,12 @@ impl<L: Link> Client<L> {
     {
         if self.chunk.is_empty() {
             return match self.receive(&mut room.bytes) {
-                Ok(may_be_more) => self.feed(server, room, moment, audit, may_be_more),
+                Ok(may_be_more) => self.feed(server, room, moment, audit, may_be_more, holds),
                 Err(turn) => turn,
             };
         }
         // What came since these bytes were received may have been reported already.
-        self.feed(server, room, moment, audit, true)
+        self.feed(server, room, moment, audit, true, holds)
     }
 
     // Receives what has come, in place of what was taken: whether there may be more, which is so where
@@ -225,6 +234,7 @@ impl<L: Link> Client<L> {
         requires pending { self.old.channel.pending ≡ [] }
         requires alive { self.old.end ≡ None }
         ensures rests { (came : List ℕ) × Rests L.outgoing L.incoming came self.old self.new }
+        ensures outgoing { L.outgoing self.new.channel.link ≡ L.outgoing self.old.channel.link }
         ensures goes_on { OnOk result (self.new.end ≡ None) }
         ensures pending { self.new.channel.pending ≡ [] }
         ensures reports { IfErr result (λ turn. Reports turn self.new) }
@@ -256,6 +266,7 @@ impl<L: Link> Client<L> {
         moment: Moment,
         audit: &mut A,
         may_be_more: bool,
+        holds: bool,
     ) -> Turn
         requires pending { self.old.channel.pending ≡ [] }
         requires alive { self.old.end ≡ None }
@@ -265,19 +276,22 @@ impl<L: Link> Client<L> {
             (device (A.contents audit.old) (A.contents audit.new)) }
         ensures reports { Reports result self.new }
         ensures held { result ≡ Turn.Held → IsHeld moment self.new server.new (A.full audit.new) }
+        ensures holds { holds ≡ true → L.outgoing self.new.channel.link ≡ L.outgoing self.old.channel.link }
         ensures asked { HasAsked L.incoming L.reports result self.new }
         ensures setup { server.new.setup ≡ server.old.setup }
         ensures stays { StaysFailed (A.broken audit.old) (A.contents audit.old) (A.broken audit.new) (A.contents audit.new) }
         ensures cause { IsCause L.incoming L.failed (A.failed audit.new) self.new.end self.new }
     {
         let stop = self.answer(server, &mut room.reply, moment, audit);
-        let sent = self.channel.send(room.reply.gathered(), &mut room.pending);
-        self.outcome(sent.is_ok(), may_be_more, stop)
+        let sent = self
+            .channel
+            .send(room.reply.gathered(), &mut room.pending, holds);
+        self.outcome(sent.is_ok(), may_be_more, stop, holds)
     }
 
     // What became of a turn after which the link is whole or broken, and which took bytes, up to where it
-    // stopped, after which there may be more.
-    fn outcome(&mut self, is_whole: bool, may_be_more: bool, stop: Stop) -> Turn
+    // stopped, after which there may be more, and held its replies or not.
+    fn outcome(&mut self, is_whole: bool, may_be_more: bool, stop: Stop, holds: bool) -> Turn
         requires whole { is_whole ≡ false → self.old.channel.failed ≡ true }
         requires drained { may_be_more ≡ false → IsDrained L.incoming L.reports self.old.channel.link }
         ensures connection { self.new.connection ≡ self.old.connection }
@@ -294,7 +308,7 @@ impl<L: Link> Client<L> {
             return self.ends(End::Fault(ServeFault::WriteFault));
         }
         if !self.channel.is_settled() {
-            return Turn::Owing;
+            return if holds { Turn::Answered } else { Turn::Owing };
         }
         match self.end {
             Some(end) => Turn::Ended(end),

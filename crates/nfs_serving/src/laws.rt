@@ -3,10 +3,11 @@ ghost use Rattle.nfs_serving.specs.Service.{FailedLogsStay, ServiceIsOneHistory}
 
 use nfs_xdr::link::Link;
 
-/// Whatever changes a service that begins with no client, by clients that join, have turns and leave and
-/// by exports that are put in force: all its events are one history, in the order of the turns, each from
-/// the address from which its client joined, at the moment of its turn, and judged by the exports in
-/// force then. The log has exactly the lines of these events, in their
+/// Whatever changes a service that begins with no client, by clients that join, have turns and leave, by
+/// exports that are put in force and by notes that come to last: all its events are one history, in the
+/// order of the turns, each from the address from which its client joined, at the moment of its turn, and
+/// judged by the exports in force then. Each time notes have come to last, the whole journal of the
+/// history lasts. The log has exactly the lines of these events, in their
 /// order, cut only in the turn that a fault of its device ended. What was written for each client, also
 /// for one that left, is a first part of the framed replies to the records of all that came from it, and
 /// where no fault of its records has ended it, exactly these replies, as if no other were there.

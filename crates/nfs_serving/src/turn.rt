@@ -24,6 +24,8 @@ pub enum Turn {
     Held,
     /// The link doesn't take all that is pending.
     Owing,
+    /// Replies are pending that were held. They go out in the next turn.
+    Answered,
     /// The connection has ended: nothing is pending any more, or the link is broken.
     Ended(End),
 }

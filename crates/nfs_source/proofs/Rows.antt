@@ -11,6 +11,7 @@ use Rattle.nfs_lives.specs.declared.path_digest.PathDigest.{PathDigest}
 use Rattle.nfs_lives.specs.Paths.{onto, paths_text, row_in, row_of, rows_of}
 use Rattle.nfs_lives.specs.Rows.{HasTaken}
 use Rattle.nfs_lives.proofs.Fed.{text_more}
+use Rattle.nfs_source.specs.declared.open_line.Case.TheVariants.{Lower}
 use Rattle.nfs_source.proofs.OpenLines.{encodes}
 
 words_begin : (begin : List ℕ) → begins_file begin ≡ true → are_before_content (words begin) ≡ true
@@ -36,7 +37,7 @@ begins_no_comment begin begins [] e = absurd (false≢true (ap are_before_conten
 begins_no_comment begin begins (word ∷ fields) e =
     let first = keyword_is word fields (ap are_before_content (sym e) ∙ words_begin begin begins) in
     let line = begin ++ 32 ∷ encode_lower (0 ∷ []) in
-    asks (is_comment line) (shape_of line (words line)) _ (shape_is begin (encode_lower (0 ∷ [])) (0 ∷ []) fields begins (e ∙ ap (λ w. w ∷ fields) first.0) (encodes (0 ∷ []) is_byte (λ none. cc)))
+    asks (is_comment line) (shape_of line (words line)) _ (shape_is begin (encode_lower (0 ∷ [])) (0 ∷ []) fields begins (e ∙ ap (λ w. w ∷ fields) first.0) (encodes (0 ∷ []) Lower is_byte (λ none. cc)))
 
 no_comment : (begin more : List ℕ) → begins_file begin ≡ true → is_comment (begin ++ more) ≡ false
 no_comment [] more begins = absurd (false≢true begins)

@@ -6,7 +6,7 @@ use Rattle.nfs_load.specs.declared.load_error.LoadError.TheVariants as error
 use Rattle.nfs_source.specs.declared.fault.Fault.{Fault}
 use Rattle.nfs_source.specs.declared.sharing_fault.SharingFault.{SharingFault}
 use Rattle.nfs_source.specs.declared.sharing_fault.SharingFault.TheVariants.{Skipped}
-use Rattle.nfs_source.specs.declared.fault.Fault.TheVariants.{Description, Script, Sharing, NoText, CannotRead, TooLong, LongLine, CannotWrite, Network, Unregistered, NoTime, Write, Closed, Memory}
+use Rattle.nfs_source.specs.declared.fault.Fault.TheVariants.{Description, Script, Sharing, NoText, CannotRead, TooLong, LongLine, CannotWrite, Network, Unregistered, Journal, NoTime, Write, Closed, Memory}
 
 -- 1 where something is skipped that may not be
 abbrev pub status_of_sharing : SharingFault → ℕ
@@ -25,6 +25,7 @@ status_of (LongLine name line most) = 3
 status_of (CannotWrite name error) = 3
 status_of (Network address error) = 3
 status_of (Unregistered fault) = 3
+status_of (Journal name fault) = 3
 status_of NoTime = 3
 status_of Write = 3
 status_of Closed = 141

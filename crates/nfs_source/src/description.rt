@@ -16,7 +16,7 @@ ghost use Rattle.nfs_source.specs.Status.{IsOfReading, IsReportedAs, Reports, st
 use crate::diagnostic::Diagnostic;
 use crate::fault::Fault;
 use crate::kept_lines::{Extent, KeptLines};
-use crate::open_line::{DecodedLine, EndedLine, OpenLine};
+use crate::open_line::{Case, DecodedLine, EndedLine, OpenLine, encode};
 use crate::source::{Sink, SinkFault, Source, open_text, read_all};
 use memchr::memchr;
 use nfs_content::content::Content;
@@ -463,10 +463,14 @@ fn load_file(
     requires { IsDecoded line }
     ensures { IfOk result (λ fault. LineTaken loading.old (text_of line) (taken_or fault) loading.new) }
 {
-    let DecodedLine { words, content } = line;
+    let DecodedLine {
+        words,
+        content,
+        case,
+    } = line;
     let words = words.as_slice();
     let bytes = content.len() as u64;
-    let shown = first_digits(alloc, &content)?;
+    let shown = first_digits(alloc, &content, case)?;
     match loading.take_file(words, content) {
         Ok(()) => {
             kept.take_file(words, bytes)?;
@@ -479,10 +483,10 @@ fn load_file(
     }
 }
 
-// The first digits of a content.
-fn first_digits(alloc: Global, content: &Pages) -> Result<String, AllocError> {
+// The first digits of a content, whose letters have this case.
+fn first_digits(alloc: Global, content: &Pages, case: Case) -> Result<String, AllocError> {
     let run = content.run_at(0);
-    hex::encode(alloc, &run[..run.len().min(SHOWN_BYTES)])
+    encode(alloc, &run[..run.len().min(SHOWN_BYTES)], case)
 }
 
 fn outcome(loading: Loading, fault: Option<LoadError>) -> Result<Loaded, LoadError>

@@ -2,12 +2,13 @@
 ghost use Rattle.std.specs.Prelude.{◌≡◌};
 ghost use Rattle.nfs_source.specs.Status.{status_of};
 
+use crate::journal_fault::JournalFault;
 use crate::sharing_fault::SharingFault;
 use nfs_ask::script_fault::{LineCause, ScriptFault};
 use nfs_load::cause::Cause;
 use nfs_load::load_error::LoadError;
 use nfs_portmap::fault::PortmapFault;
-use std::alloc::AllocError;
+use std::alloc::{AllocError, Global};
 use std::io;
 use std::net::SocketAddr;
 use thiserror::Error;
@@ -77,6 +78,14 @@ pub enum Fault {
     /// The programs are not registered.
     #[error("nfs3d: {0}")]
     Unregistered(PortmapFault),
+    /// A server doesn't go on from a journal.
+    #[error("nfs3d: {name}: {fault}")]
+    Journal {
+        /// The name of its file.
+        name: String,
+        /// Why not.
+        fault: JournalFault,
+    },
     /// The system has no clock.
     #[error("nfs3d: cannot read the system's clock, which keeps the handles of this run apart from those of earlier runs: set it, and start again")]
     NoTime,
@@ -92,6 +101,16 @@ pub enum Fault {
 }
 
 impl Fault {
+    /// That of the journal of this name; `Memory` where there is no memory for the name.
+    pub fn of_journal(alloc: Global, name: &str, fault: JournalFault) -> Fault
+        ensures { status_of result ≡ 3 }
+    {
+        match name.to_string(alloc) {
+            Ok(name) => Fault::Journal { name, fault },
+            Err(error) => Fault::Memory(error),
+        }
+    }
+
     /// The program's exit status: 1 where the description or the script is at fault, 2 where the words are, 3 where the
     /// machine is; 141 where a pipe's reader has gone, as a shell says it of a program that SIGPIPE ended.
     pub fn status(&self) -> u8
@@ -108,6 +127,7 @@ impl Fault {
             | Fault::CannotWrite { .. }
             | Fault::Network { .. }
             | Fault::Unregistered(_)
+            | Fault::Journal { .. }
             | Fault::NoTime
             | Fault::Write
             | Fault::Memory(_) => 3,

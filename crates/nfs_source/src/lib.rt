@@ -6,6 +6,7 @@ pub mod description;
 pub mod diagnostic;
 pub mod fault;
 pub mod heads;
+pub mod journal_fault;
 mod kept_lines;
 mod open_line;
 pub mod output;

@@ -1,9 +1,8 @@
 //! Lines that have not ended.
-ghost use Rattle.std.specs.Prelude.{◌≡◌, ◌≢◌, ◌⊎◌, ◌*◌, ◌+◌, ◌-◌, ◌^◌, ◌≤◌, ℕ, List, [], ◌∷◌, ◌++◌, IfOk, IfSome, MatchBool, MatchOption, OnOk, length, min, true};
-ghost use Rattle.hex.specs.Hex.{IsBytes, encode_lower};
+ghost use Rattle.std.specs.Prelude.{◌≡◌, ◌≢◌, ◌⊎◌, ◌*◌, ◌+◌, ◌-◌, ◌^◌, ◌≤◌, ℕ, List, [], ◌∷◌, ◌++◌, IfOk, IfSome, MatchBool, OnOk, length, min, string_bytes, true};
 ghost use Rattle.nfs_content.specs.Bytes.{IsFirstChunk};
 ghost use Rattle.nfs_load.specs.Lines.{begins_file};
-ghost use Rattle.nfs_source.specs.OpenLines.{IsCode, IsDecoded, IsEnded, IsNoCode, TakesDigits, text_of};
+ghost use Rattle.nfs_source.specs.OpenLines.{AreAlike, IsDecoded, IsEnded, Says, TakesDigits, encode_in, other_case, text_of};
 
 use hex::FromHexError;
 use memchr::memrchr;
@@ -21,18 +20,41 @@ const LONG_LINE_BYTES: usize = 65_536;
 // The digits of a page of a content.
 const PAGE_DIGITS: usize = 2 * PAGE_BYTES;
 
-/// The line of a file as far as its content is decoded, which is written in lowercase digits.
+/// The case of the letters among digits.
+#[derive(Clone, Copy)]
+pub(crate) enum Case {
+    /// `a` to `f`.
+    Lower,
+    /// `A` to `F`.
+    Upper,
+}
+
+impl Case {
+    // The other one.
+    fn other(self) -> Case
+        ensures { result ≡ other_case self }
+    {
+        match self {
+            Case::Lower => Case::Upper,
+            Case::Upper => Case::Lower,
+        }
+    }
+}
+
+/// The line of a file as far as its content is decoded, which is written in digits whose letters have one case.
 #[derive(Drop)]
 pub(crate) struct DecodedLine {
     /// What stands before the content and a space.
     pub words: Vec<u8>,
     /// The content.
     pub content: Pages,
+    /// The case of the letters among its digits; lowercase as long as there is none.
+    pub case: Case,
 }
 
 impl DecodedLine {
     // The begin of a line, of whose content a page is decoded, and what comes after. `None` where the line isn't a
-    // file's, or its content begins with no whole page of lowercase digits.
+    // file's, or its content begins with no whole page of digits whose letters have one case.
     fn begin(alloc: Global, line: &[u8]) -> Result<Option<(DecodedLine, Vec<u8>)>, AllocError>
         ensures { IfOk result (λ begun. IfSome begun (λ it. (text_of it.0 ++ it.1.items ≡ line.now) × IsDecoded it.0)) }
     {
@@ -43,32 +65,41 @@ impl DecodedLine {
             return Ok(None);
         }
         let (page, rest) = digits.split_at(PAGE_DIGITS);
-        let Some(content) = decode_lower(alloc, page)? else {
+        let Some((content, case)) = decode(alloc, page, Case::Lower)? else {
             return Ok(None);
         };
         let words = words.to_vec(alloc)?;
         let content = Pages::of(alloc, content)?;
-        Ok(Some((DecodedLine { words, content }, rest.to_vec(alloc)?)))
+        let begun = DecodedLine {
+            words,
+            content,
+            case,
+        };
+        Ok(Some((begun, rest.to_vec(alloc)?)))
     }
 
-    // Takes digits of the content, if they are lowercase digits, two for each byte.
+    // Takes digits of the content, two for each byte, if all letters have one case then.
     fn push(&mut self, alloc: Global, digits: &[u8]) -> Result<bool, AllocError>
         requires { IsDecoded self.old }
         ensures taken { IfOk result (λ taken. TakesDigits self.old digits.now taken self.new) }
         ensures decoded { IsDecoded self.new }
     {
-        let Some(bytes) = decode_lower(alloc, digits)? else {
+        let Some((bytes, case)) = decode(alloc, digits, self.case)? else {
             return Ok(false);
         };
+        if !is_alike(alloc, &self.content, case, self.case)? {
+            return Ok(false);
+        }
         let len = self.content.len();
         if bytes.len().saturating_add(len) > MAX_CONTENT_BYTES {
             return Ok(false);
         }
         self.content.put_at(len, bytes.as_slice())?;
+        self.case = case;
         Ok(true)
     }
 
-    // Takes whole pages of digits, as long as they are lowercase digits; what is left.
+    // Takes whole pages of digits, as long as all letters have one case; what is left.
     fn push_pages<'a>(&mut self, alloc: Global, digits: &'a [u8]) -> Result<&'a [u8], AllocError>
         requires { IsDecoded self.old }
         ensures taken { IfOk result (λ rest. text_of self.new ++ rest.now ≡ text_of self.old ++ digits.entry.now) }
@@ -91,7 +122,7 @@ impl DecodedLine {
     {
         let mut line = self.words.as_slice().to_vec(alloc)?;
         line.push(b' ')?;
-        encode_content(&mut line, alloc, &self.content)?;
+        put_digits(&mut line, alloc, &self.content, self.case)?;
         line.extend_from_slice(after)?;
         Ok(line)
     }
@@ -114,8 +145,9 @@ pub(crate) enum EndedLine {
     Decoded(DecodedLine),
 }
 
-/// What was read of a line that has not ended. Of a long line of a file the content is decoded as it comes, while it
-/// has lowercase digits alone, so that it can be encoded again as it came. Contracts see the bytes as they came.
+/// What was read of a line that has not ended. Of a long line of a file the content is decoded as it comes, while all
+/// letters among its digits have one case, so that it can be encoded again as it came. Contracts see the bytes as they
+/// came.
 #[derive(Drop)]
 pub(crate) struct OpenLine {
     alloc: Global,
@@ -126,7 +158,7 @@ pub(crate) struct OpenLine {
 
 impl Model for OpenLine {
     ghost use Rattle.std.specs.Prelude.{ℕ, List, ◌++◌, IfSome};
-    ghost use Rattle.nfs_source.specs.OpenLines.{IsDecoded, front_of};
+    ghost use Rattle.nfs_source.specs.OpenLines.{AreAlike, IsDecoded, front_of};
 
     ghost Value = { List ℕ };
 
@@ -204,7 +236,7 @@ impl OpenLine {
         Ok(())
     }
 
-    // Decodes whole pages. Where a byte is no lowercase digit, nothing is decoded any more.
+    // Decodes whole pages. Where a byte is no digit, or a letter of the other case, nothing is decoded any more.
     fn decode(&mut self) -> Result<(), AllocError>
         ensures { OnOk result (self.new ≡ self.old) }
     {
@@ -262,30 +294,77 @@ fn cut_content(line: &[u8]) -> Option<(&[u8], &[u8])>
     Some((words, digits))
 }
 
-// The bytes that lowercase digits say, two for each byte. `None` where they are others.
-fn decode_lower(alloc: Global, digits: &[u8]) -> Result<Option<Vec<u8>>, AllocError>
-    ensures { IfOk result (λ decoded. MatchOption decoded (IsNoCode digits.now) (λ bytes. IsCode bytes.items digits.now)) }
+// What digits say, two for each byte, and the case of their letters: this one where they have none. `None` where they
+// say no bytes, or have letters of both.
+fn decode(alloc: Global, digits: &[u8], case: Case) -> Result<Option<(Vec<u8>, Case)>, AllocError>
+    ensures { IfOk result (Says case digits.now) }
 {
     let bytes = match hex::decode(alloc, digits) {
         Ok(bytes) => bytes,
         Err(FromHexError::OutOfMemory) => return Err(AllocError),
         Err(_) => return Ok(None),
     };
-    let again = hex::encode(alloc, bytes.as_slice())?;
-    if again.as_bytes() != digits {
-        return Ok(None);
+    if is_encoded(alloc, bytes.as_slice(), case, digits)? {
+        return Ok(Some((bytes, case)));
     }
-    Ok(Some(bytes))
+    let other = case.other();
+    if is_encoded(alloc, bytes.as_slice(), other, digits)? {
+        return Ok(Some((bytes, other)));
+    }
+    Ok(None)
 }
 
-// Puts a content at the end of a line, in lowercase digits.
-fn encode_content(line: &mut Vec<u8>, alloc: Global, content: &Pages) -> Result<(), AllocError>
-    ensures { OnOk result (line.new.items ≡ line.old.items ++ encode_lower content.now) }
+/// The digits of bytes, whose letters have this case.
+pub(crate) fn encode(alloc: Global, bytes: &[u8], case: Case) -> Result<String, AllocError>
+    ensures { IfOk result (λ digits. string_bytes digits ≡ encode_in case bytes.now) }
+{
+    match case {
+        Case::Lower => hex::encode(alloc, bytes),
+        Case::Upper => hex::encode_upper(alloc, bytes),
+    }
+}
+
+// Whether these are the digits of bytes in this case.
+fn is_encoded(alloc: Global, bytes: &[u8], case: Case, digits: &[u8]) -> Result<bool, AllocError>
+    ensures { IfOk result (λ is. MatchBool is (encode_in case bytes.now ≡ digits.now) (encode_in case bytes.now ≢ digits.now)) }
+{
+    let encoded = encode(alloc, bytes, case)?;
+    Ok(encoded.as_bytes() == digits)
+}
+
+// Whether a content has the same digits in both cases, as it has where no letter is among them.
+fn is_alike(alloc: Global, content: &Pages, one: Case, other: Case) -> Result<bool, AllocError>
+    ensures { IfOk result (λ is. MatchBool is (AreAlike one other content.now) (AreAlike one other content.now → ⊥)) }
+{
+    match (one, other) {
+        (Case::Lower, Case::Lower) | (Case::Upper, Case::Upper) => return Ok(true),
+        _ => {}
+    }
+    let mut offset = 0;
+    while offset < content.len() {
+        let run = content.run_at(offset);
+        let digits = encode(alloc, run, one)?;
+        if !is_encoded(alloc, run, other, digits.as_bytes())? {
+            return Ok(false);
+        }
+        offset += run.len();
+    }
+    Ok(true)
+}
+
+// Puts the digits of a content, whose letters have this case, at the end of a line.
+fn put_digits(
+    line: &mut Vec<u8>,
+    alloc: Global,
+    content: &Pages,
+    case: Case,
+) -> Result<(), AllocError>
+    ensures { OnOk result (line.new.items ≡ line.old.items ++ encode_in case content.now) }
 {
     let mut offset = 0;
     while offset < content.len() {
         let run = content.run_at(offset);
-        let digits = hex::encode(alloc, run)?;
+        let digits = encode(alloc, run, case)?;
         line.extend_from_slice(digits.as_bytes())?;
         offset += run.len();
     }

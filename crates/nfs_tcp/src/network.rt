@@ -14,13 +14,14 @@ use nfs_server::moments::Moments;
 use std::alloc::Global;
 use std::collections::VecDeque;
 use std::io::{self, ErrorKind};
-use std::net::Net;
+use std::net::{Net, SocketAddr};
 use std::time::{Clock, Duration, Instant};
 
 /// Listeners, the streams of their connections, and the clock, by the system, of which nothing is known.
 #[derive(Drop)]
 pub struct TcpNetwork<'a, R> {
     rt: &'a R,
+    alloc: Global,
     clock: SystemClock<'a, R>,
     began: Instant,
     // How long after that the milliseconds were last asked for.
@@ -31,6 +32,8 @@ pub struct TcpNetwork<'a, R> {
     ready: VecDeque<Ready>,
     // The next connection is that of the first one that has any.
     listeners: Vec<TcpListener>,
+    // Where they listen.
+    addresses: Vec<SocketAddr>,
 }
 
 impl<'a, R: Net + Clock + Log> TcpNetwork<'a, R> {
@@ -41,12 +44,14 @@ impl<'a, R: Net + Clock + Log> TcpNetwork<'a, R> {
         mut listeners: Vec<TcpListener>,
     ) -> Result<TcpNetwork<'a, R>, ServiceFault> {
         let poll = Poll::new(rt)?;
+        let addresses = addresses_of(alloc, listeners.as_slice())?;
         for listener in &mut listeners {
             poll.registry()
                 .register(listener, LISTENER, Interest::READABLE)?;
         }
         Ok(TcpNetwork {
             rt,
+            alloc,
             clock: SystemClock::new(rt),
             began: Instant::now(rt)?,
             asked: Duration::ZERO,
@@ -54,6 +59,7 @@ impl<'a, R: Net + Clock + Log> TcpNetwork<'a, R> {
             events: Events::with_capacity(alloc, EVENTS as usize)?,
             ready: VecDeque::with_capacity(alloc, EVENTS as usize)?,
             listeners,
+            addresses,
         })
     }
 
@@ -135,6 +141,19 @@ impl<R: Net + Clock + Log> Network for TcpNetwork<'_, R> {
         self.listeners.clear();
     }
 
+    fn open_listener(&mut self) -> io::Result<()> {
+        let mut listeners = Vec::with_capacity(self.alloc, self.addresses.len())?;
+        for address in &self.addresses {
+            let mut listener = TcpListener::bind(self.rt, *address)?;
+            self.poll
+                .registry()
+                .register(&mut listener, LISTENER, Interest::READABLE)?;
+            listeners.push(listener)?;
+        }
+        self.listeners = listeners;
+        Ok(())
+    }
+
     fn was_reset(&self, stream: &Socket) -> bool {
         stream.was_reset()
     }
@@ -161,4 +180,13 @@ impl<R: Net + Clock + Log> Network for TcpNetwork<'_, R> {
             Err(_) => 0,
         }
     }
+}
+
+// Where these listen.
+fn addresses_of(alloc: Global, listeners: &[TcpListener]) -> io::Result<Vec<SocketAddr>> {
+    let mut addresses = Vec::with_capacity(alloc, listeners.len())?;
+    for listener in listeners {
+        addresses.push(listener.local_addr()?)?;
+    }
+    Ok(addresses)
 }

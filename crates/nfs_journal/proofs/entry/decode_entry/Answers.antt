@@ -1,7 +1,7 @@
 use Rattle.std.proofs.Common.{◌≡◌, ◌≢◌, ◌++◌, length, rules}
 use Rattle.std.specs.Int.{w32, to_be_bytes}
 use Rattle.nfs_journal.proofs.Decoding.{entry_found, other_checksum}
-use Rattle.nfs_journal.specs.Checksums.{crc32c}
+use Rattle.nfs_checksum.specs.Checksums.{crc32c}
 use Rattle.nfs_server.specs.InMemory.{event_of}
 use Rattle.nfs_journal.proofs.entry.decode_entry.Goals as goal
 

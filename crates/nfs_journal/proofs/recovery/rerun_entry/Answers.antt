@@ -1,5 +1,5 @@
 use Rattle.nfs_server.specs.InMemory.{event_of}
-use Rattle.nfs_journal.proofs.Recovering.{both_ok, fails, fails_silent, of_fault, reruns}
+use Rattle.nfs_journal.proofs.Rerunning.{both_ok, fails, fails_silent, of_fault, reruns}
 use Rattle.nfs_journal.proofs.recovery.rerun_entry.Goals as goal
 
 pub returns-in-Answered-clause-reruns : goal.returns-in-Answered-clause-reruns

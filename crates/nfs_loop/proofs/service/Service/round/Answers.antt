@@ -17,7 +17,7 @@ returns g c =
     let looked = c.turns.ensures.looked ∙ c.release.ensures.looked ∙ c.accept_some.ensures.looked ∙ c.note.ensures.looked in
     let limits = c.turns.ensures.limits ∙ c.release.ensures.limits ∙ c.accept_some.ensures.limits ∙ c.note.ensures.limits in
     record {
-      round = round_of out come g.L.Link.reports _ _ _ _ _ _ _ _ _ _ _ _ _ _ _ _ _ c.note.ensures.notes c.note.ensures.all
+      round = round_of out come g.L.Link.reports _ _ _ _ _ _ _ _ _ _ _ _ _ _ _ _ _ _ c.note.ensures.notes c.note.ensures.all
           (stay_then c.args.self.now.clients.0 c.note.new.self.clients.0 c.accept_some.new.self.clients.0 c.args.self.now.housekeeping.watches c.note.new.self.housekeeping.watches c.accept_some.new.self.housekeeping.watches
           (stay_same c.args.self.now.clients.0 c.note.new.self.clients.0 c.args.self.now.housekeeping.watches c.note.new.self.housekeeping.watches (λ key. ap (λ m. get m key) c.note.ensures.members) c.note.ensures.holds c.note.ensures.heard) c.accept_some.ensures.stay)
           (subst (λ m. AllBegin m (g.N.Network.reported c.note.new.net) (g.N.Network.reported c.accept_some.new.net) c.accept_some.new.self.clients.0 c.accept_some.new.self.housekeeping.watches) c.note.ensures.members c.accept_some.ensures.begin)
@@ -29,7 +29,7 @@ returns g c =
           (subst (λ ws. HeardInTurns come g.L.Link.reports (g.N.Network.reported c.release.new.net) (g.N.Network.reported c.turns.new.net) c.release.new.self.clients.1.0 c.end_silent.new.self.clients.1.0 c.release.new.self.housekeeping.watches ws (seats c.turns.new.self.clients.0)) (sym (c.attend.ensures.watches ∙ c.end_silent.ensures.watches))
           (subst (λ q. HeardInTurns come g.L.Link.reports (g.N.Network.reported c.release.new.net) (g.N.Network.reported c.turns.new.net) c.release.new.self.clients.1.0 q c.release.new.self.housekeeping.watches c.turns.new.self.housekeeping.watches (seats c.turns.new.self.clients.0)) (sym c.end_silent.ensures.queue) c.turns.ensures.heard))
           (goes_then out come _ _ _ _ _ _ (c.end_silent.ensures.goes _) (passed out come _ _ _ _ _ _ _ c.attend.ensures.lines c.attend.ensures.reported))
-          c.attend.ensures.reloads refl
+          c.attend.ensures.reloads refl c.requires.settled c.settle.ensures.goes refl
           (subst (λ ws. WaitAgain come g.L.Link.reports ws (seats c.turns.new.self.clients.0) c.release.new.self.clients.1.0 c.end_silent.new.self.clients.1.0) (sym (c.attend.ensures.watches ∙ c.end_silent.ensures.watches))
           (subst (WaitAgain come g.L.Link.reports c.turns.new.self.housekeeping.watches (seats c.turns.new.self.clients.0) c.release.new.self.clients.1.0) (sym c.end_silent.ensures.queue) c.turns.ensures.again))
           (stay_or_leave _ _ _ _ c.turns.new.self.clients.0 c.end_silent.new.self.clients.0 c.end_silent.ensures.silent.only)
@@ -37,5 +37,6 @@ returns g c =
           (leave_in_round c.turns.new.self.housekeeping.watches _ c.turns.new.self.clients.1.0 c.end_silent.new.self.clients.1.0 c.turns.new.self.housekeeping.limits.idle _ c.turns.new.self.housekeeping.looked c.end_silent.new.self.housekeeping.looked _ _ _ _ _ c.turns.new.self.clients.0 c.end_silent.new.self.clients.0
           (c.attend.ensures.watches ∙ c.end_silent.ensures.watches) c.end_silent.ensures.queue (ap (λ (l : Limits). l.idle) limits) looked c.attend.ensures.looked c.attend.ensures.reported c.end_silent.ensures.silent)
           (ap (λ (l : Limits). l.idle) (c.attend.ensures.limits ∙ c.end_silent.ensures.limits ∙ limits));
+      settled = c.settle.ensures.settled;
       watched = subst (AreWatched c.end_silent.new.self.clients.0) (sym c.attend.ensures.watches) c.end_silent.ensures.watched;
     }

@@ -16,8 +16,8 @@ use Rattle.nfs_server.proofs.server.Server.answer_change.Goals as goal
 pub returns-in-Err-clause-answers : goal.returns-in-Err-clause-answers
 returns-in-Err-clause-answers c =
     let inside = c.self.inside in let event = event_of c.args.event in
-    let old : Held = held inside.kept inside.table inside.tree inside.mounts inside.line in
-    let new : Held = held c.prepare.new.self inside.table inside.tree inside.mounts (Some c.of.result) in
+    let old : Held = held inside.kept inside.table inside.tree inside.mounts inside.line inside.notes in
+    let new : Held = held c.prepare.new.self inside.table inside.tree inside.mounts (Some c.of.result) inside.notes in
     let scene = scene_for old event c.args.cred.now c.args.args.now in
     let answer = reported (after c.args.out.now c.give_up.new.out) (Some c.of.result) in
     let none : cached_reply (c.args.event.addr, c.args.event.bytes.now) old.kept ≡ None = none_found (c.args.event.addr, c.args.event.bytes.now) old.kept (sym c.find.ensures.found ∙ c.if-find.false) in
@@ -28,8 +28,8 @@ returns-in-Err-clause-answers c =
 pub returns-then-wants_memory-clause-answers : goal.returns-then-wants_memory-clause-answers
 returns-then-wants_memory-clause-answers c =
     let inside = c.self.inside in let event = event_of c.args.event in
-    let old : Held = held inside.kept inside.table inside.tree inside.mounts inside.line in
-    let new : Held = held c.release.new.self inside.table c.answer_call.new.tree inside.mounts c.answer_call.new.line in
+    let old : Held = held inside.kept inside.table inside.tree inside.mounts inside.line inside.notes in
+    let new : Held = held c.release.new.self inside.table c.answer_call.new.tree inside.mounts c.answer_call.new.line inside.notes in
     let scene = scene_for old event c.args.cred.now c.args.args.now in
     let answer = reported (after c.args.out.now c.answer_call.new.out) c.answer_call.new.line in
     let none : cached_reply (c.args.event.addr, c.args.event.bytes.now) old.kept ≡ None = none_found (c.args.event.addr, c.args.event.bytes.now) old.kept (sym c.find.ensures.found ∙ c.if-find.false) in
@@ -41,8 +41,8 @@ pub returns-else-wants_memory-clause-answers : goal.returns-else-wants_memory-cl
 returns-else-wants_memory-clause-answers c =
     let inside = c.self.inside in let event = event_of c.args.event in
     let key : Key = (c.args.event.addr, c.args.event.bytes.now) in
-    let old : Held = held inside.kept inside.table inside.tree inside.mounts inside.line in
-    let new : Held = held c.keep.new.self inside.table c.answer_call.new.tree inside.mounts c.answer_call.new.line in
+    let old : Held = held inside.kept inside.table inside.tree inside.mounts inside.line inside.notes in
+    let new : Held = held c.keep.new.self inside.table c.answer_call.new.tree inside.mounts c.answer_call.new.line inside.notes in
     let scene = scene_for old event c.args.cred.now c.args.args.now in
     let reply = after c.args.out.now c.answer_call.new.out in
     let answer = reported reply c.answer_call.new.line in

@@ -1,0 +1,5 @@
+//! CRC-32C, a checksum of bytes.
+#![tactic(auto)]
+
+pub mod checksum;
+pub mod laws;

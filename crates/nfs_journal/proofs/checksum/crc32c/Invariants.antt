@@ -1,6 +1,0 @@
-use Rattle.std.proofs.Common.{◌≡◌, take}
-use Rattle.nfs_journal.specs.Checksums.{after_bytes}
-use Rattle.nfs_journal.proofs.checksum.crc32c.Given as goal
-
-abbrev pub invariant-loop-byte : goal.invariant-loop-byte
-invariant-loop-byte l = l.crc ≡ after_bytes 0xFFFFFFFF (take l.byte-index l.bytes)
