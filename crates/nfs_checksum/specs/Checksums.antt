@@ -1,6 +1,6 @@
 -- CRC-32C, bit by bit (RFC 3720, section 12.1).
 use Rattle.std.specs.List.{range_with_len}
-use Rattle.std.specs.Prelude.{◌≡◌, ℕ, ◌*◌, ◌/◌, ◌%◌, List, [], ◌∷◌, bit_xor, replicate}
+use Rattle.std.specs.Prelude.{◌≡◌, ℕ, zero, suc, ◌*◌, ◌/◌, ◌%◌, List, [], ◌∷◌, bit_xor, replicate}
 
 -- the polynomial, its bits in reverse
 abbrev pub polynomial : ℕ
@@ -14,10 +14,20 @@ after_bit n = bit_xor (n / 2) (n % 2 * polynomial)
 unfoldable pub after_eight : ℕ → ℕ
 after_eight n = after_bit (after_bit (after_bit (after_bit (after_bit (after_bit (after_bit (after_bit n)))))))
 
+-- after so many times eight bits more
+unfoldable pub after_eights : ℕ → ℕ → ℕ
+after_eights zero n = n
+after_eights (suc k) n = after_eight (after_eights k n)
+
 -- after these bytes
 unfoldable pub after_bytes : ℕ → List ℕ → ℕ
 after_bytes n [] = n
 after_bytes n (byte ∷ bytes) = after_bytes (after_eight (bit_xor n byte)) bytes
+
+-- after these blocks of bytes
+unfoldable pub after_blocks : ℕ → List (List ℕ) → ℕ
+after_blocks n [] = n
+after_blocks n (block ∷ blocks) = after_blocks (after_bytes n block) blocks
 
 -- It begins with 32 ones, and all bits are turned over at the end.
 unfoldable pub crc32c : List ℕ → ℕ
