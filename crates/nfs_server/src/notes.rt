@@ -4,7 +4,7 @@ ghost use Rattle.nfs_rpc.specs.Records.{fragment};
 ghost use Rattle.nfs_server.specs.Entries.{entry_text};
 ghost use Rattle.nfs_server.specs.InMemory.{event_of};
 ghost use Rattle.nfs_server.specs.Notes.{to_note, with_entry};
-ghost use Rattle.nfs_xdr.specs.Known.{Grows, GrowsByPart};
+ghost use Rattle.nfs_xdr.specs.Known.{Grows, GrowsByPart, StaysFailed};
 
 use crate::entry::{ENTRY_BYTES, encode_entry};
 use crate::event::Event;
@@ -87,6 +87,7 @@ impl Notes {
         ensures lost { IsErrOf result SettleFault.Lost ↔ (self.old ≡ None) }
         ensures part { OnErr result (GrowsByPart (J.lasting journal.old) (to_note self.old) (J.lasting journal.new)) }
         ensures failed { IsErrOf result SettleFault.JournalFault → J.failed journal.new ≡ true }
+        ensures stays { StaysFailed (J.failed journal.old) (J.lasting journal.old) (J.failed journal.new) (J.lasting journal.new) }
         ensures idle { to_note self.old ≡ [] → journal.new ≡ journal.old }
         ensures err { OnErr result (self.new ≡ self.old) }
     {

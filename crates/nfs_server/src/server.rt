@@ -22,7 +22,7 @@ ghost use Rattle.nfs_server.specs.Retransmissions as retransmissions;
 ghost use Rattle.nfs_server.specs.ReplyRoom.{Adds, HasReplyRoom, after};
 ghost use Rattle.nfs_reply_cache.specs.Places.{Key, Place, place_for};
 ghost use Rattle.nfs_rpc.specs.Records.{fragment};
-ghost use Rattle.nfs_xdr.specs.Known.{Grows, GrowsByPart};
+ghost use Rattle.nfs_xdr.specs.Known.{Grows, GrowsByPart, StaysFailed};
 ghost use Rattle.nfs_xdr.specs.Reading.{numbered};
 ghost use Rattle.nfs_server.specs.Runs.{events_of, RunsThrough};
 
@@ -161,6 +161,7 @@ impl Server {
         ensures lost { IsErrOf result SettleFault.Lost ↔ (self.old.notes ≡ None) }
         ensures part { OnErr result (GrowsByPart (J.lasting journal.old) (to_note self.old.notes) (J.lasting journal.new)) }
         ensures failed { IsErrOf result SettleFault.JournalFault → J.failed journal.new ≡ true }
+        ensures stays { StaysFailed (J.failed journal.old) (J.lasting journal.old) (J.failed journal.new) (J.lasting journal.new) }
         ensures idle { to_note self.old.notes ≡ [] → journal.new ≡ journal.old }
         ensures err { OnErr result (self.new ≡ self.old) }
     {
