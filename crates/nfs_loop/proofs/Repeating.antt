@@ -8,14 +8,14 @@ use Rattle.nfs_loop.specs.declared.watches.Watch.{Watch}
 use Rattle.nfs_loop.specs.Watching.{AllBegin, AllStay, ReleasesBy, SomeMayBeHeld}
 use Rattle.nfs_exports.specs.declared.export_table.Export.{Export}
 use Rattle.nfs_loop.specs.Attending.{MayReload}
-use Rattle.nfs_loop.specs.Journals.{IsSettled, JournalGoes, SettlesBy, settles_of}
+use Rattle.nfs_loop.specs.Journals.{Journal, IsSettled, JournalGoes, SettlesBy, noted_by, settles_of}
 use Rattle.nfs_loop.specs.Reports.{Report, since, Accounts, ComeBy}
 use Rattle.nfs_loop.specs.Stages.{Stage, state, seat_of, seats, turned, AllOthersStay, AsksAll, Goes, HeardInTurns, Notes, Schedule, SilentLeave, WaitAgain, WithoutTurns, MayBeFull, IsRound, most_asked, AreRounds, Rounds, changes_of, reload_of}
 use Rattle.nfs_loop.proofs.Reporting.{accounts_then, come_same, come_then, first_then}
 use Rattle.nfs_loop.proofs.Changing.{both_change, changes_then, turned_then}
 use Rattle.nfs_loop.proofs.Lengthening.{notes_account}
 use Rattle.nfs_loop.proofs.Releasing.{releases_account}
-use Rattle.nfs_loop.proofs.Rounding.{again_where_some_left}
+use Rattle.nfs_loop.proofs.Rounding.{again_where_some_left, settle_after, settles_no_report, settles_no_turn}
 use Rattle.nfs_serving.proofs.Failed.{failed_logs_stay}
 use Rattle.nfs_server.specs.Fits.{Held}
 use Rattle.nfs_serving.specs.Service.{Change, AreChanges}
@@ -95,19 +95,6 @@ module _ {L : Type 0} (outgoing incoming : L → Option (List ℕ)) (reports : L
   reload_after ended new shared (inl same) is = (None, ap state is ∙ ap (λ (s : Held). state (record ended { server = s })) same)
   reload_after ended new shared (inr (exports, to)) is = (Some exports, (state ended, refl, ap state is ∙ ap (λ (s : Held). state (record ended { server = s })) to))
 
-  -- notes come to last, or none do
-  settle_after : (mid new : Stage L) (shared : Bool) (noted : Option (List ℕ)) → SettlesBy noted mid.server new.server → new ≡ record mid { server = new.server } → AreChanges outgoing incoming shared (settles_of noted) (state mid) (state new)
-  settle_after mid new shared None same is = ap state is ∙ ap (λ (s : Held). state (record mid { server = s })) same
-  settle_after mid new shared (Some notes) s is = (state mid, refl, (s.0, ap state is ∙ ap (λ (h : Held). state (record mid { server = h })) s.1))
-
-  settles_no_turn : (noted : Option (List ℕ)) (changes : List Change) → turned (settles_of noted ++ changes) ≡ turned changes
-  settles_no_turn None changes = refl
-  settles_no_turn (Some notes) changes = refl
-
-  settles_no_report : (noted : Option (List ℕ)) (changes : List Change) (a b : Option (List Report)) → ComeBy a changes b → ComeBy a (settles_of noted ++ changes) b
-  settles_no_report None changes a b f = f
-  settles_no_report (Some notes) changes a b f = f
-
   no_turn : (exports : Option (List (List Export))) (changes : List Change) → turned (reload_of exports ++ changes) ≡ turned changes
   no_turn None changes = refl
   no_turn (Some exports) changes = refl
@@ -116,27 +103,27 @@ module _ {L : Type 0} (outgoing incoming : L → Option (List ℕ)) (reports : L
   no_report None changes a b f = f
   no_report (Some exports) changes a b f = f
 
-  pub round_of : (a between before after c d : Option (List Report)) (from to : Schedule) (ready_queue first : List ℕ) (old gathered turned_at ended reloaded new : Stage L) (held left : List Watch)
+  pub round_of : (a between before after c d : Option (List Report)) (journal_turned : Option Journal) (from to : Schedule) (ready_queue first : List ℕ) (old gathered turned_at ended reloaded new : Stage L) (held left : List Watch)
       → Notes old.members from.watches from.queue ready_queue a between → AsksAll most_asked a between → AllStay old.members from.watches gathered.members held → AllBegin old.members between before gathered.members held → ReleasesBy gathered.members from.full before after held left ready_queue first
       → MayBeFull from.full old.written → gathered.written ≡ old.written
       → Goes outgoing incoming (λ changes. WithoutTurns between changes before) old gathered
-      → Goes outgoing incoming (λ changes. (turned changes ≡ first) × Accounts after changes c) gathered turned_at → AllOthersStay first (seats gathered.members) (seats turned_at.members)
+      → Goes outgoing incoming (λ changes. (turned changes ≡ first) × Accounts after changes c × JournalGoes from.journal (noted_by changes) journal_turned) gathered turned_at → AllOthersStay first (seats gathered.members) (seats turned_at.members)
       → HeardInTurns incoming reports after c first to.queue left to.watches (seats turned_at.members)
       → Goes outgoing incoming (λ changes. WithoutTurns c changes d) turned_at ended
       → MayReload ended.server reloaded.server → reloaded ≡ record ended { server = reloaded.server }
-      → IsSettled from.journal old.server → (noted : Option (List ℕ)) × SettlesBy noted reloaded.server new.server × JournalGoes from.journal noted to.journal → new ≡ record reloaded { server = new.server }
+      → IsSettled from.journal old.server → (noted : Option (List ℕ)) × SettlesBy noted reloaded.server new.server × JournalGoes journal_turned noted to.journal → new ≡ record reloaded { server = new.server }
       → WaitAgain incoming reports to.watches (seats turned_at.members) first to.queue → ((key : ℕ) → (get new.members key ≡ get turned_at.members key) ⊎ (get new.members key ≡ None))
       → SomeMayBeHeld first left to.watches → SilentLeave to.watches to.queue from.idle from.looked c d to.looked turned_at.members new.members → to.idle ≡ from.idle
       → (changes : List Change) × IsRound outgoing incoming reports changes a d from to old new
   unfolding after_turns before_turns with_reports
-  round_of a between before after c d from to ready_queue first old gathered turned_at ended reloaded new held left notes asked stay begin releases full_is nothing_written f g others heard h may_reload reloaded_is settled_first settle new_is again some_left some_held silent idle_stays =
+  round_of a between before after c d journal_turned from to ready_queue first old gathered turned_at ended reloaded new held left notes asked stay begin releases full_is nothing_written f g others heard h may_reload reloaded_is settled_first settle new_is again some_left some_held silent idle_stays =
       let joining = with_reports a between before after old gathered (notes_account old.members from.watches from.queue ready_queue a between notes) (releases_account gathered.members from.full before after held left ready_queue first releases) f in
-      let serving = before_turns a after c first old gathered turned_at joining g in
+      let serving = before_turns a after c first old gathered turned_at joining (record { changes = g.changes; are_changes = g.are_changes; shared_stays = g.shared_stays; such = (g.such.0, g.such.1) }) in
       let whole = after_turns a c d first old turned_at ended serving h in
       let reload = reload_after ended reloaded old.written.shared may_reload reloaded_is in
       let with_reload = reload_of reload.0 ++ whole.changes in
       let reload_goes = changes_then outgoing incoming old.written.shared whole.changes (reload_of reload.0) (state old) (state ended) (state reloaded) whole.are_changes reload.1 in
-      let settle_goes = settle_after reloaded new old.written.shared settle.0 settle.1 new_is in
+      let settle_goes = settle_after outgoing incoming reloaded new old.written.shared settle.0 settle.1 new_is in
       let changes = changes_then outgoing incoming old.written.shared with_reload (settles_of settle.0) (state old) (state reloaded) (state new) reload_goes settle_goes in (
         settles_of settle.0 ++ with_reload,
         record {
@@ -169,6 +156,8 @@ module _ {L : Type 0} (outgoing incoming : L → Option (List ℕ)) (reports : L
           turning = g.changes;
           turning_leads = subst (λ s. AreChanges outgoing incoming s g.changes (state gathered) (state turned_at)) f.shared_stays g.are_changes;
           turning_accounts = g.such.1;
+          journal_turned = journal_turned;
+          journal_in_turns = g.such.2;
           others_stay = others;
           some_heard = heard;
           serving = serving.changes;

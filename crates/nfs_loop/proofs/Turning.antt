@@ -1,5 +1,5 @@
 -- What a turn of the first client of a queue brings.
-use Rattle.std.proofs.Common.{◌≡◌, ◌≢◌, ℕ, Bool, true, false, List, [], ◌∷◌, ◌++◌, take, Option, Some, option_map, inl, inr, if◌then◌else◌, nat_eq, refl, sym, ap, subst, ◌∙◌, append-nil}
+use Rattle.std.proofs.Common.{◌≡◌, ◌≢◌, ℕ, Bool, true, false, List, [], ◌∷◌, ◌++◌, take, Option, Some, None, option_map, inl, inr, if◌then◌else◌, nat_eq, refl, sym, ap, subst, ◌∙◌, append-nil}
 use Rattle.std.proofs.lemmas.Bool.{eq-eqb}
 use Rattle.slab.specs.Slab.{Updates}
 use Rattle.nfs_attrs.specs.declared.moment.Moment.{Moment}
@@ -9,6 +9,7 @@ use Rattle.nfs_queue.proofs.Queueing.{not_same}
 use Rattle.nfs_loop.specs.declared.member.Member.{Member}
 use Rattle.nfs_loop.specs.declared.watches.Hold.{Hold}
 use Rattle.nfs_loop.specs.declared.watches.Watch.{Watch}
+use Rattle.nfs_loop.specs.Journals.{noted_by}
 use Rattle.nfs_loop.specs.Reports.{Report, at, IsReported, Accounts}
 use Rattle.nfs_loop.specs.Watching.{hold_at}
 use Rattle.nfs_loop.specs.Stages.{stage, state, seat_of, seats, turned, OthersStay, Sleeps, IsAgain, TurnsFirst, Goes}
@@ -30,14 +31,14 @@ queue_after incoming reports hold key rest queue false seat e sleeps = ([], e �
 -- nobody has a turn where nobody waits
 pub nobody_turns : {L : Type 0} (outgoing incoming : L → Option (List ℕ)) (reports : L → ℕ → Came → L → Type 0) (reported : Option (List Report)) (watches : List Watch) (server : Held) (old new : Waiting (Member L)) (joined : ℕ) (w : Written)
     → old.1.0 ≡ [] → new ≡ old
-    → Goes outgoing incoming (λ changes. TurnsFirst incoming reports watches (seats old.0) (seats new.0) old.1.0 changes new.1.0 × Accounts reported changes reported) (stage server old.0 joined w) (stage server new.0 joined w)
+    → Goes outgoing incoming (λ changes. TurnsFirst incoming reports watches (seats old.0) (seats new.0) old.1.0 changes new.1.0 × Accounts reported changes reported × (noted_by changes ≡ None)) (stage server old.0 joined w) (stage server new.0 joined w)
 nobody_turns {L} outgoing incoming reports reported watches server old new joined w empty same =
-    subst (λ (q : Waiting (Member L)). Goes outgoing incoming (λ changes. TurnsFirst incoming reports watches (seats old.0) (seats q.0) old.1.0 changes q.1.0 × Accounts reported changes reported) (stage server old.0 joined w) (stage server q.0 joined w)) (sym same)
+    subst (λ (q : Waiting (Member L)). Goes outgoing incoming (λ changes. TurnsFirst incoming reports watches (seats old.0) (seats q.0) old.1.0 changes q.1.0 × Accounts reported changes reported × (noted_by changes ≡ None)) (stage server old.0 joined w) (stage server q.0 joined w)) (sym same)
     (record {
       changes = [];
       are_changes = refl;
       shared_stays = refl;
-      such = (subst (λ (queue : List ℕ). TurnsFirst incoming reports watches (seats old.0) (seats old.0) queue [] queue) (sym empty) (refl, refl), accounts_none reported);
+      such = (subst (λ (queue : List ℕ). TurnsFirst incoming reports watches (seats old.0) (seats old.0) queue [] queue) (sym empty) (refl, refl), accounts_none reported, refl);
     })
 
 -- a member as it comes back from its turn
@@ -58,7 +59,7 @@ module _ {L : Type 0} (outgoing incoming : L → Option (List ℕ)) (reports : L
   -- it comes back
   pub comes_back : (watches : List Watch) (new : Waiting (Member L)) (waits : Bool) → Updates mid.0 new.0 key (Some (with_client member now)) → new.1.0 ≡ with_key waits key mid.1.0
       → (waits ≡ false → Sleeps incoming reports (hold_at watches key) (Some (seat_of (with_client member now))))
-      → Goes outgoing incoming (λ changes. TurnsFirst incoming reports watches (seats old.0) (seats new.0) old.1.0 changes new.1.0 × Accounts reported changes reported_now) (stage server old.0 joined w) (stage served new.0 joined v)
+      → Goes outgoing incoming (λ changes. TurnsFirst incoming reports watches (seats old.0) (seats new.0) old.1.0 changes new.1.0 × Accounts reported changes reported_now × (noted_by changes ≡ None)) (stage server old.0 joined w) (stage served new.0 joined v)
   comes_back watches new waits back queue sleeps = record {
     changes = turns key moment turn.0 ∷ [];
     are_changes = (
@@ -84,6 +85,7 @@ module _ {L : Type 0} (outgoing incoming : L → Option (List ℕ)) (reports : L
       first_turns watches (seats new.0) (turns key moment turn.0 ∷ []) new.1.0 refl (λ other differ. ap (option_map seat_of) (back.others other differ ∙ c.away.others other differ))
           (queue_after incoming reports (hold_at watches key) key mid.1.0 new.1.0 waits (seats new.0 key) queue (λ e. subst (Sleeps incoming reports (hold_at watches key)) (sym (ap (option_map seat_of) back.changed)) (sleeps e))),
       turn_reported,
+      refl,
     );
   }
 
@@ -101,7 +103,7 @@ module _ {L : Type 0} (outgoing incoming : L → Option (List ℕ)) (reports : L
   elsewhere other differ = ap (λ (t : Bool). if t then Some (record { number = member.number; client = now }) else seats old.0 other) (not_same other key (nat_eq other key) refl differ)
 
   pub goes_away : (watches : List Watch) (u : Written) (last : Option (List Report)) → Accounts reported_now [] last → (by : End) × LeavesBy now by × Reported (end_text member.number now.calls by) v u
-      → Goes outgoing incoming (λ changes. TurnsFirst incoming reports watches (seats old.0) (seats mid.0) old.1.0 changes mid.1.0 × Accounts reported changes last) (stage server old.0 joined w) (stage served mid.0 joined u)
+      → Goes outgoing incoming (λ changes. TurnsFirst incoming reports watches (seats old.0) (seats mid.0) old.1.0 changes mid.1.0 × Accounts reported changes last × (noted_by changes ≡ None)) (stage server old.0 joined w) (stage served mid.0 joined u)
   goes_away watches u last rest (by, ended, written_line) = record {
     changes = leaves key member.number now.calls by ∷ turns key moment turn.0 ∷ [];
     are_changes = (
@@ -146,5 +148,6 @@ module _ {L : Type 0} (outgoing incoming : L → Option (List ℕ)) (reports : L
       first_turns watches (seats mid.0) (leaves key member.number now.calls by ∷ turns key moment turn.0 ∷ []) mid.1.0 refl (λ other differ. ap (option_map seat_of) (c.away.others other differ))
           ([], sym (append-nil mid.1.0), inr (refl, subst (Sleeps incoming reports (hold_at watches key)) (sym (ap (option_map seat_of) c.away.changed)) tt)),
       accounts_then reported reported_now last (leaves key member.number now.calls by ∷ turns key moment turn.0 ∷ []) [] turn_reported rest,
+      refl,
     );
   }

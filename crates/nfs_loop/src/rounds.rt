@@ -1,20 +1,23 @@
 //! Whose turn it is.
-ghost use Rattle.std.specs.Prelude.{◌≡◌, ◌↔◌, ℕ, false, is_some};
+ghost use Rattle.std.specs.Prelude.{◌≡◌, ◌↔◌, ℕ, List, Option, None, false, true, is_some};
 ghost use Rattle.slab.specs.Slab.{get};
 ghost use Rattle.nfs_lines.specs.Queued.{is_full};
 ghost use Rattle.nfs_lines.specs.Written.{written};
+ghost use Rattle.nfs_loop.specs.Journals.{JournalGoes, SettlesBy, journal_of, noted_by};
 ghost use Rattle.nfs_loop.specs.Stages.{AllOthersStay, AsksAll, Goes, HeardInTurns, Notes, TurnsFirst, WaitAgain, first_of, most_asked, noted, seats, stage, turned};
 ghost use Rattle.nfs_loop.specs.Reports.{Accounts};
 ghost use Rattle.nfs_loop.specs.Watching.{AreWatched, FirstMayBeHeld, ReleasesBy, ReleasesOne, SomeMayBeHeld, heard_at, hold_at};
 
 use crate::housekeeping::Waiting;
 use crate::network::{EVENTS, Network, Ready};
-use crate::service::Service;
+use crate::service::{Service, settle};
 use crate::watches::{Hold, is_over};
 use log::Log;
 use nfs_lines::line_out::LineOut;
 use nfs_lines::lines::Lines;
 use nfs_server::audit_out::AuditOut;
+use nfs_server::journal_out::JournalOut;
+use nfs_server::notes::MOST_NOTED;
 use nfs_server::server::Server;
 use nfs_serving::turn::Turn;
 use nfs_xdr::link::Link;
@@ -118,17 +121,20 @@ impl<L: Link + Drop> Service<L> {
     }
 
     /// Gives each client that waits a turn, in the order in which they wait. Each waits again then, sleeps or
-    /// is gone.
-    pub(crate) fn turns<R: Log, N: Network<Stream = L>, A: LineOut, C: LineOut>(
+    /// is gone. Where much was noted, it comes to last in the journal before the next turn, so that none is lost for want
+    /// of room; where that fails, it does so again at the end of the round.
+    pub(crate) fn turns<R: Log, N: Network<Stream = L>, A: LineOut, C: LineOut, J: JournalOut>(
         &mut self,
         rt: &R,
         server: &mut Server,
         net: &mut N,
         lines: &mut Lines<'_, A, C>,
+        journal: &mut Option<J>,
     )
         requires watched { AreWatched self.old.clients.0 self.old.housekeeping.watches }
         ensures goes { Goes L.outgoing L.incoming
-            (λ changes. (turned changes ≡ self.old.clients.1.0) × Accounts (N.reported net.old) changes (N.reported net.new))
+            (λ changes. (turned changes ≡ self.old.clients.1.0) × Accounts (N.reported net.old) changes (N.reported net.new)
+            × JournalGoes (journal_of J.lasting J.failed journal.old) (noted_by changes) (journal_of J.lasting J.failed journal.new))
             (stage server.old self.old.clients.0 self.old.joined (written A.taken C.taken lines.old))
             (stage server.new self.new.clients.0 self.new.joined (written A.taken C.taken lines.new)) }
         ensures holds { SomeMayBeHeld self.old.clients.1.0 self.old.housekeeping.watches self.new.housekeeping.watches }
@@ -144,23 +150,25 @@ impl<L: Link + Drop> Service<L> {
         let mut left = self.clients.waiting();
         while left > 0 {
             left -= 1;
-            self.turn(rt, server, net, lines);
+            settle_where_much(server, journal);
+            self.turn(rt, server, net, lines, journal);
         }
     }
 
     // Gives the one that has waited longest its turn. It waits for another one where more may have come, or its replies were
-    // held.
-    fn turn<R: Log, N: Network<Stream = L>, A: LineOut, C: LineOut>(
+    // held, which they are where there is a journal.
+    fn turn<R: Log, N: Network<Stream = L>, A: LineOut, C: LineOut, J: JournalOut>(
         &mut self,
         rt: &R,
         server: &mut Server,
         net: &mut N,
         lines: &mut Lines<'_, A, C>,
+        journal: &Option<J>,
     )
         requires watched { AreWatched self.old.clients.0 self.old.housekeeping.watches }
         ensures goes { Goes L.outgoing L.incoming
             (λ changes. TurnsFirst L.incoming L.reports self.new.housekeeping.watches (seats self.old.clients.0) (seats self.new.clients.0)
-            self.old.clients.1.0 changes self.new.clients.1.0 × Accounts (N.reported net.old) changes (N.reported net.new))
+            self.old.clients.1.0 changes self.new.clients.1.0 × Accounts (N.reported net.old) changes (N.reported net.new) × (noted_by changes ≡ None))
             (stage server.old self.old.clients.0 self.old.joined (written A.taken C.taken lines.old))
             (stage server.new self.new.clients.0 self.new.joined (written A.taken C.taken lines.new)) }
         ensures holds { FirstMayBeHeld self.old.clients.1.0 self.old.housekeeping.watches self.new.housekeeping.watches }
@@ -175,7 +183,7 @@ impl<L: Link + Drop> Service<L> {
         };
         let millis = net.millis();
         let moment = net.now();
-        let holds = keeps_notes(server);
+        let holds = holds_replies(server, journal);
         let turn = member
             .client
             .turn(server, &mut self.room, moment, &mut lines.denied, holds);
@@ -203,11 +211,31 @@ impl<L: Link + Drop> Service<L> {
     }
 }
 
-// Whether a server keeps notes, so that replies are held until these last.
-fn keeps_notes(server: &Server) -> bool
-    ensures { result ≡ is_some server.now.notes }
+// Whether replies are held until what was noted lasts: where there is a journal, or the server keeps notes.
+fn holds_replies<J>(server: &Server, journal: &Option<J>) -> bool
+    ensures noted { is_some server.now.notes ≡ true → result ≡ true }
+    ensures journal { is_some journal.now ≡ true → result ≡ true }
 {
-    server.notes().is_some()
+    server.notes().is_some() || journal.is_some()
+}
+
+// Makes what the server noted last where it is so much that one more turn might leave it no room.
+fn settle_where_much<J: JournalOut>(server: &mut Server, journal: &mut Option<J>)
+    ensures { (noted : Option (List ℕ)) × SettlesBy noted server.old server.new
+        × JournalGoes (journal_of J.lasting J.failed journal.old) noted (journal_of J.lasting J.failed journal.new) }
+{
+    if !has_much(server) {
+        return;
+    }
+    let _ = settle(server, journal);
+}
+
+// Whether the server noted more than half of what it has room for; a turn brings less than that.
+fn has_much(server: &Server) -> bool {
+    match server.notes() {
+        Some(notes) => notes.len() > MOST_NOTED / 2,
+        None => false,
+    }
 }
 
 // Whether something was heard of a client that had this turn.

@@ -176,7 +176,7 @@ impl<L: Link + Drop> Service<L> {
         self.note(net);
         self.accept_some(rt, net);
         self.release(net, lines);
-        self.turns(rt, server, net, lines);
+        self.turns(rt, server, net, lines, journal);
         self.end_silent(rt, net, lines);
         let figures = figures_of(journal);
         self.housekeeping
@@ -238,8 +238,11 @@ fn figures_of<J: JournalOut>(journal: &Option<J>) -> Option<JournalFigures> {
     }
 }
 
-// Makes what the server noted last in the journal, if there is one.
-fn settle<J: JournalOut>(server: &mut Server, journal: &mut Option<J>) -> Result<(), SettleFault>
+/// Makes what the server noted last in the journal, if there is one. The faults of `Server::settle`.
+pub(crate) fn settle<J: JournalOut>(
+    server: &mut Server,
+    journal: &mut Option<J>,
+) -> Result<(), SettleFault>
     ensures goes { (noted : Option (List ℕ)) × SettlesBy noted server.old server.new
         × JournalGoes (journal_of J.lasting J.failed journal.old) noted (journal_of J.lasting J.failed journal.new) }
     ensures settled { OnOk result (IsSettled (journal_of J.lasting J.failed journal.new) server.new) }

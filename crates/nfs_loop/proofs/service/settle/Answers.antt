@@ -8,4 +8,4 @@ returns-in-Some-clause-goes g c =
     let lasting = g.J.JournalOut.lasting in let failed = g.J.JournalOut.failed in
     let old = c.args.server.now in let new = c.settle.new.self in let after = c.settle.new.journal in
     subst (λ o. (noted : Option (List ℕ)) × SettlesBy noted old new × JournalGoes (journal_of lasting failed o) noted (Some (record { lasting = lasting after; failed = failed after }))) (sym c.in-Some.is)
-    (settle_goes lasting failed old new c.in-Some.journal after c.settle.result c.settle.ensures.ok c.settle.ensures.grows c.settle.ensures.lost c.settle.ensures.failed c.settle.ensures.idle c.settle.ensures.err)
+    (settle_goes lasting failed old new c.in-Some.journal after c.settle.result c.settle.ensures.ok c.settle.ensures.grows c.settle.ensures.lost c.settle.ensures.failed c.settle.ensures.idle c.settle.ensures.err c.settle.ensures.stays)

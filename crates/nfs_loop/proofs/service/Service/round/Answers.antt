@@ -17,7 +17,7 @@ returns g c =
     let looked = c.turns.ensures.looked ∙ c.release.ensures.looked ∙ c.accept_some.ensures.looked ∙ c.note.ensures.looked in
     let limits = c.turns.ensures.limits ∙ c.release.ensures.limits ∙ c.accept_some.ensures.limits ∙ c.note.ensures.limits in
     record {
-      round = round_of out come g.L.Link.reports _ _ _ _ _ _ _ _ _ _ _ _ _ _ _ _ _ _ c.note.ensures.notes c.note.ensures.all
+      round = round_of out come g.L.Link.reports _ _ _ _ _ _ _ _ _ _ _ _ _ _ _ _ _ _ _ c.note.ensures.notes c.note.ensures.all
           (stay_then c.args.self.now.clients.0 c.note.new.self.clients.0 c.accept_some.new.self.clients.0 c.args.self.now.housekeeping.watches c.note.new.self.housekeeping.watches c.accept_some.new.self.housekeeping.watches
           (stay_same c.args.self.now.clients.0 c.note.new.self.clients.0 c.args.self.now.housekeeping.watches c.note.new.self.housekeeping.watches (λ key. ap (λ m. get m key) c.note.ensures.members) c.note.ensures.holds c.note.ensures.heard) c.accept_some.ensures.stay)
           (subst (λ m. AllBegin m (g.N.Network.reported c.note.new.net) (g.N.Network.reported c.accept_some.new.net) c.accept_some.new.self.clients.0 c.accept_some.new.self.housekeeping.watches) c.note.ensures.members c.accept_some.ensures.begin)
