@@ -14,18 +14,6 @@ printf 'server 0102030405060708\nvolume /a 1000000 1000 0777 0 0\nexport * rw,no
 # journaled WORDS..: starts a server of that tree with the journal.
 journaled() { serving "$work/tree" --journal "$journal" "$@"; }
 
-# plays LINE..: plays a script of these lines against the server.
-plays() {
-    printf '%s\n' "$@" >"$work/script"
-    run replay "$work/script" --port "$port" --decode
-}
-
-# statuses LINE..: whether the last run printed replies of these procedures and statuses, and nothing on standard error.
-statuses() {
-    printf '  %s\n' "$@" >"$work/wanted"
-    grep '^  [A-Z]' "$work/out" | same "$work/wanted" - && ended 0 && quiet
-}
-
 # reply N: the Nth reply of the last run.
 reply() { sed -n 's/^reply //p' "$work/out" | sed -n "$1p"; }
 
@@ -235,7 +223,7 @@ is_refused 'another server has this journal; stop it, or name another journal' &
 ok $? "a second server with the journal is refused, and the first goes on"
 for word in cut check; do
     run journal "$word" "$journal"
-    ended 3 && grep -qF "nfs3d: $journal: another server has this journal" "$work/err" || break
+    { ended 3 && grep -qF "nfs3d: $journal: another server has this journal" "$work/err"; } || break
 done
 [ "$word" = check ] && ended 3
 ok $? "a journal that a server has is not cut, and not looked at"
@@ -497,7 +485,7 @@ ok $? "a first record with another name"
 for text in short "$(printf '%0100d' 7)"; do
     echo "$text" >"$file"
     starts "$work/tree" "$file"
-    is_refused "$no_journal" && run journal check "$file" && ended 3 && grep -qxF "nfs3d: $file: $no_journal" "$work/err" && cmp -s "$file" "$work/before" || break
+    { is_refused "$no_journal" && run journal check "$file" && ended 3 && grep -qxF "nfs3d: $file: $no_journal" "$work/err" && cmp -s "$file" "$work/before"; } || break
 done
 [ "$text" != short ] && ended 3 && grep -qxF "nfs3d: $file: $no_journal" "$work/err"
 ok $? "a file that is no journal is refused, and not touched"
@@ -660,14 +648,14 @@ ok $? "without the last entry the tree is what it was before"
 for n in 1 2 3 4 5 6 7 8 9; do
     # shellcheck disable=SC2046
     of_records $(seq 10 | grep -vx "$n")
-    compacted none && is_other_reply || break
+    { compacted none && is_other_reply; } || break
 done
 [ "$n" = 9 ] && is_other_reply && [ ! -e "$work/none" ]
 ok $? "an entry that is left out is found by the next reply that tells of it"
 for n in 1 2 3 4 5 6 7 8 9 10; do
     # shellcheck disable=SC2046
     of_records $(seq 10 | sed "${n}p")
-    compacted doubled && ended 0 && same "$work/all" "$work/doubled" || break
+    { compacted doubled && ended 0 && same "$work/all" "$work/doubled"; } || break
 done
 [ "$n" = 10 ] && ended 0
 ok $? "an entry that stands twice is a retransmission, and changes nothing"
@@ -678,7 +666,7 @@ for n in 1 2 3 4 5 6 7 8 9; do
     of_records $(seq 10 | sed "${n}{h;d};$((n + 1))G")
     compacted exchanged
     case $n in
-    3) ended 0 && same "$work/all" "$work/exchanged" || break ;;
+    3) { ended 0 && same "$work/all" "$work/exchanged"; } || break ;;
     *) is_other_reply || break ;;
     esac
 done

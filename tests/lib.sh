@@ -190,3 +190,15 @@ crash() {
     wait "$server" 2>/dev/null
     server=
 }
+
+# plays LINE..: plays a script of these lines against the server, and prints the replies with what they say.
+plays() {
+    printf '%s\n' "$@" >"$work/script"
+    run replay "$work/script" --port "$port" --decode
+}
+
+# statuses LINE..: whether the last run printed replies of these procedures and statuses, and nothing on standard error.
+statuses() {
+    printf '  %s\n' "$@" >"$work/wanted"
+    grep '^  [A-Z]' "$work/out" | same "$work/wanted" - && ended 0 && quiet
+}

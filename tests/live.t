@@ -5,18 +5,6 @@
 
 sed 's|10\.0\.0\.0/24|127.0.0.0/8|' examples/e.tree >"$work/tree"
 
-# plays LINE..: plays a script of these lines against the server.
-plays() {
-    printf '%s\n' "$@" >"$work/script"
-    run replay "$work/script" --port "$port" --decode
-}
-
-# statuses LINE..: whether the last run printed replies of these procedures and statuses, and nothing on standard error.
-statuses() {
-    printf '  %s\n' "$@" >"$work/wanted"
-    grep '^  [A-Z]' "$work/out" | same "$work/wanted" - && ended 0 && quiet
-}
-
 # reply N: the Nth reply of the last run.
 reply() { grep '^reply ' "$work/out" | sed -n "$1p"; }
 
