@@ -738,4 +738,28 @@ done <"$work/listed" >"$work/got" 3>"$work/expected"
 same "$work/expected" "$work/got" && [ -s "$work/got" ]
 ok $? "replay --journal of a journal that is cut near the ends of its blocks"
 
+# ---- more calls at once than one block takes
+
+# A turn brings one WRITE of 64 KiB, or some nine hundred small calls: those of all clients make more than 4 MiB of entries.
+compiles floods tests/journal/floods.c
+{ printf 'server 0102030405060708\nvolume /a 1000000000 100000 0777 0 0\nexport * rw,no_root_squash\n' && seq 100 | sed 's|.*|file /f& 0666 0 0 -|'; } >"$work/files"
+{ head -n 3 "$work/files" && seq 24 | sed 's|.*|dir /d& 0777 0 0|'; } >"$work/dirs"
+# floods TREE MADE FOUND CLIENTS CALLS: whether all these calls are answered, and the server goes on; it is killed, and the next one
+# has what they made, from a journal with an entry for each of them.
+floods() {
+    journal=$work/flooded
+    rm -f "$journal"
+    serving "$1" --journal "$journal"
+    "$work/floods" "$port" "$2" "$4" "$5" "$(server_process)" 2>"$work/err" && "$work/floods" "$port" "$3" "$4" "$5" 2>"$work/err" || return
+    crash
+    [ "$(entries "$journal")" = $(($4 * $5)) ] && list "$journal" | awk '$1 == "block" { split($5, bytes, "="); large += bytes[2] > 20 + 4194304 } END { exit large > 0 }' || return
+    serving "$1" --journal "$journal"
+    warned "nfs3d: $journal: $(($4 * $5)) entries run again" && "$work/floods" "$port" "$3" "$4" "$5" 2>"$work/err"
+}
+floods "$work/files" write written 100 2
+ok $? "100 clients that each write 128 KiB at once: all are answered, and what they wrote lasts"
+floods "$work/dirs" create created 24 1000
+ok $? "24 clients that each create 1,000 files without waiting for a reply"
+stop
+
 plan
