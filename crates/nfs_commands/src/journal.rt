@@ -47,13 +47,14 @@ pub(crate) fn open_journal<'r, R: Files<File = File> + Clock + Eprint>(
         Some(head) => go_on(rt, alloc, &mut file, head, life, &text, cache)?,
         None => begin(rt, alloc, &mut file, life, &text, cache)?,
     };
+    file.put_description(rt, &text)?;
     let syncing = match sync {
         JournalSync::Round => Syncing::Each,
         JournalSync::Never => Syncing::Never,
     };
     Ok(Journaled {
         server,
-        journal: file.into_journal(rt, syncing),
+        journal: file.into_journal(rt, syncing)?,
     })
 }
 

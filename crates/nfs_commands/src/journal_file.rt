@@ -1,10 +1,12 @@
 //! The file of a journal.
-ghost use Rattle.std.specs.Prelude.{◌≤◌, IfOk, length};
+ghost use Rattle.std.specs.Prelude.{◌≤◌, ◌+◌, IfOk, length};
+ghost use Rattle.nfs_journal.specs.Blocks.{most_bytes};
 
+use crate::life_text::LifeText;
 use crate::saved_file::{cannot_write, sync_directory};
 use nfs_journal::block::{
-    BLOCK_HEADER_BYTES, BlockHeader, BlockKind, MOST_BLOCK_BYTES, decode_exports, decode_header,
-    encode_exports, encode_header,
+    BLOCK_HEADER_BYTES, BlockHeader, BlockKind, decode_header, decode_lines, encode_header,
+    encode_lines,
 };
 use nfs_journal::broken_entry::BrokenEntry;
 use nfs_journal::file_journal::{FileJournal, Syncing};
@@ -19,6 +21,9 @@ use std::alloc::{AllocError, Global};
 use std::fs::{File, OpenFile, OpenOptions, TryLockError};
 use std::io::{self, ErrorKind, Read, Write};
 use std::rt::Files;
+
+// The number of the block that has the description: it stands after the exports with which a journal begins.
+const DESCRIPTION_NUMBER: u64 = 2;
 
 // How much is read at once.
 const CHUNK_BYTES: usize = 65_536;
@@ -244,10 +249,11 @@ impl<'a> JournalFile<'a> {
         entries: &mut E,
     ) -> Result<Option<BrokenEntry>, Fault> {
         let is_whole = match kind {
-            BlockKind::Exports => match decode_exports(bytes) {
+            BlockKind::Exports => match decode_lines(bytes) {
                 Some(text) => entries.take_exports(text)?,
                 None => false,
             },
+            BlockKind::Description => decode_lines(bytes).is_some(),
             BlockKind::Entries => {
                 let start = entries.end();
                 if let Err(broken) = entries.take(bytes) {
@@ -300,7 +306,7 @@ impl<'a> JournalFile<'a> {
         let Some(header) = decode_header(&header) else {
             return self.after_bytes(&header);
         };
-        if header.number != self.next || header.len as usize > MOST_BLOCK_BYTES {
+        if header.number != self.next || !is_allowed(header) {
             return Ok(Next::Damaged);
         }
         bytes.resize(header.len as usize, 0).map_err(Fault::Memory)?;
@@ -375,19 +381,41 @@ impl<'a> JournalFile<'a> {
     /// Appends a block that puts the exports in force that these first lines of a description have, once it is on disk.
     /// `CannotWrite` where the system refuses that, `Journal` where they are too long for a block, `Memory`.
     pub(crate) fn put_exports<R: Files>(&mut self, rt: &R, text: &[u8]) -> Result<(), Fault> {
-        let most = MOST_BLOCK_BYTES - CHECKSUM_BYTES;
+        let most = BlockKind::Exports.most_bytes() - CHECKSUM_BYTES;
         if text.len() > most {
             return Err(self.fault(JournalFault::LongExports { most }));
         }
-        let len = text.len() + CHECKSUM_BYTES;
+        self.put_lines(rt, BlockKind::Exports, text)
+    }
+
+    /// Appends a block with the description, if it has at most `MOST_DESCRIPTION_BYTES` bytes and the journal nothing but
+    /// the exports with which it began. `CannotWrite` where the system refuses that, `Memory`.
+    pub(crate) fn put_description<R: Files>(
+        &mut self,
+        rt: &R,
+        text: &LifeText,
+    ) -> Result<(), Fault> {
+        match text.description() {
+            Some(lines) if self.next == DESCRIPTION_NUMBER => {
+                self.put_lines(rt, BlockKind::Description, lines)
+            }
+            _ => Ok(()),
+        }
+    }
+
+    // Appends a block with lines of a description.
+    fn put_lines<R: Files>(&mut self, rt: &R, kind: BlockKind, lines: &[u8]) -> Result<(), Fault>
+        requires { length lines.now + CHECKSUM_BYTES ≤ most_bytes kind }
+    {
+        let len = lines.len() + CHECKSUM_BYTES;
         let mut out = Output::new(self.alloc, BLOCK_HEADER_BYTES + len)?;
         let header = BlockHeader {
-            kind: BlockKind::Exports,
+            kind,
             number: self.next,
             len: len as u32,
         };
         encode_header(&mut out, header);
-        encode_exports(&mut out, text);
+        encode_lines(&mut out, lines);
         match self.write(rt, out.bytes()) {
             Ok(()) => {
                 self.pass(len, self.entries);
@@ -395,6 +423,25 @@ impl<'a> JournalFile<'a> {
             }
             Err(error) => Err(self.cannot_write(error)),
         }
+    }
+
+    /// The description without its exports that the journal began with, before any block was read; `None` where it has
+    /// none. `CannotRead`, `Memory`.
+    pub(crate) fn description(&mut self) -> Result<Option<Vec<u8>>, Fault> {
+        let mut bytes = Vec::new(self.alloc);
+        if self.next_block(&mut bytes)? != Next::Block(BlockKind::Exports) {
+            return Ok(None);
+        }
+        self.pass(bytes.len(), 0);
+        if self.next_block(&mut bytes)? != Next::Block(BlockKind::Description) {
+            return Ok(None);
+        }
+        let Some(lines) = decode_lines(bytes.as_slice()) else {
+            return Ok(None);
+        };
+        let len = lines.len();
+        bytes.truncate(len);
+        Ok(Some(bytes))
     }
 
     // Appends bytes, and has them on disk, with the name of the file.
@@ -417,7 +464,12 @@ impl<'a> JournalFile<'a> {
     }
 
     /// The journal itself, still locked, to which blocks are appended from now on.
-    pub(crate) fn into_journal<R>(self, rt: &R, syncing: Syncing) -> FileJournal<'_, R, File> {
+    /// `Memory`.
+    pub(crate) fn into_journal<R>(
+        self,
+        rt: &R,
+        syncing: Syncing,
+    ) -> Result<FileJournal<'_, R, File>, AllocError> {
         let JournalFile {
             alloc,
             file,
@@ -461,8 +513,15 @@ impl<'a> JournalFile<'a> {
 fn is_whole(alloc: Global, kind: BlockKind, bytes: &[u8]) -> Result<bool, Fault> {
     match kind {
         BlockKind::Entries => are_entries(alloc, bytes),
-        BlockKind::Exports => Ok(decode_exports(bytes).is_some()),
+        BlockKind::Exports | BlockKind::Description => Ok(decode_lines(bytes).is_some()),
     }
+}
+
+// Whether a block with this header may stand where its number says, and be so long.
+fn is_allowed(header: BlockHeader) -> bool {
+    let BlockHeader { kind, number, len } = header;
+    let is_placed = kind != BlockKind::Description || number == DESCRIPTION_NUMBER;
+    is_placed && len as usize <= kind.most_bytes()
 }
 
 // Whether these are entries, and nothing else. `Memory`.

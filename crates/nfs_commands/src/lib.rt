@@ -6,6 +6,7 @@ mod beginning;
 pub mod check;
 pub mod copies;
 pub mod describing;
+mod difference;
 pub mod digested;
 pub mod exports;
 mod exposure;

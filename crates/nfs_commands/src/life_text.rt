@@ -1,15 +1,21 @@
-//! What a journal has of the description with which a life begins: a digest of it without its exports, and the first lines
-//! with these.
+//! What a journal has of the description with which a life begins: a digest of it without its exports, these lines where they
+//! are few, and the first lines with the exports.
 ghost use Rattle.std.specs.Prelude.{⊤};
 
+use crate::difference::Difference;
 use crate::digested::DescriptionDigest;
 use nfs_describe::description::describe;
 use nfs_describe::fault::DescribeFault;
 use nfs_describe::output::Output;
+use nfs_journal::block::MOST_DESCRIPTION_BYTES;
 use nfs_load::loaded::Loaded;
 use nfs_source::fault::Fault;
 use nfs_source::output::fault_of;
 use std::alloc::{AllocError, Global};
+
+// How many bytes of a description are kept: all of one that a journal has, and of a longer one enough to tell it from each
+// of those, and to show its next line.
+const MOST_KEPT: usize = MOST_DESCRIPTION_BYTES + 256;
 
 /// What a journal has of a description.
 #[derive(Drop)]
@@ -18,6 +24,8 @@ pub(crate) struct LifeText {
     pub(crate) digest: [u8; 32],
     /// Its lines without those of files, as a description of empty volumes with the same exports.
     pub(crate) heads: Vec<u8>,
+    // The front of the description without its exports.
+    lines: Vec<u8>,
 }
 
 impl LifeText {
@@ -36,6 +44,19 @@ impl LifeText {
             Err(DescribeFault::Write(error)) => Err(fault_of(error)),
             Err(DescribeFault::Memory) => Err(Fault::Memory(AllocError)),
         }
+    }
+
+    /// The description without its exports, where it is short enough for a journal.
+    pub(crate) fn description(&self) -> Option<&[u8]> {
+        if self.lines.len() > MOST_DESCRIPTION_BYTES {
+            return None;
+        }
+        Some(self.lines.as_slice())
+    }
+
+    /// Where it differs from the description without its exports that a journal has; `None` where it doesn't.
+    pub(crate) fn difference_from<'a>(&'a self, theirs: &'a [u8]) -> Option<Difference<'a>> {
+        Difference::of(theirs, self.lines.as_slice())
     }
 }
 
@@ -57,6 +78,7 @@ enum LineOf {
 struct LifeOutput {
     digest: DescriptionDigest,
     heads: Vec<u8>,
+    lines: Vec<u8>,
     // What the line is of that has not ended.
     line: LineOf,
     // Whether the line of a volume was written.
@@ -68,16 +90,23 @@ impl LifeOutput {
         LifeOutput {
             digest: DescriptionDigest::new(),
             heads: Vec::new(alloc),
+            lines: Vec::new(alloc),
             line: LineOf::Unknown,
             has_volume: false,
         }
     }
 
     fn finish(self) -> LifeText {
-        let LifeOutput { digest, heads, .. } = self;
+        let LifeOutput {
+            digest,
+            heads,
+            lines,
+            ..
+        } = self;
         LifeText {
             digest: digest.finish(),
             heads,
+            lines,
         }
     }
 
@@ -104,6 +133,7 @@ impl LifeOutput {
         }
         if self.line != LineOf::Export {
             self.digest.take(part);
+            self.keep(part)?;
         }
         if self.line != LineOf::File {
             self.heads.extend_from_slice(part)?;
@@ -112,6 +142,13 @@ impl LifeOutput {
             self.line = LineOf::Unknown;
         }
         Ok(())
+    }
+
+    // Keeps a part of a line that is no export, as far as there is room for it.
+    fn keep(&mut self, part: &[u8]) -> Result<(), AllocError> {
+        let room = MOST_KEPT.saturating_sub(self.lines.len());
+        self.lines
+            .extend_from_slice(part.get(..room).unwrap_or(part))
     }
 }
 

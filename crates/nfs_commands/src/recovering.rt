@@ -42,11 +42,9 @@ pub(crate) fn recover<R: Eprint + Clock>(
     text: &LifeText,
 ) -> Result<Recovered, Fault> {
     let Life { loaded, key } = life;
-    if head.key != key {
-        return Err(file.fault(JournalFault::OtherKey));
-    }
-    if head.digest != text.digest {
-        return Err(file.fault(JournalFault::OtherDescription));
+    if let Some(fault) = fault_of_life(head, key, text) {
+        let fault = with_lines(alloc, file, fault, text)?;
+        return Err(file.fault(fault));
     }
     let cache = (head.cache as usize).clamp(1, 1024);
     let mut server = open_server(alloc, loaded, key, head.next, cache)?;
@@ -57,6 +55,37 @@ pub(crate) fn recover<R: Eprint + Clock>(
         exports,
         unfinished: file.len()?.saturating_sub(file.end()),
     })
+}
+
+// Why a journal with this head is not that of a life with this key and text; `None` where it is.
+fn fault_of_life(head: Head, key: [u8; 8], text: &LifeText) -> Option<JournalFault> {
+    if head.key != key {
+        Some(JournalFault::OtherKey)
+    } else if head.digest != text.digest {
+        Some(JournalFault::OtherDescription)
+    } else {
+        None
+    }
+}
+
+// That fault, with the first line that differs where the journal has the description that it began with.
+fn with_lines(
+    alloc: Global,
+    file: &mut JournalFile<'_>,
+    fault: JournalFault,
+    text: &LifeText,
+) -> Result<JournalFault, Fault> {
+    let Some(theirs) = file.description()? else {
+        return Ok(fault);
+    };
+    match (text.difference_from(theirs.as_slice()), fault) {
+        (Some(difference), _) => Ok(JournalFault::OtherLine {
+            theirs: difference.theirs(alloc)?,
+            ours: difference.ours(alloc)?,
+        }),
+        (None, JournalFault::OtherKey) => Ok(JournalFault::OtherOrder),
+        (None, fault) => Ok(fault),
+    }
 }
 
 // Runs all entries again. How many there are, and the lines of the exports that the journal has last.

@@ -4,12 +4,19 @@ use Rattle.std.specs.Int.{w32, w64, to_be_bytes}
 use Rattle.nfs_server.specs.Entries.{checked}
 use Rattle.nfs_journal.specs.declared.block.BlockHeader.{BlockHeader}
 use Rattle.nfs_journal.specs.declared.block.BlockKind.{BlockKind}
-use Rattle.nfs_journal.specs.declared.block.BlockKind.TheVariants.{Entries, Exports}
+use Rattle.nfs_journal.specs.declared.block.BlockKind.TheVariants.{Entries, Exports, Description}
 
 -- by which number it is known what a block has
 abbrev pub kind_number : BlockKind → ℕ
 kind_number Entries = 1
 kind_number Exports = 2
+kind_number Description = 3
+
+-- how many bytes it has at most, without its header
+abbrev pub most_bytes : BlockKind → ℕ
+most_bytes Entries = 4194304
+most_bytes Exports = 4194304
+most_bytes Description = 1048580
 
 -- what it has, its number, and how many bytes
 abbrev pub fields_text : BlockHeader → List ℕ

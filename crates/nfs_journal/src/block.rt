@@ -1,16 +1,20 @@
 //! The blocks of a journal: what was appended at once, after a header that tells whether it is whole.
-ghost use Rattle.std.specs.Prelude.{◌≡◌, ◌≢◌, ◌+◌, ◌^◌, ◌<◌, ◌≤◌, ◌↔◌, ◌++◌, List, ℕ, length, IfSome, IsNone, IsTrue};
+ghost use Rattle.std.specs.Prelude.{◌≡◌, ◌≢◌, ◌+◌, ◌≤◌, ◌++◌, List, ℕ, length, IfSome, IsNone};
 ghost use Rattle.std.specs.Int.{w32, w64, to_be_bytes};
-ghost use Rattle.nfs_journal.specs.Blocks.{IsHeader, IsNoHeader, fields_text, header_text, kind_number};
+ghost use Rattle.nfs_journal.specs.Blocks.{IsHeader, IsNoHeader, fields_text, header_text, kind_number, most_bytes};
 ghost use Rattle.nfs_server.specs.Entries.{checked};
 ghost use Rattle.nfs_xdr.specs.Written.{Appends};
 
+use crate::fields::{are_same, long_number_of, number_of};
 use nfs_checksum::checksum::crc32c;
 use nfs_server::entry::CHECKSUM_BYTES;
 use nfs_xdr::output::Output;
 
 /// The most bytes of a block, without its header.
 pub const MOST_BLOCK_BYTES: usize = 4 << 20;
+
+/// The most bytes of a description that a journal has, without their checksum.
+pub const MOST_DESCRIPTION_BYTES: usize = 1 << 20;
 
 /// How many bytes the header of a block has.
 pub const BLOCK_HEADER_BYTES: usize = FIELDS_BYTES + CHECKSUM_BYTES;
@@ -23,6 +27,8 @@ const ENTRIES: u32 = 1;
 
 const EXPORTS: u32 = 2;
 
+const DESCRIPTION: u32 = 3;
+
 /// What a block has.
 #[derive(Clone, Copy, Debug, PartialEq, Eq)]
 pub enum BlockKind {
@@ -30,6 +36,8 @@ pub enum BlockKind {
     Entries,
     /// The first lines of a description, whose exports are in force from there on.
     Exports,
+    /// The description that the journal began with, without its exports.
+    Description,
 }
 
 /// The header of a block.
@@ -109,6 +117,7 @@ impl BlockKind {
         match self {
             BlockKind::Entries => ENTRIES,
             BlockKind::Exports => EXPORTS,
+            BlockKind::Description => DESCRIPTION,
         }
     }
 
@@ -120,56 +129,43 @@ impl BlockKind {
         match number {
             ENTRIES => Some(BlockKind::Entries),
             EXPORTS => Some(BlockKind::Exports),
+            DESCRIPTION => Some(BlockKind::Description),
             _ => None,
+        }
+    }
+
+    /// The most bytes of such a block, without its header.
+    pub fn most_bytes(self) -> usize
+        ensures { result ≡ most_bytes self }
+    {
+        match self {
+            BlockKind::Entries | BlockKind::Exports => MOST_BLOCK_BYTES,
+            BlockKind::Description => MOST_DESCRIPTION_BYTES + CHECKSUM_BYTES,
         }
     }
 }
 
-/// Writes what a block has that puts exports in force: the first lines of their description, and the checksum of these.
-pub fn encode_exports(out: &mut Output, text: &[u8])
-    requires { length text.now + CHECKSUM_BYTES ≤ out.old.room }
-    ensures { Appends (checked text.now) out.old out.new }
+/// Writes what a block has that has lines of a description: these, and their checksum.
+pub fn encode_lines(out: &mut Output, lines: &[u8])
+    requires { length lines.now + CHECKSUM_BYTES ≤ out.old.room }
+    ensures { Appends (checked lines.now) out.old out.new }
 {
-    out.part(text);
-    out.u32(crc32c(text));
+    out.part(lines);
+    out.u32(crc32c(lines));
 }
 
 /// Reads these lines. None exactly where the checksum is not theirs.
-pub fn decode_exports(bytes: &[u8]) -> Option<&[u8]>
-    ensures found { IfSome result (λ text. checked text.now ≡ bytes.entry.now) }
-    ensures none { IsNone result → (text : List ℕ) → checked text ≢ bytes.entry.now }
+pub fn decode_lines(bytes: &[u8]) -> Option<&[u8]>
+    ensures found { IfSome result (λ lines. checked lines.now ≡ bytes.entry.now) }
+    ensures none { IsNone result → (lines : List ℕ) → checked lines ≢ bytes.entry.now }
 {
     if bytes.len() < CHECKSUM_BYTES {
         return None;
     }
-    let (text, checksum) = bytes.split_at(bytes.len() - CHECKSUM_BYTES);
-    if are_same(checksum, &crc32c(text).to_be_bytes()) {
-        Some(text)
+    let (lines, checksum) = bytes.split_at(bytes.len() - CHECKSUM_BYTES);
+    if are_same(checksum, &crc32c(lines).to_be_bytes()) {
+        Some(lines)
     } else {
         None
     }
-}
-
-// Whether these are the same bytes.
-fn are_same(a: &[u8], b: &[u8]) -> bool
-    ensures { IsTrue result ↔ (a.now ≡ b.now) }
-{
-    a == b
-}
-
-// The number that these bytes encode.
-fn number_of(bytes: &[u8]) -> u32
-    requires { length bytes.now ≡ 4 }
-    ensures { to_be_bytes w32 result ≡ bytes.now }
-{
-    u32::from_be_bytes([bytes[0], bytes[1], bytes[2], bytes[3]])
-}
-
-// The same of twice as many.
-fn long_number_of(bytes: &[u8]) -> u64
-    requires { length bytes.now ≡ 8 }
-    ensures { to_be_bytes w64 result ≡ bytes.now }
-{
-    let b = bytes;
-    u64::from_be_bytes([b[0], b[1], b[2], b[3], b[4], b[5], b[6], b[7]])
 }

@@ -1,15 +1,18 @@
 //! A journal that is kept in a file.
-ghost use Rattle.std.specs.Prelude.{◌≡◌, ◌+◌, ◌-◌, ◌^◌, None, false, is_some, length, min, OnOk};
+ghost use Rattle.std.specs.Prelude.{◌≡◌, ◌+◌, ◌-◌, ◌^◌, ◌≤◌, None, false, is_some, length, min, IfOk, OnOk};
 
 use crate::block::{BLOCK_HEADER_BYTES, BlockHeader, BlockKind, MOST_BLOCK_BYTES, encode_header};
 use nfs_server::journal_out::{JournalFigures, JournalOut};
 use nfs_xdr::device::DeviceFault;
 use nfs_xdr::output::Output;
-use std::alloc::Global;
+use std::alloc::{AllocError, Global};
 use std::fs::OpenFile;
 use std::io::{self, ErrorKind, Write};
 use std::marker::Model;
 use std::time::{Clock, Instant};
+
+// How many bytes of a block are copied, with its header, to be written at once.
+const BUFFER_BYTES: usize = BLOCK_HEADER_BYTES + 65_536;
 
 /// When what was appended is synced, so that it outlives not only the process, but also the machine.
 #[derive(Clone, Copy, Debug, PartialEq, Eq)]
@@ -25,8 +28,9 @@ pub enum Syncing {
 #[derive(Drop)]
 pub struct FileJournal<'a, R, F> {
     rt: &'a R,
-    alloc: Global,
     file: F,
+    // The front of the block that is written.
+    buffer: Output,
     syncing: Syncing,
     has_failed: bool,
     error: Option<io::Error>,
@@ -39,15 +43,18 @@ pub struct FileJournal<'a, R, F> {
 
 impl<'a, R, F> Model for FileJournal<'a, R, F> {
     ghost use Rattle.std.specs.Prelude.{is_some};
-    ghost use Rattle.nfs_journal.specs.OnFile.{OnFile};
+    ghost use Rattle.nfs_journal.specs.OnFile.{OnFile, IsBuffer};
 
     ghost Value = { OnFile };
 
     ghost view = { λ it. record { failed = it.has_failed; has_error = is_some it.error; len = it.len; syncs = it.syncs } };
+
+    ghost invariant = { λ it. IsBuffer it.buffer };
 }
 
-impl<'a, R, F> FileJournal<'a, R, F> {
-    /// A journal of so many bytes in this file, which stands at its end, and whose next block has this number.
+impl<'a, R, F: Drop> FileJournal<'a, R, F> {
+    /// A journal of so many bytes in this file, which stands at its end, and whose next block has this number. Refused
+    /// where there is no memory for its buffer.
     pub fn new(
         rt: &'a R,
         alloc: Global,
@@ -55,13 +62,14 @@ impl<'a, R, F> FileJournal<'a, R, F> {
         syncing: Syncing,
         len: u64,
         next: u64,
-    ) -> FileJournal<'a, R, F>
-        ensures { result ≡ record { failed = false; has_error = false; len = len; syncs = 0 } }
+    ) -> Result<FileJournal<'a, R, F>, AllocError>
+        ensures { IfOk result (λ it. it ≡ record { failed = false; has_error = false; len = len; syncs = 0 }) }
     {
-        FileJournal {
+        let buffer = Output::new(alloc, BUFFER_BYTES)?;
+        Ok(FileJournal {
             rt,
-            alloc,
             file,
+            buffer,
             syncing,
             has_failed: false,
             error: None,
@@ -69,9 +77,11 @@ impl<'a, R, F> FileJournal<'a, R, F> {
             next,
             syncs: 0,
             sync_micros: 0,
-        }
+        })
     }
+}
 
+impl<R, F> FileJournal<'_, R, F> {
     /// What the system said at the fault, once.
     pub fn take_error(&mut self) -> Option<io::Error>
         ensures error { is_some result ≡ self.old.has_error }
@@ -90,13 +100,7 @@ impl<R: Clock, F: Write + OpenFile> FileJournal<'_, R, F> {
         if bytes.len() > MOST_BLOCK_BYTES {
             return Err(io::Error::from(ErrorKind::InvalidInput));
         }
-        let header = BlockHeader {
-            kind: BlockKind::Entries,
-            number: self.next,
-            len: bytes.len() as u32,
-        };
-        self.write_header(header)?;
-        self.file.write_all(bytes)?;
+        self.write_block(bytes)?;
         let len = (BLOCK_HEADER_BYTES + bytes.len()) as u64;
         self.len = self.len.saturating_add(len);
         self.next = self.next.saturating_add(1);
@@ -106,15 +110,22 @@ impl<R: Clock, F: Write + OpenFile> FileJournal<'_, R, F> {
         }
     }
 
-    // Writes the header of a block.
-    fn write_header(&mut self, header: BlockHeader) -> io::Result<()>
-        ensures failed { self.new ≡ self.old }
+    // Writes a block of entries: as much of it as the buffer has room for at once, and then the rest.
+    fn write_block(&mut self, bytes: &[u8]) -> io::Result<()>
+        requires { length bytes.now ≤ MOST_BLOCK_BYTES }
+        ensures { self.new ≡ self.old }
     {
-        let Ok(mut out) = Output::new(self.alloc, BLOCK_HEADER_BYTES) else {
-            return Err(io::Error::from(ErrorKind::OutOfMemory));
+        self.buffer.clear();
+        let header = BlockHeader {
+            kind: BlockKind::Entries,
+            number: self.next,
+            len: bytes.len() as u32,
         };
-        encode_header(&mut out, header);
-        self.file.write_all(out.bytes())
+        encode_header(&mut self.buffer, header);
+        let (front, rest) = bytes.split_at(bytes.len().min(self.buffer.room()));
+        self.buffer.part(front);
+        self.file.write_all(self.buffer.bytes())?;
+        self.file.write_all(rest)
     }
 
     fn sync(&mut self) -> io::Result<()>

@@ -1,13 +1,14 @@
 //! The head of a journal: which server it is of.
 ghost use Rattle.std.specs.Prelude.{◌≡◌, ◌+◌, ◌≤◌, ◌↔◌, true, Err, length, IfOk, OnErr, IsTrue};
-ghost use Rattle.std.specs.Int.{w32, w64, to_be_bytes};
 ghost use Rattle.nfs_checksum.specs.Checksums.{crc32c as checksum_of};
 ghost use Rattle.nfs_rpc.specs.Records.{fragment};
 ghost use Rattle.nfs_journal.specs.Heads.{DecodesHead, IsBegun, IsHead, IsNoHead, fields_text, head_content, head_text};
 ghost use Rattle.nfs_xdr.specs.Written.{Appends};
 
+use crate::fields::{are_same, array_of, long_number_of, number_of};
 use nfs_checksum::checksum::crc32c;
 use nfs_rpc::record::{HEADER_BYTES, frame_record};
+use nfs_server::entry::CHECKSUM_BYTES;
 use nfs_xdr::output::Output;
 
 /// Which server a journal is of, and what it began with.
@@ -19,7 +20,7 @@ pub struct Head {
     pub next: u64,
     /// How many replies it caches.
     pub cache: u32,
-    /// The SHA-256 of its description with its exports.
+    /// The SHA-256 of its description without the first line and the exports.
     pub digest: [u8; 32],
 }
 
@@ -39,8 +40,6 @@ pub enum HeadFault {
 
 /// How many bytes a head has, with its record mark.
 pub const HEAD_BYTES: usize = HEADER_BYTES + CONTENT_BYTES + CHECKSUM_BYTES;
-
-const CHECKSUM_BYTES: usize = 4;
 
 // The title, the version and the fields.
 const CONTENT_BYTES: usize = 70;
@@ -131,13 +130,6 @@ fn fault_of(bytes: &[u8]) -> HeadFault
     }
 }
 
-// Whether these are the same bytes.
-fn are_same(a: &[u8], b: &[u8]) -> bool
-    ensures { IsTrue result ↔ (a.now ≡ b.now) }
-{
-    a == b
-}
-
 // Reads the fields of a head after its title and version.
 fn decode_fields(fields: &[u8]) -> Head
     requires { length fields.now ≡ 52 }
@@ -153,31 +145,4 @@ fn decode_fields(fields: &[u8]) -> Head
         cache: number_of(cache),
         digest: array_of(digest),
     }
-}
-
-// The number that these bytes encode.
-fn number_of(bytes: &[u8]) -> u32
-    requires { length bytes.now ≡ 4 }
-    ensures { to_be_bytes w32 result ≡ bytes.now }
-{
-    u32::from_be_bytes([bytes[0], bytes[1], bytes[2], bytes[3]])
-}
-
-// The same of twice as many.
-fn long_number_of(bytes: &[u8]) -> u64
-    requires { length bytes.now ≡ 8 }
-    ensures { to_be_bytes w64 result ≡ bytes.now }
-{
-    let b = bytes;
-    u64::from_be_bytes([b[0], b[1], b[2], b[3], b[4], b[5], b[6], b[7]])
-}
-
-// The same bytes.
-fn array_of<const N: usize>(bytes: &[u8]) -> [u8; N]
-    requires { length bytes.now ≡ N }
-    ensures { result ≡ bytes.now }
-{
-    let mut array = [0; N];
-    array.copy_from_slice(bytes);
-    array
 }

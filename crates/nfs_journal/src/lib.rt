@@ -5,6 +5,7 @@
 pub mod block;
 pub mod broken_entry;
 pub mod entry;
+mod fields;
 pub mod file_journal;
 pub mod head;
 pub mod laws;

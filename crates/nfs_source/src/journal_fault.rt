@@ -1,9 +1,10 @@
 //! Why a server doesn't go on from a journal.
 
+use std::fmt;
 use thiserror::Error;
 
 /// Why a server doesn't go on from a journal.
-#[derive(Clone, Copy, Debug, PartialEq, Eq, Error)]
+#[derive(Debug, Drop, Error)]
 pub enum JournalFault {
     /// Another server has locked it.
     #[error("another server has this journal; stop it, or name another journal")]
@@ -20,6 +21,17 @@ pub enum JournalFault {
     /// It was begun with a description of another key or other paths.
     #[error("the journal belongs to another description, of another key or with other paths; serve that one, or name a new journal")]
     OtherKey,
+    /// It was begun with a description of which a line is another one.
+    #[error("the journal belongs to another description, which has {theirs} where this one has {ours}; serve that one, or name a new journal")]
+    OtherLine {
+        /// The first line of that one that differs.
+        theirs: ShownLine,
+        /// What this one has in its place.
+        ours: ShownLine,
+    },
+    /// It was begun with a description of the same files, in another order or with another name of a file first.
+    #[error("the journal belongs to another description, with the same files in another order or with another name first; serve that one, or name a new journal")]
+    OtherOrder,
     /// It was begun with a description of the same paths that says something else of its files.
     #[error("the journal belongs to another description, with other contents, attributes or limits; serve that one, or name a new journal")]
     OtherDescription,
@@ -48,4 +60,22 @@ pub enum JournalFault {
     /// What was answered was not all noted, for want of room.
     #[error("what was answered could not all be noted")]
     Lost,
+}
+
+/// A line of a description, as a message shows it.
+#[derive(Debug, Drop)]
+pub enum ShownLine {
+    /// The line; of a long one, parts.
+    Line(String),
+    /// The description has ended before.
+    End,
+}
+
+impl fmt::Display for ShownLine {
+    fn fmt<W: fmt::Write>(&self, f: &mut fmt::Formatter<W>) -> fmt::Result {
+        match self {
+            ShownLine::Line(line) => write!(f, "'{line}'"),
+            ShownLine::End => f.write_str("no more lines"),
+        }
+    }
 }
