@@ -69,23 +69,30 @@ warned() { grep -qxF "$1" "$work/served.err"; }
 
 # ---- what is noted
 
-# A new journal has its first record, and a block with the lines of the description but for those of files.
+# A new journal has its first record, a block with the lines of the description but for those of files, and one with the lines
+# but for the exports.
 grep -v '^file ' "$work/tree" >"$work/heads"
-new=$((78 + 20 + $(size "$work/heads") + 4))
+grep -v '^export ' "$work/tree" >"$work/described"
+exported=$((78 + 20 + $(size "$work/heads") + 4))
+new=$((exported + 20 + $(size "$work/described") + 4))
 # Calls whose number is below 0x1000 are not to be noted.
 began=$(date +%s%6N)
 journaled
 listening=$(date +%s%6N)
 [ "$(stat -c %a "$journal")" = "$(printf '%o' $((0666 & ~0$(umask))))" ] && [ "$(size "$journal")" = "$new" ]
-ok $? "a new journal has its first record and the exports, and the mode of a new file"
+ok $? "a new journal has its first record, the exports and the description, and the mode of a new file"
 list "$journal" >"$work/listed"
 next=$(sed -n 's/^head .* next=\([0-9]*\) .*/\1/p' "$work/listed")
 # The description is as it would be saved; its digest leaves out the key in its first line, and the exports.
 digest=$(grep -v '^export ' "$work/tree" | tail -c +24 | sha256sum | cut -c 1-64)
 grep -qx "head offset=0 bytes=78 version=1 key=$NFS3D_KEY next=$next cache=128 digest=$digest" "$work/listed" && [ "$next" -ge "$began" ] && [ "$next" -le "$listening" ]
 ok $? "the first record: version, key, next number, reply cache and digest"
-grep -qx "exports text=$(od -An -v -tx1 "$work/heads" | tr -d ' \n')" "$work/listed" && [ "$(grep -c '^block ' "$work/listed")" = 1 ]
+# hex FILE: its bytes as hexadecimal digits.
+hex() { od -An -v -tx1 "$1" | tr -d ' \n'; }
+grep -qx "exports text=$(hex "$work/heads")" "$work/listed" && grep -q '^block 1 kind=2 ' "$work/listed"
 ok $? "the exports"
+grep -qx "description text=$(hex "$work/described")" "$work/listed" && grep -q '^block 2 kind=3 ' "$work/listed" && [ "$(grep -c '^block ' "$work/listed")" = 2 ]
+ok $? "and the description, as it is digested but for its first line"
 {
     mounting 4097 1 "$(opaque /a)"
     mounting 17 2
@@ -137,7 +144,7 @@ threes=$(list "$journal" | sed -n '$s/^entry \([0-9]*\) .*/\1/p')
 [ "$threes" = 20 ] && list "$journal" | grep '^block ' | tail -n 1 | grep -q ' entries=3$' && [ ! -s "$work/wrong" ]
 ok $? "calls that come at once are noted in one block"
 plays "$(sent 4355 8 "$(handle 1) $(opaque last) 00000000 $settings")"
-# Its block 1 has the exports, block 19 three entries, and the other blocks one.
+# Its blocks 1 and 2 have the exports and the description, block 20 three entries, and the other blocks one.
 cp "$journal" "$work/three"
 
 # ---- killed, and started again
@@ -263,29 +270,128 @@ starts "$work/tree" "$journal" --journal-sync sometimes
 ended 2 && grep -q 'sometimes' "$work/err"
 ok $? "--journal-sync takes round and never"
 
+# says_other THEIRS OURS: whether the last start was refused, since the journal's description has these words where this one
+# has those.
+says_other() { is_refused "the journal belongs to another description, which has $1 where this one has $2; serve that one, or name a new journal"; }
 sed 's/68656c6c6f/68656c6c70/' "$work/tree" >"$work/other.tree"
 starts "$work/other.tree" "$journal"
-is_refused_by 'the journal belongs to another description'
+says_other "'file /f 0644 0 0 68656c6c6f'" "'file /f 0644 0 0 68656c6c70'"
 ok $? "the journal of a description with other contents"
+sed 's/^file .f 0644/file   \/f   600/' "$work/tree" >"$work/other.tree"
+starts "$work/other.tree" "$journal"
+says_other "'file /f 0644 0 0 68656c6c6f'" "'file /f 0600 0 0 68656c6c6f'"
+ok $? "of one with other attributes, of which the canonical line is shown"
 sed 's|^volume /a 1000000 1000 0777 0 0|volume /a 1000000 999 0777 0 0|' "$work/tree" >"$work/other.tree"
 starts "$work/other.tree" "$journal"
-is_refused_by 'the journal belongs to another description'
+says_other "'volume /a 1000000 1000 0777 0 0'" "'volume /a 1000000 999 0777 0 0'"
 ok $? "of one with other limits"
 sed 's/^server 0102/server 0103/' "$work/tree" >"$work/other.tree"
 starts "$work/other.tree" "$journal"
-is_refused_by 'the journal belongs to another description' && grep -q 'key' "$work/err"
+says_other "'server 0102030405060708'" "'server 0103030405060708'"
 ok $? "of one with another key"
+sed '/^volume .b/,$d' "$work/tree" >"$work/other.tree"
+starts "$work/other.tree" "$journal"
+says_other "'volume /b 5000 4 0755 0 0'" 'no more lines'
+ok $? "of one with a volume more"
 { cat "$work/tree" && echo 'dir /more 0755 0 0'; } >"$work/other.tree"
 starts "$work/other.tree" "$journal"
-is_refused_by 'the journal belongs to another description'
-ok $? "of one with another path"
+says_other 'no more lines' "'dir /more 0755 0 0'"
+ok $? "of one without a path"
 run replay "$work/other.tree" --journal "$journal"
-ended 3 && [ ! -s "$work/out" ] && grep -qF "nfs3d: $journal: the journal belongs to another description" "$work/err"
+ended 3 && [ ! -s "$work/out" ] && grep -qF "nfs3d: $journal: the journal belongs to another description, which has no more lines where this one has 'dir /more 0755 0 0'; " "$work/err"
 ok $? "replay --journal compares the description too"
+run journal compact "$work/other.tree" "$journal" "$work/compacted"
+ended 3 && [ ! -e "$work/compacted" ] && grep -qF "nfs3d: $journal: the journal belongs to another description, which has no more lines where this one has 'dir /more 0755 0 0'; " "$work/err"
+ok $? "and so does journal compact"
 { echo '# another comment' && cat "$work/tree"; } >"$work/other.tree"
 serving "$work/other.tree" --journal "$journal"
 state again && stop
 ok $? "comments make no other description"
+
+# Long lines, and long descriptions. zeros N: so many of the digit 0.
+zeros() { printf "%0$1d" 0; }
+# of_lines LINE..: a description of these lines after those of its server and its volume.
+of_lines() { printf '%s\n' 'server 0102030405060708' 'volume /a 2000000 1000 0777 0 0' 'export * rw' "$@"; }
+# journal_of TREE: a new journal $file of this description.
+journal_of() {
+    file=$work/other.journal
+    rm -f "$file"
+    serving "$1" --journal "$file"
+    stop
+}
+of_lines 'dir /d 0755 0 0' "file /f 0644 0 0 $(zeros 500)" >"$work/long.tree"
+journal_of "$work/long.tree"
+of_lines 'dir /d 0755 0 0' "file /f 0644 0 0 11$(zeros 498)" >"$work/other.tree"
+starts "$work/other.tree" "$file"
+# The line has 17 bytes before its content.
+says_other "'file /f 0644 0 0 $(zeros 83)..'" "'file /f 0644 0 0 11$(zeros 81)..'"
+ok $? "of long lines the first 100 bytes are shown"
+of_lines 'dir /d 0755 0 0' "file /f 0644 0 0 $(zeros 400)11$(zeros 98)" >"$work/other.tree"
+starts "$work/other.tree" "$file"
+says_other "'file /f 0644 0 0 $(zeros 23)..$(zeros 60)..'" "'file /f 0644 0 0 $(zeros 23)..$(zeros 20)11$(zeros 38)..'"
+ok $? "or 40, and 60 where they differ"
+of_lines 'dir /d 0755 0 0' "file /f 0644 0 0 $(zeros 490)" >"$work/other.tree"
+starts "$work/other.tree" "$file"
+says_other "'file /f 0644 0 0 $(zeros 23)..$(zeros 30)'" "'file /f 0644 0 0 $(zeros 23)..$(zeros 20)'"
+ok $? "up to the end of a line"
+of_lines "file /f 0644 0 0 $(zeros 500)" 'dir /d 0755 0 0' >"$work/other.tree"
+starts "$work/other.tree" "$file"
+is_refused 'the journal belongs to another description, with the same files in another order or with another name first; serve that one, or name a new journal'
+ok $? "lines in another order give files other numbers, and so make another description"
+of_lines 'dir /d 0755 0 0' "file /f 0644 0 0 $(zeros 500)" "file /g 0644 0 0 $(zeros 1048576)" >"$work/other.tree"
+starts "$work/other.tree" "$file"
+says_other 'no more lines' "'file /g 0644 0 0 $(zeros 83)..'"
+ok $? "a description of more than 1 MiB, where the journal has a shorter one"
+# A description of 1,048,576 bytes without its exports, and one of a byte more.
+rest=$((1048576 - $(of_lines 'file /f 0644 0 0 ' | grep -v '^export ' | wc -c)))
+[ $((rest % 2)) = 0 ] && name=f || name=ff
+of_lines "file /$name 0644 0 0 $(zeros $((rest / 2 * 2)))" >"$work/most.tree"
+of_lines "file /x$name 0644 0 0 $(zeros $((rest / 2 * 2)))" >"$work/more.tree"
+journal_of "$work/most.tree"
+list "$file" >"$work/listed"
+[ "$(grep -v '^export ' "$work/most.tree" | wc -c)" = 1048576 ] && grep -qx "description text=$(grep -v '^export ' "$work/most.tree" | od -An -v -tx1 | tr -d ' \n')" "$work/listed"
+ok $? "a journal has a description of 1 MiB"
+starts "$work/more.tree" "$file"
+says_other "'file /$name 0644 0 0 $(zeros $((100 - 16 - ${#name})))..'" "'file /x$name 0644 0 0 $(zeros $((100 - 17 - ${#name})))..'"
+ok $? "and says where it differs"
+journal_of "$work/more.tree"
+[ "$(list "$file" | sed 's/ .*//' | tr '\n' ' ')" = 'head block exports ' ] && starts "$work/most.tree" "$file"
+is_refused 'the journal belongs to another description, of another key or with other paths; serve that one, or name a new journal'
+ok $? "but no longer one, so that a start says only that another one differs"
+sed 's/^file .xf* 0644/file \/x'"$name"' 0600/' "$work/more.tree" >"$work/other.tree"
+starts "$work/other.tree" "$file"
+is_refused 'the journal belongs to another description, with other contents, attributes or limits; serve that one, or name a new journal'
+ok $? "in its paths, or in the rest"
+
+# A journal of a server that noted no description.
+head -c "$exported" "$journal" >"$work/old"
+number=1
+list "$journal" | sed -n 's/^block .* offset=\([0-9]*\) bytes=\([0-9]*\) entries=[1-9][0-9]*$/\1 \2/p' >"$work/listed"
+while read -r at len; do
+    number=$((number + 1))
+    tail -c +$((at + 21)) "$journal" | head -c $((len - 20)) | "$work/entries" block "$number"
+done <"$work/listed" >>"$work/old"
+before=$(size "$work/old")
+serving "$work/tree" --journal "$work/old"
+warned "nfs3d: $work/old: $(entries "$journal") entries run again" && state again && same "$work/second" "$work/again"
+ok $? "a journal without the description is run again"
+plays 'ask 10.0.0.1 0 0:0 mkdir /a/since'
+statuses 'MKDIR: NFS3_OK' && list "$work/old" | grep -q "^block $((number + 1)) kind=1 offset=$before " && ! list "$work/old" | grep -q '^description '
+ok $? "and goes on without it"
+stop
+sed 's/68656c6c6f/68656c6c70/' "$work/tree" >"$work/other.tree"
+starts "$work/other.tree" "$work/old"
+is_refused 'the journal belongs to another description, with other contents, attributes or limits; serve that one, or name a new journal'
+ok $? "but can't say what differs"
+file=$work/misplaced
+{ head -c "$exported" "$journal" && "$work/entries" text 2 2 <"$work/heads" && "$work/entries" text 3 3 <"$work/described"; } >"$file"
+starts "$work/tree" "$file"
+is_refused_by "entry 1 at offset $((exported + 20 + $(size "$work/heads") + 4)) is damaged: "
+ok $? "a description that stands elsewhere is damage"
+{ head -c "$exported" "$journal" && zeros 1048577 | "$work/entries" text 3 2; } >"$file"
+starts "$work/tree" "$file"
+is_refused_by "entry 1 at offset $exported is damaged: "
+ok $? "and so is one of more than 1 MiB"
 
 # Other exports, and then those before.
 sed 's/^export \* ro$/export * rw,no_root_squash/' "$work/tree" >"$work/other.tree"
@@ -360,8 +466,8 @@ ok $? "and a block that ends with zeros in the place of its entries"
 { cat "$whole" && head -c 5000 /dev/zero; } >"$file"
 torn "$(entries "$whole")" 5000
 ok $? "and zeros alone"
-head -c $(($(place offset 'block 20' "$work/three") - 1)) "$work/three" >"$file"
-torn 17 $(($(place bytes 'block 19' "$work/three") - 1))
+head -c $(($(place offset 'block 21' "$work/three") - 1)) "$work/three" >"$file"
+torn 17 $(($(place bytes 'block 20' "$work/three") - 1))
 ok $? "and a block of three entries as a whole"
 head -c $((at + 30)) "$whole" >"$file"
 journal=$file
@@ -376,13 +482,13 @@ ok $? "and the journal goes on from there"
 crash
 journal=$work/journal
 good=0
-for len in 0 1 40 77 78 90 $((new - 1)) "$new"; do
+for len in 0 1 40 77 78 90 $((exported - 1)) "$exported" $((exported + 1)) $((exported + 19)) $((exported + 30)) $((new - 1)) "$new"; do
     head -c "$len" "$journal" >"$work/short"
     serving "$work/tree" --journal "$work/short"
-    [ "$(size "$work/short")" = "$new" ] && list "$work/short" | grep -q '^head ' && list "$work/short" | grep -q '^exports ' && good=$((good + 1))
+    [ "$(size "$work/short")" = "$new" ] && [ "$(list "$work/short" | sed 's/ .*//' | tr '\n' ' ')" = 'head block exports block description ' ] && good=$((good + 1))
 done
-[ "$good" = 8 ]
-ok $? "a file with the beginning of a first record or of the exports, or nothing, is begun anew"
+[ "$good" = 13 ]
+ok $? "a file with the beginning of a first record, of the exports or of the description, or nothing, is begun anew"
 stop
 
 # ---- damage
@@ -423,6 +529,14 @@ cp "$whole" "$file" && spoil "$file" 110
 starts "$work/tree" "$file"
 is_refused_by "entry 1 at offset 78 is damaged: "
 ok $? "or the exports"
+good=0
+for where in $((exported + 3)) $((exported + 15)) $((exported + 19)) $((exported + 20)) $((new - 5)) $((new - 1)); do
+    cp "$whole" "$file" && spoil "$file" "$where"
+    starts "$work/tree" "$file"
+    is_refused_by "entry 1 at offset $exported is damaged: " && good=$((good + 1))
+done
+[ "$good" = 6 ]
+ok $? "or the description"
 cp "$work/three" "$file" && spoil "$file" $(($(place offset 'entry 19' "$work/three") + 30))
 starts "$work/tree" "$file"
 is_refused_by "entry 19 at offset $(place offset 'entry 19' "$work/three") is damaged: "
@@ -614,12 +728,12 @@ part() { tail -c +$(($(place offset "$1" "$journal") + 1)) "$journal" | head -c 
 head -c "$new" "$journal" >"$work/block.0"
 for n in 1 2 3 4 5 6 7 8 9 10; do
     part "entry $n" >"$work/record.$n"
-    part "block $((n + 1))" >"$work/block.$n"
+    part "block $((n + 2))" >"$work/block.$n"
 done
 # of_records N..: a journal of these entries, in blocks that are numbered again. of_blocks N..: of these blocks, as they are.
 of_records() {
     cp "$work/block.0" "$file"
-    number=1
+    number=2
     for it in "$@"; do
         number=$((number + 1))
         "$work/entries" block "$number" <"$work/record.$it" >>"$file"
@@ -638,7 +752,7 @@ is_other_reply() {
     [ -n "$said" ] && [ "$(place offset "entry ${said% *}" "$file")" = "${said#* }" ]
 }
 # is_other_block N: whether the last run was refused for the block before which N entries stand whole.
-is_other_block() { ended 3 && [ ! -s "$work/out" ] && grep -q "^nfs3d: $file: entry $(($1 + 1)) at offset $(place offset "block $(($1 + 2))" "$journal") is damaged: " "$work/err"; }
+is_other_block() { ended 3 && [ ! -s "$work/out" ] && grep -q "^nfs3d: $file: entry $(($1 + 1)) at offset $(place offset "block $(($1 + 3))" "$journal") is damaged: " "$work/err"; }
 of_records 1 2 3 4 5 6 7 8 9 10
 cmp -s "$file" "$journal" && compacted all && ended 0
 ok $? "ten entries"
@@ -693,7 +807,7 @@ ok $? "a block that is left out, stands twice, or is exchanged with the next is 
 # ---- cut at each byte
 
 journal=$work/three
-[ "$(entries "$journal")" = 21 ] && list "$journal" | grep -q '^block 18 .* entries=1$' && list "$journal" | grep -q '^block 19 .* entries=3$'
+[ "$(entries "$journal")" = 21 ] && list "$journal" | grep -q '^block 19 .* entries=1$' && list "$journal" | grep -q '^block 20 .* entries=3$'
 ok $? "a journal of 21 entries, in blocks of one and of three"
 list "$journal" | sed -n 's/^block .* offset=\([0-9]*\) bytes=\([0-9]*\) entries=\([0-9]*\)$/\1 \2 \3/p' >"$work/listed"
 all=$(size "$journal")

@@ -1,8 +1,9 @@
 /* Reads and writes journals by the tables of docs/PROTOCOL.md, and by nothing else:
- *   entries list FILE       prints a line for the first record, for each block and for each of its entries or its exports, and one
- *                           for what was not written whole. What the tables don't allow ends it with status 1.
+ *   entries list FILE       prints a line for the first record, for each block and for each of its entries, its exports or its
+ *                           description, and one for what was not written whole. What the tables don't allow ends it with status 1.
  *   entries record          prints what standard input has as a record, with its mark before it and its checksum after it
- *   entries block NUMBER    prints the entries of standard input as a block of this number, with its header before it */
+ *   entries block NUMBER    prints the entries of standard input as a block of this number, with its header before it
+ *   entries text KIND NUMBER  prints a block of exports or of a description (2, 3) with the text of standard input */
 #include <stdint.h>
 #include <stdio.h>
 #include <stdlib.h>
@@ -79,17 +80,18 @@ static void list(const char *name) {
         size_t left = all - offset, len = left < 20 ? 0 : number(bytes + offset + 12), entries = 0;
         const unsigned char *header = bytes + offset, *text = header + 20;
         uint32_t kind = left < 20 ? 1 : number(header);
-        if (left >= 20 && ((kind != 1 && kind != 2) || long_number(header + 4) != block || crc32c(header, 16) != number(header + 16)))
+        if (left >= 20 && (kind < 1 || kind > 3 || long_number(header + 4) != block || crc32c(header, 16) != number(header + 16)))
             fail("no header", offset);
+        if (kind == 3 && (block != 2 || len > 1048580)) fail("no place for a description", offset);
         if (left < 20 || left - 20 < len) {
             printf("unfinished offset=%zu bytes=%zu\n", offset, left);
             return;
         }
         for (size_t at = 0; kind == 1 && at < len; entries++) at += record(offset + 20 + at, len - at);
         printf("block %u kind=%u offset=%zu bytes=%zu entries=%zu\n", block, kind, offset, 20 + len, entries);
-        if (kind == 2) {
+        if (kind != 1) {
             if (len < 4 || crc32c(text, len - 4) != number(text + len - 4)) fail("another checksum", offset);
-            printf("exports");
+            printf(kind == 2 ? "exports" : "description");
             print_hex("text", text, len - 4);
             printf("\n");
         }
@@ -110,9 +112,9 @@ static void write_record(size_t len) {
     fwrite(sum, 1, 4, stdout);
 }
 
-static void write_block(unsigned long long count, size_t len) {
+static void write_block(uint32_t kind, unsigned long long count, size_t len) {
     unsigned char header[20];
-    put_number(header, 1);
+    put_number(header, kind);
     put_number(header + 4, (uint32_t)(count >> 32));
     put_number(header + 8, (uint32_t)count);
     put_number(header + 12, (uint32_t)len);
@@ -127,9 +129,13 @@ int main(int count, char **words) {
     } else if (count == 2 && strcmp(words[1], "record") == 0) {
         write_record(fread(bytes, 1, sizeof bytes, stdin));
     } else if (count == 3 && strcmp(words[1], "block") == 0) {
-        write_block(strtoull(words[2], NULL, 10), fread(bytes, 1, sizeof bytes, stdin));
+        write_block(1, strtoull(words[2], NULL, 10), fread(bytes, 1, sizeof bytes, stdin));
+    } else if (count == 4 && strcmp(words[1], "text") == 0) {
+        size_t len = fread(bytes, 1, sizeof bytes - 4, stdin);
+        put_number(bytes + len, crc32c(bytes, len));
+        write_block((uint32_t)strtoul(words[2], NULL, 10), strtoull(words[3], NULL, 10), len + 4);
     } else {
-        fprintf(stderr, "entries: the words are list FILE, record, or block NUMBER\n");
+        fprintf(stderr, "entries: the words are list FILE, record, block NUMBER, or text KIND NUMBER\n");
         return 2;
     }
     return 0;
