@@ -334,22 +334,26 @@ of_lines 'dir /d 0755 0 0' "file /f 0644 0 0 $(zeros 490)" >"$work/other.tree"
 starts "$work/other.tree" "$file"
 says_other "'file /f 0644 0 0 $(zeros 23)..$(zeros 30)'" "'file /f 0644 0 0 $(zeros 23)..$(zeros 20)'"
 ok $? "up to the end of a line"
-of_lines "file /f 0644 0 0 $(zeros 500)" 'dir /d 0755 0 0' >"$work/other.tree"
-starts "$work/other.tree" "$file"
-is_refused 'the journal belongs to another description, with the same files in another order or with another name first; serve that one, or name a new journal'
-ok $? "lines in another order give files other numbers, and so make another description"
 of_lines 'dir /d 0755 0 0' "file /f 0644 0 0 $(zeros 500)" "file /g 0644 0 0 $(zeros 1048576)" >"$work/other.tree"
 starts "$work/other.tree" "$file"
 says_other 'no more lines' "'file /g 0644 0 0 $(zeros 83)..'"
 ok $? "a description of more than 1 MiB, where the journal has a shorter one"
+# Files are described directory by directory.
+of_lines 'dir /d 0755 0 0' 'file /d/f 0644 0 0 -' 'dir /e 0755 0 0' >"$work/long.tree"
+journal_of "$work/long.tree"
+of_lines 'dir /d 0755 0 0' 'dir /e 0755 0 0' 'file /d/f 0644 0 0 -' >"$work/other.tree"
+starts "$work/other.tree" "$file"
+is_refused 'the journal belongs to another description, with the same files in another order or with another name first; serve that one, or name a new journal'
+ok $? "lines in another order give files other numbers, and so make another description"
 # A description of 1,048,576 bytes without its exports, and one of a byte more.
 rest=$((1048576 - $(of_lines 'file /f 0644 0 0 ' | grep -v '^export ' | wc -c)))
 [ $((rest % 2)) = 0 ] && name=f || name=ff
 of_lines "file /$name 0644 0 0 $(zeros $((rest / 2 * 2)))" >"$work/most.tree"
 of_lines "file /x$name 0644 0 0 $(zeros $((rest / 2 * 2)))" >"$work/more.tree"
 journal_of "$work/most.tree"
-list "$file" >"$work/listed"
-[ "$(grep -v '^export ' "$work/most.tree" | wc -c)" = 1048576 ] && grep -qx "description text=$(grep -v '^export ' "$work/most.tree" | od -An -v -tx1 | tr -d ' \n')" "$work/listed"
+grep -v '^export ' "$work/most.tree" >"$work/described"
+{ hex "$work/described" && echo; } >"$work/wanted"
+[ "$(size "$work/described")" = 1048576 ] && list "$file" | sed -n 's/^description text=//p' | same "$work/wanted" -
 ok $? "a journal has a description of 1 MiB"
 starts "$work/more.tree" "$file"
 says_other "'file /$name 0644 0 0 $(zeros $((100 - 16 - ${#name})))..'" "'file /x$name 0644 0 0 $(zeros $((100 - 17 - ${#name})))..'"
@@ -364,27 +368,27 @@ is_refused 'the journal belongs to another description, with other contents, att
 ok $? "in its paths, or in the rest"
 
 # A journal of a server that noted no description.
-head -c "$exported" "$journal" >"$work/old"
+head -c "$exported" "$journal" >"$work/undescribed"
 number=1
 list "$journal" | sed -n 's/^block .* offset=\([0-9]*\) bytes=\([0-9]*\) entries=[1-9][0-9]*$/\1 \2/p' >"$work/listed"
 while read -r at len; do
     number=$((number + 1))
     tail -c +$((at + 21)) "$journal" | head -c $((len - 20)) | "$work/entries" block "$number"
-done <"$work/listed" >>"$work/old"
-before=$(size "$work/old")
-serving "$work/tree" --journal "$work/old"
-warned "nfs3d: $work/old: $(entries "$journal") entries run again" && state again && same "$work/second" "$work/again"
+done <"$work/listed" >>"$work/undescribed"
+before=$(size "$work/undescribed")
+serving "$work/tree" --journal "$work/undescribed"
+warned "nfs3d: $work/undescribed: $(entries "$journal") entries run again" && state old && same "$work/again" "$work/old"
 ok $? "a journal without the description is run again"
 plays 'ask 10.0.0.1 0 0:0 mkdir /a/since'
-statuses 'MKDIR: NFS3_OK' && list "$work/old" | grep -q "^block $((number + 1)) kind=1 offset=$before " && ! list "$work/old" | grep -q '^description '
+statuses 'MKDIR: NFS3_OK' && list "$work/undescribed" | grep -q "^block $((number + 1)) kind=1 offset=$before " && ! list "$work/undescribed" | grep -q '^description '
 ok $? "and goes on without it"
 stop
 sed 's/68656c6c6f/68656c6c70/' "$work/tree" >"$work/other.tree"
-starts "$work/other.tree" "$work/old"
+starts "$work/other.tree" "$work/undescribed"
 is_refused 'the journal belongs to another description, with other contents, attributes or limits; serve that one, or name a new journal'
 ok $? "but can't say what differs"
 file=$work/misplaced
-{ head -c "$exported" "$journal" && "$work/entries" text 2 2 <"$work/heads" && "$work/entries" text 3 3 <"$work/described"; } >"$file"
+{ head -c "$exported" "$journal" && "$work/entries" text 2 2 <"$work/heads" && grep -v '^export ' "$work/tree" | "$work/entries" text 3 3; } >"$file"
 starts "$work/tree" "$file"
 is_refused_by "entry 1 at offset $((exported + 20 + $(size "$work/heads") + 4)) is damaged: "
 ok $? "a description that stands elsewhere is damage"

@@ -1,5 +1,5 @@
 //! Where two descriptions differ.
-ghost use Rattle.std.specs.Prelude.{◌≤◌, length};
+ghost use Rattle.std.specs.Prelude.{◌≡◌, ◌≤◌, ◌↔◌, length, take, IsNone};
 
 use memchr::{memchr, memrchr};
 use nfs_source::journal_fault::ShownLine;
@@ -25,7 +25,9 @@ pub(crate) struct Difference<'a> {
 
 impl<'a> Difference<'a> {
     /// Where two texts differ; `None` where they don't.
-    pub(crate) fn of(theirs: &'a [u8], ours: &'a [u8]) -> Option<Difference<'a>> {
+    pub(crate) fn of(theirs: &'a [u8], ours: &'a [u8]) -> Option<Difference<'a>>
+        ensures { IsNone result ↔ (theirs.entry.now ≡ ours.entry.now) }
+    {
         let same = common_bytes(theirs, ours);
         if same == theirs.len() && same == ours.len() {
             return None;
@@ -53,6 +55,8 @@ impl<'a> Difference<'a> {
 fn common_bytes(one: &[u8], other: &[u8]) -> usize
     ensures one { result ≤ length one.now }
     ensures other { result ≤ length other.now }
+    ensures same { take result one.now ≡ take result other.now }
+    ensures all { one.now ≡ other.now → result ≡ length one.now }
 {
     let len = one.len().min(other.len());
     for place in 0..len {
