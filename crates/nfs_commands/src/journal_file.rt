@@ -1,12 +1,11 @@
 //! The file of a journal.
 ghost use Rattle.std.specs.Prelude.{◌≤◌, ◌+◌, IfOk, length};
-ghost use Rattle.nfs_journal.specs.Blocks.{most_bytes};
 
 use crate::life_text::LifeText;
 use crate::saved_file::{cannot_write, sync_directory};
 use nfs_journal::block::{
-    BLOCK_HEADER_BYTES, BlockHeader, BlockKind, decode_header, decode_lines, encode_header,
-    encode_lines,
+    BLOCK_HEADER_BYTES, BlockHeader, BlockKind, MOST_BLOCK_BYTES, decode_header, decode_lines,
+    encode_header, encode_lines,
 };
 use nfs_journal::broken_entry::BrokenEntry;
 use nfs_journal::file_journal::{FileJournal, Syncing};
@@ -381,7 +380,7 @@ impl<'a> JournalFile<'a> {
     /// Appends a block that puts the exports in force that these first lines of a description have, once it is on disk.
     /// `CannotWrite` where the system refuses that, `Journal` where they are too long for a block, `Memory`.
     pub(crate) fn put_exports<R: Files>(&mut self, rt: &R, text: &[u8]) -> Result<(), Fault> {
-        let most = BlockKind::Exports.most_bytes() - CHECKSUM_BYTES;
+        let most = MOST_BLOCK_BYTES - CHECKSUM_BYTES;
         if text.len() > most {
             return Err(self.fault(JournalFault::LongExports { most }));
         }
@@ -405,7 +404,7 @@ impl<'a> JournalFile<'a> {
 
     // Appends a block with lines of a description.
     fn put_lines<R: Files>(&mut self, rt: &R, kind: BlockKind, lines: &[u8]) -> Result<(), Fault>
-        requires { length lines.now + CHECKSUM_BYTES ≤ most_bytes kind }
+        requires { length lines.now + CHECKSUM_BYTES ≤ MOST_BLOCK_BYTES }
     {
         let len = lines.len() + CHECKSUM_BYTES;
         let mut out = Output::new(self.alloc, BLOCK_HEADER_BYTES + len)?;

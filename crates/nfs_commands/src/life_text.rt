@@ -1,6 +1,6 @@
 //! What a journal has of the description with which a life begins: a digest of it without its exports, these lines where they
 //! are few, and the first lines with the exports.
-ghost use Rattle.std.specs.Prelude.{⊤};
+ghost use Rattle.std.specs.Prelude.{◌≤◌, length, IfSome, ⊤};
 
 use crate::difference::Difference;
 use crate::digested::DescriptionDigest;
@@ -47,14 +47,16 @@ impl LifeText {
     }
 
     /// The description without its exports, where it is short enough for a journal.
-    pub(crate) fn description(&self) -> Option<&[u8]> {
+    pub(crate) fn description(&self) -> Option<&[u8]>
+        ensures { IfSome result (λ lines. length lines.now ≤ MOST_DESCRIPTION_BYTES) }
+    {
         if self.lines.len() > MOST_DESCRIPTION_BYTES {
             return None;
         }
         Some(self.lines.as_slice())
     }
 
-    /// Where it differs from the description without its exports that a journal has; `None` where it doesn't.
+    /// Where it differs from a description without its exports that a journal has; `None` where it doesn't.
     pub(crate) fn difference_from<'a>(&'a self, theirs: &'a [u8]) -> Option<Difference<'a>> {
         Difference::of(theirs, self.lines.as_slice())
     }
