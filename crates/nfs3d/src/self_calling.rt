@@ -28,7 +28,8 @@ where
         + Clock
         + Log,
 {
-    lend_tree(rt, alloc, name, &OwnCall { rt, alloc })
+    let mut own_call = OwnCall { rt, alloc };
+    lend_tree(rt, alloc, name, &mut own_call)
 }
 
 // A call that a server sends to itself.
@@ -43,7 +44,7 @@ where
     R: Print + Net<Listener = TcpListener, Stream = TcpStream> + Clock + Log,
 {
     fn run(
-        &self,
+        &mut self,
         server: &mut Server,
         _journal: Option<FileJournal<'_, R, File>>,
     ) -> Result<ExitCode, Diagnostic> {

@@ -44,7 +44,8 @@ use std::time::Clock;
 
 /// Serves a description or a directory: prints the addresses that it listens on, and serves clients until as
 /// many connections have ended as there may be. The tree that they leave is saved where the words ask for
-/// it, also where a fault ends the service once it has begun. The status is 2 where a word is faulty.
+/// it, also where a fault ends the service once it has begun. The status is 2 where a word is faulty. It listens before the
+/// description is read, or a journal begun: clients that come meanwhile wait.
 pub(crate) fn serve_tree<R>(
     rt: &R,
     alloc: Global,
@@ -59,141 +60,139 @@ where
     if !has_metrics_address(rt, words) {
         return Ok(ExitCode::from(2));
     }
+    let mut served = Served::listen(rt, alloc, addresses.as_slice(), words)?;
+    served.description = description_name(rt, alloc, words.trees())?;
+    if !has_files(rt, &served, words) {
+        return Ok(ExitCode::from(2));
+    }
     let copies = Copies::of(rt, alloc, words.save(), words.key())?;
-    let service = ServiceAt {
+    let mut service = Serving {
         rt,
-        alloc,
-        addresses: addresses.as_slice(),
         words,
         copies: &copies,
+        served,
     };
-    lend_life(rt, alloc, words, most_open(addresses.as_slice()), &service)
+    lend_life(
+        rt,
+        alloc,
+        words,
+        most_open(addresses.as_slice()),
+        &mut service,
+    )
 }
 
-// A service at some addresses.
+// Whether the description that is served is one that can be watched, and not where the tree is saved beside its journal, if
+// the words ask for these; it is reported where it isn't.
+fn has_files<R: Files + Eprint>(rt: &R, served: &Served<'_>, words: Serve<'_, '_>) -> bool {
+    if words.is_watched() && !served.has_file() {
+        let _ = eprintln!(rt; "error: --watch takes one description, in a file");
+        return false;
+    }
+    match words.save() {
+        Some(name) if served.is_of_journal(rt, name) => {
+            let _ = eprintln!(rt;
+                "error: --save would replace the description that the journal belongs to: save to another file"
+            );
+            false
+        }
+        _ => true,
+    }
+}
+
+// A service that listens, until it has a server.
 #[derive(Drop)]
-struct ServiceAt<'a, 'w, R> {
+struct Serving<'a, 'w, R> {
     rt: &'a R,
-    alloc: Global,
-    addresses: &'a [IpAddr],
     words: Serve<'a, 'w>,
     copies: &'a Copies<'a>,
+    served: Served<'a>,
 }
 
-impl<R> ServerUse<R> for ServiceAt<'_, '_, R>
+impl<R> ServerUse<R> for Serving<'_, '_, R>
 where
     R: Files<File = File> + Input + Print + Eprint + Net + Clock + RandomSource,
 {
+    // Serves, and then saves the tree where the words ask for it.
     fn run(
-        &self,
+        &mut self,
         server: &mut Server,
         journal: Option<FileJournal<'_, R, File>>,
     ) -> Result<ExitCode, Diagnostic> {
-        let (addresses, words) = (self.addresses, self.words);
-        let (rt, alloc, copies) = (self.rt, self.alloc, self.copies);
+        let (rt, alloc, wording) = (self.rt, self.served.alloc, wording_of(self.words));
+        let out = output(rt, alloc)?;
+        match self.words.audit() {
+            Some(name) => {
+                let audit = audit_file(rt, alloc, name)?;
+                self.run_with(
+                    server,
+                    journal,
+                    Lines::new(alloc, wording, audit, Some(out)),
+                )
+            }
+            None => self.run_with(server, journal, Lines::alone(alloc, wording, out)),
+        }
+    }
+}
+
+impl<R> Serving<'_, '_, R>
+where
+    R: Files<File = File> + Input + Eprint + Net + Clock + RandomSource,
+{
+    // Serves with these lines, which are let go then, and then saves.
+    fn run_with<A: LineOut + Drop, C: LineOut + Drop>(
+        &mut self,
+        server: &mut Server,
+        journal: Option<FileJournal<'_, R, File>>,
+        lines: Lines<'_, A, C>,
+    ) -> Result<ExitCode, Diagnostic> {
+        let mut lines = lines;
         let mut journal = journal;
-        serve_and_save(rt, alloc, server, &mut journal, addresses, words, copies)
+        let logged = Logged::new(self.rt, self.served.level, Console(self.rt));
+        self.serve_logged(&logged, server, &mut journal, &mut lines)
     }
-}
 
-// Serves, and then saves the tree where the words ask for it.
-fn serve_and_save<'a, R: Files<File = File> + Input + Print + Eprint + Net + Clock + RandomSource>(
-    rt: &'a R,
-    alloc: Global,
-    server: &mut Server,
-    journal: &mut Option<FileJournal<'_, R, File>>,
-    addresses: &[IpAddr],
-    words: Serve<'a, '_>,
-    copies: &Copies<'_>,
-) -> Result<ExitCode, Diagnostic> {
-    let mut served = Served::listen(rt, alloc, addresses, words)?;
-    served.description = description_name(rt, alloc, words.trees())?;
-    if words.is_watched() && !served.has_file() {
-        let _ = eprintln!(rt; "error: --watch takes one description, in a file");
-        return Ok(ExitCode::from(2));
-    }
-    if let Some(name) = words.save()
-        && served.is_of_journal(rt, name)
+    // Serves, logging so, and then saves. The portmapper knows of the service as long as it lasts; where it can't be told,
+    // nothing is served or saved. Who has the service stopped is answered to the end when the tree is saved.
+    fn serve_logged<L, A, C>(
+        &mut self,
+        logged: &L,
+        server: &mut Server,
+        journal: &mut Option<FileJournal<'_, R, File>>,
+        lines: &mut Lines<'_, A, C>,
+    ) -> Result<ExitCode, Diagnostic>
+    where
+        L: Files + Net + Clock + RandomSource + Log,
+        A: LineOut,
+        C: LineOut,
     {
-        let _ = eprintln!(rt;
-            "error: --save would replace the description that the journal belongs to: save to another file"
-        );
-        return Ok(ExitCode::from(2));
-    }
-    let out = output(rt, alloc)?;
-    match words.audit() {
-        Some(name) => {
-            let audit = audit_file(rt, alloc, name)?;
-            let lines = Lines::new(alloc, wording_of(words), audit, Some(out));
-            run_with(served, rt, server, journal, lines, copies)
+        let (rt, copies, alloc) = (self.rt, self.copies, self.served.alloc);
+        let mut net = self.served.network(logged)?;
+        let metrics = self.served.metrics(rt, &net)?;
+        let control = self.served.control(rt, &net)?;
+        if control.is_some() {
+            lines.denied.keep_denials();
         }
-        None => {
-            let lines = Lines::alone(alloc, wording_of(words), out);
-            run_with(served, rt, server, journal, lines, copies)
+        let saver = copies.saver(logged, alloc);
+        let watch = self.served.watch(rt);
+        let mut attending = Attending::new(alloc, saver, control, metrics, watch, logged);
+        let registration = match self.served.register(rt) {
+            Ok(registration) => registration,
+            Err(fault) => {
+                attending.end(true);
+                return Err(fault.into());
+            }
+        };
+        let done = self
+            .served
+            .run(logged, server, journal, &mut net, lines, &mut attending);
+        if let Some(registration) = registration {
+            registration.remove(rt);
         }
+        let saved = save_last(rt, alloc, server, &attending, copies, done);
+        attending.end(saved.is_err());
+        saved?;
+        Ok(ExitCode::SUCCESS)
     }
-}
-
-// Serves with these lines, which are let go then, and then saves.
-fn run_with<'a, R, A, C>(
-    served: Served<'a>,
-    rt: &'a R,
-    server: &mut Server,
-    journal: &mut Option<FileJournal<'_, R, File>>,
-    lines: Lines<'_, A, C>,
-    copies: &Copies<'_>,
-) -> Result<ExitCode, Diagnostic>
-where
-    R: Files + Input + Eprint + Net + Clock + RandomSource,
-    A: LineOut + Drop,
-    C: LineOut + Drop,
-{
-    let mut lines = lines;
-    let logged = Logged::new(rt, served.level, Console(rt));
-    serve_logged(served, rt, &logged, server, journal, &mut lines, copies)
-}
-
-// Serves, logging so, and then saves. The portmapper knows of the service as long as it lasts; where it can't be told,
-// nothing is served or saved. Who has the service stopped is answered to the end when the tree is saved.
-fn serve_logged<'a, 'b, R, L, A, C>(
-    mut served: Served<'a>,
-    rt: &'a R,
-    logged: &'b L,
-    server: &mut Server,
-    journal: &mut Option<FileJournal<'_, R, File>>,
-    lines: &mut Lines<'_, A, C>,
-    copies: &'b Copies<'_>,
-) -> Result<ExitCode, Diagnostic>
-where
-    R: Files + Input + Eprint + Net + Clock + RandomSource,
-    L: Files + Net + Clock + RandomSource + Log,
-    A: LineOut,
-    C: LineOut,
-{
-    let mut net = served.network(logged)?;
-    let metrics = served.metrics(rt, &net)?;
-    let control = served.control(rt, &net)?;
-    if control.is_some() {
-        lines.denied.keep_denials();
-    }
-    let saver = copies.saver(logged, served.alloc);
-    let watch = served.watch(rt);
-    let mut attending = Attending::new(served.alloc, saver, control, metrics, watch, logged);
-    let registration = match served.register(rt) {
-        Ok(registration) => registration,
-        Err(fault) => {
-            attending.end(true);
-            return Err(fault.into());
-        }
-    };
-    let done = served.run(logged, server, journal, &mut net, lines, &mut attending);
-    if let Some(registration) = registration {
-        registration.remove(rt);
-    }
-    let saved = save_last(rt, served.alloc, server, &attending, copies, done);
-    attending.end(saved.is_err());
-    saved?;
-    Ok(ExitCode::SUCCESS)
 }
 
 // Saves the tree of a service that has ended so, unless that was done before it ended.

@@ -22,7 +22,7 @@ pub trait ServerUse<R> {
     /// Uses it, and the journal in which it is to note what it answers, if there is one. The status and the faults are
     /// those of the command.
     fn run(
-        &self,
+        &mut self,
         server: &mut Server,
         journal: Option<FileJournal<'_, R, File>>,
     ) -> Result<ExitCode, Diagnostic>;
@@ -36,7 +36,7 @@ pub fn lend_life<R, U: ServerUse<R>>(
     alloc: Global,
     words: Serve<'_, '_>,
     ip: IpAddr,
-    using: &U,
+    using: &mut U,
 ) -> Result<ExitCode, Diagnostic>
 where
     R: Files<File = File> + Input + Eprint + Clock + AllocGlobal,
@@ -59,7 +59,7 @@ fn lend_journaled<R: Files<File = File> + Eprint + Clock, U: ServerUse<R>>(
     words: Serve<'_, '_>,
     name: &str,
     life: Life,
-    using: &U,
+    using: &mut U,
 ) -> Result<ExitCode, Diagnostic> {
     let sync = words.journal_sync();
     let Journaled { server, journal } = open_journal(rt, alloc, name, sync, life, words.cache())?;
@@ -75,7 +75,7 @@ fn no_journal<R>(_rt: &R) -> Option<FileJournal<'_, R, File>> {
 fn lend<R, U: ServerUse<R>>(
     server: Server,
     journal: Option<FileJournal<'_, R, File>>,
-    using: &U,
+    using: &mut U,
 ) -> Result<ExitCode, Diagnostic> {
     let mut server = server;
     let done = using.run(&mut server, journal);
@@ -89,7 +89,7 @@ pub fn lend_tree<R: Files + Input, U: ServerUse<R>>(
     rt: &R,
     alloc: Global,
     name: &str,
-    using: &U,
+    using: &mut U,
 ) -> Result<ExitCode, Diagnostic> {
     let loaded = load_tree(rt, alloc, name)?;
     let server = Server::new(alloc, loaded, 1)?;
