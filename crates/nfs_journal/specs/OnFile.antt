@@ -10,6 +10,6 @@ pub record OnFile : Type 0 where
   pub len : ℕ
   pub syncs : ℕ
 
--- The buffer in which the front of a block is put together: what is in it and the room that is left are those of a header and 65,536 bytes.
+-- The buffer in which a block is put together: what is in it and the room that is left are those of a header and 64 KiB.
 abbrev pub IsBuffer : Written → Type 0
 IsBuffer buffer = length buffer.bytes + buffer.room ≡ 65556

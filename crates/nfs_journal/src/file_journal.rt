@@ -11,7 +11,8 @@ use std::io::{self, ErrorKind, Write};
 use std::marker::Model;
 use std::time::{Clock, Instant};
 
-// How many bytes of a block are copied, with its header, to be written at once.
+// A block of up to 64 KiB is put together with its header, to be written at once. To copy a longer one takes longer than to
+// write its header alone.
 const BUFFER_BYTES: usize = BLOCK_HEADER_BYTES + 65_536;
 
 /// When what was appended is synced, so that it outlives not only the process, but also the machine.
@@ -29,7 +30,7 @@ pub enum Syncing {
 pub struct FileJournal<'a, R, F> {
     rt: &'a R,
     file: F,
-    // The front of the block that is written.
+    // The header of the block that is written, and all of it where there is room.
     buffer: Output,
     syncing: Syncing,
     has_failed: bool,
@@ -110,7 +111,7 @@ impl<R: Clock, F: Write + OpenFile> FileJournal<'_, R, F> {
         }
     }
 
-    // Writes a block of entries: as much of it as the buffer has room for at once, and then the rest.
+    // Writes a block of entries: at once where the buffer has room for it, else after its header.
     fn write_block(&mut self, bytes: &[u8]) -> io::Result<()>
         requires { length bytes.now ≤ MOST_BLOCK_BYTES }
         ensures { self.new ≡ self.old }
@@ -122,10 +123,12 @@ impl<R: Clock, F: Write + OpenFile> FileJournal<'_, R, F> {
             len: bytes.len() as u32,
         };
         encode_header(&mut self.buffer, header);
-        let (front, rest) = bytes.split_at(bytes.len().min(self.buffer.room()));
-        self.buffer.part(front);
-        self.file.write_all(self.buffer.bytes())?;
-        self.file.write_all(rest)
+        if bytes.len() > self.buffer.room() {
+            self.file.write_all(self.buffer.bytes())?;
+            return self.file.write_all(bytes);
+        }
+        self.buffer.part(bytes);
+        self.file.write_all(self.buffer.bytes())
     }
 
     fn sync(&mut self) -> io::Result<()>
