@@ -46,14 +46,14 @@ spoil() {
     printf "\\$(printf '%03o' $(((byte + ${3:-1}) % 256)))" | dd of="$1" bs=1 seek="$2" conv=notrunc 2>/dev/null
 }
 
-# starts TREE FILE WORDS..: starts a server with the journal FILE that is to be refused, for 20 seconds at most.
+# starts TREE FILE WORDS..: starts a server with the journal FILE that is to be refused, for a minute at most.
 starts() {
     tree=$1
     file=$2
     shift 2
     echo "serve $tree --journal $file $*" >"$work/ran"
     cp "$file" "$work/before" 2>/dev/null
-    timeout --foreground 20 "$program" serve "$tree" --journal "$file" --port 0 "$@" >"$work/out" 2>"$work/err"
+    timeout --foreground 60 "$program" serve "$tree" --journal "$file" --port 0 "$@" >"$work/out" 2>"$work/err"
     echo $? >"$work/status"
 }
 # is_refused TEXT: whether it was refused, with this line, before anything was served, and the journal is as it was.
