@@ -880,4 +880,37 @@ floods "$work/dirs" create created 24 1000
 ok $? "24 clients that each create 1,000 files without waiting for a reply"
 stop
 
+# ---- many bytes cut, and many changed
+
+# Three hundred entries of nine procedures, in blocks of one to four. Of its bytes are tried the first 1,500, all of block headers and
+# record marks, the last of blocks and entries, and of the others each 97th: with NFS3D_EVERY=1 each, which takes minutes.
+compiles spoils tests/journal/spoils.c
+journal=$work/cycles
+serving "$work/files" --journal "$journal"
+"$work/floods" "$port" cycles 1 30 2>"$work/err" && list "$journal" >"$work/listed" && [ "$(grep -c '^entry ' "$work/listed")" = 300 ] && [ "$(grep -c '^block ' "$work/listed")" -gt 120 ]
+ok $? "a journal of 300 entries, in blocks of one to four"
+stop
+# spoils WORK: spoils it at all these places, one at a time.
+spoils() { timeout --foreground 1800 "$work/spoils" "$program" "$work/files" "$journal" "$1" 1500 "${NFS3D_EVERY:-97}" <"$work/listed" >"$work/out" 2>"$work/err"; }
+spoils cut && quiet
+ok $? "cut at any byte, its whole blocks are run again, and nothing else"
+note "$(cat "$work/out")"
+spoils change && quiet
+ok $? "with any byte changed it is refused, by an entry and its place, or ends before its last block"
+note "$(cat "$work/out")"
+# Each cycle of calls leaves a symbolic link: the description of what is run again has as many as there are such calls in whole blocks.
+file=$work/changed
+good=0
+for it in $(seq 10 10 120); do
+    at=$(place offset "block $it" "$journal")
+    sed "/^block $it /,\$d" "$work/listed" | grep -c '^entry .* call=.\{16\}00000002000186a3000000030000000a' >"$work/wanted"
+    for len in "$at" $((at + 21)); do
+        head -c "$len" "$journal" >"$file"
+        run journal compact "$work/files" "$file" "$work/new.tree" --key 00112233445566ff
+        ended 0 && grep -c '^link /l' "$work/new.tree" | same "$work/wanted" - && good=$((good + 1))
+    done
+done
+[ "$good" = 24 ]
+ok $? "the tree of a journal that is cut is that of its whole blocks"
+
 plan
