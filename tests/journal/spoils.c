@@ -11,7 +11,8 @@
  *     first block of entries, it may be refused;
  *   - refuse one with another byte, and say where: an entry by its number, and its place or that of its block, which is the
  *     entry that has the byte or stands before that one in its block. A last block that ends with a zero then may stand for one
- *     that was not written whole: the entries before it are run again.
+ *     that was not written whole: the entries before it are run again. Where a description has the byte, behind the header of its
+ *     block, all entries are.
  * As many run at once as there are processors. It prints how many places there were; what isn't so is reported, with status 1. */
 #define _GNU_SOURCE
 #include <fcntl.h>
@@ -26,11 +27,12 @@
 #include <sys/wait.h>
 #include <unistd.h>
 
-enum { HEAD = 78, HEADER = 20, MARK = 4, MOST = 1 << 16, TEXT = 4096, REPORTED = 5 };
+enum { HEAD = 78, HEADER = 20, MARK = 4, DESCRIPTION = 3, MOST = 1 << 16, TEXT = 4096, REPORTED = 5 };
 
 /* A block with so many entries, or an entry; `before` counts the entries before it. */
 typedef struct {
     size_t offset, bytes, before, entries;
+    unsigned kind;
 } Part;
 
 static Part blocks[MOST], entries[MOST];
@@ -54,7 +56,7 @@ static void read_list(void) {
     size_t room = 0;
     while (getline(&line, &room, stdin) > 0) {
         Part part = {.before = entry_count};
-        if (sscanf(line, "block %*u kind=%*u offset=%zu bytes=%zu entries=%zu", &part.offset, &part.bytes, &part.entries) == 3) {
+        if (sscanf(line, "block %*u kind=%u offset=%zu bytes=%zu entries=%zu", &part.kind, &part.offset, &part.bytes, &part.entries) == 4) {
             if (block_count == MOST) fail("too many blocks");
             blocks[block_count++] = part;
         } else if (sscanf(line, "entry %*u offset=%zu bytes=%zu", &part.offset, &part.bytes) == 2) {
@@ -157,6 +159,7 @@ static int is_right_change(const char *journal, size_t at) {
     const Part *within = &blocks[block];
     unsigned char last = (unsigned char)(bytes[all - 1] + (at == all - 1));
     if (block == block_count - 1 && last == 0 && goes_on(within->before, within->offset, all)) return 1;
+    if (within->kind == DESCRIPTION && at >= within->offset + HEADER) return goes_on(entry_count, all, all);
     if (is_damaged_at(journal, within->before, within->offset)) return 1;
     for (size_t i = within->before; i < within->before + within->entries && entries[i].offset <= at; i++)
         if (is_damaged_at(journal, i, entries[i].offset) || is_damaged_at(journal, i, within->offset)) return 1;

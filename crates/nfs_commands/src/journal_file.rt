@@ -252,7 +252,8 @@ impl<'a> JournalFile<'a> {
                 Some(text) => entries.take_exports(text)?,
                 None => false,
             },
-            BlockKind::Description => decode_lines(bytes).is_some(),
+            // Its checksum is looked at where it is shown, since nothing else depends on it.
+            BlockKind::Description => true,
             BlockKind::Entries => {
                 let start = entries.end();
                 if let Err(broken) = entries.take(bytes) {
@@ -508,11 +509,15 @@ impl<'a> JournalFile<'a> {
     }
 }
 
-// Whether the bytes of a block have their checksums. `Memory`.
+// Whether the bytes of a block have their checksums. A description without its own may be left, unless it ends with zeros, as
+// one does that was not written whole. `Memory`.
 fn is_whole(alloc: Global, kind: BlockKind, bytes: &[u8]) -> Result<bool, Fault> {
     match kind {
         BlockKind::Entries => are_entries(alloc, bytes),
-        BlockKind::Exports | BlockKind::Description => Ok(decode_lines(bytes).is_some()),
+        BlockKind::Exports => Ok(decode_lines(bytes).is_some()),
+        BlockKind::Description => Ok(
+            decode_lines(bytes).is_some() || !bytes.ends_with(&[0; CHECKSUM_BYTES]),
+        ),
     }
 }
 
