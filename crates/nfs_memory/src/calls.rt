@@ -33,7 +33,7 @@ pub(crate) const FILE: &[u8] =
 
 const NEW_NAME: &[u8] = b"\0\0\0\x01y\0\0\0";
 
-const NO_SETTINGS: &[u8] = b"\0\0\0\0\0\0\0\0\0\0\0\0\0\0\0\0\0\0\0\0\0\0\0\0";
+pub(crate) const NO_SETTINGS: &[u8] = b"\0\0\0\0\0\0\0\0\0\0\0\0\0\0\0\0\0\0\0\0\0\0\0\0";
 
 const SIZE_OF_1000: &[u8] =
     b"\0\0\0\0\0\0\0\0\0\0\0\0\0\0\0\x01\0\0\0\0\0\0\x03\xe8\0\0\0\0\0\0\0\0";
@@ -64,7 +64,11 @@ const CALLS: [(u32, [&[u8]; 4]); 10] = [
     (15, [FILE, DIRECTORY, NEW_NAME, b""]),
 ];
 
-fn record(alloc: Global, procedure: u32, args: &[&[u8]; 4]) -> Result<Vec<u8>, AllocError> {
+pub(crate) fn record(
+    alloc: Global,
+    procedure: u32,
+    args: &[&[u8]; 4],
+) -> Result<Vec<u8>, AllocError> {
     let mut record = Vec::new(alloc);
     record.extend_from_slice(HEAD)?;
     record.extend_from_slice(&procedure.to_be_bytes())?;

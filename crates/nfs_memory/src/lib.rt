@@ -8,6 +8,8 @@ mod described;
 #[cfg(test)]
 mod devices;
 #[cfg(test)]
+mod journals;
+#[cfg(test)]
 mod makers;
 #[cfg(test)]
 mod mounts;
