@@ -96,7 +96,7 @@ impl JournalOut for FailingJournal {
             self.has_failed = true;
             return Err(DeviceFault);
         }
-        self.appends -= 1;
+        self.appends = self.appends.saturating_sub(1);
         Ok(())
     }
 
@@ -194,7 +194,22 @@ fn is_answered(
     one.link().sent().len() == sent
         && other.link().sent().len() == sent
         && journal.bytes.len() == lasting.saturating_add(part)
-        && (0..turns).all(|turn| are_noted(turn, one, other, journal))
+        && are_all_noted(turns, one, other, journal)
+}
+
+// Whether the replies to the MKDIRs of so many turns are those of their entries.
+fn are_all_noted(
+    turns: usize,
+    one: &Client<StutterLink<'_>>,
+    other: &Client<StutterLink<'_>>,
+    journal: &FailingJournal,
+) -> bool {
+    for turn in 0..turns {
+        if !are_noted(turn, one, other, journal) {
+            return false;
+        }
+    }
+    true
 }
 
 // Whether the replies to both MKDIRs of a turn are those of its entries.
@@ -213,19 +228,25 @@ fn are_noted(
         && second == noted_reply(journal, entry.saturating_add(1))
 }
 
-// Whether two clients were served as they have to be by a server whose journal takes so many appends.
-fn fails_well(alloc: Global, appends: u32) -> Result<bool, AllocError> {
-    let streams = (stream(alloc, b"pqr")?, stream(alloc, b"stu")?);
-    let mut room = TurnBuffers::new(alloc)?;
+// A server that keeps notes. Refused without memory.
+fn noting_server(alloc: Global) -> Result<Server, AllocError> {
     let mut server = server(alloc)?;
     server.keep_notes(alloc)?;
-    Ok(is_served(
-        alloc,
-        &mut server,
-        &mut room,
-        (streams.0.as_slice(), streams.1.as_slice()),
-        appends,
-    ))
+    Ok(server)
+}
+
+// Whether two clients were served as they have to be by a server whose journal takes so many appends.
+fn fails_well(alloc: Global, appends: u32) -> Result<bool, AllocError> {
+    let one = stream(alloc, b"pqr")?;
+    let other = stream(alloc, b"stu")?;
+    fails_well_on(alloc, (one.as_slice(), other.as_slice()), appends)
+}
+
+// The same of clients that send this.
+fn fails_well_on(alloc: Global, streams: (&[u8], &[u8]), appends: u32) -> Result<bool, AllocError> {
+    let mut room = TurnBuffers::new(alloc)?;
+    let mut server = noting_server(alloc)?;
+    Ok(is_served(alloc, &mut server, &mut room, streams, appends))
 }
 
 // The same of a server that is lent.
