@@ -1,4 +1,6 @@
 //! Clients of a server whose journal fails.
+ghost use Rattle.std.specs.Prelude.{None};
+
 use crate::calls::{DIRECTORY, NO_SETTINGS, record};
 use crate::described::server;
 use nfs_attrs::moment::Moment;
@@ -8,7 +10,7 @@ use nfs_server::server::Server;
 use nfs_serving::client::Client;
 use nfs_serving::turn_buffers::TurnBuffers;
 use nfs_xdr::device::{Device, DeviceFault};
-use rows::stutter_link::StutterLink;
+use nfs_xdr::link::{Came, Link};
 use std::alloc::{AllocError, Global};
 use std::test::Fail;
 
@@ -109,15 +111,61 @@ impl JournalOut for FailingJournal {
     }
 }
 
-// A client on whose link NULL and MKDIR come together, at every second call.
-fn client<'a>(alloc: Global, addr: Addr, stream: &'a [u8]) -> Client<StutterLink<'a>> {
-    let link = StutterLink::new(alloc, stream, CALLS_BYTES, u64::MAX);
+// A link on which NULL and MKDIR come together, and which takes all that is sent.
+#[derive(Drop)]
+struct PromptLink<'a> {
+    incoming: &'a [u8],
+    sent: Vec<u8>,
+    has_failed: bool,
+}
+
+impl Link for PromptLink<'_> {
+    ghost outgoing = { λ _. None };
+
+    ghost incoming = { λ _. None };
+
+    ghost failed = { λ it. it.has_failed };
+
+    ghost reports = { λ _ _ _ _. Unit {0} };
+
+    fn send(&mut self, bytes: &[u8]) -> Result<usize, DeviceFault> {
+        match self.sent.extend_from_slice(bytes) {
+            Ok(()) => Ok(bytes.len()),
+            Err(_) => {
+                self.has_failed = true;
+                Err(DeviceFault)
+            }
+        }
+    }
+
+    fn receive(&mut self, buffer: &mut [u8]) -> Result<Came, DeviceFault> {
+        if self.incoming.is_empty() {
+            return Ok(Came::End);
+        }
+        let n = CALLS_BYTES.min(self.incoming.len()).min(buffer.len());
+        if n == 0 {
+            return Ok(Came::Nothing);
+        }
+        let (now, later) = self.incoming.split_at(n);
+        buffer[..n].copy_from_slice(now);
+        self.incoming = later;
+        Ok(Came::Bytes(n))
+    }
+}
+
+// A client at this address that sends this.
+fn client<'a>(alloc: Global, addr: Addr, stream: &'a [u8]) -> Client<PromptLink<'a>> {
+    let link = PromptLink {
+        incoming: stream,
+        sent: Vec::new(alloc),
+        has_failed: false,
+    };
     Client::new(alloc, addr, link)
 }
 
 // How many bytes were sent to a client, or would be if those that are pending went out.
-fn due(client: &Client<StutterLink<'_>>) -> usize {
-    client.link().sent().len().saturating_add(client.pending())
+fn due(client: &Client<PromptLink<'_>>) -> usize {
+    client.link().sent.len().saturating_add(client.pending())
 }
 
 // Gives both clients a turn, as a service does in a round, and makes what was noted last. Whether it lasts; `None` where a
@@ -125,8 +173,8 @@ fn due(client: &Client<StutterLink<'_>>) -> usize {
 fn round(
     server: &mut Server,
     room: &mut TurnBuffers,
-    one: &mut Client<StutterLink<'_>>,
-    other: &mut Client<StutterLink<'_>>,
+    one: &mut Client<PromptLink<'_>>,
+    other: &mut Client<PromptLink<'_>>,
     journal: &mut FailingJournal,
 ) -> Option<bool> {
     let mut audit = Device::new(std::io::sink());
@@ -134,7 +182,7 @@ fn round(
     one.turn(server, room, NOW, &mut audit, true);
     other.turn(server, room, NOW, &mut audit, true);
     let lasts = server.settle(journal).is_ok();
-    let is_held = one.link().sent().len() <= due.0 && other.link().sent().len() <= due.1;
+    let is_held = one.link().sent.len() <= due.0 && other.link().sent.len() <= due.1;
     is_held.then_some(lasts)
 }
 
@@ -142,8 +190,8 @@ fn round(
 fn serve(
     server: &mut Server,
     room: &mut TurnBuffers,
-    one: &mut Client<StutterLink<'_>>,
-    other: &mut Client<StutterLink<'_>>,
+    one: &mut Client<PromptLink<'_>>,
+    other: &mut Client<PromptLink<'_>>,
     journal: &mut FailingJournal,
 ) -> Option<bool> {
     for _ in 0..1_000 {
@@ -158,13 +206,14 @@ fn serve(
 }
 
 // The reply to the MKDIR of a client's turn, counted from 0, as it was sent.
-fn sent_reply<'a>(client: &'a Client<StutterLink<'_>>, turn: usize) -> Option<&'a [u8]> {
+fn sent_reply<'a>(client: &'a Client<PromptLink<'_>>, turn: usize) -> Option<&'a [u8]> {
     let start = turn
         .saturating_mul(REPLIES_BYTES)
         .saturating_add(NULL_REPLY_BYTES + 4);
     client
         .link()
-        .sent()
+        .sent
+        .as_slice()
         .get(start..start.saturating_add(REPLY_BYTES))
 }
 
@@ -184,15 +233,15 @@ fn noted_reply(journal: &FailingJournal, entry: usize) -> Option<&[u8]> {
 fn is_answered(
     turns: usize,
     has_failed: bool,
-    one: &Client<StutterLink<'_>>,
-    other: &Client<StutterLink<'_>>,
+    one: &Client<PromptLink<'_>>,
+    other: &Client<PromptLink<'_>>,
     journal: &FailingJournal,
 ) -> bool {
     let sent = turns.saturating_mul(REPLIES_BYTES);
     let lasting = turns.saturating_mul(2 * ENTRY_BYTES);
     let part = if has_failed { ENTRY_BYTES } else { 0 };
-    one.link().sent().len() == sent
-        && other.link().sent().len() == sent
+    one.link().sent.len() == sent
+        && other.link().sent.len() == sent
         && journal.bytes.len() == lasting.saturating_add(part)
         && are_all_noted(turns, one, other, journal)
 }
@@ -200,8 +249,8 @@ fn is_answered(
 // Whether the replies to the MKDIRs of so many turns are those of their entries.
 fn are_all_noted(
     turns: usize,
-    one: &Client<StutterLink<'_>>,
-    other: &Client<StutterLink<'_>>,
+    one: &Client<PromptLink<'_>>,
+    other: &Client<PromptLink<'_>>,
     journal: &FailingJournal,
 ) -> bool {
     for turn in 0..turns {
@@ -215,8 +264,8 @@ fn are_all_noted(
 // Whether the replies to both MKDIRs of a turn are those of its entries.
 fn are_noted(
     turn: usize,
-    one: &Client<StutterLink<'_>>,
-    other: &Client<StutterLink<'_>>,
+    one: &Client<PromptLink<'_>>,
+    other: &Client<PromptLink<'_>>,
     journal: &FailingJournal,
 ) -> bool {
     let entry = turn.saturating_mul(2);
