@@ -908,12 +908,13 @@ stop
 # record marks, the last of blocks and entries, and of the others each 97th: with NFS3D_EVERY=1 each, which takes minutes.
 compiles spoils tests/journal/spoils.c
 journal=$work/cycles
-serving "$work/files" --journal "$journal"
+head -n 4 "$work/files" >"$work/few"
+serving "$work/few" --journal "$journal"
 "$work/floods" "$port" cycles 1 30 2>"$work/err" && list "$journal" >"$work/listed" && [ "$(grep -c '^entry ' "$work/listed")" = 300 ] && [ "$(grep -c '^block ' "$work/listed")" -gt 120 ]
 ok $? "a journal of 300 entries, in blocks of one to four"
 stop
 # spoils WORK: spoils it at all these places, one at a time.
-spoils() { timeout --foreground 1800 "$work/spoils" "$program" "$work/files" "$journal" "$1" 1500 "${NFS3D_EVERY:-97}" <"$work/listed" >"$work/out" 2>"$work/err"; }
+spoils() { timeout --foreground 1800 "$work/spoils" "$program" "$work/few" "$journal" "$1" 1500 "${NFS3D_EVERY:-97}" <"$work/listed" >"$work/out" 2>"$work/err"; }
 spoils cut && quiet
 ok $? "cut at any byte, its whole blocks are run again, and nothing else"
 note "$(cat "$work/out")"
@@ -928,7 +929,7 @@ for it in $(seq 10 10 120); do
     sed "/^block $it /,\$d" "$work/listed" | grep -c '^entry .* call=.\{16\}00000002000186a3000000030000000a' >"$work/wanted"
     for len in "$at" $((at + 21)); do
         head -c "$len" "$journal" >"$file"
-        run journal compact "$work/files" "$file" "$work/new.tree" --key 00112233445566ff
+        run journal compact "$work/few" "$file" "$work/new.tree" --key 00112233445566ff
         ended 0 && grep -c '^link /l' "$work/new.tree" | same "$work/wanted" - && good=$((good + 1))
     done
 done
