@@ -1,5 +1,6 @@
 /* Answers each SIZE bytes by REPLY bytes, for any number of clients, over epoll: what a server of calls
- * of these sizes costs that does nothing else. It prints its port. With `keep` it copies what comes twice, as a server of WRITEs
+ * of these sizes costs that does nothing else: echo SIZE REPLY [keep | SIZE REPLY]. With a second size, a client's calls have
+ * the one and the other in turn. It prints its port. With `keep` it copies what comes twice, as a server of WRITEs
  * has to that keeps its replies: over the bytes of a file, and into the next of 128 records. */
 #define _GNU_SOURCE
 #include <arpa/inet.h>
@@ -19,6 +20,7 @@ enum { PEERS = 4096, PIECE = 65536, BATCH = 262144, FILE_BYTES = 65536, KEPT = 1
 
 typedef struct {
     size_t in, owed;
+    int turn;                  /* which size the next call has */
 } Client;
 
 static Client all[PEERS];
@@ -39,10 +41,14 @@ static void keep(size_t size, const unsigned char *bytes, size_t len) {
 }
 
 int main(int count, char **w) {
-    size_t size = count > 2 ? (size_t)atol(w[1]) : 44, reply = count > 2 ? (size_t)atol(w[2]) : 28;
-    int keeps = count > 3 && strcmp(w[3], "keep") == 0;
+    size_t size[2] = {44, 44}, reply[2] = {28, 28};
+    int keeps = count == 4 && strcmp(w[3], "keep") == 0;
+    for (int i = 0; count > 2 && i < 2; i++) {
+        int at = count > 4 ? 1 + 2 * i : 1;
+        size[i] = strtoul(w[at], NULL, 10), reply[i] = strtoul(w[at + 1], NULL, 10);
+    }
     for (int i = 0; keeps && i < KEPT; i++)
-        if (!(kept[i] = calloc(1, size))) return 1;
+        if (!(kept[i] = calloc(1, size[0]))) return 1;
     struct sockaddr_in at = {.sin_family = AF_INET};
     socklen_t length = sizeof at;
     int listener = socket(AF_INET, SOCK_STREAM | SOCK_NONBLOCK, 0), poll = epoll_create1(0);
@@ -81,10 +87,8 @@ int main(int count, char **w) {
                     close(peer);
                     break;
                 }
-                if (keeps) keep(size, piece, (size_t)got);
-                c->in += (size_t)got;
-                c->owed += c->in / size * reply;
-                c->in %= size;
+                if (keeps) keep(size[0], piece, (size_t)got);
+                for (c->in += (size_t)got; c->in >= size[c->turn]; c->turn = !c->turn) c->in -= size[c->turn], c->owed += reply[c->turn];
                 drained = got < PIECE;
             }
         }

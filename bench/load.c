@@ -1,5 +1,6 @@
-/* Loads a server over TCP: load PORT WORK CLIENTS DEPTH CALLS [echo|alike], where WORK is null, getattr,
- * lookup, read4, read64, read128, write64, write128, make, list, pages, missing or denied. Each client has
+/* Loads a server over TCP: load PORT WORK CLIENTS DEPTH CALLS [echo|alike], where WORK is null, getattr, access,
+ * lookup, read4, read64, read128, write4, write64, write128, make, make-dir, rename, list, pages, missing, denied, or one of
+ * look1000, look10000, look100000, list1000 and plus1000. Each client has
  * up to DEPTH calls under way. Each reply is looked at: its length, and that its number is that of the
  * client's oldest call. It prints the microseconds a call, and the 99th of a hundred times of a call. With
  * echo, the sizes alone are asked for. With alike, all replies must be equal but for their numbers. With
@@ -9,7 +10,9 @@
  * call of missing is a LOOKUP of a name that isn't there, and one of denied a GETATTR of file 6: the root of
  * a volume that isn't exported here, which stands after bench/tree's own. With pages, file 6 is a directory
  * with more entries than a reply holds, whose names have 1 to 4 bytes. READs and WRITEs begin at the byte
- * that NFS3D_OFFSET says, 0 by default. */
+ * that NFS3D_OFFSET says, 0 by default. The last works are on the directories of bench/names: LOOKUPs of their names in a wandering
+ * order, and the first page of a READDIR or a READDIRPLUS; so is rename, which gives a name of the first of them another one and
+ * back. */
 #include <arpa/inet.h>
 #include <errno.h>
 #include <fcntl.h>
@@ -25,7 +28,8 @@
 #include <unistd.h>
 #include "../clients/key.h"
 
-enum { MOST = 1 << 18, TIMES = 1 << 20 };
+/* RENAMED is how far the second name of a RENAME stands after the first. */
+enum { MOST = 1 << 18, TIMES = 1 << 20, RENAMED = 4 * 10 };
 
 typedef struct {
     int peer;
@@ -41,6 +45,8 @@ static size_t call_size, reply_size, reply2_size, other_size;
 static double times[TIMES];
 static unsigned long measured;
 static uint32_t key[2], offset[2];
+static unsigned names;         /* how many names a directory has that are looked up */
+static size_t renamed;         /* where the first name of a RENAME stands, or 0 */
 
 static double now(void) {
     struct timespec t;
@@ -81,6 +87,13 @@ static size_t finish(unsigned char *to, size_t at) {
     return at;
 }
 
+/* The number of the directory with so many names, and a file for each, which stands after the smaller ones. */
+static uint32_t file_of(unsigned count) {
+    uint32_t file = 6;
+    for (unsigned smaller = 1000; smaller < count; smaller *= 10) file += 1 + smaller;
+    return file;
+}
+
 static void make_calls(const char *work) {
     if (strcmp(work, "null") == 0) {
         call_size = begin(call, 0, 0), reply_size = 28;
@@ -89,12 +102,36 @@ static void make_calls(const char *work) {
     } else if (strcmp(work, "lookup") == 0) {
         uint32_t name[] = {2, 0x66340000};
         call_size = words(call, begin(call, 3, 2), name, 2), reply_size = 28 + 4 + 28 + 88 + 88;
+    } else if (strcmp(work, "access") == 0) {
+        uint32_t rights[] = {63};
+        call_size = words(call, begin(call, 4, 2), rights, 1), reply_size = 28 + 4 + 88 + 4;
+    } else if (strncmp(work, "look", 4) == 0 && (names = (unsigned)strtoul(work + 4, NULL, 10)) > 0) {
+        uint32_t name[] = {7, 0x6e303030, 0x30303000};
+        call_size = words(call, begin(call, 3, file_of(names)), name, 3), reply_size = 28 + 4 + 28 + 88 + 88;
+    } else if (strcmp(work, "list1000") == 0) {
+        uint32_t page[] = {0, 0, 0, 0, 131072};
+        call_size = words(call, begin(call, 16, file_of(1000)), page, 5), reply_size = 28 + 4 + 88 + 8 + 2 * 28 + 1000 * 32 + 8;
+    } else if (strcmp(work, "plus1000") == 0) {
+        /* Of the 65,536 bytes of the longest reply 104 are no entry's, `.` and `..` have 148, and a name has 152. */
+        uint32_t page[] = {0, 0, 0, 0, 131072, 131072};
+        call_size = words(call, begin(call, 17, file_of(1000)), page, 6), reply_size = 28 + 4 + 88 + 8 + 2 * 148 + 428 * 152 + 8;
+    } else if (strcmp(work, "rename") == 0) {
+        uint32_t from[] = {7, 0x6e303030, 0x30303000, 24, 0x4e465333, key[0], key[1], file_of(1000) - 1, 0, file_of(1000), 7, 0x6d303030, 0x30303000};
+        size_t at = begin(call, 14, file_of(1000));
+        renamed = at + 4;
+        call_size = words(call, at, from, 13), reply_size = reply2_size = 28 + 4 + 116 + 116;
+        memcpy(other, call, other_size = call_size);
+        other[renamed] = 'm', other[renamed + RENAMED] = 'n';
+        finish(other, other_size);
     } else if (strcmp(work, "read4") == 0) {
         uint32_t range[] = {offset[0], offset[1], 4096};
         call_size = words(call, begin(call, 6, 3), range, 3), reply_size = 28 + 4 + 88 + 12 + 4096;
     } else if (strcmp(work, "read64") == 0) {
         uint32_t range[] = {offset[0], offset[1], 65536};
         call_size = words(call, begin(call, 6, 4), range, 3), reply_size = 28 + 4 + 88 + 12 + 65536;
+    } else if (strcmp(work, "write4") == 0) {
+        uint32_t range[] = {offset[0], offset[1], 4096, 2, 4096};
+        call_size = words(call, begin(call, 7, 3), range, 5) + 4096, reply_size = 28 + 4 + 28 + 88 + 16;
     } else if (strcmp(work, "write64") == 0) {
         uint32_t range[] = {offset[0], offset[1], 65536, 2, 65536};
         call_size = words(call, begin(call, 7, 4), range, 5) + 65536, reply_size = 28 + 4 + 28 + 88 + 16;
@@ -104,6 +141,11 @@ static void make_calls(const char *work) {
     } else if (strcmp(work, "write128") == 0) {
         uint32_t range[] = {offset[0], offset[1], 131072, 2, 131072};
         call_size = words(call, begin(call, 7, 5), range, 5) + 131072, reply_size = 28 + 4 + 28 + 88 + 16;
+    } else if (strcmp(work, "make-dir") == 0) {
+        uint32_t made[] = {4, 0, 0, 0, 0, 0, 0, 0}, gone[] = {4, 0};
+        call_size = words(call, begin(call, 9, 2), made, 8), reply_size = 28 + 4 + 32 + 88 + 28 + 88;
+        other_size = words(other, begin(other, 13, 2), gone, 2), reply2_size = 28 + 4 + 28 + 88;
+        finish(other, other_size);
     } else if (strcmp(work, "make") == 0) {
         uint32_t made[] = {4, 0, 1, 0, 0, 0, 0, 0, 0}, gone[] = {4, 0};
         call_size = words(call, begin(call, 8, 2), made, 9), reply_size = 28 + 4 + 32 + 88 + 28 + 88;
@@ -126,11 +168,20 @@ static void make_calls(const char *work) {
     finish(call, call_size);
 }
 
-/* The k-th call of a client: its number, and with make the name, which is the client's own. */
+/* Six digits of a name. */
+static void digits(unsigned char *to, unsigned n) {
+    for (int i = 5; i >= 0; i--, n /= 10) to[i] = (unsigned char)('0' + n % 10);
+}
+
+/* The k-th call of a client: its number, and the name, which is the client's own where it is changed. */
 static void number(unsigned char *to, int client, unsigned k) {
     uint32_t xid = htonl(((uint32_t)client << 20) ^ (k & 0xfffff));
     memcpy(to + 4, &xid, 4);
-    if (other_size > 0) {
+    if (names > 0) {
+        digits(to + 4 * (1 + 6 + 9 + 7) + 4 + 1, (k * 7919u + (unsigned)client * 104729u) % names);
+    } else if (renamed > 0) {
+        digits(to + renamed + 1, (unsigned)client), digits(to + renamed + RENAMED + 1, (unsigned)client);
+    } else if (other_size > 0) {
         size_t at = 4 + 4 * (6 + 9 + 7) + 4;
         uint32_t name = htonl(0x61616161u + (uint32_t)client % 16 + ((uint32_t)client / 16 % 16 << 8) + (k / 2 % 16 << 16));
         memcpy(to + at, &name, 4);
