@@ -3,10 +3,8 @@
  * the one and the other in turn. It prints its port. With `keep` it copies what comes twice, as a server of WRITEs
  * has to that keeps its replies: over the bytes of a file, and into the next of 128 records. */
 #define _GNU_SOURCE
-#include <arpa/inet.h>
 #include <errno.h>
 #include <fcntl.h>
-#include <netinet/in.h>
 #include <netinet/tcp.h>
 #include <stdint.h>
 #include <stdio.h>
@@ -15,6 +13,7 @@
 #include <sys/epoll.h>
 #include <sys/socket.h>
 #include <unistd.h>
+#include "listening.h"
 
 enum { PEERS = 4096, PIECE = 65536, BATCH = 262144, FILE_BYTES = 65536, KEPT = 128 };
 
@@ -49,15 +48,8 @@ int main(int count, char **w) {
     }
     for (int i = 0; keeps && i < KEPT; i++)
         if (!(kept[i] = calloc(1, size[0]))) return 1;
-    struct sockaddr_in at = {.sin_family = AF_INET};
-    socklen_t length = sizeof at;
-    int listener = socket(AF_INET, SOCK_STREAM | SOCK_NONBLOCK, 0), poll = epoll_create1(0);
+    int listener = listening(), poll = epoll_create1(0);
     struct epoll_event e = {.events = EPOLLIN, .data.u32 = 0};
-    at.sin_addr.s_addr = htonl(INADDR_LOOPBACK);
-    if (bind(listener, (struct sockaddr *)&at, sizeof at) != 0 || listen(listener, 1024) != 0) return 1;
-    getsockname(listener, (struct sockaddr *)&at, &length);
-    printf("%d\n", ntohs(at.sin_port));
-    fflush(stdout);
     epoll_ctl(poll, EPOLL_CTL_ADD, listener, &e);
     for (;;) {
         struct epoll_event events[256];

@@ -3,10 +3,8 @@
  * from each client, appends to FILE of each call as many bytes as its entry has, by one write, has them synced by one fdatasync,
  * and then sends the replies. It prints its port, and takes the file away. */
 #define _GNU_SOURCE
-#include <arpa/inet.h>
 #include <errno.h>
 #include <fcntl.h>
-#include <netinet/in.h>
 #include <netinet/tcp.h>
 #include <stdint.h>
 #include <stdio.h>
@@ -15,6 +13,7 @@
 #include <sys/epoll.h>
 #include <sys/socket.h>
 #include <unistd.h>
+#include "listening.h"
 
 /* An entry has the call and the reply without their marks, and 24 bytes beside them, with its own mark. */
 enum { PEERS = 1024, PIECE = 266240, ENTRIES = 64 << 20, ENTRY = 24 };
@@ -91,17 +90,10 @@ int main(int count, char **w) {
         int at = count > 5 ? 2 + 2 * i : 2;
         calls[i] = strtoul(w[at], NULL, 10), replies[i] = strtoul(w[at + 1], NULL, 10);
     }
-    struct sockaddr_in at = {.sin_family = AF_INET};
-    socklen_t length = sizeof at;
-    int listener = socket(AF_INET, SOCK_STREAM | SOCK_NONBLOCK, 0), poll = epoll_create1(0);
+    int listener = listening(), poll = epoll_create1(0);
     struct epoll_event e = {.events = EPOLLIN, .data.u32 = 0};
-    at.sin_addr.s_addr = htonl(INADDR_LOOPBACK);
-    if (bind(listener, (struct sockaddr *)&at, sizeof at) != 0 || listen(listener, 1024) != 0) fail("floor");
     if ((file = open(w[1], O_WRONLY | O_CREAT | O_APPEND, 0600)) < 0) fail(w[1]);
     unlink(w[1]);
-    getsockname(listener, (struct sockaddr *)&at, &length);
-    printf("%d\n", ntohs(at.sin_port));
-    fflush(stdout);
     epoll_ctl(poll, EPOLL_CTL_ADD, listener, &e);
     for (;;) {
         struct epoll_event events[256];

@@ -5,7 +5,6 @@
  * succeed, whether it had been executed or not. Then the directory has to have the names of the model and no others, with the
  * handles of earlier lives, and each file its bytes. All else is reported, with status 1. It prints how many lives there were,
  * how many calls were answered, and how many were under way at a kill. */
-#include <arpa/inet.h>
 #include <netinet/in.h>
 #include <netinet/tcp.h>
 #include <poll.h>
@@ -18,9 +17,11 @@
 #include <sys/wait.h>
 #include <unistd.h>
 
-enum { CLIENTS = 10, FILES = 12, BYTES = 256, HANDLE = 24, RECORD = 1024, REPLY = 16384, NFS = 100003, MOUNT = 100005 };
+enum { CLIENTS = 10, FILES = 12, BYTES = 256, HANDLE = 24, MOST_RECORD = 1024, REPLY = 16384, NFS = 100003, MOUNT = 100005 };
 
 enum { MNT = 1, GETATTR = 1, SETATTR, LOOKUP, READ = 6, WRITE, CREATE, MKDIR, REMOVE = 12, RMDIR, RENAME, READDIRPLUS = 17 };
+
+#include "../records.h"
 
 typedef struct {
     int is_there, is_dir;
@@ -33,11 +34,6 @@ typedef struct {
     uint32_t proc, slot, name, offset, size;
     unsigned char bytes[BYTES];
 } Change;
-
-typedef struct {
-    unsigned char bytes[RECORD];
-    size_t len;
-} Record;
 
 typedef struct {
     unsigned char bytes[REPLY];
@@ -68,27 +64,7 @@ static void fail(int who, const char *what, long number) {
     exit(1);
 }
 
-/* xorshift64*, so that a seed determines what clients ask for. */
-static uint64_t seed;
-static uint32_t any(uint32_t below) {
-    seed ^= seed >> 12, seed ^= seed << 25, seed ^= seed >> 27;
-    return below ? (uint32_t)((seed * 0x2545F4914F6CDD1DULL) >> 33) % below : 0;
-}
-
 /* ---- records */
-
-static void word(Record *r, uint32_t w) {
-    w = htonl(w);
-    memcpy(r->bytes + r->len, &w, 4);
-    r->len += 4;
-}
-
-static void opaque(Record *r, const void *bytes, uint32_t len) {
-    word(r, len);
-    memset(r->bytes + r->len, 0, (len + 3u) & ~3u);
-    memcpy(r->bytes + r->len, bytes, len);
-    r->len += (len + 3u) & ~3u;
-}
 
 static void name_of(Record *r, uint32_t name) {
     char text[16];

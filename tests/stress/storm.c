@@ -4,7 +4,6 @@
  * connection, another is opened. It prints how many records it sent, how many bytes were answered, how many connections
  * ended, and how long the good calls waited, in microseconds: the half and the last of a thousand. The key in its handles is
  * that of NFS3D_KEY (clients/key.h). */
-#include <arpa/inet.h>
 #include <errno.h>
 #include <fcntl.h>
 #include <netinet/in.h>
@@ -20,9 +19,10 @@
 #include "../../clients/key.h"
 
 /* The longest record of a connection, and room for it with what is added to it. */
-enum { LONGEST = 262144, MOST = LONGEST + 8192, TOGETHER = 40, TIMES = 1 << 20 };
+enum { LONGEST = 262144, MOST = LONGEST + 8192, MOST_RECORD = MOST, TOGETHER = 40, TIMES = 1 << 20 };
 
-static uint64_t seed;
+#include "../records.h"
+
 static unsigned short port;
 static uint32_t key[2];
 static unsigned char batch[MOST * 2];
@@ -35,34 +35,10 @@ static void fail(const char *what) {
     exit(1);
 }
 
-/* xorshift64*, so that a seed determines all records. */
-static uint32_t any(uint32_t below) {
-    seed ^= seed >> 12, seed ^= seed << 25, seed ^= seed >> 27;
-    return below ? (uint32_t)((seed * 0x2545F4914F6CDD1DULL) >> 33) % below : 0;
-}
-
 static double now(void) {
     struct timespec t;
     clock_gettime(CLOCK_MONOTONIC, &t);
     return (double)t.tv_sec * 1e6 + (double)t.tv_nsec / 1e3;
-}
-
-typedef struct {
-    unsigned char bytes[MOST];
-    size_t len;
-} Record;
-
-static void word(Record *r, uint32_t w) {
-    w = htonl(w);
-    memcpy(r->bytes + r->len, &w, 4);
-    r->len += 4;
-}
-
-static void opaque(Record *r, const void *bytes, uint32_t len) {
-    word(r, len);
-    memset(r->bytes + r->len, 0, (len + 3u) & ~3u);
-    memcpy(r->bytes + r->len, bytes, len);
-    r->len += (len + 3u) & ~3u;
 }
 
 static void handle_of(Record *r, uint32_t file) {
