@@ -53,7 +53,10 @@ fn metrics_text(
     tree: &Tree,
 ) -> Result<Vec<u8>, AllocError> {
     let mut out = Text::new(alloc);
-    put_service(&mut out, figures);
+    put_clients(&mut out, figures);
+    put_cache(&mut out, figures);
+    put_traffic(&mut out, figures);
+    put_resident(&mut out, figures.resident);
     put_journal(&mut out, figures.journal);
     put_turns(&mut out, &figures.turn_times);
     put_calls(&mut out, calls);
@@ -62,8 +65,8 @@ fn metrics_text(
     out.into_bytes()
 }
 
-// What is said of the service itself.
-fn put_service(out: &mut Text, figures: &Figures) {
+// Who was served, and for how long.
+fn put_clients(out: &mut Text, figures: &Figures) {
     let standing = figures.standing;
     put_gauge(
         out,
@@ -89,6 +92,10 @@ fn put_service(out: &mut Text, figures: &Figures) {
         b"How many pairs of a client and a volume are mounted.",
         figures.mounts as u64,
     );
+}
+
+// How full the reply cache is.
+fn put_cache(out: &mut Text, figures: &Figures) {
     put_gauge(
         out,
         b"nfs3d_cached_replies",
@@ -101,6 +108,10 @@ fn put_service(out: &mut Text, figures: &Figures) {
         b"How many replies may be cached.",
         figures.places as u64,
     );
+}
+
+// What came and went.
+fn put_traffic(out: &mut Text, figures: &Figures) {
     put_counter(
         out,
         b"nfs3d_received_bytes_total",
@@ -125,7 +136,11 @@ fn put_service(out: &mut Text, figures: &Figures) {
         b"How many lines could not be written.",
         figures.dropped,
     );
-    if let Some(resident) = figures.resident {
+}
+
+// How much memory the process takes, where the system says it.
+fn put_resident(out: &mut Text, resident: Option<u64>) {
+    if let Some(resident) = resident {
         put_gauge(
             out,
             b"nfs3d_resident_bytes",
