@@ -4,6 +4,8 @@ pub mod Alike
 pub mod Decoding
 pub mod Rerunning
 pub mod Answered
+pub mod Matching
+pub mod Segments
 pub mod Recovered
 pub mod Heading
 pub mod Scanning

@@ -71,7 +71,7 @@ cached_noted places (d ∷ before) = by (has_entry d) refl (cached_noted places 
 
 module _ (setups : ℕ → Setup) (now : Setup) (d : Done) (before : List Done) where
   -- one event more leaves the setups of those before it
-  same_setup : (n : ℕ) → n < length (noted before) → noted_setups setups now (d ∷ before) n ≡ noted_setups setups now before n
+  pub same_setup : (n : ℕ) → n < length (noted before) → noted_setups setups now (d ∷ before) n ≡ noted_setups setups now before n
   same_setup n less = by (has_entry d)
     where
       other : nat_eq n (length (noted before)) ≡ false
@@ -82,13 +82,13 @@ module _ (setups : ℕ → Setup) (now : Setup) (d : Done) (before : List Done) 
       by false = refl
 
   -- its own is the one that was in force
-  own_setup : has_entry d ≡ true → noted_setups setups now (d ∷ before) (length (noted before)) ≡ setups (length before)
+  pub own_setup : has_entry d ≡ true → noted_setups setups now (d ∷ before) (length (noted before)) ≡ setups (length before)
   own_setup e =
       ap (λ b. if b && nat_eq (length (noted before)) (length (noted before)) then setups (length before) else noted_setups setups now before (length (noted before))) e
       ∙ ap (λ t. if t then setups (length before) else noted_setups setups now before (length (noted before))) (eq-eqb (length (noted before)) (length (noted before)) refl)
 
 -- after all of them it is the one that is in force now
-last_setup : (setups : ℕ → Setup) (now : Setup) (done : List Done) (n : ℕ) → length (noted done) ≤ n → noted_setups setups now done n ≡ now
+pub last_setup : (setups : ℕ → Setup) (now : Setup) (done : List Done) (n : ℕ) → length (noted done) ≤ n → noted_setups setups now done n ≡ now
 last_setup setups now [] n later = refl
 last_setup setups now (d ∷ before) n later = by (has_entry d) later (last_setup setups now before n)
   where
@@ -101,7 +101,7 @@ last_setup setups now (d ∷ before) n later = by (has_entry d) later (last_setu
 -- ---- the run
 
 -- a run is one by the setups that were in force at its events
-same_run : (setups others : ℕ → Setup) (opening : State) (done : List Done) (state : State) → ((n : ℕ) → n < length done → others n ≡ setups n)
+pub same_run : (setups others : ℕ → Setup) (opening : State) (done : List Done) (state : State) → ((n : ℕ) → n < length done → others n ≡ setups n)
     → IsRun setups opening done state → IsRun others opening done state
 same_run setups others opening [] state same run = run
 same_run setups others opening (d ∷ before) state same run = (

@@ -1,6 +1,7 @@
 pub mod Noted
 pub mod Entries
 pub mod Alike
+pub mod Segments
 pub mod Recovering
 pub mod Recovered
 pub mod Heads

@@ -4,6 +4,7 @@ use Rattle.std.specs.List.{AllByRecursion}
 use Rattle.nfs_journal.specs.Entries.{AreWords, IsNoEntry}
 use Rattle.nfs_server.specs.Entries.{entry_of, entry_text, reply_bytes}
 use Rattle.nfs_journal.specs.Noted.{IsServed}
+use Rattle.nfs_journal.specs.Segments.{Segment}
 use Rattle.nfs_journal.specs.declared.broken_entry.BrokenEntry.{BrokenEntry}
 use Rattle.nfs_journal.specs.declared.recovery.RecoveryFault.{RecoveryFault}
 use Rattle.nfs_journal.specs.declared.recovery.RecoveryFault.TheVariants.{BadEntry, OtherReply, Memory}
@@ -11,7 +12,7 @@ use Rattle.nfs_rpc.specs.Progress.{Progress, Unfinished}
 use Rattle.nfs_rpc.specs.Records.{AreRecords, IsRecord, ReachesTooLong, ReachesWithin}
 use Rattle.nfs_server.specs.Connections.{IsBetween}
 use Rattle.nfs_server.specs.Events.{Done}
-use Rattle.nfs_server.specs.Fits.{Held, History, Fits}
+use Rattle.nfs_server.specs.Fits.{Held, History, Fits, reloaded, with_exports}
 use Rattle.nfs_server.specs.Notes.{most_noted}
 use Rattle.nfs_server.specs.Retransmissions.{is_refused}
 use Rattle.nfs_server.specs.Runs.{longer}
@@ -53,6 +54,14 @@ pub record HasRerun (history : History) (bytes : List ℕ) (entries unfinished :
   pub rest_is : Unfinished rest p
   pub entries_are : length done ≡ entries
   pub unfinished_is : length rest ≡ unfinished
+
+-- The segments of a journal, the newest first, were run again one after another, each event under the exports of its segment. From one history they
+-- led to another. After the newest so many bytes are unfinished, and none after those before it.
+abbrev pub HasRerunAll : History → List Segment → ℕ → History → Held → Progress → Type 0
+HasRerunAll from [] unfinished to s p = (to ≡ from) × Fits from s × (unfinished ≡ 0) × Unfinished [] p
+HasRerunAll from (segment ∷ before) unfinished to s p = (between : History) × (was : Held) × (start : Progress) × HasRerunAll from before 0 between was start
+    × (entries : ℕ) × (rerun : HasRerun (reloaded between segment.exports) segment.bytes entries unfinished s p)
+    × (to ≡ longer (reloaded between segment.exports) rerun.done)
 
 -- The same of every history that fits, and of whatever was unfinished before the bytes, which was so long.
 abbrev pub RunsOn : List ℕ → ℕ → ℕ → ℕ → Held → Held → Progress → Progress → Type 0
@@ -148,3 +157,13 @@ ChunksAreOne = (xs ys : List ℕ) (a b c : Position) (from between to : Held) �
 abbrev pub AllAreCounted : Type 0
 AllAreCounted = (offset : ℕ) (bytes : List ℕ) (old new : Position) (from to : Held) (history : History) → IsFresh offset old → Advances bytes old new from to
     → Fits history from → HasRerun history bytes new.entries new.unfinished to new.progress
+
+-- Before its first segment nothing of a journal was run again.
+abbrev pub SegmentsBegin : Type 0
+SegmentsBegin = (offset : ℕ) (history : History) (s : Held) (at : Position) → IsFresh offset at → Fits history s → HasRerunAll history [] at.unfinished history s at.progress
+
+-- Where nothing is unfinished, the next segment is run again by putting its exports in force and taking its bytes.
+abbrev pub SegmentsGoOn : Type 0
+SegmentsGoOn = (from between : History) (before : List Segment) (segment : Segment) (was s : Held) (old new : Position)
+    → HasRerunAll from before old.unfinished between was old.progress → old.unfinished ≡ 0 → Advances segment.bytes old new (with_exports segment.exports was) s
+    → (to : History) × HasRerunAll from (segment ∷ before) new.unfinished to s new.progress
